@@ -1,0 +1,57 @@
+//! What comes to the hub.
+
+ghost use Rattle.std.specs.Prelude.{◌≡◌, IfOk};
+
+use njh_table::LineId;
+use std::alloc::{AllocError, Global};
+use std::marker::Model;
+
+/// Some bytes of a line, of any number; a caller sees them as a list.
+#[derive(Drop)]
+pub struct Piece {
+    bytes: Vec<u8>,
+}
+
+impl Model for Piece {
+    ghost use Rattle.std.specs.Prelude.{List, ℕ};
+
+    ghost Value = { List ℕ };
+
+    ghost view = { λ p. p.bytes.items };
+}
+
+impl Piece {
+    /// A copy of the bytes; want of memory is the only refusal.
+    pub fn of(alloc: Global, bytes: &[u8]) -> Result<Piece, AllocError>
+        ensures { IfOk result (λ piece. piece ≡ bytes.now) }
+    {
+        Ok(Piece {
+            bytes: Vec::from_slice(alloc, bytes)?,
+        })
+    }
+
+    /// The bytes.
+    pub fn bytes(&self) -> &[u8]
+        ensures { result.now ≡ self.now }
+    {
+        self.bytes.as_slice()
+    }
+}
+
+/// What comes to a line but bytes: a tick of the clock, the adapter's word for a failed block check, or
+/// the line's loss.
+#[derive(Clone, Copy, Debug, PartialEq, Eq)]
+pub enum Signal {
+    Tick,
+    Garbled,
+    Lost,
+}
+
+/// What comes to the hub, each on one line.
+#[derive(Drop)]
+pub enum Event {
+    Bytes(LineId, Piece),
+    Tick(LineId),
+    Garbled(LineId),
+    Lost(LineId),
+}
