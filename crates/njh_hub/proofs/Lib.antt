@@ -1,0 +1,2 @@
+pub mod FeedingLaws
+pub mod RunLaws

@@ -1,0 +1,173 @@
+-- A customer alone: what each frame and each signal on one of its lines does and sends.
+use Rattle.std.specs.Prelude.{ℕ, zero, suc, ◌+◌, ◌-◌, Bool, true, false, List, [], ◌∷◌, ◌++◌, length, take, drop, map, replicate, slice_index_or, slice_set, Ok, Err, ◌==◌, nat_le, nat_lt, cond, Some, None}
+use Rattle.njh_record.specs.Bytes.{two_bytes}
+use Rattle.njh_ebcdic.specs.Names.{padded}
+use Rattle.njh_bisync.specs.Frames.{Received, Enquiry, Ack0, Nak, Eot, Text, Spoiled}
+use Rattle.njh_bisync.specs.Written.{text_bytes}
+use Rattle.njh_block.specs.Blocks.{Item, Data, Aborted, Long, Control, General, written, read_block, text_of}
+use Rattle.njh_nmr.specs.Nodal.{Nodal, nodal_of, is_user_command, said_by}
+use Rattle.njh_table.specs.Entries.{CustomerEntry, LineEntry, route_of}
+use Rattle.njh_table.specs.declared.Route.{Route}
+use Rattle.njh_table.specs.declared.Route.TheVariants.{Here, Line, Unknown}
+use Rattle.njh_hub.specs.declared.event.Signal.{Signal}
+use Rattle.njh_hub.specs.Customer.{Customer, LineState, fresh_line}
+use Rattle.njh_hub.specs.LineTable as line_table
+use Rattle.njh_hub.specs.Command.{reply_to}
+
+-- The lines after something came on one, and the frame that answers it; [] where none does.
+pub record Answer : Type 0 where
+  pub lines : List LineState
+  pub frame : List ℕ
+
+abbrev pub silent : List LineState → Answer
+silent lines = record { lines = lines; frame = [] }
+
+-- a line in the place of one that isn't there
+abbrev pub no_line : LineState
+no_line = fresh_line (record { hub = []; node = []; block = 0; password = [] })
+
+abbrev pub line_at : ℕ → List LineState → LineState
+line_at l lines = slice_index_or lines l no_line
+
+abbrev pub in_session : line_table.Session → LineState → LineState
+in_session s x = record x { session = s }
+
+-- a nodal message waits, where there is room for 64
+abbrev pub with_message : List ℕ → LineState → LineState
+with_message m x = record x { messages = cond (nat_lt (length x.messages) 64) (x.messages ++ m ∷ []) x.messages }
+
+-- what the hub says to a user goes by the route of the node, and is dropped where there is no line
+abbrev pub said_on : Route → List ℕ → List LineState → List LineState
+said_on Here m lines = lines
+said_on (Line k) m lines = slice_set lines k (with_message m (line_at k lines))
+said_on Unknown m lines = lines
+
+-- a nodal message that came: a command of a user for the hub itself is answered, any other is dropped
+abbrev pub command_came : CustomerEntry → Nodal → List LineState → List LineState
+command_came entry n lines = said_on (route_of entry n.origin) (said_by entry.hub (n.origin, n.user) (reply_to n.message)) lines
+
+abbrev pub is_here : Route → Bool
+is_here Here = true
+is_here (Line k) = false
+is_here Unknown = false
+
+abbrev pub message_came : CustomerEntry → List ℕ → List LineState → List LineState
+message_came entry bytes lines =
+    elim (nodal_of bytes) [
+      | Err e ↦ lines
+      | Ok n ↦ elim (is_here (route_of entry n.to)) [ true ↦ cond (is_user_command n) (command_came entry n lines) lines | false ↦ lines ]
+    ]
+
+-- what a block's record does
+abbrev pub acted : CustomerEntry → Item → List LineState → List LineState
+acted entry (Data rcb srcb bytes) lines = elim (rcb == 0x9a) [ true ↦ message_came entry bytes lines | false ↦ lines ]
+acted entry (Aborted rcb srcb) lines = lines
+acted entry (Long rcb srcb) lines = lines
+acted entry (Control rcb srcb) lines = lines
+acted entry (General srcb rest) lines = lines
+
+abbrev pub all_acted : CustomerEntry → List Item → List LineState → List LineState
+all_acted entry [] lines = lines
+all_acted entry (i ∷ is) lines = all_acted entry is (acted entry i lines)
+
+-- nothing is suspended
+abbrev pub all_on : ℕ × ℕ
+all_on = (0x8f, 0xcf)
+
+-- the record of a nodal message in a block of the hub's
+abbrev pub message_item : List ℕ → Item
+message_item m = Data 0x9a 0x80 m
+
+-- how many of the messages a text has room for, in their order
+abbrev pub fitting : ℕ → List (List ℕ) → ℕ
+fitting room [] = 0
+fitting room (m ∷ ms) = elim (nat_le (length (written (message_item m))) room) [ true ↦ 1 + fitting (room - length (written (message_item m))) ms | false ↦ 0 ]
+
+-- how many of a line's messages the next block takes: four bytes of the text are its BCB, its FCS and its closing 00
+abbrev pub taken_by : LineState → ℕ
+taken_by x = fitting (x.session.size - 4) x.messages
+
+-- the text of the hub's own count with these records
+abbrev pub own_text : ℕ → List Item → List ℕ
+own_text count items = text_bytes (text_of (0x80 + count) all_on items)
+
+abbrev pub ack0 : List ℕ
+ack0 = 0x10 ∷ 0x70 ∷ []
+
+-- the line after a block that took so many messages
+abbrev pub without_first : ℕ → LineState → LineState
+without_first n x = record x { session = line_table.counted_on x.session; messages = drop n x.messages }
+
+-- the next block of a line, or what goes in its place
+abbrev pub next_block : ℕ → Bool → List LineState → Answer
+next_block l or_ack0 lines =
+    let x = line_at l lines in
+    elim (taken_by x) [
+      | zero ↦ cond or_ack0 (record { lines = lines; frame = ack0 }) (silent lines)
+      | suc k ↦ record { lines = slice_set lines l (without_first (suc k) x); frame = own_text x.session.count (map message_item (take (suc k) x.messages)) }
+    ]
+
+-- a J record from its length byte on
+abbrev pub j_bytes : line_table.Config → List ℕ
+j_bytes line = 0x29 ∷ line.hub ++ 0x01 ∷ replicate 6 0x00 ++ two_bytes line.block ++ padded line.password ++ replicate 8 0x40 ++ replicate 5 0x00
+
+abbrev pub j_frame : line_table.Config → List ℕ
+j_frame line = text_bytes (text_of 0xa0 all_on (General 0xd1 (j_bytes line) ∷ []))
+
+abbrev pub replies : ℕ → line_table.Reply → List LineState → Answer
+replies l line_table.Nothing lines = silent lines
+replies l line_table.SendAck0 lines = record { lines = lines; frame = ack0 }
+replies l line_table.SendJ lines = record { lines = lines; frame = j_frame (line_at l lines).config }
+replies l (line_table.Next or_ack0) lines = next_block l or_ack0 lines
+
+-- after a verdict: the line's session, the block's records, the reply
+abbrev pub follows : CustomerEntry → ℕ → List Item → line_table.Verdict → List LineState → Answer
+follows entry l items v lines =
+    let judged = slice_set lines l (in_session v.session (line_at l lines)) in
+    replies l v.reply (cond v.acts (all_acted entry items judged) judged)
+
+-- what comes to a line that is there
+abbrev pub came : CustomerEntry → ℕ → List Item → line_table.Input → List LineState → Answer
+came entry l items input lines =
+    let x = line_at l lines in
+    follows entry l items (line_table.accepted x.config input x.session) lines
+
+abbrev pub general_first : List Item → line_table.First
+general_first [] = None
+general_first (General srcb rest ∷ is) = Some (srcb, rest)
+general_first (_ ∷ is) = None
+
+abbrev pub text_came : CustomerEntry → ℕ → List ℕ → List LineState → Answer
+text_came entry l text lines =
+    elim (read_block text) [
+      | Ok b ↦ came entry l b.items (line_table.Block b.bcb (general_first b.items)) lines
+      | Err e ↦ came entry l [] line_table.Ending lines
+    ]
+
+abbrev pub answer_to : CustomerEntry → ℕ → Received → List LineState → Answer
+answer_to entry l Enquiry lines = came entry l [] line_table.Enquiry lines
+answer_to entry l Ack0 lines = came entry l [] line_table.Ack0 lines
+answer_to entry l Nak lines = came entry l [] line_table.Ending lines
+answer_to entry l Eot lines = came entry l [] line_table.Ending lines
+answer_to entry l (Text text) lines = text_came entry l text lines
+answer_to entry l Spoiled lines = came entry l [] line_table.Ending lines
+
+-- The customer after a step, and the frame that it sent; [] where it sent none.
+pub record Step : Type 0 where
+  pub after : Customer
+  pub frame : List ℕ
+
+abbrev pub with_answer : Customer → Answer → Step
+with_answer c a = record { after = record c { lines = a.lines }; frame = a.frame }
+
+-- a line that isn't there takes nothing and sends nothing
+abbrev pub on_line : ℕ → Answer → Customer → Step
+on_line l a c = cond (nat_lt l (length c.lines)) (with_answer c a) (record { after = c; frame = [] })
+
+-- a frame comes on a line
+unfoldable pub frame_came : ℕ → Received → Customer → Step
+frame_came l received c = on_line l (answer_to c.entry l received c.lines) c
+
+-- a signal comes on a line
+unfoldable pub signal_came : ℕ → Signal → Customer → Step
+signal_came l signal c = on_line l (came c.entry l [] line_table.Ending c.lines) c

@@ -1,0 +1,34 @@
+-- What is said of all runs, over the definitions alone.
+use Rattle.std.specs.Prelude.{◌≡◌, ℕ, ◌<◌, List, [], ◌∷◌, ◌++◌, length}
+use Rattle.njh_table.specs.Entries.{CustomerEntry}
+use Rattle.njh_hub.specs.declared.event.Event.{Event}
+use Rattle.njh_hub.specs.Runs.{Part, OwnEvent, OwnBytes, alone_run}
+use Rattle.njh_hub.specs.Own.{events_of, sent_to}
+use Rattle.njh_hub.specs.Whole.{part, hub_run}
+
+-- Events lead customer c's part of a hub, and what is sent on its lines, as its own events lead that part alone.
+pub record IsAlone (c : ℕ) (parts : List Part) (events : List Event) : Type 0 where
+  pub after : part c (hub_run parts events).parts ≡ (alone_run (part c parts) (events_of c events)).after
+  pub sent : sent_to c (hub_run parts events).sent ≡ (alone_run (part c parts) (events_of c events)).sent
+
+abbrev pub EachIsAlone : Type 0
+EachIsAlone = (c : ℕ) (parts : List Part) (events : List Event) → c < length parts → IsAlone c parts events
+
+-- A customer of one hub and a customer of another are sent the same, and stand alike in the end.
+pub record IsLike (c d : ℕ) (parts others : List Part) (events more : List Event) : Type 0 where
+  pub after : part c (hub_run parts events).parts ≡ part d (hub_run others more).parts
+  pub sent : sent_to c (hub_run parts events).sent ≡ sent_to d (hub_run others more).sent
+
+-- Two hubs with customers that stand alike, two lists of events with the same events of these: it doesn't matter which other customers
+-- there are, what they hold, or which events of theirs come between.
+abbrev pub TwoListsAreLike : Type 0
+TwoListsAreLike =
+    (c d : ℕ) (parts others : List Part) (events more : List Event) →
+    c < length parts → d < length others → part c parts ≡ part d others → events_of c events ≡ events_of d more →
+    IsLike c d parts others events more
+
+-- A piece that comes in two gives the same frames and the same part.
+abbrev pub CutsAreLike : Type 0
+CutsAreLike =
+    (p : Part) (l : ℕ) (front back : List ℕ) (events : List OwnEvent) → l < length p.rests →
+    alone_run p (OwnBytes l (front ++ back) ∷ events) ≡ alone_run p (OwnBytes l front ∷ OwnBytes l back ∷ events)

@@ -1,0 +1,43 @@
+-- The hub as the list of its customers' parts: an event of one moves that one as if it were alone, and no other.
+use Rattle.std.specs.Prelude.{ℕ, ◌<◌, List, [], ◌∷◌, ◌++◌, length, slice_index_or, slice_set}
+use Rattle.njh_table.specs.declared.LineId.{LineId}
+use Rattle.njh_hub.specs.Runs.{Part, opened, OwnEvent, event_run}
+use Rattle.njh_hub.specs.Own.{line_of, own}
+use Rattle.njh_hub.specs.declared.event.Event.{Event}
+
+-- a customer that has no line
+abbrev pub no_part : Part
+no_part = opened (record { hub = []; quota = 0; files = 0; lines = []; routes = [] })
+
+-- a customer's part of the hub
+abbrev pub part : ℕ → List Part → Part
+part c parts = slice_index_or parts c no_part
+
+-- the hub has this line
+abbrev pub HasLine : List Part → LineId → Type 0
+HasLine parts line = line.line < length (part line.customer parts).customer.lines
+
+-- what a customer sent, with its lines as the hub names them
+abbrev pub sent_by : ℕ → List (ℕ × List ℕ) → List (LineId × List ℕ)
+sent_by c [] = []
+sent_by c (pair ∷ pairs) = (record { customer = c; line = pair.0 }, pair.1) ∷ sent_by c pairs
+
+-- what events lead a whole hub to, and all frames that are sent
+pub record HubRun : Type 0 where
+  pub parts : List Part
+  pub sent : List (LineId × List ℕ)
+
+abbrev pub own_event : List Part → ℕ → OwnEvent → HubRun
+own_event parts c event =
+    let x = event_run (part c parts) event in
+    record { parts = slice_set parts c x.after; sent = sent_by c x.sent }
+
+abbrev pub hub_event : List Part → Event → HubRun
+hub_event parts event = own_event parts (line_of event).customer (own event)
+
+abbrev pub hub_run : List Part → List Event → HubRun
+hub_run parts [] = record { parts = parts; sent = [] }
+hub_run parts (event ∷ events) =
+    let x = hub_event parts event in
+    let later = hub_run x.parts events in
+    record { parts = later.parts; sent = x.sent ++ later.sent }
