@@ -1,7 +1,6 @@
 -- A customer alone: what each frame and each signal on one of its lines does and sends.
-use Rattle.std.specs.Prelude.{ℕ, zero, suc, ◌+◌, ◌-◌, Bool, true, false, List, [], ◌∷◌, ◌++◌, length, take, drop, map, replicate, slice_index_or, slice_set, Ok, Err, ◌==◌, nat_le, nat_lt, cond, Some, None}
+use Rattle.std.specs.Prelude.{ℕ, zero, suc, ◌+◌, ◌-◌, Bool, true, false, List, [], ◌∷◌, ◌++◌, length, take, drop, map, replicate, slice_index_or, slice_set, Ok, Err, ◌==◌, nat_le, nat_lt, cond, Option, Some, None}
 use Rattle.njh_record.specs.Bytes.{two_bytes}
-use Rattle.njh_ebcdic.specs.Names.{padded}
 use Rattle.njh_bisync.specs.Frames.{Received, Enquiry, Ack0, Nak, Eot, Text, Spoiled}
 use Rattle.njh_bisync.specs.Written.{text_bytes}
 use Rattle.njh_block.specs.Blocks.{Item, Data, Aborted, Long, Control, General, written, read_block, text_of}
@@ -10,6 +9,10 @@ use Rattle.njh_table.specs.Entries.{CustomerEntry, LineEntry, route_of}
 use Rattle.njh_table.specs.declared.Route.{Route}
 use Rattle.njh_table.specs.declared.Route.TheVariants.{Here, Line, Unknown}
 use Rattle.njh_hub.specs.declared.event.Signal.{Signal}
+use Rattle.njh_hub.specs.declared.session.Config.{Config}
+use Rattle.njh_hub.specs.declared.session.Session.{Session}
+use Rattle.njh_hub.specs.declared.session.Reply.{Reply}
+use Rattle.njh_hub.specs.declared.session.Reply.TheVariants as reply
 use Rattle.njh_hub.specs.Customer.{Customer, LineState, fresh_line}
 use Rattle.njh_hub.specs.LineTable as line_table
 use Rattle.njh_hub.specs.Command.{reply_to}
@@ -24,12 +27,12 @@ silent lines = record { lines = lines; frame = [] }
 
 -- a line in the place of one that isn't there
 abbrev pub no_line : LineState
-no_line = fresh_line (record { hub = []; node = []; block = 0; password = [] })
+no_line = fresh_line (record { hub = []; node = []; block = 0; password = None })
 
 abbrev pub line_at : ℕ → List LineState → LineState
 line_at l lines = slice_index_or lines l no_line
 
-abbrev pub in_session : line_table.Session → LineState → LineState
+abbrev pub in_session : Session → LineState → LineState
 in_session s x = record x { session = s }
 
 -- a nodal message waits, where there is room for 64
@@ -107,18 +110,22 @@ next_block l or_ack0 lines =
       | suc k ↦ record { lines = slice_set lines l (without_first (suc k) x); frame = own_text x.session.count (map message_item (take (suc k) x.messages)) }
     ]
 
--- a J record from its length byte on
-abbrev pub j_bytes : line_table.Config → List ℕ
-j_bytes line = 0x29 ∷ line.hub ++ 0x01 ∷ replicate 6 0x00 ++ two_bytes line.block ++ padded line.password ++ replicate 8 0x40 ++ replicate 5 0x00
+abbrev pub password_bytes : Option (List ℕ) → List ℕ
+password_bytes None = replicate 8 0x40
+password_bytes (Some password) = password
 
-abbrev pub j_frame : line_table.Config → List ℕ
+-- a J record from its length byte on
+abbrev pub j_bytes : Config → List ℕ
+j_bytes line = 0x29 ∷ line.hub ++ 0x01 ∷ replicate 6 0x00 ++ two_bytes line.block ++ password_bytes line.password ++ replicate 8 0x40 ++ replicate 5 0x00
+
+abbrev pub j_frame : Config → List ℕ
 j_frame line = text_bytes (text_of 0xa0 all_on (General 0xd1 (j_bytes line) ∷ []))
 
-abbrev pub replies : ℕ → line_table.Reply → List LineState → Answer
-replies l line_table.Nothing lines = silent lines
-replies l line_table.SendAck0 lines = record { lines = lines; frame = ack0 }
-replies l line_table.SendJ lines = record { lines = lines; frame = j_frame (line_at l lines).config }
-replies l (line_table.Next or_ack0) lines = next_block l or_ack0 lines
+abbrev pub replies : ℕ → Reply → List LineState → Answer
+replies l reply.Nothing lines = silent lines
+replies l reply.Ack0 lines = record { lines = lines; frame = ack0 }
+replies l reply.SignOn lines = record { lines = lines; frame = j_frame (line_at l lines).config }
+replies l (reply.Next or_ack0) lines = next_block l or_ack0 lines
 
 -- after a verdict: the line's session, the block's records, the reply
 abbrev pub follows : CustomerEntry → ℕ → List Item → line_table.Verdict → List LineState → Answer
@@ -145,8 +152,8 @@ text_came entry l text lines =
     ]
 
 abbrev pub answer_to : CustomerEntry → ℕ → Received → List LineState → Answer
-answer_to entry l Enquiry lines = came entry l [] line_table.Enquiry lines
-answer_to entry l Ack0 lines = came entry l [] line_table.Ack0 lines
+answer_to entry l Enquiry lines = came entry l [] line_table.Contact lines
+answer_to entry l Ack0 lines = came entry l [] line_table.Acknowledged lines
 answer_to entry l Nak lines = came entry l [] line_table.Ending lines
 answer_to entry l Eot lines = came entry l [] line_table.Ending lines
 answer_to entry l (Text text) lines = text_came entry l text lines

@@ -1,24 +1,13 @@
 -- A line's session (IBM GA27-3004; the line table), for a hub that answers and keeps to the sequence of blocks: contact, a sign-on that
 -- fits, blocks whose counts follow each other. Whatever else comes ends the session, and no frame goes out.
-use Rattle.std.specs.Prelude.{ℕ, ◌+◌, ◌/◌, ◌%◌, Bool, true, false, List, [], ◌∷◌, ◌++◌, replicate, min, Option, Some, None, Ok, Err, ◌==◌, nat_le, cond, ◌&&◌, ◌||◌, bytes_eq}
-use Rattle.njh_record.specs.Bytes.{two_bytes}
-use Rattle.njh_ebcdic.specs.Names.{padded, is_empty}
+use Rattle.std.specs.Prelude.{ℕ, ◌+◌, ◌/◌, ◌%◌, Bool, true, false, List, min, Option, Some, None, Ok, Err, ◌==◌, nat_le, cond, ◌&&◌, ◌||◌, bytes_eq}
 use Rattle.njh_header.specs.SignOns.{SignOn, sign_on}
-use Rattle.njh_hub.specs.declared.line.Phase.{Phase}
-use Rattle.njh_hub.specs.declared.line.Phase.TheVariants.{Down, Answered, Up}
-
--- What a line is told once.
-pub record Config : Type 0 where
-  pub hub : List ℕ
-  pub node : List ℕ
-  pub block : ℕ
-  pub password : List ℕ
-
-pub record Session : Type 0 where
-  pub phase : Phase
-  pub acted : Option ℕ  -- the BCB of the last block acted on in this session, those whose count isn't checked aside
-  pub count : ℕ  -- of the hub's next text
-  pub size : ℕ  -- of texts in this session
+use Rattle.njh_hub.specs.declared.session.Phase.{Phase}
+use Rattle.njh_hub.specs.declared.session.Phase.TheVariants.{Down, Answered, Up}
+use Rattle.njh_hub.specs.declared.session.Config.{Config}
+use Rattle.njh_hub.specs.declared.session.Session.{Session}
+use Rattle.njh_hub.specs.declared.session.Reply.{Reply}
+use Rattle.njh_hub.specs.declared.session.Reply.TheVariants.{Nothing, Ack0, SignOn as SendSignOn, Next}
 
 abbrev pub fresh : Session
 fresh = record { phase = Down; acted = None; count = 0; size = 300 }
@@ -57,8 +46,12 @@ is_acted_on acted bcb =
 abbrev pub after_acting : ℕ → Session → Session
 after_acting bcb s = record s { acted = cond (bcb_type bcb == 1) s.acted (Some bcb) }
 
+abbrev pub is_password : Option (List ℕ) → List ℕ → Bool
+is_password None given = true
+is_password (Some password) given = bytes_eq given password
+
 abbrev pub fits : SignOn → Config → Bool
-fits s line = bytes_eq s.node line.node && (nat_le 300 s.block && (is_empty line.password || bytes_eq s.password (padded line.password)))
+fits s line = bytes_eq s.node line.node && (nat_le 300 s.block && is_password line.password s.password)
 
 -- a block's first record where it is a general one: its SRCB and its bytes
 abbrev pub First : Type 0
@@ -71,17 +64,10 @@ fitting line (Some x) = cond (x.0 == 0xc9) (elim (sign_on x.1) [ Ok s ↦ cond (
 
 -- What comes to a line: contact, an acknowledgement, a good block, or what ends a session.
 pub data Input : Type 0 where
-  Enquiry : Input
-  Ack0 : Input
+  Contact : Input
+  Acknowledged : Input
   Block : (bcb : ℕ) → First → Input
   Ending : Input
-
--- What answers it: nothing, ACK0, the J block, or the next block, in whose place ACK0 or nothing is sent.
-pub data Reply : Type 0 where
-  Nothing : Reply
-  SendAck0 : Reply
-  SendJ : Reply
-  Next : (or_ack0 : Bool) → Reply
 
 pub record Verdict : Type 0 where
   pub session : Session
@@ -96,7 +82,7 @@ acknowledged s = elim s.phase [ Up ↦ record { session = s; acts = false; reply
 
 abbrev pub signed_on : Config → Option ℕ → Session → Verdict
 signed_on line None s = quiet (down s)
-signed_on line (Some block) s = record { session = record s { phase = Up; size = min line.block block }; acts = false; reply = SendJ }
+signed_on line (Some block) s = record { session = record s { phase = Up; size = min line.block block }; acts = false; reply = SendSignOn }
 
 abbrev pub acting : Config → ℕ → First → Session → Verdict
 acting line bcb first s =
@@ -108,8 +94,8 @@ acting line bcb first s =
 
 -- the line table
 abbrev pub accepted : Config → Input → Session → Verdict
-accepted line Enquiry s = record { session = contacted s; acts = false; reply = SendAck0 }
-accepted line Ack0 s = acknowledged s
+accepted line Contact s = record { session = contacted s; acts = false; reply = Ack0 }
+accepted line Acknowledged s = acknowledged s
 accepted line (Block bcb first) s = cond (is_acted_on s.acted bcb) (acting line bcb first s) (quiet (down s))
 accepted line Ending s = quiet (down s)
 

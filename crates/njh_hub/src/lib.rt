@@ -5,6 +5,7 @@ mod event;
 mod fault;
 mod law;
 mod line;
+mod session;
 mod sink;
 
 pub use event::{Event, Piece, Signal};
