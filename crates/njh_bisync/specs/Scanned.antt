@@ -1,0 +1,44 @@
+-- What the scanner and a frame stand for.
+use Rattle.std.specs.Prelude.{ℕ, Bool, true, false, List, Option, Some, None}
+use Rattle.njh_bisync.specs.Frames as grammar
+use Rattle.njh_bisync.specs.Frames.{Received}
+use Rattle.njh_bisync.specs.Reading.{Rest, Nothing, AfterSoh, AfterDle, InText}
+use Rattle.njh_bisync.specs.declared.frame.Frame.{Frame}
+use Rattle.njh_bisync.specs.declared.frame.Frame.TheVariants as frame
+use Rattle.njh_bisync.specs.declared.scanner.Place.{Place}
+use Rattle.njh_bisync.specs.declared.scanner.Place.TheVariants.{Between, Soh, Dle, Inside, InsideDle}
+use Rattle.njh_bisync.specs.declared.scanner.Ended.{Ended}
+use Rattle.njh_bisync.specs.declared.scanner.Ended.TheVariants as ended
+use Rattle.njh_bisync.specs.declared.scanner.Scanner.{Scanner}
+
+-- what a frame tells
+abbrev pub received : Frame → Received
+received frame.Enquiry = grammar.Enquiry
+received frame.Ack0 = grammar.Ack0
+received frame.Nak = grammar.Nak
+received frame.Eot = grammar.Eot
+received (frame.Text text) = grammar.Text text.now
+received frame.Spoiled = grammar.Spoiled
+
+-- the data of a text, if it is good so far
+abbrev pub good_data : Bool → List ℕ → Option (List ℕ)
+good_data true held = None
+good_data false held = Some held
+
+abbrev pub rest_at : Place → Option (List ℕ) → Rest
+rest_at Between good = Nothing
+rest_at Soh good = AfterSoh
+rest_at Dle good = AfterDle
+rest_at Inside good = InText good false
+rest_at InsideDle good = InText good true
+
+abbrev pub rest_in : Scanner → Rest
+rest_in scanner = rest_at scanner.place (good_data scanner.spoiled scanner.held.items)
+
+abbrev pub frame_in : List ℕ → Ended → Received
+frame_in held ended.Enquiry = grammar.Enquiry
+frame_in held ended.Ack0 = grammar.Ack0
+frame_in held ended.Nak = grammar.Nak
+frame_in held ended.Eot = grammar.Eot
+frame_in held ended.Text = grammar.Text held
+frame_in held ended.Spoiled = grammar.Spoiled

@@ -1,0 +1,177 @@
+//! One byte after another through the frame grammar.
+ghost use Rattle.std.specs.Prelude.{◌≡◌, ◌≤◌, [], false, IfOk, option_map, vec_len, vec_capacity};
+ghost use Rattle.njh_bisync.specs.Fed.{turn, fed, kept_with};
+ghost use Rattle.njh_bisync.specs.Frames.{text_or_spoiled};
+ghost use Rattle.njh_bisync.specs.Reading.{Nothing, InText};
+
+use std::alloc::{AllocError, Global};
+
+use crate::frame::Frame;
+use crate::line_byte::{ACK_0, DLE, ENQ, EOT, ETB, ETX, NAK, SOH, STX, SYN};
+
+/// The most data bytes of a text that isn't spoiled.
+pub const LONGEST_TEXT: usize = 4096;
+
+/// Where in the grammar the bytes so far end.
+#[derive(Clone, Copy, Debug)]
+pub enum Place {
+    Between,
+    Soh,
+    Dle,
+    Inside,
+    InsideDle,
+}
+
+/// The frame that a byte ended. The data of a text is still in the scanner.
+#[derive(Clone, Copy, Debug)]
+pub enum Ended {
+    Enquiry,
+    Ack0,
+    Nak,
+    Eot,
+    Text,
+    Spoiled,
+}
+
+#[derive(Drop)]
+pub struct Scanner {
+    place: Place,
+    spoiled: bool,
+    held: Vec<u8>,
+    ghost short: { vec_len held ≤ 4096 },
+    ghost room: { 4096 ≤ vec_capacity held },
+}
+
+impl Scanner {
+    ghost use Rattle.njh_bisync.specs.Scanned.{good_data, rest_in, frame_in, received};
+
+    pub fn new(alloc: Global) -> Result<Scanner, AllocError>
+        ensures { IfOk result (λ scanner. rest_in scanner ≡ Nothing) }
+    {
+        Ok(Scanner {
+            place: Place::Between,
+            spoiled: false,
+            held: Vec::with_capacity(alloc, LONGEST_TEXT)?,
+        })
+    }
+
+    /// Takes bytes up to the end of the first frame, or all: how many, and the frame.
+    pub fn scan(&mut self, piece: &[u8]) -> (usize, Option<Ended>)
+        ensures taken { result.0 ≡ (fed (rest_in self.old) piece.now).taken }
+        ensures frame { option_map (frame_in self.new.held.items) result.1 ≡ (fed (rest_in self.old) piece.now).frame }
+        ensures rest { rest_in self.new ≡ (fed (rest_in self.old) piece.now).rest }
+    {
+        for (index, byte) in piece.iter().enumerate() {
+            if let Some(ended) = self.take(*byte) {
+                return (index + 1, Some(ended));
+            }
+        }
+        (piece.len(), None)
+    }
+
+    /// The frame that the last byte ended.
+    pub fn frame(&self, ended: Ended) -> Frame<'_>
+        ensures { received result ≡ frame_in self.now.held.items ended }
+    {
+        match ended {
+            Ended::Enquiry => Frame::Enquiry,
+            Ended::Ack0 => Frame::Ack0,
+            Ended::Nak => Frame::Nak,
+            Ended::Eot => Frame::Eot,
+            Ended::Text => Frame::Text(self.held.as_slice()),
+            Ended::Spoiled => Frame::Spoiled,
+        }
+    }
+
+    pub fn reset(&mut self)
+        ensures { rest_in self.new ≡ Nothing }
+    {
+        self.place = Place::Between;
+    }
+
+    /// Takes one byte; where it ends a frame, that frame.
+    #[tactic(auto, unfolding(crate::specs::Fed::turn))]
+    fn take(&mut self, byte: u8) -> Option<Ended>
+        ensures frame { option_map (frame_in self.new.held.items) result ≡ (turn (rest_in self.old) byte).frame }
+        ensures rest { rest_in self.new ≡ (turn (rest_in self.old) byte).rest }
+    {
+        match (self.place, byte) {
+            (Place::Between, SOH) => self.go_on(Place::Soh),
+            (Place::Between, DLE) => self.go_on(Place::Dle),
+            (Place::Between, NAK) => self.end(Ended::Nak),
+            (Place::Between, EOT) => self.end(Ended::Eot),
+            (Place::Soh, ENQ) => self.end(Ended::Enquiry),
+            (Place::Dle, ACK_0) => self.end(Ended::Ack0),
+            (Place::Dle, STX) => self.begin_text(),
+            (Place::Between | Place::Soh | Place::Dle, _) => self.go_on(Place::Between),
+            (Place::Inside, DLE) => self.go_on(Place::InsideDle),
+            (Place::Inside, _) | (Place::InsideDle, DLE) => self.keep(byte),
+            (Place::InsideDle, SYN) => self.go_on(Place::Inside),
+            (Place::InsideDle, ETB | ETX) => self.end_text(),
+            (Place::InsideDle, ENQ) => self.end(Ended::Spoiled),
+            (Place::InsideDle, _) => self.spoil(),
+        }
+    }
+
+    fn go_on(&mut self, place: Place) -> Option<Ended>
+        ensures none { result ≡ None }
+        ensures place { self.new.place ≡ place }
+        ensures spoiled { self.new.spoiled ≡ self.old.spoiled }
+        ensures held { self.new.held.items ≡ self.old.held.items }
+    {
+        self.place = place;
+        None
+    }
+
+    fn end(&mut self, ended: Ended) -> Option<Ended>
+        ensures ended { result ≡ Some ended }
+        ensures place { self.new.place ≡ Place.Between }
+        ensures held { self.new.held.items ≡ self.old.held.items }
+    {
+        self.place = Place::Between;
+        Some(ended)
+    }
+
+    fn begin_text(&mut self) -> Option<Ended>
+        ensures none { result ≡ None }
+        ensures rest { rest_in self.new ≡ InText (Some []) false }
+    {
+        self.place = Place::Inside;
+        self.spoiled = false;
+        self.held.clear();
+        None
+    }
+
+    /// Spoils the text where it has no room for the byte.
+    fn keep(&mut self, byte: u8) -> Option<Ended>
+        ensures none { result ≡ None }
+        ensures rest { rest_in self.new ≡ InText (kept_with (good_data self.old.spoiled self.old.held.items) byte) false }
+    {
+        if self.held.len() == LONGEST_TEXT {
+            return self.spoil();
+        }
+        self.place = Place::Inside;
+        self.held.push_reserved(byte);
+        None
+    }
+
+    fn spoil(&mut self) -> Option<Ended>
+        ensures none { result ≡ None }
+        ensures rest { rest_in self.new ≡ InText None false }
+    {
+        self.place = Place::Inside;
+        self.spoiled = true;
+        None
+    }
+
+    fn end_text(&mut self) -> Option<Ended>
+        ensures frame { option_map (frame_in self.new.held.items) result ≡ Some (text_or_spoiled (good_data self.old.spoiled self.old.held.items)) }
+        ensures place { self.new.place ≡ Place.Between }
+    {
+        if self.spoiled {
+            self.end(Ended::Spoiled)
+        } else {
+            self.end(Ended::Text)
+        }
+    }
+}

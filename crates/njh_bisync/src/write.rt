@@ -1,0 +1,96 @@
+//! Frames written.
+ghost use Rattle.std.specs.Prelude.{◌≡◌, ℕ, ◌+◌, ◌*◌, ◌≤◌, ◌==◌, ◌++◌, length, count_by, flat_map, IsOk, OnOk, OnErr, vec_len, vec_capacity};
+ghost use Rattle.njh_bisync.specs.Written.{spelled, text_bytes, control_bytes};
+
+use std::alloc::AllocError;
+
+use crate::frame::Control;
+use crate::line_byte::{ACK_0, DLE, ENQ, ETB, NAK, SOH, STX};
+
+/// Appends a text of these 0 to 4,096 bytes, each DLE doubled.
+///
+/// It is at most 4 bytes longer than twice the data, and where `out` has the room for it no memory is asked for.
+#[tactic(auto, unfolding(crate::specs::Written::text_bytes))]
+pub fn put_text(data: &[u8], out: &mut Vec<u8>) -> Result<(), AllocError>
+    requires { length «data».now ≤ 4096 }
+    ensures ok { OnOk result (out.new.items ≡ out.old.items ++ text_bytes «data».now) }
+    ensures err { OnErr result (out.new.items ≡ out.old.items) }
+    ensures succeeds { vec_len out.old + length (text_bytes «data».now) ≤ vec_capacity out.old → IsOk result }
+    ensures kept { vec_len out.old + length (text_bytes «data».now) ≤ vec_capacity out.old → vec_capacity out.new ≡ vec_capacity out.old }
+    ensures capacity { vec_capacity out.old ≤ vec_capacity out.new }
+    ensures short { length (text_bytes «data».now) ≤ 4 + 2 * length «data».now }
+{
+    make_room(out, text_len(data))?;
+    put_bytes(&[DLE, STX], out);
+    put_data(data, out);
+    put_bytes(&[DLE, ETB], out);
+    Ok(())
+}
+
+/// Appends a control frame, of at most 2 bytes. Where `out` has the room for it no memory is asked for.
+pub fn put_control(control: Control, out: &mut Vec<u8>) -> Result<(), AllocError>
+    ensures ok { OnOk result (out.new.items ≡ out.old.items ++ control_bytes control) }
+    ensures err { OnErr result (out.new.items ≡ out.old.items) }
+    ensures succeeds { vec_len out.old + length (control_bytes control) ≤ vec_capacity out.old → IsOk result }
+    ensures kept { vec_len out.old + length (control_bytes control) ≤ vec_capacity out.old → vec_capacity out.new ≡ vec_capacity out.old }
+    ensures capacity { vec_capacity out.old ≤ vec_capacity out.new }
+    ensures short { length (control_bytes control) ≤ 2 }
+{
+    let bytes: &[u8] = match control {
+        Control::Enquiry => &[SOH, ENQ],
+        Control::Ack0 => &[DLE, ACK_0],
+        Control::Nak => &[NAK],
+    };
+    make_room(out, bytes.len())?;
+    put_bytes(bytes, out);
+    Ok(())
+}
+
+/// How many bytes `put_text` appends.
+#[tactic(auto, using(crate::proofs::WrittenLaws::lengths), unfolding(crate::specs::Written::text_bytes))]
+fn text_len(data: &[u8]) -> usize
+    requires { length «data».now ≤ 4096 }
+    ensures exact { result ≡ length (text_bytes «data».now) }
+    ensures short { result ≤ 4 + 2 * length «data».now }
+    ensures parts { result ≡ 4 + length (flat_map spelled «data».now) }
+{
+    let doubled = data.iter().filter(|byte| **byte == DLE).count();
+    4 + data.len() + doubled
+}
+
+/// Asks for memory only where the room is missing.
+fn make_room(out: &mut Vec<u8>, count: usize) -> Result<(), AllocError>
+    ensures items { out.new.items ≡ out.old.items }
+    ensures room { OnOk result (vec_len out.new + count ≤ vec_capacity out.new) }
+    ensures succeeds { vec_len out.old + count ≤ vec_capacity out.old → IsOk result }
+    ensures kept { vec_len out.old + count ≤ vec_capacity out.old → vec_capacity out.new ≡ vec_capacity out.old }
+    ensures capacity { vec_capacity out.old ≤ vec_capacity out.new }
+{
+    if count <= out.capacity() - out.len() {
+        return Ok(());
+    }
+    out.reserve(count)
+}
+
+fn put_bytes(bytes: &[u8], out: &mut Vec<u8>)
+    requires { vec_len out.old + length bytes.now ≤ vec_capacity out.old }
+    ensures items { out.new.items ≡ out.old.items ++ bytes.now }
+    ensures capacity { vec_capacity out.new ≡ vec_capacity out.old }
+{
+    for byte in bytes {
+        out.push_reserved(*byte);
+    }
+}
+
+fn put_data(data: &[u8], out: &mut Vec<u8>)
+    requires { vec_len out.old + length (flat_map spelled «data».now) ≤ vec_capacity out.old }
+    ensures items { out.new.items ≡ out.old.items ++ flat_map spelled «data».now }
+    ensures capacity { vec_capacity out.new ≡ vec_capacity out.old }
+{
+    for byte in data {
+        if *byte == DLE {
+            out.push_reserved(DLE);
+        }
+        out.push_reserved(*byte);
+    }
+}
