@@ -1,2 +1,1 @@
-pub mod Charts
 pub mod Trimming

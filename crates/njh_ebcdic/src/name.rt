@@ -3,8 +3,7 @@
 use std::marker::Model;
 use thiserror::Error;
 
-use crate::characters::byte_of;
-use crate::fields::{BLANK, FIELD, are_name_bytes, is_name_byte, trim_blanks};
+use crate::fields::{BLANK, FIELD, are_name_bytes, trim_blanks};
 
 /// Why a text or a field is no name.
 #[derive(Clone, Copy, Debug, PartialEq, Eq, Error)]
@@ -39,7 +38,7 @@ impl Model for Name {
 impl Name {
     ghost use Rattle.std.specs.Prelude.{◌≡◌, IsTrue, IfOk, length, is_ok};
     ghost use Rattle.njh_ebcdic.specs.Names.{is_name, trimmed};
-    ghost use Rattle.njh_ebcdic.specs.Reading.{name_of_field, name_of_text};
+    ghost use Rattle.njh_ebcdic.specs.Reading.{name_of_field};
 
     /// The name that a field of eight bytes holds. `Empty` where the field is blank, else
     /// `BadCharacter` where a byte before its last blanks is none of a name, a blank too.
@@ -65,28 +64,6 @@ impl Name {
         }
         let mut bytes = [BLANK; FIELD];
         bytes.copy_from_slice(field);
-        Ok(Name { bytes })
-    }
-
-    /// The name that a text spells, of 1 to 8 characters and with no blanks. `Empty` comes before
-    /// `TooLong`, and `TooLong` before `BadCharacter`.
-    pub fn of_text(text: &str) -> Result<Name, NameFault>
-        ensures { result ≡ name_of_text text.now }
-    {
-        if text.is_empty() {
-            return Err(NameFault::Empty);
-        }
-        if text.chars().count() > FIELD {
-            return Err(NameFault::TooLong);
-        }
-        let mut bytes = [BLANK; FIELD];
-        for (place, character) in text.chars().enumerate() {
-            let byte = byte_of(character).ok_or(NameFault::BadCharacter)?;
-            if !is_name_byte(byte) {
-                return Err(NameFault::BadCharacter);
-            }
-            bytes[place] = byte;
-        }
         Ok(Name { bytes })
     }
 
