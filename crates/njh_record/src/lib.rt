@@ -1,11 +1,26 @@
-//! Records: how they are spelled, and what a file is made of.
+//! Records of an NJE file: how a record is spelled by string control bytes (IBM SC23-0070, "Compression"), and what a
+//! file is made of.
 #![tactic(auto)]
 
+mod laws;
+mod reading;
+mod scb;
+mod writing;
+
 use arrayvec::ArrayVec;
+pub use laws::{
+    no_proper_prefix, one_answer, one_reading, one_spelling, reads_back, reads_spellings,
+    rest_behind, spelling_bounds,
+};
+pub use reading::unspell;
 use thiserror::Error;
+pub use writing::{spell, spelled_len};
 
 /// The bytes of one record, at most 256.
 pub type Record = ArrayVec<u8, 256>;
+
+/// Room for the spelling of a record, which takes 262 bytes at most.
+pub type Spelled = ArrayVec<u8, 263>;
 
 /// What ends a spelling: the record is whole, or the sender gives it up.
 #[derive(Clone, Copy, Debug, PartialEq, Eq)]
@@ -14,7 +29,8 @@ pub enum End {
     Abort,
 }
 
-/// Why no record was read.
+/// Why no record was read: a byte stands in the place of a string control byte that is none (01 to 3F and 41 to 7F), the
+/// bytes end before the spelling does, or a good spelling of `used` bytes ends a record of more than 256.
 #[derive(Clone, Copy, Debug, PartialEq, Eq, Error)]
 pub enum RecordFault {
     #[error("C1 BadScb")]
@@ -31,3 +47,6 @@ pub enum Kind {
     In,
     Out,
 }
+
+#[cfg(test)]
+mod tests;

@@ -1,0 +1,5 @@
+pub mod Unspelling
+pub mod Steps
+pub mod ReadingLaws
+pub mod Runs
+pub mod WritingLaws

@@ -1,0 +1,5 @@
+use Rattle.njh_record.proofs.ReadingLaws.{prefix_free}
+use Rattle.njh_record.proofs.laws.no_proper_prefix.Goals as goal
+
+pub returns : goal.returns
+returns c = prefix_free

@@ -1,0 +1,5 @@
+use Rattle.njh_record.proofs.ReadingLaws.{rest_behind}
+use Rattle.njh_record.proofs.laws.rest_behind.Goals as goal
+
+pub returns : goal.returns
+returns c = rest_behind

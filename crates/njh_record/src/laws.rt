@@ -1,0 +1,66 @@
+//! Laws of the definitions, which hold of every list of bytes. Each function does nothing: its contract is the law.
+
+ghost use Rattle.std.specs.Prelude.{◌≡◌, ℕ, ◌+◌, ◌*◌, ◌<◌, ◌≤◌, List, [], ◌++◌, length, drop, Result};
+ghost use Rattle.njh_record.specs.Bytes.{AreBytes};
+ghost use Rattle.njh_record.specs.declared.End.{End};
+ghost use Rattle.njh_record.specs.declared.RecordFault.{RecordFault};
+ghost use Rattle.njh_record.specs.Spelling.{Spelling};
+ghost use Rattle.njh_record.specs.Reading.{Unspells};
+ghost use Rattle.njh_record.specs.Unspelled.{Unspelled, Fault, ReadsAs, unspelled, answer_of, record_left};
+ghost use Rattle.njh_record.specs.Writing.{spell_of};
+
+/// The function that reads gives what stands in the bytes, and nothing else stands there: a spelling at their front, or a
+/// bad string control byte behind whole items, or the front of a spelling alone.
+pub fn one_reading()
+    ensures found { (bytes : List ℕ) → AreBytes bytes → ReadsAs bytes (unspelled bytes) }
+    ensures only { (bytes : List ℕ) (read : Result Unspelled Fault) →
+        ReadsAs bytes read → unspelled bytes ≡ read }
+{}
+
+/// What follows a spelling begins behind it, and a spelling has a byte at least.
+pub fn rest_behind()
+    ensures { (bytes : List ℕ) (found : Unspelled) → unspelled bytes ≡ Ok found →
+        (used : ℕ) × (0 < used) × (used ≤ length bytes) × (found.rest ≡ drop used bytes) }
+{}
+
+/// What `unspell` answers and the record that it leaves are functions of the bytes, which give what `Unspells` says and
+/// nothing else.
+pub fn one_answer()
+    ensures found { (bytes : List ℕ) → AreBytes bytes →
+        Unspells bytes (answer_of bytes) (record_left bytes) }
+    ensures only { (bytes : List ℕ) (answer : Result (ℕ × End) RecordFault) (contents : List ℕ) →
+        Unspells bytes answer contents → (answer_of bytes ≡ answer) × (record_left bytes ≡ contents) }
+{}
+
+/// No spelling is a proper prefix of another.
+pub fn no_proper_prefix()
+    ensures { (spelling more contents others : List ℕ) (end other : End) →
+        Spelling spelling contents end → Spelling (spelling ++ more) others other → more ≡ [] }
+{}
+
+/// A spelling is read as what it spells, whatever follows it.
+pub fn reads_spellings()
+    ensures { (spelling contents rest : List ℕ) (end : End) → Spelling spelling contents end →
+        unspelled (spelling ++ rest) ≡ Ok (record { contents = contents; end = end; rest = rest }) }
+{}
+
+/// The one spelling of a record is a spelling of it.
+pub fn one_spelling()
+    ensures { (contents : List ℕ) → Spelling (spell_of contents) contents End.Record }
+{}
+
+/// What is written of a record is read back as that record, whatever follows it.
+pub fn reads_back()
+    ensures { (contents rest : List ℕ) → unspelled (spell_of contents ++ rest)
+        ≡ Ok (record { contents = contents; end = End.Record; rest = rest }) }
+{}
+
+/// A spelling has a byte at least, and takes one byte more for each 63 of the record at most, and two: 262 bytes for a
+/// record of 256.
+pub fn spelling_bounds()
+    ensures some { (contents : List ℕ) → 0 < length (spell_of contents) }
+    ensures growth { (contents : List ℕ) →
+        63 * length (spell_of contents) ≤ 64 * length contents + 125 }
+    ensures longest { (contents : List ℕ) → length contents ≤ 256 →
+        length (spell_of contents) ≤ 262 }
+{}

@@ -1,0 +1,18 @@
+//! String control bytes (IBM SC23-0070, "Compression").
+
+/// Ends a record.
+pub const END_OF_RECORD: u8 = 0x00;
+/// Ends a record that the sender gives up.
+pub const ABORT: u8 = 0x40;
+/// So many blanks, the count in the low five bits.
+pub const BLANKS: u8 = 0x80;
+/// The next byte so many times, the count in the low five bits.
+pub const REPEAT: u8 = 0xA0;
+/// The next so many bytes as they are, the count in the low six bits.
+pub const LITERAL: u8 = 0xC0;
+
+pub const BLANK: u8 = 0x40;
+
+pub const LONGEST_RUN: usize = 31;
+
+pub const LONGEST_LITERAL: usize = 63;

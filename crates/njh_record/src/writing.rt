@@ -1,0 +1,164 @@
+//! Writing: from a record to the one spelling that is written of it.
+
+ghost use Rattle.std.specs.Prelude.{◌≡◌, ℕ, ◌+◌, ◌≤◌, ◌<◌, List, [], ◌++◌, length, take};
+ghost use Rattle.njh_record.specs.Spelling.{added, item_bytes, IsItem, literal};
+ghost use Rattle.njh_record.specs.Writing.{run_of, is_run, begins_run, before_run, run_item, first_item, spell_of};
+ghost use Rattle.njh_record.specs.Written.{item_of, SpellsFront};
+
+use crate::Spelled;
+use crate::scb::{BLANK, BLANKS, END_OF_RECORD, LITERAL, LONGEST_LITERAL, LONGEST_RUN, REPEAT};
+
+/// An item of a spelling.
+#[derive(Clone, Copy)]
+enum Item<'a> {
+    Run { byte: u8, count: usize },
+    Literal(&'a [u8]),
+}
+
+/// How many bytes equal to the first stand at the front, 31 at most.
+fn run_len(bytes: &[u8]) -> usize
+    requires { 0 < length bytes.now }
+    ensures { result ≡ run_of bytes.now }
+{
+    let first = bytes[0];
+    bytes
+        .iter()
+        .take(LONGEST_RUN)
+        .take_while(|byte| **byte == first)
+        .count()
+}
+
+/// Whether so many equal bytes are worth an item of their own.
+fn is_run(byte: u8, count: usize) -> bool
+    ensures { result ≡ is_run byte count }
+{
+    if byte == BLANK {
+        count >= 2
+    } else {
+        count >= 3
+    }
+}
+
+/// How many bytes stand before the first run, 63 at most.
+fn literal_len(bytes: &[u8]) -> usize
+    ensures within { result ≤ length bytes.now }
+    ensures front { take result bytes.now ≡ take 63 (before_run bytes.now) }
+{
+    let limit = bytes.len().min(LONGEST_LITERAL);
+    for place in 0..limit {
+        let rest = &bytes[place..];
+        if is_run(rest[0], run_len(rest)) {
+            return place;
+        }
+    }
+    limit
+}
+
+/// The item that spells the front of some bytes.
+fn first_item(bytes: &[u8]) -> Item<'_>
+    requires { 0 < length bytes.now }
+    ensures item { item_of result ≡ first_item bytes.now }
+    ensures front { SpellsFront bytes.now (item_of result) }
+{
+    let count = run_len(bytes);
+    if is_run(bytes[0], count) {
+        Item::Run {
+            byte: bytes[0],
+            count,
+        }
+    } else {
+        Item::Literal(&bytes[..literal_len(bytes)])
+    }
+}
+
+impl Item<'_> {
+    /// How many bytes of the record it spells.
+    fn len(self) -> usize
+        ensures { result ≡ length (added (item_of self.entry)) }
+    {
+        match self {
+            Item::Run { count, .. } => count,
+            Item::Literal(bytes) => bytes.len(),
+        }
+    }
+
+    /// How many bytes it takes.
+    fn spelled_len(self) -> usize
+        requires { IsItem (item_of self) }
+        ensures { result ≡ length (item_bytes (item_of self.entry)) }
+    {
+        match self {
+            Item::Run { byte, .. } => if byte == BLANK { 1 } else { 2 },
+            Item::Literal(bytes) => 1 + bytes.len(),
+        }
+    }
+
+    /// Adds its bytes.
+    fn put(self, out: &mut Spelled)
+        requires item { IsItem (item_of self) }
+        requires room { length out.old.items + length (item_bytes (item_of self)) ≤ 263 }
+        ensures { out.new.items ≡ out.old.items ++ item_bytes (item_of self.entry) }
+    {
+        match self {
+            Item::Run { byte, count } => put_run(byte, count, out),
+            Item::Literal(bytes) => put_literal(bytes, out),
+        }
+    }
+}
+
+fn put_run(byte: u8, count: usize, out: &mut Spelled)
+    requires item { IsItem (run_item byte count) }
+    requires room { length out.old.items + length (item_bytes (run_item byte count)) ≤ 263 }
+    ensures { out.new.items ≡ out.old.items ++ item_bytes (run_item byte count) }
+{
+    if byte == BLANK {
+        out.push(BLANKS + count as u8);
+    } else {
+        out.push(REPEAT + count as u8);
+        out.push(byte);
+    }
+}
+
+fn put_literal(bytes: &[u8], out: &mut Spelled)
+    requires item { IsItem (literal bytes.now) }
+    requires room { length out.old.items + length (item_bytes (literal bytes.now)) ≤ 263 }
+    ensures { out.new.items ≡ out.old.items ++ item_bytes (literal bytes.now) }
+{
+    out.push(LITERAL + bytes.len() as u8);
+    out.try_extend_from_slice(bytes).unwrap();
+}
+
+/// Writes the one spelling of a record (IBM SC23-0070, "Compression") in place of what `out` held: at each place the run
+/// of equal bytes there, 31 at most, where it has 2 blanks or 3 other bytes at least, else a literal of 63 bytes at most
+/// that stops where such a run begins. It takes 262 bytes at most.
+pub fn spell(contents: &[u8], out: &mut Spelled)
+    requires { length contents.now ≤ 256 }
+    ensures spelling { out.new.items ≡ spell_of contents.now }
+    ensures len { length out.new.items ≤ 262 }
+{
+    out.clear();
+    let mut rest = contents;
+    while !rest.is_empty() {
+        let item = first_item(rest);
+        item.put(out);
+        let (_, after) = rest.split_at(item.len());
+        rest = after;
+    }
+    out.push(END_OF_RECORD);
+}
+
+/// How many bytes `spell` writes of a record, without writing them.
+pub fn spelled_len(contents: &[u8]) -> usize
+    requires { length contents.now ≤ 256 }
+    ensures { result ≡ length (spell_of contents.now) }
+{
+    let mut len = 1;
+    let mut rest = contents;
+    while !rest.is_empty() {
+        let item = first_item(rest);
+        len += item.spelled_len();
+        let (_, after) = rest.split_at(item.len());
+        rest = after;
+    }
+    len
+}
