@@ -1,1 +1,5 @@
 pub mod WrittenLaws
+pub mod KeptLaws
+pub mod UnitReader
+pub mod FedLaws
+pub mod ReadBack

@@ -1,24 +1,13 @@
--- What the scanner and a frame stand for.
+-- What the scanner and what it finds stand for.
 use Rattle.std.specs.Prelude.{ℕ, Bool, true, false, List, Option, Some, None}
 use Rattle.njh_bisync.specs.Frames as grammar
 use Rattle.njh_bisync.specs.Frames.{Received}
 use Rattle.njh_bisync.specs.Reading.{Rest, Nothing, AfterSoh, AfterDle, InText}
-use Rattle.njh_bisync.specs.declared.frame.Frame.{Frame}
-use Rattle.njh_bisync.specs.declared.frame.Frame.TheVariants as frame
 use Rattle.njh_bisync.specs.declared.scanner.Place.{Place}
 use Rattle.njh_bisync.specs.declared.scanner.Place.TheVariants.{Between, Soh, Dle, Inside, InsideDle}
 use Rattle.njh_bisync.specs.declared.scanner.Ended.{Ended}
 use Rattle.njh_bisync.specs.declared.scanner.Ended.TheVariants as ended
 use Rattle.njh_bisync.specs.declared.scanner.Scanner.{Scanner}
-
--- what a frame tells
-abbrev pub received : Frame → Received
-received frame.Enquiry = grammar.Enquiry
-received frame.Ack0 = grammar.Ack0
-received frame.Nak = grammar.Nak
-received frame.Eot = grammar.Eot
-received (frame.Text text) = grammar.Text text.now
-received frame.Spoiled = grammar.Spoiled
 
 -- the data of a text, if it is good so far
 abbrev pub good_data : Bool → List ℕ → Option (List ℕ)

@@ -1,17 +1,20 @@
 //! Frames out of pieces.
-ghost use Rattle.std.specs.Prelude.{◌≡◌, IfOk, option_map};
+ghost use Rattle.std.specs.Prelude.{◌≡◌, ℕ, ◌<◌, ◌≤◌, List, length, option_map, IfOk, IfSome};
 ghost use Rattle.std.specs.Borrow.{sem};
 ghost use Rattle.std.specs.Io.BufRead.{Rests};
-ghost use Rattle.njh_bisync.specs.Reading.{Nothing};
-ghost use Rattle.njh_bisync.specs.Fed.{fed};
-
-use std::alloc::{AllocError, Global};
-use std::marker::Model;
+ghost use Rattle.njh_bisync.specs.Frames.{Received, IsShort};
+ghost use Rattle.njh_bisync.specs.Reading.{Nothing, Reads, TakesFirst};
+ghost use Rattle.njh_bisync.specs.Fed.{fed, frames_after, rest_after, GoesOn};
 
 use crate::frame::Frame;
 use crate::scanner::Scanner;
+use std::alloc::{AllocError, Global};
+use std::marker::Model;
 
-#[derive(Drop)]
+/// Finds the frames in the bytes of a line, in whatever pieces they come (IBM GA27-3004, transparent text).
+///
+/// A clause sees the rest of the bytes so far: what is no whole unit yet, as far as it matters for what follows.
+#[derive(Debug, Drop)]
 pub struct Deframer {
     scanner: Scanner,
 }
@@ -26,9 +29,10 @@ impl Model for Deframer {
 }
 
 impl Deframer {
-    ghost use Rattle.njh_bisync.specs.Scanned.{received};
+    ghost use Rattle.njh_bisync.specs.Lent.{received};
     ghost use Rattle.njh_bisync.specs.contracts.deframer.Deframer.{the_row};
 
+    /// Reserves the 4,096 bytes of the longest text. No other call takes memory.
     pub fn new(alloc: Global) -> Result<Deframer, AllocError>
         ensures { IfOk result (λ deframer. deframer ≡ Nothing) }
     {
@@ -37,10 +41,26 @@ impl Deframer {
         })
     }
 
+    /// Takes the bytes up to and including the end of the first frame, or the whole piece where no frame ends in it.
+    ///
+    /// It answers how many bytes that is, and the frame, whose text is lent until the next call.
     pub fn feed(&mut self, piece: &[u8]) -> (usize, Option<Frame<'_>>)
         ensures taken { result.0 ≡ (fed self.old piece.now).taken }
         ensures frame { option_map received result.1 ≡ (fed self.old piece.now).frame }
-        ensures* rest { sem 𝓛 (Rests the_row self.entry (λ new. new ≡ (fed self.old piece.now).rest)) }
+        ensures* rest { sem 𝓛
+            (Rests the_row self.entry (λ new. new ≡ (fed self.old piece.now).rest)) }
+
+        // Whatever bytes led to this rest, this is their next frame by the grammar.
+        ensures first { (seen : List ℕ) (frames : List Received) → Reads seen frames self.old
+            → TakesFirst seen frames piece.now result.0 (option_map received result.1)
+            (fed self.old piece.now).rest }
+
+        // A loop over what is left of a piece comes to the same frames and the same rest, and ends.
+        ensures goes_on { GoesOn self.old piece.now result.0 (option_map received result.1)
+            (fed self.old piece.now).rest }
+        ensures within { result.0 ≤ length piece.now }
+        ensures some { 0 < length piece.now → 0 < result.0 }
+        ensures short { IfSome result.1 (λ frame. IsShort (received frame)) }
     {
         let (taken, ended) = self.scanner.scan(piece);
         match ended {
@@ -49,8 +69,13 @@ impl Deframer {
         }
     }
 
+    /// Drops a frame that isn't whole.
     pub fn reset(&mut self)
-        ensures { self.new ≡ Nothing }
+        ensures rest { self.new ≡ Nothing }
+
+        // The frames after it are those of the bytes after it alone.
+        ensures afresh { (bytes : List ℕ)
+            → Reads bytes (frames_after self.new bytes) (rest_after self.new bytes) }
     {
         self.scanner.reset();
     }

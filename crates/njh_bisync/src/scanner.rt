@@ -1,16 +1,12 @@
 //! One byte after another through the frame grammar.
 ghost use Rattle.std.specs.Prelude.{◌≡◌, ◌≤◌, [], false, IfOk, option_map, vec_len, vec_capacity};
 ghost use Rattle.njh_bisync.specs.Fed.{turn, fed, kept_with};
-ghost use Rattle.njh_bisync.specs.Frames.{text_or_spoiled};
+ghost use Rattle.njh_bisync.specs.Frames.{text_or_spoiled, IsShort};
 ghost use Rattle.njh_bisync.specs.Reading.{Nothing, InText};
 
-use std::alloc::{AllocError, Global};
-
-use crate::frame::Frame;
+use crate::frame::{Frame, LONGEST_TEXT};
 use crate::line_byte::{ACK_0, DLE, ENQ, EOT, ETB, ETX, NAK, SOH, STX, SYN};
-
-/// The most data bytes of a text that isn't spoiled.
-pub const LONGEST_TEXT: usize = 4096;
+use std::alloc::{AllocError, Global};
 
 /// Where in the grammar the bytes so far end.
 #[derive(Clone, Copy, Debug)]
@@ -33,7 +29,8 @@ pub enum Ended {
     Spoiled,
 }
 
-#[derive(Drop)]
+/// What has come of a frame. `held` has the data of the text, with a capacity that was reserved once.
+#[derive(Debug, Drop)]
 pub struct Scanner {
     place: Place,
     spoiled: bool,
@@ -43,7 +40,8 @@ pub struct Scanner {
 }
 
 impl Scanner {
-    ghost use Rattle.njh_bisync.specs.Scanned.{good_data, rest_in, frame_in, received};
+    ghost use Rattle.njh_bisync.specs.Lent.{received};
+    ghost use Rattle.njh_bisync.specs.Scanned.{good_data, rest_in, frame_in};
 
     pub fn new(alloc: Global) -> Result<Scanner, AllocError>
         ensures { IfOk result (λ scanner. rest_in scanner ≡ Nothing) }
@@ -58,7 +56,8 @@ impl Scanner {
     /// Takes bytes up to the end of the first frame, or all: how many, and the frame.
     pub fn scan(&mut self, piece: &[u8]) -> (usize, Option<Ended>)
         ensures taken { result.0 ≡ (fed (rest_in self.old) piece.now).taken }
-        ensures frame { option_map (frame_in self.new.held.items) result.1 ≡ (fed (rest_in self.old) piece.now).frame }
+        ensures frame { option_map (frame_in self.new.held.items) result.1
+            ≡ (fed (rest_in self.old) piece.now).frame }
         ensures rest { rest_in self.new ≡ (fed (rest_in self.old) piece.now).rest }
     {
         for (index, byte) in piece.iter().enumerate() {
@@ -71,7 +70,8 @@ impl Scanner {
 
     /// The frame that the last byte ended.
     pub fn frame(&self, ended: Ended) -> Frame<'_>
-        ensures { received result ≡ frame_in self.now.held.items ended }
+        ensures frame { received result ≡ frame_in self.now.held.items ended }
+        ensures short { IsShort (received result) }
     {
         match ended {
             Ended::Enquiry => Frame::Enquiry,
@@ -92,7 +92,8 @@ impl Scanner {
     /// Takes one byte; where it ends a frame, that frame.
     #[tactic(auto, unfolding(crate::specs::Fed::turn))]
     fn take(&mut self, byte: u8) -> Option<Ended>
-        ensures frame { option_map (frame_in self.new.held.items) result ≡ (turn (rest_in self.old) byte).frame }
+        ensures frame { option_map (frame_in self.new.held.items) result
+            ≡ (turn (rest_in self.old) byte).frame }
         ensures rest { rest_in self.new ≡ (turn (rest_in self.old) byte).rest }
     {
         match (self.place, byte) {
@@ -145,7 +146,8 @@ impl Scanner {
     /// Spoils the text where it has no room for the byte.
     fn keep(&mut self, byte: u8) -> Option<Ended>
         ensures none { result ≡ None }
-        ensures rest { rest_in self.new ≡ InText (kept_with (good_data self.old.spoiled self.old.held.items) byte) false }
+        ensures rest { rest_in self.new
+            ≡ InText (kept_with (good_data self.old.spoiled self.old.held.items) byte) false }
     {
         if self.held.len() == LONGEST_TEXT {
             return self.spoil();
@@ -165,7 +167,8 @@ impl Scanner {
     }
 
     fn end_text(&mut self) -> Option<Ended>
-        ensures frame { option_map (frame_in self.new.held.items) result ≡ Some (text_or_spoiled (good_data self.old.spoiled self.old.held.items)) }
+        ensures frame { option_map (frame_in self.new.held.items) result
+            ≡ Some (text_or_spoiled (good_data self.old.spoiled self.old.held.items)) }
         ensures place { self.new.place ≡ Place.Between }
     {
         if self.spoiled {

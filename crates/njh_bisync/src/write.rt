@@ -1,22 +1,24 @@
 //! Frames written.
-ghost use Rattle.std.specs.Prelude.{◌≡◌, ℕ, ◌+◌, ◌*◌, ◌≤◌, ◌==◌, ◌++◌, length, count_by, flat_map, IsOk, OnOk, OnErr, vec_len, vec_capacity};
+ghost use Rattle.std.specs.Prelude.{◌≡◌, ◌+◌, ◌*◌, ◌≤◌, ◌++◌, length, flat_map, IsOk, OnOk, OnErr, vec_len, vec_capacity};
 ghost use Rattle.njh_bisync.specs.Written.{spelled, text_bytes, control_bytes};
-
-use std::alloc::AllocError;
 
 use crate::frame::Control;
 use crate::line_byte::{ACK_0, DLE, ENQ, ETB, NAK, SOH, STX};
+use std::alloc::AllocError;
 
-/// Appends a text of these 0 to 4,096 bytes, each DLE doubled.
+/// Appends a text of these 0 to 4,096 bytes, each DLE doubled (IBM GA27-3004, transparent text).
 ///
-/// It is at most 4 bytes longer than twice the data, and where `out` has the room for it no memory is asked for.
-#[tactic(auto, unfolding(crate::specs::Written::text_bytes))]
+/// It ends in DLE ETB. Where `out` has the room for it no memory is asked for.
+#[tactic(auto, using(crate::proofs::WrittenLaws::lengths), unfolding(crate::specs::Written::text_bytes))]
 pub fn put_text(data: &[u8], out: &mut Vec<u8>) -> Result<(), AllocError>
     requires { length «data».now ≤ 4096 }
     ensures ok { OnOk result (out.new.items ≡ out.old.items ++ text_bytes «data».now) }
-    ensures err { OnErr result (out.new.items ≡ out.old.items) }
-    ensures succeeds { vec_len out.old + length (text_bytes «data».now) ≤ vec_capacity out.old → IsOk result }
-    ensures kept { vec_len out.old + length (text_bytes «data».now) ≤ vec_capacity out.old → vec_capacity out.new ≡ vec_capacity out.old }
+    ensures err { OnErr result
+        ((out.new.items ≡ out.old.items) × (vec_capacity out.new ≡ vec_capacity out.old)) }
+    ensures succeeds { vec_len out.old + length (text_bytes «data».now) ≤ vec_capacity out.old
+        → IsOk result }
+    ensures in_place { vec_len out.old + length (text_bytes «data».now) ≤ vec_capacity out.old
+        → vec_capacity out.new ≡ vec_capacity out.old }
     ensures capacity { vec_capacity out.old ≤ vec_capacity out.new }
     ensures short { length (text_bytes «data».now) ≤ 4 + 2 * length «data».now }
 {
@@ -30,9 +32,12 @@ pub fn put_text(data: &[u8], out: &mut Vec<u8>) -> Result<(), AllocError>
 /// Appends a control frame, of at most 2 bytes. Where `out` has the room for it no memory is asked for.
 pub fn put_control(control: Control, out: &mut Vec<u8>) -> Result<(), AllocError>
     ensures ok { OnOk result (out.new.items ≡ out.old.items ++ control_bytes control) }
-    ensures err { OnErr result (out.new.items ≡ out.old.items) }
-    ensures succeeds { vec_len out.old + length (control_bytes control) ≤ vec_capacity out.old → IsOk result }
-    ensures kept { vec_len out.old + length (control_bytes control) ≤ vec_capacity out.old → vec_capacity out.new ≡ vec_capacity out.old }
+    ensures err { OnErr result
+        ((out.new.items ≡ out.old.items) × (vec_capacity out.new ≡ vec_capacity out.old)) }
+    ensures succeeds { vec_len out.old + length (control_bytes control) ≤ vec_capacity out.old
+        → IsOk result }
+    ensures in_place { vec_len out.old + length (control_bytes control) ≤ vec_capacity out.old
+        → vec_capacity out.new ≡ vec_capacity out.old }
     ensures capacity { vec_capacity out.old ≤ vec_capacity out.new }
     ensures short { length (control_bytes control) ≤ 2 }
 {
@@ -47,12 +52,11 @@ pub fn put_control(control: Control, out: &mut Vec<u8>) -> Result<(), AllocError
 }
 
 /// How many bytes `put_text` appends.
-#[tactic(auto, using(crate::proofs::WrittenLaws::lengths), unfolding(crate::specs::Written::text_bytes))]
+#[tactic(auto, using(crate::proofs::WrittenLaws::lengths))]
 fn text_len(data: &[u8]) -> usize
     requires { length «data».now ≤ 4096 }
     ensures exact { result ≡ length (text_bytes «data».now) }
     ensures short { result ≤ 4 + 2 * length «data».now }
-    ensures parts { result ≡ 4 + length (flat_map spelled «data».now) }
 {
     let doubled = data.iter().filter(|byte| **byte == DLE).count();
     4 + data.len() + doubled
@@ -62,8 +66,10 @@ fn text_len(data: &[u8]) -> usize
 fn make_room(out: &mut Vec<u8>, count: usize) -> Result<(), AllocError>
     ensures items { out.new.items ≡ out.old.items }
     ensures room { OnOk result (vec_len out.new + count ≤ vec_capacity out.new) }
+    ensures err { OnErr result (vec_capacity out.new ≡ vec_capacity out.old) }
     ensures succeeds { vec_len out.old + count ≤ vec_capacity out.old → IsOk result }
-    ensures kept { vec_len out.old + count ≤ vec_capacity out.old → vec_capacity out.new ≡ vec_capacity out.old }
+    ensures in_place { vec_len out.old + count ≤ vec_capacity out.old
+        → vec_capacity out.new ≡ vec_capacity out.old }
     ensures capacity { vec_capacity out.old ≤ vec_capacity out.new }
 {
     if count <= out.capacity() - out.len() {
@@ -72,6 +78,7 @@ fn make_room(out: &mut Vec<u8>, count: usize) -> Result<(), AllocError>
     out.reserve(count)
 }
 
+/// Appends bytes as they are, in room that is there.
 fn put_bytes(bytes: &[u8], out: &mut Vec<u8>)
     requires { vec_len out.old + length bytes.now ≤ vec_capacity out.old }
     ensures items { out.new.items ≡ out.old.items ++ bytes.now }
@@ -82,6 +89,7 @@ fn put_bytes(bytes: &[u8], out: &mut Vec<u8>)
     }
 }
 
+/// Appends bytes with each DLE doubled, in room that is there.
 fn put_data(data: &[u8], out: &mut Vec<u8>)
     requires { vec_len out.old + length (flat_map spelled «data».now) ≤ vec_capacity out.old }
     ensures items { out.new.items ≡ out.old.items ++ flat_map spelled «data».now }

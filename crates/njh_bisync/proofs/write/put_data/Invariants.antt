@@ -8,5 +8,5 @@ abbrev pub invariant-loop-byte : goal.invariant-loop-byte
 invariant-loop-byte l = record {
   items : l.out.items ++ flat_map spelled (drop l.byte-index l.«data») ≡ l.initial.out.items ++ flat_map spelled l.«data»;
   room : vec_len l.out + length (flat_map spelled (drop l.byte-index l.«data»)) ≤ vec_capacity l.out;
-  kept : vec_capacity l.out ≡ vec_capacity l.initial.out
+  kept : vec_capacity l.out ≡ vec_capacity l.initial.out;
 }

@@ -1,0 +1,71 @@
+//! Laws of the frame grammar, each the contract of a function that does nothing.
+ghost use Rattle.std.specs.Prelude.{◌≡◌, ℕ, ◌≤◌, List, [], ◌∷◌, ◌++◌, length, Option, Some, None};
+ghost use Rattle.njh_bisync.specs.Frames.{Received, Text, LineUnit, Partial, Splits};
+ghost use Rattle.njh_bisync.specs.Reading.{Rest, Nothing, Reads};
+ghost use Rattle.njh_bisync.specs.Fed.{ahead, fed, frames_after, rest_after, GoesOn};
+ghost use Rattle.njh_bisync.specs.Written.{text_bytes, control_bytes, control_frame};
+ghost use Rattle.njh_bisync.specs.declared.frame.Control.{Control};
+
+/// Bytes are units and then a rest, in exactly one way.
+pub fn one_splitting()
+    ensures some { (bytes : List ℕ)
+        → (units : List LineUnit) × (rest : Partial) × Splits bytes units rest }
+    ensures only { (bytes : List ℕ) (units others : List LineUnit) (rest other : Partial)
+        → Splits bytes units rest → Splits bytes others other → (units ≡ others) × (rest ≡ other) }
+{}
+
+/// The frames of bytes, and what of their rest matters, by the grammar and by the turns of single bytes: they are the same.
+pub fn one_reading()
+    ensures some { (bytes : List ℕ)
+        → Reads bytes (frames_after Nothing bytes) (rest_after Nothing bytes) }
+    ensures only { (bytes : List ℕ) (frames : List Received) (rest : Rest)
+        → Reads bytes frames rest
+        → (frames ≡ frames_after Nothing bytes) × (rest ≡ rest_after Nothing bytes) }
+{}
+
+/// The frames of bytes and more bytes are those of the first, then those that the others give after the rest of the first.
+pub fn frames_of_both()
+    ensures reads { (front back : List ℕ) (frames : List Received) (rest : Rest)
+        → Reads front frames rest
+        → Reads (front ++ back) (frames ++ frames_after rest back) (rest_after rest back) }
+    ensures frames { (rest : Rest) (front back : List ℕ)
+        → frames_after rest (front ++ back)
+        ≡ frames_after rest front ++ frames_after (rest_after rest front) back }
+    ensures left { (rest : Rest) (front back : List ℕ)
+        → rest_after rest (front ++ back) ≡ rest_after (rest_after rest front) back }
+{}
+
+/// What is taken of a piece, and of two that come one after the other.
+pub fn fed_in_parts()
+    ensures goes_on { (rest : Rest) (piece : List ℕ)
+        → GoesOn rest piece (fed rest piece).taken (fed rest piece).frame (fed rest piece).rest }
+    ensures all { (rest : Rest) (piece : List ℕ) → (fed rest piece).frame ≡ None
+        → ((fed rest piece).taken ≡ length piece) × ((fed rest piece).rest ≡ rest_after rest piece)
+        × (frames_after rest piece ≡ []) }
+    ensures on { (rest : Rest) (front back : List ℕ) → (fed rest front).frame ≡ None
+        → fed rest (front ++ back) ≡ ahead (length front) (fed (fed rest front).rest back) }
+    ensures ended { (rest : Rest) (front back : List ℕ) (frame : Received)
+        → (fed rest front).frame ≡ Some frame → fed rest (front ++ back) ≡ fed rest front }
+{}
+
+/// A text that was written is read back as that text and nothing else, whatever follows.
+pub fn text_reads_back()
+    ensures fed { (held more : List ℕ) → length held ≤ 4096
+        → fed Nothing (text_bytes held ++ more)
+        ≡ record { taken = length (text_bytes held); frame = Some (Text held); rest = Nothing } }
+    ensures reads { (held : List ℕ) → length held ≤ 4096
+        → Reads (text_bytes held) (Text held ∷ []) Nothing }
+{}
+
+/// So is a control frame.
+pub fn control_reads_back()
+    ensures fed { (control : Control) (more : List ℕ)
+        → fed Nothing (control_bytes control ++ more)
+        ≡ record {
+          taken = length (control_bytes control);
+          frame = Some (control_frame control);
+          rest = Nothing;
+        } }
+    ensures reads { (control : Control)
+        → Reads (control_bytes control) (control_frame control ∷ []) Nothing }
+{}
