@@ -1,1 +1,5 @@
-pub mod Trimming
+pub mod Blanks
+pub mod Charts
+pub mod Filled
+pub mod ReadBack
+pub mod TableLaws

@@ -1,8 +1,8 @@
 //! Fields of eight bytes: what makes one a name, and the blanks behind it.
 
-ghost use Rattle.std.specs.Prelude.{◌≡◌};
+ghost use Rattle.std.specs.Prelude.{◌≡◌, ◌≤◌, length};
 ghost use Rattle.std.specs.List.{list_all};
-ghost use Rattle.njh_ebcdic.specs.Names.{is_name as names, is_name_byte as name_byte, trimmed};
+ghost use Rattle.njh_ebcdic.specs.Names.{is_name as names, is_name_byte as name_byte, padded, trimmed};
 
 /// What fills a field behind its characters.
 pub const BLANK: u8 = 0x40;
@@ -12,13 +12,26 @@ pub const FIELD: usize = 8;
 
 /// The bytes without the blanks at their end. A user's field may hold any bytes, blanks among them.
 pub fn trim_blanks(bytes: &[u8]) -> &[u8]
-    ensures { result.now ≡ trimmed bytes.now }
+    ensures value { result.now ≡ trimmed bytes.now }
+    ensures len { length result.now ≤ length bytes.now }
 {
     let mut rest = bytes;
-    while let Some((last, front)) = rest.split_last() && *last == BLANK {
+    while let Some((last, front)) = rest.split_last()
+        && *last == BLANK
+    {
         rest = front;
     }
     rest
+}
+
+/// A word of at most eight bytes, with blanks behind it: as it stands in a field.
+pub fn pad(word: &[u8]) -> [u8; FIELD]
+    requires { length word.now ≤ 8 }
+    ensures { result ≡ padded word.now }
+{
+    let mut field = [BLANK; FIELD];
+    field[..word.len()].copy_from_slice(word);
+    field
 }
 
 /// Whether the bytes are a name: eight, of which 1 to 8 are of a name and blanks follow.

@@ -1,8 +1,14 @@
 //! EBCDIC: names of nodes and users, and the characters that they are written in.
 #![tactic(auto)]
 
+mod characters;
 mod fields;
+mod laws;
 mod name;
+#[cfg(test)]
+mod tests;
 
-pub use fields::{is_name, trim_blanks};
+pub use characters::{byte_of, fold_upper, text_of};
+pub use fields::{BLANK, FIELD, is_name, pad, trim_blanks};
+pub use laws::{characters_and_bytes, folding, names_read_back, trimming};
 pub use name::{Name, NameFault};

@@ -1,9 +1,13 @@
 //! Names of nodes and users.
 
+ghost use Rattle.std.specs.Prelude.{◌≡◌, length};
+ghost use Rattle.std.specs.Str.{chars};
+
+use crate::characters::{byte_of, text_of};
+use crate::fields::{BLANK, FIELD, are_name_bytes, pad, trim_blanks};
+use std::fmt;
 use std::marker::Model;
 use thiserror::Error;
-
-use crate::fields::{BLANK, FIELD, are_name_bytes, trim_blanks};
 
 /// Why a text or a field is no name.
 #[derive(Clone, Copy, Debug, PartialEq, Eq, Error)]
@@ -36,9 +40,9 @@ impl Model for Name {
 }
 
 impl Name {
-    ghost use Rattle.std.specs.Prelude.{◌≡◌, IsTrue, IfOk, length, is_ok};
+    ghost use Rattle.std.specs.Prelude.{◌≡◌, ◌<◌, ◌≤◌, IsTrue, length, is_ok};
     ghost use Rattle.njh_ebcdic.specs.Names.{is_name, trimmed};
-    ghost use Rattle.njh_ebcdic.specs.Reading.{name_of_field};
+    ghost use Rattle.njh_ebcdic.specs.Reading.{name_of_field, name_of_text, name_of_word};
 
     /// The name that a field of eight bytes holds. `Empty` where the field is blank, else
     /// `BadCharacter` where a byte before its last blanks is none of a name, a blank too.
@@ -62,9 +66,39 @@ impl Name {
         if !are_name_bytes(name) {
             return Err(NameFault::BadCharacter);
         }
-        let mut bytes = [BLANK; FIELD];
-        bytes.copy_from_slice(field);
-        Ok(Name { bytes })
+        Ok(Name { bytes: pad(field) })
+    }
+
+    /// The name that a word of 1 to 8 bytes is. `Empty` comes before `TooLong`, and `TooLong`
+    /// before `BadCharacter`; a blank is no character of a name.
+    pub fn of_word(word: &[u8]) -> Result<Name, NameFault>
+        ensures { result ≡ name_of_word word.now }
+    {
+        if word.is_empty() {
+            return Err(NameFault::Empty);
+        }
+        if word.len() > FIELD {
+            return Err(NameFault::TooLong);
+        }
+        if !are_name_bytes(word) {
+            return Err(NameFault::BadCharacter);
+        }
+        Ok(Name { bytes: pad(word) })
+    }
+
+    /// The name that a text of 1 to 8 characters is, with the faults of `of_word`.
+    pub fn of_text(text: &str) -> Result<Name, NameFault>
+        ensures { result ≡ name_of_text text.now }
+    {
+        let count = count_characters(text);
+        if count > FIELD {
+            return Err(NameFault::TooLong);
+        }
+        let mut word = [BLANK; FIELD];
+        for (place, character) in text.chars().enumerate() {
+            word[place] = byte_of(character).unwrap_or(BLANK);
+        }
+        Name::of_word(&word[..count])
     }
 
     /// The eight bytes.
@@ -77,8 +111,32 @@ impl Name {
 
     /// The bytes before the blanks, 1 to 8 of them.
     pub fn trimmed(&self) -> &[u8]
-        ensures { result.now ≡ trimmed self.now }
+        ensures value { result.now ≡ trimmed self.now }
+        ensures some { 0 < length result.now }
+        ensures few { length result.now ≤ 8 }
     {
         trim_blanks(&self.bytes)
     }
+}
+
+/// The characters of the name, without the blanks behind them.
+impl fmt::Display for Name {
+    ghost use Rattle.std.specs.Prelude.{Some};
+    ghost use Rattle.njh_ebcdic.specs.Names.{trimmed};
+    ghost use Rattle.njh_ebcdic.specs.Characters.{shown_text};
+
+    ghost output = { λ name. Some (shown_text (trimmed name)) };
+
+    fn fmt<W: fmt::Write>(&self, f: &mut fmt::Formatter<W>) -> fmt::Result {
+        for byte in self.trimmed() {
+            f.write_char(text_of(*byte))?;
+        }
+        Ok(())
+    }
+}
+
+fn count_characters(text: &str) -> usize
+    ensures { result ≡ length (chars text.now) }
+{
+    text.chars().count()
 }

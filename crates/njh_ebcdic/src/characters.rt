@@ -1,0 +1,68 @@
+//! The characters of EBCDIC, and their bytes.
+
+ghost use Rattle.std.specs.Prelude.{◌≡◌, ◌==◌, ◌<◌, IfSome, position};
+ghost use Rattle.njh_ebcdic.specs.Characters.{byte_of_character, shown};
+ghost use Rattle.njh_ebcdic.specs.Names.{upper};
+
+/// What is shown of a byte that has no character.
+const NONE: char = '?';
+
+/// How far a capital stands behind its lower-case letter.
+const CASE: u8 = 0x40;
+
+/// The character of each byte, sixteen to a row, with `NONE` at bytes that have none.
+static CHART: [u8; 256] = *b"\
+    ????????????????\
+    ????????????????\
+    ????????????????\
+    ????????????????\
+    \x20??????????.?(??\
+    ???????????$*)??\
+    -/?????????,????\
+    ??????????:#@???\
+    ?abcdefghi??????\
+    ?jklmnopqr??????\
+    ??stuvwxyz??????\
+    ????????????????\
+    ?ABCDEFGHI??????\
+    ?JKLMNOPQR??????\
+    ??STUVWXYZ??????\
+    0123456789??????";
+
+/// The character of a byte, or `?` where it has none.
+pub fn text_of(byte: u8) -> char
+    ensures { result ≡ shown byte }
+{
+    char::from(CHART[usize::from(byte)])
+}
+
+/// The byte of a character, of those that have one here.
+pub fn byte_of(character: char) -> Option<u8>
+    ensures { result ≡ byte_of_character character }
+{
+    if character == NONE {
+        return None;
+    }
+    let place = place_of(character)?;
+    Some(place as u8)
+}
+
+/// Where a character stands first in the chart.
+fn place_of(character: char) -> Option<usize>
+    ensures place { result ≡ position (λ known. known == character) CHART }
+    ensures within { IfSome result (λ place. place < 256) }
+{
+    CHART
+        .iter()
+        .position(|known| char::from(*known) == character)
+}
+
+/// The capital of a lower-case letter, and any other byte as it is.
+pub fn fold_upper(byte: u8) -> u8
+    ensures { result ≡ upper byte }
+{
+    match byte {
+        0x81..=0x89 | 0x91..=0x99 | 0xa2..=0xa9 => byte + CASE,
+        _ => byte,
+    }
+}
