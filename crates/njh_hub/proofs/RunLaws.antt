@@ -32,35 +32,33 @@ sent_to-sent_by_other c d other (x ∷ xs) = rw other (sent_to-sent_by_other c d
 
 -- an event of customer c, and then what is so of the events after it
 own_event-then : (c d : ℕ) (parts : List Part) (event : OwnEvent) (events : List Event) →
-  eqb d c ≡ true → d ≡ c → c < length parts → IsAlone c (own_event parts d event).parts events →
-  (part c (hub_run (own_event parts d event).parts events).parts ≡ (alone_run (part c parts) (event ∷ events_of c events)).after)
-  × (sent_to c ((own_event parts d event).sent ++ (hub_run (own_event parts d event).parts events).sent) ≡ (alone_run (part c parts) (event ∷ events_of c events)).sent)
+    eqb d c ≡ true → d ≡ c → c < length parts → IsAlone c (own_event parts d event).parts events →
+    (part c (hub_run (own_event parts d event).parts events).parts ≡ (alone_run (part c parts) (event ∷ events_of c events)).after)
+    × (sent_to c ((own_event parts d event).sent ++ (hub_run (own_event parts d event).parts events).sent) ≡ (alone_run (part c parts) (event ∷ events_of c events)).sent)
 own_event-then c d parts event events same e within later =
     let own_part : event_run (part d parts) event ≡ event_run (part c parts) event = ap (λ (n : ℕ). event_run (part n parts) event) e in
     let x = event_run (part c parts) event in
     let moved : part c (own_event parts d event).parts ≡ x.after =
-      ap (λ (n : ℕ). part c (set parts n (event_run (part n parts) event).after)) e ∙ get_or-set_same parts c x.after no_part within in
-    (
+    ap (λ (n : ℕ). part c (set parts n (event_run (part n parts) event).after)) e ∙ get_or-set_same parts c x.after no_part within in (
       later.after ∙ ap (λ (p : Part). (alone_run p (events_of c events)).after) moved,
       sent_to-append c (sent_by d (event_run (part d parts) event).sent) (hub_run (own_event parts d event).parts events).sent
-      ∙ ap (λ (s : List (ℕ × List ℕ)). s ++ sent_to c (hub_run (own_event parts d event).parts events).sent)
-        (sent_to-sent_by_same c d same (event_run (part d parts) event).sent ∙ ap (λ (r : Run). r.sent) own_part)
-      ∙ ap (λ (s : List (ℕ × List ℕ)). x.sent ++ s) (later.sent ∙ ap (λ (p : Part). (alone_run p (events_of c events)).sent) moved),
+          ∙ ap (λ (s : List (ℕ × List ℕ)). s ++ sent_to c (hub_run (own_event parts d event).parts events).sent)
+          (sent_to-sent_by_same c d same (event_run (part d parts) event).sent ∙ ap (λ (r : Run). r.sent) own_part)
+          ∙ ap (λ (s : List (ℕ × List ℕ)). x.sent ++ s) (later.sent ∙ ap (λ (p : Part). (alone_run p (events_of c events)).sent) moved),
     )
 
 -- an event of another customer, and then what is so of the events after it
 other_event-then : (c d : ℕ) (parts : List Part) (event : OwnEvent) (events : List Event) →
-  eqb d c ≡ false → c ≢ d → IsAlone c (own_event parts d event).parts events →
-  (part c (hub_run (own_event parts d event).parts events).parts ≡ (alone_run (part c parts) (events_of c events)).after)
-  × (sent_to c ((own_event parts d event).sent ++ (hub_run (own_event parts d event).parts events).sent) ≡ (alone_run (part c parts) (events_of c events)).sent)
+    eqb d c ≡ false → c ≢ d → IsAlone c (own_event parts d event).parts events →
+    (part c (hub_run (own_event parts d event).parts events).parts ≡ (alone_run (part c parts) (events_of c events)).after)
+    × (sent_to c ((own_event parts d event).sent ++ (hub_run (own_event parts d event).parts events).sent) ≡ (alone_run (part c parts) (events_of c events)).sent)
 other_event-then c d parts event events other apart later =
     let x = event_run (part d parts) event in
-    let stays : part c (own_event parts d event).parts ≡ part c parts = get_or-set_other parts d c x.after no_part apart in
-    (
+    let stays : part c (own_event parts d event).parts ≡ part c parts = get_or-set_other parts d c x.after no_part apart in (
       later.after ∙ ap (λ (p : Part). (alone_run p (events_of c events)).after) stays,
       sent_to-append c (sent_by d x.sent) (hub_run (own_event parts d event).parts events).sent
-      ∙ ap (λ (s : List (ℕ × List ℕ)). s ++ sent_to c (hub_run (own_event parts d event).parts events).sent) (sent_to-sent_by_other c d other x.sent)
-      ∙ later.sent ∙ ap (λ (p : Part). (alone_run p (events_of c events)).sent) stays,
+          ∙ ap (λ (s : List (ℕ × List ℕ)). s ++ sent_to c (hub_run (own_event parts d event).parts events).sent) (sent_to-sent_by_other c d other x.sent)
+          ∙ later.sent ∙ ap (λ (p : Part). (alone_run p (events_of c events)).sent) stays,
     )
 
 pub each_is_alone : EachIsAlone
@@ -70,17 +68,17 @@ each_is_alone c parts (event ∷ events) within =
     let x = event_run (part d parts) (own event) in
     let later = each_is_alone c (set parts d x.after) events (omega (arith, length-set parts d x.after)) in
     ⊎_elim (λ (w : (eqb d c ≡ true) × (d ≡ c)).
-        let t = own_event-then c d parts (own event) events w.0 w.1 within later in record { after = rw w.0 t.0; sent = rw w.0 t.1 })
-      (λ (w : (eqb d c ≡ false) × (d ≢ c)).
-        let t = other_event-then c d parts (own event) events w.0 (λ e. w.1 (sym e)) later in record { after = rw w.0 t.0; sent = rw w.0 t.1 })
-      (eqb_tells d c)
+    let t = own_event-then c d parts (own event) events w.0 w.1 within later in record { after = rw w.0 t.0; sent = rw w.0 t.1 })
+    (λ (w : (eqb d c ≡ false) × (d ≢ c)).
+    let t = other_event-then c d parts (own event) events w.0 (λ e. w.1 (sym e)) later in record { after = rw w.0 t.0; sent = rw w.0 t.1 })
+    (eqb_tells d c)
 
 pub two_lists_are_like : TwoListsAreLike
 two_lists_are_like c d parts others events more within there alike same =
     let one = each_is_alone c parts events within in
     let two = each_is_alone d others more there in
     let runs : alone_run (part c parts) (events_of c events) ≡ alone_run (part d others) (events_of d more) =
-      ap (λ (p : Part). alone_run p (events_of c events)) alike ∙ ap (alone_run (part d others)) same in
+    ap (λ (p : Part). alone_run p (events_of c events)) alike ∙ ap (alone_run (part d others)) same in
     record {
       after = one.after ∙ ap (λ (r : Run). r.after) runs ∙ sym two.after;
       sent = one.sent ∙ ap (λ (r : Run). r.sent) runs ∙ sym two.sent;
@@ -98,7 +96,7 @@ abbrev later_run : List (ℕ × List ℕ) → Part → List OwnEvent → Run
 later_run sent p events = record { after = (alone_run p events).after; sent = sent ++ (alone_run p events).sent }
 
 later_run-twice : (a b : List (ℕ × List ℕ)) (p : Part) (events : List OwnEvent) →
-  later_run (a ++ b) p events ≡ record { after = (alone_run p events).after; sent = a ++ (b ++ (alone_run p events).sent) }
+    later_run (a ++ b) p events ≡ record { after = (alone_run p events).after; sent = a ++ (b ++ (alone_run p events).sent) }
 later_run-twice a b p events = ap (λ (s : List (ℕ × List ℕ)). record { after = (alone_run p events).after; sent = s }) (append_assoc a b (alone_run p events).sent)
 
 -- a line that read some bytes and then more has read the last

@@ -1,9 +1,10 @@
 -- A customer alone: what each frame and each signal on one of its lines does and sends.
 use Rattle.std.specs.Prelude.{ℕ, zero, suc, ◌+◌, ◌-◌, Bool, true, false, List, [], ◌∷◌, ◌++◌, length, take, drop, map, replicate, slice_index_or, slice_set, Ok, Err, ◌==◌, nat_le, nat_lt, cond, Option, Some, None}
-use Rattle.njh_record.specs.Bytes.{two_bytes}
 use Rattle.njh_bisync.specs.Frames.{Received, Enquiry, Ack0, Nak, Eot, Text, Spoiled}
 use Rattle.njh_bisync.specs.Written.{text_bytes}
-use Rattle.njh_block.specs.Blocks.{Item, Data, Aborted, Long, Control, General, written, read_block, text_of}
+use Rattle.njh_block.specs.Blocks.{Item, Data, Aborted, Long, Control, General, read_block, general_first, text_of}
+use Rattle.njh_block.specs.Writing.{Writing, has_room, with_last}
+use Rattle.njh_header.specs.SignOns.{SignOn, sign_on_bytes}
 use Rattle.njh_nmr.specs.Nodal.{Nodal, nodal_of, is_user_command, said_by}
 use Rattle.njh_table.specs.Entries.{CustomerEntry, LineEntry, route_of}
 use Rattle.njh_table.specs.declared.Route.{Route}
@@ -81,45 +82,50 @@ all_on = (0x8f, 0xcf)
 abbrev pub message_item : List ℕ → Item
 message_item m = Data 0x9a 0x80 m
 
--- how many of the messages a text has room for, in their order
-abbrev pub fitting : ℕ → List (List ℕ) → ℕ
-fitting room [] = 0
-fitting room (m ∷ ms) = elim (nat_le (length (written (message_item m))) room) [ true ↦ 1 + fitting (room - length (written (message_item m))) ms | false ↦ 0 ]
+-- A block that is being written, and the messages that are left.
+pub record Filling : Type 0 where
+  pub writing : Writing
+  pub left : List (List ℕ)
 
--- how many of a line's messages the next block takes: four bytes of the text are its BCB, its FCS and its closing 00
-abbrev pub taken_by : LineState → ℕ
-taken_by x = fitting (x.session.size - 4) x.messages
+-- messages go into a block in their order, until one has no room
+abbrev pub filled : List (List ℕ) → Writing → Filling
+filled [] w = record { writing = w; left = [] }
+filled (m ∷ ms) w = elim (has_room w (message_item m)) [ true ↦ filled ms (with_last (message_item m) w) | false ↦ record { writing = w; left = m ∷ ms } ]
 
--- the text of the hub's own count with these records
-abbrev pub own_text : ℕ → List Item → List ℕ
-own_text count items = text_bytes (text_of (0x80 + count) all_on items)
+-- the hub's next block on a line, without records
+abbrev pub empty_block : LineState → Writing
+empty_block x = record { limit = x.session.size; bcb = 0x80 + x.session.count; fcs = all_on; items = [] }
+
+abbrev pub next_of : LineState → Filling
+next_of x = filled x.messages (empty_block x)
+
+-- the line after a block that left these messages
+abbrev pub with_left : List (List ℕ) → LineState → LineState
+with_left left x = record x { session = line_table.counted_on x.session; messages = left }
 
 abbrev pub ack0 : List ℕ
 ack0 = 0x10 ∷ 0x70 ∷ []
-
--- the line after a block that took so many messages
-abbrev pub without_first : ℕ → LineState → LineState
-without_first n x = record x { session = line_table.counted_on x.session; messages = drop n x.messages }
 
 -- the next block of a line, or what goes in its place
 abbrev pub next_block : ℕ → Bool → List LineState → Answer
 next_block l or_ack0 lines =
     let x = line_at l lines in
-    elim (taken_by x) [
-      | zero ↦ cond or_ack0 (record { lines = lines; frame = ack0 }) (silent lines)
-      | suc k ↦ record { lines = slice_set lines l (without_first (suc k) x); frame = own_text x.session.count (map message_item (take (suc k) x.messages)) }
+    let f = next_of x in
+    elim f.writing.items [
+      | [] ↦ cond or_ack0 (record { lines = lines; frame = ack0 }) (silent lines)
+      | i ∷ is ↦ record { lines = slice_set lines l (with_left f.left x); frame = text_bytes (text_of f.writing.bcb f.writing.fcs (i ∷ is)) }
     ]
 
 abbrev pub password_bytes : Option (List ℕ) → List ℕ
 password_bytes None = replicate 8 0x40
 password_bytes (Some password) = password
 
--- a J record from its length byte on
-abbrev pub j_bytes : Config → List ℕ
-j_bytes line = 0x29 ∷ line.hub ++ 0x01 ∷ replicate 6 0x00 ++ two_bytes line.block ++ password_bytes line.password ++ replicate 8 0x40 ++ replicate 5 0x00
+-- the sign-on that the hub answers
+abbrev pub own_sign_on : Config → SignOn
+own_sign_on line = record { node = line.hub; block = line.block; password = password_bytes line.password }
 
 abbrev pub j_frame : Config → List ℕ
-j_frame line = text_bytes (text_of 0xa0 all_on (General 0xd1 (j_bytes line) ∷ []))
+j_frame line = text_bytes (text_of 0xa0 all_on (General 0xd1 (sign_on_bytes (own_sign_on line)) ∷ []))
 
 abbrev pub replies : ℕ → Reply → List LineState → Answer
 replies l reply.Nothing lines = silent lines
@@ -138,11 +144,6 @@ abbrev pub came : CustomerEntry → ℕ → List Item → line_table.Input → L
 came entry l items input lines =
     let x = line_at l lines in
     follows entry l items (line_table.accepted x.config input x.session) lines
-
-abbrev pub general_first : List Item → line_table.First
-general_first [] = None
-general_first (General srcb rest ∷ is) = Some (srcb, rest)
-general_first (_ ∷ is) = None
 
 abbrev pub text_came : CustomerEntry → ℕ → List ℕ → List LineState → Answer
 text_came entry l text lines =

@@ -77,8 +77,14 @@ pub record Verdict : Type 0 where
 abbrev pub quiet : Session → Verdict
 quiet s = record { session = s; acts = false; reply = Nothing }
 
+-- an acknowledgement asks for the next block of a line that is up
+abbrev pub acknowledgement : Phase → Reply
+acknowledgement Down = Nothing
+acknowledgement Answered = Nothing
+acknowledgement Up = Next false
+
 abbrev pub acknowledged : Session → Verdict
-acknowledged s = elim s.phase [ Up ↦ record { session = s; acts = false; reply = Next false } | _ ↦ quiet s ]
+acknowledged s = record { session = s; acts = false; reply = acknowledgement s.phase }
 
 abbrev pub signed_on : Config → Option ℕ → Session → Verdict
 signed_on line None s = quiet (down s)

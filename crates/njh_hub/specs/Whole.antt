@@ -1,13 +1,17 @@
 -- The hub as the list of its customers' parts: an event of one moves that one as if it were alone, and no other.
-use Rattle.std.specs.Prelude.{ℕ, ◌<◌, List, [], ◌∷◌, ◌++◌, length, slice_index_or, slice_set}
+use Rattle.std.specs.Prelude.{◌≡◌, ℕ, ◌<◌, List, [], ◌∷◌, ◌++◌, length, slice_index_or, slice_set}
 use Rattle.njh_table.specs.declared.LineId.{LineId}
+use Rattle.njh_table.specs.Entries.{CustomerEntry}
 use Rattle.njh_hub.specs.Runs.{Part, opened, OwnEvent, event_run}
 use Rattle.njh_hub.specs.Own.{line_of, own}
 use Rattle.njh_hub.specs.declared.event.Event.{Event}
 
+abbrev pub no_entry : CustomerEntry
+no_entry = record { hub = []; quota = 0; files = 0; lines = []; routes = [] }
+
 -- a customer that has no line
 abbrev pub no_part : Part
-no_part = opened (record { hub = []; quota = 0; files = 0; lines = []; routes = [] })
+no_part = opened no_entry
 
 -- a customer's part of the hub
 abbrev pub part : ℕ → List Part → Part
@@ -16,6 +20,10 @@ part c parts = slice_index_or parts c no_part
 -- the hub has this line
 abbrev pub HasLine : List Part → LineId → Type 0
 HasLine parts line = line.line < length (part line.customer parts).customer.lines
+
+-- each customer has as many lines in both
+abbrev pub SameLines : List Part → List Part → Type 0
+SameLines old new = (c : ℕ) → length (part c new).customer.lines ≡ length (part c old).customer.lines
 
 -- what a customer sent, with its lines as the hub names them
 abbrev pub sent_by : ℕ → List (ℕ × List ℕ) → List (LineId × List ℕ)

@@ -55,3 +55,17 @@ pub enum Event {
     Garbled(LineId),
     Lost(LineId),
 }
+
+impl Event {
+    ghost use Rattle.njh_hub.specs.Own.{line_of};
+
+    /// The line that it comes on.
+    pub fn line(&self) -> LineId
+        ensures { result ≡ line_of self.now }
+    {
+        match self {
+            Event::Bytes(line, _) | Event::Tick(line) | Event::Garbled(line) | Event::Lost(line) =>
+                *line,
+        }
+    }
+}

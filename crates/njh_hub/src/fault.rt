@@ -1,5 +1,8 @@
 //! Why the hub refuses.
 
+ghost use Rattle.std.specs.Prelude.{◌≡◌, ◌+◌, ◌<◌, ◌^◌};
+
+use std::alloc::{AllocError, AllocFailed};
 use thiserror::Error;
 
 /// Why a call of the hub was refused. Nothing has changed then.
@@ -11,6 +14,28 @@ pub enum HubFault {
     UnknownCustomer,
     #[error("U3 Memory")]
     Memory,
+}
+
+impl From<AllocError> for HubFault {
+    ghost use Rattle.std.specs.Prelude.{◌≡◌};
+    ghost use Rattle.njh_hub.specs.declared.fault.HubFault.TheVariants.{Memory};
+
+    ghost from_gives = { λ _ e. e ≡ Memory };
+
+    fn from(_error: AllocError) -> HubFault {
+        HubFault::Memory
+    }
+}
+
+impl<T: Drop> From<AllocFailed<T>> for HubFault {
+    ghost use Rattle.std.specs.Prelude.{◌≡◌};
+    ghost use Rattle.njh_hub.specs.declared.fault.HubFault.TheVariants.{Memory};
+
+    ghost from_gives = { λ _ e. e ≡ Memory };
+
+    fn from(_error: AllocFailed<T>) -> HubFault {
+        HubFault::Memory
+    }
 }
 
 /// Who stopped a run: the hub, which refused a step, or the sink, which refused its frame.
@@ -29,4 +54,18 @@ pub struct RunFault {
     pub events: usize,
     pub bytes: usize,
     pub cause: Cause,
+}
+
+impl RunFault {
+    /// The same stop, counted from so many events earlier.
+    pub(crate) fn after(self, events: usize) -> RunFault
+        requires { self.events + events < 2 ^ 64 }
+        ensures { result ≡ record self { events = events + self.events } }
+    {
+        RunFault {
+            events: events + self.events,
+            bytes: self.bytes,
+            cause: self.cause,
+        }
+    }
 }

@@ -6,17 +6,14 @@ ghost use Rattle.njh_hub.specs.Laws.{EachIsAlone, TwoListsAreLike, CutsAreLike};
 /// events.
 pub fn each_is_alone()
     ensures { EachIsAlone }
-{
-}
+{}
 
 /// Any two lists of events with the same events of a customer lead it to the same frames and the same part, on hubs where it stands alike.
 pub fn two_lists_are_like()
     ensures { TwoListsAreLike }
-{
-}
+{}
 
 /// It doesn't matter how the bytes of a line are cut into pieces.
 pub fn cuts_are_like()
     ensures { CutsAreLike }
-{
-}
+{}

@@ -1,14 +1,24 @@
 //! The hub: events of many customers' lines, and what each customer is sent.
 #![tactic(auto)]
 
+mod command;
+mod customer;
 mod event;
 mod fault;
+mod feeding;
+mod file_view;
+mod hub;
 mod law;
 mod line;
+mod line_table;
+mod lines;
+mod run;
 mod session;
 mod sink;
 
 pub use event::{Event, Piece, Signal};
 pub use fault::{Cause, HubFault, RunFault};
+pub use file_view::FileView;
+pub use hub::Hub;
 pub use law::{cuts_are_like, each_is_alone, two_lists_are_like};
 pub use sink::{Sink, SinkFault};

@@ -1,5 +1,6 @@
 //! What a line knows of its session.
 
+use njh_block::Bcb;
 use njh_ebcdic::Name;
 
 /// How far a line is.
@@ -23,7 +24,7 @@ pub struct Config {
 #[derive(Clone, Copy, Debug, PartialEq, Eq)]
 pub struct Session {
     pub phase: Phase,
-    pub acted: Option<u8>,
+    pub acted: Option<Bcb>,
     pub count: u8,
     pub size: u16,
 }

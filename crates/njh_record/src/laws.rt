@@ -55,8 +55,7 @@ pub fn reads_back()
         ≡ Ok (record { contents = contents; end = End.Record; rest = rest }) }
 {}
 
-/// A spelling has a byte at least, and takes one byte more for each 63 of the record at most, and two: 262 bytes for a
-/// record of 256.
+/// A spelling has a byte at least, and at most a byte more for each 63 of the record, and two: 262 for a record of 256.
 pub fn spelling_bounds()
     ensures some { (contents : List ℕ) → 0 < length (spell_of contents) }
     ensures growth { (contents : List ℕ) →

@@ -1,6 +1,6 @@
 //! Reading: from a spelling to the record that it spells.
 
-ghost use Rattle.std.specs.Prelude.{◌≡◌, ℕ, ◌+◌, ◌≤◌, ◌<◌, List, [], ◌++◌, length, replicate, IsTrue, ◌↔◌, Result, IfOk, MatchBool};
+ghost use Rattle.std.specs.Prelude.{◌≡◌, ℕ, ◌<◌, List, [], replicate, Result, IfOk};
 ghost use Rattle.njh_record.specs.Parts.{Leads, Takes};
 ghost use Rattle.njh_record.specs.declared.End.{End};
 ghost use Rattle.njh_record.specs.declared.RecordFault.{RecordFault};
@@ -29,27 +29,24 @@ fn next_part(bytes: &[u8]) -> Result<(Part<'_>, &[u8]), RecordFault>
         END_OF_RECORD => Ok((Part::Ends(End::Record), rest)),
         ABORT => Ok((Part::Ends(End::Abort), rest)),
         ..BLANKS => Err(RecordFault::BadScb),
-        BLANKS..REPEAT => Ok((
-            Part::Run {
-                byte: BLANK,
-                count: usize::from(*scb - BLANKS),
-            },
-            rest,
-        )),
-        REPEAT..LITERAL => match rest {
-            [byte, rest @ ..] => Ok((
-                Part::Run {
-                    byte: *byte,
-                    count: usize::from(*scb - REPEAT),
-                },
-                rest,
-            )),
-            [] => Err(RecordFault::Truncated),
-        },
-        LITERAL.. => match rest.split_at_checked(usize::from(*scb - LITERAL)) {
-            Some((literal, rest)) => Ok((Part::Literal(literal), rest)),
-            None => Err(RecordFault::Truncated),
-        },
+        BLANKS..REPEAT => {
+            let count = usize::from(*scb - BLANKS);
+            Ok((Part::Run { byte: BLANK, count }, rest))
+        }
+        REPEAT..LITERAL => {
+            let [byte, rest @ ..] = rest else {
+                return Err(RecordFault::Truncated);
+            };
+            let count = usize::from(*scb - REPEAT);
+            Ok((Part::Run { byte: *byte, count }, rest))
+        }
+        LITERAL.. => {
+            let count = usize::from(*scb - LITERAL);
+            let Some((literal, rest)) = rest.split_at_checked(count) else {
+                return Err(RecordFault::Truncated);
+            };
+            Ok((Part::Literal(literal), rest))
+        }
     }
 }
 
@@ -69,7 +66,7 @@ fn add_copies(contents: &mut Record, byte: u8, count: usize) -> bool
     add_bytes(contents, &copies[..count])
 }
 
-/// IsReadIn parts up to an end. Only a record that is whole leaves its contents.
+/// Reads parts up to an end. Only a record that is whole leaves its contents.
 fn read_parts(bytes: &[u8], contents: &mut Record) -> Result<(usize, End), RecordFault>
     requires { contents.old.items ≡ [] }
     ensures answer { result ≡ answer_of bytes.now }
@@ -95,19 +92,22 @@ fn read_parts(bytes: &[u8], contents: &mut Record) -> Result<(usize, End), Recor
     }
 }
 
-/// IsReadIn the record that is spelled at the front of some bytes (IBM SC23-0070, "Compression"): how many bytes its
+/// Reads the record that is spelled at the front of some bytes (IBM SC23-0070, "Compression"): how many bytes its
 /// spelling takes, and how it ends.
 ///
 /// `BadScb` and `Truncated` come at the first place from the left that has them. `TooLong` comes where the spelling is
 /// good and ends a record, of more than 256 bytes; a spelling that is given up is `Abort` whatever its length. After a
 /// fault or an abort `contents` is empty.
 pub fn unspell(bytes: &[u8], contents: &mut Record) -> Result<(usize, End), RecordFault>
+    // What is answered stands in the bytes, and nothing else does.
     ensures found { Unspells bytes.now result contents.new.items }
     ensures only { (answer : Result (ℕ × End) RecordFault) (left : List ℕ) →
         Unspells bytes.now answer left → (result ≡ answer) × (contents.new.items ≡ left) }
+
+    // The same, by the function that reads.
     ensures answer { result ≡ answer_of bytes.now }
     ensures contents { contents.new.items ≡ record_left bytes.now }
-    ensures rest { IsAnswer bytes.now result contents.new.items }
+    ensures read { IsAnswer bytes.now result contents.new.items }
 {
     contents.clear();
     let answer = read_parts(bytes, contents);

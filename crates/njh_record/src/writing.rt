@@ -1,8 +1,8 @@
 //! Writing: from a record to the one spelling that is written of it.
 
-ghost use Rattle.std.specs.Prelude.{◌≡◌, ℕ, ◌+◌, ◌≤◌, ◌<◌, List, [], ◌++◌, length, take};
+ghost use Rattle.std.specs.Prelude.{◌≡◌, ◌+◌, ◌≤◌, ◌<◌, ◌++◌, length, take};
 ghost use Rattle.njh_record.specs.Spelling.{added, item_bytes, IsItem, literal};
-ghost use Rattle.njh_record.specs.Writing.{run_of, is_run, begins_run, before_run, run_item, first_item, spell_of};
+ghost use Rattle.njh_record.specs.Writing.{run_of, is_run, before_run, run_item, first_item, spell_of};
 ghost use Rattle.njh_record.specs.Written.{item_of, SpellsFront};
 
 use crate::Spelled;

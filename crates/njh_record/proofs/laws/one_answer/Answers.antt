@@ -1,5 +1,5 @@
 use Rattle.std.proofs.Common.{refl}
-use Rattle.njh_record.proofs.ReadingLaws.{unspells_found, unspells_only}
+use Rattle.njh_record.proofs.AnswerLaws.{unspells_found, unspells_only}
 use Rattle.njh_record.proofs.laws.one_answer.Goals as goal
 
 pub returns-clause-found : goal.returns-clause-found

@@ -5,7 +5,7 @@ use Rattle.njh_record.proofs.reading.next_part.Goals as goal
 
 pub returns-in-len1-up-rest : goal.returns-in-len1-up-rest
 returns-in-len1-up-rest c =
-    (leads_repeat c.args.bytes.now _ c.from-in-len1-up-rest.result (take_rest c.args.bytes.now 1) (omega arith) (omega arith) (omega arith) (omega arith), omega arith, search rules)
+    (leads_repeat c.args.bytes.now _ c.from-count-in-160-to-191.result (take_rest c.args.bytes.now 1) (omega arith) (omega arith) (omega arith) (omega arith), omega arith, search rules)
 
 pub returns-in-Some : goal.returns-in-Some
 returns-in-Some c =

@@ -1,0 +1,6 @@
+use Rattle.std.proofs.Common.{arith}
+use Rattle.njh_block.proofs.Bits.{mask_test}
+use Rattle.njh_block.proofs.fcs.Fcs.all_suspended.Goals as goal
+
+pub returns : goal.returns
+returns c = rw (← c.self.view_is) (mask_test c.self.inside.first (omega arith))

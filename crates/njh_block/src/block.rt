@@ -1,0 +1,96 @@
+//! Blocks, read.
+
+ghost use Rattle.std.specs.Prelude.{◌≡◌, ◌↔◌, drop, slice_get, option_map};
+ghost use Rattle.njh_block.specs.Blocks.{Block as Seen, read_block, general_first};
+ghost use Rattle.njh_block.specs.Grammar.{IsBlock, IsFault};
+ghost use Rattle.njh_block.specs.Shown.{shown, left_in};
+
+use crate::bcb::Bcb;
+use crate::fault::BlockFault;
+use crate::fcs::Fcs;
+use crate::item::Item;
+use crate::laws::one_reading;
+use crate::reading::{check_records, first_record, general_record};
+use njh_record::Record;
+use std::marker::Model;
+
+/// A block of which a text is the whole, and how far its records were taken. A contract sees the records that are left.
+#[derive(Drop)]
+pub struct Block<'a> {
+    bcb: Bcb,
+    fcs: Fcs,
+    rest: &'a [u8],
+}
+
+impl<'a> Model for Block<'a> {
+    ghost use Rattle.std.specs.Prelude.{IsOk, []};
+    ghost use Rattle.std.specs.Result.{result_unwrap_or};
+    ghost use Rattle.njh_block.specs.Blocks.{Block as Seen, items_in};
+
+    ghost Value = { Seen };
+
+    ghost view = { λ b. record { bcb = b.bcb; fcs = b.fcs; items = result_unwrap_or (items_in b.rest.now) [] } };
+
+    ghost invariant = { λ b. IsOk (items_in b.rest.now) };
+}
+
+impl<'a> Block<'a> {
+    /// Reads a text (IBM SC23-0070, "Multileaving"). It is checked to its end before any record is given: `TooShort` is under three
+    /// bytes, and then the first fault from the left is told.
+    pub fn read(text: &'a [u8]) -> Result<Self, BlockFault>
+        ensures exact { result ≡ read_block text.now }
+
+        // It is the block that the text is by the grammar, or the fault that the text has by it.
+        ensures block { (block : Seen) → (result ≡ Ok block) ↔ IsBlock text.now block }
+        ensures fault { (fault : BlockFault) → (result ≡ Err fault) ↔ IsFault text.now fault }
+    {
+        one_reading();
+        Self::of_text(text)
+    }
+
+    fn of_text(text: &'a [u8]) -> Result<Self, BlockFault>
+        ensures { result ≡ read_block text.now }
+    {
+        let [bcb, first, second, rest @ ..] = text else {
+            return Err(BlockFault::TooShort);
+        };
+        let bcb = Bcb::read(*bcb).ok_or(BlockFault::BadBcb)?;
+        let fcs = Fcs::read(*first, *second).ok_or(BlockFault::BadFcs)?;
+        check_records(rest)?;
+        Ok(Block { bcb, fcs, rest })
+    }
+
+    pub fn bcb(&self) -> Bcb
+        ensures { result ≡ self.now.bcb }
+    {
+        self.bcb
+    }
+
+    pub fn fcs(&self) -> Fcs
+        ensures { result ≡ self.now.fcs }
+    {
+        self.fcs
+    }
+
+    /// The next record, where it is a general one: its SRCB, and the rest of the text.
+    #[tactic(auto, using(crate::proofs::GrammarLaws::general_first_in))]
+    pub fn first_general(&self) -> Option<(u8, &'a [u8])>
+        ensures { option_map (λ x. (x.0, x.1.now)) result ≡ general_first self.now.items }
+    {
+        general_record(self.rest)
+    }
+
+    /// Takes the next record. The bytes of a `Data` are put in `record`, which any other leaves empty.
+    pub fn next(&mut self, record: &mut Record) -> Option<Item<'a>>
+        ensures first { option_map (shown record.new.items) result ≡ slice_get self.old.items 0 }
+        ensures bytes { record.new.items ≡ left_in self.old.items }
+        ensures rest { self.new ≡ record self.old { items = drop 1 self.old.items } }
+    {
+        let Ok(first) = first_record(self.rest, record) else {
+            unreachable!()
+        };
+        let (item, rest) = first?;
+        self.rest = rest;
+        Some(item)
+    }
+}

@@ -1,0 +1,107 @@
+//! Reading: the record at the front of some bytes.
+
+ghost use Rattle.std.specs.Prelude.{◌≡◌, [], Err, IsOk, MatchResult, option_map};
+ghost use Rattle.njh_block.specs.Blocks.{form_of, after_control, spelled, formed, first_record, items_in};
+ghost use Rattle.njh_record.specs.Unspelled.{unspelled};
+ghost use Rattle.njh_block.specs.Shown.{first_shown, general_at, left_by};
+
+use crate::fault::BlockFault;
+use crate::item::Item;
+use crate::rcb::{Form, GENERAL, Rcb};
+use njh_record::{End, Record, RecordFault, unspell};
+
+/// A record, and the bytes behind it.
+type First<'a> = (Item<'a>, &'a [u8]);
+
+/// What follows a two-byte record: a 00 that another byte follows is its own.
+fn after_control(rest: &[u8]) -> &[u8]
+    ensures { result.now ≡ after_control rest.now }
+{
+    match rest {
+        [0, after @ ..] if !after.is_empty() => after,
+        _ => rest,
+    }
+}
+
+/// A record whose spelling begins the bytes.
+fn spelled<'a>(
+    rcb: Rcb,
+    srcb: u8,
+    bytes: &'a [u8],
+    record: &mut Record,
+) -> Result<Option<First<'a>>, BlockFault>
+    ensures first { first_shown result record.new.items ≡ spelled rcb.byte srcb (unspelled bytes.now) }
+    ensures record { record.new.items ≡ left_by (spelled rcb.byte srcb (unspelled bytes.now)) }
+{
+    match unspell(bytes, record) {
+        Ok((used, End::Record)) => Ok(Some((Item::Data { rcb, srcb }, &bytes[used..]))),
+        Ok((used, End::Abort)) => Ok(Some((Item::Abort { rcb, srcb }, &bytes[used..]))),
+        Err(RecordFault::TooLong { used }) => Ok(Some((Item::Long { rcb, srcb }, &bytes[used..]))),
+        Err(RecordFault::BadScb) => Err(BlockFault::BadRecord),
+        Err(RecordFault::Truncated) => Err(BlockFault::BadRecord),
+    }
+}
+
+/// A record by its RCB, the byte behind it, and what follows the two.
+fn formed<'a>(
+    rcb: Rcb,
+    srcb: u8,
+    rest: &'a [u8],
+    record: &mut Record,
+) -> Result<Option<First<'a>>, BlockFault>
+    requires { record.old.items ≡ [] }
+    ensures first { first_shown result record.new.items ≡ formed (form_of rcb.byte) rcb.byte srcb rest.now }
+    ensures record { record.new.items ≡ left_by (formed (form_of rcb.byte) rcb.byte srcb rest.now) }
+{
+    let (item, rest) = match rcb.form() {
+        Form::End => return Ok(None),
+        Form::Bad => return Err(BlockFault::BadRcb),
+        Form::General => (Item::General { srcb, rest }, &[][..]),
+        Form::Control(control) => (Item::Control { rcb: control, srcb }, after_control(rest)),
+        Form::Spelled => return spelled(rcb, srcb, rest, record),
+    };
+    Ok(Some((item, rest)))
+}
+
+/// The record at the front of the bytes behind a function control sequence; none where the block ends. A record other than `Data`
+/// leaves `record` empty.
+pub(crate) fn first_record<'a>(
+    bytes: &'a [u8],
+    record: &mut Record,
+) -> Result<Option<First<'a>>, BlockFault>
+    ensures first { first_shown result record.new.items ≡ first_record bytes.now }
+    ensures record { record.new.items ≡ left_by (first_record bytes.now) }
+{
+    record.clear();
+    match bytes {
+        [] => Ok(None),
+        [rcb] => match (Rcb { byte: *rcb }).form() {
+            Form::End => Ok(None),
+            Form::Bad => Err(BlockFault::BadRcb),
+            _ => Err(BlockFault::BadRecord),
+        },
+        [rcb, srcb, rest @ ..] => formed(Rcb { byte: *rcb }, *srcb, rest, record),
+    }
+}
+
+/// Whether the bytes behind a function control sequence are whole records up to their end, or the first fault from the left.
+pub(crate) fn check_records(bytes: &[u8]) -> Result<(), BlockFault>
+    ensures { MatchResult result (λ _. IsOk (items_in bytes.now)) (λ e. items_in bytes.now ≡ Err e) }
+{
+    let mut record = Record::new();
+    let mut rest = bytes;
+    while let Some((_, after)) = first_record(rest, &mut record)? {
+        rest = after;
+    }
+    Ok(())
+}
+
+/// A general record at the front of the bytes: its SRCB, and the rest of the text.
+pub(crate) fn general_record(bytes: &[u8]) -> Option<(u8, &[u8])>
+    ensures { option_map (λ x. (x.0, x.1.now)) result ≡ general_at bytes.now }
+{
+    match bytes {
+        [GENERAL, srcb, rest @ ..] => Some((*srcb, rest)),
+        _ => None,
+    }
+}

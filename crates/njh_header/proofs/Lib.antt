@@ -1,0 +1,9 @@
+pub mod Digits
+pub mod Fields
+pub mod TextLemmas
+pub mod Trimmed
+pub mod Walking
+pub mod FirstHeader
+pub mod Redirected
+pub mod SectionsLaw
+pub mod SignOnBack

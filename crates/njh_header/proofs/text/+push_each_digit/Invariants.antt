@@ -1,0 +1,4 @@
+use Rattle.njh_header.proofs.text.+push_each_digit.Given as goal
+
+abbrev pub decreases-push_each_digit : goal.decreases-push_each_digit
+decreases-push_each_digit l = l.number

@@ -1,0 +1,87 @@
+//! Data set headers.
+
+use crate::fault::HeaderFault;
+use crate::field::{read_field, read_name, write_field};
+use crate::places::data_set;
+use crate::section::find_general;
+use crate::user::{Destination, User};
+use njh_ebcdic::Name;
+use njh_record::Record;
+use std::marker::Model;
+
+/// What the general section of a data set header says (IBM SC23-0070, "Data set header").
+#[derive(Clone, Copy, Debug, PartialEq, Eq)]
+pub struct DataSetHeader {
+    destination: User,
+    place: usize,
+}
+
+impl Model for DataSetHeader {
+    ghost use Rattle.njh_header.specs.Headers as headers;
+
+    ghost Value = { headers.DataSetHeader };
+
+    ghost view = { λ h. record { destination = h.destination; place = h.place } };
+
+    ghost inverse = { λ h. record { destination = h.destination; place = h.place } };
+}
+
+impl DataSetHeader {
+    ghost use Rattle.std.specs.Prelude.{◌≡◌, ◌+◌, ◌≤◌, length, IfOk};
+    ghost use Rattle.njh_record.specs.Bytes.{with_field};
+    ghost use Rattle.njh_header.specs.Headers.{data_set_header};
+
+    /// The data set header that a record is.
+    pub fn read(bytes: &[u8]) -> Result<DataSetHeader, HeaderFault>
+        ensures header { result ≡ data_set_header bytes.now }
+        ensures within { IfOk result (λ header. header.place + 8 ≤ length bytes.now) }
+    {
+        let section = find_general(bytes, data_set::SIZE)?;
+        let place = section + data_set::DESTINATION_NODE;
+        let node = read_name(bytes, place)?;
+        Ok(DataSetHeader {
+            destination: User {
+                node,
+                user: read_field(bytes, section + data_set::DESTINATION_USER),
+            },
+            place,
+        })
+    }
+
+    pub fn destination_node(&self) -> Name
+        ensures { result ≡ self.now.destination.0 }
+    {
+        self.destination.node
+    }
+
+    pub fn destination_user(&self) -> [u8; 8]
+        ensures { result ≡ self.now.destination.1 }
+    {
+        self.destination.user
+    }
+
+    /// Where the data set goes: destination node and user.
+    pub fn destination(&self) -> Destination
+        ensures { result ≡ self.now.destination }
+    {
+        Destination {
+            node: self.destination.node.bytes(),
+            user: self.destination.user,
+        }
+    }
+
+    /// Where in the record the destination node's eight bytes begin.
+    pub fn destination_place(&self) -> usize
+        ensures { result ≡ self.now.place }
+    {
+        self.place
+    }
+
+    /// Replaces the destination node in the header's record.
+    pub fn with_destination(&self, bytes: &mut Record, node: Name)
+        requires { self.now.place + 8 ≤ length bytes.old.items }
+        ensures { bytes.new.items ≡ with_field self.now.place node bytes.old.items }
+    {
+        write_field(bytes, self.place, node.bytes());
+    }
+}

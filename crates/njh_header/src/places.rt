@@ -1,0 +1,62 @@
+//! Where the fields of headers and sign-ons (IBM SC23-0070) stand.
+//!
+//! Each place is a count of bytes from the beginning of the part that its module names. Nodes, users, names and
+//! passwords are fields of eight bytes in EBCDIC, and numbers are of two bytes, the high byte first.
+
+/// The prefix of a header: length (2), flags (1), sequence (1).
+pub mod prefix {
+    pub const SIZE: usize = 4;
+}
+
+/// What each section begins with: its length, of all its bytes (2), its type (1) and its modifier (1).
+pub mod head {
+    pub const SIZE: usize = 4;
+
+    pub const LENGTH: usize = 0;
+
+    pub const KIND: usize = 2;
+
+    /// The kind of the general section: type 00, modifier 00.
+    pub const GENERAL: u16 = 0;
+}
+
+/// The general section of a job header.
+pub mod job {
+    pub const SIZE: usize = 96;
+
+    pub const NUMBER: usize = 4;
+
+    pub const NAME: usize = 24;
+
+    pub const USER: usize = 32;
+
+    pub const ORIGIN_NODE: usize = 64;
+
+    pub const ORIGIN_USER: usize = 72;
+
+    pub const EXECUTION_NODE: usize = 80;
+
+    pub const EXECUTION_USER: usize = 88;
+}
+
+/// The general section of a data set header.
+pub mod data_set {
+    pub const SIZE: usize = 20;
+
+    pub const DESTINATION_NODE: usize = 4;
+
+    pub const DESTINATION_USER: usize = 12;
+}
+
+/// A sign-on from its length byte on, behind RCB and SRCB. Between these fields and behind them stand length (1) at 0, qualifier (1) at 9,
+/// event sequence (4), resistance (2), the node's own password (8) at 26, flag (1) and features (4).
+pub mod sign_on {
+    /// What has to be there: all up to the block size.
+    pub const SIZE: usize = 18;
+
+    pub const NODE: usize = 1;
+
+    pub const BLOCK: usize = 16;
+
+    pub const PASSWORD: usize = 18;
+}

@@ -1,0 +1,190 @@
+-- A run in the middle: what has happened, and what the sink took of it.
+use Rattle.std.proofs.Common.{◌≡◌, ℕ, zero, suc, ◌+◌, ◌<◌, ◌≤◌, List, [], ◌∷◌, ◌++◌, length, take, drop, set, get_or, Option, Some, None, refl, ap, sym, subst, ◌∙◌, ⊎_elim, arith, append_assoc, append-nil, inl, inr, ◌⊎◌}
+use Rattle.std.specs.Prelude.{option_map}
+use Rattle.std.proofs.lemmas.List.{get_or-set_same, get_or_past, length-set, length-append, take_all, take_more}
+use Rattle.std.proofs.lemmas.Option.{slice_get-get_or}
+use Rattle.std.proofs.lemmas.Bool.{cases_lt}
+use Rattle.std.proofs.Math.Seq.{take-add}
+use Rattle.njh_table.specs.declared.LineId.{LineId}
+use Rattle.njh_hub.specs.declared.event.Event.{Event}
+use Rattle.njh_hub.specs.declared.event.Event.TheVariants.{Bytes}
+use Rattle.njh_hub.specs.Feeding.{take_step, sent_on, bytes_run}
+use Rattle.njh_hub.specs.Runs.{Part, part_takes, rest_on}
+use Rattle.njh_hub.specs.Own.{first_bytes, first_of, sent_to}
+use Rattle.njh_hub.specs.declared.fault.Cause.{Cause}
+use Rattle.njh_hub.specs.declared.fault.Cause.TheVariants.{Hub, Sink}
+use Rattle.njh_hub.specs.Stops.{taken_until}
+use Rattle.njh_hub.specs.Whole.{no_part, part, HasLine, SameLines, sent_by, HubRun, hub_event, hub_run}
+use Rattle.njh_hub.specs.Sent.{added, but_last, IsCounted}
+use Rattle.njh_hub.proofs.PieceLaws.{after_bytes, after_bytes-none, after_bytes-step}
+use Rattle.njh_hub.proofs.RunLaws.{sent_to-append}
+
+pub added-added : {X : Type 0} (kept : Option (List X)) (xs ys : List X) → added (added kept xs) ys ≡ added kept (xs ++ ys)
+added-added None xs ys = refl
+added-added (Some kept) xs ys = ap Some (append_assoc kept xs ys)
+
+pub added-none : {X : Type 0} (kept : Option (List X)) → added kept [] ≡ kept
+added-none None = refl
+added-none (Some kept) = ap Some (append-nil kept)
+
+pub but_last-push : {X : Type 0} (xs : List X) (x : X) → but_last (xs ++ x ∷ []) ≡ xs
+but_last-push [] x = refl
+but_last-push (y ∷ []) x = refl
+but_last-push (y ∷ z ∷ xs) x = ap (λ s. y ∷ s) (but_last-push (z ∷ xs) x)
+
+-- a customer with a line is there
+pub known-there : (parts : List Part) (line : LineId) → HasLine parts line → line.customer < length parts
+known-there parts line known =
+    ⊎_elim (λ (w : line.customer < length parts). w)
+    (λ (w : length parts ≤ line.customer). absurd (omega (arith, ap (λ (p : Part). length p.customer.lines) (get_or_past parts line.customer no_part w))))
+    (cases_lt line.customer (length parts))
+
+only_one : (h : HubRun) → record { parts = h.parts; sent = h.sent ++ [] } ≡ h
+only_one h = ap (λ (s : List (LineId × List ℕ)). record h { sent = s }) (append-nil h.sent)
+
+-- the first bytes of an event as the only one
+pub part_done : (parts : List Part) (line : LineId) (piece : List ℕ) (n : ℕ) →
+    hub_run parts (first_of (Bytes line piece ∷ []) 0 n) ≡ after_bytes parts line (take n piece)
+part_done parts line piece zero = sym (after_bytes-none parts line)
+part_done parts line piece (suc n) = only_one (after_bytes parts line (take (suc n) piece))
+
+pub whole_done : (parts : List Part) (event : Event) → hub_run parts (event ∷ []) ≡ hub_event parts event
+whole_done parts event = only_one (hub_event parts event)
+
+-- A step by bytes of a piece, so many of which were taken before.
+pub record IsStep (start now after : List Part) (line : LineId) (piece left : List ℕ) (before used : ℕ) (frame : List ℕ) : Type 0 where
+  pub known : HasLine start line
+  pub now_is : now ≡ (after_bytes start line (take before piece)).parts
+  pub left_is : left ≡ drop before piece
+  pub rests : line.line < length (part line.customer now).rests
+  pub used_is : used ≡ (part_takes (part line.customer now) line.line left).taken
+  pub after_is : after ≡ set now line.customer (part_takes (part line.customer now) line.line left).after
+  pub frame_is : frame ≡ (part_takes (part line.customer now) line.line left).frame
+
+-- bytes on a line leave as many rests
+after_bytes-rests : (parts : List Part) (line : LineId) (bytes : List ℕ) → line.customer < length parts →
+    length (part line.customer (after_bytes parts line bytes).parts).rests ≡ length (part line.customer parts).rests
+after_bytes-rests parts line bytes there =
+    let p = part line.customer parts in
+    let r = bytes_run (rest_on line.line p) p.customer line.line bytes in
+    ap (λ (q : Part). length q.rests) (get_or-set_same parts line.customer (record { rests = set p.rests line.line r.rest; customer = r.after }) no_part there)
+    ∙ length-set p.rests line.line r.rest
+
+abbrev step_from : List Part → LineId → List (LineId × List ℕ) → List ℕ → HubRun
+step_from now line sent left =
+    let t = part_takes (part line.customer now) line.line left in
+    record { parts = set now line.customer t.after; sent = sent ++ sent_by line.customer (sent_on line.line t.frame) }
+
+-- such a step leads to where the bytes lead, and sends what they send
+pub step_done : {start now after : List Part} {line : LineId} {piece left : List ℕ} {before used : ℕ} {frame : List ℕ} →
+    IsStep start now after line piece left before used frame →
+    after_bytes start line (take (before + used) piece)
+    ≡ record { parts = after; sent = (after_bytes start line (take before piece)).sent ++ sent_by line.customer (sent_on line.line frame) }
+step_done {start} {now} {after} {line} {piece} {left} {before} {used} {frame} h =
+    let there = known-there start line h.known in
+    let front = take before piece in
+    let old = after_bytes start line front in
+    let t = part_takes (part line.customer now) line.line left in
+    let rests : line.line < length (part line.customer start).rests =
+    omega (arith, h.rests, after_bytes-rests start line front there, ap (λ (ps : List Part). length (part line.customer ps).rests) h.now_is) in
+    let o = part_takes (part line.customer old.parts) line.line left in
+    let same : t ≡ o = ap (λ (ps : List Part). part_takes (part line.customer ps) line.line left) h.now_is in
+    let cut : take (before + used) piece ≡ front ++ take o.taken left =
+    take-add before used piece ∙ ap (λ (n : ℕ). front ++ take n (drop before piece)) (h.used_is ∙ ap (λ x. x.taken) same) ∙ ap (λ (bs : List ℕ). front ++ take o.taken bs) (sym h.left_is) in
+    ap (after_bytes start line) cut ∙ after_bytes-step start line front left there rests
+    ∙ ap (λ (ps : List Part). step_from ps line old.sent left) (sym h.now_is)
+    ∙ ap (λ (ps : List Part). record { parts = ps; sent = old.sent ++ sent_by line.customer (sent_on line.line t.frame) }) (sym h.after_is)
+    ∙ ap (λ (b : List ℕ). record { parts = after; sent = old.sent ++ sent_by line.customer (sent_on line.line b) }) (sym h.frame_is)
+
+-- the same, where a sink refused the frame: the event is done with its last step
+pub sink_done : (parts : List Part) (line : LineId) (piece : List ℕ) (taken events bytes : ℕ) →
+    (length piece ≤ taken → (events ≡ 1) × (bytes ≡ 0)) → (taken < length piece → (events ≡ 0) × (bytes ≡ taken)) →
+    hub_run parts (first_of (Bytes line piece ∷ []) events bytes) ≡ after_bytes parts line (take taken piece)
+sink_done parts line piece taken events bytes whole part =
+    ⊎_elim (λ (w : taken < length piece).
+    let e = part w in
+    ap (λ (n : ℕ). hub_run parts (first_of (Bytes line piece ∷ []) n bytes)) e.0 ∙ ap (λ (n : ℕ). hub_run parts (first_of (Bytes line piece ∷ []) 0 n)) e.1 ∙ part_done parts line piece taken)
+    (λ (w : length piece ≤ taken).
+    let e = whole w in
+    ap (λ (n : ℕ). hub_run parts (first_of (Bytes line piece ∷ []) n bytes)) e.0 ∙ ap (λ (n : ℕ). hub_run parts (first_of (Bytes line piece ∷ []) 1 n)) e.1
+    ∙ whole_done parts (Bytes line piece) ∙ ap (after_bytes parts line) (sym (take_all taken piece w)))
+    (cases_lt taken (length piece))
+
+-- a frame that was sent is the last pair
+pub but_last-frame : (pairs : List (LineId × List ℕ)) (c l : ℕ) (frame : List ℕ) → 0 < length frame → but_last (pairs ++ sent_by c (sent_on l frame)) ≡ pairs
+but_last-frame pairs c l [] some = absurd (omega arith)
+but_last-frame pairs c l (b ∷ frame) some = but_last-push pairs (record { customer = c; line = l }, b ∷ frame)
+
+pub some-frame : (pairs : List (LineId × List ℕ)) (c l : ℕ) (frame : List ℕ) → 0 < length frame → 0 < length (pairs ++ sent_by c (sent_on l frame))
+some-frame pairs c l [] some = absurd (omega arith)
+some-frame pairs c l (b ∷ frame) some = omega (arith, length-append pairs ((record { customer = c; line = l }, b ∷ frame) ∷ []))
+
+pub counted_from : (before now after : ℕ) → before ≤ now → IsCounted now after → IsCounted before after
+counted_from before now after h c = ⊎_elim (λ (w : now < after). inl (omega arith)) (λ (w : after ≡ 18446744073709551615). inr w) c
+
+pub hub_run-append : (parts : List Part) (a b : List Event) →
+    hub_run parts (a ++ b) ≡ record { parts = (hub_run (hub_run parts a).parts b).parts; sent = (hub_run parts a).sent ++ (hub_run (hub_run parts a).parts b).sent }
+hub_run-append parts [] b = refl
+hub_run-append parts (event ∷ a) b =
+    let x = hub_event parts event in
+    let r = hub_run x.parts a in
+    ap (λ (h : HubRun). record { parts = h.parts; sent = x.sent ++ h.sent }) (hub_run-append x.parts a b)
+    ∙ ap (λ (s : List (LineId × List ℕ)). record { parts = (hub_run r.parts b).parts; sent = s }) (sym (append_assoc x.sent r.sent (hub_run r.parts b).sent))
+
+-- the events that happened where a run stopped within the next one
+pub first_of-later : (events : List Event) (i n bytes : ℕ) (event : Event) → i < length events → event ≡ get_or events i event →
+    ((n ≡ 0) ⊎ ((n ≡ 1) × (bytes ≡ 0))) → first_of events (i + n) bytes ≡ take i events ++ first_of (event ∷ []) n bytes
+first_of-later events i n bytes event within found stop =
+    ⊎_elim (λ (w : n ≡ 0).
+    let e : i + n ≡ i = omega arith in
+    ap (λ (k : ℕ). first_of events k bytes) e
+    ∙ ap (λ (o : Option Event). take i events ++ first_bytes o bytes) (slice_get-get_or events i event within ∙ ap Some (sym found))
+    ∙ ap (λ (k : ℕ). take i events ++ first_of (event ∷ []) k bytes) (sym w))
+    (λ (w : (n ≡ 1) × (bytes ≡ 0)).
+    let e : i + n ≡ i + 1 = omega arith in
+    ap (λ (k : ℕ). first_of events k bytes) e ∙ ap (first_of events (i + 1)) w.1
+    ∙ append-nil (take (i + 1) events)
+    ∙ take_more events i event within ∙ ap (λ (x : Event). take i events ++ x ∷ []) (sym found)
+    ∙ ap (λ (k : ℕ). take i events ++ first_of (event ∷ []) k 0) (sym w.0) ∙ ap (λ (k : ℕ). take i events ++ first_of (event ∷ []) n k) (sym w.1))
+    stop
+
+pub sent_to-added : (c : ℕ) (kept : Option (List (LineId × List ℕ))) (more : List (LineId × List ℕ)) →
+    option_map (sent_to c) (added kept more) ≡ added (option_map (sent_to c) kept) (sent_to c more)
+sent_to-added c None more = refl
+sent_to-added c (Some kept) more = ap Some (sent_to-append c kept more)
+
+but_last-cons : {X : Type 0} (x : X) (ys : List X) → 0 < length ys → but_last (x ∷ ys) ≡ x ∷ but_last ys
+but_last-cons x [] some = absurd (omega arith)
+but_last-cons x (y ∷ ys) some = refl
+
+but_last-append : {X : Type 0} (xs ys : List X) → 0 < length ys → but_last (xs ++ ys) ≡ xs ++ but_last ys
+but_last-append [] ys some = refl
+but_last-append (x ∷ xs) ys some = but_last-cons x (xs ++ ys) (omega (arith, length-append xs ys)) ∙ ap (λ s. x ∷ s) (but_last-append xs ys some)
+
+pub taken_until-append : (cause : Cause) (xs ys : List (LineId × List ℕ)) → (cause ≡ Sink → 0 < length ys) → taken_until cause (xs ++ ys) ≡ xs ++ taken_until cause ys
+taken_until-append (Hub fault) xs ys some = refl
+taken_until-append Sink xs ys some = but_last-append xs ys (some refl)
+
+-- the hub after more events
+abbrev pub later_than : List Part → List (LineId × List ℕ) → List Event → HubRun
+later_than now sent events = record { parts = (hub_run now events).parts; sent = sent ++ (hub_run now events).sent }
+
+-- so many events happened, and then what a stop within the next leaves of it
+pub stopped_in : (start now : List Part) (events : List Event) (k n bytes : ℕ) (event : Event) → k < length events → event ≡ get_or events k event →
+    ((n ≡ 0) ⊎ ((n ≡ 1) × (bytes ≡ 0))) → now ≡ (hub_run start (take k events)).parts →
+    hub_run start (first_of events (k + n) bytes) ≡ later_than now (hub_run start (take k events)).sent (first_of (event ∷ []) n bytes)
+stopped_in start now events k n bytes event within found stop here =
+    ap (hub_run start) (first_of-later events k n bytes event within found stop)
+    ∙ hub_run-append start (take k events) (first_of (event ∷ []) n bytes)
+    ∙ ap (λ (ps : List Part). later_than ps (hub_run start (take k events)).sent (first_of (event ∷ []) n bytes)) (sym here)
+
+-- one event more
+pub went_on : (start now : List Part) (events : List Event) (k : ℕ) (event : Event) → k < length events → event ≡ get_or events k event →
+    now ≡ (hub_run start (take k events)).parts → hub_run start (take (k + 1) events) ≡ later_than now (hub_run start (take k events)).sent (event ∷ [])
+went_on start now events k event within found here =
+    ap (hub_run start) (take_more events k event within ∙ ap (λ (x : Event). take k events ++ x ∷ []) (sym found))
+    ∙ hub_run-append start (take k events) (event ∷ [])
+    ∙ ap (λ (ps : List Part). later_than ps (hub_run start (take k events)).sent (event ∷ [])) (sym here)
+
+pub known-more : (start now : List Part) (line : LineId) → SameLines start now → HasLine now line → HasLine start line
+known-more start now line same known = omega (arith, known, same line.customer)

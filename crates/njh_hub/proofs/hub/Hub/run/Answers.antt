@@ -1,0 +1,131 @@
+use Rattle.std.proofs.Common.{◌≡◌, ℕ, ◌+◌, ◌<◌, ◌≤◌, List, [], ◌∷◌, ◌++◌, length, take, Option, Some, refl, ap, sym, subst, ◌∙◌, rules, arith, add-zero}
+use Rattle.std.specs.Prelude.{IsSomeAnd, slice_get, option_map}
+use Rattle.std.proofs.lemmas.List.{take_all, take_more, length-append}
+use Rattle.std.proofs.lemmas.List.Elements.{All-push, All-same}
+use Rattle.std.proofs.lemmas.Option.{slice_get-get_or}
+use Rattle.njh_table.specs.declared.LineId.{LineId}
+use Rattle.njh_hub.specs.declared.event.Event.{Event}
+use Rattle.njh_hub.specs.declared.fault.Cause.{Cause}
+use Rattle.njh_hub.specs.declared.fault.RunFault.{RunFault}
+use Rattle.njh_hub.specs.Runs.{alone_run}
+use Rattle.njh_hub.specs.Own.{line_of, events_of, sent_to, bytes_in_event, first_of}
+use Rattle.njh_hub.specs.Whole.{part, HubRun, HasLine, hub_run}
+use Rattle.njh_hub.specs.Sent.{added}
+use Rattle.njh_hub.specs.Stops.{taken_until}
+use Rattle.njh_hub.proofs.RunLaws.{each_is_alone}
+use Rattle.njh_hub.proofs.RunningLaws.{stopped_in, went_on, added-added, taken_until-append, sent_to-added, known-more}
+use Rattle.njh_hub.proofs.hub.Hub.run.Goals as goal
+
+pub returns-in-Err-clause-parts : goal.returns-in-Err-clause-parts
+returns-in-Err-clause-parts g c = λ d there.
+    let start = c.args.self.now in
+    let events = c.args.events.now in
+    let k = c.loop-index.index in
+    let fault = c.in-Err.fault in
+    let event = c.index-events-index.result in
+    let within : k < length events = omega arith in
+    let stop = stopped_in start c.loop-index.self events k fault.events fault.bytes event within c.index-events-index.is c.in-Err.ensures.one.1 c.loop-index.invariant.parts in
+    ap (part d) (c.in-Err.ensures.parts ∙ ap (λ (h : HubRun). h.parts) (sym stop))
+    ∙ (each_is_alone d start (first_of events (k + fault.events) fault.bytes) there).after
+    ∙ ap (λ (f : RunFault). (alone_run (part d start) (events_of d (first_of events f.events f.bytes))).after) (sym c.after.ensures)
+
+pub returns-in-Err-clause-handed : goal.returns-in-Err-clause-handed
+returns-in-Err-clause-handed g c =
+    let start = c.args.self.now in
+    let events = c.args.events.now in
+    let k = c.loop-index.index in
+    let fault = c.in-Err.fault in
+    let event = c.index-events-index.result in
+    let within : k < length events = omega arith in
+    let stop = stopped_in start c.loop-index.self events k fault.events fault.bytes event within c.index-events-index.is c.in-Err.ensures.one.1 c.loop-index.invariant.parts in
+    let sent = (hub_run start (take k events)).sent in
+    let more = (hub_run c.loop-index.self (first_of (event ∷ []) fault.events fault.bytes)).sent in
+    c.in-Err.ensures.handed ∙ ap (λ kept. added kept (taken_until fault.cause more)) c.loop-index.invariant.sent
+    ∙ added-added (g.S.Sink.sent c.args.sink.now) sent (taken_until fault.cause more)
+    ∙ ap (added (g.S.Sink.sent c.args.sink.now)) (
+    sym (taken_until-append fault.cause sent more c.in-Err.ensures.refused)
+    ∙ ap (λ (h : HubRun). taken_until fault.cause h.sent) (sym stop)
+    ∙ ap (λ (f : RunFault). taken_until f.cause (hub_run start (first_of events f.events f.bytes)).sent) (sym c.after.ensures))
+
+pub returns-in-Err-clause-refused : goal.returns-in-Err-clause-refused
+returns-in-Err-clause-refused g c = λ refused.
+    let start = c.args.self.now in
+    let events = c.args.events.now in
+    let k = c.loop-index.index in
+    let fault = c.in-Err.fault in
+    let event = c.index-events-index.result in
+    let within : k < length events = omega arith in
+    let stop = stopped_in start c.loop-index.self events k fault.events fault.bytes event within c.index-events-index.is c.in-Err.ensures.one.1 c.loop-index.invariant.parts in
+    let sent = (hub_run start (take k events)).sent in
+    let more = (hub_run c.loop-index.self (first_of (event ∷ []) fault.events fault.bytes)).sent in
+    let some : 0 < length more = c.in-Err.ensures.refused (sym (ap (λ (f : RunFault). f.cause) c.after.ensures) ∙ refused) in
+    let same : length (hub_run start (first_of events c.after.result.events c.after.result.bytes)).sent ≡ length (sent ++ more) =
+    ap (λ (f : RunFault). length (hub_run start (first_of events f.events f.bytes)).sent) c.after.ensures ∙ ap (λ (h : HubRun). length h.sent) stop in
+    omega (arith, same, length-append sent more, some)
+
+pub returns-in-Err-clause-within : goal.returns-in-Err-clause-within
+returns-in-Err-clause-within g c = λ some.
+    let events = c.args.events.now in
+    let k = c.loop-index.index in
+    let fault = c.in-Err.fault in
+    let event = c.index-events-index.result in
+    let within : k < length events = omega arith in
+    let bytes : c.after.result.bytes ≡ fault.bytes = ap (λ (f : RunFault). f.bytes) c.after.ensures in
+    let one = c.in-Err.ensures.one.0 (omega (arith, bytes, some)) in
+    let at : slice_get events c.after.result.events ≡ Some event =
+    ap (λ (f : RunFault). slice_get events f.events) c.after.ensures ∙ ap (λ (n : ℕ). slice_get events (k + n)) one.0 ∙ ap (slice_get events) (add-zero k)
+    ∙ slice_get-get_or events k event within ∙ ap Some (sym c.index-events-index.is) in
+    let P : Option Event → Type 0 = λ o. IsSomeAnd o (λ e. c.after.result.bytes < bytes_in_event e) in
+    let here : c.after.result.bytes < bytes_in_event event = omega (arith, bytes, one.1) in
+    subst P (sym at) here
+
+pub returns-in-Err-clause-unknown : goal.returns-in-Err-clause-unknown
+returns-in-Err-clause-unknown g c = λ unknown.
+    let events = c.args.events.now in
+    let k = c.loop-index.index in
+    let fault = c.in-Err.fault in
+    let event = c.index-events-index.result in
+    let within : k < length events = omega arith in
+    let told = c.in-Err.ensures.unknown (sym (ap (λ (f : RunFault). f.cause) c.after.ensures) ∙ unknown) in
+    let at : slice_get events c.after.result.events ≡ Some event =
+    ap (λ (f : RunFault). slice_get events f.events) c.after.ensures ∙ ap (λ (n : ℕ). slice_get events (k + n)) told.0 ∙ ap (slice_get events) (add-zero k)
+    ∙ slice_get-get_or events k event within ∙ ap Some (sym c.index-events-index.is) in
+    let P : Option Event → Type 0 = λ o. IsSomeAnd o (λ e. HasLine c.args.self.now (line_of e) → ⊥) in
+    let here : HasLine c.args.self.now (line_of event) → ⊥ = λ known. told.1 (omega (arith, known, c.loop-index.invariant.same (line_of event).customer)) in
+    subst P (sym at) here
+
+pub loop-index-preserved : goal.loop-index-preserved
+loop-index-preserved g c =
+    let start = c.args.self.now in
+    let events = c.args.events.now in
+    let k = c.loop-index.index in
+    let event = c.index-events-index.result in
+    let within : k < length events = omega arith in
+    let on = went_on start c.loop-index.self events k event within c.index-events-index.is c.loop-index.invariant.parts in
+    let known : HasLine start (line_of event) = known-more start c.loop-index.self (line_of event) c.loop-index.invariant.same c.in-Ok.ensures.known in
+    record {
+      parts = c.in-Ok.ensures.parts ∙ ap (λ (h : HubRun). h.parts) (sym on);
+      sent = c.in-Ok.ensures.handed
+          ∙ ap (λ kept. added kept (hub_run c.loop-index.self (event ∷ [])).sent) c.loop-index.invariant.sent
+          ∙ added-added (g.S.Sink.sent c.args.sink.now) _ _
+          ∙ ap (λ (h : HubRun). added (g.S.Sink.sent c.args.sink.now) h.sent) (sym on);
+      known = All-same (λ e. HasLine start (line_of e)) _ _ (take_more events k event within ∙ ap (λ (x : Event). take k events ++ x ∷ []) (sym c.index-events-index.is))
+          (All-push (λ e. HasLine start (line_of e)) (take k events) event c.loop-index.invariant.known known);
+      same = λ d. c.in-Ok.ensures.lines d ∙ c.loop-index.invariant.same d;
+      room = λ _. c.in-Ok.ensures.room;
+      counts = omega (arith, c.in-Ok.ensures.counts);
+    }
+
+pub returns-clause-parts : goal.returns-clause-parts
+returns-clause-parts g c = λ d there.
+    let start = c.args.self.now in
+    let all : take c.loop-index.index c.args.events.now ≡ c.args.events.now = take_all _ c.args.events.now (omega arith) in
+    ap (part d) (c.loop-index.invariant.parts ∙ ap (λ (es : List Event). (hub_run start es).parts) all) ∙ (each_is_alone d start c.args.events.now there).after
+
+pub returns-clause-sent : goal.returns-clause-sent
+returns-clause-sent g c = λ d there.
+    let start = c.args.self.now in
+    let all : take c.loop-index.index c.args.events.now ≡ c.args.events.now = take_all _ c.args.events.now (omega arith) in
+    ap (option_map (sent_to d)) (c.loop-index.invariant.sent ∙ ap (λ (es : List Event). added (g.S.Sink.sent c.args.sink.now) (hub_run start es).sent) all)
+    ∙ sent_to-added d (g.S.Sink.sent c.args.sink.now) (hub_run start c.args.events.now).sent
+    ∙ ap (added (option_map (sent_to d) (g.S.Sink.sent c.args.sink.now))) (each_is_alone d start c.args.events.now there).sent

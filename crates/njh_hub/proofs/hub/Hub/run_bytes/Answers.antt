@@ -1,0 +1,144 @@
+use Rattle.std.proofs.Common.{◌≡◌, ℕ, ◌+◌, ◌<◌, ◌≤◌, List, [], ◌∷◌, ◌++◌, length, take, refl, ap, sym, subst, ◌∙◌, rules, arith}
+use Rattle.std.proofs.lemmas.List.{take_all}
+use Rattle.njh_table.specs.declared.LineId.{LineId}
+use Rattle.njh_hub.specs.declared.event.Event.TheVariants.{Bytes}
+use Rattle.njh_hub.specs.declared.fault.Cause.{Cause}
+use Rattle.njh_hub.specs.Feeding.{sent_on}
+use Rattle.njh_hub.specs.Own.{first_of}
+use Rattle.njh_hub.specs.Whole.{part, HubRun, HasLine, sent_by, hub_run}
+use Rattle.njh_hub.specs.Sent.{added, but_last}
+use Rattle.njh_hub.specs.Stops.{taken_until}
+use Rattle.njh_hub.proofs.PieceLaws.{after_bytes}
+use Rattle.njh_hub.proofs.RunningLaws.{IsStep, step_done, sink_done, whole_done, added-added, but_last-frame, some-frame}
+use Rattle.njh_hub.proofs.hub.Hub.run_bytes.Goals as goal
+
+pub loop-used-preserved : goal.loop-used-preserved
+loop-used-preserved g c =
+    let start = c.args.self.now in
+    let line = c.args.line in
+    let step : IsStep start c.loop-used.self c.take.new.self line c.args.piece.now c.split_at.result.1.now c.loop-used.taken c.in-Ok.used c.take.new.out.items = record {
+      known = omega (arith, c.in-Ok.ensures.known, c.loop-used.invariant.same line.customer);
+      now_is = c.loop-used.invariant.parts;
+      left_is = c.split_at.ensures.back;
+      rests = c.in-Ok.ensures.rests;
+      used_is = c.in-Ok.ensures.taken;
+      after_is = c.in-Ok.ensures.hub;
+      frame_is = c.in-Ok.ensures.frame;
+    } in
+    let there = step_done step in
+    let known : HasLine start line = omega (arith, c.in-Ok.ensures.known, c.loop-used.invariant.same line.customer) in
+    record {
+      within = omega arith;
+      left = λ _. omega arith;
+      parts = sym (ap (λ (h : HubRun). h.parts) there);
+      sent = c.in-Ok-hand_over.ensures.ok
+          ∙ ap (λ (b : List ℕ). added (g.S.Sink.sent c.loop-used.sink) (sent_by line.customer (sent_on line.line b))) c.deref.ensures.value
+          ∙ ap (λ kept. added kept (sent_by line.customer (sent_on line.line c.take.new.out.items))) c.loop-used.invariant.sent
+          ∙ added-added (g.S.Sink.sent c.args.sink.now) _ _ ∙ ap (λ (h : HubRun). added (g.S.Sink.sent c.args.sink.now) h.sent) (sym there);
+      same = λ d. c.in-Ok.ensures.lines d ∙ c.loop-used.invariant.same d;
+      known = λ _. known;
+      room = λ _. c.in-Ok.ensures.room;
+      first = λ none. let left : 0 < length c.split_at.result.1.now = omega (arith, c.split_at.ensures.back_len) in absurd (omega (arith, c.in-Ok.ensures.progress.0 left));
+      counts = omega (arith, c.in-Ok-hand_over.ensures.counts);
+    }
+
+pub returns-then-taken-piece-clause-parts : goal.returns-then-taken-piece-clause-parts
+returns-then-taken-piece-clause-parts g c =
+    let start = c.args.self.now in
+    let line = c.args.line in
+    let step : IsStep start c.loop-used.self c.take.new.self line c.args.piece.now c.split_at.result.1.now c.loop-used.taken c.in-Ok.used c.take.new.out.items = record {
+      known = omega (arith, c.in-Ok.ensures.known, c.loop-used.invariant.same line.customer);
+      now_is = c.loop-used.invariant.parts;
+      left_is = c.split_at.ensures.back;
+      rests = c.in-Ok.ensures.rests;
+      used_is = c.in-Ok.ensures.taken;
+      after_is = c.in-Ok.ensures.hub;
+      frame_is = c.in-Ok.ensures.frame;
+    } in
+    let there = step_done step in
+    let all : take (c.loop-used.taken + c.in-Ok.used) c.args.piece.now ≡ c.args.piece.now = take_all _ c.args.piece.now (omega arith) in
+    sym (ap (λ (h : HubRun). h.parts) there) ∙ ap (λ (bytes : List ℕ). (after_bytes start line bytes).parts) all
+
+pub returns-then-taken-piece-clause-handed : goal.returns-then-taken-piece-clause-handed
+returns-then-taken-piece-clause-handed g c =
+    let start = c.args.self.now in
+    let line = c.args.line in
+    let step : IsStep start c.loop-used.self c.take.new.self line c.args.piece.now c.split_at.result.1.now c.loop-used.taken c.in-Ok.used c.take.new.out.items = record {
+      known = omega (arith, c.in-Ok.ensures.known, c.loop-used.invariant.same line.customer);
+      now_is = c.loop-used.invariant.parts;
+      left_is = c.split_at.ensures.back;
+      rests = c.in-Ok.ensures.rests;
+      used_is = c.in-Ok.ensures.taken;
+      after_is = c.in-Ok.ensures.hub;
+      frame_is = c.in-Ok.ensures.frame;
+    } in
+    let there = step_done step in
+    let all : take (c.loop-used.taken + c.in-Ok.used) c.args.piece.now ≡ c.args.piece.now = take_all _ c.args.piece.now (omega arith) in
+    c.in-Ok-hand_over.ensures.ok
+    ∙ ap (λ (b : List ℕ). added (g.S.Sink.sent c.loop-used.sink) (sent_by line.customer (sent_on line.line b))) c.deref.ensures.value
+    ∙ ap (λ kept. added kept (sent_by line.customer (sent_on line.line c.take.new.out.items))) c.loop-used.invariant.sent
+    ∙ added-added (g.S.Sink.sent c.args.sink.now) _ _ ∙ ap (λ (h : HubRun). added (g.S.Sink.sent c.args.sink.now) h.sent) (sym there)
+    ∙ ap (λ (bytes : List ℕ). added (g.S.Sink.sent c.args.sink.now) (after_bytes start line bytes).sent) all
+    ∙ ap (λ (h : HubRun). added (g.S.Sink.sent c.args.sink.now) h.sent) (sym (whole_done start (Bytes line c.args.piece.now)))
+
+pub returns-in-Err-hand_over-clause-parts : goal.returns-in-Err-hand_over-clause-parts
+returns-in-Err-hand_over-clause-parts g c =
+    let start = c.args.self.now in
+    let line = c.args.line in
+    let step : IsStep start c.loop-used.self c.take.new.self line c.args.piece.now c.split_at.result.1.now c.loop-used.taken c.in-Ok.used c.take.new.out.items = record {
+      known = omega (arith, c.in-Ok.ensures.known, c.loop-used.invariant.same line.customer);
+      now_is = c.loop-used.invariant.parts;
+      left_is = c.split_at.ensures.back;
+      rests = c.in-Ok.ensures.rests;
+      used_is = c.in-Ok.ensures.taken;
+      after_is = c.in-Ok.ensures.hub;
+      frame_is = c.in-Ok.ensures.frame;
+    } in
+    let there = step_done step in
+    let stop = sink_done start line c.args.piece.now (c.loop-used.taken + c.in-Ok.used) c.after_sink.result.events c.after_sink.result.bytes c.after_sink.ensures.whole c.after_sink.ensures.part in
+    sym (ap (λ (h : HubRun). h.parts) (stop ∙ there))
+
+pub returns-in-Err-hand_over-clause-handed : goal.returns-in-Err-hand_over-clause-handed
+returns-in-Err-hand_over-clause-handed g c =
+    let start = c.args.self.now in
+    let line = c.args.line in
+    let step : IsStep start c.loop-used.self c.take.new.self line c.args.piece.now c.split_at.result.1.now c.loop-used.taken c.in-Ok.used c.take.new.out.items = record {
+      known = omega (arith, c.in-Ok.ensures.known, c.loop-used.invariant.same line.customer);
+      now_is = c.loop-used.invariant.parts;
+      left_is = c.split_at.ensures.back;
+      rests = c.in-Ok.ensures.rests;
+      used_is = c.in-Ok.ensures.taken;
+      after_is = c.in-Ok.ensures.hub;
+      frame_is = c.in-Ok.ensures.frame;
+    } in
+    let there = step_done step in
+    let stop = sink_done start line c.args.piece.now (c.loop-used.taken + c.in-Ok.used) c.after_sink.result.events c.after_sink.result.bytes c.after_sink.ensures.whole c.after_sink.ensures.part in
+    let sent = (after_bytes start line (take c.loop-used.taken c.args.piece.now)).sent in
+    let some : 0 < length c.take.new.out.items = omega (arith, c.in-Err-hand_over.ensures.err.1, ap (λ (b : List ℕ). length b) c.deref.ensures.value) in
+    c.in-Err-hand_over.ensures.err.0 ∙ c.loop-used.invariant.sent
+    ∙ ap (added (g.S.Sink.sent c.args.sink.now)) (
+    sym (but_last-frame sent line.customer line.line c.take.new.out.items some)
+    ∙ ap (λ (h : HubRun). but_last h.sent) (sym (stop ∙ there))
+    ∙ ap (λ (cause : Cause). taken_until cause (hub_run start (first_of (Bytes line c.args.piece.now ∷ []) c.after_sink.result.events c.after_sink.result.bytes)).sent) (sym c.after_sink.ensures.cause))
+
+pub returns-in-Err-hand_over-clause-refused : goal.returns-in-Err-hand_over-clause-refused
+returns-in-Err-hand_over-clause-refused g c = λ _.
+    let start = c.args.self.now in
+    let line = c.args.line in
+    let step : IsStep start c.loop-used.self c.take.new.self line c.args.piece.now c.split_at.result.1.now c.loop-used.taken c.in-Ok.used c.take.new.out.items = record {
+      known = omega (arith, c.in-Ok.ensures.known, c.loop-used.invariant.same line.customer);
+      now_is = c.loop-used.invariant.parts;
+      left_is = c.split_at.ensures.back;
+      rests = c.in-Ok.ensures.rests;
+      used_is = c.in-Ok.ensures.taken;
+      after_is = c.in-Ok.ensures.hub;
+      frame_is = c.in-Ok.ensures.frame;
+    } in
+    let there = step_done step in
+    let stop = sink_done start line c.args.piece.now (c.loop-used.taken + c.in-Ok.used) c.after_sink.result.events c.after_sink.result.bytes c.after_sink.ensures.whole c.after_sink.ensures.part in
+    let some : 0 < length c.take.new.out.items = omega (arith, c.in-Err-hand_over.ensures.err.1, ap (λ (b : List ℕ). length b) c.deref.ensures.value) in
+    omega (
+      arith,
+      ap (λ (h : HubRun). length h.sent) (stop ∙ there),
+      some-frame (after_bytes start line (take c.loop-used.taken c.args.piece.now)).sent line.customer line.line c.take.new.out.items some,
+    )

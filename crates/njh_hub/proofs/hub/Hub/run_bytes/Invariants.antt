@@ -1,0 +1,23 @@
+use Rattle.std.proofs.Common.{◌≡◌, ◌<◌, ◌≤◌, ◌-◌, length, take}
+use Rattle.std.specs.Vec.{vec_capacity}
+use Rattle.njh_hub.specs.Sent.{added}
+use Rattle.njh_hub.specs.Whole.{HasLine, SameLines}
+use Rattle.njh_hub.proofs.PieceLaws.{after_bytes}
+use Rattle.njh_hub.proofs.hub.Hub.run_bytes.Given as goal
+
+-- so many bytes were taken; of a piece that isn't all taken
+abbrev pub invariant-loop-used : goal.invariant-loop-used
+invariant-loop-used g l = record {
+  within : l.taken ≤ length l.piece;
+  left : 0 < l.taken → l.taken < length l.piece;
+  parts : l.self ≡ (after_bytes l.fn.self l.line (take l.taken l.piece)).parts;
+  sent : g.S.Sink.sent l.sink ≡ added (g.S.Sink.sent l.fn.sink) (after_bytes l.fn.self l.line (take l.taken l.piece)).sent;
+  same : SameLines l.fn.self l.self;
+  known : 0 < l.taken → HasLine l.fn.self l.line;
+  room : 0 < l.taken → 8196 ≤ vec_capacity l.out;
+  first : l.taken ≡ 0 → vec_capacity l.out ≡ vec_capacity l.fn.out;
+  counts : g.S.Sink.count l.fn.sink ≤ g.S.Sink.count l.sink;
+}
+
+abbrev pub decreases-loop-used : goal.decreases-loop-used
+decreases-loop-used g l = length l.piece - l.taken

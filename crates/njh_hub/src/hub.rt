@@ -1,0 +1,195 @@
+//! The hub: each customer's lines, and a step for each event on one of them.
+
+ghost use Rattle.std.specs.Prelude.{◌≡◌, ℕ, ◌+◌, ◌<◌, ◌≤◌, ◌↔◌, List, [], length, slice_set, IsTrue, OnOk, OnErr, IfOk, IsOk, Err};
+ghost use Rattle.std.specs.Vec.{vec_len, vec_capacity};
+ghost use Rattle.njh_hub.specs.Runs.{part_takes, part_hears};
+ghost use Rattle.njh_hub.specs.Whole.{part, HasLine, SameLines};
+
+use crate::customer::LONGEST_FRAME;
+use crate::event::Signal;
+use crate::fault::HubFault;
+use crate::file_view::FileView;
+use crate::lines::Lines;
+use njh_table::{LineId, Tables};
+use std::alloc::Global;
+use std::marker::Model;
+
+/// Customers with lines of their own, over one table. A caller sees it as the list of the customers' parts.
+#[derive(Drop)]
+pub struct Hub {
+    tables: Tables,
+    lines: Vec<Lines>,
+    alloc: Global,
+}
+
+impl Model for Hub {
+    ghost use Rattle.std.specs.Prelude.{◌≡◌, List, length};
+    ghost use Rattle.njh_hub.specs.Runs.{Part};
+    ghost use Rattle.njh_hub.specs.Parts.{entries_of, parts_of};
+
+    ghost Value = { List Part };
+
+    ghost view = { λ hub. parts_of (entries_of hub.tables) hub.lines.items };
+
+    ghost invariant = { λ hub. length hub.lines.items ≡ length (entries_of hub.tables) };
+}
+
+impl Hub {
+    ghost use Rattle.std.specs.Prelude.{map};
+    ghost use Rattle.njh_hub.specs.Runs.{opened};
+    ghost use Rattle.njh_hub.specs.Parts.{entries_of};
+
+    /// A hub of these tables, with all the room that its lines need. Want of memory is the only refusal.
+    pub fn open(alloc: Global, tables: Tables) -> Result<Hub, HubFault>
+        ensures opened { IfOk result (λ hub. hub ≡ map opened (entries_of tables)) }
+        ensures memory { OnErr result (result ≡ Err HubFault.Memory) }
+    {
+        let mut lines = Vec::new(alloc);
+        for customer in tables.customers() {
+            lines.push(Lines::open(alloc, customer)?)?;
+        }
+        Ok(Hub {
+            tables,
+            lines,
+            alloc,
+        })
+    }
+
+    /// Whether the hub has this line.
+    pub fn is_line(&self, line: LineId) -> bool
+        ensures { IsTrue result ↔ HasLine self.now line }
+    {
+        let customer = usize::from(line.customer);
+        if customer >= self.lines.len() {
+            return false;
+        }
+        usize::from(line.line) < self.lines[customer].len()
+    }
+
+    /// A customer's whole files in their order of arrival. Until files are taken in there are none.
+    pub fn files(&self, customer: u16) -> Result<Vec<FileView>, HubFault>
+        ensures none { IfOk result (λ files. files.items ≡ []) }
+        ensures known { IsOk result ↔ (customer < length self.now) }
+        ensures unknown { OnErr result (result ≡ Err HubFault.UnknownCustomer) }
+    {
+        if usize::from(customer) < self.lines.len() {
+            Ok(Vec::new(self.alloc))
+        } else {
+            Err(HubFault::UnknownCustomer)
+        }
+    }
+
+    /// Where the hub's memory comes from.
+    pub(crate) fn allocator(&self) -> Global {
+        self.alloc
+    }
+
+    /// One step by bytes of a line: those up to the end of the first frame that is answered, or all. Answers how many were taken, and
+    /// puts the frame that is sent in the place of what `out` held; nothing where none is.
+    ///
+    /// `UnknownLine` comes where the hub has no such line, `Memory` where `out` found no room for a frame past what it held.
+    pub fn take(&mut self, line: LineId, piece: &[u8], out: &mut Vec<u8>) -> Result<usize, HubFault>
+        ensures taken { IfOk result (λ taken. taken ≡ (part_takes (part line.customer self.old) line.line piece.now).taken) }
+        ensures progress { IfOk result (λ taken. (0 < length piece.now → 0 < taken) × (taken ≤ length piece.now)) }
+        ensures hub { OnOk result (self.new ≡ slice_set self.old line.customer (part_takes (part line.customer self.old) line.line piece.now).after) }
+        ensures frame { OnOk result (out.new.items ≡ (part_takes (part line.customer self.old) line.line piece.now).frame) }
+        ensures lines { SameLines self.old self.new }
+        ensures room { OnOk result (8196 ≤ vec_capacity out.new) }
+        ensures known { OnOk result (HasLine self.old line) }
+        ensures rests { OnOk result (line.line < length (part line.customer self.old).rests) }
+        ensures unknown { ¬ HasLine self.old line → result ≡ Err HubFault.UnknownLine }
+        ensures memory { HasLine self.old line → OnErr result ((result ≡ Err HubFault.Memory) × (vec_capacity out.old < vec_len out.old + 8196)) }
+        ensures err { OnErr result ((self.new ≡ self.old) × (out.new.items ≡ out.old.items) × (vec_capacity out.new ≡ vec_capacity out.old)) }
+    {
+        if !self.is_line(line) {
+            return Err(HubFault::UnknownLine);
+        }
+        make_room(out)?;
+        let customer = self.tables.customer(line.customer);
+        let lines = &mut self.lines[usize::from(line.customer)];
+        Ok(lines.take(customer, line.line, piece, out))
+    }
+
+    /// A tick of the clock on a line. Refusals and `out` are those of `take`.
+    pub fn tick(&mut self, line: LineId, out: &mut Vec<u8>) -> Result<(), HubFault>
+        ensures hub { OnOk result (self.new ≡ slice_set self.old line.customer (part_hears (part line.customer self.old) line.line Signal.Tick).after) }
+        ensures frame { OnOk result (out.new.items ≡ (part_hears (part line.customer self.old) line.line Signal.Tick).frame) }
+        ensures lines { SameLines self.old self.new }
+        ensures room { OnOk result (8196 ≤ vec_capacity out.new) }
+        ensures known { OnOk result (HasLine self.old line) }
+        ensures unknown { ¬ HasLine self.old line → result ≡ Err HubFault.UnknownLine }
+        ensures memory { HasLine self.old line → OnErr result ((result ≡ Err HubFault.Memory) × (vec_capacity out.old < vec_len out.old + 8196)) }
+        ensures err { OnErr result ((self.new ≡ self.old) × (out.new.items ≡ out.old.items) × (vec_capacity out.new ≡ vec_capacity out.old)) }
+    {
+        self.signal(line, Signal::Tick, out)
+    }
+
+    /// The adapter's word that a block check failed on a line. Refusals and `out` are those of `take`.
+    pub fn garbled(&mut self, line: LineId, out: &mut Vec<u8>) -> Result<(), HubFault>
+        ensures hub { OnOk result (self.new ≡ slice_set self.old line.customer (part_hears (part line.customer self.old) line.line Signal.Garbled).after) }
+        ensures frame { OnOk result (out.new.items ≡ (part_hears (part line.customer self.old) line.line Signal.Garbled).frame) }
+        ensures lines { SameLines self.old self.new }
+        ensures room { OnOk result (8196 ≤ vec_capacity out.new) }
+        ensures known { OnOk result (HasLine self.old line) }
+        ensures unknown { ¬ HasLine self.old line → result ≡ Err HubFault.UnknownLine }
+        ensures memory { HasLine self.old line → OnErr result ((result ≡ Err HubFault.Memory) × (vec_capacity out.old < vec_len out.old + 8196)) }
+        ensures err { OnErr result ((self.new ≡ self.old) × (out.new.items ≡ out.old.items) × (vec_capacity out.new ≡ vec_capacity out.old)) }
+    {
+        self.signal(line, Signal::Garbled, out)
+    }
+
+    /// The loss of a line. Refusals and `out` are those of `take`.
+    pub fn lost(&mut self, line: LineId, out: &mut Vec<u8>) -> Result<(), HubFault>
+        ensures hub { OnOk result (self.new ≡ slice_set self.old line.customer (part_hears (part line.customer self.old) line.line Signal.Lost).after) }
+        ensures frame { OnOk result (out.new.items ≡ (part_hears (part line.customer self.old) line.line Signal.Lost).frame) }
+        ensures lines { SameLines self.old self.new }
+        ensures room { OnOk result (8196 ≤ vec_capacity out.new) }
+        ensures known { OnOk result (HasLine self.old line) }
+        ensures unknown { ¬ HasLine self.old line → result ≡ Err HubFault.UnknownLine }
+        ensures memory { HasLine self.old line → OnErr result ((result ≡ Err HubFault.Memory) × (vec_capacity out.old < vec_len out.old + 8196)) }
+        ensures err { OnErr result ((self.new ≡ self.old) × (out.new.items ≡ out.old.items) × (vec_capacity out.new ≡ vec_capacity out.old)) }
+    {
+        self.signal(line, Signal::Lost, out)
+    }
+
+    /// One step by a signal on a line. Refusals and `out` are those of `take`.
+    pub(crate) fn signal(
+        &mut self,
+        line: LineId,
+        signal: Signal,
+        out: &mut Vec<u8>,
+    ) -> Result<(), HubFault>
+        ensures hub { OnOk result (self.new ≡ slice_set self.old line.customer (part_hears (part line.customer self.old) line.line signal).after) }
+        ensures frame { OnOk result (out.new.items ≡ (part_hears (part line.customer self.old) line.line signal).frame) }
+        ensures lines { SameLines self.old self.new }
+        ensures room { OnOk result (8196 ≤ vec_capacity out.new) }
+        ensures known { OnOk result (HasLine self.old line) }
+        ensures unknown { ¬ HasLine self.old line → result ≡ Err HubFault.UnknownLine }
+        ensures memory { HasLine self.old line → OnErr result ((result ≡ Err HubFault.Memory) × (vec_capacity out.old < vec_len out.old + 8196)) }
+        ensures err { OnErr result ((self.new ≡ self.old) × (out.new.items ≡ out.old.items) × (vec_capacity out.new ≡ vec_capacity out.old)) }
+    {
+        if !self.is_line(line) {
+            return Err(HubFault::UnknownLine);
+        }
+        make_room(out)?;
+        let customer = self.tables.customer(line.customer);
+        let lines = &mut self.lines[usize::from(line.customer)];
+        lines.hear(customer, line.line, signal, out);
+        Ok(())
+    }
+}
+
+/// Empties `out`, once it has the room for any frame past what it held.
+fn make_room(out: &mut Vec<u8>) -> Result<(), HubFault>
+    ensures ok { OnOk result ((out.new.items ≡ []) × (8196 ≤ vec_capacity out.new)) }
+    ensures memory { OnErr result ((result ≡ Err HubFault.Memory) × (vec_capacity out.old < vec_len out.old + 8196)) }
+    ensures err { OnErr result ((out.new.items ≡ out.old.items) × (vec_capacity out.new ≡ vec_capacity out.old)) }
+{
+    match out.reserve(LONGEST_FRAME) {
+        Ok(()) => {
+            out.clear();
+            Ok(())
+        }
+        Err(_) => Err(HubFault::Memory),
+    }
+}

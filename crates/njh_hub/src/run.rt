@@ -1,0 +1,195 @@
+//! Runs over lists of events.
+
+ghost use Rattle.std.specs.Prelude.{◌≡◌, ℕ, ◌+◌, ◌<◌, ◌≤◌, List, [], ◌∷◌, length, slice_get, option_map, OnOk, OnErr, IfErr, IsSomeAnd, All};
+ghost use Rattle.std.specs.Vec.{vec_len, vec_capacity};
+ghost use Rattle.njh_hub.specs.Runs.{alone_run, OwnSignal};
+ghost use Rattle.njh_hub.specs.Feeding.{sent_on};
+ghost use Rattle.njh_hub.specs.Own.{line_of, own, events_of, sent_to, bytes_in_event};
+ghost use Rattle.njh_hub.specs.Whole.{part, HasLine, SameLines, sent_by, hub_run};
+ghost use Rattle.njh_hub.specs.Sent.{added, IsCounted};
+ghost use Rattle.njh_hub.specs.Stops.{done, taken_of, IsWithinOne};
+ghost use Rattle.njh_hub.specs.declared.event.Event.TheVariants.{Bytes};
+
+use crate::event::{Event, Signal};
+use crate::fault::{Cause, HubFault, RunFault};
+use crate::hub::Hub;
+use crate::sink::{Sink, SinkFault};
+use njh_table::LineId;
+
+impl Hub {
+    /// Works off the events in order, and hands each frame that is sent to the sink. Stops at the first fault.
+    ///
+    /// For every customer, whatever the others do: its part of the hub is what its own events lead it to by itself, and the sink was handed
+    /// on its lines what it sends by itself.
+    pub fn run<S: Sink>(&mut self, events: &[Event], sink: &mut S) -> Result<(), RunFault>
+        // For each customer: its part, and in order the frames on its lines, are those of that customer alone.
+        ensures parts { (c : ℕ) → c < length self.old → part c self.new ≡ (alone_run (part c self.old) (events_of c (done events.now result))).after }
+        ensures sent { OnOk result ((c : ℕ) → c < length self.old →
+            option_map (sent_to c) (S.sent sink.new) ≡ added (option_map (sent_to c) (S.sent sink.old)) (alone_run (part c self.old) (events_of c events.now)).sent) }
+
+        // The sink took the frames of what was done; with cause Sink all but the last.
+        ensures handed { S.sent sink.new ≡ added (S.sent sink.old) (taken_of result (hub_run self.old (done events.now result)).sent) }
+        ensures refused { IfErr result (λ fault. fault.cause ≡ Cause.Sink → 0 < length (hub_run self.old (done events.now result)).sent) }
+
+        // When it stops, and where.
+        ensures known { OnOk result (All (λ event. HasLine self.old (line_of event)) events.now) }
+        ensures within { IfErr result (λ fault. 0 < fault.bytes → IsSomeAnd (slice_get events.now fault.events) (λ event. fault.bytes < bytes_in_event event)) }
+        ensures unknown { IfErr result (λ fault. fault.cause ≡ Cause.Hub HubFault.UnknownLine →
+            IsSomeAnd (slice_get events.now fault.events) (λ event. ¬ HasLine self.old (line_of event))) }
+        ensures memory { IfErr result (λ fault. fault.cause ≡ Cause.Hub HubFault.Memory → (fault.events ≡ 0) × (fault.bytes ≡ 0)) }
+        ensures counted { IfErr result (λ fault. fault.cause ≡ Cause.Sink → IsCounted (S.count sink.old) (S.count sink.new)) }
+    {
+        let mut out = Vec::new(self.allocator());
+        for (index, event) in events.iter().enumerate() {
+            match self.run_event(event, &mut out, sink) {
+                Ok(()) => {}
+                Err(fault) => return Err(fault.after(index)),
+            }
+        }
+        Ok(())
+    }
+
+    /// One event. A fault speaks of it as of the only one.
+    fn run_event<S: Sink>(
+        &mut self,
+        event: &Event,
+        out: &mut Vec<u8>,
+        sink: &mut S,
+    ) -> Result<(), RunFault>
+        ensures parts { self.new ≡ (hub_run self.old (done (event.now ∷ []) result)).parts }
+        ensures handed { S.sent sink.new ≡ added (S.sent sink.old) (taken_of result (hub_run self.old (done (event.now ∷ []) result)).sent) }
+        ensures refused { IfErr result (λ fault. fault.cause ≡ Cause.Sink → 0 < length (hub_run self.old (done (event.now ∷ []) result)).sent) }
+        ensures known { OnOk result (HasLine self.old (line_of event.now)) }
+        ensures lines { SameLines self.old self.new }
+        ensures room { OnOk result (8196 ≤ vec_capacity out.new) }
+        ensures one { IfErr result (IsWithinOne (event.now)) }
+        ensures unknown { IfErr result (λ fault. fault.cause ≡ Cause.Hub HubFault.UnknownLine → (fault.events ≡ 0) × ¬ HasLine self.old (line_of event.now)) }
+        ensures memory { IfErr result (λ fault. fault.cause ≡ Cause.Hub HubFault.Memory → (fault.events ≡ 0) × (fault.bytes ≡ 0) × (vec_capacity out.old < 8196)) }
+        ensures counts { S.count sink.old ≤ S.count sink.new }
+        ensures counted { IfErr result (λ fault. fault.cause ≡ Cause.Sink → IsCounted (S.count sink.old) (S.count sink.new)) }
+    {
+        match event {
+            Event::Bytes(line, piece) => self.run_bytes(*line, piece.bytes(), out, sink),
+            Event::Tick(_) => self.run_signal(event, Signal::Tick, out, sink),
+            Event::Garbled(_) => self.run_signal(event, Signal::Garbled, out, sink),
+            Event::Lost(_) => self.run_signal(event, Signal::Lost, out, sink),
+        }
+    }
+
+    /// The signal of an event.
+    fn run_signal<S: Sink>(
+        &mut self,
+        event: &Event,
+        signal: Signal,
+        out: &mut Vec<u8>,
+        sink: &mut S,
+    ) -> Result<(), RunFault>
+        requires { own event.now ≡ OwnSignal signal (line_of event.now).line }
+        ensures parts { self.new ≡ (hub_run self.old (done (event.now ∷ []) result)).parts }
+        ensures handed { S.sent sink.new ≡ added (S.sent sink.old) (taken_of result (hub_run self.old (done (event.now ∷ []) result)).sent) }
+        ensures refused { IfErr result (λ fault. fault.cause ≡ Cause.Sink → 0 < length (hub_run self.old (done (event.now ∷ []) result)).sent) }
+        ensures known { OnOk result (HasLine self.old (line_of event.now)) }
+        ensures lines { SameLines self.old self.new }
+        ensures room { OnOk result (8196 ≤ vec_capacity out.new) }
+        ensures one { IfErr result (IsWithinOne (event.now)) }
+        ensures unknown { IfErr result (λ fault. fault.cause ≡ Cause.Hub HubFault.UnknownLine → (fault.events ≡ 0) × ¬ HasLine self.old (line_of event.now)) }
+        ensures memory { IfErr result (λ fault. fault.cause ≡ Cause.Hub HubFault.Memory → (fault.events ≡ 0) × (fault.bytes ≡ 0) × (vec_capacity out.old < 8196)) }
+        ensures counts { S.count sink.old ≤ S.count sink.new }
+        ensures counted { IfErr result (λ fault. fault.cause ≡ Cause.Sink → IsCounted (S.count sink.old) (S.count sink.new)) }
+    {
+        let line = event.line();
+        out.clear();
+        match self.signal(line, signal, out) {
+            Ok(()) => {}
+            Err(fault) => return Err(RunFault {
+                events: 0,
+                bytes: 0,
+                cause: Cause::Hub(fault),
+            }),
+        }
+        match hand_over(line, out, sink) {
+            Ok(()) => Ok(()),
+            Err(_) => Err(RunFault {
+                events: 1,
+                bytes: 0,
+                cause: Cause::Sink,
+            }),
+        }
+    }
+
+    /// The bytes of an event, in as many steps as they need.
+    fn run_bytes<S: Sink>(
+        &mut self,
+        line: LineId,
+        piece: &[u8],
+        out: &mut Vec<u8>,
+        sink: &mut S,
+    ) -> Result<(), RunFault>
+        ensures parts { self.new ≡ (hub_run self.old (done (Bytes line piece.now ∷ []) result)).parts }
+        ensures handed { S.sent sink.new ≡ added (S.sent sink.old) (taken_of result (hub_run self.old (done (Bytes line piece.now ∷ []) result)).sent) }
+        ensures refused { IfErr result (λ fault. fault.cause ≡ Cause.Sink → 0 < length (hub_run self.old (done (Bytes line piece.now ∷ []) result)).sent) }
+        ensures known { OnOk result (HasLine self.old line) }
+        ensures lines { SameLines self.old self.new }
+        ensures room { OnOk result (8196 ≤ vec_capacity out.new) }
+        ensures one { IfErr result (IsWithinOne (Bytes line piece.now)) }
+        ensures unknown { IfErr result (λ fault. fault.cause ≡ Cause.Hub HubFault.UnknownLine → (fault.events ≡ 0) × ¬ HasLine self.old line) }
+        ensures memory { IfErr result (λ fault. fault.cause ≡ Cause.Hub HubFault.Memory → (fault.events ≡ 0) × (fault.bytes ≡ 0) × (vec_capacity out.old < 8196)) }
+        ensures counts { S.count sink.old ≤ S.count sink.new }
+        ensures counted { IfErr result (λ fault. fault.cause ≡ Cause.Sink → IsCounted (S.count sink.old) (S.count sink.new)) }
+    {
+        let mut taken = 0;
+        loop {
+            let (_, left) = piece.split_at(taken);
+            out.clear();
+            match self.take(line, left, out) {
+                Ok(used) => taken += used,
+                Err(fault) => return Err(RunFault {
+                    events: 0,
+                    bytes: taken,
+                    cause: Cause::Hub(fault),
+                }),
+            }
+            match hand_over(line, out, sink) {
+                Ok(()) => {}
+                Err(_) => return Err(after_sink(taken, piece.len())),
+            }
+            if taken >= piece.len() {
+                return Ok(());
+            }
+        }
+    }
+}
+
+/// Where a run stands whose sink refused the frame of a step that took bytes up to here: the event is done with its last step.
+fn after_sink(taken: usize, len: usize) -> RunFault
+    ensures cause { result.cause ≡ Cause.Sink }
+    ensures whole { len ≤ taken → (result.events ≡ 1) × (result.bytes ≡ 0) }
+    ensures part { taken < len → (result.events ≡ 0) × (result.bytes ≡ taken) }
+{
+    if taken < len {
+        RunFault {
+            events: 0,
+            bytes: taken,
+            cause: Cause::Sink,
+        }
+    } else {
+        RunFault {
+            events: 1,
+            bytes: 0,
+            cause: Cause::Sink,
+        }
+    }
+}
+
+/// Hands the frame of a step to the sink, where one was sent.
+fn hand_over<S: Sink>(line: LineId, frame: &[u8], sink: &mut S) -> Result<(), SinkFault>
+    ensures ok { OnOk result (S.sent sink.new ≡ added (S.sent sink.old) (sent_by line.customer (sent_on line.line frame.now))) }
+    ensures err { OnErr result ((S.sent sink.new ≡ S.sent sink.old) × (0 < length frame.now)) }
+    ensures counts { S.count sink.old ≤ S.count sink.new }
+    ensures counted { OnErr result (IsCounted (S.count sink.old) (S.count sink.new)) }
+{
+    if frame.is_empty() {
+        return Ok(());
+    }
+    sink.send(line, frame)
+}

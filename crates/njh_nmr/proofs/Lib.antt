@@ -1,0 +1,4 @@
+pub mod Flags
+pub mod Nodes
+pub mod Places
+pub mod RoundTrip

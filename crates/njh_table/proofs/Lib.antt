@@ -1,0 +1,9 @@
+pub mod BaseValue
+pub mod EntryLaws
+pub mod LineOwners
+pub mod MapLaws
+pub mod OwnersLaws
+pub mod RouteLaws
+pub mod Steps
+pub mod WalkLaws
+pub mod WalkSteps

@@ -1,0 +1,7 @@
+use Rattle.std.proofs.Common.{refl}
+use Rattle.toml.specs.View.{table_view}
+use Rattle.njh_table.proofs.WalkLaws.{told_of_toml}
+use Rattle.njh_table.proofs.tables.Tables.read.Goals as goal
+
+pub returns-in-Ok-clause-no_toml : goal.returns-in-Ok-clause-no_toml
+returns-in-Ok-clause-no_toml c = told_of_toml c.tables_in.result (λ t. t) c.args.text.now (table_view c.in-Ok.document) c.in-Ok.ensures.ok c.tables_in.ensures

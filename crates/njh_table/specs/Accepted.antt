@@ -1,0 +1,40 @@
+-- What holds of every table that is accepted: the limits, names that differ, and quotas that add to at most the capacity.
+use Rattle.std.specs.Prelude.{◌≡◌, ◌≢◌, ℕ, ◌<◌, ◌≤◌, List, ◌∷◌, length, map, sum_by, All, AllPairs, None, IsTrue}
+use Rattle.njh_table.specs.Entries.{RouteEntry}
+use Rattle.njh_table.specs.TableFile.{NamedLine, NamedCustomer, TableFile, line_names}
+use Rattle.njh_table.specs.Walk.{is_line_name}
+
+abbrev pub IsBetween : ℕ → ℕ → ℕ → Type 0
+IsBetween low high n = (low ≤ n) × (n ≤ high)
+
+abbrev pub AreDistinct : List (List ℕ) → Type 0
+AreDistinct names = AllPairs (λ a b. a ≢ b) names
+
+pub record IsLine (l : NamedLine) : Type 0 where
+  pub name : IsTrue (is_line_name l.name)
+  pub block : IsBetween 300 4096 l.entry.block
+  pub streams : IsBetween 1 4 l.entry.streams
+  pub port : l.port ≤ 65535
+
+-- a route of a customer with so many lines
+pub record IsRoute (lines : ℕ) (r : RouteEntry) : Type 0 where
+  pub line : r.line < lines
+  pub second : r.second ≡ None
+
+pub record IsCustomer (c : NamedCustomer) : Type 0 where
+  pub quota : IsBetween 1 65535 c.quota
+  pub files : IsBetween 1 1024 c.files
+  pub lines : All IsLine c.lines
+  pub routes : length c.routes ≤ 512
+  pub each_route : All (IsRoute (length c.lines)) c.routes
+  -- a node has one route at most, and the hub's own name has none
+  pub nodes : AreDistinct (c.hub ∷ map (λ r. r.node) c.routes)
+
+pub record IsAccepted (t : TableFile) : Type 0 where
+  pub capacity : IsBetween 1 4194240 t.capacity
+  pub customers : IsBetween 1 64 (length t.customers)
+  pub names : AreDistinct (map (λ c. c.name) t.customers)
+  pub each : All IsCustomer t.customers
+  pub lines : length (line_names t.customers) ≤ 256
+  pub line_names : AreDistinct (line_names t.customers)
+  pub quotas : sum_by (λ c. c.quota) t.customers ≤ t.capacity

@@ -1,0 +1,91 @@
+-- What a table file holds: the hub's capacity, and its customers with their lines and routes.
+use Rattle.std.specs.Prelude.{ℕ, ◌+◌, ◌<◌, List, [], ◌∷◌, ◌++◌, length, map, slice_index_or, Option, Some, None, option_and_then, bytes_eq, ◌==◌, if◌then◌else◌}
+use Rattle.std.specs.List.{flat_map}
+use Rattle.std.specs.Map.{lookup}
+use Rattle.njh_table.specs.declared.LineId.{LineId}
+use Rattle.njh_table.specs.declared.Role.TheVariants.{Answer}
+use Rattle.njh_table.specs.Entries.{LineEntry, RouteEntry, CustomerEntry}
+
+-- a line: its name on the hub (text), its port, and what its customer's entry says of it
+pub record NamedLine : Type 0 where
+  pub name : List ℕ
+  pub port : ℕ
+  pub entry : LineEntry
+
+-- a customer: its name, and what its entry says
+pub record NamedCustomer : Type 0 where
+  pub name : List ℕ
+  pub hub : List ℕ
+  pub quota : ℕ
+  pub files : ℕ
+  pub lines : List NamedLine
+  pub routes : List RouteEntry
+
+pub record TableFile : Type 0 where
+  pub capacity : ℕ
+  pub customers : List NamedCustomer
+
+-- the entry by which a customer's files and messages go
+abbrev pub entry_of : NamedCustomer → CustomerEntry
+entry_of c = record { hub = c.hub; quota = c.quota; files = c.files; lines = map (λ l. l.entry) c.lines; routes = c.routes }
+
+-- a password, where there is one, or no bytes
+abbrev pub password_bytes : Option (List ℕ) → List ℕ
+password_bytes None = []
+password_bytes (Some name) = name
+
+-- the number of the line that a node has a route by
+abbrev pub routed_line : List RouteEntry → List ℕ → Option ℕ
+routed_line [] node = None
+routed_line (r ∷ routes) node = if bytes_eq r.node node then Some r.line else routed_line routes node
+
+-- the entry of a node and the number of its line
+abbrev pub routed : List ℕ × ℕ → RouteEntry
+routed r = record { node = r.0; line = r.1; second = None }
+
+-- ---- the customers and lines of a table by their numbers
+
+-- where there is no such customer, one without lines
+abbrev pub no_customer : NamedCustomer
+no_customer = record { name = []; hub = []; quota = 0; files = 0; lines = []; routes = [] }
+
+abbrev pub no_line : NamedLine
+no_line = record { name = []; port = 0; entry = record { node = []; role = Answer; block = 0; streams = 0; password = [] } }
+
+abbrev pub customer_at : TableFile → ℕ → NamedCustomer
+customer_at t c = slice_index_or t.customers c no_customer
+
+abbrev pub HasLine : TableFile → LineId → Type 0
+HasLine t line = line.line < length (customer_at t line.customer).lines
+
+abbrev pub line_at : TableFile → LineId → NamedLine
+line_at t line = slice_index_or (customer_at t line.customer).lines line.line no_line
+
+-- ---- the lines of the hub by their names
+
+abbrev pub line_names : List NamedCustomer → List (List ℕ)
+line_names customers = flat_map (λ c. map (λ l. l.name) c.lines) customers
+
+abbrev pub Owners : Type 0
+Owners = List (List ℕ × LineId)
+
+abbrev pub names_in : Owners → List (List ℕ)
+names_in owners = map (λ o. o.0) owners
+
+-- the lines of a customer, from the one of a number on
+abbrev pub line_owners : ℕ → ℕ → List NamedLine → Owners
+line_owners customer line [] = []
+line_owners customer line (l ∷ lines) = (l.name, record { customer = customer; line = line }) ∷ line_owners customer (line + 1) lines
+
+-- the number of the line of a name, where it is of this customer
+abbrev pub own_line : Owners → ℕ → List ℕ → Option ℕ
+own_line owners customer name = option_and_then (λ o. if o.customer == customer then Some o.line else None) (lookup (bytes_eq name) owners)
+
+-- the lines of all customers, from the one of a number on
+abbrev pub owners_from : ℕ → List NamedCustomer → Owners
+owners_from customer [] = []
+owners_from customer (c ∷ customers) = line_owners customer 0 c.lines ++ owners_from (customer + 1) customers
+
+-- the line of a name
+abbrev pub owner_of : TableFile → List ℕ → Option LineId
+owner_of t name = lookup (bytes_eq name) (owners_from 0 t.customers)

@@ -1,0 +1,96 @@
+//! A customer's entry in the table.
+
+ghost use Rattle.std.specs.Prelude.{◌≡◌, ◌<◌, length, slice_get, Some};
+ghost use Rattle.njh_table.specs.Entries.{route_of};
+ghost use Rattle.njh_table.specs.TableFile.{entry_of, routed};
+
+use crate::Route;
+use crate::line::Line;
+use crate::routes::Routes;
+use njh_ebcdic::Name;
+use std::marker::Model;
+
+/// A customer: its name, and what its entry says of its private network.
+#[derive(Drop)]
+pub struct Customer {
+    pub(crate) name: Name,
+    pub(crate) hub: Name,
+    pub(crate) quota: u32,
+    pub(crate) files: u32,
+    pub(crate) lines: Vec<Line>,
+    pub(crate) routes: Routes,
+}
+
+impl Model for Customer {
+    ghost use Rattle.njh_table.specs.TableFile.{NamedCustomer};
+
+    ghost Value = { NamedCustomer };
+
+    ghost view = { λ c. record { name = c.name; hub = c.hub; quota = c.quota; files = c.files; lines = c.lines.items; routes = c.routes } };
+}
+
+impl Customer {
+    /// The customer's name.
+    pub fn name(&self) -> Name
+        ensures { result ≡ self.now.name }
+    {
+        self.name
+    }
+
+    /// The name that the hub has in the customer's network.
+    pub fn hub(&self) -> Name
+        ensures { result ≡ self.now.hub }
+    {
+        self.hub
+    }
+
+    /// How many blocks of the spool the customer may use.
+    pub fn quota(&self) -> u32
+        ensures { result ≡ self.now.quota }
+    {
+        self.quota
+    }
+
+    /// How many files the customer may have on the spool, whole and partial ones.
+    pub fn files(&self) -> u32
+        ensures { result ≡ self.now.files }
+    {
+        self.files
+    }
+
+    /// The lines, in the order of the file.
+    pub fn lines(&self) -> &[Line]
+        ensures { result.now ≡ self.now.lines }
+    {
+        self.lines.as_slice()
+    }
+
+    /// How many routes there are.
+    pub fn routes(&self) -> usize
+        ensures { result ≡ length self.now.routes }
+    {
+        self.routes.len()
+    }
+
+    /// The node of a route and the number of its line, by the route's place in the file.
+    pub fn route_at(&self, index: usize) -> (Name, u16)
+        requires { index < length self.now.routes }
+        ensures { slice_get self.now.routes index ≡ Some (routed result) }
+    {
+        self.routes.at(index)
+    }
+
+    /// Where a node's files and messages go.
+    #[tactic(auto, using(crate::proofs::RouteLaws::route_in_routed))]
+    pub fn route(&self, node: Name) -> Route
+        ensures { result ≡ route_of (entry_of self.now) node }
+    {
+        if self.hub == node {
+            return Route::Here;
+        }
+        match self.routes.get(node) {
+            Some(line) => Route::Line(line),
+            None => Route::Unknown,
+        }
+    }
+}

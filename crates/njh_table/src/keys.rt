@@ -1,0 +1,172 @@
+//! The values of a table's keys. A key that must be there and isn't is `MissingKey`; a value of another type or out of range is `BadValue`.
+
+ghost use Rattle.std.specs.Prelude.{◌≡◌, ◌≤◌, [], IfOk, ok_or, option_map};
+ghost use Rattle.std.specs.List.{list_all};
+ghost use Rattle.std.specs.Result.{result_map_both};
+ghost use Rattle.toml.specs.Data.{get_member, as_str, as_array, as_table, no_items};
+ghost use Rattle.toml.specs.View.{view, table_view, items_view};
+ghost use Rattle.njh_table.specs.Walk.{number, node_name, line_name, is_line_name, is_letter_or_digit, role, password, at_key, at_key_or, keys_in};
+ghost use Rattle.njh_table.specs.TableFile.{password_bytes};
+
+use crate::Role;
+use crate::fault::TableFault;
+use njh_ebcdic::Name;
+use toml::{Table, Value};
+
+/// The keys of an element of a list.
+pub fn keys_in(value: &Value) -> Result<&Table, TableFault>
+    ensures { result_map_both (λ t. table_view t.now) (λ f. f) result ≡ keys_in (view value.now) }
+{
+    match value.as_table() {
+        Some(keys) => Ok(keys),
+        None => Err(TableFault::BadValue),
+    }
+}
+
+fn find<'a>(keys: &'a Table, key: &str) -> Option<&'a Value>
+    ensures { option_map (λ v. view v.now) result ≡ get_member key.now (table_view keys.now) }
+{
+    keys.get(key)
+}
+
+/// The value of a key that must be there.
+fn value_at<'a>(keys: &'a Table, key: &str) -> Result<&'a Value, TableFault>
+    ensures { result_map_both (λ v. view v.now) (λ f. f) result ≡ ok_or (get_member key.now (table_view keys.now)) TableFault.MissingKey }
+{
+    match find(keys, key) {
+        Some(value) => Ok(value),
+        None => Err(TableFault::MissingKey),
+    }
+}
+
+fn number_in(value: &Value, low: u32, high: u32) -> Option<u32>
+    ensures read { result ≡ number low high (view value.now) }
+{
+    let number = u32::try_from(value.as_integer()?).ok()?;
+    (low <= number && number <= high).then_some(number)
+}
+
+/// A whole number between two, both among them.
+pub fn number_at(keys: &Table, key: &str, low: u32, high: u32) -> Result<u32, TableFault>
+    ensures read { result ≡ at_key (number low high) key.now (table_view keys.now) }
+    ensures low { IfOk result (λ n. low ≤ n) }
+    ensures high { IfOk result (λ n. n ≤ high) }
+{
+    match number_in(value_at(keys, key)?, low, high) {
+        Some(number) => Ok(number),
+        None => Err(TableFault::BadValue),
+    }
+}
+
+/// A name of a node or a hub.
+pub fn name_at(keys: &Table, key: &str) -> Result<Name, TableFault>
+    ensures { result ≡ at_key node_name key.now (table_view keys.now) }
+{
+    let text = text_at(keys, key)?;
+    Name::of_text(text).map_err(|_| TableFault::BadValue)
+}
+
+/// Any text.
+pub fn text_at<'a>(keys: &'a Table, key: &str) -> Result<&'a str, TableFault>
+    ensures { result_map_both (λ t. t.now) (λ f. f) result ≡ at_key as_str key.now (table_view keys.now) }
+{
+    match value_at(keys, key)?.as_str() {
+        Some(text) => Ok(text),
+        None => Err(TableFault::BadValue),
+    }
+}
+
+/// A line's name: 1 to 8 letters and digits of ASCII.
+pub fn line_name_at<'a>(keys: &'a Table, key: &str) -> Result<&'a str, TableFault>
+    ensures { result_map_both (λ t. t.now) (λ f. f) result ≡ at_key line_name key.now (table_view keys.now) }
+{
+    let name = text_at(keys, key)?;
+    if is_line_name(name.as_bytes()) {
+        Ok(name)
+    } else {
+        Err(TableFault::BadValue)
+    }
+}
+
+fn is_line_name(name: &[u8]) -> bool
+    ensures { result ≡ is_line_name name.now }
+{
+    1 <= name.len() && name.len() <= 8 && are_letters_or_digits(name)
+}
+
+fn are_letters_or_digits(text: &[u8]) -> bool
+    ensures { result ≡ list_all is_letter_or_digit text.now }
+{
+    text.iter().all(|c| is_letter_or_digit(*c))
+}
+
+fn is_letter_or_digit(c: u8) -> bool
+    ensures { result ≡ is_letter_or_digit c }
+{
+    matches!(c, b'0'..=b'9' | b'A'..=b'Z' | b'a'..=b'z')
+}
+
+/// Which end of a line makes contact: `call` or `answer`.
+pub fn role_at(keys: &Table, key: &str) -> Result<Role, TableFault>
+    ensures { result ≡ at_key role key.now (table_view keys.now) }
+{
+    match text_at(keys, key)? {
+        "call" => Ok(Role::Call),
+        "answer" => Ok(Role::Answer),
+        _ => Err(TableFault::BadValue),
+    }
+}
+
+/// A password, which may be missing or empty.
+pub fn password_at(keys: &Table, key: &str) -> Result<Option<Name>, TableFault>
+    ensures { result_map_both password_bytes (λ f. f) result ≡ at_key_or password [] key.now (table_view keys.now) }
+{
+    let Some(value) = find(keys, key) else {
+        return Ok(None);
+    };
+    match value.as_str() {
+        None => Err(TableFault::BadValue),
+        Some("") => Ok(None),
+        Some(text) => match Name::of_text(text) {
+            Ok(name) => Ok(Some(name)),
+            Err(_) => Err(TableFault::BadValue),
+        },
+    }
+}
+
+/// A whole number between two, both among them, which is 0 where the key is missing.
+pub fn number_or_zero_at(keys: &Table, key: &str, low: u32, high: u32) -> Result<u32, TableFault>
+    ensures read { result ≡ at_key_or (number low high) 0 key.now (table_view keys.now) }
+    ensures high { IfOk result (λ n. n ≤ high) }
+{
+    match find(keys, key) {
+        None => Ok(0),
+        Some(value) => match number_in(value, low, high) {
+            Some(number) => Ok(number),
+            None => Err(TableFault::BadValue),
+        },
+    }
+}
+
+/// The elements of a list.
+pub fn list_at<'a>(keys: &'a Table, key: &str) -> Result<&'a [Value], TableFault>
+    ensures { result_map_both (λ v. items_view v.now) (λ f. f) result ≡ at_key as_array key.now (table_view keys.now) }
+{
+    match value_at(keys, key)?.as_array() {
+        Some(list) => Ok(list.as_slice()),
+        None => Err(TableFault::BadValue),
+    }
+}
+
+/// The elements of a list, which may be missing.
+pub fn list_or_empty_at<'a>(keys: &'a Table, key: &str) -> Result<&'a [Value], TableFault>
+    ensures { result_map_both (λ v. items_view v.now) (λ f. f) result ≡ at_key_or as_array no_items key.now (table_view keys.now) }
+{
+    match find(keys, key) {
+        None => Ok(&[]),
+        Some(value) => match value.as_array() {
+            Some(list) => Ok(list.as_slice()),
+            None => Err(TableFault::BadValue),
+        },
+    }
+}

@@ -1,0 +1,80 @@
+//! A line's entry in the table.
+
+ghost use Rattle.std.specs.Prelude.{◌≡◌, Some, None};
+ghost use Rattle.njh_table.specs.TableFile.{password_bytes};
+
+use crate::Role;
+use njh_ebcdic::Name;
+use std::marker::Model;
+
+/// A line: its name on this hub, and what its customer's entry says of it.
+#[derive(Drop)]
+pub struct Line {
+    pub(crate) name: String,
+    pub(crate) node: Name,
+    pub(crate) role: Role,
+    pub(crate) block: u16,
+    pub(crate) streams: u8,
+    pub(crate) password: Option<Name>,
+    pub(crate) port: u16,
+}
+
+impl Model for Line {
+    ghost use Rattle.std.specs.String.{string_bytes};
+    ghost use Rattle.njh_table.specs.TableFile.{NamedLine, password_bytes};
+
+    ghost Value = { NamedLine };
+
+    ghost view = { λ l. record { name = string_bytes l.name; port = l.port; entry = record { node = l.node; role = l.role; block = l.block; streams = l.streams; password = password_bytes l.password } } };
+}
+
+impl Line {
+    /// The name: 1 to 8 letters and digits of ASCII.
+    pub fn name(&self) -> &str
+        ensures { result.now ≡ self.now.name }
+    {
+        self.name.as_str()
+    }
+
+    /// The node at the other end.
+    pub fn node(&self) -> Name
+        ensures { result ≡ self.now.entry.node }
+    {
+        self.node
+    }
+
+    /// Which end makes contact.
+    pub fn role(&self) -> Role
+        ensures { result ≡ self.now.entry.role }
+    {
+        self.role
+    }
+
+    /// The greatest size of a block's text, in bytes before doubling.
+    pub fn block(&self) -> u16
+        ensures { result ≡ self.now.entry.block }
+    {
+        self.block
+    }
+
+    /// How many SYSIN streams the line has, and as many SYSOUT streams.
+    pub fn streams(&self) -> u8
+        ensures { result ≡ self.now.entry.streams }
+    {
+        self.streams
+    }
+
+    /// The password that a sign-on must give, if one is wanted.
+    pub fn password(&self) -> Option<Name>
+        ensures { password_bytes result ≡ self.now.entry.password }
+    {
+        self.password
+    }
+
+    /// The port on which the line's peer connects; 0 where there is none.
+    pub fn port(&self) -> u16
+        ensures { result ≡ self.now.port }
+    {
+        self.port
+    }
+}

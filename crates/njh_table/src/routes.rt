@@ -1,0 +1,66 @@
+//! A customer's routes.
+
+ghost use Rattle.std.specs.Prelude.{◌≡◌, ◌<◌, ◌++◌, [], ◌∷◌, length, slice_get, None, Some, OnOk};
+ghost use Rattle.njh_table.specs.TableFile.{routed, routed_line};
+
+use indexmap::IndexMap;
+use njh_ebcdic::Name;
+use std::alloc::{AllocError, Global};
+use std::marker::Model;
+
+/// The nodes that a customer has routes for, each with the number of the line, in the order of the file.
+#[derive(Drop)]
+pub(crate) struct Routes {
+    lines: IndexMap<Name, u16>,
+}
+
+impl Model for Routes {
+    ghost use Rattle.std.specs.Prelude.{List, map};
+    ghost use Rattle.njh_table.specs.Entries.{RouteEntry};
+    ghost use Rattle.njh_table.specs.TableFile.{routed};
+
+    ghost Value = { List RouteEntry };
+
+    ghost view = { λ r. map routed r.lines.entries };
+}
+
+impl Routes {
+    pub(crate) fn new(alloc: Global) -> Routes
+        ensures { result ≡ [] }
+    {
+        Routes {
+            lines: IndexMap::new(alloc),
+        }
+    }
+
+    pub(crate) fn len(&self) -> usize
+        ensures { result ≡ length self.now }
+    {
+        self.lines.len()
+    }
+
+    /// The node and the number of its line, by their place in the file.
+    pub(crate) fn at(&self, index: usize) -> (Name, u16)
+        requires { index < length self.now }
+        ensures { slice_get self.now index ≡ Some (routed result) }
+    {
+        let (node, line) = self.lines.get_index(index).unwrap();
+        (*node, *line)
+    }
+
+    /// The number of a node's line.
+    pub(crate) fn get(&self, node: Name) -> Option<u16>
+        ensures { result ≡ routed_line self.now node }
+    {
+        self.lines.get(&node).copied()
+    }
+
+    /// Adds a route for a node that has none.
+    pub(crate) fn insert(&mut self, node: Name, line: u16) -> Result<(), AllocError>
+        requires { routed_line self.old node ≡ None }
+        ensures { OnOk result (self.new ≡ self.old ++ routed (node, line) ∷ []) }
+    {
+        self.lines.insert(node, line)?;
+        Ok(())
+    }
+}
