@@ -9,7 +9,8 @@ use Rattle.njh_block.specs.declared.fault.BlockFault.{BlockFault}
 use Rattle.njh_block.specs.declared.fault.BlockFault.TheVariants.{TooShort, BadBcb, BadFcs, BadRcb, BadRecord}
 use Rattle.njh_block.specs.Blocks.{Item, Block, items_in, is_bcb, is_fcs, block_with, where_good, read_block}
 use Rattle.njh_block.specs.Grammar.{Part, bytes_of, items_of, Front, IsBlock, IsBadRcb, IsBadRecord, StopsAt, IsFault}
-use Rattle.njh_block.proofs.GrammarLaws.{Split, Reads, with_items, with_items-Ok, with_items-Err, items_in-reads, items_in-parts, items_in-end, items_in-bad_rcb, items_in-bad_record, AreBytes-drop}
+use Rattle.njh_block.proofs.FirstLaws.{AreBytes-drop}
+use Rattle.njh_block.proofs.GrammarLaws.{Split, Reads, with_items, with_items-Ok, with_items-Err, items_in-reads, items_in-parts, items_in-end, items_in-bad_rcb, items_in-bad_record}
 
 -- ---- from the reading to the grammar
 

@@ -1,6 +1,9 @@
 pub mod Bits
+pub mod Forms
 pub mod Unspelling
 pub mod ReadingLaws
+pub mod FirstLaws
+pub mod GeneralLaws
 pub mod GrammarLaws
 pub mod BlockLaws
 pub mod WritingLaws

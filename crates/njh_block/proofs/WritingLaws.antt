@@ -17,7 +17,9 @@ use Rattle.njh_block.specs.declared.out.Out.{Out}
 use Rattle.njh_block.specs.declared.out.Out.TheVariants as out
 use Rattle.njh_block.specs.Shown.{outgoing, IsWritable}
 use Rattle.njh_block.specs.Writing.{Writing, IsWritten, is_general, AreWritten, has_room, with_last, read_back, writing_of, bytes_so_far, IsWriting}
-use Rattle.njh_block.proofs.GrammarLaws.{form_of-control, formed-first, items_in-first}
+use Rattle.njh_block.proofs.Forms.{form_of-control}
+use Rattle.njh_block.proofs.FirstLaws.{formed-first}
+use Rattle.njh_block.proofs.GrammarLaws.{items_in-first}
 
 -- ---- one more record
 

@@ -78,6 +78,7 @@ impl Bcb {
         self.byte
     }
 
+    /// What its count does.
     pub fn numbering(self) -> Numbering
         ensures { numbering_bits result ≡ self / 16 % 8 }
     {

@@ -73,20 +73,20 @@ impl<'a> Block<'a> {
     }
 
     /// The next record, where it is a general one: its SRCB, and the rest of the text.
-    #[tactic(auto, using(crate::proofs::GrammarLaws::general_first_in))]
+    #[tactic(auto, using(crate::proofs::GeneralLaws::general_first_in))]
     pub fn first_general(&self) -> Option<(u8, &'a [u8])>
         ensures { option_map (λ x. (x.0, x.1.now)) result ≡ general_first self.now.items }
     {
         general_record(self.rest)
     }
 
-    /// Takes the next record. The bytes of a `Data` are put in `record`, which any other leaves empty.
-    pub fn next(&mut self, record: &mut Record) -> Option<Item<'a>>
-        ensures first { option_map (shown record.new.items) result ≡ slice_get self.old.items 0 }
-        ensures bytes { record.new.items ≡ left_in self.old.items }
+    /// Takes the next record. The bytes of a `Data` are put in `contents`, which any other leaves empty.
+    pub fn next(&mut self, contents: &mut Record) -> Option<Item<'a>>
+        ensures first { option_map (shown contents.new.items) result ≡ slice_get self.old.items 0 }
+        ensures bytes { contents.new.items ≡ left_in self.old.items }
         ensures rest { self.new ≡ record self.old { items = drop 1 self.old.items } }
     {
-        let Ok(first) = first_record(self.rest, record) else {
+        let Ok(first) = first_record(self.rest, contents) else {
             unreachable!()
         };
         let (item, rest) = first?;

@@ -1,7 +1,7 @@
 //! Function control sequences.
 
-ghost use Rattle.std.specs.Prelude.{◌≡◌, ℕ, ◌≤◌, ◌&&◌, nat_le, nat_lt, cond};
-ghost use Rattle.njh_block.specs.Blocks.{all_suspended, messages_on, is_on};
+ghost use Rattle.std.specs.Prelude.{◌≡◌, ℕ, IsTrue, nat_lt, cond};
+ghost use Rattle.njh_block.specs.Blocks.{is_fcs, all_suspended, messages_on, is_on};
 
 use crate::stream::Stream;
 use njh_record::Kind;
@@ -21,7 +21,7 @@ impl Model for Fcs {
 
     ghost view = { λ f. (f.first, f.second) };
 
-    ghost invariant = { λ f. (0x80 ≤ f.first) × (0x80 ≤ f.second) };
+    ghost invariant = { λ f. IsTrue (is_fcs (f.first, f.second)) };
 
     ghost inverse = { λ p. record { first = p.0; second = p.1 } };
 }
@@ -37,7 +37,7 @@ const STREAMS: u8 = 0x0f;
 impl Fcs {
     /// The bytes as a function control sequence, if both begin with a bit 1.
     pub fn read(first: u8, second: u8) -> Option<Self>
-        ensures { result ≡ cond (nat_le 0x80 first && nat_le 0x80 second) (Some (first, second)) None }
+        ensures { result ≡ cond (is_fcs (first, second)) (Some (first, second)) None }
     {
         if first >= MARK && second >= MARK {
             Some(Fcs { first, second })
@@ -66,7 +66,8 @@ impl Fcs {
     }
 
     pub fn bytes(self) -> (u8, u8)
-        ensures { result ≡ self }
+        ensures value { result ≡ self }
+        ensures valid { IsTrue (is_fcs result) }
     {
         (self.first, self.second)
     }

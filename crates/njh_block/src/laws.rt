@@ -1,4 +1,4 @@
-//! What holds of blocks.
+//! Laws of the definitions. Each function does nothing: its contract is the law.
 
 ghost use Rattle.std.specs.Prelude.{◌≡◌, ℕ, List, Ok, Err, IsTrue, ◌↔◌};
 ghost use Rattle.njh_record.specs.Bytes.{AreBytes};
@@ -7,7 +7,6 @@ ghost use Rattle.njh_block.specs.Writing.{AreWritten, read_back};
 ghost use Rattle.njh_block.specs.Grammar.{IsBlock, IsFault};
 
 use crate::fault::BlockFault;
-use njh_record::reads_spellings;
 
 /// Reading gives exactly the block that a text is by the grammar, or the first fault from the left. So a text has one reading.
 pub fn one_reading()
@@ -16,7 +15,7 @@ pub fn one_reading()
     ensures one { (text : List ℕ) (b c : Block) → IsBlock text b → IsBlock text c → b ≡ c }
 {
     njh_record::one_reading();
-    reads_spellings();
+    njh_record::reads_spellings();
 }
 
 /// What is written is read back as the items that were written; a general one has taken the closing 00 too.

@@ -42,8 +42,16 @@ pub struct Rcb {
     pub byte: u8,
 }
 
+/// What ends a block in the place of an RCB.
+pub(crate) const END: u8 = 0x00;
+
+/// What a two-byte record has behind it where another byte follows.
+pub(crate) const OWN_ZERO: u8 = 0x00;
+
 /// The RCB of a general control record.
 pub(crate) const GENERAL: u8 = 0xf0;
+
+const FIRST: u8 = 0x80;
 
 const FIRST_OF_STREAMS: u8 = 0x90;
 
@@ -59,8 +67,8 @@ impl Rcb {
         ensures { result ≡ form_of self.byte }
     {
         match self.byte {
-            0x00 => Form::End,
-            ..0x80 => Form::Bad,
+            END => Form::End,
+            ..FIRST => Form::Bad,
             0x90 => Form::Control(ControlRcb::Request),
             0xa0 => Form::Control(ControlRcb::Permission),
             0xb0 => Form::Control(ControlRcb::Refusal),

@@ -7,7 +7,7 @@ ghost use Rattle.njh_block.specs.Shown.{first_shown, general_at, left_by};
 
 use crate::fault::BlockFault;
 use crate::item::Item;
-use crate::rcb::{Form, GENERAL, Rcb};
+use crate::rcb::{Form, GENERAL, OWN_ZERO, Rcb};
 use njh_record::{End, Record, RecordFault, unspell};
 
 /// A record, and the bytes behind it.
@@ -18,7 +18,7 @@ fn after_control(rest: &[u8]) -> &[u8]
     ensures { result.now ≡ after_control rest.now }
 {
     match rest {
-        [0, after @ ..] if !after.is_empty() => after,
+        [OWN_ZERO, after @ ..] if !after.is_empty() => after,
         _ => rest,
     }
 }
@@ -28,12 +28,12 @@ fn spelled<'a>(
     rcb: Rcb,
     srcb: u8,
     bytes: &'a [u8],
-    record: &mut Record,
+    contents: &mut Record,
 ) -> Result<Option<First<'a>>, BlockFault>
-    ensures first { first_shown result record.new.items ≡ spelled rcb.byte srcb (unspelled bytes.now) }
-    ensures record { record.new.items ≡ left_by (spelled rcb.byte srcb (unspelled bytes.now)) }
+    ensures first { first_shown result contents.new.items ≡ spelled rcb.byte srcb (unspelled bytes.now) }
+    ensures contents { contents.new.items ≡ left_by (spelled rcb.byte srcb (unspelled bytes.now)) }
 {
-    match unspell(bytes, record) {
+    match unspell(bytes, contents) {
         Ok((used, End::Record)) => Ok(Some((Item::Data { rcb, srcb }, &bytes[used..]))),
         Ok((used, End::Abort)) => Ok(Some((Item::Abort { rcb, srcb }, &bytes[used..]))),
         Err(RecordFault::TooLong { used }) => Ok(Some((Item::Long { rcb, srcb }, &bytes[used..]))),
@@ -47,32 +47,32 @@ fn formed<'a>(
     rcb: Rcb,
     srcb: u8,
     rest: &'a [u8],
-    record: &mut Record,
+    contents: &mut Record,
 ) -> Result<Option<First<'a>>, BlockFault>
-    requires { record.old.items ≡ [] }
-    ensures first { first_shown result record.new.items ≡ formed (form_of rcb.byte) rcb.byte srcb rest.now }
-    ensures record { record.new.items ≡ left_by (formed (form_of rcb.byte) rcb.byte srcb rest.now) }
+    requires { contents.old.items ≡ [] }
+    ensures first { first_shown result contents.new.items ≡ formed (form_of rcb.byte) rcb.byte srcb rest.now }
+    ensures contents { contents.new.items ≡ left_by (formed (form_of rcb.byte) rcb.byte srcb rest.now) }
 {
     let (item, rest) = match rcb.form() {
         Form::End => return Ok(None),
         Form::Bad => return Err(BlockFault::BadRcb),
         Form::General => (Item::General { srcb, rest }, &[][..]),
         Form::Control(control) => (Item::Control { rcb: control, srcb }, after_control(rest)),
-        Form::Spelled => return spelled(rcb, srcb, rest, record),
+        Form::Spelled => return spelled(rcb, srcb, rest, contents),
     };
     Ok(Some((item, rest)))
 }
 
 /// The record at the front of the bytes behind a function control sequence; none where the block ends. A record other than `Data`
-/// leaves `record` empty.
+/// leaves `contents` empty.
 pub(crate) fn first_record<'a>(
     bytes: &'a [u8],
-    record: &mut Record,
+    contents: &mut Record,
 ) -> Result<Option<First<'a>>, BlockFault>
-    ensures first { first_shown result record.new.items ≡ first_record bytes.now }
-    ensures record { record.new.items ≡ left_by (first_record bytes.now) }
+    ensures first { first_shown result contents.new.items ≡ first_record bytes.now }
+    ensures contents { contents.new.items ≡ left_by (first_record bytes.now) }
 {
-    record.clear();
+    contents.clear();
     match bytes {
         [] => Ok(None),
         [rcb] => match (Rcb { byte: *rcb }).form() {
@@ -80,7 +80,7 @@ pub(crate) fn first_record<'a>(
             Form::Bad => Err(BlockFault::BadRcb),
             _ => Err(BlockFault::BadRecord),
         },
-        [rcb, srcb, rest @ ..] => formed(Rcb { byte: *rcb }, *srcb, rest, record),
+        [rcb, srcb, rest @ ..] => formed(Rcb { byte: *rcb }, *srcb, rest, contents),
     }
 }
 
@@ -88,9 +88,9 @@ pub(crate) fn first_record<'a>(
 pub(crate) fn check_records(bytes: &[u8]) -> Result<(), BlockFault>
     ensures { MatchResult result (λ _. IsOk (items_in bytes.now)) (λ e. items_in bytes.now ≡ Err e) }
 {
-    let mut record = Record::new();
+    let mut contents = Record::new();
     let mut rest = bytes;
-    while let Some((_, after)) = first_record(rest, &mut record)? {
+    while let Some((_, after)) = first_record(rest, &mut contents)? {
         rest = after;
     }
     Ok(())

@@ -55,6 +55,7 @@ impl Stream {
         }
     }
 
+    /// The stream at a place.
     pub fn at(place: u8) -> Self
         requires { place < 8 }
         ensures { result ≡ place }

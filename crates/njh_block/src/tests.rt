@@ -2,8 +2,9 @@
 
 ghost use Rattle.njh_block.specs.Shown.{IsWritable};
 
-use crate::{Answer, Bcb, Block, BlockFault, BlockWriter, ControlRcb, Fcs, Item, Out, Rcb, Stream};
-use arrayvec::ArrayVec;
+use crate::{
+    Answer, Bcb, Block, BlockFault, BlockWriter, ControlRcb, Fcs, Item, Out, Rcb, Stream, Text,
+};
 use njh_record::Record;
 use std::process::Abort;
 
@@ -151,7 +152,7 @@ fn writes_the_records(rt: HostRuntime) {
     assert_eq!(rt; writer.finish().as_slice(), THREE_STREAMS);
 }
 
-fn alone(rt: &impl Abort, bcb: Bcb, out: Out<'_>) -> ArrayVec<u8, 4096>
+fn alone(rt: &impl Abort, bcb: Bcb, out: Out<'_>) -> Text
     requires { IsWritable out }
 {
     let mut writer = BlockWriter::new(300, bcb, Fcs::nothing_suspended());

@@ -8,21 +8,19 @@ ghost use Rattle.njh_block.specs.Writing.{is_general, has_room, with_last};
 use crate::bcb::Bcb;
 use crate::fcs::Fcs;
 use crate::out::Out;
-use crate::rcb::GENERAL;
+use crate::rcb::{END, GENERAL, OWN_ZERO};
 use arrayvec::ArrayVec;
-use njh_record::{reads_back, spell, spelled_len, spelling_bounds};
+use njh_record::{spell, spelled_len};
 use std::marker::Model;
 
-/// The longest text.
-pub const LONGEST: usize = 4096;
+/// The text of a block: at most 4,096 bytes.
+pub type Text = ArrayVec<u8, 4096>;
 
+/// How many bytes stand before the records.
+const HEADER: usize = 3;
+
+/// The string control byte of a record that is given up.
 const ABORT: u8 = 0x40;
-
-const OWN_ZERO: u8 = 0x00;
-
-const CLOSING: u8 = 0x00;
-
-type Text = ArrayVec<u8, LONGEST>;
 
 /// Adds bytes that have room.
 fn put(text: &mut Text, bytes: &[u8])
@@ -38,7 +36,7 @@ fn written_len(out: &Out<'_>) -> usize
     ensures value { result ≡ length (written (outgoing out.now)) }
     ensures bound { result ≤ 264 }
 {
-    spelling_bounds();
+    njh_record::spelling_bounds();
     match out {
         Out::Data { bytes, .. } => 2 + spelled_len(bytes),
         Out::Abort { .. } | Out::Control { .. } => 3,
@@ -113,11 +111,11 @@ impl BlockWriter {
     pub fn is_empty(&self) -> bool
         ensures { IsTrue result ↔ (self.now.items ≡ []) }
     {
-        self.text.len() == 3
+        self.text.len() == HEADER
     }
 
-    /// Whether a record has room, with the closing 00 behind it. Nothing has behind a general one; in a block without records each
-    /// has.
+    /// Whether a record has room, with the closing 00 behind it. Behind a general one nothing has, and in a block without records
+    /// each has.
     pub fn fits(&self, out: &Out<'_>) -> bool
         requires { IsWritable out.now }
         ensures exact { result ≡ has_room self.now (outgoing out.now) }
@@ -132,18 +130,18 @@ impl BlockWriter {
         requires room { IsTrue (has_room self.old (outgoing out)) }
         ensures { self.new ≡ with_last (outgoing out.entry) self.old }
     {
-        reads_back();
+        njh_record::reads_back();
         self.ended = is_general(&out);
         put_record(&mut self.text, out);
     }
 
     /// The text, with the closing 00.
-    pub fn finish(self) -> ArrayVec<u8, 4096>
+    pub fn finish(self) -> Text
         ensures text { result.items ≡ text_of self.bcb self.fcs self.items }
         ensures within { length result.items ≤ self.limit }
     {
         let BlockWriter { mut text, .. } = self;
-        text.push(CLOSING);
+        text.push(END);
         text
     }
 }

@@ -21,4 +21,7 @@ pub use fault::{Cause, HubFault, RunFault};
 pub use file_view::FileView;
 pub use hub::Hub;
 pub use law::{cuts_are_like, each_is_alone, two_lists_are_like};
-pub use sink::{Sink, SinkFault};
+pub use sink::{FailingSink, MemorySink, Sink, SinkFault};
+
+#[cfg(test)]
+mod tests;

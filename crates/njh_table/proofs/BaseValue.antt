@@ -8,7 +8,8 @@ use Rattle.njh_table.specs.declared.fault.TableFault.TheVariants.{BadToml, Missi
 use Rattle.njh_table.specs.declared.read.TheConstants.{BASE}
 use Rattle.njh_table.specs.Base.{base_tables}
 use Rattle.njh_table.specs.TableFile.{TableFile}
-use Rattle.njh_table.specs.Walk.{Walked, tables_of, next_line, next_route, next_customer, tables_in}
+use Rattle.njh_table.specs.Keys.{Walked}
+use Rattle.njh_table.specs.Walk.{tables_of, next_line, next_route, next_customer, tables_in}
 
 pub base_read : tables_of BASE.now ≡ Ok base_tables
 unfolding chars toml_on_literals byte_of_character next_line next_route next_customer tables_in

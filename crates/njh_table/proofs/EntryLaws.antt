@@ -19,8 +19,11 @@ pub same_entry-route_of : (c d : NamedCustomer) → SameEntry c d → (node : Li
 same_entry-route_of c d same node = λ i. cond (bytes_eq (same.hub i) node) Here (routes_alike c.routes d.routes node same.routes i)
 
 same_line : (l m : NamedLine) → SameLine l m → m ≡ l
-same_line l m same = λ i. record { name = sym same.name i; port = sym same.port i;
-  entry = record { node = sym same.node i; role = sym same.role i; block = sym same.block i; streams = sym same.streams i; password = sym same.password i } }
+same_line l m same = λ i. record {
+  name = sym same.name i;
+  port = sym same.port i;
+  entry = record { node = sym same.node i; role = sym same.role i; block = sym same.block i; streams = sym same.streams i; password = sym same.password i };
+}
 
 same_routes : (n k : ℕ) (rs ss : List RouteEntry) → All (IsRoute n) rs → All (IsRoute k) ss → AllZip SameRoute rs ss → rs ≡ ss
 same_routes n k [] [] rs_are ss_are same = refl

@@ -1,9 +1,12 @@
 pub mod BaseValue
+pub mod Distinct
 pub mod EntryLaws
+pub mod Gives
 pub mod LineOwners
+pub mod Loops
 pub mod MapLaws
 pub mod OwnersLaws
 pub mod RouteLaws
-pub mod Steps
-pub mod WalkLaws
-pub mod WalkSteps
+pub mod WalkedLines
+pub mod WalkedRoutes
+pub mod WalkedTables

@@ -41,17 +41,19 @@ IsOwnerFrom first customers o =
 own_line_from : (first : ℕ) (c : NamedCustomer) (customers : List NamedCustomer) (o : List ℕ × LineId) → IsLineFrom first 0 c.lines o → IsOwnerFrom first (c ∷ customers) o
 own_line_from first c customers o h =
     let here : 0 ≡ o.1.customer - first = omega (arith, h.0) in
-    let start : o.1.line - 0 ≡ o.1.line = omega arith in
-    (omega (arith, h.0),
-     subst (λ n. o.1.line < length (get_or (c ∷ customers) n no_customer).lines) here (subst (λ n. n < length c.lines) start h.2),
-     subst (λ n. (get_or (get_or (c ∷ customers) n no_customer).lines o.1.line no_line).name ≡ o.0) here (subst (λ n. (get_or c.lines n no_line).name ≡ o.0) start h.3))
+    let start : o.1.line - 0 ≡ o.1.line = omega arith in (
+      omega (arith, h.0),
+      subst (λ n. o.1.line < length (get_or (c ∷ customers) n no_customer).lines) here (subst (λ n. n < length c.lines) start h.2),
+      subst (λ n. (get_or (get_or (c ∷ customers) n no_customer).lines o.1.line no_line).name ≡ o.0) here (subst (λ n. (get_or c.lines n no_line).name ≡ o.0) start h.3),
+    )
 
 later_customer : (first : ℕ) (c : NamedCustomer) (customers : List NamedCustomer) (o : List ℕ × LineId) → IsOwnerFrom (first + 1) customers o → IsOwnerFrom first (c ∷ customers) o
 later_customer first c customers o h =
-    let next : suc (o.1.customer - (first + 1)) ≡ o.1.customer - first = omega (arith, h.0) in
-    (omega (arith, h.0),
-     subst (λ n. o.1.line < length (get_or (c ∷ customers) n no_customer).lines) next h.1,
-     subst (λ n. (get_or (get_or (c ∷ customers) n no_customer).lines o.1.line no_line).name ≡ o.0) next h.2)
+    let next : suc (o.1.customer - (first + 1)) ≡ o.1.customer - first = omega (arith, h.0) in (
+      omega (arith, h.0),
+      subst (λ n. o.1.line < length (get_or (c ∷ customers) n no_customer).lines) next h.1,
+      subst (λ n. (get_or (get_or (c ∷ customers) n no_customer).lines o.1.line no_line).name ≡ o.0) next h.2,
+    )
 
 owners_named : (first : ℕ) (customers : List NamedCustomer) → All (IsOwnerFrom first customers) (owners_from first customers)
 owners_named first [] = All-nil (IsOwnerFrom first [])
@@ -77,7 +79,7 @@ owners_owned first [] i l within = absurd (omega (arith, within))
 owners_owned first (c ∷ customers) zero l within =
     subst (λ n. Contains (owners_from first (c ∷ customers)) ((get_or c.lines l no_line).name, numbered n l)) (sym (add-zero first))
     (Contains-append_left (line_owners first 0 c.lines) (owners_from (first + 1) customers) _
-      (subst (λ n. Contains (line_owners first 0 c.lines) ((get_or c.lines l no_line).name, numbered first n)) (zero-add l) (lines_owned first 0 c.lines l within)))
+    (subst (λ n. Contains (line_owners first 0 c.lines) ((get_or c.lines l no_line).name, numbered first n)) (zero-add l) (lines_owned first 0 c.lines l within)))
 owners_owned first (c ∷ customers) (suc i) l within =
     let next : (first + 1) + i ≡ first + suc i = omega arith in
     subst (λ n. Contains (owners_from first (c ∷ customers)) ((get_or (get_or customers i no_customer).lines l no_line).name, numbered n l)) next
@@ -89,9 +91,10 @@ pub owner_found : (t : TableFile) (name : List ℕ) → IfSome (owner_of t name)
 owner_found t name =
     IfSome_then (owner_of t name) (IfSome-lookup (λ x y. (bytes_eq-Decides x y).0) name (owners_from 0 t.customers))
     (λ line among. let owner = All-contains (IsOwnerFrom 0 t.customers) (owners_from 0 t.customers) (name, line) (owners_named 0 t.customers) among in
-      let start : line.customer - 0 ≡ line.customer = omega arith in
-      (subst (λ n. line.line < length (get_or t.customers n no_customer).lines) start owner.1,
-       subst (λ n. (get_or (get_or t.customers n no_customer).lines line.line no_line).name ≡ name) start owner.2))
+    let start : line.customer - 0 ≡ line.customer = omega arith in (
+      subst (λ n. line.line < length (get_or t.customers n no_customer).lines) start owner.1,
+      subst (λ n. (get_or (get_or t.customers n no_customer).lines line.line no_line).name ≡ name) start owner.2,
+    ))
 
 pub owner_only : (t : TableFile) (name : List ℕ) → AreDistinct (line_names t.customers) → (line : LineId) → HasLine t line → (line_at t line).name ≡ name → owner_of t name ≡ Some line
 owner_only t name distinct line has same =

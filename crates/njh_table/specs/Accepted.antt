@@ -2,7 +2,7 @@
 use Rattle.std.specs.Prelude.{◌≡◌, ◌≢◌, ℕ, ◌<◌, ◌≤◌, List, ◌∷◌, length, map, sum_by, All, AllPairs, None, IsTrue}
 use Rattle.njh_table.specs.Entries.{RouteEntry}
 use Rattle.njh_table.specs.TableFile.{NamedLine, NamedCustomer, TableFile, line_names}
-use Rattle.njh_table.specs.Walk.{is_line_name}
+use Rattle.njh_table.specs.Keys.{is_line_name}
 
 abbrev pub IsBetween : ℕ → ℕ → ℕ → Type 0
 IsBetween low high n = (low ≤ n) × (n ≤ high)

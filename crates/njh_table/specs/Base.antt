@@ -14,7 +14,7 @@ with_one_line name line =
       quota = 100;
       files = 8;
       lines = record { name = line; port = 0; entry = record { node = lyon; role = Answer; block = 1024; streams = 4; password = [] } } ∷ [];
-      routes = record { node = lyon; line = 0; second = None } ∷ []
+      routes = record { node = lyon; line = 0; second = None } ∷ [];
     }
 
 abbrev pub base_tables : TableFile

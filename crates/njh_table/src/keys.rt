@@ -5,11 +5,12 @@ ghost use Rattle.std.specs.List.{list_all};
 ghost use Rattle.std.specs.Result.{result_map_both};
 ghost use Rattle.toml.specs.Data.{get_member, as_str, as_array, as_table, no_items};
 ghost use Rattle.toml.specs.View.{view, table_view, items_view};
-ghost use Rattle.njh_table.specs.Walk.{number, node_name, line_name, is_line_name, is_letter_or_digit, role, password, at_key, at_key_or, keys_in};
+ghost use Rattle.njh_table.specs.Keys.{number, node_name, line_name, is_line_name, is_letter_or_digit, role, password, at_key, at_key_or, keys_in};
 ghost use Rattle.njh_table.specs.TableFile.{password_bytes};
 
 use crate::Role;
 use crate::fault::TableFault;
+use crate::limits::MAX_LINE_NAME;
 use njh_ebcdic::Name;
 use toml::{Table, Value};
 
@@ -91,7 +92,7 @@ pub fn line_name_at<'a>(keys: &'a Table, key: &str) -> Result<&'a str, TableFaul
 fn is_line_name(name: &[u8]) -> bool
     ensures { result ≡ is_line_name name.now }
 {
-    1 <= name.len() && name.len() <= 8 && are_letters_or_digits(name)
+    1 <= name.len() && name.len() <= MAX_LINE_NAME && are_letters_or_digits(name)
 }
 
 fn are_letters_or_digits(text: &[u8]) -> bool
@@ -134,14 +135,14 @@ pub fn password_at(keys: &Table, key: &str) -> Result<Option<Name>, TableFault>
     }
 }
 
-/// A whole number between two, both among them, which is 0 where the key is missing.
-pub fn number_or_zero_at(keys: &Table, key: &str, low: u32, high: u32) -> Result<u32, TableFault>
-    ensures read { result ≡ at_key_or (number low high) 0 key.now (table_view keys.now) }
+/// A whole number of at most `high`, which is 0 where the key is missing.
+pub fn number_or_zero_at(keys: &Table, key: &str, high: u32) -> Result<u32, TableFault>
+    ensures read { result ≡ at_key_or (number 0 high) 0 key.now (table_view keys.now) }
     ensures high { IfOk result (λ n. n ≤ high) }
 {
     match find(keys, key) {
         None => Ok(0),
-        Some(value) => match number_in(value, low, high) {
+        Some(value) => match number_in(value, 0, high) {
             Some(number) => Ok(number),
             None => Err(TableFault::BadValue),
         },

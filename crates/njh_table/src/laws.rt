@@ -16,8 +16,7 @@ use crate::fault::TableFault;
 pub fn walk_keeps_limits()
     ensures accepted { (text : List ℕ) (t : TableFile) → tables_of text ≡ Ok t → IsAccepted t }
     ensures refused { (keys : Members) (fault : Fault) → tables_in keys ≡ Err fault → (fault ≢ TableFault.BadToml) × (fault ≢ TableFault.Memory) }
-{
-}
+{}
 
 /// Customers with the same entry route alike, wherever each stands in its table; and where their tables are accepted, what
 /// can be read of an entry is all of it.
@@ -25,5 +24,4 @@ pub fn same_entries_route_alike()
     ensures alike { (t u : TableFile) (c d : ℕ) → SameEntry (customer_at t c) (customer_at u d)
         → (node : List ℕ) → route_of (entry_of (customer_at t c)) node ≡ route_of (entry_of (customer_at u d)) node }
     ensures equal { (c d : NamedCustomer) → IsCustomer c → IsCustomer d → SameEntry c d → c ≡ d }
-{
-}
+{}

@@ -63,7 +63,12 @@ impl Owners {
     }
 
     /// Adds a line whose name is new.
-    pub(crate) fn insert(&mut self, alloc: Global, name: &str, line: LineId) -> Result<(), AllocError>
+    pub(crate) fn insert(
+        &mut self,
+        alloc: Global,
+        name: &str,
+        line: LineId,
+    ) -> Result<(), AllocError>
         requires { list_any (bytes_eq name.now) (names_in self.old) ≡ false }
         ensures { OnOk result (self.new ≡ self.old ++ (name.now, line) ∷ []) }
     {

@@ -9,7 +9,14 @@ ghost use Rattle.njh_table.specs.Walk.{Walks, next_line, lines_onto, next_route,
 use crate::LineId;
 use crate::customer::Customer;
 use crate::fault::TableFault;
-use crate::keys::{keys_in, line_name_at, list_at, list_or_empty_at, name_at, number_at, number_or_zero_at, password_at, role_at, text_at};
+use crate::keys::{
+    keys_in, line_name_at, list_at, list_or_empty_at, name_at, number_at, number_or_zero_at,
+    password_at, role_at, text_at,
+};
+use crate::limits::{
+    MAX_BLOCK, MAX_CAPACITY, MAX_CUSTOMERS, MAX_FILES, MAX_LINES, MAX_PORT, MAX_QUOTA, MAX_ROUTES,
+    MAX_STREAMS, MIN_BLOCK,
+};
 use crate::line::Line;
 use crate::owners::Owners;
 use crate::routes::Routes;
@@ -18,17 +25,14 @@ use njh_ebcdic::Name;
 use std::alloc::Global;
 use toml::{Table, Value};
 
-/// How many lines the hub has at most.
-const MAX_LINES: usize = 256;
-
-/// How many routes a customer has at most.
-const MAX_ROUTES: usize = 512;
-
-/// How many customers there are at most.
-const MAX_CUSTOMERS: usize = 64;
-
 #[tactic(auto, unfolding(crate::specs::Walk::next_line))]
-fn next_line(alloc: Global, value: &Value, customer: u16, line: usize, owners: &mut Owners) -> Result<Line, TableFault>
+fn next_line(
+    alloc: Global,
+    value: &Value,
+    customer: u16,
+    line: usize,
+    owners: &mut Owners,
+) -> Result<Line, TableFault>
     requires { line ≤ length (names_in owners.old) }
     ensures walk { Walks (λ l. l) result (next_line (names_in owners.old) (view value.now)) }
     ensures owners { IfOk result (λ l. owners.new ≡ owners.old ++ (l.name, record { customer = customer; line = line }) ∷ []) }
@@ -43,10 +47,10 @@ fn next_line(alloc: Global, value: &Value, customer: u16, line: usize, owners: &
     }
     let node = name_at(keys, "node")?;
     let role = role_at(keys, "role")?;
-    let block = number_at(keys, "block", 300, 4096)? as u16;
-    let streams = number_at(keys, "streams", 1, 4)? as u8;
+    let block = number_at(keys, "block", MIN_BLOCK, MAX_BLOCK)? as u16;
+    let streams = number_at(keys, "streams", 1, MAX_STREAMS)? as u8;
     let password = password_at(keys, "password")?;
-    let port = number_or_zero_at(keys, "port", 0, 65535)? as u16;
+    let port = number_or_zero_at(keys, "port", MAX_PORT)? as u16;
     let id = LineId {
         customer,
         line: line as u16,
@@ -63,7 +67,12 @@ fn next_line(alloc: Global, value: &Value, customer: u16, line: usize, owners: &
     })
 }
 
-fn lines_in(alloc: Global, values: &[Value], customer: u16, owners: &mut Owners) -> Result<Vec<Line>, TableFault>
+fn lines_in(
+    alloc: Global,
+    values: &[Value],
+    customer: u16,
+    owners: &mut Owners,
+) -> Result<Vec<Line>, TableFault>
     ensures walk { Walks (λ v. v.items) result (lines_onto (names_in owners.old) [] (items_view values.now)) }
     ensures owners { IfOk result (λ v. owners.new ≡ owners.old ++ line_owners customer 0 v.items) }
 {
@@ -77,7 +86,13 @@ fn lines_in(alloc: Global, values: &[Value], customer: u16, owners: &mut Owners)
 
 /// The node of the next route and the number of its line.
 #[tactic(auto, unfolding(crate::specs::Walk::next_route))]
-fn next_route(value: &Value, customer: u16, hub: Name, owners: &Owners, routes: &Routes) -> Result<(Name, u16), TableFault>
+fn next_route(
+    value: &Value,
+    customer: u16,
+    hub: Name,
+    owners: &Owners,
+    routes: &Routes,
+) -> Result<(Name, u16), TableFault>
     ensures walk { Walks routed result (next_route hub (own_line owners.now customer) routes.now (view value.now)) }
     ensures new { IfOk result (λ r. routed_line routes.now r.0 ≡ None) }
 {
@@ -96,7 +111,13 @@ fn next_route(value: &Value, customer: u16, hub: Name, owners: &Owners, routes: 
     }
 }
 
-fn routes_in(alloc: Global, values: &[Value], customer: u16, hub: Name, owners: &Owners) -> Result<Routes, TableFault>
+fn routes_in(
+    alloc: Global,
+    values: &[Value],
+    customer: u16,
+    hub: Name,
+    owners: &Owners,
+) -> Result<Routes, TableFault>
     ensures { Walks (λ r. r) result (routes_onto hub (own_line owners.now customer) [] (items_view values.now)) }
 {
     let mut routes = Routes::new(alloc);
@@ -108,7 +129,12 @@ fn routes_in(alloc: Global, values: &[Value], customer: u16, hub: Name, owners: 
 }
 
 #[tactic(auto, unfolding(crate::specs::Walk::next_customer))]
-fn next_customer(alloc: Global, value: &Value, earlier: &[Customer], owners: &mut Owners) -> Result<Customer, TableFault>
+fn next_customer(
+    alloc: Global,
+    value: &Value,
+    earlier: &[Customer],
+    owners: &mut Owners,
+) -> Result<Customer, TableFault>
     requires { owners.old ≡ owners_from 0 earlier.now }
     ensures walk { Walks (λ c. c) result (next_customer earlier.now (view value.now)) }
     ensures owners { IfOk result (λ c. owners.new ≡ owners_from 0 (earlier.now ++ c ∷ [])) }
@@ -123,8 +149,8 @@ fn next_customer(alloc: Global, value: &Value, earlier: &[Customer], owners: &mu
         return Err(TableFault::BadValue);
     }
     let hub = name_at(keys, "hub")?;
-    let quota = number_at(keys, "quota", 1, 65535)?;
-    let files = number_at(keys, "files", 1, 1024)?;
+    let quota = number_at(keys, "quota", 1, MAX_QUOTA)?;
+    let files = number_at(keys, "files", 1, MAX_FILES)?;
     let line_values = list_or_empty_at(keys, "line")?;
     let route_values = list_or_empty_at(keys, "route")?;
     let number = earlier.len() as u16;
@@ -146,7 +172,11 @@ fn has_customer(customers: &[Customer], name: Name) -> bool
     customers.iter().any(|customer| customer.name() == name)
 }
 
-fn customers_in(alloc: Global, values: &[Value], owners: &mut Owners) -> Result<Vec<Customer>, TableFault>
+fn customers_in(
+    alloc: Global,
+    values: &[Value],
+    owners: &mut Owners,
+) -> Result<Vec<Customer>, TableFault>
     requires { owners.old ≡ [] }
     ensures walk { Walks (λ v. v.items) result (customers_onto [] (items_view values.now)) }
     ensures owners { IfOk result (λ v. owners.new ≡ owners_from 0 v.items) }
@@ -171,11 +201,11 @@ fn quotas_of(customers: &[Customer]) -> u64
 }
 
 /// The tables that a document gives.
-#[tactic(auto, using(crate::proofs::WalkSteps::is_empty_view), unfolding(crate::specs::Walk::tables_in))]
+#[tactic(auto, using(crate::proofs::Loops::is_empty_view), unfolding(crate::specs::Walk::tables_in))]
 pub(crate) fn tables_in(alloc: Global, keys: &Table) -> Result<Tables, TableFault>
     ensures { Walks (λ t. t) result (tables_in (table_view keys.now)) }
 {
-    let capacity = number_at(keys, "capacity", 1, 4_194_240)?;
+    let capacity = number_at(keys, "capacity", 1, MAX_CAPACITY)?;
     let values = list_at(keys, "customer")?;
     if values.is_empty() {
         return Err(TableFault::MissingKey);

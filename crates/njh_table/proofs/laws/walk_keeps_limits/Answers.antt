@@ -1,4 +1,4 @@
-use Rattle.njh_table.proofs.WalkLaws.{accepted, refused}
+use Rattle.njh_table.proofs.WalkedTables.{accepted, refused}
 use Rattle.njh_table.proofs.laws.walk_keeps_limits.Goals as goal
 
 pub returns-clause-accepted : goal.returns-clause-accepted

@@ -5,8 +5,8 @@ use Rattle.njh_table.specs.declared.fault.TableFault.TheVariants.{Memory}
 use Rattle.njh_table.specs.TableFile.{names_in, line_names, line_owners, own_line, owners_from}
 use Rattle.njh_table.specs.Walk.{next_customer, lines_onto, routes_onto, line_number}
 use Rattle.njh_table.proofs.OwnersLaws.{names-owners_from, owners_after, AreApart, own_line-is}
-use Rattle.njh_table.proofs.Steps.{given}
-use Rattle.njh_table.proofs.WalkLaws.{lines_onto-apart}
+use Rattle.njh_table.proofs.Gives.{given}
+use Rattle.njh_table.proofs.WalkedLines.{lines_onto-apart}
 use Rattle.njh_table.proofs.walk.next_customer.Goals as goal
 use Rattle.njh_table.proofs.walk.next_customer.Goals.{In_ok-lines}
 

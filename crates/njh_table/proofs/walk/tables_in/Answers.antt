@@ -3,9 +3,9 @@ use Rattle.std.proofs.lemmas.Grind.{common_steps}
 use Rattle.toml.specs.View.{table_view}
 use Rattle.njh_table.specs.Accepted.{IsAccepted}
 use Rattle.njh_table.specs.Walk.{tables_in}
-use Rattle.njh_table.proofs.Steps.{given}
-use Rattle.njh_table.proofs.WalkLaws.{tables_in-gives}
-use Rattle.njh_table.proofs.WalkSteps.{is_empty_view}
+use Rattle.njh_table.proofs.Gives.{given}
+use Rattle.njh_table.proofs.WalkedTables.{tables_in-gives}
+use Rattle.njh_table.proofs.Loops.{is_empty_view}
 use Rattle.njh_table.proofs.walk.tables_in.Goals as goal
 
 pub invariant_of-result : goal.invariant_of-result

@@ -1,6 +1,6 @@
 use Rattle.std.proofs.Common.{refl}
 use Rattle.toml.specs.View.{table_view}
-use Rattle.njh_table.proofs.WalkLaws.{told_of_toml}
+use Rattle.njh_table.proofs.WalkedTables.{told_of_toml}
 use Rattle.njh_table.proofs.tables.Tables.read.Goals as goal
 
 pub returns-in-Ok-clause-no_toml : goal.returns-in-Ok-clause-no_toml

@@ -1,0 +1,3 @@
+mod LineForms
+mod Lines
+mod Printing

@@ -1,0 +1,47 @@
+-- One write after another, and hex in pieces.
+use Rattle.std.proofs.Common.{◌≡◌, ℕ, ◌/◌, ◌%◌, List, [], ◌∷◌, ◌++◌, slice_index, Option, Some, None, refl, sym, ap, ◌∙◌, append_assoc, append-nil}
+use Rattle.std.specs.Io.KnownBytes.{Appends}
+use Rattle.hex.specs.Hex.{encode_with, encode_lower, lower_digits}
+
+-- nothing written, and two writes
+Appends-none : (known : Option (List ℕ)) → Appends known known []
+Appends-none None = tt
+Appends-none (Some xs) = sym (append-nil xs)
+
+Appends-more : (first then last : Option (List ℕ)) (xs ys : List ℕ) → Appends first then xs → Appends then last ys → Appends first last (xs ++ ys)
+Appends-more None then last xs ys a b = tt
+Appends-more (Some held) None last xs ys a b = absurd a
+Appends-more (Some held) (Some more) None xs ys a b = absurd b
+Appends-more (Some held) (Some more) (Some most) xs ys a b = rw (b, a) (append_assoc held xs ys)
+
+-- hex goes byte by byte
+encode_with-append : (digits xs ys : List ℕ) → encode_with digits (xs ++ ys) ≡ encode_with digits xs ++ encode_with digits ys
+unfolding encode_with
+encode_with-append digits [] ys = refl
+encode_with-append digits (b ∷ xs) ys = ap (λ (text : List ℕ). slice_index digits (b / 16) ∷ slice_index digits (b % 16) ∷ text) (encode_with-append digits xs ys)
+
+encode_lower-append : (xs ys : List ℕ) → encode_lower (xs ++ ys) ≡ encode_lower xs ++ encode_lower ys
+encode_lower-append xs ys = encode_with-append lower_digits xs ys
+
+encode_lower-nil : encode_lower [] ≡ []
+unfolding encode_with
+encode_lower-nil = refl
+
+-- the hex of these bytes was written but for that of the rest
+abbrev pub IsWrittenBut : (rest bytes : List ℕ) (first last : Option (List ℕ)) → Type 0
+IsWrittenBut rest bytes first last = (text : List ℕ) × Appends first last text × (text ++ encode_lower rest ≡ encode_lower bytes)
+
+pub IsWrittenBut-all : (bytes : List ℕ) (known : Option (List ℕ)) → IsWrittenBut bytes bytes known known
+IsWrittenBut-all bytes known = ([], Appends-none known, refl)
+
+pub IsWrittenBut-more : (bytes rest piece after digits : List ℕ) (first then last : Option (List ℕ))
+    → IsWrittenBut rest bytes first then → rest ≡ piece ++ after → digits ≡ encode_lower piece → Appends then last digits
+    → IsWrittenBut after bytes first last
+IsWrittenBut-more bytes rest piece after digits first then last so_far cut spelled written =
+    let front = append_assoc so_far.0 (encode_lower piece) (encode_lower after) ∙ ap (λ (text : List ℕ). so_far.0 ++ text) (sym (encode_lower-append piece after)) in
+    (so_far.0 ++ digits, Appends-more first then last so_far.0 digits so_far.1 written, rw spelled (front ∙ ap (λ (xs : List ℕ). so_far.0 ++ encode_lower xs) (sym cut) ∙ so_far.2))
+
+pub IsWrittenBut-none : (bytes rest : List ℕ) (first last : Option (List ℕ)) → IsWrittenBut rest bytes first last → rest ≡ [] → Appends first last (encode_lower bytes)
+IsWrittenBut-none bytes rest first last so_far none =
+    let all : so_far.0 ≡ encode_lower bytes = sym (append-nil so_far.0) ∙ ap (λ (text : List ℕ). so_far.0 ++ text) (sym encode_lower-nil) ∙ ap (λ (xs : List ℕ). so_far.0 ++ encode_lower xs) (sym none) ∙ so_far.2 in
+    rw (← all) so_far.1

@@ -1,0 +1,5 @@
+pub mod Names
+pub mod Printed
+pub mod Replayed
+pub mod Script
+pub mod Status

@@ -1,0 +1,21 @@
+-- The status that the program ends with.
+use Rattle.std.specs.Prelude.{ℕ}
+use Rattle.njehub.specs.declared.failure.Failure.{Failure}
+use Rattle.njehub.specs.declared.failure.Failure.TheVariants.{Words, Tables, Replay}
+use Rattle.njehub.specs.declared.fault.ReplayFault.TheVariants.{TooLong, Script, Device, Hub}
+use Rattle.njehub.specs.declared.tables.TableFault.{TableFault}
+use Rattle.njehub.specs.declared.tables.TableFault.TheVariants.{Memory}
+
+-- 1 where the tables are refused, 2 where there was no memory for them
+abbrev pub table_status : TableFault → ℕ
+table_status Memory = 2
+table_status fault = 1
+
+-- 1 where words, tables or the script are refused, 2 where a device or memory fails
+abbrev pub status_of : Failure → ℕ
+status_of (Words error) = 1
+status_of (Tables fault) = table_status fault
+status_of (Replay TooLong) = 1
+status_of (Replay (Script number)) = 1
+status_of (Replay Device) = 2
+status_of (Replay (Hub fault)) = 2

@@ -1,0 +1,86 @@
+//! Why the program ends with another status than 0.
+
+ghost use Rattle.std.specs.Prelude.{◌≡◌};
+ghost use Rattle.njehub.specs.Status.{status_of};
+
+use crate::fault::ReplayFault;
+use clap::error::ErrorKind;
+use njh_hub::HubFault;
+use njh_table::TableFault;
+use std::alloc::AllocError;
+use std::{fmt, io};
+
+/// What ended the program: words or tables that are refused, or a replay's fault.
+///
+/// A device or want of memory outside a replay is told as that of one.
+#[derive(Debug, Drop)]
+pub enum Failure {
+    Words(clap::Error),
+    Tables(TableFault),
+    Replay(ReplayFault),
+}
+
+impl Failure {
+    /// The status to end with: 1 where the words, the tables or the script are refused, 2 where a file, a
+    /// stream or memory fails.
+    pub fn status(&self) -> u8
+        ensures { result ≡ status_of self.now }
+    {
+        match self {
+            Failure::Words(_) => 1,
+            Failure::Tables(TableFault::Memory) => 2,
+            Failure::Tables(_) => 1,
+            Failure::Replay(ReplayFault::TooLong) => 1,
+            Failure::Replay(ReplayFault::Script { .. }) => 1,
+            Failure::Replay(ReplayFault::Device) => 2,
+            Failure::Replay(ReplayFault::Hub(_)) => 2,
+        }
+    }
+}
+
+impl fmt::Display for Failure {
+    /// One line, but for the text of words that are refused.
+    fn fmt<W: fmt::Write>(&self, f: &mut fmt::Formatter<W>) -> fmt::Result {
+        match self {
+            Failure::Words(error) => write!(f, "{error}"),
+            Failure::Tables(fault) => writeln!(f, "njehub: {fault}"),
+            Failure::Replay(fault) => writeln!(f, "njehub: {fault}"),
+        }
+    }
+}
+
+impl From<clap::Error> for Failure {
+    fn from(error: clap::Error) -> Failure {
+        match error.kind() {
+            ErrorKind::OutOfMemory => Failure::from(AllocError),
+            _ => Failure::Words(error),
+        }
+    }
+}
+
+impl From<TableFault> for Failure {
+    fn from(fault: TableFault) -> Failure {
+        Failure::Tables(fault)
+    }
+}
+
+impl From<ReplayFault> for Failure {
+    fn from(fault: ReplayFault) -> Failure {
+        Failure::Replay(fault)
+    }
+}
+
+impl From<AllocError> for Failure {
+    fn from(_error: AllocError) -> Failure {
+        Failure::Replay(ReplayFault::Hub(HubFault::Memory))
+    }
+}
+
+impl From<io::Error> for Failure {
+    fn from(error: io::Error) -> Failure {
+        match error.kind() {
+            io::ErrorKind::OutOfMemory => Failure::from(AllocError),
+            _ => Failure::Replay(ReplayFault::Device),
+        }
+    }
+}

@@ -1,0 +1,6 @@
+use Rattle.std.proofs.Common.{refl}
+use Rattle.njh_line.proofs.TableLaws as laws
+use Rattle.njh_line.proofs.laws.disregarded_changes_nothing.Goals as goal
+
+pub returns : goal.returns
+returns c = record { queues = λ line input. record { answers = refl; messages = refl }; stays = laws.stays; over = laws.ends }

@@ -1,0 +1,38 @@
+-- The count rule (IBM SC23-0070, multileaving). All that a session knows for it is the BCB of the last block acted on, those whose
+-- count isn't checked aside.
+use Rattle.std.specs.Prelude.{ℕ, ◌+◌, ◌/◌, ◌%◌, Bool, false, Option, Some, None, ◌==◌, cond, ◌||◌}
+use Rattle.njh_line.specs.declared.counts.Counted.{Counted}
+use Rattle.njh_line.specs.declared.counts.Counted.TheVariants.{Acts, Repeats, OutOfSequence}
+use Rattle.njh_line.specs.declared.session.Session.{Session}
+
+-- 0: the count is checked; 1: it isn't; 2: it is set
+abbrev pub bcb_type : ℕ → ℕ
+bcb_type bcb = bcb / 16 % 8
+
+abbrev pub bcb_count : ℕ → ℕ
+bcb_count bcb = bcb % 16
+
+-- the count that is expected
+abbrev pub expected : Option ℕ → ℕ
+expected None = 0
+expected (Some b) = cond (bcb_type b == 2) (bcb_count b) ((bcb_count b + 1) % 16)
+
+-- whether a count is one of those taken
+abbrev pub is_taken : Option ℕ → ℕ → Bool
+is_taken None k = (k == 0) || (k == 1)
+is_taken (Some b) k = cond (bcb_type b == 2) ((k == bcb_count b) || (k == (bcb_count b + 1) % 16)) (k == (bcb_count b + 1) % 16)
+
+abbrev pub is_repeat : Option ℕ → ℕ → Bool
+is_repeat None bcb = false
+is_repeat (Some b) bcb = b == bcb
+
+abbrev pub counted : Option ℕ → ℕ → Counted
+counted acted bcb =
+    cond (bcb_type bcb == 1) Acts
+    (cond (is_repeat acted bcb) Repeats
+    (cond (bcb_type bcb == 2) Acts
+    (cond (is_taken acted (bcb_count bcb)) Acts OutOfSequence)))
+
+-- a session once a block is acted on
+abbrev pub after_acting : ℕ → ℕ × ℕ → Session → Session
+after_acting bcb fcs s = record s { tries = 0; acted = cond (bcb_type bcb == 1) s.acted (Some bcb); peer = fcs }

@@ -1,0 +1,53 @@
+-- What holds of the line table.
+use Rattle.std.specs.Prelude.{ℕ, ◌≡◌, ◌==◌, Bool, true, false, Option, Some, cond}
+use Rattle.njh_line.specs.declared.Phase.{Phase}
+use Rattle.njh_line.specs.declared.Phase.TheVariants.{Up}
+use Rattle.njh_line.specs.declared.counts.Counted.{Counted}
+use Rattle.njh_line.specs.declared.counts.Counted.TheVariants.{Acts}
+use Rattle.njh_line.specs.declared.session.Session.{Session}
+use Rattle.njh_line.specs.declared.table.Outcome.{Outcome}
+use Rattle.njh_line.specs.Counts.{counted, bcb_type}
+use Rattle.njh_line.specs.LineTable.{Input, Ack0, Garbled, Spoiled, Bad, Block}
+use Rattle.njh_line.specs.Lines.{LineState}
+
+-- a text to be disregarded, a text that is no block, and a block whose check failed
+abbrev pub is_disregarded : Input → Bool
+is_disregarded Spoiled = true
+is_disregarded Bad = true
+is_disregarded Garbled = true
+is_disregarded _ = false
+
+-- nothing moved but the tries
+pub record Stays (s : Session) (x : Outcome) : Type 0 where
+  pub phase : x.session.phase ≡ s.phase
+  pub acted : x.session.acted ≡ s.acted
+  pub ended : x.verdict.ended ≡ false
+  pub acts : x.verdict.acts ≡ false
+
+-- what waits is the same
+pub record KeepsQueues (line after : LineState) : Type 0 where
+  pub answers : after.answers ≡ line.answers
+  pub messages : after.messages ≡ line.messages
+
+abbrev pub is_up : Phase → Bool
+is_up Up = true
+is_up _ = false
+
+abbrev pub is_acting : Counted → Bool
+is_acting Acts = true
+is_acting _ = false
+
+-- a block that is acted on, and ACK0 where the line is up
+abbrev pub sets_tries : Input → Session → Bool
+sets_tries Ack0 s = is_up s.phase
+sets_tries (Block bcb fcs first) s = is_acting (counted s.acted bcb)
+sets_tries _ s = false
+
+-- the last BCB acted on, once a block with a checked count acts
+abbrev pub acted_by : Counted → ℕ → Option ℕ → Option ℕ
+acted_by Acts bcb acted = cond (bcb_type bcb == 1) acted (Some bcb)
+acted_by _ bcb acted = acted
+
+abbrev pub acted_after : Input → Session → Option ℕ
+acted_after (Block bcb fcs first) s = acted_by (counted s.acted bcb) bcb s.acted
+acted_after _ s = s.acted

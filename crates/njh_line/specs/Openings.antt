@@ -1,0 +1,47 @@
+-- The sign-ons of a session (IBM SC23-0070): I of the end that calls, J of the one that answers.
+use Rattle.std.specs.Prelude.{ℕ, Bool, true, List, [], ◌∷◌, ◌++◌, Option, Some, None, Ok, Err, ◌==◌, nat_le, cond, ◌&&◌, bytes_eq}
+use Rattle.std.specs.Borrow.{Bor}
+use Rattle.njh_header.specs.SignOns.{SignOn, sign_on, sign_on_bytes}
+use Rattle.njh_line.specs.declared.config.Config.{Config}
+use Rattle.njh_line.specs.declared.opening.Opening.{Opening}
+use Rattle.njh_line.specs.declared.opening.Opening.TheVariants.{Initial, Response}
+
+abbrev pub srcb_of : Opening → ℕ
+srcb_of Initial = 0xc9
+srcb_of Response = 0xd1
+
+-- a line without a password takes any
+abbrev pub is_password : Option (List ℕ) → List ℕ → Bool
+is_password None given = true
+is_password (Some password) given = bytes_eq given password
+
+abbrev pub fits : SignOn → Config → Bool
+fits s line = bytes_eq s.node line.node && (nat_le 300 s.block && is_password line.password s.password)
+
+-- a block's first record where it is a general one: its SRCB and its bytes
+abbrev pub First : Type 0
+First = Option (ℕ × List ℕ)
+
+-- one whose bytes are lent
+abbrev pub shown_first : Option (ℕ × Bor (List ℕ)) → First
+shown_first None = None
+shown_first (Some x) = Some (x.0, x.1.now)
+
+-- the sign-on of a kind, where it reads and fits
+abbrev pub fitting : Opening → Config → First → Option SignOn
+fitting kind line None = None
+fitting kind line (Some x) =
+    cond (x.0 == srcb_of kind) (elim (sign_on x.1) [ Ok s ↦ cond (fits s line) (Some s) None | Err e ↦ None ]) None
+
+-- eight blanks where a line has no password
+abbrev pub password_field : Option (List ℕ) → List ℕ
+password_field None = 0x40 ∷ 0x40 ∷ 0x40 ∷ 0x40 ∷ 0x40 ∷ 0x40 ∷ 0x40 ∷ 0x40 ∷ []
+password_field (Some password) = password
+
+-- the sign-on that the hub sends
+abbrev pub own_sign_on : Config → SignOn
+own_sign_on line = record { node = line.hub; block = line.block; password = password_field line.password }
+
+-- the text of the I or the J block: its BCB, a function control sequence that suspends nothing, RCB, SRCB, the sign-on, and the end
+abbrev pub opening : Opening → Config → List ℕ
+opening kind line = 0xa0 ∷ 0x8f ∷ 0xcf ∷ 0xf0 ∷ srcb_of kind ∷ sign_on_bytes (own_sign_on line) ++ 0x00 ∷ []

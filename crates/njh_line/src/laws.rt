@@ -1,0 +1,55 @@
+//! Laws of the line table, each the contract of a function that does nothing.
+
+ghost use Rattle.std.specs.Prelude.{◌≡◌, ℕ, ◌+◌, ◌%◌, ◌<◌, ◌≤◌, ◌==◌, ◌||◌, Bool, true, false, Option, Some, None};
+ghost use Rattle.njh_line.specs.declared.config.Config.{Config};
+ghost use Rattle.njh_line.specs.declared.counts.Counted.TheVariants.{Acts, Repeats, OutOfSequence};
+ghost use Rattle.njh_line.specs.declared.session.Session.{Session};
+ghost use Rattle.njh_line.specs.declared.verdict.Reply.TheVariants.{Again};
+ghost use Rattle.njh_line.specs.Counts.{bcb_count, bcb_type, counted, is_taken};
+ghost use Rattle.njh_line.specs.Laws.{KeepsQueues, Stays, acted_after, is_disregarded, sets_tries};
+ghost use Rattle.njh_line.specs.LineTable.{Block, Input, accepted, over, tried};
+ghost use Rattle.njh_line.specs.Lines.{LineState, after_input};
+ghost use Rattle.njh_line.specs.Openings.{First};
+ghost use Rattle.njh_line.specs.Sessions.{in_session};
+
+/// A text to be disregarded, one that is no block, and a block whose check failed change no queue, no phase and no count; where five
+/// tries were made before, the session is over. No input changes a queue.
+pub fn disregarded_changes_nothing()
+    ensures queues { (line : LineState) (input : Input) → KeepsQueues line (after_input input line) }
+    ensures stays { (line : Config) (s : Session) (input : Input) → is_disregarded input ≡ true → s.tries < 5 → Stays s (accepted line input s) }
+    ensures over { (line : Config) (s : Session) (input : Input) → is_disregarded input ≡ true → in_session s.phase ≡ true → s.tries ≡ 5
+        → accepted line input s ≡ over s }
+{}
+
+/// A repeat acts on nothing and is a try, with the last transmission again. Only a block with the BCB of the last one acted on repeats,
+/// and it always does.
+pub fn repeats_are_tries()
+    ensures tries { (line : Config) (s : Session) (bcb : ℕ) (fcs : ℕ × ℕ) (first : First) → in_session s.phase ≡ true
+        → counted s.acted bcb ≡ Repeats → accepted line (Block bcb fcs first) s ≡ tried Again s }
+    ensures stays { (line : Config) (s : Session) (bcb : ℕ) (fcs : ℕ × ℕ) (first : First) → in_session s.phase ≡ true
+        → counted s.acted bcb ≡ Repeats → s.tries < 5 → Stays s (accepted line (Block bcb fcs first) s) }
+    ensures same { (acted : Option ℕ) (bcb : ℕ) → counted acted bcb ≡ Repeats → acted ≡ Some bcb }
+    ensures always { (bcb : ℕ) → (bcb_type bcb == 1) ≡ false → counted (Some bcb) bcb ≡ Repeats }
+{}
+
+/// Within a session the tries never fall but by a block that is acted on and by ACK0 where the line is up.
+pub fn tries_stay()
+    ensures { (line : Config) (s : Session) (input : Input) → in_session s.phase ≡ true → (accepted line input s).verdict.ended ≡ false
+        → sets_tries input s ≡ false → s.tries ≤ (accepted line input s).session.tries }
+{}
+
+/// Within a session the counts taken are those of the BCB of the last block acted on whose count isn't unchecked, and of nothing else.
+pub fn counts_are_of_the_last_block()
+    ensures kept { (line : Config) (s : Session) (input : Input) → in_session s.phase ≡ true → (accepted line input s).verdict.ended ≡ false
+        → (accepted line input s).session.acted ≡ acted_after input s }
+    ensures at_first { (k : ℕ) → is_taken None k ≡ ((k == 0) || (k == 1)) }
+    ensures set { (bcb k : ℕ) → bcb_type bcb ≡ 2
+        → is_taken (Some bcb) k ≡ ((k == bcb_count bcb) || (k == (bcb_count bcb + 1) % 16)) }
+    ensures checked { (bcb k : ℕ) → bcb_type bcb ≡ 0 → is_taken (Some bcb) k ≡ (k == (bcb_count bcb + 1) % 16) }
+{}
+
+/// A session begins with no tries, and before any block.
+pub fn sessions_begin_afresh()
+    ensures { (line : Config) (s : Session) (input : Input) → in_session s.phase ≡ false → in_session (accepted line input s).session.phase ≡ true
+        → ((accepted line input s).session.tries ≡ 0) × ((accepted line input s).session.acted ≡ None) }
+{}

@@ -1,0 +1,206 @@
+//! A line.
+
+ghost use Rattle.std.specs.Prelude.{◌≡◌, ◌≤◌, length, vec_capacity};
+
+use crate::Phase;
+use crate::config::Config;
+use crate::counts::COUNTS;
+use crate::input::Input;
+use crate::sent::Sent;
+use crate::session::Session;
+use crate::table::accepted;
+use crate::verdict::Verdict;
+use circular_buffer::HeapCircularBuffer;
+use njh_record::Record;
+use std::alloc::{AllocError, Global};
+use std::marker::Model;
+
+/// The most bytes of a frame: 4,096 bytes of data, each doubled, and four of framing.
+pub const LONGEST_FRAME: usize = 8196;
+
+/// How many answers may wait.
+const ANSWERS: usize = 32;
+
+/// How many nodal messages may wait.
+const MESSAGES: usize = 64;
+
+/// What answers a peer's request for a stream, or the end of its file: an RCB, and the stream's RCB as its SRCB.
+#[derive(Clone, Copy, Debug, PartialEq, Eq)]
+pub struct Answer {
+    pub rcb: u8,
+    pub stream: u8,
+}
+
+/// A line: its session, the last frame that it sent, NAKs aside, and what waits to be sent. All its memory is reserved by `new`.
+#[derive(Drop)]
+pub struct Line {
+    config: Config,
+    session: Session,
+    last: Vec<u8>,
+    answers: HeapCircularBuffer<Answer>,
+    messages: HeapCircularBuffer<Record>,
+}
+
+impl Model for Line {
+    ghost use Rattle.std.specs.Prelude.{◌≡◌, ◌≤◌, length, map, vec_capacity};
+    ghost use Rattle.njh_line.specs.Sessions.{IsSession, IsConfig};
+    ghost use Rattle.njh_line.specs.Lines.{LineState};
+
+    ghost Value = { LineState };
+
+    ghost view = { λ line. record { config = line.config; session = line.session; last = line.last.items; answers = line.answers.items; messages = map (λ m. m.items) line.messages.items } };
+
+    ghost invariant = { λ line. (line.answers.capacity ≡ 32) × (line.messages.capacity ≡ 64) × (8196 ≤ vec_capacity line.last) × (length line.last.items ≤ 8196) × IsSession line.session × IsConfig line.config };
+}
+
+impl Line {
+    ghost use Rattle.std.specs.Prelude.{◌≡◌, ◌≤◌, IfOk, length, nat_lt, option_map, slice_get};
+    ghost use Rattle.njh_line.specs.Sessions.{IsConfig, IsSession};
+    ghost use Rattle.njh_line.specs.LineTable.{accepted, shown};
+    ghost use Rattle.njh_line.specs.Lines.{IsShort, after_end, after_input, after_sending, answered, fresh_line, shown_sent, waits, without_answer, without_answers, without_message};
+
+    /// A line that is down, with room for all that may wait and for the longest frame. Want of memory is the only refusal, and no
+    /// other call takes any.
+    pub fn new(alloc: Global, config: Config) -> Result<Line, AllocError>
+        requires { IsConfig config }
+        ensures { IfOk result (λ line. line ≡ fresh_line config) }
+    {
+        Ok(Line {
+            config,
+            session: Session::fresh(),
+            last: Vec::with_capacity(alloc, LONGEST_FRAME)?,
+            answers: HeapCircularBuffer::with_capacity(alloc, ANSWERS)?,
+            messages: HeapCircularBuffer::with_capacity(alloc, MESSAGES)?,
+        })
+    }
+
+    /// Decides by the line table what an input does. The hub then does what the verdict says, and tells by `sent` what it sent.
+    pub fn accept(&mut self, input: &Input<'_>) -> Verdict
+        ensures verdict { result ≡ (accepted self.old.config (shown input.now) self.old.session).verdict }
+        ensures line { self.new ≡ after_input (shown input.now) self.old }
+    {
+        let outcome = accepted(&self.config, self.session, input);
+        self.session = outcome.session;
+        outcome.verdict
+    }
+
+    /// A record of a block ends the session.
+    pub fn end(&mut self)
+        ensures { self.new ≡ after_end self.old }
+    {
+        self.session.phase = Phase::Down;
+    }
+
+    /// Keeps what was sent: the turn, the hub's own count and function control sequence, and a frame byte for byte, which may be sent
+    /// again.
+    pub fn sent(&mut self, sent: &Sent<'_>)
+        requires { IsShort (shown_sent sent.now) }
+        ensures { self.new ≡ after_sending (shown_sent sent.now) self.old }
+    {
+        match sent {
+            Sent::Nothing => self.session.ours = true,
+            Sent::Nak | Sent::Again => self.session.ours = false,
+            Sent::Frame(frame) => {
+                keep(&mut self.last, frame);
+                self.session.ours = false;
+            }
+            Sent::Text { frame, fcs } => {
+                keep(&mut self.last, frame);
+                self.session.ours = false;
+                self.session.own = *fcs;
+                self.session.count = (self.session.count + 1) % COUNTS;
+            }
+        }
+    }
+
+    pub fn config(&self) -> Config
+        ensures same { result ≡ self.now.config }
+        ensures known { IsConfig result }
+    {
+        self.config
+    }
+
+    pub fn session(&self) -> Session
+        ensures same { result ≡ self.now.session }
+        ensures known { IsSession result }
+    {
+        self.session
+    }
+
+    /// The last transmission: the last frame that was sent and was no NAK; none at first.
+    pub fn last(&self) -> &[u8]
+        ensures same { result.now ≡ self.now.last }
+        ensures short { length result.now ≤ 8196 }
+    {
+        &self.last
+    }
+
+    /// Lets an answer wait behind the others, where fewer than 32 wait. Otherwise it is dropped.
+    pub fn answer(&mut self, answer: Answer) -> bool
+        ensures room { result ≡ nat_lt (length self.old.answers) 32 }
+        ensures line { self.new ≡ answered answer self.old }
+    {
+        self.answers.try_push_back(answer).is_ok()
+    }
+
+    pub fn front_answer(&self) -> Option<Answer>
+        ensures { result ≡ slice_get self.now.answers 0 }
+    {
+        self.answers.front().copied()
+    }
+
+    pub fn pop_answer(&mut self) -> Option<Answer>
+        ensures front { result ≡ slice_get self.old.answers 0 }
+        ensures line { self.new ≡ without_answer self.old }
+    {
+        self.answers.pop_front()
+    }
+
+    pub fn clear_answers(&mut self)
+        ensures { self.new ≡ without_answers self.old }
+    {
+        self.answers.clear();
+    }
+
+    /// Lets a nodal message wait behind the others, where fewer than 64 wait. Otherwise it is dropped.
+    pub fn message(&mut self, message: &Record) -> bool
+        ensures room { result ≡ nat_lt (length self.old.messages) 64 }
+        ensures line { self.new ≡ waits message.now.items self.old }
+    {
+        if self.messages.is_full() {
+            return false;
+        }
+        self.messages.try_push_back(copy(message)).is_ok()
+    }
+
+    pub fn front_message(&self) -> Option<&Record>
+        ensures { option_map (λ m. m.now.items) result ≡ slice_get self.now.messages 0 }
+    {
+        self.messages.front()
+    }
+
+    pub fn pop_message(&mut self) -> Option<Record>
+        ensures front { option_map (λ m. m.items) result ≡ slice_get self.old.messages 0 }
+        ensures line { self.new ≡ without_message self.old }
+    {
+        self.messages.pop_front()
+    }
+}
+
+/// Puts a frame in place of the last one, in room that is there.
+fn keep(last: &mut Vec<u8>, frame: &[u8])
+    requires { length frame.now ≤ vec_capacity last.old }
+    ensures kept { last.new.items ≡ frame.now }
+    ensures room { vec_capacity last.old ≤ vec_capacity last.new }
+{
+    last.clear();
+    last.extend_from_slice(frame).unwrap();
+}
+
+fn copy(message: &Record) -> Record
+    ensures { result.items ≡ message.now.items }
+{
+    let mut copied = Record::new();
+    copied.try_extend_from_slice(message).unwrap();
+    copied
+}

@@ -1,0 +1,9 @@
+-- The limits of a quota.
+use Rattle.std.specs.Prelude.{◌≤◌}
+use Rattle.njh_spool.specs.declared.quota.Quota.{Quota}
+
+pub record IsWithinLimits (q : Quota) : Type 0 where
+  pub some_blocks : 1 ≤ q.blocks
+  pub most_blocks : q.blocks ≤ 65535
+  pub some_files : 1 ≤ q.files
+  pub most_files : q.files ≤ 1024

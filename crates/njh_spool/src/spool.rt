@@ -1,0 +1,105 @@
+//! The spool of all customers.
+
+mod partial;
+mod reads;
+mod whole;
+
+ghost use Rattle.std.specs.Prelude.{◌≡◌, ℕ, ◌+◌, ◌<◌, ◌≤◌, length, map, IfOk, IsOkUnless, IsSomeAnd, All, slice_get};
+ghost use Rattle.njh_spool.specs.CustomerSpool.{empty_spool, used};
+ghost use Rattle.njh_spool.specs.Quotas.{IsWithinLimits};
+ghost use Rattle.njh_spool.specs.Spools.{part, files_numbered, IsSound};
+
+use crate::SpoolFault;
+use crate::account::Account;
+use crate::file::File;
+use crate::file_id::FileId;
+use crate::places::{whole_at, whole_count};
+use crate::quota::Quota;
+use std::alloc::Global;
+use std::marker::Model;
+
+/// Each customer's files, under its quota. Customers are told by their number, from 0 on.
+#[derive(Drop)]
+pub struct Spool {
+    alloc: Global,
+    accounts: Vec<Account>,
+    files: Vec<File>,
+}
+
+impl Model for Spool {
+    ghost use Rattle.std.specs.Prelude.{List};
+    ghost use Rattle.njh_spool.specs.CustomerSpool.{CustomerSpool};
+    ghost use Rattle.njh_spool.specs.TaggedFiles.{spools_of, IsKept};
+
+    ghost Value = { List CustomerSpool };
+
+    ghost view = { λ s. spools_of s.accounts.items s.files.items };
+
+    ghost invariant = { λ s. IsKept s.accounts.items s.files.items };
+}
+
+impl Spool {
+    /// A spool without files, with these quotas in the customers' order.
+    pub fn open(alloc: Global, quotas: &[Quota]) -> Result<Self, SpoolFault>
+        requires some { 0 < length quotas.now }
+        requires few { length quotas.now ≤ 64 }
+        requires limits { All IsWithinLimits quotas.now }
+        ensures ok { IfOk result (λ spool. spool ≡ map (λ q. empty_spool q.blocks q.files) quotas.now) }
+        ensures memory { IsOkUnless result SpoolFault.Memory }
+    {
+        let mut accounts = Vec::with_capacity(alloc, quotas.len())?;
+        for quota in quotas {
+            accounts.push_reserved(Account::open(quota));
+        }
+        Ok(Spool {
+            alloc,
+            accounts,
+            files: Vec::new(alloc),
+        })
+    }
+
+    /// How many customers there are.
+    pub fn customers(&self) -> u16
+        ensures { result ≡ length self.now }
+    {
+        self.accounts.len() as u16
+    }
+
+    /// How many blocks a customer's files take, partial ones too.
+    pub fn used(&self, customer: u16) -> u32
+        requires { customer < length self.now }
+        ensures { result ≡ used (part customer self.now) }
+    {
+        self.accounts[usize::from(customer)].used
+    }
+
+    /// How many whole files a customer has.
+    pub fn files(&self, customer: u16) -> u32
+        requires { customer < length self.now }
+        ensures { result ≡ length (part customer self.now).whole }
+    {
+        whole_count(&self.files, customer) as u32
+    }
+
+    /// A customer's whole file, by its index in order of arrival.
+    pub fn file_at(&self, customer: u16, index: u32) -> FileId
+        requires range { customer < length self.now }
+        requires index_range { index < length (part customer self.now).whole }
+        ensures { IsSomeAnd (slice_get (part customer self.now).whole index) (λ f. result ≡ f.number) }
+    {
+        whole_at(&self.files, customer, index as usize)
+    }
+
+    /// What holds of a customer's files after every call: their blocks are within its quota, they are no more than its
+    /// limit, and no two of them have one number.
+    pub fn is_within_quota(&self, customer: u16)
+        requires { customer < length self.now }
+        ensures blocks { used (part customer self.now) ≤ (part customer self.now).quota }
+        ensures files { length (part customer self.now).whole + length (part customer self.now).partial
+            ≤ (part customer self.now).limit }
+        ensures numbers { (n : ℕ) → files_numbered n (part customer self.now) ≤ 1 }
+        ensures sound { IsSound (part customer self.now) }
+    {
+        let _files = &self.files;
+    }
+}

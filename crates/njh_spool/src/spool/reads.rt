@@ -1,0 +1,57 @@
+//! What is read of any file, whole or partial.
+
+ghost use Rattle.std.specs.Prelude.{◌≡◌, ◌<◌, length, IfOk, IsOk, OnErr, MatchOption, Some};
+ghost use Rattle.std.specs.Option.{option_map, ForSome};
+ghost use Rattle.njh_spool.specs.Spools.{part, or_no_file, kind_numbered, records_numbered, record_numbered};
+
+use crate::SpoolFault;
+use crate::file_id::FileId;
+use crate::places::place;
+use crate::spool::Spool;
+use njh_record::{Kind, Record};
+
+impl Spool {
+    /// S3 where the number is no file's.
+    pub fn kind(&self, customer: u16, id: FileId) -> Result<Kind, SpoolFault>
+        requires { customer < length self.now }
+        ensures { result ≡ or_no_file (kind_numbered id (part customer self.now)) }
+    {
+        let Some(place) = place(&self.files, customer, id) else {
+            return Err(SpoolFault::NoSuchFile);
+        };
+        Ok(self.files[place].kind)
+    }
+
+    /// How many records a file has. S3 where the number is no file's.
+    pub fn records(&self, customer: u16, id: FileId) -> Result<u32, SpoolFault>
+        requires { customer < length self.now }
+        ensures { result ≡ or_no_file (option_map (λ records. length records) (records_numbered id (part customer self.now))) }
+    {
+        let Some(place) = place(&self.files, customer, id) else {
+            return Err(SpoolFault::NoSuchFile);
+        };
+        Ok(self.files[place].records.len())
+    }
+
+    /// Puts the n-th record's bytes into `into` and gives its SRCB. S3 where the number is no file's.
+    pub fn record_at(
+        &self,
+        customer: u16,
+        id: FileId,
+        n: u32,
+        into: &mut Record,
+    ) -> Result<u8, SpoolFault>
+        requires range { customer < length self.now }
+        requires within { ForSome (records_numbered id (part customer self.now)) (λ records. n < length records) }
+        ensures fault { MatchOption (records_numbered id (part customer self.now))
+            (result ≡ Err SpoolFault.NoSuchFile) (λ _. IsOk result) }
+        ensures ok { IfOk result (λ srcb. record_numbered id n (part customer self.now)
+            ≡ Some (record { srcb = srcb; bytes = into.new.items })) }
+        ensures err { OnErr result (into.new ≡ into.old) }
+    {
+        let Some(place) = place(&self.files, customer, id) else {
+            return Err(SpoolFault::NoSuchFile);
+        };
+        Ok(self.files[place].records.copy_to(n, into))
+    }
+}

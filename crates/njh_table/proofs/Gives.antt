@@ -1,0 +1,81 @@
+-- What a part of the walk gives: a value of which something holds, or a fault that is the walk's own.
+use Rattle.std.proofs.Common.{◌≡◌, ℕ, ℤ, pos, negsuc, Bool, true, false, cond, nat_le, List, [], ◌∷◌, Option, Some, None, IfSome, option_and_then, ok_or, Result, Ok, Err, MatchResult, refl, subst}
+use Rattle.std.specs.Prelude.{⊤}
+use Rattle.std.proofs.lemmas.Bool.{and_parts, leb-true}
+use Rattle.toml.specs.Data.{Data, Members, get_member, as_integer, as_str}
+use Rattle.njh_ebcdic.specs.Names.{within}
+use Rattle.njh_table.specs.declared.fault.TableFault.{TableFault}
+use Rattle.njh_table.specs.declared.fault.TableFault.TheVariants.{BadToml, MissingKey, BadValue, DoubleLine, DoubleNode, UnknownLine, QuotaOver, TooMany, Memory}
+use Rattle.njh_table.specs.Accepted.{IsBetween}
+use Rattle.njh_table.specs.Keys.{Walked, ◌>>=◌, ◌>>◌, fault_where, whole_between, number, is_line_name, line_name_of, line_name, keys_in, at_key, found_or, at_key_or}
+
+-- the text's own fault and want of memory are none of the walk's
+abbrev pub IsOfWalk : TableFault → Type 0
+IsOfWalk BadToml = ⊥
+IsOfWalk Memory = ⊥
+IsOfWalk _ = ⊤
+
+abbrev pub Gives : {A : Type 0} → (A → Type 0) → Walked A → Type 0
+Gives P walked = MatchResult walked P IsOfWalk
+
+pub given : {A : Type 0} (P : A → Type 0) (walked : Walked A) (x : A) → walked ≡ Ok x → Gives P walked → P x
+given P walked x is gives = subst (Gives P) is gives
+
+-- one part after another
+pub and_then : {A B : Type 0} (P : A → Type 0) (Q : B → Type 0) (walked : Walked A) (next : A → Walked B) → Gives P walked → ((x : A) → P x → Gives Q (next x)) → Gives Q (walked >>= next)
+and_then P Q (Ok x) next gives more = more x gives
+and_then P Q (Err fault) next gives more = gives
+
+-- a test that was passed
+pub past : {B : Type 0} (Q : B → Type 0) (test : Bool) (fault : TableFault) (next : Walked B) → IsOfWalk fault → (test ≡ false → Gives Q next) → Gives Q (fault_where test fault >> next)
+past Q true fault next of_walk more = of_walk
+past Q false fault next of_walk more = more refl
+
+pub some_or : {A : Type 0} (P : A → Type 0) (o : Option A) (fault : TableFault) → IsOfWalk fault → IfSome o P → Gives P (ok_or o fault)
+some_or P None fault of_walk holds = of_walk
+some_or P (Some x) fault of_walk holds = holds
+
+pub any : {A : Type 0} (o : Option A) → IfSome o (λ _. ⊤)
+any None = tt
+any (Some x) = tt
+
+pub at_key-gives : {A : Type 0} (P : A → Type 0) (read : Data → Option A) (key : List ℕ) (keys : Members) → ((value : Data) → IfSome (read value) P) → Gives P (at_key read key keys)
+at_key-gives P read key keys holds =
+    and_then (λ _. ⊤) P (ok_or (get_member key keys) MissingKey) (λ value. ok_or (read value) BadValue) (some_or (λ _. ⊤) (get_member key keys) MissingKey tt (any (get_member key keys)))
+    (λ value _. some_or P (read value) BadValue tt (holds value))
+
+found_or-gives : {A : Type 0} (P : A → Type 0) (read : Data → Option A) (other : A) (found : Option Data) → P other → ((value : Data) → IfSome (read value) P) → Gives P (found_or read other found)
+found_or-gives P read other None at_other holds = at_other
+found_or-gives P read other (Some value) at_other holds = some_or P (read value) BadValue tt (holds value)
+
+pub at_key_or-gives : {A : Type 0} (P : A → Type 0) (read : Data → Option A) (other : A) (key : List ℕ) (keys : Members) → P other → ((value : Data) → IfSome (read value) P) → Gives P (at_key_or read other key keys)
+at_key_or-gives P read other key keys at_other holds = found_or-gives P read other (get_member key keys) at_other holds
+
+-- ---- what the readers of values give
+
+pub whatever : {A : Type 0} (read : Data → Option A) (value : Data) → IfSome (read value) (λ _. ⊤)
+whatever read value = any (read value)
+
+within-between : (low high n : ℕ) → within low high n ≡ true → IsBetween low high n
+within-between low high n h =
+    let (least, most) = and_parts (nat_le low n) (nat_le n high) h in
+    (leb-true low n least, leb-true n high most)
+
+chosen : {A : Type 0} (P : A → Type 0) (test : Bool) (x : A) → (test ≡ true → P x) → IfSome (cond test (Some x) None) P
+chosen P true x holds = holds refl
+chosen P false x holds = tt
+
+pub number-between : (low high : ℕ) (value : Data) → IfSome (number low high value) (IsBetween low high)
+number-between low high value = by (as_integer value)
+  where
+    by : (z : Option ℤ) → IfSome (option_and_then (whole_between low high) z) (IsBetween low high)
+    by None = tt
+    by (Some (pos n)) = chosen (IsBetween low high) (within low high n) n (within-between low high n)
+    by (Some (negsuc n)) = tt
+
+pub line_name-is : (value : Data) → IfSome (line_name value) (λ name. is_line_name name ≡ true)
+line_name-is value = by (as_str value)
+  where
+    by : (text : Option (List ℕ)) → IfSome (option_and_then line_name_of text) (λ name. is_line_name name ≡ true)
+    by None = tt
+    by (Some text) = chosen (λ name. is_line_name name ≡ true) (is_line_name text) text (λ h. h)

@@ -1,0 +1,33 @@
+-- The loops of the walk: one element more, and the exit at the first fault.
+use Rattle.std.proofs.Common.{◌≡◌, ◌≢◌, ℕ, ◌+◌, ◌<◌, List, [], ◌∷◌, ◌++◌, length, map, get_or, drop, Result, Ok, Err, IsErrAnd, refl, ap, sym, subst, ◌∙◌, ◌==◌, arith}
+use Rattle.std.proofs.lemmas.Bool.{ne_eqb}
+use Rattle.toml.specs.Data.{Data, Items, item}
+use Rattle.toml.specs.View.{view, items_view}
+use Rattle.toml.specs.declared.value.Value.{Value}
+use Rattle.toml.proofs.Views.{items_view-drop}
+use Rattle.njh_table.specs.declared.fault.TableFault.{TableFault}
+use Rattle.njh_table.specs.declared.fault.TableFault.TheVariants.{Memory}
+use Rattle.njh_table.specs.Keys.{Walked, ◌>>=◌}
+use Rattle.njh_table.specs.Walk.{Walks, is_empty}
+
+-- the element at hand, and those after it
+pub turn : (values : List Value) (i : ℕ) (value : Value) → i < length values → value ≡ get_or values i value → items_view (drop i values) ≡ item (view value) (items_view (drop (i + 1) values))
+turn values i value within here = items_view-drop values i value within ∙ ap (λ v. item (view v) (items_view (drop (i + 1) values))) (sym here)
+
+module _ {A B : Type 0} (next : A → Walked B) where
+  -- the walk goes on after what a step gave
+  pub goes_on : (step : Walked A) (x : A) → step ≡ Ok x → (step >>= next) ≡ next x
+  goes_on step x gave = ap (λ s. s >>= next) gave
+
+  -- and ends at a step's fault
+  pub ends : (step : Walked A) (fault : TableFault) → step ≡ Err fault → (step >>= next) ≡ Err fault
+  ends step fault gave = ap (λ s. s >>= next) gave
+
+-- an exit by `?`
+pub stops : {A B : Type 0} (seen : A → B) (result : Result A TableFault) (walked : Walked B) (fault : TableFault) → IsErrAnd result (λ e. e ≡ fault) → (fault ≢ Memory → walked ≡ Err fault) → Walks seen result walked
+stops seen (Ok x) walked fault is_err told = elim is_err [ ]
+stops seen (Err e) walked fault same told = λ no_memory. told (λ memory. no_memory (same ∙ memory)) ∙ ap Err (sym same)
+
+pub is_empty_view : (values : List Value) → is_empty (items_view values) ≡ (length values == 0)
+is_empty_view [] = refl
+is_empty_view (v ∷ values) = sym (ne_eqb (length (v ∷ values)) 0 (λ none. absurd (omega arith)))
