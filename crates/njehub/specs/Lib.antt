@@ -3,3 +3,4 @@ pub mod Printed
 pub mod Replayed
 pub mod Script
 pub mod Status
+pub mod TableBytes

@@ -3,8 +3,8 @@ use Rattle.std.specs.Prelude.{ℕ}
 use Rattle.njehub.specs.declared.failure.Failure.{Failure}
 use Rattle.njehub.specs.declared.failure.Failure.TheVariants.{Words, Tables, Replay}
 use Rattle.njehub.specs.declared.fault.ReplayFault.TheVariants.{TooLong, Script, Device, Hub}
-use Rattle.njehub.specs.declared.tables.TableFault.{TableFault}
-use Rattle.njehub.specs.declared.tables.TableFault.TheVariants.{Memory}
+use Rattle.njh_table.specs.declared.fault.TableFault.{TableFault}
+use Rattle.njh_table.specs.declared.fault.TableFault.TheVariants.{Memory}
 
 -- 1 where the tables are refused, 2 where there was no memory for them
 abbrev pub table_status : TableFault → ℕ

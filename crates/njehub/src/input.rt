@@ -1,6 +1,7 @@
 //! Reads a script from wherever it comes.
 
 ghost use Rattle.std.specs.Prelude.{◌≡◌, ◌<◌, ◌≤◌, ◌⊎◌, length, vec_len, IfOk, IfErr, IfSome, OnOk, ◌++◌, ◌+◌, ◌↔◌};
+ghost use Rattle.njehub.specs.Replayed.{HasTooLong};
 
 use crate::fault::ReplayFault;
 use crate::script::LIMIT;
@@ -17,7 +18,7 @@ const PIECE: usize = 4096;
 pub fn read_text<R: Read>(alloc: Global, script: &mut R) -> Result<Vec<u8>, ReplayFault>
     ensures text { IfOk result (λ text. IfSome (R.remaining script.old) (λ left. text.items ≡ left)) }
     ensures within { IfOk result (λ text. vec_len text ≤ LIMIT) }
-    ensures long { result ≡ Err ReplayFault.TooLong → IfSome (R.remaining script.old) (λ left. LIMIT < length left) }
+    ensures long { result ≡ Err ReplayFault.TooLong → HasTooLong (R.remaining script.old) }
     ensures refused { IfErr result (λ fault. (fault ≡ ReplayFault.TooLong) ⊎ (fault ≡ ReplayFault.Device) ⊎ (fault ≡ ReplayFault.Hub HubFault.Memory)) }
 {
     let mut text = Vec::new(alloc);

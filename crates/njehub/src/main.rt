@@ -10,19 +10,19 @@ mod print;
 mod printer;
 mod replay;
 mod script;
+mod table_file;
 #[cfg(test)]
 mod tests;
 mod words;
 
 use crate::failure::Failure;
 use crate::replay::replay;
+use crate::table_file::tables_of;
 use crate::words::{Request, not_text, request_of};
-use njh_table::{TableFault, Tables};
-use std::alloc::Global;
 use std::io::{BufWriter, ErrorKind};
 use std::process::ExitCode;
 use std::rt::{Env, Files};
-use std::{env, fs, io};
+use std::{env, io};
 
 /// The program's words.
 fn words_of<R: Env + AllocGlobal>(rt: &R) -> Result<Vec<String>, Failure> {
@@ -32,22 +32,6 @@ fn words_of<R: Env + AllocGlobal>(rt: &R) -> Result<Vec<String>, Failure> {
             rt.alloc(),
         )?)),
         Err(error) => Err(Failure::from(error)),
-    }
-}
-
-/// The tables of a file, or the base tables where none is named.
-fn tables_of<R: Files + AllocGlobal>(rt: &R, file: Option<&str>) -> Result<Tables, Failure> {
-    match file {
-        Some(path) => Ok(tables_in(rt.alloc(), &fs::read(rt, path)?)?),
-        None => Ok(Tables::base(rt.alloc())?),
-    }
-}
-
-/// The tables of a file's bytes.
-fn tables_in(alloc: Global, bytes: &[u8]) -> Result<Tables, TableFault> {
-    match str::from_utf8(bytes) {
-        Ok(text) => Tables::read(alloc, text),
-        Err(_) => Err(TableFault::BadToml),
     }
 }
 

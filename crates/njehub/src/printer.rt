@@ -1,8 +1,9 @@
 //! A sink that prints.
 
-ghost use Rattle.std.specs.Prelude.{◌≡◌, ◌≤◌, OnOk, OnErr, None, IfSome};
+ghost use Rattle.std.specs.Prelude.{◌≡◌, IsTrue, IsSomeAnd, None};
 ghost use Rattle.std.specs.Io.KnownBytes.{Appends};
 ghost use Rattle.njehub.specs.Names.{name_at};
+ghost use Rattle.njehub.specs.Printed.{frame_text};
 
 use crate::names::LineNames;
 use crate::print::print_frame;
@@ -18,10 +19,21 @@ pub struct Printer<'a, W> {
     pub failures: u64,
 }
 
-impl<W: Write> Sink for Printer<'_, W> {
-    ghost use Rattle.std.specs.Prelude.{None};
-    ghost use Rattle.njehub.specs.Printed.{frame_text};
+impl<W: Write> Printer<'_, W> {
+    /// Prints a frame, and says whether it is printed whole.
+    fn print(&mut self, line: LineId, frame: &[u8]) -> bool
+        ensures printed { IsTrue result → IsSomeAnd (name_at self.old.names.now line)
+            (λ name. Appends (W.contents self.old.out.now) (W.contents self.new.out.now) (frame_text name frame.now)) }
+        ensures failures { self.new.failures ≡ self.old.failures }
+    {
+        match self.names.get(line) {
+            Some(name) => print_frame(self.out, name, frame).is_ok(),
+            None => false,
+        }
+    }
+}
 
+impl<W: Write> Sink for Printer<'_, W> {
     ghost sent = { λ _. None };
 
     ghost count = { λ printer. printer.failures };
@@ -31,15 +43,10 @@ impl<W: Write> Sink for Printer<'_, W> {
     }
 
     fn send(&mut self, line: LineId, frame: &[u8]) -> Result<(), SinkFault> {
-        let printed = match self.names.get(line) {
-            Some(name) => print_frame(self.out, name, frame).is_ok(),
-            None => false,
-        };
-        if printed {
-            Ok(())
-        } else {
-            self.failures = self.failures.saturating_add(1);
-            Err(SinkFault)
+        if self.print(line, frame) {
+            return Ok(());
         }
+        self.failures = self.failures.saturating_add(1);
+        Err(SinkFault)
     }
 }

@@ -13,13 +13,13 @@ returns-in-None c =
 
 pub returns-in-None-line_owner : goal.returns-in-None-line_owner
 returns-in-None-line_owner c =
-    let known = sym c.in-None-line_owner.is ∙ c.line_owner-in-Some-split_once.ensures in
+    let known = sym c.in-None-line_owner.is ∙ c.line_owner-in-Some-split_once.ensures.owner in
     sym (event_of_words-three (owner_of c.args.tables.now) c.args.line.now c.in-Some.word c.in-Some.rest c.in-Some-split_once.name c.in-Some-split_once.digits _
     c.in-Some.ensures.cases c.in-Some-split_once.ensures.cases known)
 
 pub returns-in-Some-line_owner : goal.returns-in-Some-line_owner
 returns-in-Some-line_owner c =
-    let known = sym c.in-Some-line_owner.is ∙ c.line_owner-in-Some-split_once.ensures in
+    let known = sym c.in-Some-line_owner.is ∙ c.line_owner-in-Some-split_once.ensures.owner in
     let told = event_of_words-three (owner_of c.args.tables.now) c.args.line.now c.in-Some.word c.in-Some.rest c.in-Some-split_once.name c.in-Some-split_once.digits _
     c.in-Some.ensures.cases c.in-Some-split_once.ensures.cases known in
     rw told c.bytes_on.ensures
