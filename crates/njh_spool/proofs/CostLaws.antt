@@ -4,8 +4,7 @@ use Rattle.std.specs.Prelude.{slice_get, IsSomeAnd}
 use Rattle.std.proofs.lemmas.List.Sums.{sum_by_push, sum_by-cons}
 use Rattle.njh_record.specs.Bytes.{with_field}
 use Rattle.njh_record.specs.Stored.{Stored}
-use Rattle.njh_spool.specs.CustomerSpool.{cost, at_index, rewritten_record}
-use Rattle.njh_spool.specs.Costs.{stored_size}
+use Rattle.njh_spool.specs.CustomerSpool.{stored_size, cost, at_index, rewritten_record}
 
 -- one record more
 pub cost_push : (records : List Stored) (r : Stored) → cost (records ++ r ∷ []) ≡ (stored_size records + (3 + length r.bytes) + 251) / 252

@@ -4,8 +4,8 @@ use Rattle.std.proofs.lemmas.List.{take-append-le, drop-append-le, take_all, dro
 use Rattle.std.proofs.lemmas.List.Sums.{sum_by-cons}
 use Rattle.njh_record.specs.Bytes.{field}
 use Rattle.njh_record.specs.Stored.{Stored}
+use Rattle.njh_spool.specs.CustomerSpool.{stored_size}
 use Rattle.njh_spool.specs.declared.records.Place.{Place}
-use Rattle.njh_spool.specs.Costs.{stored_size}
 use Rattle.njh_spool.specs.PackedRecords.{unpacked, unpacked_all, IsRow, IsPacked}
 
 pub IsRow-ends : (from : ℕ) (places : List Place) (end : ℕ) → IsRow from places end → from ≤ end

@@ -4,17 +4,20 @@ use Rattle.std.specs.Prelude.{All}
 use Rattle.std.proofs.lemmas.List.Elements.{All-head, All-tail}
 use Rattle.std.proofs.lemmas.List.Sums.{sum_by-cons}
 use Rattle.njh_spool.specs.CustomerSpool.{CustomerSpool, used}
-use Rattle.njh_spool.specs.Spools.{IsSound, no_spool}
+use Rattle.njh_spool.specs.Spools.{no_spool}
 
-sum_by-used : (spools : List CustomerSpool) → All IsSound spools → sum_by used spools ≤ sum_by (λ (s : CustomerSpool). s.quota) spools
-sum_by-used [] sound = omega arith
-sum_by-used (s ∷ spools) sound =
-    omega (arith, sum_by-cons used s spools, sum_by-cons (λ (t : CustomerSpool). t.quota) s spools, (All-head IsSound s spools sound).within_quota, sum_by-used spools (All-tail IsSound s spools sound))
+abbrev pub IsWithin : CustomerSpool → Type 0
+IsWithin s = used s ≤ s.quota
+
+sum_by-used : (spools : List CustomerSpool) → All IsWithin spools → sum_by used spools ≤ sum_by (λ (s : CustomerSpool). s.quota) spools
+sum_by-used [] within_all = omega arith
+sum_by-used (s ∷ spools) within_all =
+    omega (arith, sum_by-cons used s spools, sum_by-cons (λ (t : CustomerSpool). t.quota) s spools, All-head IsWithin s spools within_all, sum_by-used spools (All-tail IsWithin s spools within_all))
 
 -- what a customer's quota leaves it, all quotas together leave
-pub room_left : (spools : List CustomerSpool) (c blocks : ℕ) → All IsSound spools → c < length spools → used (get_or spools c no_spool) + blocks ≤ (get_or spools c no_spool).quota → sum_by used spools + blocks ≤ sum_by (λ (s : CustomerSpool). s.quota) spools
-room_left [] c blocks sound within room = absurd (omega arith)
-room_left (s ∷ spools) zero blocks sound within room =
-    omega (arith, sum_by-cons used s spools, sum_by-cons (λ (t : CustomerSpool). t.quota) s spools, sum_by-used spools (All-tail IsSound s spools sound))
-room_left (s ∷ spools) (suc c) blocks sound within room =
-    omega (arith, sum_by-cons used s spools, sum_by-cons (λ (t : CustomerSpool). t.quota) s spools, (All-head IsSound s spools sound).within_quota, room_left spools c blocks (All-tail IsSound s spools sound) (omega arith) room)
+pub room_left : (spools : List CustomerSpool) (c blocks : ℕ) → All IsWithin spools → c < length spools → used (get_or spools c no_spool) + blocks ≤ (get_or spools c no_spool).quota → sum_by used spools + blocks ≤ sum_by (λ (s : CustomerSpool). s.quota) spools
+room_left [] c blocks within_all within room = absurd (omega arith)
+room_left (s ∷ spools) zero blocks within_all within room =
+    omega (arith, sum_by-cons used s spools, sum_by-cons (λ (t : CustomerSpool). t.quota) s spools, sum_by-used spools (All-tail IsWithin s spools within_all))
+room_left (s ∷ spools) (suc c) blocks within_all within room =
+    omega (arith, sum_by-cons used s spools, sum_by-cons (λ (t : CustomerSpool). t.quota) s spools, All-head IsWithin s spools within_all, room_left spools c blocks (All-tail IsWithin s spools within_all) (omega arith) room)

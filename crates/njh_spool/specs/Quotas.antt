@@ -1,9 +1,10 @@
 -- The limits of a quota.
 use Rattle.std.specs.Prelude.{◌≤◌}
 use Rattle.njh_spool.specs.declared.quota.Quota.{Quota}
+use Rattle.njh_spool.specs.declared.quota.TheConstants.{MOST_BLOCKS, MOST_FILES}
 
 pub record IsWithinLimits (q : Quota) : Type 0 where
   pub some_blocks : 1 ≤ q.blocks
-  pub most_blocks : q.blocks ≤ 65535
+  pub most_blocks : q.blocks ≤ MOST_BLOCKS
   pub some_files : 1 ≤ q.files
-  pub most_files : q.files ≤ 1024
+  pub most_files : q.files ≤ MOST_FILES

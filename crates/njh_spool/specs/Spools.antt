@@ -5,6 +5,7 @@ use Rattle.njh_record.specs.Stored.{Stored}
 use Rattle.njh_record.specs.declared.Kind.{Kind}
 use Rattle.njh_spool.specs.declared.SpoolFault.{SpoolFault}
 use Rattle.njh_spool.specs.declared.SpoolFault.TheVariants.{QuotaFull, TooManyFiles, NoSuchFile}
+use Rattle.njh_spool.specs.declared.quota.TheConstants.{MOST_BLOCKS, MOST_FILES}
 use Rattle.njh_spool.specs.CustomerSpool.{CustomerSpool, empty_spool, used, has_file_room, has_block, partial_numbered, whole_numbered, has_room_for}
 
 -- a customer that the spool does not have
@@ -25,8 +26,8 @@ pub record IsSound (s : CustomerSpool) : Type 0 where
   pub within_limit : length s.whole + length s.partial ≤ s.limit
   pub apart : (n : ℕ) → files_numbered n s ≤ 1
   pub numbered : (n : ℕ) → s.limit ≤ n → files_numbered n s ≡ 0
-  pub quota_limit : s.quota ≤ 65535
-  pub files_limit : s.limit ≤ 1024
+  pub quota_limit : s.quota ≤ MOST_BLOCKS
+  pub files_limit : s.limit ≤ MOST_FILES
 
 -- a fault where a test fails
 abbrev pub fault_unless : Bool → SpoolFault → Option SpoolFault

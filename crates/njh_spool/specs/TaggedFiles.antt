@@ -1,5 +1,6 @@
 -- One list of all customers' files, each with its customer: what of it is one customer's spool.
 use Rattle.std.specs.Prelude.{◌≡◌, ℕ, ◌+◌, ◌≤◌, Bool, true, false, List, [], ◌∷◌, length, map, filter_map, Option, Some, None, ◌==◌, ◌&&◌, cond, not}
+use Rattle.njh_spool.specs.declared.quota.TheConstants.{MOST_CUSTOMERS}
 use Rattle.njh_spool.specs.declared.account.Account.{Account}
 use Rattle.njh_spool.specs.declared.file.File.{File}
 use Rattle.njh_spool.specs.declared.file.Stage.{Stage}
@@ -52,8 +53,8 @@ spools_from c (account ∷ accounts) files = spool_of c account files ∷ spools
 abbrev pub spools_of : List Account → List File → List CustomerSpool
 spools_of accounts files = spools_from 0 accounts files
 
--- each customer's spool is sound, and its blocks in use are counted; customers are at most 64
+-- each customer's spool is sound, and its blocks in use are counted
 pub record IsKept (accounts : List Account) (files : List File) : Type 0 where
-  pub few : length accounts ≤ 64
+  pub few : length accounts ≤ MOST_CUSTOMERS
   pub counted : map (λ a. a.used) accounts ≡ map used (spools_of accounts files)
   pub sound : All IsSound (spools_of accounts files)

@@ -67,8 +67,8 @@ pub fn whole_at(files: &[File], customer: u16, index: usize) -> FileId
 
 /// The least number that no file of the customer has.
 pub fn free_number(files: &[File], customer: u16) -> FileId
-    requires small { All (λ f. f.customer ≡ customer → f.number < 1024) files.now }
-    requires room { (n : ℕ) × (n < 1024) × (list_any (is_numbered customer n) files.now ≡ false) }
+    requires small { All (λ f. f.customer ≡ customer → f.number < MOST_FILES) files.now }
+    requires room { (n : ℕ) × (n < MOST_FILES) × (list_any (is_numbered customer n) files.now ≡ false) }
     ensures free { list_any (is_numbered customer result) files.now ≡ false }
     ensures least { (n : ℕ) → n < result → list_any (is_numbered customer n) files.now ≡ true }
 {

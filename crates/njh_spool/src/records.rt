@@ -1,8 +1,7 @@
 //! The records of one file.
 
 ghost use Rattle.std.specs.Prelude.{◌≡◌, ℕ, ◌+◌, ◌*◌, ◌/◌, ◌<◌, ◌≤◌, [], ◌∷◌, ◌++◌, length, Some, OnOk, OnErr, IsSomeAnd, slice_get};
-ghost use Rattle.njh_spool.specs.CustomerSpool.{cost, at_index, rewritten_record};
-ghost use Rattle.njh_spool.specs.Costs.{stored_size};
+ghost use Rattle.njh_spool.specs.CustomerSpool.{stored_size, cost, at_index, rewritten_record};
 
 use njh_record::Record;
 use std::alloc::{AllocError, Global};

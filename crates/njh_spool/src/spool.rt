@@ -14,7 +14,7 @@ use crate::account::Account;
 use crate::file::File;
 use crate::file_id::FileId;
 use crate::places::{whole_at, whole_count};
-use crate::quota::Quota;
+use crate::quota::{MOST_CUSTOMERS, Quota};
 use std::alloc::Global;
 use std::marker::Model;
 
@@ -42,7 +42,7 @@ impl Spool {
     /// A spool without files, with these quotas in the customers' order.
     pub fn open(alloc: Global, quotas: &[Quota]) -> Result<Self, SpoolFault>
         requires some { 0 < length quotas.now }
-        requires few { length quotas.now ≤ 64 }
+        requires few { length quotas.now ≤ MOST_CUSTOMERS }
         requires limits { All IsWithinLimits quotas.now }
         ensures ok { IfOk result (λ spool. spool ≡ map (λ q. empty_spool q.blocks q.files) quotas.now) }
         ensures memory { IsOkUnless result SpoolFault.Memory }
@@ -92,7 +92,7 @@ impl Spool {
 
     /// What holds of a customer's files after every call: their blocks are within its quota, they are no more than its
     /// limit, and no two of them have one number.
-    pub fn is_within_quota(&self, customer: u16)
+    pub fn quota_holds(&self, customer: u16)
         requires { customer < length self.now }
         ensures blocks { used (part customer self.now) ≤ (part customer self.now).quota }
         ensures files { length (part customer self.now).whole + length (part customer self.now).partial

@@ -2,8 +2,7 @@ use Rattle.std.proofs.Common.{◌≡◌, ◌+◌, ◌-◌, [], ◌∷◌, ◌++�
 use Rattle.std.proofs.lemmas.List.{set_split}
 use Rattle.std.proofs.lemmas.Result.{err_from_is_err_and}
 use Rattle.njh_record.specs.Stored.{Stored}
-use Rattle.njh_spool.specs.CustomerSpool.{cost}
-use Rattle.njh_spool.specs.Costs.{stored_size}
+use Rattle.njh_spool.specs.CustomerSpool.{stored_size, cost}
 use Rattle.njh_spool.proofs.AccountLaws.{used_small}
 use Rattle.njh_spool.proofs.CostLaws.{cost_push, cost_push-small, size_in_blocks}
 use Rattle.njh_spool.proofs.PartialLaws.{HasPartial, has_partial, HasNoPartial, has_no_partial, covered, append_fault-full, append_fault-none, appends}

@@ -1,5 +1,5 @@
 use Rattle.njh_spool.specs.Spools.{IsSound, no_spool, part}
-use Rattle.njh_spool.proofs.spool.Spool.is_within_quota.Goals as goal
+use Rattle.njh_spool.proofs.spool.Spool.quota_holds.Goals as goal
 
 pub returns-clause-numbers : goal.returns-clause-numbers
 returns-clause-numbers c =
