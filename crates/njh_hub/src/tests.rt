@@ -1,6 +1,7 @@
 use super::*;
 use njh_table::{LineId, Tables};
 use std::alloc::Global;
+use std::process::Abort;
 use std::test::Fail;
 
 const A1: LineId = LineId {
@@ -124,6 +125,16 @@ fn one_frame_a_step(rt: HostRuntime) -> Result<(), Fail> {
     Ok(())
 }
 
+/// The frames of a run on a line are those of the line's own run.
+fn assert_same(rt: &impl Abort, line: LineId, all: &[(LineId, Piece)], alone: &[(LineId, Piece)]) {
+    let sent = all.iter().filter(|pair| pair.0 == line).count();
+    assert_eq!(rt; sent, alone.len());
+    let sent = all.iter().filter(|pair| pair.0 == line);
+    for (pair, own) in sent.zip(alone.iter()) {
+        assert_eq!(rt; pair.1.bytes(), own.1.bytes());
+    }
+}
+
 /// What one customer is sent doesn't depend on the events of the other.
 #[test]
 fn interleaved_and_alone(rt: HostRuntime) -> Result<(), Fail> {
@@ -144,12 +155,37 @@ fn interleaved_and_alone(rt: HostRuntime) -> Result<(), Fail> {
         let mut alone = MemorySink::new(alloc);
         let mut other = Hub::open(alloc, Tables::base(alloc)?)?;
         assert_eq!(rt; other.run(own.as_slice(), &mut alone), Ok(()));
-        let sent = all.pairs().iter().filter(|pair| pair.0 == line);
         assert_eq!(rt; alone.pairs().len(), 3);
-        for (pair, frame) in sent.zip(alone.pairs().iter()) {
-            assert_eq!(rt; pair.1.bytes(), frame.1.bytes());
-        }
+        assert_same(&rt, line, all.pairs(), alone.pairs());
     }
+    Ok(())
+}
+
+/// Pieces that are cut anywhere, with the other customer's signals between.
+#[test]
+fn cut_between_signals_and_alone(rt: HostRuntime) -> Result<(), Fail> {
+    let alloc = rt.alloc();
+    let (first, second) = SIGN_ON.split_at(20);
+    let mut both = Vec::new(alloc);
+    both.push(Event::Bytes(A1, Piece::of(alloc, &[0x01])?))?;
+    both.push(Event::Garbled(B1))?;
+    both.push(Event::Bytes(A1, Piece::of(alloc, &[0x2d])?))?;
+    both.push(Event::Lost(B1))?;
+    both.push(Event::Bytes(A1, Piece::of(alloc, first)?))?;
+    both.push(Event::Tick(B1))?;
+    both.push(Event::Bytes(A1, Piece::of(alloc, second)?))?;
+    both.push(Event::Bytes(B1, Piece::of(alloc, &CONTACT)?))?;
+    both.push(Event::Bytes(A1, Piece::of(alloc, &LIST)?))?;
+    let mut all = MemorySink::new(alloc);
+    let mut hub = Hub::open(alloc, Tables::base(alloc)?)?;
+    assert_eq!(rt; hub.run(both.as_slice(), &mut all), Ok(()));
+    let mut own = Vec::new(alloc);
+    session(alloc, A1, &mut own)?;
+    let mut alone = MemorySink::new(alloc);
+    let mut other = Hub::open(alloc, Tables::base(alloc)?)?;
+    assert_eq!(rt; other.run(own.as_slice(), &mut alone), Ok(()));
+    assert_eq!(rt; alone.pairs().len(), 3);
+    assert_same(&rt, A1, all.pairs(), alone.pairs());
     Ok(())
 }
 
