@@ -6,7 +6,8 @@ use Rattle.njh_ebcdic.specs.Names.{is_name}
 use Rattle.njh_bisync.specs.Reading.{Rest, Nothing}
 use Rattle.njh_table.specs.Entries.{CustomerEntry, LineEntry}
 use Rattle.njh_table.specs.TableFile.{NamedLine}
-use Rattle.njh_hub.specs.Customer.{LineState, fresh_line, config_of, password_in}
+use Rattle.njh_line.specs.Lines.{LineState, fresh_line}
+use Rattle.njh_hub.specs.Customer.{config_of, password_in}
 use Rattle.njh_hub.specs.Runs.{Part, opened}
 use Rattle.njh_hub.specs.Parts.{Lines, part_with, parts_of}
 

@@ -1,22 +1,31 @@
 -- A customer alone: what each frame and each signal on one of its lines does and sends.
-use Rattle.std.specs.Prelude.{ℕ, zero, suc, ◌+◌, ◌-◌, Bool, true, false, List, [], ◌∷◌, ◌++◌, length, take, drop, map, replicate, slice_index_or, slice_set, Ok, Err, ◌==◌, nat_le, nat_lt, cond, Option, Some, None}
-use Rattle.njh_bisync.specs.Frames.{Received, Enquiry, Ack0, Nak, Eot, Text, Spoiled}
-use Rattle.njh_bisync.specs.Written.{text_bytes}
-use Rattle.njh_block.specs.Blocks.{Item, Data, Aborted, Long, Control, General, read_block, general_first, text_of}
-use Rattle.njh_block.specs.Writing.{Writing, has_room, with_last}
-use Rattle.njh_header.specs.SignOns.{SignOn, sign_on_bytes}
+use Rattle.std.specs.Prelude.{ℕ, Bool, true, false, List, [], ◌∷◌, length, slice_index_or, slice_set, Ok, Err, ◌==◌, ◌||◌, nat_lt, cond, None}
+use Rattle.njh_bisync.specs.Frames as frame
+use Rattle.njh_bisync.specs.Frames.{Received}
+use Rattle.njh_block.specs.Blocks.{Item, Data, Aborted, Long, Control, General, Block, read_block, general_first}
 use Rattle.njh_nmr.specs.Nodal.{Nodal, nodal_of, is_user_command, said_by}
-use Rattle.njh_table.specs.Entries.{CustomerEntry, LineEntry, route_of}
+use Rattle.njh_table.specs.Entries.{CustomerEntry, route_of}
 use Rattle.njh_table.specs.declared.Route.{Route}
 use Rattle.njh_table.specs.declared.Route.TheVariants.{Here, Line, Unknown}
+use Rattle.njh_line.specs.LineTable as input
+use Rattle.njh_line.specs.LineTable.{Input, accepted}
+use Rattle.njh_line.specs.Lines.{LineState, fresh_line, after_input, after_end, waits, without_answers}
+use Rattle.njh_line.specs.declared.verdict.Verdict.{Verdict}
 use Rattle.njh_hub.specs.declared.event.Signal.{Signal}
-use Rattle.njh_hub.specs.declared.session.Config.{Config}
-use Rattle.njh_hub.specs.declared.session.Session.{Session}
-use Rattle.njh_hub.specs.declared.session.Reply.{Reply}
-use Rattle.njh_hub.specs.declared.session.Reply.TheVariants as reply
-use Rattle.njh_hub.specs.Customer.{Customer, LineState, fresh_line}
-use Rattle.njh_hub.specs.LineTable as line_table
+use Rattle.njh_hub.specs.declared.event.Signal.TheVariants as signal
+use Rattle.njh_hub.specs.Customer.{Customer}
 use Rattle.njh_hub.specs.Command.{reply_to}
+use Rattle.njh_hub.specs.Sending.{Sending, replies}
+
+-- a line in the place of one that isn't there
+abbrev pub no_line : LineState
+no_line = fresh_line (record { hub = []; node = []; calls = false; block = 0; password = None })
+
+abbrev pub line_at : ℕ → List LineState → LineState
+line_at l lines = slice_index_or lines l no_line
+
+abbrev pub on_line : ℕ → (LineState → LineState) → List LineState → List LineState
+on_line l f lines = slice_set lines l (f (line_at l lines))
 
 -- The lines after something came on one, and the frame that answers it; [] where none does.
 pub record Answer : Type 0 where
@@ -26,24 +35,15 @@ pub record Answer : Type 0 where
 abbrev pub silent : List LineState → Answer
 silent lines = record { lines = lines; frame = [] }
 
--- a line in the place of one that isn't there
-abbrev pub no_line : LineState
-no_line = fresh_line (record { hub = []; node = []; block = 0; password = None })
+abbrev pub sends_on : ℕ → (LineState → Sending) → List LineState → Answer
+sends_on l f lines = let s = f (line_at l lines) in record { lines = slice_set lines l s.line; frame = s.frame }
 
-abbrev pub line_at : ℕ → List LineState → LineState
-line_at l lines = slice_index_or lines l no_line
-
-abbrev pub in_session : Session → LineState → LineState
-in_session s x = record x { session = s }
-
--- a nodal message waits, where there is room for 64
-abbrev pub with_message : List ℕ → LineState → LineState
-with_message m x = record x { messages = cond (nat_lt (length x.messages) 64) (x.messages ++ m ∷ []) x.messages }
+-- ---- what a record does
 
 -- what the hub says to a user goes by the route of the node, and is dropped where there is no line
 abbrev pub said_on : Route → List ℕ → List LineState → List LineState
 said_on Here m lines = lines
-said_on (Line k) m lines = slice_set lines k (with_message m (line_at k lines))
+said_on (Line k) m lines = on_line k (waits m) lines
 said_on Unknown m lines = lines
 
 -- a nodal message that came: a command of a user for the hub itself is answered, any other is dropped
@@ -62,7 +62,7 @@ message_came entry bytes lines =
       | Ok n ↦ elim (is_here (route_of entry n.to)) [ true ↦ cond (is_user_command n) (command_came entry n lines) lines | false ↦ lines ]
     ]
 
--- what a block's record does
+-- what a block's record does that ends no session
 abbrev pub acted : CustomerEntry → Item → List LineState → List LineState
 acted entry (Data rcb srcb bytes) lines = elim (rcb == 0x9a) [ true ↦ message_came entry bytes lines | false ↦ lines ]
 acted entry (Aborted rcb srcb) lines = lines
@@ -70,95 +70,72 @@ acted entry (Long rcb srcb) lines = lines
 acted entry (Control rcb srcb) lines = lines
 acted entry (General srcb rest) lines = lines
 
-abbrev pub all_acted : CustomerEntry → List Item → List LineState → List LineState
-all_acted entry [] lines = lines
-all_acted entry (i ∷ is) lines = all_acted entry is (acted entry i lines)
+-- a count that the peer didn't expect (E0), and of the general records the sign-ons I, J and K and the sign-off B
+abbrev pub ends_session : Item → Bool
+ends_session (Control rcb srcb) = rcb == 0xe0
+ends_session (General srcb rest) = (srcb == 0xc9) || ((srcb == 0xd1) || ((srcb == 0xc2) || (srcb == 0xd2)))
+ends_session _ = false
 
--- nothing is suspended
-abbrev pub all_on : ℕ × ℕ
-all_on = (0x8f, 0xcf)
+-- The lines after records, and whether one ended the session.
+pub record Acted : Type 0 where
+  pub ended : Bool
+  pub lines : List LineState
 
--- the record of a nodal message in a block of the hub's
-abbrev pub message_item : List ℕ → Item
-message_item m = Data 0x9a 0x80 m
+-- the records act in their order, up to one that ends the session
+abbrev pub all_acted : CustomerEntry → List Item → List LineState → Acted
+all_acted entry [] lines = record { ended = false; lines = lines }
+all_acted entry (i ∷ is) lines = elim (ends_session i) [ true ↦ record { ended = true; lines = lines } | false ↦ all_acted entry is (acted entry i lines) ]
 
--- A block that is being written, and the messages that are left.
-pub record Filling : Type 0 where
-  pub writing : Writing
-  pub left : List (List ℕ)
+abbrev pub acted_where : Bool → CustomerEntry → List Item → List LineState → Acted
+acted_where true entry items lines = all_acted entry items lines
+acted_where false entry items lines = record { ended = false; lines = lines }
 
--- messages go into a block in their order, until one has no room
-abbrev pub filled : List (List ℕ) → Writing → Filling
-filled [] w = record { writing = w; left = [] }
-filled (m ∷ ms) w = elim (has_room w (message_item m)) [ true ↦ filled ms (with_last (message_item m) w) | false ↦ record { writing = w; left = m ∷ ms } ]
+-- ---- what comes on a line
 
--- the hub's next block on a line, without records
-abbrev pub empty_block : LineState → Writing
-empty_block x = record { limit = x.session.size; bcb = 0x80 + x.session.count; fcs = all_on; items = [] }
+-- the end of a session: its answers are gone
+abbrev pub over : LineState → LineState
+over x = without_answers x
 
-abbrev pub next_of : LineState → Filling
-next_of x = filled x.messages (empty_block x)
+abbrev pub over_where : Bool → LineState → LineState
+over_where true x = over x
+over_where false x = x
 
--- the line after a block that left these messages
-abbrev pub with_left : List (List ℕ) → LineState → LineState
-with_left left x = record x { session = line_table.counted_on x.session; messages = left }
+-- what a verdict asks for is sent, and then the session ends where it says so
+abbrev pub answers : Verdict → LineState → Sending
+answers v x = let s = replies v.reply x in record { line = over_where v.ended s.line; frame = s.frame }
 
-abbrev pub ack0 : List ℕ
-ack0 = 0x10 ∷ 0x70 ∷ []
+-- what comes to a line but a good block
+abbrev pub heard : Input → LineState → Sending
+heard came x = answers (accepted x.config came x.session).verdict (after_input came x)
 
--- the next block of a line, or what goes in its place
-abbrev pub next_block : ℕ → Bool → List LineState → Answer
-next_block l or_ack0 lines =
+-- a good block: its records act where the line table says so, and then it is answered
+abbrev pub block_came : CustomerEntry → ℕ → Block → List LineState → Answer
+block_came entry l b lines =
     let x = line_at l lines in
-    let f = next_of x in
-    elim f.writing.items [
-      | [] ↦ cond or_ack0 (record { lines = lines; frame = ack0 }) (silent lines)
-      | i ∷ is ↦ record { lines = slice_set lines l (with_left f.left x); frame = text_bytes (text_of f.writing.bcb f.writing.fcs (i ∷ is)) }
-    ]
-
-abbrev pub password_bytes : Option (List ℕ) → List ℕ
-password_bytes None = replicate 8 0x40
-password_bytes (Some password) = password
-
--- the sign-on that the hub answers
-abbrev pub own_sign_on : Config → SignOn
-own_sign_on line = record { node = line.hub; block = line.block; password = password_bytes line.password }
-
-abbrev pub j_frame : Config → List ℕ
-j_frame line = text_bytes (text_of 0xa0 all_on (General 0xd1 (sign_on_bytes (own_sign_on line)) ∷ []))
-
-abbrev pub replies : ℕ → Reply → List LineState → Answer
-replies l reply.Nothing lines = silent lines
-replies l reply.Ack0 lines = record { lines = lines; frame = ack0 }
-replies l reply.SignOn lines = record { lines = lines; frame = j_frame (line_at l lines).config }
-replies l (reply.Next or_ack0) lines = next_block l or_ack0 lines
-
--- after a verdict: the line's session, the block's records, the reply
-abbrev pub follows : CustomerEntry → ℕ → List Item → line_table.Verdict → List LineState → Answer
-follows entry l items v lines =
-    let judged = slice_set lines l (in_session v.session (line_at l lines)) in
-    replies l v.reply (cond v.acts (all_acted entry items judged) judged)
-
--- what comes to a line that is there
-abbrev pub came : CustomerEntry → ℕ → List Item → line_table.Input → List LineState → Answer
-came entry l items input lines =
-    let x = line_at l lines in
-    follows entry l items (line_table.accepted x.config input x.session) lines
+    let came = input.Block b.bcb b.fcs (general_first b.items) in
+    let v = (accepted x.config came x.session).verdict in
+    let a = acted_where v.acts entry b.items (on_line l (after_input came) lines) in
+    elim a.ended [ true ↦ silent (on_line l (λ y. over (after_end y)) a.lines) | false ↦ sends_on l (answers v) a.lines ]
 
 abbrev pub text_came : CustomerEntry → ℕ → List ℕ → List LineState → Answer
 text_came entry l text lines =
     elim (read_block text) [
-      | Ok b ↦ came entry l b.items (line_table.Block b.bcb (general_first b.items)) lines
-      | Err e ↦ came entry l [] line_table.Ending lines
+      | Ok b ↦ block_came entry l b lines
+      | Err e ↦ sends_on l (heard input.Bad) lines
     ]
 
 abbrev pub answer_to : CustomerEntry → ℕ → Received → List LineState → Answer
-answer_to entry l Enquiry lines = came entry l [] line_table.Contact lines
-answer_to entry l Ack0 lines = came entry l [] line_table.Acknowledged lines
-answer_to entry l Nak lines = came entry l [] line_table.Ending lines
-answer_to entry l Eot lines = came entry l [] line_table.Ending lines
-answer_to entry l (Text text) lines = text_came entry l text lines
-answer_to entry l Spoiled lines = came entry l [] line_table.Ending lines
+answer_to entry l frame.Enquiry lines = sends_on l (heard input.Enquiry) lines
+answer_to entry l frame.Ack0 lines = sends_on l (heard input.Ack0) lines
+answer_to entry l frame.Nak lines = sends_on l (heard input.Nak) lines
+answer_to entry l frame.Eot lines = sends_on l (heard input.Eot) lines
+answer_to entry l (frame.Text text) lines = text_came entry l text lines
+answer_to entry l frame.Spoiled lines = sends_on l (heard input.Spoiled) lines
+
+abbrev pub input_of : Signal → Input
+input_of signal.Tick = input.Tick
+input_of signal.Garbled = input.Garbled
+input_of signal.Lost = input.Lost
 
 -- The customer after a step, and the frame that it sent; [] where it sent none.
 pub record Step : Type 0 where
@@ -169,13 +146,13 @@ abbrev pub with_answer : Customer → Answer → Step
 with_answer c a = record { after = record c { lines = a.lines }; frame = a.frame }
 
 -- a line that isn't there takes nothing and sends nothing
-abbrev pub on_line : ℕ → Answer → Customer → Step
-on_line l a c = cond (nat_lt l (length c.lines)) (with_answer c a) (record { after = c; frame = [] })
+abbrev pub where_there : ℕ → Answer → Customer → Step
+where_there l a c = cond (nat_lt l (length c.lines)) (with_answer c a) (record { after = c; frame = [] })
 
 -- a frame comes on a line
 unfoldable pub frame_came : ℕ → Received → Customer → Step
-frame_came l received c = on_line l (answer_to c.entry l received c.lines) c
+frame_came l received c = where_there l (answer_to c.entry l received c.lines) c
 
 -- a signal comes on a line
 unfoldable pub signal_came : ℕ → Signal → Customer → Step
-signal_came l signal c = on_line l (came c.entry l [] line_table.Ending c.lines) c
+signal_came l s c = where_there l (sends_on l (heard (input_of s)) c.lines) c

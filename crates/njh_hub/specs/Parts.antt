@@ -3,7 +3,8 @@ use Rattle.std.specs.Prelude.{List, [], ◌∷◌, map}
 use Rattle.njh_bisync.specs.Reading.{Rest}
 use Rattle.njh_table.specs.Entries.{CustomerEntry}
 use Rattle.njh_table.specs.TableFile.{TableFile, entry_of}
-use Rattle.njh_hub.specs.Customer.{LineState, Customer}
+use Rattle.njh_line.specs.Lines.{LineState}
+use Rattle.njh_hub.specs.Customer.{Customer}
 use Rattle.njh_hub.specs.Runs.{Part}
 
 -- a customer's lines, and of each what has come of its next frame

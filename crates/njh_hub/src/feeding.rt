@@ -7,9 +7,9 @@ ghost use Rattle.njh_hub.specs.Feeding.{acted_on, take_step};
 ghost use Rattle.njh_hub.specs.Parts.{customer_with};
 ghost use Rattle.njh_table.specs.TableFile.{entry_of};
 
-use crate::customer::{LONGEST_FRAME, frame_came};
-use crate::line::Line;
+use crate::customer::frame_came;
 use njh_bisync::Deframer;
+use njh_line::{LONGEST_FRAME, Line};
 use njh_table::Customer;
 
 /// Takes the bytes up to the end of the first frame that is answered, or all of them, and says how many. `out` has the room for the
@@ -31,7 +31,7 @@ pub fn take_bytes(
     ensures rest { deframer.new ≡ (take_step deframer.old (customer_with (entry_of customer.now) lines.old) line piece.now).rest }
     ensures customer { customer_with (entry_of customer.now) lines.new ≡ (take_step deframer.old (customer_with (entry_of customer.now) lines.old) line piece.now).after }
     ensures frame { out.new.items ≡ (take_step deframer.old (customer_with (entry_of customer.now) lines.old) line piece.now).frame }
-    ensures room { vec_capacity out.new ≡ vec_capacity out.old }
+    ensures room { vec_capacity out.old ≤ vec_capacity out.new }
 {
     let mut left = piece;
     let mut taken = 0;
@@ -63,7 +63,7 @@ fn take_frame(
     ensures rest { deframer.new ≡ (fed deframer.old piece.now).rest }
     ensures customer { customer_with (entry_of customer.now) lines.new ≡ (acted_on line (fed deframer.old piece.now).frame (customer_with (entry_of customer.now) lines.old)).after }
     ensures frame { out.new.items ≡ (acted_on line (fed deframer.old piece.now).frame (customer_with (entry_of customer.now) lines.old)).frame }
-    ensures room { vec_capacity out.new ≡ vec_capacity out.old }
+    ensures room { vec_capacity out.old ≤ vec_capacity out.new }
 {
     let (taken, frame) = deframer.feed(piece);
     if let Some(frame) = frame {

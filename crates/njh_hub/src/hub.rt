@@ -5,11 +5,11 @@ ghost use Rattle.std.specs.Vec.{vec_len, vec_capacity};
 ghost use Rattle.njh_hub.specs.Runs.{part_takes, part_hears};
 ghost use Rattle.njh_hub.specs.Whole.{part, HasLine, SameLines};
 
-use crate::customer::LONGEST_FRAME;
 use crate::event::Signal;
 use crate::fault::HubFault;
 use crate::file_view::FileView;
 use crate::lines::Lines;
+use njh_line::LONGEST_FRAME;
 use njh_table::{LineId, Tables};
 use std::alloc::Global;
 use std::marker::Model;

@@ -9,11 +9,10 @@ mod feeding;
 mod file_view;
 mod hub;
 mod law;
-mod line;
-mod line_table;
 mod lines;
+mod records;
 mod run;
-mod session;
+mod sending;
 mod sink;
 
 pub use event::{Event, Piece, Signal};
@@ -23,5 +22,7 @@ pub use hub::Hub;
 pub use law::{cuts_are_like, each_is_alone, two_lists_are_like};
 pub use sink::{FailingSink, MemorySink, Sink, SinkFault};
 
+#[cfg(test)]
+mod session_tests;
 #[cfg(test)]
 mod tests;

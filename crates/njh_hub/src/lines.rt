@@ -5,14 +5,13 @@ ghost use Rattle.std.specs.Vec.{vec_capacity};
 ghost use Rattle.njh_table.specs.TableFile.{entry_of, password_bytes};
 ghost use Rattle.njh_hub.specs.Customer.{config_of, password_in};
 
-use crate::customer::{LONGEST_FRAME, signal_came};
+use crate::customer::signal_came;
 use crate::event::Signal;
 use crate::feeding::take_bytes;
-use crate::line::Line;
-use crate::session::Config;
 use njh_bisync::Deframer;
 use njh_ebcdic::Name;
-use njh_table::Customer;
+use njh_line::{Config, LONGEST_FRAME, Line};
+use njh_table::{Customer, Role};
 use std::alloc::{AllocError, Global};
 use std::marker::Model;
 
@@ -74,7 +73,7 @@ impl Lines {
         ensures part { part_with (entry_of customer.now) self.new ≡ (part_takes (part_with (entry_of customer.now) self.old) line piece.now).after }
         ensures count { length self.new.states ≡ length self.old.states }
         ensures frame { out.new.items ≡ (part_takes (part_with (entry_of customer.now) self.old) line piece.now).frame }
-        ensures room { vec_capacity out.new ≡ vec_capacity out.old }
+        ensures room { vec_capacity out.old ≤ vec_capacity out.new }
     {
         let deframer = &mut self.deframers[usize::from(line)];
         take_bytes(customer, line, deframer, &mut self.lines, piece, out)
@@ -88,7 +87,7 @@ impl Lines {
         ensures part { part_with (entry_of customer.now) self.new ≡ (part_hears (part_with (entry_of customer.now) self.old) line signal).after }
         ensures count { length self.new.states ≡ length self.old.states }
         ensures frame { out.new.items ≡ (part_hears (part_with (entry_of customer.now) self.old) line signal).frame }
-        ensures room { vec_capacity out.new ≡ vec_capacity out.old }
+        ensures room { vec_capacity out.old ≤ vec_capacity out.new }
     {
         self.deframers[usize::from(line)].reset();
         signal_came(customer, line, &mut self.lines, signal, out);
@@ -103,6 +102,7 @@ fn config_of(customer: &Customer, line: &njh_table::Line) -> Config
     Config {
         hub: customer.hub(),
         node: line.node(),
+        calls: line.role() == Role::Call,
         block: line.block(),
         password: whole_name(line.password()),
     }

@@ -125,7 +125,7 @@ acting Up line first s next = record { session = next; verdict = record { ended 
 abbrev pub block_came : Counted → Config → ℕ → ℕ × ℕ → First → Session → Outcome
 block_came Acts line bcb fcs first s = acting s.phase line first s (after_acting bcb fcs s)
 block_came Repeats line bcb fcs first s = tried Again s
-block_came OutOfSequence line bcb fcs first s = over_with (Sequence (expected s.acted)) s
+block_came OutOfSequence line bcb fcs first s = over_with (Sequence (0x80 + expected s.acted)) s
 
 -- the table: a row an input
 unfoldable pub accepted : Config → Input → Session → Outcome

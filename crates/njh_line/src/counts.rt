@@ -1,6 +1,6 @@
 //! The count rule (IBM SC23-0070, "Multileaving").
 
-ghost use Rattle.std.specs.Prelude.{◌≡◌, ◌+◌, ◌%◌};
+ghost use Rattle.std.specs.Prelude.{◌≡◌, ◌<◌, ◌+◌, ◌%◌};
 ghost use Rattle.njh_line.specs.Counts.{is_taken, is_repeat, expected, counted, after_acting};
 
 use crate::session::Session;
@@ -20,7 +20,8 @@ pub enum Counted {
 impl Session {
     /// The count that the hub expects.
     pub(crate) fn expected(&self) -> u8
-        ensures { result ≡ expected self.now.acted }
+        ensures value { result ≡ expected self.now.acted }
+        ensures bound { result < 16 }
     {
         match self.acted {
             None => 0,
@@ -88,7 +89,8 @@ impl Session {
 }
 
 fn next_count(last: Bcb) -> u8
-    ensures { result ≡ (last % 16 + 1) % 16 }
+    ensures value { result ≡ (last % 16 + 1) % 16 }
+    ensures bound { result < 16 }
 {
     (last.count() + 1) % COUNTS
 }

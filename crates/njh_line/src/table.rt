@@ -204,7 +204,7 @@ fn block_came(
         Counted::OutOfSequence => over_with(
             session,
             Reply::Sequence {
-                expected: session.expected(),
+                expected: Bcb::normal(session.expected()),
             },
         ),
     }

@@ -137,7 +137,9 @@ fn counts_blocks(rt: HostRuntime) -> Result<(), Fail> {
         replies(Reply::Again),
         Phase::Up,
     );
-    let wrong = ends(Reply::Sequence { expected: 1 });
+    let wrong = ends(Reply::Sequence {
+        expected: Bcb::normal(1),
+    });
     expect(&rt, &mut line, &block(Bcb::normal(5)), wrong, Phase::Down);
     Ok(())
 }

@@ -2,16 +2,18 @@
 
 use crate::opening::Opening;
 use njh_bisync::Control;
+use njh_block::Bcb;
 
-/// What is sent: nothing, a control frame, the last transmission again, an I or a J block, a block that says which count was expected,
-/// or the next block; where there is none, ACK0 is sent in its place, or nothing and the turn is the hub's.
+/// What is sent: nothing, a control frame, the last transmission again, an I or a J block, a block that tells the count that was
+/// expected, as a BCB of that count, or the next block; where there is none, ACK0 is sent in its place, or nothing and the turn is
+/// the hub's.
 #[derive(Clone, Copy, Debug, PartialEq, Eq)]
 pub enum Reply {
     Nothing,
     Control(Control),
     Again,
     SignOn(Opening),
-    Sequence { expected: u8 },
+    Sequence { expected: Bcb },
     Next { or_ack0: bool },
 }
 

@@ -12,7 +12,7 @@ invariant-loop-out l = record {
       ≡ take_step l.fn.deframer (customer_with (entry_of l.customer) l.fn.lines) l.line l.piece;
   few : l.taken + length l.left ≡ length l.piece;
   progress : 0 < length l.out.items → 0 < l.taken;
-  room : vec_capacity l.out ≡ vec_capacity l.fn.out;
+  room : vec_capacity l.fn.out ≤ vec_capacity l.out;
 }
 
 abbrev pub decreases-loop-out : goal.decreases-loop-out

@@ -3,7 +3,8 @@ use Rattle.std.proofs.lemmas.List.{map_more, take_all}
 use Rattle.njh_bisync.specs.Reading.{Rest, Nothing}
 use Rattle.njh_table.specs.Entries.{LineEntry}
 use Rattle.njh_table.specs.TableFile.{NamedLine, entry_of}
-use Rattle.njh_hub.specs.Customer.{LineState, fresh_line, config_of}
+use Rattle.njh_line.specs.Lines.{LineState, fresh_line}
+use Rattle.njh_hub.specs.Customer.{config_of}
 use Rattle.njh_hub.specs.Runs.{Part}
 use Rattle.njh_hub.specs.Parts.{customer_with}
 use Rattle.njh_hub.proofs.OpenLaws.{rests_of_lines, states_of_lines}

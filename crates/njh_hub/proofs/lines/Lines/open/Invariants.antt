@@ -1,7 +1,8 @@
 use Rattle.std.proofs.Common.{◌≡◌, map, take}
 use Rattle.njh_bisync.specs.Reading.{Nothing}
 use Rattle.njh_table.specs.TableFile.{entry_of}
-use Rattle.njh_hub.specs.Customer.{fresh_line, config_of}
+use Rattle.njh_line.specs.Lines.{fresh_line}
+use Rattle.njh_hub.specs.Customer.{config_of}
 use Rattle.njh_hub.proofs.lines.Lines.open.Given as goal
 
 -- so many lines are open

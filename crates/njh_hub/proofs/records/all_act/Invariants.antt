@@ -1,7 +1,7 @@
 use Rattle.std.proofs.Common.{◌≡◌, length}
 use Rattle.njh_table.specs.TableFile.{entry_of}
 use Rattle.njh_hub.specs.Alone.{all_acted}
-use Rattle.njh_hub.proofs.customer.all_act.Given as goal
+use Rattle.njh_hub.proofs.records.all_act.Given as goal
 
 -- the records that are left go on as all would
 abbrev pub invariant-records : goal.invariant-records
