@@ -1,6 +1,5 @@
 -- A run in the middle: what has happened, and what the sink took of it.
 use Rattle.std.proofs.Common.{◌≡◌, ℕ, zero, suc, ◌+◌, ◌<◌, ◌≤◌, List, [], ◌∷◌, ◌++◌, length, take, drop, set, get_or, Option, Some, None, refl, ap, sym, subst, ◌∙◌, ⊎_elim, arith, append_assoc, append-nil, inl, inr, ◌⊎◌}
-use Rattle.std.specs.Prelude.{option_map}
 use Rattle.std.proofs.lemmas.List.{get_or-set_same, get_or_past, length-set, length-append, take_all, take_more}
 use Rattle.std.proofs.lemmas.Option.{slice_get-get_or}
 use Rattle.std.proofs.lemmas.Bool.{cases_lt}
@@ -10,22 +9,15 @@ use Rattle.njh_hub.specs.declared.event.Event.{Event}
 use Rattle.njh_hub.specs.declared.event.Event.TheVariants.{Bytes}
 use Rattle.njh_hub.specs.Feeding.{take_step, sent_on, bytes_run}
 use Rattle.njh_hub.specs.Runs.{Part, part_takes, rest_on}
-use Rattle.njh_hub.specs.Own.{first_bytes, first_of, sent_to}
+use Rattle.njh_hub.specs.Own.{first_bytes, first_of}
 use Rattle.njh_hub.specs.declared.fault.Cause.{Cause}
 use Rattle.njh_hub.specs.declared.fault.Cause.TheVariants.{Hub, Sink}
-use Rattle.njh_hub.specs.Stops.{taken_until}
+use Rattle.njh_hub.specs.declared.fault.HubFault.{HubFault}
+use Rattle.njh_hub.specs.declared.fault.HubFault.TheVariants.{UnknownLine, UnknownCustomer, Memory}
+use Rattle.njh_hub.specs.Stops.{CanStop, HandedUntil}
 use Rattle.njh_hub.specs.Whole.{no_part, part, HasLine, SameLines, sent_by, HubRun, hub_event, hub_run}
-use Rattle.njh_hub.specs.Sent.{added, but_last, IsCounted}
+use Rattle.njh_hub.specs.Sent.{but_last, IsCounted}
 use Rattle.njh_hub.proofs.PieceLaws.{after_bytes, after_bytes-none, after_bytes-step}
-use Rattle.njh_hub.proofs.RunLaws.{sent_to-append}
-
-pub added-added : {X : Type 0} (kept : Option (List X)) (xs ys : List X) → added (added kept xs) ys ≡ added kept (xs ++ ys)
-added-added None xs ys = refl
-added-added (Some kept) xs ys = ap Some (append_assoc kept xs ys)
-
-pub added-none : {X : Type 0} (kept : Option (List X)) → added kept [] ≡ kept
-added-none None = refl
-added-none (Some kept) = ap Some (append-nil kept)
 
 pub but_last-push : {X : Type 0} (xs : List X) (x : X) → but_last (xs ++ x ∷ []) ≡ xs
 but_last-push [] x = refl
@@ -148,11 +140,6 @@ first_of-later events i n bytes event within found stop =
     ∙ ap (λ (k : ℕ). take i events ++ first_of (event ∷ []) k 0) (sym w.0) ∙ ap (λ (k : ℕ). take i events ++ first_of (event ∷ []) n k) (sym w.1))
     stop
 
-pub sent_to-added : (c : ℕ) (kept : Option (List (LineId × List ℕ))) (more : List (LineId × List ℕ)) →
-    option_map (sent_to c) (added kept more) ≡ added (option_map (sent_to c) kept) (sent_to c more)
-sent_to-added c None more = refl
-sent_to-added c (Some kept) more = ap Some (sent_to-append c kept more)
-
 but_last-cons : {X : Type 0} (x : X) (ys : List X) → 0 < length ys → but_last (x ∷ ys) ≡ x ∷ but_last ys
 but_last-cons x [] some = absurd (omega arith)
 but_last-cons x (y ∷ ys) some = refl
@@ -161,9 +148,19 @@ but_last-append : {X : Type 0} (xs ys : List X) → 0 < length ys → but_last (
 but_last-append [] ys some = refl
 but_last-append (x ∷ xs) ys some = but_last-cons x (xs ++ ys) (omega (arith, length-append xs ys)) ∙ ap (λ s. x ∷ s) (but_last-append xs ys some)
 
-pub taken_until-append : (cause : Cause) (xs ys : List (LineId × List ℕ)) → (cause ≡ Sink → 0 < length ys) → taken_until cause (xs ++ ys) ≡ xs ++ taken_until cause ys
-taken_until-append (Hub fault) xs ys some = refl
-taken_until-append Sink xs ys some = but_last-append xs ys (some refl)
+-- a step on a line refuses for no customer
+pub CanStop-step : (fault : HubFault) (P : Type 0) → ((P → ⊥) → fault ≡ UnknownLine) → (P → fault ≡ Memory) → CanStop (Hub fault)
+CanStop-step UnknownLine P unknown memory = tt
+CanStop-step UnknownCustomer P unknown memory = let never : P → ⊥ = λ p. cc (memory p) in cc (unknown never)
+CanStop-step Memory P unknown memory = tt
+
+-- What a sink took before, and then up to a stop.
+pub HandedUntil-after : {S : Type 0} (took : S → S → List (LineId × List ℕ) → Type 0) (refused : S → S → Type 0) (cause : Cause) (a b c : S) (xs ys : List (LineId × List ℕ)) →
+    ((a b c : S) (xs ys : List (LineId × List ℕ)) → took a b xs → took b c ys → took a c (xs ++ ys)) →
+    took a b xs → HandedUntil took refused cause b c ys → (cause ≡ Sink → 0 < length ys) → HandedUntil took refused cause a c (xs ++ ys)
+HandedUntil-after took refused (Hub fault) a b c xs ys more before here some = more a b c xs ys before here
+HandedUntil-after took refused Sink a b c xs ys more before here some =
+    (here.0, rw (but_last-append xs ys (some refl)) (more a b here.0 xs (but_last ys) before here.1), here.2)
 
 -- the hub after more events
 abbrev pub later_than : List Part → List (LineId × List ℕ) → List Event → HubRun

@@ -1,8 +1,8 @@
 -- How far a run came, and why it stopped.
-use Rattle.std.specs.Prelude.{◌≡◌, ℕ, ◌<◌, ◌⊎◌, List, Result, Ok, Err}
+use Rattle.std.specs.Prelude.{◌≡◌, ℕ, ◌<◌, ◌⊎◌, List, Result, Ok, Err, ⊤}
 use Rattle.njh_table.specs.declared.LineId.{LineId}
 use Rattle.njh_hub.specs.declared.event.Event.{Event}
-use Rattle.njh_hub.specs.declared.fault.HubFault.{HubFault}
+use Rattle.njh_hub.specs.declared.fault.HubFault.TheVariants.{UnknownLine, UnknownCustomer, Memory}
 use Rattle.njh_hub.specs.declared.fault.Cause.{Cause}
 use Rattle.njh_hub.specs.declared.fault.Cause.TheVariants.{Hub, Sink}
 use Rattle.njh_hub.specs.declared.fault.RunFault.{RunFault}
@@ -14,14 +14,22 @@ abbrev pub done : {A : Type 0} → List Event → Result A RunFault → List Eve
 done events (Ok x) = events
 done events (Err fault) = first_of events fault.events fault.bytes
 
-abbrev pub taken_until : Cause → List (LineId × List ℕ) → List (LineId × List ℕ)
-taken_until (Hub fault) sent = sent
-taken_until Sink sent = but_last sent
+-- a run is stopped by a line that isn't there, by want of memory, or by its sink
+abbrev pub CanStop : Cause → Type 0
+CanStop (Hub UnknownLine) = ⊤
+CanStop (Hub UnknownCustomer) = ⊥
+CanStop (Hub Memory) = ⊤
+CanStop Sink = ⊤
 
--- the frames that the sink took, of those that were sent: all but the one that it refused
-abbrev pub taken_of : {A : Type 0} → Result A RunFault → List (LineId × List ℕ) → List (LineId × List ℕ)
-taken_of (Ok x) sent = sent
-taken_of (Err fault) sent = taken_until fault.cause sent
+-- What a sink took where a run was stopped: the frames that were sent, or all but the last, which it then refused.
+abbrev pub HandedUntil : {S : Type 0} → (S → S → List (LineId × List ℕ) → Type 0) → (S → S → Type 0) → Cause → S → S → List (LineId × List ℕ) → Type 0
+HandedUntil took refused (Hub fault) before after sent = took before after sent
+HandedUntil {S} took refused Sink before after sent = (between : S) × took before between (but_last sent) × refused between after
+
+-- What it took in a run.
+abbrev pub Handed : {S A : Type 0} → (S → S → List (LineId × List ℕ) → Type 0) → (S → S → Type 0) → Result A RunFault → S → S → List (LineId × List ℕ) → Type 0
+Handed took refused (Ok x) before after sent = took before after sent
+Handed took refused (Err fault) before after sent = HandedUntil took refused fault.cause before after sent
 
 -- A stop within one event: before it or after so many of its bytes, and not all; or right after it.
 abbrev pub IsWithinOne : Event → RunFault → Type 0

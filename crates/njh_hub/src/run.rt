@@ -1,13 +1,13 @@
 //! Runs over lists of events.
 
-ghost use Rattle.std.specs.Prelude.{◌≡◌, ℕ, ◌+◌, ◌<◌, ◌≤◌, List, [], ◌∷◌, length, slice_get, option_map, OnOk, OnErr, IfErr, IsSomeAnd, All};
+ghost use Rattle.std.specs.Prelude.{◌≡◌, ℕ, ◌+◌, ◌<◌, ◌≤◌, List, [], ◌∷◌, length, slice_get, OnOk, OnErr, IfErr, IsSomeAnd, All};
 ghost use Rattle.std.specs.Vec.{vec_len, vec_capacity};
 ghost use Rattle.njh_hub.specs.Runs.{alone_run, OwnSignal};
 ghost use Rattle.njh_hub.specs.Feeding.{sent_on};
 ghost use Rattle.njh_hub.specs.Own.{line_of, own, events_of, sent_to, bytes_in_event};
 ghost use Rattle.njh_hub.specs.Whole.{part, HasLine, SameLines, sent_by, hub_run};
-ghost use Rattle.njh_hub.specs.Sent.{added, IsCounted};
-ghost use Rattle.njh_hub.specs.Stops.{done, taken_of, IsWithinOne};
+ghost use Rattle.njh_hub.specs.Sent.{IsCounted};
+ghost use Rattle.njh_hub.specs.Stops.{done, CanStop, Handed, IsWithinOne};
 ghost use Rattle.njh_hub.specs.declared.event.Event.TheVariants.{Bytes};
 
 use crate::event::{Event, Signal};
@@ -17,6 +17,8 @@ use crate::sink::{Sink, SinkFault};
 use njh_table::LineId;
 
 impl Hub {
+    ghost use Rattle.njh_table.specs.declared.LineId.{LineId};
+
     /// Works off the events in order, and hands each frame that is sent to the sink. Stops at the first fault.
     ///
     /// For every customer, whatever the others do: its part of the hub is what its own events lead it to by itself, and the sink was handed
@@ -24,16 +26,17 @@ impl Hub {
     pub fn run<S: Sink>(&mut self, events: &[Event], sink: &mut S) -> Result<(), RunFault>
         // For each customer: its part, and in order the frames on its lines, are those of that customer alone.
         ensures parts { (c : ℕ) → c < length self.old → part c self.new ≡ (alone_run (part c self.old) (events_of c (done events.now result))).after }
-        ensures sent { OnOk result ((c : ℕ) → c < length self.old →
-            option_map (sent_to c) (S.sent sink.new) ≡ added (option_map (sent_to c) (S.sent sink.old)) (alone_run (part c self.old) (events_of c events.now)).sent) }
+        ensures sent { OnOk result ((pairs : List (LineId × List ℕ)) × S.took sink.old sink.new pairs ×
+            ((c : ℕ) → c < length self.old → sent_to c pairs ≡ (alone_run (part c self.old) (events_of c events.now)).sent)) }
 
         // The sink took the frames of what was done; with cause Sink all but the last.
-        ensures handed { S.sent sink.new ≡ added (S.sent sink.old) (taken_of result (hub_run self.old (done events.now result)).sent) }
+        ensures handed { Handed S.took S.refused result sink.old sink.new (hub_run self.old (done events.now result)).sent }
         ensures refused { IfErr result (λ fault. fault.cause ≡ Cause.Sink → 0 < length (hub_run self.old (done events.now result)).sent) }
 
         // When it stops, and where.
         ensures known { OnOk result (All (λ event. HasLine self.old (line_of event)) events.now) }
         ensures within { IfErr result (λ fault. 0 < fault.bytes → IsSomeAnd (slice_get events.now fault.events) (λ event. fault.bytes < bytes_in_event event)) }
+        ensures causes { IfErr result (λ fault. CanStop fault.cause) }
         ensures unknown { IfErr result (λ fault. fault.cause ≡ Cause.Hub HubFault.UnknownLine →
             IsSomeAnd (slice_get events.now fault.events) (λ event. ¬ HasLine self.old (line_of event))) }
         ensures memory { IfErr result (λ fault. fault.cause ≡ Cause.Hub HubFault.Memory → (fault.events ≡ 0) × (fault.bytes ≡ 0)) }
@@ -57,12 +60,13 @@ impl Hub {
         sink: &mut S,
     ) -> Result<(), RunFault>
         ensures parts { self.new ≡ (hub_run self.old (done (event.now ∷ []) result)).parts }
-        ensures handed { S.sent sink.new ≡ added (S.sent sink.old) (taken_of result (hub_run self.old (done (event.now ∷ []) result)).sent) }
+        ensures handed { Handed S.took S.refused result sink.old sink.new (hub_run self.old (done (event.now ∷ []) result)).sent }
         ensures refused { IfErr result (λ fault. fault.cause ≡ Cause.Sink → 0 < length (hub_run self.old (done (event.now ∷ []) result)).sent) }
         ensures known { OnOk result (HasLine self.old (line_of event.now)) }
         ensures lines { SameLines self.old self.new }
         ensures room { OnOk result (8196 ≤ vec_capacity out.new) }
         ensures one { IfErr result (IsWithinOne (event.now)) }
+        ensures causes { IfErr result (λ fault. CanStop fault.cause) }
         ensures unknown { IfErr result (λ fault. fault.cause ≡ Cause.Hub HubFault.UnknownLine → (fault.events ≡ 0) × ¬ HasLine self.old (line_of event.now)) }
         ensures memory { IfErr result (λ fault. fault.cause ≡ Cause.Hub HubFault.Memory → (fault.events ≡ 0) × (fault.bytes ≡ 0) × (vec_capacity out.old < 8196)) }
         ensures counts { S.count sink.old ≤ S.count sink.new }
@@ -86,12 +90,13 @@ impl Hub {
     ) -> Result<(), RunFault>
         requires { own event.now ≡ OwnSignal signal (line_of event.now).line }
         ensures parts { self.new ≡ (hub_run self.old (done (event.now ∷ []) result)).parts }
-        ensures handed { S.sent sink.new ≡ added (S.sent sink.old) (taken_of result (hub_run self.old (done (event.now ∷ []) result)).sent) }
+        ensures handed { Handed S.took S.refused result sink.old sink.new (hub_run self.old (done (event.now ∷ []) result)).sent }
         ensures refused { IfErr result (λ fault. fault.cause ≡ Cause.Sink → 0 < length (hub_run self.old (done (event.now ∷ []) result)).sent) }
         ensures known { OnOk result (HasLine self.old (line_of event.now)) }
         ensures lines { SameLines self.old self.new }
         ensures room { OnOk result (8196 ≤ vec_capacity out.new) }
         ensures one { IfErr result (IsWithinOne (event.now)) }
+        ensures causes { IfErr result (λ fault. CanStop fault.cause) }
         ensures unknown { IfErr result (λ fault. fault.cause ≡ Cause.Hub HubFault.UnknownLine → (fault.events ≡ 0) × ¬ HasLine self.old (line_of event.now)) }
         ensures memory { IfErr result (λ fault. fault.cause ≡ Cause.Hub HubFault.Memory → (fault.events ≡ 0) × (fault.bytes ≡ 0) × (vec_capacity out.old < 8196)) }
         ensures counts { S.count sink.old ≤ S.count sink.new }
@@ -126,12 +131,13 @@ impl Hub {
         sink: &mut S,
     ) -> Result<(), RunFault>
         ensures parts { self.new ≡ (hub_run self.old (done (Bytes line piece.now ∷ []) result)).parts }
-        ensures handed { S.sent sink.new ≡ added (S.sent sink.old) (taken_of result (hub_run self.old (done (Bytes line piece.now ∷ []) result)).sent) }
+        ensures handed { Handed S.took S.refused result sink.old sink.new (hub_run self.old (done (Bytes line piece.now ∷ []) result)).sent }
         ensures refused { IfErr result (λ fault. fault.cause ≡ Cause.Sink → 0 < length (hub_run self.old (done (Bytes line piece.now ∷ []) result)).sent) }
         ensures known { OnOk result (HasLine self.old line) }
         ensures lines { SameLines self.old self.new }
         ensures room { OnOk result (8196 ≤ vec_capacity out.new) }
         ensures one { IfErr result (IsWithinOne (Bytes line piece.now)) }
+        ensures causes { IfErr result (λ fault. CanStop fault.cause) }
         ensures unknown { IfErr result (λ fault. fault.cause ≡ Cause.Hub HubFault.UnknownLine → (fault.events ≡ 0) × ¬ HasLine self.old line) }
         ensures memory { IfErr result (λ fault. fault.cause ≡ Cause.Hub HubFault.Memory → (fault.events ≡ 0) × (fault.bytes ≡ 0) × (vec_capacity out.old < 8196)) }
         ensures counts { S.count sink.old ≤ S.count sink.new }
@@ -183,8 +189,8 @@ fn after_sink(taken: usize, len: usize) -> RunFault
 
 /// Hands the frame of a step to the sink, where one was sent.
 fn hand_over<S: Sink>(line: LineId, frame: &[u8], sink: &mut S) -> Result<(), SinkFault>
-    ensures ok { OnOk result (S.sent sink.new ≡ added (S.sent sink.old) (sent_by line.customer (sent_on line.line frame.now))) }
-    ensures err { OnErr result ((S.sent sink.new ≡ S.sent sink.old) × (0 < length frame.now)) }
+    ensures ok { OnOk result (S.took sink.old sink.new (sent_by line.customer (sent_on line.line frame.now))) }
+    ensures err { OnErr result (S.refused sink.old sink.new × (0 < length frame.now)) }
     ensures counts { S.count sink.old ≤ S.count sink.new }
     ensures counted { OnErr result (IsCounted (S.count sink.old) (S.count sink.new)) }
 {

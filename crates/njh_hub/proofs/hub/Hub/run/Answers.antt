@@ -1,5 +1,5 @@
 use Rattle.std.proofs.Common.{◌≡◌, ℕ, ◌+◌, ◌<◌, ◌≤◌, List, [], ◌∷◌, ◌++◌, length, take, Option, Some, refl, ap, sym, subst, ◌∙◌, rules, arith, add-zero}
-use Rattle.std.specs.Prelude.{IsSomeAnd, slice_get, option_map}
+use Rattle.std.specs.Prelude.{IsSomeAnd, slice_get}
 use Rattle.std.proofs.lemmas.List.{take_all, take_more, length-append}
 use Rattle.std.proofs.lemmas.List.Elements.{All-push, All-same}
 use Rattle.std.proofs.lemmas.Option.{slice_get-get_or}
@@ -10,10 +10,9 @@ use Rattle.njh_hub.specs.declared.fault.RunFault.{RunFault}
 use Rattle.njh_hub.specs.Runs.{alone_run}
 use Rattle.njh_hub.specs.Own.{line_of, events_of, sent_to, bytes_in_event, first_of}
 use Rattle.njh_hub.specs.Whole.{part, HubRun, HasLine, hub_run}
-use Rattle.njh_hub.specs.Sent.{added}
-use Rattle.njh_hub.specs.Stops.{taken_until}
+use Rattle.njh_hub.specs.Stops.{HandedUntil}
 use Rattle.njh_hub.proofs.RunLaws.{each_is_alone}
-use Rattle.njh_hub.proofs.RunningLaws.{stopped_in, went_on, added-added, taken_until-append, sent_to-added, known-more}
+use Rattle.njh_hub.proofs.RunningLaws.{stopped_in, went_on, HandedUntil-after, known-more}
 use Rattle.njh_hub.proofs.hub.Hub.run.Goals as goal
 
 pub returns-in-Err-clause-parts : goal.returns-in-Err-clause-parts
@@ -40,12 +39,11 @@ returns-in-Err-clause-handed g c =
     let stop = stopped_in start c.loop-index.self events k fault.events fault.bytes event within c.index-events-index.is c.in-Err.ensures.one.1 c.loop-index.invariant.parts in
     let sent = (hub_run start (take k events)).sent in
     let more = (hub_run c.loop-index.self (first_of (event ∷ []) fault.events fault.bytes)).sent in
-    c.in-Err.ensures.handed ∙ ap (λ kept. added kept (taken_until fault.cause more)) c.loop-index.invariant.sent
-    ∙ added-added (g.S.Sink.sent c.args.sink.now) sent (taken_until fault.cause more)
-    ∙ ap (added (g.S.Sink.sent c.args.sink.now)) (
-    sym (taken_until-append fault.cause sent more c.in-Err.ensures.refused)
-    ∙ ap (λ (h : HubRun). taken_until fault.cause h.sent) (sym stop)
-    ∙ ap (λ (f : RunFault). taken_until f.cause (hub_run start (first_of events f.events f.bytes)).sent) (sym c.after.ensures))
+    let handed = HandedUntil-after g.S.Sink.took g.S.Sink.refused fault.cause c.args.sink.now c.loop-index.sink c.run_event.new.sink sent more
+    g.met.S.Sink.more c.loop-index.invariant.sent c.in-Err.ensures.handed c.in-Err.ensures.refused in
+    let P : HubRun → Type 0 = λ h. HandedUntil g.S.Sink.took g.S.Sink.refused fault.cause c.args.sink.now c.run_event.new.sink h.sent in
+    let Q : RunFault → Type 0 = λ f. HandedUntil g.S.Sink.took g.S.Sink.refused f.cause c.args.sink.now c.run_event.new.sink (hub_run start (first_of events f.events f.bytes)).sent in
+    subst Q (sym c.after.ensures) (subst P (sym stop) handed)
 
 pub returns-in-Err-clause-refused : goal.returns-in-Err-clause-refused
 returns-in-Err-clause-refused g c = λ refused.
@@ -103,12 +101,10 @@ loop-index-preserved g c =
     let within : k < length events = omega arith in
     let on = went_on start c.loop-index.self events k event within c.index-events-index.is c.loop-index.invariant.parts in
     let known : HasLine start (line_of event) = known-more start c.loop-index.self (line_of event) c.loop-index.invariant.same c.in-Ok.ensures.known in
+    let P : HubRun → Type 0 = λ h. g.S.Sink.took c.args.sink.now c.run_event.new.sink h.sent in
     record {
       parts = c.in-Ok.ensures.parts ∙ ap (λ (h : HubRun). h.parts) (sym on);
-      sent = c.in-Ok.ensures.handed
-          ∙ ap (λ kept. added kept (hub_run c.loop-index.self (event ∷ [])).sent) c.loop-index.invariant.sent
-          ∙ added-added (g.S.Sink.sent c.args.sink.now) _ _
-          ∙ ap (λ (h : HubRun). added (g.S.Sink.sent c.args.sink.now) h.sent) (sym on);
+      sent = subst P (sym on) (g.met.S.Sink.more _ _ _ _ _ c.loop-index.invariant.sent c.in-Ok.ensures.handed);
       known = All-same (λ e. HasLine start (line_of e)) _ _ (take_more events k event within ∙ ap (λ (x : Event). take k events ++ x ∷ []) (sym c.index-events-index.is))
           (All-push (λ e. HasLine start (line_of e)) (take k events) event c.loop-index.invariant.known known);
       same = λ d. c.in-Ok.ensures.lines d ∙ c.loop-index.invariant.same d;
@@ -122,10 +118,17 @@ returns-clause-parts g c = λ d there.
     let all : take c.loop-index.index c.args.events.now ≡ c.args.events.now = take_all _ c.args.events.now (omega arith) in
     ap (part d) (c.loop-index.invariant.parts ∙ ap (λ (es : List Event). (hub_run start es).parts) all) ∙ (each_is_alone d start c.args.events.now there).after
 
-pub returns-clause-sent : goal.returns-clause-sent
-returns-clause-sent g c = λ d there.
+pub returns-clause-handed : goal.returns-clause-handed
+returns-clause-handed g c =
     let start = c.args.self.now in
     let all : take c.loop-index.index c.args.events.now ≡ c.args.events.now = take_all _ c.args.events.now (omega arith) in
-    ap (option_map (sent_to d)) (c.loop-index.invariant.sent ∙ ap (λ (es : List Event). added (g.S.Sink.sent c.args.sink.now) (hub_run start es).sent) all)
-    ∙ sent_to-added d (g.S.Sink.sent c.args.sink.now) (hub_run start c.args.events.now).sent
-    ∙ ap (added (option_map (sent_to d) (g.S.Sink.sent c.args.sink.now))) (each_is_alone d start c.args.events.now there).sent
+    let P : List Event → Type 0 = λ es. g.S.Sink.took c.args.sink.now c.loop-index.sink (hub_run start es).sent in
+    subst P all c.loop-index.invariant.sent
+
+pub returns-clause-sent : goal.returns-clause-sent
+returns-clause-sent g c =
+    let start = c.args.self.now in
+    let events = c.args.events.now in
+    let all : take c.loop-index.index events ≡ events = take_all _ events (omega arith) in
+    let P : List Event → Type 0 = λ es. g.S.Sink.took c.args.sink.now c.loop-index.sink (hub_run start es).sent in
+    ((hub_run start events).sent, subst P all c.loop-index.invariant.sent, λ d there. (each_is_alone d start events there).sent)

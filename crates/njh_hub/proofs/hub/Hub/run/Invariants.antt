@@ -2,7 +2,6 @@ use Rattle.std.proofs.Common.{◌≡◌, ◌<◌, ◌≤◌, take}
 use Rattle.std.specs.Prelude.{All}
 use Rattle.std.specs.Vec.{vec_capacity}
 use Rattle.njh_hub.specs.Own.{line_of}
-use Rattle.njh_hub.specs.Sent.{added}
 use Rattle.njh_hub.specs.Whole.{HasLine, SameLines, hub_run}
 use Rattle.njh_hub.proofs.hub.Hub.run.Given as goal
 
@@ -10,7 +9,7 @@ use Rattle.njh_hub.proofs.hub.Hub.run.Given as goal
 abbrev pub invariant-loop-index : goal.invariant-loop-index
 invariant-loop-index g l = record {
   parts : l.self ≡ (hub_run l.fn.self (take l.index l.events)).parts;
-  sent : g.S.Sink.sent l.sink ≡ added (g.S.Sink.sent l.fn.sink) (hub_run l.fn.self (take l.index l.events)).sent;
+  sent : g.S.Sink.took l.fn.sink l.sink (hub_run l.fn.self (take l.index l.events)).sent;
   known : All (λ event. HasLine l.fn.self (line_of event)) (take l.index l.events);
   same : SameLines l.fn.self l.self;
   room : 0 < l.index → 8196 ≤ vec_capacity l.out;

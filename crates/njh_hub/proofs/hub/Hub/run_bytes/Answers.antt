@@ -6,10 +6,10 @@ use Rattle.njh_hub.specs.declared.fault.Cause.{Cause}
 use Rattle.njh_hub.specs.Feeding.{sent_on}
 use Rattle.njh_hub.specs.Own.{first_of}
 use Rattle.njh_hub.specs.Whole.{part, HubRun, HasLine, sent_by, hub_run}
-use Rattle.njh_hub.specs.Sent.{added, but_last}
-use Rattle.njh_hub.specs.Stops.{taken_until}
+use Rattle.njh_hub.specs.Sent.{but_last}
+use Rattle.njh_hub.specs.Stops.{HandedUntil}
 use Rattle.njh_hub.proofs.PieceLaws.{after_bytes}
-use Rattle.njh_hub.proofs.RunningLaws.{IsStep, step_done, sink_done, whole_done, added-added, but_last-frame, some-frame}
+use Rattle.njh_hub.proofs.RunningLaws.{IsStep, step_done, sink_done, whole_done, but_last-frame, some-frame}
 use Rattle.njh_hub.proofs.hub.Hub.run_bytes.Goals as goal
 
 pub loop-used-preserved : goal.loop-used-preserved
@@ -27,14 +27,14 @@ loop-used-preserved g c =
     } in
     let there = step_done step in
     let known : HasLine start line = omega (arith, c.in-Ok.ensures.known, c.loop-used.invariant.same line.customer) in
+    let F : List ℕ → Type 0 = λ b. g.S.Sink.took c.loop-used.sink c.hand_over.new.sink (sent_by line.customer (sent_on line.line b)) in
+    let handed = subst F c.deref.ensures.value c.in-Ok-hand_over.ensures.ok in
+    let P : HubRun → Type 0 = λ h. g.S.Sink.took c.args.sink.now c.hand_over.new.sink h.sent in
     record {
       within = omega arith;
       left = λ _. omega arith;
       parts = sym (ap (λ (h : HubRun). h.parts) there);
-      sent = c.in-Ok-hand_over.ensures.ok
-          ∙ ap (λ (b : List ℕ). added (g.S.Sink.sent c.loop-used.sink) (sent_by line.customer (sent_on line.line b))) c.deref.ensures.value
-          ∙ ap (λ kept. added kept (sent_by line.customer (sent_on line.line c.take.new.out.items))) c.loop-used.invariant.sent
-          ∙ added-added (g.S.Sink.sent c.args.sink.now) _ _ ∙ ap (λ (h : HubRun). added (g.S.Sink.sent c.args.sink.now) h.sent) (sym there);
+      sent = subst P (sym there) (g.met.S.Sink.more _ _ _ _ _ c.loop-used.invariant.sent handed);
       same = λ d. c.in-Ok.ensures.lines d ∙ c.loop-used.invariant.same d;
       known = λ _. known;
       room = λ _. c.in-Ok.ensures.room;
@@ -74,12 +74,12 @@ returns-then-taken-piece-clause-handed g c =
     } in
     let there = step_done step in
     let all : take (c.loop-used.taken + c.in-Ok.used) c.args.piece.now ≡ c.args.piece.now = take_all _ c.args.piece.now (omega arith) in
-    c.in-Ok-hand_over.ensures.ok
-    ∙ ap (λ (b : List ℕ). added (g.S.Sink.sent c.loop-used.sink) (sent_by line.customer (sent_on line.line b))) c.deref.ensures.value
-    ∙ ap (λ kept. added kept (sent_by line.customer (sent_on line.line c.take.new.out.items))) c.loop-used.invariant.sent
-    ∙ added-added (g.S.Sink.sent c.args.sink.now) _ _ ∙ ap (λ (h : HubRun). added (g.S.Sink.sent c.args.sink.now) h.sent) (sym there)
-    ∙ ap (λ (bytes : List ℕ). added (g.S.Sink.sent c.args.sink.now) (after_bytes start line bytes).sent) all
-    ∙ ap (λ (h : HubRun). added (g.S.Sink.sent c.args.sink.now) h.sent) (sym (whole_done start (Bytes line c.args.piece.now)))
+    let F : List ℕ → Type 0 = λ b. g.S.Sink.took c.loop-used.sink c.hand_over.new.sink (sent_by line.customer (sent_on line.line b)) in
+    let handed = subst F c.deref.ensures.value c.in-Ok-hand_over.ensures.ok in
+    let P : HubRun → Type 0 = λ h. g.S.Sink.took c.args.sink.now c.hand_over.new.sink h.sent in
+    let on : (after_bytes start line (take (c.loop-used.taken + c.in-Ok.used) c.args.piece.now)) ≡ hub_run start (Bytes line c.args.piece.now ∷ []) =
+    ap (after_bytes start line) all ∙ sym (whole_done start (Bytes line c.args.piece.now)) in
+    subst P on (subst P (sym there) (g.met.S.Sink.more _ _ _ _ _ c.loop-used.invariant.sent handed))
 
 pub returns-in-Err-hand_over-clause-parts : goal.returns-in-Err-hand_over-clause-parts
 returns-in-Err-hand_over-clause-parts g c =
@@ -115,11 +115,12 @@ returns-in-Err-hand_over-clause-handed g c =
     let stop = sink_done start line c.args.piece.now (c.loop-used.taken + c.in-Ok.used) c.after_sink.result.events c.after_sink.result.bytes c.after_sink.ensures.whole c.after_sink.ensures.part in
     let sent = (after_bytes start line (take c.loop-used.taken c.args.piece.now)).sent in
     let some : 0 < length c.take.new.out.items = omega (arith, c.in-Err-hand_over.ensures.err.1, ap (λ (b : List ℕ). length b) c.deref.ensures.value) in
-    c.in-Err-hand_over.ensures.err.0 ∙ c.loop-used.invariant.sent
-    ∙ ap (added (g.S.Sink.sent c.args.sink.now)) (
-    sym (but_last-frame sent line.customer line.line c.take.new.out.items some)
-    ∙ ap (λ (h : HubRun). but_last h.sent) (sym (stop ∙ there))
-    ∙ ap (λ (cause : Cause). taken_until cause (hub_run start (first_of (Bytes line c.args.piece.now ∷ []) c.after_sink.result.events c.after_sink.result.bytes)).sent) (sym c.after_sink.ensures.cause))
+    let last : sent ≡ but_last (hub_run start (first_of (Bytes line c.args.piece.now ∷ []) c.after_sink.result.events c.after_sink.result.bytes)).sent =
+    sym (but_last-frame sent line.customer line.line c.take.new.out.items some) ∙ ap (λ (h : HubRun). but_last h.sent) (sym (stop ∙ there)) in
+    let all = (hub_run start (first_of (Bytes line c.args.piece.now ∷ []) c.after_sink.result.events c.after_sink.result.bytes)).sent in
+    let P : List (LineId × List ℕ) → Type 0 = λ pairs. g.S.Sink.took c.args.sink.now c.loop-used.sink pairs in
+    let Q : Cause → Type 0 = λ cause. HandedUntil g.S.Sink.took g.S.Sink.refused cause c.args.sink.now c.hand_over.new.sink all in
+    subst Q (sym c.after_sink.ensures.cause) (c.loop-used.sink, subst P last c.loop-used.invariant.sent, c.in-Err-hand_over.ensures.err.0)
 
 pub returns-in-Err-hand_over-clause-refused : goal.returns-in-Err-hand_over-clause-refused
 returns-in-Err-hand_over-clause-refused g c = λ _.

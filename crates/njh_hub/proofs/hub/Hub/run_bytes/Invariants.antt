@@ -1,6 +1,5 @@
 use Rattle.std.proofs.Common.{◌≡◌, ◌<◌, ◌≤◌, ◌-◌, length, take}
 use Rattle.std.specs.Vec.{vec_capacity}
-use Rattle.njh_hub.specs.Sent.{added}
 use Rattle.njh_hub.specs.Whole.{HasLine, SameLines}
 use Rattle.njh_hub.proofs.PieceLaws.{after_bytes}
 use Rattle.njh_hub.proofs.hub.Hub.run_bytes.Given as goal
@@ -11,7 +10,7 @@ invariant-loop-used g l = record {
   within : l.taken ≤ length l.piece;
   left : 0 < l.taken → l.taken < length l.piece;
   parts : l.self ≡ (after_bytes l.fn.self l.line (take l.taken l.piece)).parts;
-  sent : g.S.Sink.sent l.sink ≡ added (g.S.Sink.sent l.fn.sink) (after_bytes l.fn.self l.line (take l.taken l.piece)).sent;
+  sent : g.S.Sink.took l.fn.sink l.sink (after_bytes l.fn.self l.line (take l.taken l.piece)).sent;
   same : SameLines l.fn.self l.self;
   known : 0 < l.taken → HasLine l.fn.self l.line;
   room : 0 < l.taken → 8196 ≤ vec_capacity l.out;
