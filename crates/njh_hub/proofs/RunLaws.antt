@@ -1,16 +1,18 @@
 -- Runs of a whole hub, seen by one customer.
-use Rattle.std.proofs.Common.{◌≡◌, ◌≢◌, ℕ, ◌<◌, Bool, true, false, cond, eqb, List, [], ◌∷◌, ◌++◌, length, set, get_or, refl, ap, sym, ◌∙◌, subst, ⊎_elim, arith, append_assoc}
-use Rattle.std.proofs.lemmas.List.{get_or-set_same, get_or-set_other, length-set, set-set}
+use Rattle.std.proofs.Common.{◌≡◌, ◌≢◌, ℕ, ◌<◌, Bool, true, false, cond, eqb, List, [], ◌∷◌, ◌++◌, length, map, set, get_or, refl, ap, sym, ◌∙◌, subst, ⊎_elim, arith, append_assoc}
+use Rattle.std.proofs.lemmas.List.{get_or-set_same, get_or-set_other, length-map, length-set, set-set}
 use Rattle.std.proofs.lemmas.Bool.Decides.{eqb_tells}
+use Rattle.std.proofs.Math.ListN.{get_or-map}
+use Rattle.njh_table.specs.Entries.{CustomerEntry}
 use Rattle.njh_table.specs.declared.LineId.{LineId}
 use Rattle.njh_bisync.specs.Reading.{Rest, Nothing}
 use Rattle.njh_hub.specs.declared.event.Event.{Event}
 use Rattle.njh_hub.specs.Customer.{Customer}
-use Rattle.njh_hub.specs.Runs.{Part, OwnEvent, OwnBytes, Run, event_run, alone_run, rest_on}
+use Rattle.njh_hub.specs.Runs.{Part, opened, OwnEvent, OwnBytes, Run, event_run, alone_run, rest_on}
 use Rattle.njh_hub.specs.Feeding.{LineRun, bytes_run}
 use Rattle.njh_hub.specs.Own.{line_of, own, events_of, sent_to}
-use Rattle.njh_hub.specs.Whole.{no_part, part, sent_by, own_event, hub_event, hub_run}
-use Rattle.njh_hub.specs.Laws.{IsAlone, EachIsAlone, IsLike, TwoListsAreLike, CutsAreLike}
+use Rattle.njh_hub.specs.Whole.{no_entry, no_part, part, sent_by, own_event, hub_event, hub_run}
+use Rattle.njh_hub.specs.Laws.{IsAlone, EachIsAlone, IsLike, TwoListsAreLike, entry_at, CustomersNeverMeet, CutsAreLike}
 use Rattle.njh_hub.proofs.FeedingLaws.{bytes_run-append}
 
 -- a pair is sent to c or not, before more
@@ -83,6 +85,15 @@ two_lists_are_like c d parts others events more within there alike same =
       after = one.after ∙ ap (λ (r : Run). r.after) runs ∙ sym two.after;
       sent = one.sent ∙ ap (λ (r : Run). r.sent) runs ∙ sym two.sent;
     }
+
+part-opened : (c : ℕ) (entries : List CustomerEntry) → part c (map opened entries) ≡ opened (entry_at c entries)
+part-opened c entries = get_or-map opened entries c no_entry
+
+pub customers_never_meet : CustomersNeverMeet
+customers_never_meet c d entries others events more within there agree same =
+    two_lists_are_like c d (map opened entries) (map opened others) events more
+    (omega (arith, length-map entries opened)) (omega (arith, length-map others opened))
+    (part-opened c entries ∙ ap opened agree ∙ sym (part-opened d others)) same
 
 -- a part whose line l has read some bytes
 abbrev read_part : Part → ℕ → LineRun → Part

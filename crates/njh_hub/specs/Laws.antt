@@ -1,10 +1,10 @@
 -- What is said of all runs, over the definitions alone.
-use Rattle.std.specs.Prelude.{◌≡◌, ℕ, ◌<◌, List, [], ◌∷◌, ◌++◌, length}
+use Rattle.std.specs.Prelude.{◌≡◌, ℕ, ◌<◌, List, [], ◌∷◌, ◌++◌, length, map, slice_index_or}
 use Rattle.njh_table.specs.Entries.{CustomerEntry}
 use Rattle.njh_hub.specs.declared.event.Event.{Event}
-use Rattle.njh_hub.specs.Runs.{Part, OwnEvent, OwnBytes, alone_run}
+use Rattle.njh_hub.specs.Runs.{Part, opened, OwnEvent, OwnBytes, alone_run}
 use Rattle.njh_hub.specs.Own.{events_of, sent_to}
-use Rattle.njh_hub.specs.Whole.{part, hub_run}
+use Rattle.njh_hub.specs.Whole.{no_entry, part, hub_run}
 
 -- Events lead customer c's part of a hub, and what is sent on its lines, as its own events lead that part alone.
 pub record IsAlone (c : ℕ) (parts : List Part) (events : List Event) : Type 0 where
@@ -26,6 +26,18 @@ TwoListsAreLike =
     (c d : ℕ) (parts others : List Part) (events more : List Event) →
     c < length parts → d < length others → part c parts ≡ part d others → events_of c events ≡ events_of d more →
     IsLike c d parts others events more
+
+-- a customer's entry in a table
+abbrev pub entry_at : ℕ → List CustomerEntry → CustomerEntry
+entry_at c entries = slice_index_or entries c no_entry
+
+-- The headline: two hubs that were just opened, of tables that agree on a customer, and two lists of events with the same events of it. It
+-- is sent the same on both and stands alike in the end. One of the two may be a hub of its own, where no other customer is.
+abbrev pub CustomersNeverMeet : Type 0
+CustomersNeverMeet =
+    (c d : ℕ) (entries others : List CustomerEntry) (events more : List Event) →
+    c < length entries → d < length others → entry_at c entries ≡ entry_at d others → events_of c events ≡ events_of d more →
+    IsLike c d (map opened entries) (map opened others) events more
 
 -- A piece that comes in two gives the same frames and the same part.
 abbrev pub CutsAreLike : Type 0

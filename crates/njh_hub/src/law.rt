@@ -1,6 +1,6 @@
 //! Laws of the definitions: what holds of all runs, whoever computes them.
 
-ghost use Rattle.njh_hub.specs.Laws.{EachIsAlone, TwoListsAreLike, CutsAreLike};
+ghost use Rattle.njh_hub.specs.Laws.{EachIsAlone, TwoListsAreLike, CustomersNeverMeet, CutsAreLike};
 
 /// Whatever events come, each customer's part of the hub and the frames on its lines are those of that customer alone over its own
 /// events.
@@ -11,6 +11,12 @@ pub fn each_is_alone()
 /// Any two lists of events with the same events of a customer lead it to the same frames and the same part, on hubs where it stands alike.
 pub fn two_lists_are_like()
     ensures { TwoListsAreLike }
+{}
+
+/// The headline: on any two hubs that were just opened on tables that agree on a customer, after any two lists of events with the same
+/// events of that customer, the frames on its lines and its part are equal. One of the hubs may be a hub of its own.
+pub fn customers_never_meet()
+    ensures { CustomersNeverMeet }
 {}
 
 /// It doesn't matter how the bytes of a line are cut into pieces.

@@ -19,7 +19,7 @@ pub use event::{Event, Piece, Signal};
 pub use fault::{Cause, HubFault, RunFault};
 pub use file_view::FileView;
 pub use hub::Hub;
-pub use law::{cuts_are_like, each_is_alone, two_lists_are_like};
+pub use law::{customers_never_meet, cuts_are_like, each_is_alone, two_lists_are_like};
 pub use sink::{FailingSink, MemorySink, Sink, SinkFault};
 
 #[cfg(test)]
