@@ -28,14 +28,14 @@ abbrev pub on_line : ℕ → (LineState → LineState) → List LineState → Li
 on_line l f lines = slice_set lines l (f (line_at l lines))
 
 -- The lines after something came on one, and the frame that answers it; [] where none does.
-pub record Answer : Type 0 where
+pub record Reaction : Type 0 where
   pub lines : List LineState
   pub frame : List ℕ
 
-abbrev pub silent : List LineState → Answer
+abbrev pub silent : List LineState → Reaction
 silent lines = record { lines = lines; frame = [] }
 
-abbrev pub sends_on : ℕ → (LineState → Sending) → List LineState → Answer
+abbrev pub sends_on : ℕ → (LineState → Sending) → List LineState → Reaction
 sends_on l f lines = let s = f (line_at l lines) in record { lines = slice_set lines l s.line; frame = s.frame }
 
 -- ---- what a record does
@@ -109,7 +109,7 @@ abbrev pub heard : Input → LineState → Sending
 heard came x = answers (accepted x.config came x.session).verdict (after_input came x)
 
 -- a good block: its records act where the line table says so, and then it is answered
-abbrev pub block_came : CustomerEntry → ℕ → Block → List LineState → Answer
+abbrev pub block_came : CustomerEntry → ℕ → Block → List LineState → Reaction
 block_came entry l b lines =
     let x = line_at l lines in
     let came = input.Block b.bcb b.fcs (general_first b.items) in
@@ -117,20 +117,20 @@ block_came entry l b lines =
     let a = acted_where v.acts entry b.items (on_line l (after_input came) lines) in
     elim a.ended [ true ↦ silent (on_line l (λ y. over (after_end y)) a.lines) | false ↦ sends_on l (answers v) a.lines ]
 
-abbrev pub text_came : CustomerEntry → ℕ → List ℕ → List LineState → Answer
+abbrev pub text_came : CustomerEntry → ℕ → List ℕ → List LineState → Reaction
 text_came entry l text lines =
     elim (read_block text) [
       | Ok b ↦ block_came entry l b lines
       | Err e ↦ sends_on l (heard input.Bad) lines
     ]
 
-abbrev pub answer_to : CustomerEntry → ℕ → Received → List LineState → Answer
-answer_to entry l frame.Enquiry lines = sends_on l (heard input.Enquiry) lines
-answer_to entry l frame.Ack0 lines = sends_on l (heard input.Ack0) lines
-answer_to entry l frame.Nak lines = sends_on l (heard input.Nak) lines
-answer_to entry l frame.Eot lines = sends_on l (heard input.Eot) lines
-answer_to entry l (frame.Text text) lines = text_came entry l text lines
-answer_to entry l frame.Spoiled lines = sends_on l (heard input.Spoiled) lines
+abbrev pub reaction_to : CustomerEntry → ℕ → Received → List LineState → Reaction
+reaction_to entry l frame.Enquiry lines = sends_on l (heard input.Enquiry) lines
+reaction_to entry l frame.Ack0 lines = sends_on l (heard input.Ack0) lines
+reaction_to entry l frame.Nak lines = sends_on l (heard input.Nak) lines
+reaction_to entry l frame.Eot lines = sends_on l (heard input.Eot) lines
+reaction_to entry l (frame.Text text) lines = text_came entry l text lines
+reaction_to entry l frame.Spoiled lines = sends_on l (heard input.Spoiled) lines
 
 abbrev pub input_of : Signal → Input
 input_of signal.Tick = input.Tick
@@ -142,16 +142,16 @@ pub record Step : Type 0 where
   pub after : Customer
   pub frame : List ℕ
 
-abbrev pub with_answer : Customer → Answer → Step
-with_answer c a = record { after = record c { lines = a.lines }; frame = a.frame }
+abbrev pub with_reaction : Customer → Reaction → Step
+with_reaction c a = record { after = record c { lines = a.lines }; frame = a.frame }
 
 -- a line that isn't there takes nothing and sends nothing
-abbrev pub where_there : ℕ → Answer → Customer → Step
-where_there l a c = cond (nat_lt l (length c.lines)) (with_answer c a) (record { after = c; frame = [] })
+abbrev pub where_there : ℕ → Reaction → Customer → Step
+where_there l a c = cond (nat_lt l (length c.lines)) (with_reaction c a) (record { after = c; frame = [] })
 
 -- a frame comes on a line
 unfoldable pub frame_came : ℕ → Received → Customer → Step
-frame_came l received c = where_there l (answer_to c.entry l received c.lines) c
+frame_came l received c = where_there l (reaction_to c.entry l received c.lines) c
 
 -- a signal comes on a line
 unfoldable pub signal_came : ℕ → Signal → Customer → Step

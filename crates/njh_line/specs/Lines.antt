@@ -1,7 +1,7 @@
 -- A line: its session, the last frame that it sent, NAKs aside, and what waits to be sent.
 use Rattle.std.specs.Prelude.{ℕ, ◌+◌, ◌%◌, ◌≤◌, true, false, List, [], ◌∷◌, ◌++◌, length, drop, nat_lt, cond}
 use Rattle.njh_line.specs.declared.config.Config.{Config}
-use Rattle.njh_line.specs.declared.line.Answer.{Answer}
+use Rattle.njh_block.specs.declared.answer.Answer.{Answer}
 use Rattle.njh_line.specs.declared.sent.Sent as declared_sent
 use Rattle.njh_line.specs.declared.sent.Sent.TheVariants as went
 use Rattle.njh_line.specs.declared.session.Session.{Session}

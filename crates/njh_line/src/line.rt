@@ -11,6 +11,7 @@ use crate::session::Session;
 use crate::table::accepted;
 use crate::verdict::Verdict;
 use circular_buffer::HeapCircularBuffer;
+use njh_block::Answer;
 use njh_record::Record;
 use std::alloc::{AllocError, Global};
 use std::marker::Model;
@@ -23,13 +24,6 @@ const ANSWERS: usize = 32;
 
 /// How many nodal messages may wait.
 const MESSAGES: usize = 64;
-
-/// What answers a peer's request for a stream, or the end of its file: an RCB, and the stream's RCB as its SRCB.
-#[derive(Clone, Copy, Debug, PartialEq, Eq)]
-pub struct Answer {
-    pub rcb: u8,
-    pub stream: u8,
-}
 
 /// A line: its session, the last frame that it sent, NAKs aside, and what waits to be sent. All its memory is reserved by `new`.
 #[derive(Drop)]

@@ -2,7 +2,7 @@
 
 use super::*;
 use njh_bisync::Control;
-use njh_block::{Bcb, Fcs};
+use njh_block::{Answer, Bcb, ControlRcb, Fcs, Rcb};
 use njh_ebcdic::Name;
 use njh_record::Record;
 use std::alloc::Global;
@@ -309,31 +309,23 @@ fn takes_turns(rt: HostRuntime) -> Result<(), Fail> {
     Ok(())
 }
 
+/// A stream with this RCB may come.
+fn permission(byte: u8) -> Answer {
+    Answer {
+        rcb: ControlRcb::Permission,
+        stream: Rcb { byte },
+    }
+}
+
 #[test]
 fn keeps_what_waits(rt: HostRuntime) -> Result<(), Fail> {
     let mut line = line(rt.alloc(), false, None)?;
-    for stream in 0..32 {
-        assert!(rt; line.answer(Answer { rcb: 0xa0, stream }));
+    for byte in 0..32 {
+        assert!(rt; line.answer(permission(byte)));
     }
-    let late = Answer {
-        rcb: 0xb0,
-        stream: 0x99,
-    };
-    assert!(rt; !line.answer(late));
-    assert_eq!(rt;
-        line.pop_answer(),
-        Some(Answer {
-            rcb: 0xa0,
-            stream: 0
-        })
-    );
-    assert_eq!(rt;
-        line.front_answer(),
-        Some(Answer {
-            rcb: 0xa0,
-            stream: 1
-        })
-    );
+    assert!(rt; !line.answer(permission(32)));
+    assert_eq!(rt; line.pop_answer(), Some(permission(0)));
+    assert_eq!(rt; line.front_answer(), Some(permission(1)));
     line.clear_answers();
     assert_eq!(rt; line.front_answer(), None);
 
