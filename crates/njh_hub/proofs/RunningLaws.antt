@@ -1,5 +1,5 @@
 -- A run in the middle: what has happened, and what the sink took of it.
-use Rattle.std.proofs.Common.{◌≡◌, ℕ, zero, suc, ◌+◌, ◌<◌, ◌≤◌, List, [], ◌∷◌, ◌++◌, length, take, drop, set, get_or, Option, Some, None, refl, ap, sym, subst, ◌∙◌, ⊎_elim, arith, append_assoc, append-nil, inl, inr, ◌⊎◌}
+use Rattle.std.proofs.Common.{◌≡◌, ℕ, zero, suc, ◌+◌, ◌<◌, ◌≤◌, List, [], ◌∷◌, ◌++◌, length, take, drop, set, get_or, Option, Some, refl, ap, sym, ◌∙◌, ⊎_elim, arith, append_assoc, append-nil, inl, inr, ◌⊎◌}
 use Rattle.std.proofs.lemmas.List.{get_or-set_same, get_or_past, length-set, length-append, take_all, take_more}
 use Rattle.std.proofs.lemmas.Option.{slice_get-get_or}
 use Rattle.std.proofs.lemmas.Bool.{cases_lt}
@@ -7,7 +7,7 @@ use Rattle.std.proofs.Math.Seq.{take-add}
 use Rattle.njh_table.specs.declared.LineId.{LineId}
 use Rattle.njh_hub.specs.declared.event.Event.{Event}
 use Rattle.njh_hub.specs.declared.event.Event.TheVariants.{Bytes}
-use Rattle.njh_hub.specs.Feeding.{take_step, sent_on, bytes_run}
+use Rattle.njh_hub.specs.Feeding.{sent_on, bytes_run}
 use Rattle.njh_hub.specs.Runs.{Part, part_takes, rest_on}
 use Rattle.njh_hub.specs.Own.{first_bytes, first_of}
 use Rattle.njh_hub.specs.declared.fault.Cause.{Cause}
