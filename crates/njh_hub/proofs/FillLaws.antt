@@ -1,5 +1,5 @@
 -- Messages that go into a block.
-use Rattle.std.proofs.Common.{◌≡◌, ℕ, Bool, true, false, List, [], ◌∷◌, Option, Some, None, refl, ap, sym, ◌∙◌}
+use Rattle.std.proofs.Common.{◌≡◌, ℕ, Bool, true, false, List, [], ◌∷◌, Some, None, refl, ap, ◌∙◌}
 use Rattle.std.specs.Prelude.{slice_get}
 use Rattle.njh_block.specs.Writing.{Writing, has_room, with_last}
 use Rattle.njh_hub.specs.Sending.{Filling, message_item, filled}

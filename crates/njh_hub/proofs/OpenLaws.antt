@@ -1,10 +1,10 @@
 -- A hub that is opened.
-use Rattle.std.proofs.Common.{◌≡◌, ℕ, ◌+◌, ◌<◌, true, List, [], ◌∷◌, ◌++◌, length, map, Some, refl, ap, sym, ◌∙◌, arith}
+use Rattle.std.proofs.Common.{◌≡◌, ℕ, List, [], ◌∷◌, ◌++◌, length, map, Some, refl, ap, arith}
 use Rattle.std.specs.Prelude.{IsTrue}
 use Rattle.std.proofs.lemmas.Bool.{false≢true}
 use Rattle.njh_ebcdic.specs.Names.{is_name}
 use Rattle.njh_bisync.specs.Reading.{Rest, Nothing}
-use Rattle.njh_table.specs.Entries.{CustomerEntry, LineEntry}
+use Rattle.njh_table.specs.Entries.{CustomerEntry}
 use Rattle.njh_table.specs.TableFile.{NamedLine}
 use Rattle.njh_line.specs.Lines.{LineState, fresh_line}
 use Rattle.njh_hub.specs.Customer.{config_of, password_in}

@@ -1,6 +1,6 @@
 -- A piece worked off step by step is the run over its bytes.
-use Rattle.std.proofs.Common.{◌≡◌, ℕ, zero, suc, ◌+◌, ◌<◌, ◌≤◌, List, [], ◌∷◌, ◌++◌, length, take, drop, set, get_or, refl, ap, sym, subst, ◌∙◌, arith}
-use Rattle.std.proofs.lemmas.List.{get_or-set_same, length-set, set-set, set-get_or}
+use Rattle.std.proofs.Common.{◌≡◌, ℕ, suc, ◌+◌, ◌<◌, List, [], ◌∷◌, ◌++◌, length, take, set, get_or, refl, ap, sym, subst, ◌∙◌, arith}
+use Rattle.std.proofs.lemmas.List.{get_or-set_same, set-set, set-get_or}
 use Rattle.njh_table.specs.declared.LineId.{LineId}
 use Rattle.njh_bisync.specs.Reading.{Rest, Nothing}
 use Rattle.njh_hub.specs.declared.event.Event.TheVariants.{Bytes}

@@ -1,5 +1,5 @@
 -- Runs of a whole hub, seen by one customer.
-use Rattle.std.proofs.Common.{◌≡◌, ◌≢◌, ℕ, ◌<◌, Bool, true, false, cond, eqb, List, [], ◌∷◌, ◌++◌, length, map, set, get_or, refl, ap, sym, ◌∙◌, subst, ⊎_elim, arith, append_assoc}
+use Rattle.std.proofs.Common.{◌≡◌, ◌≢◌, ℕ, ◌<◌, Bool, true, false, cond, eqb, List, [], ◌∷◌, ◌++◌, length, map, set, refl, ap, sym, ◌∙◌, ⊎_elim, arith, append_assoc}
 use Rattle.std.proofs.lemmas.List.{get_or-set_same, get_or-set_other, length-map, length-set, set-set}
 use Rattle.std.proofs.lemmas.Bool.Decides.{eqb_tells}
 use Rattle.std.proofs.Math.ListN.{get_or-map}
@@ -7,12 +7,11 @@ use Rattle.njh_table.specs.Entries.{CustomerEntry}
 use Rattle.njh_table.specs.declared.LineId.{LineId}
 use Rattle.njh_bisync.specs.Reading.{Rest, Nothing}
 use Rattle.njh_hub.specs.declared.event.Event.{Event}
-use Rattle.njh_hub.specs.Customer.{Customer}
-use Rattle.njh_hub.specs.Runs.{Part, opened, OwnEvent, OwnBytes, Run, event_run, alone_run, rest_on}
+use Rattle.njh_hub.specs.Runs.{Part, opened, OwnEvent, Run, event_run, alone_run, rest_on}
 use Rattle.njh_hub.specs.Feeding.{LineRun, bytes_run}
 use Rattle.njh_hub.specs.Own.{line_of, own, events_of, sent_to}
-use Rattle.njh_hub.specs.Whole.{no_entry, no_part, part, sent_by, own_event, hub_event, hub_run}
-use Rattle.njh_hub.specs.Laws.{IsAlone, EachIsAlone, IsLike, TwoListsAreLike, entry_at, CustomersNeverMeet, CutsAreLike}
+use Rattle.njh_hub.specs.Whole.{no_entry, no_part, part, sent_by, own_event, hub_run}
+use Rattle.njh_hub.specs.Laws.{IsAlone, EachIsAlone, TwoListsAreLike, entry_at, CustomersNeverMeet, CutsAreLike}
 use Rattle.njh_hub.proofs.FeedingLaws.{bytes_run-append}
 
 -- a pair is sent to c or not, before more

@@ -1,10 +1,9 @@
 -- One step by bytes of a line: what it takes of a piece, frame by frame.
-use Rattle.std.proofs.Common.{◌≡◌, ℕ, zero, suc, ◌+◌, ◌<◌, ◌≤◌, List, [], ◌∷◌, ◌++◌, length, drop, Option, Some, None, refl, ap, sym, ◌∙◌, arith, add_assoc}
+use Rattle.std.proofs.Common.{◌≡◌, ℕ, suc, ◌+◌, ◌<◌, ◌≤◌, List, [], ◌∷◌, length, drop, Option, Some, None, refl, ap, sym, ◌∙◌, arith, add_assoc}
 use Rattle.njh_bisync.specs.Frames.{Received}
 use Rattle.njh_bisync.specs.Reading.{Rest}
-use Rattle.njh_bisync.specs.Fed.{Turn, turn, stop_or, ahead, Fed, fed}
+use Rattle.njh_bisync.specs.Fed.{turn, stop_or, Fed, fed}
 use Rattle.njh_hub.specs.Customer.{Customer}
-use Rattle.njh_hub.specs.Alone.{Step}
 use Rattle.njh_hub.specs.Feeding.{acted_on, Taking, later_by, or_later, take_step}
 
 -- a feed takes no more than there is, and something where there is something

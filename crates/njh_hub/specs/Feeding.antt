@@ -2,7 +2,7 @@
 use Rattle.std.specs.Prelude.{ℕ, ◌+◌, List, [], ◌∷◌, ◌++◌, Option, Some, None}
 use Rattle.njh_bisync.specs.Frames.{Received}
 use Rattle.njh_bisync.specs.Reading.{Rest}
-use Rattle.njh_bisync.specs.Fed.{Turn, turn}
+use Rattle.njh_bisync.specs.Fed.{turn}
 use Rattle.njh_hub.specs.Customer.{Customer}
 use Rattle.njh_hub.specs.Alone.{Step, frame_came}
 

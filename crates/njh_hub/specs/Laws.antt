@@ -1,5 +1,5 @@
 -- What is said of all runs, over the definitions alone.
-use Rattle.std.specs.Prelude.{◌≡◌, ℕ, ◌<◌, List, [], ◌∷◌, ◌++◌, length, map, slice_index_or}
+use Rattle.std.specs.Prelude.{◌≡◌, ℕ, ◌<◌, List, ◌∷◌, ◌++◌, length, map, slice_index_or}
 use Rattle.njh_table.specs.Entries.{CustomerEntry}
 use Rattle.njh_hub.specs.declared.event.Event.{Event}
 use Rattle.njh_hub.specs.Runs.{Part, opened, OwnEvent, OwnBytes, alone_run}

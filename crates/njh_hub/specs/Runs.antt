@@ -1,11 +1,11 @@
 -- One customer's part of the hub, alone, over a list of its own events.
-use Rattle.std.specs.Prelude.{ℕ, List, [], ◌∷◌, ◌++◌, map, replicate, length, slice_index_or, slice_set}
+use Rattle.std.specs.Prelude.{ℕ, List, [], ◌∷◌, ◌++◌, map, slice_index_or, slice_set}
 use Rattle.njh_bisync.specs.Reading.{Rest, Nothing}
 use Rattle.njh_table.specs.Entries.{CustomerEntry}
 use Rattle.njh_hub.specs.declared.event.Signal.{Signal}
 use Rattle.njh_hub.specs.Customer.{Customer, fresh_customer}
-use Rattle.njh_hub.specs.Alone.{Step, signal_came}
-use Rattle.njh_hub.specs.Feeding.{Taking, take_step, LineRun, bytes_run, sent_on}
+use Rattle.njh_hub.specs.Alone.{signal_came}
+use Rattle.njh_hub.specs.Feeding.{take_step, bytes_run, sent_on}
 
 -- A customer, and of each of its lines what has come of the next frame.
 pub record Part : Type 0 where

@@ -1,6 +1,6 @@
-use Rattle.std.proofs.Common.{◌≡◌, ◌+◌, ◌≤◌, ◌<◌, [], length, ℕ}
+use Rattle.std.proofs.Common.{◌≡◌, ◌+◌, ◌≤◌, ◌<◌, length}
 use Rattle.std.specs.Vec.{vec_capacity}
-use Rattle.njh_hub.specs.Feeding.{later_by, take_step, or_later}
+use Rattle.njh_hub.specs.Feeding.{take_step, or_later}
 use Rattle.njh_hub.specs.Parts.{customer_with}
 use Rattle.njh_table.specs.TableFile.{entry_of}
 use Rattle.njh_hub.proofs.feeding.take_bytes.Given as goal

@@ -1,8 +1,7 @@
-use Rattle.std.proofs.Common.{◌≡◌, List, ℕ, false, sym, ap, ◌∙◌, rules, Option, Some, None}
+use Rattle.std.proofs.Common.{◌≡◌, List, ℕ, false, sym, ap, ◌∙◌, rules, Some, None}
 use Rattle.std.specs.Prelude.{slice_get}
 use Rattle.njh_block.specs.Writing.{has_room}
-use Rattle.njh_line.specs.Lines.{LineState}
-use Rattle.njh_hub.specs.Sending.{Filling, message_item, filled, with_left}
+use Rattle.njh_hub.specs.Sending.{Filling, message_item, with_left}
 use Rattle.njh_hub.proofs.FillLaws.{filled-none, filled-full}
 use Rattle.njh_hub.proofs.sending.fill.Goals as goal
 

@@ -1,4 +1,4 @@
-use Rattle.std.proofs.Common.{◌≡◌, ℕ, List, length, ap, refl, arith}
+use Rattle.std.proofs.Common.{List, length, ap, refl, arith}
 use Rattle.std.proofs.lemmas.Bool.{false≢true}
 use Rattle.njh_hub.specs.Runs.{Part}
 use Rattle.njh_hub.specs.Parts.{entries_of}

@@ -1,7 +1,6 @@
-use Rattle.std.proofs.Common.{◌≡◌, ◌<◌, length, slice_index_or, rules, arith}
+use Rattle.std.proofs.Common.{◌<◌, length, rules, arith}
 use Rattle.std.proofs.lemmas.Bool.{false≢true}
 use Rattle.njh_hub.specs.Parts.{entries_of}
-use Rattle.njh_hub.specs.Whole.{part}
 use Rattle.njh_hub.proofs.PartsLaws.{Stands, lines-there, lines-past}
 use Rattle.njh_hub.proofs.hub.Hub.is_line.Goals as goal
 

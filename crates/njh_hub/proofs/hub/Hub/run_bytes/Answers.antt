@@ -5,7 +5,7 @@ use Rattle.njh_hub.specs.declared.event.Event.TheVariants.{Bytes}
 use Rattle.njh_hub.specs.declared.fault.Cause.{Cause}
 use Rattle.njh_hub.specs.Feeding.{sent_on}
 use Rattle.njh_hub.specs.Own.{first_of}
-use Rattle.njh_hub.specs.Whole.{part, HubRun, HasLine, sent_by, hub_run}
+use Rattle.njh_hub.specs.Whole.{HubRun, HasLine, sent_by, hub_run}
 use Rattle.njh_hub.specs.Sent.{but_last}
 use Rattle.njh_hub.specs.Stops.{HandedUntil}
 use Rattle.njh_hub.proofs.PieceLaws.{after_bytes}

@@ -1,8 +1,8 @@
-use Rattle.std.proofs.Common.{◌≡◌, ℕ, ◌<◌, ◌∙◌, sym, refl, List, ap, length, slice_index_or, slice_set, rules, arith}
+use Rattle.std.proofs.Common.{◌≡◌, ℕ, ◌∙◌, sym, refl, List, ap, length, slice_index_or, slice_set, rules, arith}
 use Rattle.std.proofs.lemmas.List.{get_or-map, length-map}
 use Rattle.njh_table.specs.Entries.{CustomerEntry}
-use Rattle.njh_table.specs.TableFile.{NamedCustomer, no_customer, entry_of}
-use Rattle.njh_hub.specs.Runs.{Part, part_takes, part_hears}
+use Rattle.njh_table.specs.TableFile.{no_customer, entry_of}
+use Rattle.njh_hub.specs.Runs.{Part, part_hears}
 use Rattle.njh_hub.specs.Parts.{entries_of, parts_of, part_with}
 use Rattle.njh_hub.specs.Whole.{part, no_entry, HasLine}
 use Rattle.njh_hub.proofs.PartsLaws.{Stands, customer-there, lines-there, part-there, part-moved, same_lines}

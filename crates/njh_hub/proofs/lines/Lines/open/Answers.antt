@@ -1,4 +1,4 @@
-use Rattle.std.proofs.Common.{◌≡◌, ℕ, ◌+◌, ◌<◌, List, [], ◌∷◌, ◌++◌, length, map, take, get_or, ap, sym, ◌∙◌, arith, rules}
+use Rattle.std.proofs.Common.{◌≡◌, ◌<◌, List, [], ◌∷◌, ◌++◌, length, map, take, get_or, ap, sym, ◌∙◌, arith, rules}
 use Rattle.std.proofs.lemmas.List.{map_more, take_all}
 use Rattle.njh_bisync.specs.Reading.{Rest, Nothing}
 use Rattle.njh_table.specs.Entries.{LineEntry}
