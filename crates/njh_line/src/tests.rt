@@ -52,6 +52,14 @@ fn replies(reply: Reply) -> Verdict {
     }
 }
 
+fn acts() -> Verdict {
+    Verdict {
+        ended: false,
+        acts: true,
+        reply: NEXT,
+    }
+}
+
 fn ends(reply: Reply) -> Verdict {
     Verdict {
         ended: true,
@@ -121,15 +129,16 @@ fn signs_on(rt: HostRuntime) -> Result<(), Fail> {
 #[test]
 fn counts_blocks(rt: HostRuntime) -> Result<(), Fail> {
     let mut line = signed_on(&rt, rt.alloc())?;
-    let acts = Verdict {
-        ended: false,
-        acts: true,
-        reply: NEXT,
-    };
     for count in 0..16 {
-        expect(&rt, &mut line, &block(Bcb::normal(count)), acts, Phase::Up);
+        expect(
+            &rt,
+            &mut line,
+            &block(Bcb::normal(count)),
+            acts(),
+            Phase::Up,
+        );
     }
-    expect(&rt, &mut line, &block(Bcb::normal(0)), acts, Phase::Up);
+    expect(&rt, &mut line, &block(Bcb::normal(0)), acts(), Phase::Up);
     expect(
         &rt,
         &mut line,
