@@ -3,6 +3,7 @@
 mod keys;
 mod names;
 mod order;
+mod printing;
 mod reading;
 mod sizes;
 
@@ -91,6 +92,15 @@ quota = 3
 files = 8
 "#;
 
+/// The fault of a file, if it has one.
+fn fault_in(alloc: Global, text: &str) -> Result<Option<TableFault>, AllocError> {
+    match Tables::read(alloc, text) {
+        Ok(_) => Ok(None),
+        Err(TableFault::Memory) => Err(AllocError),
+        Err(fault) => Ok(Some(fault)),
+    }
+}
+
 /// The fault of a text with its first `from` changed.
 fn fault_of(
     alloc: Global,
@@ -98,8 +108,7 @@ fn fault_of(
     from: &str,
     to: &str,
 ) -> Result<Option<TableFault>, AllocError> {
-    let changed = text.replacen(alloc, from, to, 1)?;
-    Ok(Tables::read(alloc, changed.as_str()).err())
+    fault_in(alloc, text.replacen(alloc, from, to, 1)?.as_str())
 }
 
 /// A text with one of these changes has this fault.

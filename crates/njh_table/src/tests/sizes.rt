@@ -36,7 +36,7 @@ fn the_largest_file_is_read_and_no_larger_one(rt: HostRuntime) -> Result<(), Fai
     ] {
         let text = file(rt.alloc(), customers, lines, routes)?;
         assert_eq!(rt;
-            Tables::read(rt.alloc(), text.as_str()).err(),
+            fault_in(rt.alloc(), text.as_str())?,
             fault,
             "{customers} {lines} {routes}"
         );
@@ -57,7 +57,7 @@ fn what_is_past_its_limit_is_told_before_its_keys(rt: HostRuntime) -> Result<(),
         let mut text = file(rt.alloc(), customers, lines, routes)?;
         text.push_str(last)?;
         assert_eq!(rt;
-            Tables::read(rt.alloc(), text.as_str()).err(),
+            fault_in(rt.alloc(), text.as_str())?,
             Some(fault),
             "{customers} {lines} {routes} {last}"
         );
@@ -93,7 +93,7 @@ fn quotas_fit_the_capacity(rt: HostRuntime) -> Result<(), Fail> {
         text.push_str(second)?;
         let whole = format!(in rt.alloc(); "capacity = {capacity}\n{text}")?;
         assert_eq!(rt;
-            Tables::read(rt.alloc(), whole.as_str()).err(),
+            fault_in(rt.alloc(), whole.as_str())?,
             fault,
             "capacity {capacity}"
         );
