@@ -155,3 +155,12 @@ fn keys_in_another_order_and_without_the_others(rt: HostRuntime) -> Result<(), F
     ];
     each_is(&rt, rt.alloc(), ONE, None, &changes)
 }
+
+#[test]
+fn empty_lists_are_as_missing_ones(rt: HostRuntime) -> Result<(), Fail> {
+    let changes = [
+        ("files = 8", "files = 8\nline = []"),
+        ("files = 8", "files = 8\nline = []\nroute = []"),
+    ];
+    each_is(&rt, rt.alloc(), BARE, None, &changes)
+}

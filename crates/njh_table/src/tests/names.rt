@@ -16,6 +16,15 @@ fn texts_that_are_no_names(rt: HostRuntime) -> Result<(), Fail> {
 }
 
 #[test]
+fn lower_case_is_no_name(rt: HostRuntime) -> Result<(), Fail> {
+    let changes = [
+        ("name = \"ACME\"", "name = \"Acme\""),
+        ("streams = 4", "streams = 4\npassword = \"secret\""),
+    ];
+    each_is(&rt, rt.alloc(), TWO, Some(TableFault::BadValue), &changes)
+}
+
+#[test]
 fn texts_that_are_no_names_of_lines(rt: HostRuntime) -> Result<(), Fail> {
     let changes = [
         ("name = \"a1\"", "name = \"\""),
