@@ -1,5 +1,5 @@
 -- What the base tables' text gives, computed, and what reading it can answer.
-use Rattle.std.proofs.Common.{◌≡◌, ◌≢◌, Result, Ok, Err, IfOk, IfErr, refl, sym, ◌∙◌}
+use Rattle.std.proofs.Common.{◌≡◌, ◌≢◌, Result, Ok, Err, IfOk, IfErr, refl}
 use Rattle.std.specs.Str.{chars}
 use Rattle.toml.proofs.OnLiterals.{toml_on_literals}
 use Rattle.njh_ebcdic.specs.Characters.{byte_of_character}

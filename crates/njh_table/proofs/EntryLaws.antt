@@ -1,8 +1,7 @@
 -- Customers with the same entry.
-use Rattle.std.proofs.Common.{◌≡◌, ℕ, cond, bytes_eq, List, [], ◌∷◌, All, refl, ap, sym, ◌∙◌}
+use Rattle.std.proofs.Common.{◌≡◌, ℕ, cond, bytes_eq, List, [], ◌∷◌, All, refl, sym, ◌∙◌}
 use Rattle.std.proofs.lemmas.List.Elements.{same_from_all_zip, All-head, All-tail}
 use Rattle.std.specs.List.{AllZip}
-use Rattle.njh_table.specs.declared.Route.{Route}
 use Rattle.njh_table.specs.declared.Route.TheVariants.{Here, Line}
 use Rattle.njh_table.specs.Accepted.{IsRoute, IsCustomer}
 use Rattle.njh_table.specs.Entries.{RouteEntry, route_in, route_of}

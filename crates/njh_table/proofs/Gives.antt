@@ -1,13 +1,13 @@
 -- What a part of the walk gives: a value of which something holds, or a fault that is the walk's own.
-use Rattle.std.proofs.Common.{◌≡◌, ℕ, ℤ, pos, negsuc, Bool, true, false, cond, nat_le, List, [], ◌∷◌, Option, Some, None, IfSome, option_and_then, ok_or, Result, Ok, Err, MatchResult, refl, subst}
+use Rattle.std.proofs.Common.{◌≡◌, ℕ, ℤ, pos, negsuc, Bool, true, false, cond, nat_le, List, Option, Some, None, IfSome, option_and_then, ok_or, Ok, Err, MatchResult, refl, subst}
 use Rattle.std.specs.Prelude.{⊤}
 use Rattle.std.proofs.lemmas.Bool.{and_parts, leb-true}
 use Rattle.toml.specs.Data.{Data, Members, get_member, as_integer, as_str}
 use Rattle.njh_ebcdic.specs.Names.{within}
 use Rattle.njh_table.specs.declared.fault.TableFault.{TableFault}
-use Rattle.njh_table.specs.declared.fault.TableFault.TheVariants.{BadToml, MissingKey, BadValue, DoubleLine, DoubleNode, UnknownLine, QuotaOver, TooMany, Memory}
+use Rattle.njh_table.specs.declared.fault.TableFault.TheVariants.{BadToml, MissingKey, BadValue, Memory}
 use Rattle.njh_table.specs.Accepted.{IsBetween}
-use Rattle.njh_table.specs.Keys.{Walked, ◌>>=◌, ◌>>◌, fault_where, whole_between, number, is_line_name, line_name_of, line_name, keys_in, at_key, found_or, at_key_or}
+use Rattle.njh_table.specs.Keys.{Walked, ◌>>=◌, ◌>>◌, fault_where, whole_between, number, is_line_name, line_name_of, line_name, at_key, found_or, at_key_or}
 
 -- the text's own fault and want of memory are none of the walk's
 abbrev pub IsOfWalk : TableFault → Type 0

@@ -1,28 +1,19 @@
 -- What the walk over a customer's lines gives.
-use Rattle.std.proofs.Common.{◌≡◌, ◌≢◌, ℕ, ◌+◌, ◌<◌, ◌≤◌, Bool, true, false, cond, ◌||◌, nat_le, nat_lt, sum_by, List, [], ◌∷◌, ◌++◌, length, map, get_or, Option, Some, None, IfSome, IfErr, ◌↔◌, codes, is_some, bytes_eq, ok_or, Result, Ok, Err, MatchResult, All, AllPairs, Contains, refl, sym, ap, subst, ◌∙◌, append_assoc, arith}
+use Rattle.std.proofs.Common.{◌≡◌, ℕ, ◌+◌, ◌<◌, ◌≤◌, true, false, nat_le, List, [], ◌∷◌, ◌++◌, length, map, codes, bytes_eq, All, refl, sym, ap, subst, ◌∙◌, append_assoc, arith}
 use Rattle.std.specs.Prelude.{⊤}
-use Rattle.std.specs.List.{list_any, position_from}
-use Rattle.std.specs.Cmp.Lexicographic.{nat_list_eq_equiv}
-use Rattle.std.proofs.lemmas.Bool.{leb-false, ltb-false, or_parts, or_from, both_ways, false≢true}
-use Rattle.std.proofs.lemmas.List.{length-append, map-append, append-nil}
-use Rattle.std.proofs.lemmas.List.Folds.{list_any_at, list_any-append}
-use Rattle.std.proofs.lemmas.List.Quantifiers.{all_pairs_push}
-use Rattle.std.proofs.lemmas.Slice.Eq.{bytes_eq-Decides}
-use Rattle.std.proofs.lemmas.List.Elements.{All-push, All-nil}
-use Rattle.std.proofs.lemmas.List.Concat.{flat_map-append}
-use Rattle.std.proofs.lemmas.Option.{IfSome_then}
-use Rattle.std.proofs.lemmas.Result.{MatchResult-at_err}
-use Rattle.toml.specs.Data.{Data, Items, no_items, item, Members, as_str, as_array}
-use Rattle.njh_table.specs.declared.fault.TableFault.TheVariants.{TooMany, MissingKey, DoubleLine, DoubleNode, UnknownLine, BadToml, BadValue, QuotaOver, Memory}
-use Rattle.njh_table.specs.Accepted.{IsBetween, AreDistinct, IsLine, IsRoute, IsCustomer, IsAccepted}
-use Rattle.njh_table.specs.Entries.{RouteEntry}
-use Rattle.njh_table.specs.TableFile.{NamedLine, NamedCustomer, TableFile, line_names, routed_line}
-use Rattle.toml.specs.Parse.{parse_document}
-use Rattle.njh_table.specs.declared.fault.TableFault.{TableFault}
-use Rattle.njh_table.specs.Keys.{◌>>=◌, number, node_name, is_line_name, line_name, role, password, keys_in, at_key, at_key_or}
-use Rattle.njh_table.specs.Walk.{Walks, next_line, lines_onto, line_number, is_routed, next_route, routes_onto, next_customer, customers_onto, is_empty, tables_in, tables_of}
+use Rattle.std.specs.List.{list_any}
+use Rattle.std.proofs.lemmas.Bool.{leb-false, or_parts, or_from}
+use Rattle.std.proofs.lemmas.List.{length-append, map-append}
+use Rattle.std.proofs.lemmas.List.Folds.{list_any-append}
+use Rattle.std.proofs.lemmas.List.Elements.{All-push}
+use Rattle.toml.specs.Data.{Data, Items, no_items, item}
+use Rattle.njh_table.specs.declared.fault.TableFault.TheVariants.{TooMany, DoubleLine, BadValue}
+use Rattle.njh_table.specs.Accepted.{IsBetween, AreDistinct, IsLine}
+use Rattle.njh_table.specs.TableFile.{NamedLine}
+use Rattle.njh_table.specs.Keys.{number, node_name, is_line_name, line_name, role, password, keys_in, at_key, at_key_or}
+use Rattle.njh_table.specs.Walk.{next_line, lines_onto}
 use Rattle.njh_table.proofs.OwnersLaws.{AreApart}
-use Rattle.njh_table.proofs.Gives.{Gives, IsOfWalk, given, any, and_then, past, some_or, at_key-gives, at_key_or-gives, whatever, number-between, line_name-is}
+use Rattle.njh_table.proofs.Gives.{Gives, any, and_then, past, some_or, at_key-gives, at_key_or-gives, whatever, number-between, line_name-is}
 use Rattle.njh_table.proofs.Distinct.{distinct_push}
 
 pub record IsNewLine (taken : List (List ℕ)) (l : NamedLine) : Type 0 where

@@ -2,7 +2,7 @@ use Rattle.std.proofs.Common.{◌≡◌, ◌≢◌, [], ◌++◌, length, Ok, Er
 use Rattle.std.proofs.lemmas.Grind.{common_steps}
 use Rattle.toml.specs.View.{items_view}
 use Rattle.njh_table.specs.declared.fault.TableFault.TheVariants.{Memory}
-use Rattle.njh_table.specs.TableFile.{names_in, line_names, line_owners, own_line, owners_from}
+use Rattle.njh_table.specs.TableFile.{names_in, line_names, line_owners, own_line}
 use Rattle.njh_table.specs.Walk.{next_customer, lines_onto, routes_onto, line_number}
 use Rattle.njh_table.proofs.OwnersLaws.{names-owners_from, owners_after, AreApart, own_line-is}
 use Rattle.njh_table.proofs.Gives.{given}

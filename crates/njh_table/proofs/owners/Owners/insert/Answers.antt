@@ -1,4 +1,4 @@
-use Rattle.std.proofs.Common.{◌≡◌, None, map, bytes_eq, ap, sym, ◌∙◌, ◌++◌, [], ◌∷◌}
+use Rattle.std.proofs.Common.{map, bytes_eq, ap, sym, ◌∙◌, ◌++◌, [], ◌∷◌}
 use Rattle.std.proofs.lemmas.List.{map-append}
 use Rattle.std.specs.Map.{lookup}
 use Rattle.std.specs.String.{string_bytes, string_eq}

@@ -1,4 +1,3 @@
-use Rattle.std.proofs.Common.{refl}
 use Rattle.toml.specs.View.{table_view}
 use Rattle.njh_table.proofs.WalkedTables.{told_of_toml}
 use Rattle.njh_table.proofs.tables.Tables.read.Goals as goal
