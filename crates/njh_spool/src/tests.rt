@@ -113,7 +113,9 @@ fn record_at<R: Abort>(
     n: u32,
 ) -> Result<Record, SpoolFault> {
     assert!(rt; customer < spool.customers());
-    assert!(rt; n < spool.records(customer, id)?);
+    if let Ok(count) = spool.records(customer, id) {
+        assert!(rt; n < count);
+    }
     let mut record = ArrayVec::new();
     spool.record_at(customer, id, n, &mut record)?;
     Ok(record)
@@ -128,12 +130,13 @@ fn rewrite<R: Abort>(
     place: usize,
 ) -> Result<(), SpoolFault> {
     assert!(rt; customer < spool.customers());
-    spool.state(customer, id)?;
-    assert!(rt; 0 < spool.records(customer, id)?);
-    let mut record = ArrayVec::new();
-    spool.record_at(customer, id, 0, &mut record)?;
-    assert!(rt; 8 <= record.len());
-    assert!(rt; place <= record.len() - 8);
+    if spool.state(customer, id).is_ok() {
+        assert!(rt; 0 < spool.records(customer, id)?);
+        let mut record = ArrayVec::new();
+        spool.record_at(customer, id, 0, &mut record)?;
+        assert!(rt; 8 <= record.len());
+        assert!(rt; place <= record.len() - 8);
+    }
     spool.rewrite(customer, id, 0, place, [0xE9; 8])
 }
 
@@ -196,7 +199,10 @@ fn a_removed_files_blocks_come_back(rt: HostRuntime) -> Result<(), Fail> {
     finish(&rt, &mut spool, 1, id)?;
     remove(&rt, &mut spool, 0, id)?;
     assert_eq!(rt; (used(&rt, &spool, 0), used(&rt, &spool, 1)), (0, 2));
-    assert_eq!(rt; records(&rt, &spool, 0, id), Err(SpoolFault::NoSuchFile));
+    assert_eq!(rt;
+        record_at(&rt, &spool, 0, id, 0).err(),
+        Some(SpoolFault::NoSuchFile)
+    );
     let again = begin(&rt, &mut spool, 0)?;
     for _ in 0..3 {
         append(&rt, &mut spool, 0, again, 249, 0xC3)?;
@@ -363,7 +369,10 @@ fn whole_and_partial_files_are_read(rt: HostRuntime) -> Result<(), Fail> {
         records(&rt, &spool, 0, ids[2]),
         Err(SpoolFault::NoSuchFile)
     );
-    assert!(rt; record_at(&rt, &spool, 0, ids[2], 0).is_err());
+    assert_eq!(rt;
+        record_at(&rt, &spool, 0, ids[2], 0).err(),
+        Some(SpoolFault::NoSuchFile)
+    );
     Ok(())
 }
 
