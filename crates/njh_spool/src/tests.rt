@@ -142,8 +142,12 @@ fn rewrite<R: Abort>(
 
 #[test]
 fn two_blocks_hold_504_bytes(rt: HostRuntime) -> Result<(), Fail> {
-    for (data, trailer, count) in [(105, Ok(()), 5), (106, Err(SpoolFault::QuotaFull), 4)] {
-        let mut spool = opened(&rt, rt.alloc(), [2, 2], 8)?;
+    for (blocks, data, trailer, count) in [
+        (2, 105, Ok(()), 5),
+        (2, 106, Err(SpoolFault::QuotaFull), 4),
+        (3, 106, Ok(()), 5),
+    ] {
+        let mut spool = opened(&rt, rt.alloc(), [blocks, 9], 8)?;
         let id = begin(&rt, &mut spool, 0)?;
         for size in [100, 24, 256, data] {
             append(&rt, &mut spool, 0, id, size, 0xC1)?;
@@ -151,9 +155,9 @@ fn two_blocks_hold_504_bytes(rt: HostRuntime) -> Result<(), Fail> {
         assert_eq!(rt;
             append(&rt, &mut spool, 0, id, 4, 0xC1),
             trailer,
-            "after {data}"
+            "after {data} in {blocks}"
         );
-        assert_eq!(rt; used(&rt, &spool, 0), 2);
+        assert_eq!(rt; used(&rt, &spool, 0), blocks);
         assert_eq!(rt; records(&rt, &spool, 0, id)?, count);
     }
     Ok(())
