@@ -1,3 +1,5 @@
+mod Asked
 mod LineForms
 mod Lines
 mod Printing
+mod Replaying

@@ -1,18 +1,8 @@
--- One write after another, and hex in pieces.
-use Rattle.std.proofs.Common.{◌≡◌, ℕ, ◌/◌, ◌%◌, List, [], ◌∷◌, ◌++◌, slice_index, Option, Some, None, refl, sym, ap, ◌∙◌, append_assoc, append-nil}
+-- Hex in pieces.
+use Rattle.std.proofs.Common.{◌≡◌, ℕ, ◌/◌, ◌%◌, List, [], ◌∷◌, ◌++◌, slice_index, Option, refl, sym, ap, ◌∙◌, append_assoc, append-nil}
 use Rattle.std.specs.Io.KnownBytes.{Appends}
+use Rattle.njehub.specs.PrintedLaws.{Appends-none, Appends-more}
 use Rattle.hex.specs.Hex.{encode_with, encode_lower, lower_digits}
-
--- nothing written, and two writes
-Appends-none : (known : Option (List ℕ)) → Appends known known []
-Appends-none None = tt
-Appends-none (Some xs) = sym (append-nil xs)
-
-Appends-more : (first then last : Option (List ℕ)) (xs ys : List ℕ) → Appends first then xs → Appends then last ys → Appends first last (xs ++ ys)
-Appends-more None then last xs ys a b = tt
-Appends-more (Some held) None last xs ys a b = absurd a
-Appends-more (Some held) (Some more) None xs ys a b = absurd b
-Appends-more (Some held) (Some more) (Some most) xs ys a b = rw (b, a) (append_assoc held xs ys)
 
 -- hex goes byte by byte
 encode_with-append : (digits xs ys : List ℕ) → encode_with digits (xs ++ ys) ≡ encode_with digits xs ++ encode_with digits ys

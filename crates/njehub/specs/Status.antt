@@ -1,8 +1,9 @@
--- The status that the program ends with.
-use Rattle.std.specs.Prelude.{ℕ}
+-- Why the program ends, and the status that it ends with.
+use Rattle.std.specs.Prelude.{◌≡◌, ◌≢◌, ℕ}
 use Rattle.njehub.specs.declared.failure.Failure.{Failure}
 use Rattle.njehub.specs.declared.failure.Failure.TheVariants.{Words, Tables, Replay}
 use Rattle.njehub.specs.declared.fault.ReplayFault.TheVariants.{TooLong, Script, Device, Hub}
+use Rattle.njh_hub.specs.declared.fault.HubFault.TheVariants as hub
 use Rattle.njh_table.specs.declared.fault.TableFault.{TableFault}
 use Rattle.njh_table.specs.declared.fault.TableFault.TheVariants.{Memory}
 
@@ -19,3 +20,11 @@ status_of (Replay TooLong) = 1
 status_of (Replay (Script number)) = 1
 status_of (Replay Device) = 2
 status_of (Replay (Hub fault)) = 2
+
+-- want of memory outside a replay
+abbrev pub no_memory : Failure
+no_memory = Replay (Hub hub.Memory)
+
+-- an error that is told as this failure, but as want of memory where it is that
+abbrev pub IsToldAs : {Kind : Type 0} → (kind memory : Kind) → Failure → Failure → Type 0
+IsToldAs kind memory told failure = (kind ≡ memory → failure ≡ no_memory) × (kind ≢ memory → failure ≡ told)

@@ -1,7 +1,9 @@
 //! Why the program ends with another status than 0.
 
 ghost use Rattle.std.specs.Prelude.{◌≡◌};
-ghost use Rattle.njehub.specs.Status.{status_of};
+ghost use Rattle.std.specs.IoError.{error_kind};
+ghost use Rattle.clap.specs.Words.{kind_of};
+ghost use Rattle.njehub.specs.Status.{status_of, no_memory, IsToldAs};
 
 use crate::fault::ReplayFault;
 use clap::error::ErrorKind;
@@ -50,6 +52,11 @@ impl fmt::Display for Failure {
 }
 
 impl From<clap::Error> for Failure {
+    ghost use Rattle.clap.specs.declared.error.ErrorKind.TheVariants.{OutOfMemory};
+    ghost use Rattle.njehub.specs.declared.failure.Failure.TheVariants.{Words};
+
+    ghost from_gives = { λ error failure. IsToldAs (kind_of error) OutOfMemory (Words error) failure };
+
     fn from(error: clap::Error) -> Failure {
         match error.kind() {
             ErrorKind::OutOfMemory => Failure::from(AllocError),
@@ -59,24 +66,40 @@ impl From<clap::Error> for Failure {
 }
 
 impl From<TableFault> for Failure {
+    ghost use Rattle.njehub.specs.declared.failure.Failure.TheVariants.{Tables};
+
+    ghost from_gives = { λ fault failure. failure ≡ Tables fault };
+
     fn from(fault: TableFault) -> Failure {
         Failure::Tables(fault)
     }
 }
 
 impl From<ReplayFault> for Failure {
+    ghost use Rattle.njehub.specs.declared.failure.Failure.TheVariants.{Replay};
+
+    ghost from_gives = { λ fault failure. failure ≡ Replay fault };
+
     fn from(fault: ReplayFault) -> Failure {
         Failure::Replay(fault)
     }
 }
 
 impl From<AllocError> for Failure {
+    ghost from_gives = { λ _ failure. failure ≡ no_memory };
+
     fn from(_error: AllocError) -> Failure {
         Failure::Replay(ReplayFault::Hub(HubFault::Memory))
     }
 }
 
 impl From<io::Error> for Failure {
+    ghost use Rattle.std.specs.declared.io.ErrorKind.TheVariants.{OutOfMemory};
+    ghost use Rattle.njehub.specs.declared.failure.Failure.TheVariants.{Replay};
+    ghost use Rattle.njehub.specs.declared.fault.ReplayFault.TheVariants.{Device};
+
+    ghost from_gives = { λ error failure. IsToldAs (error_kind error) OutOfMemory (Replay Device) failure };
+
     fn from(error: io::Error) -> Failure {
         match error.kind() {
             io::ErrorKind::OutOfMemory => Failure::from(AllocError),

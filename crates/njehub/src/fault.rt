@@ -25,6 +25,14 @@ pub enum ReplayFault {
     Hub(HubFault),
 }
 
+impl From<HubFault> for ReplayFault {
+    ghost from_gives = { λ hub fault. fault ≡ Hub hub };
+
+    fn from(fault: HubFault) -> ReplayFault {
+        ReplayFault::Hub(fault)
+    }
+}
+
 impl From<AllocError> for ReplayFault {
     ghost from_gives = { λ _ fault. fault ≡ Hub Memory };
 

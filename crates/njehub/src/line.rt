@@ -1,7 +1,8 @@
 //! What one line of a script tells.
 
-ghost use Rattle.std.specs.Prelude.{◌≡◌, IfOk};
-ghost use Rattle.njh_table.specs.TableFile.{owner_of};
+ghost use Rattle.std.specs.Prelude.{◌≡◌, IfOk, IfSome};
+ghost use Rattle.njh_table.specs.TableFile.{owner_of, HasLine};
+ghost use Rattle.njh_hub.specs.Own.{line_of};
 ghost use Rattle.njehub.specs.Script.{bytes_on, event_of, event_of_words, piece_of, signal_of, words_of};
 
 use hex::FromHexError;
@@ -9,10 +10,11 @@ use njh_hub::{Event, Piece};
 use njh_table::{LineId, Tables};
 use std::alloc::{AllocError, Global};
 
-/// The event that a line tells, if it tells one.
+/// The event that a line tells, if it tells one; it comes on a line of the tables. Want of memory is the only refusal.
 #[tactic(auto, unfolding(crate::specs::Script::event_of))]
 pub fn event_of(alloc: Global, tables: &Tables, line: &[u8]) -> Result<Option<Event>, AllocError>
-    ensures { IfOk result (λ event. event ≡ event_of (owner_of tables.now) line.now) }
+    ensures event { IfOk result (λ event. event ≡ event_of (owner_of tables.now) line.now) }
+    ensures line { IfOk result (λ event. IfSome event (λ e. HasLine tables.now (line_of e))) }
 {
     match str::from_utf8(line) {
         Ok(line) => event_of_text(alloc, tables, line),
@@ -22,7 +24,8 @@ pub fn event_of(alloc: Global, tables: &Tables, line: &[u8]) -> Result<Option<Ev
 
 /// The event of a line that is text.
 fn event_of_text(alloc: Global, tables: &Tables, line: &str) -> Result<Option<Event>, AllocError>
-    ensures { IfOk result (λ event. event ≡ event_of_words (owner_of tables.now) (words_of line.now)) }
+    ensures event { IfOk result (λ event. event ≡ event_of_words (owner_of tables.now) (words_of line.now)) }
+    ensures line { IfOk result (λ event. IfSome event (λ e. HasLine tables.now (line_of e))) }
 {
     let Some((word, rest)) = line.split_once(' ') else {
         return Ok(None);
@@ -42,7 +45,8 @@ fn event_of_text(alloc: Global, tables: &Tables, line: &str) -> Result<Option<Ev
 
 /// The event that a word alone tells of a line.
 fn signal_of(word: &str, line: LineId) -> Option<Event>
-    ensures { result ≡ signal_of word.now line }
+    ensures event { result ≡ signal_of word.now line }
+    ensures line { IfSome result (λ e. line_of e ≡ line) }
 {
     match word {
         "TICK" => Some(Event::Tick(line)),
@@ -59,7 +63,8 @@ fn bytes_on(
     digits: &str,
     line: LineId,
 ) -> Result<Option<Event>, AllocError>
-    ensures { IfOk result (λ event. event ≡ bytes_on word.now digits.now line) }
+    ensures event { IfOk result (λ event. event ≡ bytes_on word.now digits.now line) }
+    ensures line { IfOk result (λ event. IfSome event (λ e. line_of e ≡ line)) }
 {
     if word != "BYTES" {
         return Ok(None);

@@ -1,9 +1,9 @@
 //! A sink that prints.
 
-ghost use Rattle.std.specs.Prelude.{◌≡◌, IsTrue, IsSomeAnd, None};
-ghost use Rattle.std.specs.Io.KnownBytes.{Appends};
+ghost use Rattle.std.specs.Prelude.{◌≡◌, [], ◌∷◌, IsTrue, IsSome, refl, ⊤};
 ghost use Rattle.njehub.specs.Names.{name_at};
-ghost use Rattle.njehub.specs.Printed.{frame_text};
+ghost use Rattle.njehub.specs.Printed.{IsPrinted};
+ghost use Rattle.njehub.specs.PrintedLaws.{IsPrinted-none, IsPrinted-more, same_then};
 
 use crate::names::LineNames;
 use crate::print::print_frame;
@@ -22,8 +22,9 @@ pub struct Printer<'a, W> {
 impl<W: Write> Printer<'_, W> {
     /// Prints a frame, and says whether it is printed whole.
     fn print(&mut self, line: LineId, frame: &[u8]) -> bool
-        ensures printed { IsTrue result → IsSomeAnd (name_at self.old.names.now line)
-            (λ name. Appends (W.contents self.old.out.now) (W.contents self.new.out.now) (frame_text name frame.now)) }
+        ensures named { IsTrue result → IsSome (name_at self.old.names.now line) }
+        ensures printed { IsTrue result → IsPrinted self.old.names.now self.new.names.now (W.contents self.old.out.now) (W.contents self.new.out.now) ((line, frame.now) ∷ []) }
+        ensures same_reference { self.new.out.ghost_name ≡ self.old.out.ghost_name }
         ensures failures { self.new.failures ≡ self.old.failures }
     {
         match self.names.get(line) {
@@ -34,9 +35,17 @@ impl<W: Write> Printer<'_, W> {
 }
 
 impl<W: Write> Sink for Printer<'_, W> {
-    ghost sent = { λ _. None };
+    // It writes on where it wrote.
+    ghost took = { λ before after pairs. (after.out.ghost_name ≡ before.out.ghost_name) × IsPrinted before.names.now after.names.now (W.contents before.out.now) (W.contents after.out.now) pairs };
+
+    // A frame that was refused may be printed in part.
+    ghost refused = { λ before after. ⊤ };
 
     ghost count = { λ printer. printer.failures };
+
+    ghost none = { λ s. (refl, IsPrinted-none s.names.now (W.contents s.out.now)) };
+
+    ghost more = { λ a b c xs ys front back. (same_then front.0 back.0, IsPrinted-more a.names.now b.names.now c.names.now (W.contents a.out.now) (W.contents b.out.now) (W.contents c.out.now) xs ys front.1 back.1) };
 
     fn failures(&self) -> u64 {
         self.failures

@@ -1,9 +1,12 @@
 //! Replays a script through a hub.
 
-ghost use Rattle.std.specs.Prelude.{◌≡◌, ℕ, List, IfOk, IfErr, OnOk};
-ghost use Rattle.njehub.specs.Replayed.{HasScript, HasTooLong, HasBadLine, IsRefusal, stopped_by};
-ghost use Rattle.njh_table.specs.TableFile.{owner_of};
-ghost use Rattle.njh_hub.specs.declared.event.Event.{Event};
+ghost use Rattle.std.specs.Prelude.{◌≡◌, ℕ, All, IfOk, IfErr, OnOk};
+ghost use Rattle.std.specs.Io.KnownBytes.{Appends};
+ghost use Rattle.njehub.specs.Printed.{text_of};
+ghost use Rattle.njehub.specs.Replayed.{HasScript, HasTooLong, HasBadLine, IsReplayed, IsRefusal, MayEnd, stopped_by};
+ghost use Rattle.njh_table.specs.TableFile.{owner_of, HasLine};
+ghost use Rattle.njh_hub.specs.Own.{line_of};
+ghost use Rattle.njh_hub.specs.Whole.{hub_run, HasLine as HubHasLine};
 
 use crate::fault::ReplayFault;
 use crate::input::read_text;
@@ -22,23 +25,42 @@ pub fn replay<R: Read, W: Write>(
     script: &mut R,
     out: &mut W,
 ) -> Result<(), ReplayFault>
-    // A script that was run is good from its first line to its last.
-    ensures good { OnOk result ((events : List Event) × HasScript (owner_of tables) (R.remaining script.old) events) }
+    // What is written is the text of the frames that a hub of these tables sends over the events of the script, which is good
+    // from its first line to its last.
+    ensures replayed { OnOk result (IsReplayed tables (R.remaining script.old) (W.contents out.old) (W.contents out.new)) }
     // It is refused where it is too long, or else at its first bad line, and then nothing is written.
     ensures long { result ≡ Err ReplayFault.TooLong → HasTooLong (R.remaining script.old) }
     ensures bad { (number : ℕ) → result ≡ Err (ReplayFault.Script number) → HasBadLine (owner_of tables) (R.remaining script.old) number }
     ensures silent { IfErr result (λ fault. IsRefusal fault → out.new ≡ out.old) }
+    // Else a device or memory failed: the lines of a good script are all there.
+    ensures faults { IfErr result MayEnd }
 {
     let events = read_events(alloc, &tables, script)?;
     let names = LineNames::of(alloc, &tables)?;
-    let mut hub = Hub::open(alloc, tables).map_err(ReplayFault::Hub)?;
+    let mut hub = Hub::open(alloc, tables)?;
+    print_run(&mut hub, &events, &names, out)
+}
+
+/// Runs events through a hub, and prints each frame that it sends.
+fn print_run<W: Write>(
+    hub: &mut Hub,
+    events: &[Event],
+    names: &LineNames,
+    out: &mut W,
+) -> Result<(), ReplayFault>
+    ensures printed { OnOk result (Appends (W.contents out.old) (W.contents out.new) (text_of names.now (hub_run hub.old events.now).sent)) }
+    ensures faults { All (λ event. HubHasLine hub.old (line_of event)) events.now → IfErr result MayEnd }
+    ensures refuses_no_script { IfErr result (λ fault. ¬ IsRefusal fault) }
+{
     let mut printer = Printer {
         out,
-        names: &names,
+        names,
         failures: 0,
     };
-    hub.run(&events, &mut printer)
-        .map_err(|fault| stopped_by(fault.cause))?;
+    match hub.run(events, &mut printer) {
+        Ok(()) => {}
+        Err(fault) => return Err(stopped_by(fault.cause)),
+    }
     out.flush().map_err(|_| ReplayFault::Device)
 }
 
@@ -49,8 +71,10 @@ fn read_events<R: Read>(
     script: &mut R,
 ) -> Result<Vec<Event>, ReplayFault>
     ensures good { IfOk result (λ events. HasScript (owner_of tables.now) (R.remaining script.old) events.items) }
+    ensures lines { IfOk result (λ events. All (λ event. HasLine tables.now (line_of event)) events.items) }
     ensures long { result ≡ Err ReplayFault.TooLong → HasTooLong (R.remaining script.old) }
     ensures bad { (number : ℕ) → result ≡ Err (ReplayFault.Script number) → HasBadLine (owner_of tables.now) (R.remaining script.old) number }
+    ensures faults { IfErr result MayEnd }
 {
     let text = read_text(alloc, script)?;
     events_of(alloc, tables, &text)

@@ -1,7 +1,8 @@
 //! The events of a script.
 
-ghost use Rattle.std.specs.Prelude.{◌≡◌, ℕ, ◌≤◌, ◌⊎◌, length, IfOk, IfErr};
-ghost use Rattle.njh_table.specs.TableFile.{owner_of};
+ghost use Rattle.std.specs.Prelude.{◌≡◌, ℕ, ◌≤◌, ◌⊎◌, length, All, IfOk, IfErr};
+ghost use Rattle.njh_table.specs.TableFile.{owner_of, HasLine};
+ghost use Rattle.njh_hub.specs.Own.{line_of};
 ghost use Rattle.njehub.specs.Script.{is_skipped, script_of};
 
 use crate::fault::ReplayFault;
@@ -13,11 +14,12 @@ use std::alloc::Global;
 /// How many bytes a script has at most.
 pub const LIMIT: usize = 1_048_576;
 
-/// The events of a script, or the number of its first bad line, counted from 1. The only other refusal is
-/// want of memory.
+/// The events of a script, all on lines of the tables, or the number of its first bad line, counted from 1. The only
+/// other refusal is want of memory.
 pub fn events_of(alloc: Global, tables: &Tables, text: &[u8]) -> Result<Vec<Event>, ReplayFault>
     requires { length text.now ≤ LIMIT }
     ensures events { IfOk result (λ events. script_of (owner_of tables.now) text.now ≡ Ok events.items) }
+    ensures lines { IfOk result (λ events. All (λ event. HasLine tables.now (line_of event)) events.items) }
     ensures bad { (number : ℕ) → result ≡ Err (ReplayFault.Script number) → script_of (owner_of tables.now) text.now ≡ Err number }
     ensures refused { IfErr result (λ fault. (fault ≡ ReplayFault.Hub HubFault.Memory) ⊎ ((number : ℕ) × (fault ≡ ReplayFault.Script number))) }
 {

@@ -1,7 +1,7 @@
 //! The tables that the program goes by.
 
 ghost use Rattle.std.specs.Prelude.{◌≡◌, ◌≢◌, IfOk, IfErr};
-ghost use Rattle.njehub.specs.TableBytes.{tables_in};
+ghost use Rattle.njehub.specs.TableBytes.{tables_in, AreGiven, AreRefused};
 
 use crate::failure::Failure;
 use njh_table::{TableFault, Tables};
@@ -10,7 +10,12 @@ use std::fs;
 use std::rt::Files;
 
 /// The tables of a file, or the base tables where none is named.
-pub fn tables_of<R: Files + AllocGlobal>(rt: &R, file: Option<&str>) -> Result<Tables, Failure> {
+///
+/// No clause says which bytes a file holds, so of a file no more is known than that its tables are those of some bytes.
+pub fn tables_of<R: Files + AllocGlobal>(rt: &R, file: Option<&str>) -> Result<Tables, Failure>
+    ensures given { IfOk result (AreGiven file.entry) }
+    ensures refused { IfErr result (AreRefused file.entry) }
+{
     match file {
         Some(path) => Ok(tables_in(rt.alloc(), &fs::read(rt, path)?)?),
         None => Ok(Tables::base(rt.alloc())?),

@@ -4,6 +4,7 @@ use crate::failure::Failure;
 use crate::fault::ReplayFault;
 use crate::replay::replay;
 use crate::script::LIMIT;
+use crate::table_file::tables_of;
 use crate::words::{Request, request_of};
 use njh_hub::HubFault;
 use njh_table::{TableFault, Tables};
@@ -253,6 +254,19 @@ fn quotas_over_the_capacity_are_refused(rt: HostRuntime) -> Result<(), Fail> {
     let mut script = b"BYTES a1 012d\n".as_slice();
     assert_eq!(rt; replay(rt.alloc(), tables, &mut script, &mut out), Ok(()));
     assert_eq!(rt; out.as_slice(), b"a1 1070\n".as_slice());
+    Ok(())
+}
+
+#[test]
+fn tables_without_a_file_and_of_none(rt: HostRuntime) -> Result<(), Fail> {
+    let tables = tables_of(&rt, None)?;
+    assert_eq!(rt; tables.customers().len(), 2);
+    let failure = match tables_of(&rt, Some("no such file")) {
+        Ok(_) => return Err(Fail::from("not refused")),
+        Err(failure) => failure,
+    };
+    assert_eq!(rt; failure.status(), 2);
+    assert_eq!(rt; failure.to_string(rt.alloc())?.as_str(), "njehub: device\n");
     Ok(())
 }
 

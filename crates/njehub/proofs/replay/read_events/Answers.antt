@@ -1,7 +1,7 @@
-use Rattle.std.proofs.Common.{◌≡◌, ◌≤◌, ℕ, List, length, Option, Ok, Err, IfSome, ap, rules, arith}
+use Rattle.std.proofs.Common.{◌≡◌, ℕ, length, Ok, IfSome, ap, rules, arith}
 use Rattle.std.proofs.lemmas.Option.{IfSome_then}
 use Rattle.std.proofs.lemmas.Result.{IfOk-weaker}
-use Rattle.njehub.specs.Replayed.{HasScript, HasBadLine}
+use Rattle.njehub.specs.Replayed.{HasScript}
 use Rattle.njehub.specs.Script.{script_of}
 use Rattle.njh_table.specs.TableFile.{owner_of}
 use Rattle.njehub.proofs.replay.read_events.Goals as goal

@@ -1,9 +1,11 @@
-use Rattle.std.proofs.Common.{◌≡◌, ℕ, ◌+◌, length, eqb, rules, tests, arith}
+use Rattle.std.proofs.Common.{◌≡◌, ◌+◌, length, eqb, rules, tests, arith}
 use Rattle.std.proofs.lemmas.Iterator.Splits.{YieldsList-from_slice_split}
 use Rattle.std.proofs.lemmas.Iterator.Consumers.{YieldsList-turn, YieldsList-end}
 use Rattle.std.proofs.lemmas.List.{length_push}
-use Rattle.njh_table.specs.TableFile.{owner_of}
-use Rattle.njehub.specs.Script.{lines_of, script_of}
+use Rattle.std.proofs.lemmas.List.Elements.{All-push}
+use Rattle.njh_table.specs.TableFile.{owner_of, HasLine}
+use Rattle.njh_hub.specs.Own.{line_of}
+use Rattle.njehub.specs.Script.{lines_of}
 use Rattle.njehub.proofs.Lines.{Reads-skip, Reads-event, Reads-bad, Reads-all}
 use Rattle.njehub.proofs.script.events_of.Goals as goal
 
@@ -13,6 +15,7 @@ loop-line-preserved-then-is_skipped c =
     let count = length_push c.loop-line.yielded c.in-Some.line in
     record {
       reads = rw count (Reads-skip (owner_of c.args.tables.now) (lines_of c.args.text.now) _ _ c.in-Some.line.now c.loop-line.invariant.reads turn.0 turn.1 (search rules));
+      lines = c.loop-line.invariant.lines;
       counted = omega arith;
       can_next = search rules;
       is_finite = search rules;
@@ -24,6 +27,7 @@ loop-line-preserved c =
     let count = length_push c.loop-line.yielded c.in-Some.line in
     record {
       reads = rw (count, c.in_ok-push-in-Some-2.ensures.items) (Reads-event (owner_of c.args.tables.now) (lines_of c.args.text.now) _ _ c.in-Some.line.now _ c.loop-line.invariant.reads turn.0 turn.1 (search rules) (search rules));
+      lines = rw c.in_ok-push-in-Some-2.ensures.items (All-push (λ event. HasLine c.args.tables.now (line_of event)) _ _ c.loop-line.invariant.lines (search rules));
       counted = omega arith;
       can_next = search rules;
       is_finite = search rules;
