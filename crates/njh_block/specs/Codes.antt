@@ -5,7 +5,7 @@ use Rattle.njh_record.specs.declared.Kind.TheVariants.{In, Out}
 use Rattle.njh_block.specs.declared.bcb.Numbering.{Numbering}
 use Rattle.njh_block.specs.declared.bcb.Numbering.TheVariants.{Normal, Unchecked, Setting}
 
--- XXX of a block control byte, bits 1 XXX CCCC
+-- NNN of a block control byte, bits 1 NNN CCCC
 abbrev pub numbering_bits : Numbering → ℕ
 numbering_bits Normal = 0
 numbering_bits Unchecked = 1

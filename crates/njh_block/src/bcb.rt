@@ -14,7 +14,7 @@ pub enum Numbering {
     Setting,
 }
 
-/// A block control byte, bits 1 XXX CCCC: how the block is numbered, and its count modulo 16 (IBM SC23-0070, "Multileaving").
+/// A block control byte, bits 1 NNN CCCC: how the block is numbered, and its count modulo 16 (IBM SC23-0070, "Multileaving").
 /// A contract sees it as the byte.
 #[derive(Clone, Copy, Debug, PartialEq, Eq)]
 pub struct Bcb {
@@ -40,7 +40,7 @@ const UNASSIGNED: u8 = 0xb0;
 const COUNTS: u8 = 16;
 
 impl Bcb {
-    /// The byte as a block control byte, if it is one: XXX is 000, 001 or 010.
+    /// The byte as a block control byte, if it is one: NNN is 000, 001 or 010.
     pub fn read(byte: u8) -> Option<Self>
         ensures { result ≡ cond (is_bcb byte) (Some byte) None }
     {
