@@ -1,144 +1,17 @@
-//! Worked examples, and what no clause says: that calls succeed, what a refused call leaves, and the faults' texts.
+//! Worked examples, and what no clause says: that calls succeed, and the faults' texts.
+
+mod calls;
+mod memory;
 
 use crate::{FileId, MOST_BLOCKS, MOST_CUSTOMERS, MOST_FILES, Quota, Spool, SpoolFault, State};
-use arrayvec::ArrayVec;
-use njh_record::{Kind, Record};
+use calls::{
+    abandon, append, begin, file_at, files, finish, hold, kind, opened, record_at, records, remove,
+    rewrite, state, used,
+};
+use njh_record::Kind;
 use std::alloc::Global;
 use std::process::Abort;
 use std::test::Fail;
-
-/// A spool of two customers with so many blocks each, and so many files.
-fn opened<R: Abort>(
-    rt: &R,
-    alloc: Global,
-    blocks: [u32; 2],
-    files: u32,
-) -> Result<Spool, SpoolFault> {
-    let [first, second] = blocks.map(|blocks| Quota { blocks, files });
-    assert!(rt; first.is_within_limits());
-    assert!(rt; second.is_within_limits());
-    Spool::open(alloc, &[first, second])
-}
-
-fn begin<R: Abort>(rt: &R, spool: &mut Spool, customer: u16) -> Result<FileId, SpoolFault> {
-    assert!(rt; customer < spool.customers());
-    spool.begin(customer, Kind::Out)
-}
-
-/// Appends a record of so many bytes, each the same.
-fn append<R: Abort>(
-    rt: &R,
-    spool: &mut Spool,
-    customer: u16,
-    id: FileId,
-    size: usize,
-    byte: u8,
-) -> Result<(), SpoolFault> {
-    assert!(rt; customer < spool.customers());
-    assert!(rt; size <= 256);
-    spool.append(customer, id, 0x80, &[byte; 256][..size])
-}
-
-fn finish<R: Abort>(
-    rt: &R,
-    spool: &mut Spool,
-    customer: u16,
-    id: FileId,
-) -> Result<(), SpoolFault> {
-    assert!(rt; customer < spool.customers());
-    spool.finish(customer, id)
-}
-
-fn abandon<R: Abort>(
-    rt: &R,
-    spool: &mut Spool,
-    customer: u16,
-    id: FileId,
-) -> Result<(), SpoolFault> {
-    assert!(rt; customer < spool.customers());
-    spool.abandon(customer, id)
-}
-
-fn remove<R: Abort>(
-    rt: &R,
-    spool: &mut Spool,
-    customer: u16,
-    id: FileId,
-) -> Result<(), SpoolFault> {
-    assert!(rt; customer < spool.customers());
-    spool.remove(customer, id)
-}
-
-fn hold<R: Abort>(rt: &R, spool: &mut Spool, customer: u16, id: FileId) -> Result<(), SpoolFault> {
-    assert!(rt; customer < spool.customers());
-    spool.set_state(customer, id, State::Held)
-}
-
-fn state<R: Abort>(rt: &R, spool: &Spool, customer: u16, id: FileId) -> Result<State, SpoolFault> {
-    assert!(rt; customer < spool.customers());
-    spool.state(customer, id)
-}
-
-fn kind<R: Abort>(rt: &R, spool: &Spool, customer: u16, id: FileId) -> Result<Kind, SpoolFault> {
-    assert!(rt; customer < spool.customers());
-    spool.kind(customer, id)
-}
-
-fn records<R: Abort>(rt: &R, spool: &Spool, customer: u16, id: FileId) -> Result<u32, SpoolFault> {
-    assert!(rt; customer < spool.customers());
-    spool.records(customer, id)
-}
-
-fn used<R: Abort>(rt: &R, spool: &Spool, customer: u16) -> u32 {
-    assert!(rt; customer < spool.customers());
-    spool.used(customer)
-}
-
-fn files<R: Abort>(rt: &R, spool: &Spool, customer: u16) -> u32 {
-    assert!(rt; customer < spool.customers());
-    spool.files(customer)
-}
-
-fn file_at<R: Abort>(rt: &R, spool: &Spool, customer: u16, index: u32) -> FileId {
-    assert!(rt; customer < spool.customers());
-    assert!(rt; index < spool.files(customer));
-    spool.file_at(customer, index)
-}
-
-fn record_at<R: Abort>(
-    rt: &R,
-    spool: &Spool,
-    customer: u16,
-    id: FileId,
-    n: u32,
-) -> Result<Record, SpoolFault> {
-    assert!(rt; customer < spool.customers());
-    if let Ok(count) = spool.records(customer, id) {
-        assert!(rt; n < count);
-    }
-    let mut record = ArrayVec::new();
-    spool.record_at(customer, id, n, &mut record)?;
-    Ok(record)
-}
-
-/// Writes eight bytes over a whole file's first record.
-fn rewrite<R: Abort>(
-    rt: &R,
-    spool: &mut Spool,
-    customer: u16,
-    id: FileId,
-    place: usize,
-) -> Result<(), SpoolFault> {
-    assert!(rt; customer < spool.customers());
-    if spool.state(customer, id).is_ok() {
-        assert!(rt; 0 < spool.records(customer, id)?);
-        let mut record = ArrayVec::new();
-        spool.record_at(customer, id, 0, &mut record)?;
-        assert!(rt; 8 <= record.len());
-        assert!(rt; place <= record.len() - 8);
-    }
-    spool.rewrite(customer, id, 0, place, [0xE9; 8])
-}
 
 #[test]
 fn two_blocks_hold_504_bytes(rt: HostRuntime) -> Result<(), Fail> {
@@ -409,77 +282,5 @@ fn faults_have_texts(rt: HostRuntime) -> Result<(), Fail> {
     ] {
         assert_eq!(rt; format!(in rt.alloc(); "{fault}")?.as_str(), text);
     }
-    Ok(())
-}
-
-/// What is told of customer 0: its blocks and whole files, and the records and states of its first files.
-type Shown = (
-    u32,
-    u32,
-    [Result<u32, SpoolFault>; 3],
-    [Result<State, SpoolFault>; 3],
-);
-
-fn shown<R: Abort>(rt: &R, spool: &Spool) -> Shown {
-    let ids = [FileId::of(0), FileId::of(1), FileId::of(2)];
-    (
-        used(rt, spool, 0),
-        files(rt, spool, 0),
-        ids.map(|id| records(rt, spool, 0, id)),
-        ids.map(|id| state(rt, spool, 0, id)),
-    )
-}
-
-/// Where memory is refused, nothing has changed, and the file begins at the next try.
-fn begin_again<R: Abort>(rt: &R, spool: &mut Spool) -> Result<FileId, SpoolFault> {
-    let before = shown(rt, spool);
-    let outcome = begin(rt, spool, 0);
-    if outcome != Err(SpoolFault::Memory) {
-        return outcome;
-    }
-    assert_eq!(rt; shown(rt, spool), before);
-    begin(rt, spool, 0)
-}
-
-/// Where memory is refused, nothing has changed, and the record is taken at the next try.
-fn append_again<R: Abort>(
-    rt: &R,
-    spool: &mut Spool,
-    id: FileId,
-    size: usize,
-) -> Result<(), SpoolFault> {
-    let before = shown(rt, spool);
-    let outcome = append(rt, spool, 0, id, size, 0xC1);
-    if outcome != Err(SpoolFault::Memory) {
-        return outcome;
-    }
-    assert_eq!(rt; shown(rt, spool), before);
-    append(rt, spool, 0, id, size, 0xC1)
-}
-
-/// Opens a spool, also where memory is refused at first.
-fn open_again<R: Abort>(rt: &R, alloc: Global) -> Result<Spool, SpoolFault> {
-    match opened(rt, alloc, [9; 2], 9) {
-        Err(SpoolFault::Memory) => opened(rt, alloc, [9; 2], 9),
-        outcome => outcome,
-    }
-}
-
-#[test]
-fn refused_memory_changes_nothing(rt: HostRuntime) -> Result<(), Fail> {
-    let mut spool = open_again(&rt, rt.alloc())?;
-    let id = begin_again(&rt, &mut spool)?;
-    for size in [1, 256, 9, 100, 200] {
-        append_again(&rt, &mut spool, id, size)?;
-    }
-    finish(&rt, &mut spool, 0, id)?;
-    for _ in 0..4 {
-        let id = begin_again(&rt, &mut spool)?;
-        finish(&rt, &mut spool, 0, id)?;
-    }
-    let all: Shown = (3, 5, [Ok(5), Ok(0), Ok(0)], [Ok(State::Ready); 3]);
-    assert_eq!(rt; shown(&rt, &spool), all);
-    let last = record_at(&rt, &spool, 0, id, 4)?;
-    assert_eq!(rt; last.as_slice(), [0xC1; 200].as_slice());
     Ok(())
 }
