@@ -5,13 +5,11 @@ use Rattle.std.specs.Io.KnownBytes.{Appends, Keeps}
 use Rattle.std.proofs.lemmas.List.{length-map}
 use Rattle.std.proofs.lemmas.Option.{slice_get_within, get_or_from_slice_get}
 use Rattle.njh_table.specs.declared.LineId.{LineId}
-use Rattle.njh_table.specs.Entries.{LineEntry}
 use Rattle.njh_table.specs.TableFile.{TableFile, NamedLine, no_customer, customer_at, entry_of, HasLine}
 use Rattle.njh_hub.specs.declared.event.Event.{Event}
 use Rattle.njh_hub.specs.declared.fault.Cause.{Cause}
 use Rattle.njh_hub.specs.declared.fault.Cause.TheVariants as cause
 use Rattle.njh_hub.specs.declared.fault.HubFault.TheVariants.{UnknownLine, UnknownCustomer, Memory}
-use Rattle.njh_hub.specs.Customer.{fresh_line, config_of}
 use Rattle.njh_hub.specs.Own.{line_of}
 use Rattle.njh_hub.specs.Parts.{entries_of}
 use Rattle.njh_hub.specs.Runs.{Part, opened}
@@ -36,7 +34,7 @@ opened_line t line known =
     let e = entry_of (customer_at t line.customer) in
     let here : length (hub.part line.customer (map opened (entries_of t))).customer.lines ≡ length (opened e).customer.lines =
     ap (λ (p : Part). length p.customer.lines) (opened_part t line.customer) in
-    let states : length (opened e).customer.lines ≡ length e.lines = length-map e.lines (λ (l : LineEntry). fresh_line (config_of e l)) in
+    let states : length (opened e).customer.lines ≡ length e.lines = length-map e.lines _ in
     let entries : length e.lines ≡ length (customer_at t line.customer).lines = length-map (customer_at t line.customer).lines (λ (l : NamedLine). l.entry) in
     omega (arith, known, here, states, entries)
 
