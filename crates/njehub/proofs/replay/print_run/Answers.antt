@@ -1,4 +1,4 @@
-use Rattle.std.proofs.Common.{◌≡◌, rules}
+use Rattle.std.proofs.Common.{rules}
 use Rattle.std.specs.Io.KnownBytes.{Keeps}
 use Rattle.njehub.proofs.Replaying.{MayEnd-stopped, never_unknown, printed_then, on_ok_of}
 use Rattle.njehub.proofs.replay.print_run.Goals as goal
