@@ -1,0 +1,2 @@
+//! Tests of tables and of the spool, over the public items of their crates.
+#![tactic(auto)]

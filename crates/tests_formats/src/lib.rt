@@ -1,0 +1,2 @@
+//! Tests of names, frames, records, blocks, headers, nodal messages and lines, over the public items of their crates.
+#![tactic(auto)]
