@@ -1,0 +1,3 @@
+pub mod Transmissions
+pub mod Receiving
+pub mod Sending

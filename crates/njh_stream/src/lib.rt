@@ -1,0 +1,9 @@
+//! Transmissions to the hub and from it (IBM SC23-0070, "Multileaving"): what comes on a stream becomes a file, and a
+//! file goes out record by record.
+#![tactic(auto)]
+
+mod receiver;
+mod sender;
+
+pub use receiver::{Progress, Receiver};
+pub use sender::Sender;
