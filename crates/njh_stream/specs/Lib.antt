@@ -1,3 +1,4 @@
 pub mod Transmissions
 pub mod Receiving
 pub mod Sending
+pub mod SpoolFiles

@@ -73,12 +73,14 @@ pub record Next : Type 0 where
 abbrev pub record_at : ℕ → ℕ → CustomerSpool → Option Stored
 record_at n place s = elim (whole_numbered n s) [ Some f ↦ slice_get f.records place | None ↦ None ]
 
-abbrev pub next_of : ℕ → ℕ → CustomerSpool → Next
-next_of n place s =
-    elim (record_at n place s) [
-      | Some r ↦ record { stored = Some r; sender = Sending n (place + 1) }
-      | None ↦ record { stored = None; sender = EofSent n }
-    ]
+abbrev pub next_at : ℕ → ℕ → Option Stored → Next
+next_at n place (Some r) = record { stored = Some r; sender = Sending n (place + 1) }
+next_at n place None = record { stored = None; sender = EofSent n }
+
+-- nothing moves where nothing is being sent
+abbrev pub next_of : Sender → CustomerSpool → Next
+next_of (Sending n place) s = next_at n place (record_at n place s)
+next_of x s = record { stored = None; sender = x }
 
 -- ---- where files go
 

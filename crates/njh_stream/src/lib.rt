@@ -4,6 +4,8 @@
 
 mod receiver;
 mod sender;
+mod spool_file;
 
 pub use receiver::{Progress, Receiver};
 pub use sender::Sender;
+pub use spool_file::SpoolFile;

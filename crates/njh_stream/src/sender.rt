@@ -1,6 +1,7 @@
 //! Streams from the hub.
 
-ghost use Rattle.std.specs.Prelude.{◌≡◌, ◌<◌, ◌∷◌, [], length, slice_set, Some, MatchOption};
+ghost use Rattle.std.specs.Prelude.{◌≡◌, ◌+◌, ◌<◌, ◌^◌, [], length, slice_set, IsSome, IsNone};
+ghost use Rattle.std.specs.Option.{option_map};
 ghost use Rattle.njh_spool.specs.Spools.{part};
 ghost use Rattle.njh_stream.specs.Sending as sending;
 
@@ -103,4 +104,58 @@ impl Sender {
             Sender::Idle | Sender::Aborting => None,
         }
     }
+
+    /// Puts the record that is next in place of what `into` held, gives its SRCB and moves on by one. Where the end of
+    /// file is next, or nothing is being sent, it gives none and `into` is empty; after the end of file the stream waits
+    /// for the peer to say that it has the file.
+    pub fn next(&mut self, customer: u16, spool: &mut Spool, into: &mut Record) -> Option<u8>
+        requires { customer < length spool.old }
+        ensures sender { self.new ≡ (sending.next_of self.old (part customer spool.old)).sender }
+        ensures stored { option_map (λ srcb. record { srcb = srcb; bytes = into.new.items }) result
+            ≡ (sending.next_of self.old (part customer spool.old)).stored }
+        ensures empty { IsNone result → into.new.items ≡ [] }
+        ensures spool { spool.new ≡ spool.old }
+    {
+        let was = *self;
+        match was {
+            Sender::Sending(file, place) => match read_next(customer, file, place, spool, into) {
+                Some(srcb) => {
+                    *self = Sender::Sending(file, place + 1);
+                    Some(srcb)
+                }
+                None => {
+                    *self = Sender::EofSent(file);
+                    None
+                }
+            },
+            Sender::Idle | Sender::Requested(_) | Sender::EofSent(_) | Sender::Aborting => {
+                into.clear();
+                None
+            }
+        }
+    }
+}
+
+/// Puts a record of a whole file in place of what `into` held, and gives its SRCB; none past the last one.
+fn read_next(
+    customer: u16,
+    file: FileId,
+    place: u32,
+    spool: &mut Spool,
+    into: &mut Record,
+) -> Option<u8>
+    requires { customer < length spool.old }
+    ensures stored { option_map (λ srcb. record { srcb = srcb; bytes = into.new.items }) result
+        ≡ sending.record_at file place (part customer spool.old) }
+    ensures before { IsSome result → place + 1 < 2 ^ 32 }
+    ensures empty { IsNone result → into.new.items ≡ [] }
+    ensures spool { spool.new ≡ spool.old }
+{
+    into.clear();
+    spool.state(customer, file).ok()?;
+    let records = spool.records(customer, file).ok()?;
+    if place >= records {
+        return None;
+    }
+    spool.read_on(customer, file, place, into).ok()
 }
