@@ -2,3 +2,4 @@ pub mod Transmissions
 pub mod Receiving
 pub mod Sending
 pub mod SpoolFiles
+pub mod Judging

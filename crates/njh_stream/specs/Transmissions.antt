@@ -2,6 +2,7 @@
 -- A record is judged by the list of those that came before it.
 use Rattle.std.specs.Prelude.{◌≡◌, ℕ, Bool, true, false, IsTrue, List, [], ◌∷◌, ◌++◌, Option, Some, None, Ok, Err, ◌==◌, cond, not, ◌&&◌, bytes_eq}
 use Rattle.std.specs.List.{list_all}
+use Rattle.std.specs.Option.{option_map}
 use Rattle.njh_ebcdic.specs.Names.{is_name}
 use Rattle.njh_record.specs.Stored.{Stored, has_srcb}
 use Rattle.njh_record.specs.declared.Kind.{Kind}
@@ -19,19 +20,20 @@ pub data Verdict : Type 0 where
 
 -- ---- where a file goes
 
--- a node that a file which comes on a line is for: never the hub itself, nor a node that nobody has, nor back by the line
-abbrev pub judged_node : CustomerEntry → ℕ → List ℕ → List ℕ × ℕ → Verdict
+-- The node that a file is for, by the file's name and the line on which it comes: never the hub itself, nor a node that nobody has, nor
+-- back by the line.
+abbrev pub judged_node : CustomerEntry → ℕ → List ℕ → Option (List ℕ × ℕ) → Verdict
 judged_node entry l node name =
     elim (route_of entry node) [
       | Here ↦ Cancelled (Some (no_files_for entry.hub))
-      | Line n ↦ cond (n == l) (Cancelled (Some (routed_back name))) Taken
+      | Line n ↦ cond (n == l) (Cancelled (option_map routed_back name)) Taken
       | Unknown ↦ Cancelled (Some (node_unknown node))
     ]
 
 -- a job's header says where it runs
 abbrev pub judged_job : CustomerEntry → ℕ → JobHeader → Verdict
 judged_job entry l h =
-    cond (is_name h.execution.0) (judged_node entry l h.execution.0 (h.origin.0, h.number)) (Cancelled None)
+    cond (is_name h.execution.0) (judged_node entry l h.execution.0 (Some (h.origin.0, h.number))) (Cancelled None)
 
 -- ---- which records come in which order
 
@@ -46,10 +48,6 @@ judged_first entry l kind r =
       ]
     ]
 
-abbrev pub name_or_none : Option (List ℕ × ℕ) → List ℕ × ℕ
-name_or_none None = ([], 0)
-name_or_none (Some name) = name
-
 -- what follows the job header of an output file is a data set header that reads
 abbrev pub judged_data_set : CustomerEntry → ℕ → List Stored → Stored → Verdict
 judged_data_set entry l earlier r =
@@ -57,7 +55,7 @@ judged_data_set entry l earlier r =
       | false ↦ Cancelled None
       | true ↦ elim (data_set_header r.bytes) [
         | Err fault ↦ Cancelled None
-        | Ok h ↦ judged_node entry l h.destination.0 (name_or_none (name_of earlier))
+        | Ok h ↦ judged_node entry l h.destination.0 (name_of earlier)
       ]
     ]
 
@@ -65,13 +63,17 @@ judged_data_set entry l earlier r =
 abbrev pub node_of : List Stored → List ℕ
 node_of records = elim (data_set_header_of records) [ Some h ↦ h.destination.0 | None ↦ [] ]
 
+-- a data set header that has to name this node
+abbrev pub judged_against : List ℕ → List ℕ → Verdict
+judged_against node bytes =
+    elim (data_set_header bytes) [
+      | Err fault ↦ Cancelled None
+      | Ok h ↦ cond (bytes_eq h.destination.0 node) Taken (Cancelled None)
+    ]
+
 -- a later data set header names the same node
 abbrev pub judged_later : List Stored → Stored → Verdict
-judged_later earlier r =
-    elim (data_set_header r.bytes) [
-      | Err fault ↦ Cancelled None
-      | Ok h ↦ cond (bytes_eq h.destination.0 (node_of earlier)) Taken (Cancelled None)
-    ]
+judged_later earlier r = judged_against (node_of earlier) r.bytes
 
 -- whether the last record has this SRCB
 abbrev pub ends_in : ℕ → List Stored → Bool
@@ -131,8 +133,7 @@ records_of (TooLong ∷ cs) = records_of cs
 
 -- the text for the owner where the quota has no room, if the file has a name
 abbrev pub full_text : Option (List ℕ × ℕ) → Option (List ℕ)
-full_text None = None
-full_text (Some name) = Some (spool_full name)
+full_text name = option_map spool_full name
 
 abbrev pub where_room : Bool → List Stored → Verdict
 where_room true records = Taken

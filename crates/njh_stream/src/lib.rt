@@ -2,6 +2,7 @@
 //! file goes out record by record.
 #![tactic(auto)]
 
+mod judging;
 mod receiver;
 mod sender;
 mod spool_file;

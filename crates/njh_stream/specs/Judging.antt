@@ -1,0 +1,43 @@
+-- What the code's verdict on a record says.
+use Rattle.std.specs.Prelude.{◌≡◌, ℕ, true, false, List, Result, Ok, Err, ◌==◌, not, ◌&&◌}
+use Rattle.std.specs.Option.{option_map}
+use Rattle.njh_header.specs.Headers.{DataSetHeader}
+use Rattle.njh_header.specs.declared.fault.HeaderFault.{HeaderFault}
+use Rattle.njh_record.specs.Stored.{Stored}
+use Rattle.njh_record.specs.declared.Kind.{Kind}
+use Rattle.njh_record.specs.declared.Kind.TheVariants.{In, Out}
+use Rattle.njh_stream.specs.declared.judging.Verdict.{Verdict}
+use Rattle.njh_stream.specs.declared.judging.Verdict.TheVariants.{Taken, Cancelled}
+use Rattle.njh_stream.specs.declared.receiver.Progress.{Progress}
+use Rattle.njh_stream.specs.declared.receiver.Progress.TheVariants.{Placed}
+use Rattle.njh_stream.specs.Transmissions as transmissions
+use Rattle.njh_stream.specs.Receiving.{progress_of}
+
+abbrev pub said : Verdict → transmissions.Verdict
+said (Taken progress) = transmissions.Taken
+said (Cancelled text) = transmissions.Cancelled (option_map (λ t. t.items) text)
+
+-- a record of a placed file, by the file's node and the SRCB of the last record
+abbrev pub judged_placed : Kind → List ℕ → ℕ → ℕ → List ℕ → transmissions.Verdict
+judged_placed In node last srcb bytes = transmissions.Taken
+judged_placed Out node last srcb bytes =
+    elim ((srcb == 0xe0) && not (last == 0xe0)) [ true ↦ transmissions.judged_against node bytes | false ↦ transmissions.Taken ]
+
+-- where the record is taken, the file has come so far
+abbrev pub IsTakenAt : Verdict → Progress → Type 0
+IsTakenAt (Taken progress) expected = progress ≡ expected
+IsTakenAt (Cancelled text) expected = Unit {0}
+
+abbrev pub IsPlaced : Verdict → List ℕ → ℕ → Type 0
+IsPlaced verdict node last = IsTakenAt verdict (Placed node last)
+
+-- where a data set header is taken it reads, and says where the file goes
+abbrev pub IsHeaderPlaced : Verdict → Result DataSetHeader HeaderFault → ℕ → Type 0
+IsHeaderPlaced (Taken progress) (Ok h) srcb = (progress ≡ Placed h.destination.0 srcb) × (srcb ≡ 0xe0)
+IsHeaderPlaced (Taken progress) (Err fault) srcb = ⊥
+IsHeaderPlaced (Cancelled text) header srcb = Unit {0}
+
+-- where the record is taken, the file has come as far as its records with this one say
+abbrev pub IsProgress : Verdict → Kind → List Stored → Type 0
+IsProgress (Taken progress) kind records = progress ≡ progress_of kind records
+IsProgress (Cancelled text) kind records = Unit {0}
