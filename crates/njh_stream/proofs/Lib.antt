@@ -1,1 +1,2 @@
 pub mod ProgressLaws
+pub mod ReceivingLaws

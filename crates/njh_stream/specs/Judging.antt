@@ -1,7 +1,7 @@
 -- What the code's verdict on a record says.
-use Rattle.std.specs.Prelude.{◌≡◌, ℕ, true, false, List, Result, Ok, Err, ◌==◌, not, ◌&&◌}
+use Rattle.std.specs.Prelude.{◌≡◌, ℕ, Bool, true, false, List, Option, None, Result, Ok, Err, ◌==◌, not, ◌&&◌}
 use Rattle.std.specs.Option.{option_map}
-use Rattle.njh_header.specs.Headers.{DataSetHeader}
+use Rattle.njh_header.specs.Headers.{DataSetHeader, JobHeader}
 use Rattle.njh_header.specs.declared.fault.HeaderFault.{HeaderFault}
 use Rattle.njh_record.specs.Stored.{Stored}
 use Rattle.njh_record.specs.declared.Kind.{Kind}
@@ -11,7 +11,9 @@ use Rattle.njh_stream.specs.declared.judging.Verdict.TheVariants.{Taken, Cancell
 use Rattle.njh_stream.specs.declared.receiver.Progress.{Progress}
 use Rattle.njh_stream.specs.declared.receiver.Progress.TheVariants.{Placed}
 use Rattle.njh_stream.specs.Transmissions as transmissions
-use Rattle.njh_stream.specs.Receiving.{progress_of}
+use Rattle.njh_spool.specs.CustomerSpool.{CustomerSpool, appended}
+use Rattle.njh_stream.specs.declared.receiver.Receiver.TheVariants.{Open}
+use Rattle.njh_stream.specs.Receiving.{Received, progress_of, cancelled, notice_of}
 
 abbrev pub said : Verdict → transmissions.Verdict
 said (Taken progress) = transmissions.Taken
@@ -41,3 +43,10 @@ IsHeaderPlaced (Cancelled text) header srcb = Unit {0}
 abbrev pub IsProgress : Verdict → Kind → List Stored → Type 0
 IsProgress (Taken progress) kind records = progress ≡ progress_of kind records
 IsProgress (Cancelled text) kind records = Unit {0}
+
+-- a record that is taken, of a file with this job header, where the quota has room for it or not
+abbrev pub appended_where : Bool → ℕ → Progress → Option JobHeader → Stored → CustomerSpool → Received
+appended_where true n progress header r s =
+    record { receiver = Open n progress; spool = appended n r s; answer = None; notice = None }
+appended_where false n progress header r s =
+    cancelled n (notice_of (option_map (λ h. h.origin) header) (transmissions.full_text (option_map (λ h. (h.origin.0, h.number)) header))) s

@@ -3,3 +3,4 @@ pub mod Receiving
 pub mod Sending
 pub mod SpoolFiles
 pub mod Judging
+pub mod Arrivals

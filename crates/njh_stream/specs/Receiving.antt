@@ -1,5 +1,5 @@
 -- One arrival on a stream to the hub: the stream, the spool and the answer after it, and what the owner of the file is told.
-use Rattle.std.specs.Prelude.{◌≡◌, ℕ, Bool, true, false, List, [], ◌∷◌, ◌++◌, Option, Some, None, cond, ◌&&◌}
+use Rattle.std.specs.Prelude.{◌≡◌, ℕ, Bool, true, false, List, [], ◌∷◌, ◌++◌, Option, Some, None, ◌==◌, cond, ◌&&◌}
 use Rattle.std.specs.List.{list_all}
 use Rattle.njh_record.specs.Stored.{Stored, has_srcb}
 use Rattle.njh_record.specs.declared.Kind.{Kind}
@@ -32,10 +32,16 @@ progress_of kind [] = Beginning
 progress_of In (r ∷ rs) = placed In (r ∷ rs)
 progress_of Out (r ∷ rs) = elim (list_all (has_srcb 0xc0) (r ∷ rs)) [ true ↦ JobHeader | false ↦ placed Out (r ∷ rs) ]
 
--- what is kept is what the partial file's records say
+-- there is a partial file of this kind, and what is kept is what its records say
 abbrev pub AgreesWith : Kind → Progress → Option PartialFile → Type 0
 AgreesWith kind progress None = ⊥
 AgreesWith kind progress (Some f) = (f.kind ≡ kind) × (progress ≡ progress_of kind f.records)
+
+-- whether the last record that came is a trailer
+abbrev pub ends_whole : Progress → Bool
+ends_whole Beginning = false
+ends_whole JobHeader = false
+ends_whole (Placed node last) = last == 0xd0
 
 -- a stream that is open has a partial file of its kind, and keeps what that says
 abbrev pub Agrees : Kind → Receiver → CustomerSpool → Type 0
@@ -87,23 +93,24 @@ notice_of (Some whom) (Some text) = Some (record { whom = whom; text = text })
 abbrev pub cancelled : ℕ → Option Notice → CustomerSpool → Received
 cancelled n notice s = record { receiver = Draining; spool = abandoned n s; answer = Some Refusal; notice = notice }
 
--- a record for an open file
+-- a record for an open file, with which its records are these, by the verdict on it
+abbrev pub stored_by : Verdict → Kind → ℕ → Stored → List Stored → CustomerSpool → Received
+stored_by Taken kind n r more s =
+    record { receiver = Open n (progress_of kind more); spool = appended n r s; answer = None; notice = None }
+stored_by (Cancelled text) kind n r more s = cancelled n (notice_of (owner_of more) text) s
+
 abbrev pub stored : CustomerEntry → ℕ → Kind → ℕ → Stored → CustomerSpool → Received
 stored entry l kind n r s =
     let earlier = partial_records n s in
-    let more = earlier ++ r ∷ [] in
-    elim (judged_coming entry l kind earlier (Fitting r (has_room_for n r s))) [
-      | Taken ↦ record { receiver = Open n (progress_of kind more); spool = appended n r s; answer = None; notice = None }
-      | Cancelled text ↦ cancelled n (notice_of (owner_of more) text) s
-    ]
+    stored_by (judged_coming entry l kind earlier (Fitting r (has_room_for n r s))) kind n r (earlier ++ r ∷ []) s
 
--- the end of file
+-- the end of file, of a whole file or not
+abbrev pub closed_by : Bool → ℕ → CustomerSpool → Received
+closed_by true n s = record { receiver = Idle; spool = finished n s; answer = Some Completion; notice = None }
+closed_by false n s = record { receiver = Idle; spool = abandoned n s; answer = Some Refusal; notice = None }
+
 abbrev pub closed : ℕ → CustomerSpool → Received
-closed n s =
-    elim (is_whole (partial_records n s)) [
-      | true ↦ record { receiver = Idle; spool = finished n s; answer = Some Completion; notice = None }
-      | false ↦ record { receiver = Idle; spool = abandoned n s; answer = Some Refusal; notice = None }
-    ]
+closed n s = closed_by (is_whole (partial_records n s)) n s
 
 abbrev pub unmoved : Receiver → CustomerSpool → Received
 unmoved receiver s = record { receiver = receiver; spool = s; answer = None; notice = None }

@@ -135,15 +135,17 @@ records_of (TooLong ∷ cs) = records_of cs
 abbrev pub full_text : Option (List ℕ × ℕ) → Option (List ℕ)
 full_text name = option_map spool_full name
 
-abbrev pub where_room : Bool → List Stored → Verdict
-where_room true records = Taken
-where_room false records = Cancelled (full_text (name_of records))
+-- the verdict on a record, with which the file's records are these, where there is room for it or not
+abbrev pub with_room : Bool → List Stored → Verdict → Verdict
+with_room room more (Cancelled text) = Cancelled text
+with_room true more Taken = Taken
+with_room false more Taken = Cancelled (full_text (name_of more))
 
 -- what comes after earlier records is judged first and stored last
 abbrev pub judged_coming : CustomerEntry → ℕ → Kind → List Stored → Coming → Verdict
 judged_coming entry l kind earlier TooLong = Cancelled None
 judged_coming entry l kind earlier (Fitting r room) =
-    elim (judged entry l kind earlier r) [ Cancelled text ↦ Cancelled text | Taken ↦ where_room room (earlier ++ r ∷ []) ]
+    with_room room (earlier ++ r ∷ []) (judged entry l kind earlier r)
 
 -- each was taken, after those before it
 abbrev pub AreTaken : CustomerEntry → ℕ → Kind → List Coming → Type 0

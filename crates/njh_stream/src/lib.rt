@@ -2,11 +2,16 @@
 //! file goes out record by record.
 #![tactic(auto)]
 
+mod arrival;
 mod judging;
+mod notice;
 mod receiver;
 mod sender;
 mod spool_file;
+mod storing;
 
-pub use receiver::{Progress, Receiver};
+pub use arrival::Arrival;
+pub use notice::Notice;
+pub use receiver::{Progress, Receiver, Step};
 pub use sender::Sender;
 pub use spool_file::SpoolFile;

@@ -1,7 +1,23 @@
 //! Streams to the hub.
 
+ghost use Rattle.std.specs.Prelude.{◌≡◌, ◌<◌, ◌≤◌, length, slice_set, Some};
+ghost use Rattle.std.specs.Option.{option_map};
+ghost use Rattle.njh_block.specs.Codes.{kind_of};
+ghost use Rattle.njh_record.specs.declared.Kind.{Kind};
+ghost use Rattle.njh_spool.specs.CustomerSpool.{partial_numbered};
+ghost use Rattle.njh_spool.specs.Spools.{part};
+ghost use Rattle.njh_table.specs.TableFile.{customer_at, entry_of};
+ghost use Rattle.njh_stream.specs.Arrivals.{arrival_of, IsShort};
+ghost use Rattle.njh_stream.specs.Receiving.{Agrees, AgreesWith, closed, ends_whole, requested};
+
+use crate::arrival::Arrival;
+use crate::notice::Notice;
+use njh_block::{Answer, ControlRcb, Stream};
 use njh_ebcdic::FIELD;
-use njh_spool::FileId;
+use njh_header::srcb;
+use njh_record::Kind;
+use njh_spool::{FileId, Spool};
+use njh_table::{LineId, Tables};
 
 /// How far a file that comes in has got.
 #[derive(Clone, Copy, Debug, PartialEq, Eq)]
@@ -19,6 +35,18 @@ pub enum Progress {
     },
 }
 
+impl Progress {
+    /// Whether the last record that came is a trailer.
+    fn is_whole(self) -> bool
+        ensures { result ≡ ends_whole self }
+    {
+        match self {
+            Progress::Placed { last, .. } => last == srcb::JOB_TRAILER,
+            Progress::Beginning | Progress::JobHeader => false,
+        }
+    }
+}
+
 /// What a stream to the hub is about.
 #[derive(Clone, Copy, Debug, PartialEq, Eq)]
 pub enum Receiver {
@@ -33,4 +61,55 @@ pub enum Receiver {
     },
     /// A file was given up, and the rest of it is ignored up to its end.
     Draining,
+}
+
+/// What an arrival asks for.
+#[derive(Debug, Drop)]
+pub struct Step {
+    /// The answer to the peer.
+    pub answer: Option<Answer>,
+    /// What the owner of the file is told.
+    pub notice: Option<Notice>,
+}
+
+/// A new file begins, where the quota has room for one.
+fn begin(customer: u16, kind: Kind, spool: &mut Spool) -> (Receiver, ControlRcb)
+    requires { customer < length spool.old }
+    ensures receiver { result.0 ≡ (requested kind (part customer spool.old)).receiver }
+    ensures answer { Some result.1 ≡ (requested kind (part customer spool.old)).answer }
+    ensures spool { spool.new ≡ slice_set spool.old customer (requested kind (part customer spool.old)).spool }
+{
+    match spool.begin(customer, kind) {
+        Ok(file) => (
+            Receiver::Open {
+                file,
+                progress: Progress::Beginning,
+            },
+            ControlRcb::Permission,
+        ),
+        Err(_) => (Receiver::Idle, ControlRcb::Refusal),
+    }
+}
+
+/// A file ends: it is finished where it is whole, and given up otherwise.
+#[tactic(auto, using(crate::proofs::ReceivingLaws::closed_as))]
+fn close(
+    customer: u16,
+    kind: Kind,
+    file: FileId,
+    progress: Progress,
+    spool: &mut Spool,
+) -> ControlRcb
+    requires range { customer < length spool.old }
+    requires agrees { AgreesWith kind progress (partial_numbered file (part customer spool.old)) }
+    ensures answer { Some result ≡ (closed file (part customer spool.old)).answer }
+    ensures spool { spool.new ≡ slice_set spool.old customer (closed file (part customer spool.old)).spool }
+{
+    if progress.is_whole() {
+        spool.finish(customer, file).ok();
+        ControlRcb::Completion
+    } else {
+        spool.abandon(customer, file).ok();
+        ControlRcb::Refusal
+    }
 }

@@ -1,0 +1,150 @@
+//! A record comes for a file that is open.
+
+ghost use Rattle.std.specs.Prelude.{◌≡◌, ◌<◌, ◌≤◌, ◌++◌, ◌∷◌, [], length, slice_set, IsSome, Some};
+ghost use Rattle.std.specs.Option.{option_map};
+ghost use Rattle.njh_header.specs.FileHeaders as headers;
+ghost use Rattle.njh_spool.specs.CustomerSpool.{abandoned, has_room_for, partial_numbered};
+ghost use Rattle.njh_spool.specs.Spools.{part};
+ghost use Rattle.njh_table.specs.TableFile.{entry_of};
+ghost use Rattle.njh_stream.specs.Judging.{appended_where};
+ghost use Rattle.njh_stream.specs.Receiving.{AgreesWith, notice_of, stored};
+ghost use Rattle.njh_stream.specs.Transmissions as transmissions;
+
+use crate::judging::{Verdict, judge};
+use crate::notice::Notice;
+use crate::receiver::{Progress, Receiver};
+use crate::spool_file::SpoolFile;
+use njh_block::ControlRcb;
+use njh_header::{FileRecords, JobHeader, Text, job_header_of, spool_full, srcb};
+use njh_record::Kind;
+use njh_spool::{FileId, Spool};
+use njh_table::Customer;
+
+/// What a record leaves: the stream, the answer to the peer, and what the owner is told.
+#[derive(Drop)]
+pub(crate) struct After {
+    pub receiver: Receiver,
+    pub answer: Option<ControlRcb>,
+    pub notice: Option<Notice>,
+}
+
+/// A record with bytes for an open file is judged first and stored last.
+pub(crate) fn store(
+    customer: u16,
+    entry: &Customer,
+    line: u16,
+    kind: Kind,
+    file: FileId,
+    progress: Progress,
+    srcb: u8,
+    bytes: &[u8],
+    spool: &mut Spool,
+) -> After
+    requires range { customer < length spool.old }
+    requires short { length bytes.now ≤ 256 }
+    requires agrees { AgreesWith kind progress (partial_numbered file (part customer spool.old)) }
+    ensures receiver { result.receiver ≡ (stored (entry_of entry.now) line kind file (record { srcb = srcb; bytes = bytes.now }) (part customer spool.old)).receiver }
+    ensures answer { result.answer ≡ (stored (entry_of entry.now) line kind file (record { srcb = srcb; bytes = bytes.now }) (part customer spool.old)).answer }
+    ensures notice { result.notice ≡ (stored (entry_of entry.now) line kind file (record { srcb = srcb; bytes = bytes.now }) (part customer spool.old)).notice }
+    ensures spool { spool.new ≡ slice_set spool.old customer (stored (entry_of entry.now) line kind file (record { srcb = srcb; bytes = bytes.now }) (part customer spool.old)).spool }
+{
+    spool.quota_holds(customer);
+    let records = SpoolFile::of(spool, customer, file);
+    let verdict = judge(entry, line, kind, &records, progress, srcb, bytes);
+    let header = header_with(&records, srcb, bytes);
+    match verdict {
+        Verdict::Cancelled(text) => cancel(customer, file, header, text, spool),
+        Verdict::Taken(progress) => {
+            append(customer, file, progress, header, srcb, bytes, spool)
+        }
+    }
+}
+
+/// A record that is taken goes to its file, where the quota has room for it.
+fn append(
+    customer: u16,
+    file: FileId,
+    progress: Progress,
+    header: Option<JobHeader>,
+    srcb: u8,
+    bytes: &[u8],
+    spool: &mut Spool,
+) -> After
+    requires range { customer < length spool.old }
+    requires short { length bytes.now ≤ 256 }
+    requires there { IsSome (partial_numbered file (part customer spool.old)) }
+    ensures receiver { result.receiver ≡ (appended_where (has_room_for file (record { srcb = srcb; bytes = bytes.now }) (part customer spool.old)) file progress header (record { srcb = srcb; bytes = bytes.now }) (part customer spool.old)).receiver }
+    ensures answer { result.answer ≡ (appended_where (has_room_for file (record { srcb = srcb; bytes = bytes.now }) (part customer spool.old)) file progress header (record { srcb = srcb; bytes = bytes.now }) (part customer spool.old)).answer }
+    ensures notice { result.notice ≡ (appended_where (has_room_for file (record { srcb = srcb; bytes = bytes.now }) (part customer spool.old)) file progress header (record { srcb = srcb; bytes = bytes.now }) (part customer spool.old)).notice }
+    ensures spool { spool.new ≡ slice_set spool.old customer (appended_where (has_room_for file (record { srcb = srcb; bytes = bytes.now }) (part customer spool.old)) file progress header (record { srcb = srcb; bytes = bytes.now }) (part customer spool.old)).spool }
+{
+    match spool.append(customer, file, srcb, bytes) {
+        Ok(()) => After {
+            receiver: Receiver::Open { file, progress },
+            answer: None,
+            notice: None,
+        },
+        Err(_) => {
+            let text = full_text(&header);
+            cancel(customer, file, header, text, spool)
+        }
+    }
+}
+
+/// NJH021 for a file with this job header.
+fn full_text(header: &Option<JobHeader>) -> Option<Text>
+    ensures { option_map (λ t. t.items) result ≡ transmissions.full_text (option_map (λ h. (h.origin.0, h.number)) header.now) }
+{
+    match header {
+        Some(header) => Some(spool_full(header.file_name())),
+        None => None,
+    }
+}
+
+/// The job header of a file with a record more.
+fn header_with(file: &SpoolFile<'_>, srcb: u8, bytes: &[u8]) -> Option<JobHeader>
+    ensures { result ≡ headers.job_header_of (file.now ++ record { srcb = srcb; bytes = bytes.now } ∷ []) }
+{
+    if file.count() > 0 {
+        return job_header_of(file);
+    }
+    if srcb == srcb::JOB_HEADER {
+        JobHeader::read(bytes).ok()
+    } else {
+        None
+    }
+}
+
+/// The file is given up, and its owner is told this, where there is an owner and something to say.
+fn cancel(
+    customer: u16,
+    file: FileId,
+    header: Option<JobHeader>,
+    text: Option<Text>,
+    spool: &mut Spool,
+) -> After
+    requires { customer < length spool.old }
+    ensures receiver { result.receiver ≡ Receiver.Draining }
+    ensures answer { result.answer ≡ Some ControlRcb.Refusal }
+    ensures notice { result.notice ≡ notice_of (option_map (λ h. h.origin) header) (option_map (λ t. t.items) text) }
+    ensures spool { spool.new ≡ slice_set spool.old customer (abandoned file (part customer spool.old)) }
+{
+    spool.abandon(customer, file).ok();
+    After {
+        receiver: Receiver::Draining,
+        answer: Some(ControlRcb::Refusal),
+        notice: notice(header, text),
+    }
+}
+
+/// A text for the owner of a file.
+fn notice(header: Option<JobHeader>, text: Option<Text>) -> Option<Notice>
+    ensures { result ≡ notice_of (option_map (λ h. h.origin) header) (option_map (λ t. t.items) text) }
+{
+    let owner = header?.owner();
+    Some(Notice {
+        node: owner.node,
+        user: owner.user,
+        text: text?,
+    })
+}
