@@ -83,3 +83,11 @@ partial_records_in kind progress n s sound agrees = at_partial (partial_numbered
             (no_whole n s f sound e)
         ∙ ap (λ o. elim (option_map (λ g. g.records) o) [ Some records ↦ records | None ↦ [] ]) e
         ∙ ap (λ o. elim o [ Some g ↦ g.records | None ↦ [] ]) (sym e)
+
+pub progress_in : (kind : Kind) (progress : Progress) (n : ℕ) (s : CustomerSpool) → AgreesWith kind progress (partial_numbered n s)
+    → progress ≡ progress_of kind (partial_records n s)
+progress_in kind progress n s agrees = at_partial (partial_numbered n s) agrees
+  where
+    at_partial : (o : Option PartialFile) → AgreesWith kind progress o → progress ≡ progress_of kind (elim o [ Some f ↦ f.records | None ↦ [] ])
+    at_partial None agrees = absurd agrees
+    at_partial (Some f) agrees = agrees.1

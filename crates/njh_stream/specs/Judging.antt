@@ -1,11 +1,12 @@
 -- What the code's verdict on a record says.
-use Rattle.std.specs.Prelude.{◌≡◌, ℕ, Bool, true, false, List, Option, None, Result, Ok, Err, ◌==◌, not, ◌&&◌}
+use Rattle.std.specs.Prelude.{◌≡◌, ℕ, Bool, true, false, List, Option, None, Result, Ok, Err, ◌==◌, not, ◌&&◌, slice_set}
 use Rattle.std.specs.Option.{option_map}
 use Rattle.njh_header.specs.Headers.{DataSetHeader, JobHeader}
 use Rattle.njh_header.specs.declared.fault.HeaderFault.{HeaderFault}
 use Rattle.njh_record.specs.Stored.{Stored}
 use Rattle.njh_record.specs.declared.Kind.{Kind}
 use Rattle.njh_record.specs.declared.Kind.TheVariants.{In, Out}
+use Rattle.njh_stream.specs.declared.receiver.After.{After}
 use Rattle.njh_stream.specs.declared.judging.Verdict.{Verdict}
 use Rattle.njh_stream.specs.declared.judging.Verdict.TheVariants.{Taken, Cancelled}
 use Rattle.njh_stream.specs.declared.receiver.Progress.{Progress}
@@ -50,3 +51,10 @@ appended_where true n progress header r s =
     record { receiver = Open n progress; spool = appended n r s; answer = None; notice = None }
 appended_where false n progress header r s =
     cancelled n (notice_of (option_map (λ h. h.origin) header) (transmissions.full_text (option_map (λ h. (h.origin.0, h.number)) header))) s
+
+-- a step's outcome is as said: the stream, the answer, the notice, and the spool of customer c
+pub record IsAfter (after : After) (new old : List CustomerSpool) (c : ℕ) (done : Received) : Type 0 where
+  pub receiver : after.receiver ≡ done.receiver
+  pub answer : after.answer ≡ done.answer
+  pub notice : after.notice ≡ done.notice
+  pub spool : new ≡ slice_set old c done.spool

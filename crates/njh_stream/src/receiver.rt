@@ -1,6 +1,6 @@
 //! Streams to the hub.
 
-ghost use Rattle.std.specs.Prelude.{◌≡◌, ◌<◌, ◌≤◌, length, slice_set, Some};
+ghost use Rattle.std.specs.Prelude.{◌≡◌, ◌<◌, ◌≤◌, length, slice_set, None, Some};
 ghost use Rattle.std.specs.Option.{option_map};
 ghost use Rattle.njh_block.specs.Codes.{kind_of};
 ghost use Rattle.njh_record.specs.declared.Kind.{Kind};
@@ -8,6 +8,7 @@ ghost use Rattle.njh_spool.specs.CustomerSpool.{partial_numbered};
 ghost use Rattle.njh_spool.specs.Spools.{part};
 ghost use Rattle.njh_table.specs.TableFile.{customer_at, entry_of};
 ghost use Rattle.njh_stream.specs.Arrivals.{arrival_of, IsShort};
+ghost use Rattle.njh_stream.specs.Judging.{IsAfter};
 ghost use Rattle.njh_stream.specs.Receiving.{Agrees, AgreesWith, closed, ends_whole, requested};
 
 use crate::arrival::Arrival;
@@ -72,44 +73,67 @@ pub struct Step {
     pub notice: Option<Notice>,
 }
 
+/// What an arrival leaves: the stream, the answer to the peer, and what the owner of the file is told.
+#[derive(Drop)]
+pub(crate) struct After {
+    pub receiver: Receiver,
+    pub answer: Option<ControlRcb>,
+    pub notice: Option<Notice>,
+}
+
+impl After {
+    /// Nothing is answered.
+    fn silent(receiver: Receiver) -> Self
+        ensures receiver { result.receiver ≡ receiver }
+        ensures answer { result.answer ≡ None }
+        ensures notice { result.notice ≡ None }
+    {
+        After {
+            receiver,
+            answer: None,
+            notice: None,
+        }
+    }
+
+    /// Only the peer is answered.
+    fn answered(receiver: Receiver, answer: ControlRcb) -> Self
+        ensures receiver { result.receiver ≡ receiver }
+        ensures answer { result.answer ≡ Some answer }
+        ensures notice { result.notice ≡ None }
+    {
+        After {
+            receiver,
+            answer: Some(answer),
+            notice: None,
+        }
+    }
+}
+
 /// A new file begins, where the quota has room for one.
-fn begin(customer: u16, kind: Kind, spool: &mut Spool) -> (Receiver, ControlRcb)
+fn begin(customer: u16, kind: Kind, spool: &mut Spool) -> After
     requires { customer < length spool.old }
-    ensures receiver { result.0 ≡ (requested kind (part customer spool.old)).receiver }
-    ensures answer { Some result.1 ≡ (requested kind (part customer spool.old)).answer }
-    ensures spool { spool.new ≡ slice_set spool.old customer (requested kind (part customer spool.old)).spool }
+    ensures { IsAfter result spool.new spool.old customer (requested kind (part customer spool.old)) }
 {
     match spool.begin(customer, kind) {
-        Ok(file) => (
-            Receiver::Open {
-                file,
-                progress: Progress::Beginning,
-            },
-            ControlRcb::Permission,
-        ),
-        Err(_) => (Receiver::Idle, ControlRcb::Refusal),
+        Ok(file) => {
+            let progress = Progress::Beginning;
+            After::answered(Receiver::Open { file, progress }, ControlRcb::Permission)
+        }
+        Err(_) => After::answered(Receiver::Idle, ControlRcb::Refusal),
     }
 }
 
 /// A file ends: it is finished where it is whole, and given up otherwise.
-#[tactic(auto, using(crate::proofs::ReceivingLaws::closed_as))]
-fn close(
-    customer: u16,
-    kind: Kind,
-    file: FileId,
-    progress: Progress,
-    spool: &mut Spool,
-) -> ControlRcb
+fn close(customer: u16, kind: Kind, file: FileId, progress: Progress, spool: &mut Spool) -> After
     requires range { customer < length spool.old }
     requires agrees { AgreesWith kind progress (partial_numbered file (part customer spool.old)) }
-    ensures answer { Some result ≡ (closed file (part customer spool.old)).answer }
-    ensures spool { spool.new ≡ slice_set spool.old customer (closed file (part customer spool.old)).spool }
+    ensures { IsAfter result spool.new spool.old customer (closed file (part customer spool.old)) }
 {
     if progress.is_whole() {
         spool.finish(customer, file).ok();
-        ControlRcb::Completion
+        After::answered(Receiver::Idle, ControlRcb::Completion)
     } else {
         spool.abandon(customer, file).ok();
-        ControlRcb::Refusal
+        After::answered(Receiver::Idle, ControlRcb::Refusal)
     }
 }

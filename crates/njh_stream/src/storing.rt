@@ -3,30 +3,23 @@
 ghost use Rattle.std.specs.Prelude.{◌≡◌, ◌<◌, ◌≤◌, ◌++◌, ◌∷◌, [], length, slice_set, IsSome, Some};
 ghost use Rattle.std.specs.Option.{option_map};
 ghost use Rattle.njh_header.specs.FileHeaders as headers;
-ghost use Rattle.njh_spool.specs.CustomerSpool.{abandoned, has_room_for, partial_numbered};
+ghost use Rattle.njh_record.specs.Stored.{Stored};
+ghost use Rattle.njh_spool.specs.CustomerSpool.{has_room_for, partial_numbered};
 ghost use Rattle.njh_spool.specs.Spools.{part};
 ghost use Rattle.njh_table.specs.TableFile.{entry_of};
-ghost use Rattle.njh_stream.specs.Judging.{appended_where};
-ghost use Rattle.njh_stream.specs.Receiving.{AgreesWith, notice_of, stored};
+ghost use Rattle.njh_stream.specs.Judging.{appended_where, IsAfter};
+ghost use Rattle.njh_stream.specs.Receiving.{AgreesWith, cancelled, notice_of, stored};
 ghost use Rattle.njh_stream.specs.Transmissions as transmissions;
 
 use crate::judging::{Verdict, judge};
 use crate::notice::Notice;
-use crate::receiver::{Progress, Receiver};
+use crate::receiver::{After, Progress, Receiver};
 use crate::spool_file::SpoolFile;
 use njh_block::ControlRcb;
 use njh_header::{FileRecords, JobHeader, Text, job_header_of, spool_full, srcb};
 use njh_record::Kind;
 use njh_spool::{FileId, Spool};
 use njh_table::Customer;
-
-/// What a record leaves: the stream, the answer to the peer, and what the owner is told.
-#[derive(Drop)]
-pub(crate) struct After {
-    pub receiver: Receiver,
-    pub answer: Option<ControlRcb>,
-    pub notice: Option<Notice>,
-}
 
 /// A record with bytes for an open file is judged first and stored last.
 pub(crate) fn store(
@@ -43,10 +36,8 @@ pub(crate) fn store(
     requires range { customer < length spool.old }
     requires short { length bytes.now ≤ 256 }
     requires agrees { AgreesWith kind progress (partial_numbered file (part customer spool.old)) }
-    ensures receiver { result.receiver ≡ (stored (entry_of entry.now) line kind file (record { srcb = srcb; bytes = bytes.now }) (part customer spool.old)).receiver }
-    ensures answer { result.answer ≡ (stored (entry_of entry.now) line kind file (record { srcb = srcb; bytes = bytes.now }) (part customer spool.old)).answer }
-    ensures notice { result.notice ≡ (stored (entry_of entry.now) line kind file (record { srcb = srcb; bytes = bytes.now }) (part customer spool.old)).notice }
-    ensures spool { spool.new ≡ slice_set spool.old customer (stored (entry_of entry.now) line kind file (record { srcb = srcb; bytes = bytes.now }) (part customer spool.old)).spool }
+    ensures { IsAfter result spool.new spool.old customer
+        (stored (entry_of entry.now) line kind file (record { srcb = srcb; bytes = bytes.now }) (part customer spool.old)) }
 {
     spool.quota_holds(customer);
     let records = SpoolFile::of(spool, customer, file);
@@ -73,10 +64,8 @@ fn append(
     requires range { customer < length spool.old }
     requires short { length bytes.now ≤ 256 }
     requires there { IsSome (partial_numbered file (part customer spool.old)) }
-    ensures receiver { result.receiver ≡ (appended_where (has_room_for file (record { srcb = srcb; bytes = bytes.now }) (part customer spool.old)) file progress header (record { srcb = srcb; bytes = bytes.now }) (part customer spool.old)).receiver }
-    ensures answer { result.answer ≡ (appended_where (has_room_for file (record { srcb = srcb; bytes = bytes.now }) (part customer spool.old)) file progress header (record { srcb = srcb; bytes = bytes.now }) (part customer spool.old)).answer }
-    ensures notice { result.notice ≡ (appended_where (has_room_for file (record { srcb = srcb; bytes = bytes.now }) (part customer spool.old)) file progress header (record { srcb = srcb; bytes = bytes.now }) (part customer spool.old)).notice }
-    ensures spool { spool.new ≡ slice_set spool.old customer (appended_where (has_room_for file (record { srcb = srcb; bytes = bytes.now }) (part customer spool.old)) file progress header (record { srcb = srcb; bytes = bytes.now }) (part customer spool.old)).spool }
+    ensures { let r : Stored = record { srcb = srcb; bytes = bytes.now } in IsAfter result spool.new spool.old customer
+        (appended_where (has_room_for file r (part customer spool.old)) file progress header r (part customer spool.old)) }
 {
     match spool.append(customer, file, srcb, bytes) {
         Ok(()) => After {
@@ -124,10 +113,8 @@ fn cancel(
     spool: &mut Spool,
 ) -> After
     requires { customer < length spool.old }
-    ensures receiver { result.receiver ≡ Receiver.Draining }
-    ensures answer { result.answer ≡ Some ControlRcb.Refusal }
-    ensures notice { result.notice ≡ notice_of (option_map (λ h. h.origin) header) (option_map (λ t. t.items) text) }
-    ensures spool { spool.new ≡ slice_set spool.old customer (abandoned file (part customer spool.old)) }
+    ensures { IsAfter result spool.new spool.old customer
+        (cancelled file (notice_of (option_map (λ h. h.origin) header) (option_map (λ t. t.items) text)) (part customer spool.old)) }
 {
     spool.abandon(customer, file).ok();
     After {
