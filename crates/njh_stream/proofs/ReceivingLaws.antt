@@ -1,18 +1,22 @@
 -- What a stream that is open keeps agrees with its file.
-use Rattle.std.proofs.Common.{◌≡◌, ℕ, Bool, true, false, List, [], ◌∷◌, ◌++◌, Option, Some, None, Result, Ok, Err, ◌==◌, ◌&&◌, ◌+◌, ◌≤◌, cond, find, count_by, refl, sym, ap, ◌∙◌, MatchOption, IsOk, true≢false, eqb-true, arith}
+use Rattle.std.proofs.Common.{◌≡◌, ◌≢◌, length, ℕ, Bool, true, false, List, [], ◌∷◌, ◌++◌, Option, Some, None, Result, Ok, Err, ◌==◌, ◌&&◌, ◌+◌, ◌≤◌, ◌<◌, slice_set, ap₂, cond, find, count_by, refl, sym, ap, ◌∙◌, MatchOption, IsOk, true≢false, eqb-true, arith}
 use Rattle.std.specs.Option.{option_map, option_or}
 use Rattle.std.proofs.lemmas.List.Sums.{sum_by-cons}
 use Rattle.std.specs.List.{list_all}
 use Rattle.njh_record.specs.Stored.{Stored, has_srcb}
 use Rattle.njh_record.specs.declared.Kind.{Kind}
 use Rattle.njh_record.specs.declared.Kind.TheVariants.{In, Out}
+use Rattle.njh_table.specs.Entries.{CustomerEntry}
 use Rattle.njh_spool.specs.CustomerSpool.{CustomerSpool, WholeFile, PartialFile, whole_numbered, partial_numbered, partial_records, has_room_for}
 use Rattle.njh_stream.specs.declared.receiver.Progress.{Progress}
 use Rattle.njh_stream.specs.declared.receiver.Progress.TheVariants.{Beginning, JobHeader, Placed}
-use Rattle.njh_spool.specs.Spools.{IsSound}
+use Rattle.njh_spool.specs.Spools.{IsSound, part, no_spool}
+use Rattle.std.proofs.lemmas.List.{set-set, get_or-set_same}
+use Rattle.njh_stream.specs.declared.receiver.After.{After}
+use Rattle.njh_stream.specs.Judging.{IsAfter}
 use Rattle.njh_stream.specs.SpoolFiles.{records_in}
 use Rattle.njh_stream.specs.Transmissions.{ends_in, is_whole}
-use Rattle.njh_stream.specs.Receiving.{AgreesWith, progress_of, placed, ends_whole, last_srcb, closed, closed_by}
+use Rattle.njh_stream.specs.Receiving.{AgreesWith, progress_of, placed, ends_whole, last_srcb, closed, closed_by, stored, received_open, requested, Data}
 use Rattle.njh_stream.proofs.ProgressLaws.{ends_by_last, all_job_headers}
 
 -- ---- the end of file
@@ -91,3 +95,30 @@ progress_in kind progress n s agrees = at_partial (partial_numbered n s) agrees
     at_partial : (o : Option PartialFile) → AgreesWith kind progress o → progress ≡ progress_of kind (elim o [ Some f ↦ f.records | None ↦ [] ])
     at_partial None agrees = absurd agrees
     at_partial (Some f) agrees = agrees.1
+
+-- a record with bytes is stored
+pub record_stored :
+    (entry : CustomerEntry) (l : ℕ) (kind : Kind) (n srcb : ℕ) (bytes : List ℕ) (s : CustomerSpool) → length bytes ≢ 0
+    → received_open entry l kind n (Data srcb bytes) s ≡ stored entry l kind n (record { srcb = srcb; bytes = bytes }) s
+record_stored entry l kind n srcb [] s some = absurd (some refl)
+record_stored entry l kind n srcb (b ∷ bytes) s some = refl
+
+-- ---- a request while a file is open
+
+-- a file that begins after another was given up
+pub begun_after :
+    (a : After) (new mid old : List CustomerSpool) (c : ℕ) (x : CustomerSpool) (kind : Kind) → c < length old → mid ≡ slice_set old c x
+    → IsAfter a new mid c (requested kind (part c mid)) → IsAfter a new old c (requested kind x)
+begun_after a new mid old c x kind range mid_is done =
+    record {
+      receiver = done.receiver ∙ ap (λ s. (requested kind s).receiver) part_is;
+      answer = done.answer ∙ ap (λ s. (requested kind s).answer) part_is;
+      notice = done.notice ∙ ap (λ s. (requested kind s).notice) part_is;
+      spool =
+        done.spool
+        ∙ ap₂ (λ m s. slice_set m c (requested kind s).spool) mid_is part_is
+        ∙ set-set old c x (requested kind x).spool;
+    }
+  where
+    part_is : part c mid ≡ x
+    part_is = ap (part c) mid_is ∙ get_or-set_same old c x no_spool range

@@ -122,16 +122,26 @@ received_open entry l kind n (Data srcb (b ∷ bytes)) s = stored entry l kind n
 received_open entry l kind n Long s = cancelled n None s
 received_open entry l kind n Abort s = unmoved Idle (abandoned n s)
 
+-- nothing comes: all but requests is ignored
+abbrev pub received_idle : Kind → Arrival → CustomerSpool → Received
+received_idle kind Request s = requested kind s
+received_idle kind (Data srcb bytes) s = unmoved Idle s
+received_idle kind Long s = unmoved Idle s
+received_idle kind Abort s = unmoved Idle s
+
+-- the rest of a file that was given up goes by, up to its end
+abbrev pub received_draining : Kind → Arrival → CustomerSpool → Received
+received_draining kind Request s = requested kind s
+received_draining kind (Data srcb []) s = unmoved Idle s
+received_draining kind (Data srcb (b ∷ bytes)) s = unmoved Draining s
+received_draining kind Long s = unmoved Draining s
+received_draining kind Abort s = unmoved Idle s
+
 -- what an arrival on a line's stream does, of the stream's kind
 abbrev pub received : CustomerEntry → ℕ → Kind → Receiver → Arrival → CustomerSpool → Received
+received entry l kind Idle a s = received_idle kind a s
 received entry l kind (Open n progress) a s = received_open entry l kind n a s
-received entry l kind Idle Request s = requested kind s
-received entry l kind Idle _ s = unmoved Idle s
-received entry l kind Draining Request s = requested kind s
-received entry l kind Draining (Data srcb []) s = unmoved Idle s
-received entry l kind Draining (Data srcb (b ∷ bytes)) s = unmoved Draining s
-received entry l kind Draining Long s = unmoved Draining s
-received entry l kind Draining Abort s = unmoved Idle s
+received entry l kind Draining a s = received_draining kind a s
 
 -- the open files of a line's streams are gone
 abbrev pub without_all_open : List Receiver → CustomerSpool → CustomerSpool

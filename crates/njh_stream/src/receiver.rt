@@ -2,6 +2,7 @@
 
 ghost use Rattle.std.specs.Prelude.{◌≡◌, ◌<◌, ◌≤◌, length, slice_set, None, Some};
 ghost use Rattle.std.specs.Option.{option_map};
+ghost use Rattle.njh_block.specs.Blocks.{rcb_of};
 ghost use Rattle.njh_block.specs.Codes.{kind_of};
 ghost use Rattle.njh_record.specs.declared.Kind.{Kind};
 ghost use Rattle.njh_spool.specs.CustomerSpool.{partial_numbered};
@@ -9,16 +10,17 @@ ghost use Rattle.njh_spool.specs.Spools.{part};
 ghost use Rattle.njh_table.specs.TableFile.{customer_at, entry_of};
 ghost use Rattle.njh_stream.specs.Arrivals.{arrival_of, IsShort};
 ghost use Rattle.njh_stream.specs.Judging.{IsAfter};
-ghost use Rattle.njh_stream.specs.Receiving.{Agrees, AgreesWith, closed, ends_whole, requested};
+ghost use Rattle.njh_stream.specs.Receiving.{Agrees, AgreesWith, closed, ends_whole, received, received_draining, received_idle, received_open, requested, Data};
 
 use crate::arrival::Arrival;
 use crate::notice::Notice;
+use crate::storing::{cancel, store};
 use njh_block::{Answer, ControlRcb, Stream};
 use njh_ebcdic::FIELD;
 use njh_header::srcb;
 use njh_record::Kind;
 use njh_spool::{FileId, Spool};
-use njh_table::{LineId, Tables};
+use njh_table::{Customer, LineId, Tables};
 
 /// How far a file that comes in has got.
 #[derive(Clone, Copy, Debug, PartialEq, Eq)]
@@ -106,6 +108,139 @@ impl After {
             answer: Some(answer),
             notice: None,
         }
+    }
+}
+
+impl Receiver {
+    /// One arrival on a stream of a line. The stream, the customer's files, the answer to the peer and what the owner of
+    /// the file is told are those of the definition. An answer carries the stream's RCB.
+    pub fn step(
+        &mut self,
+        arrival: Arrival<'_>,
+        stream: Stream,
+        line: LineId,
+        tables: &Tables,
+        spool: &mut Spool,
+    ) -> Step
+        requires known { line.customer < length tables.now.customers }
+        requires spooled { line.customer < length spool.old }
+        requires short { IsShort (arrival_of arrival) }
+        requires agrees { Agrees (kind_of stream) self.old (part line.customer spool.old) }
+        ensures receiver { self.new ≡ (received (entry_of (customer_at tables.now line.customer)) line.line (kind_of stream) self.old (arrival_of arrival.entry) (part line.customer spool.old)).receiver }
+        ensures answer { result.answer ≡ option_map (λ rcb. record { rcb = rcb; stream = record { byte = rcb_of stream } }) (received (entry_of (customer_at tables.now line.customer)) line.line (kind_of stream) self.old (arrival_of arrival.entry) (part line.customer spool.old)).answer }
+        ensures notice { result.notice ≡ (received (entry_of (customer_at tables.now line.customer)) line.line (kind_of stream) self.old (arrival_of arrival.entry) (part line.customer spool.old)).notice }
+        ensures spool { spool.new ≡ slice_set spool.old line.customer (received (entry_of (customer_at tables.now line.customer)) line.line (kind_of stream) self.old (arrival_of arrival.entry) (part line.customer spool.old)).spool }
+    {
+        let was = *self;
+        let entry = tables.customer(line.customer);
+        let after = receive(was, arrival, stream.kind(), line, entry, spool);
+        *self = after.receiver;
+        Step {
+            answer: answer_of(after.answer, stream),
+            notice: after.notice,
+        }
+    }
+}
+
+/// An answer with a stream's RCB.
+fn answer_of(answer: Option<ControlRcb>, stream: Stream) -> Option<Answer>
+    ensures { result ≡ option_map (λ rcb. record { rcb = rcb; stream = record { byte = rcb_of stream } }) answer }
+{
+    match answer {
+        Some(rcb) => Some(Answer {
+            rcb,
+            stream: stream.rcb(),
+        }),
+        None => None,
+    }
+}
+
+/// One arrival, by what the stream is about.
+fn receive(
+    receiver: Receiver,
+    arrival: Arrival<'_>,
+    kind: Kind,
+    line: LineId,
+    entry: &Customer,
+    spool: &mut Spool,
+) -> After
+    requires spooled { line.customer < length spool.old }
+    requires short { IsShort (arrival_of arrival) }
+    requires agrees { Agrees kind receiver (part line.customer spool.old) }
+    ensures { IsAfter result spool.new spool.old line.customer (received (entry_of entry.now) line.line kind receiver (arrival_of arrival.entry) (part line.customer spool.old)) }
+{
+    match receiver {
+        Receiver::Idle => receive_idle(arrival, kind, line.customer, spool),
+        Receiver::Draining => receive_draining(arrival, kind, line.customer, spool),
+        Receiver::Open { file, progress } => match arrival {
+            Arrival::Request => {
+                spool.abandon(line.customer, file).ok();
+                begin(line.customer, kind, spool)
+            }
+            Arrival::Record { srcb, bytes } => {
+                receive_record(line, entry, kind, file, progress, srcb, bytes, spool)
+            }
+            Arrival::TooLong => cancel(line.customer, file, None, None, spool),
+            Arrival::Abort => {
+                spool.abandon(line.customer, file).ok();
+                After::silent(Receiver::Idle)
+            }
+        },
+    }
+}
+
+/// An idle stream hears requests alone.
+fn receive_idle(arrival: Arrival<'_>, kind: Kind, customer: u16, spool: &mut Spool) -> After
+    requires { customer < length spool.old }
+    ensures { IsAfter result spool.new spool.old customer (received_idle kind (arrival_of arrival.entry) (part customer spool.old)) }
+{
+    match arrival {
+        Arrival::Request => begin(customer, kind, spool),
+        Arrival::Record { .. } | Arrival::TooLong | Arrival::Abort => {
+            After::silent(Receiver::Idle)
+        }
+    }
+}
+
+/// The rest of a file that was given up goes by, up to its end.
+fn receive_draining(arrival: Arrival<'_>, kind: Kind, customer: u16, spool: &mut Spool) -> After
+    requires { customer < length spool.old }
+    ensures { IsAfter result spool.new spool.old customer (received_draining kind (arrival_of arrival.entry) (part customer spool.old)) }
+{
+    match arrival {
+        Arrival::Request => begin(customer, kind, spool),
+        Arrival::Abort => After::silent(Receiver::Idle),
+        Arrival::TooLong => After::silent(Receiver::Draining),
+        Arrival::Record { bytes, .. } => {
+            if bytes.is_empty() {
+                After::silent(Receiver::Idle)
+            } else {
+                After::silent(Receiver::Draining)
+            }
+        }
+    }
+}
+
+/// A record for an open file; one without bytes ends it.
+fn receive_record(
+    line: LineId,
+    entry: &Customer,
+    kind: Kind,
+    file: FileId,
+    progress: Progress,
+    srcb: u8,
+    bytes: &[u8],
+    spool: &mut Spool,
+) -> After
+    requires spooled { line.customer < length spool.old }
+    requires short { length bytes.now ≤ 256 }
+    requires agrees { AgreesWith kind progress (partial_numbered file (part line.customer spool.old)) }
+    ensures { IsAfter result spool.new spool.old line.customer (received_open (entry_of entry.now) line.line kind file (Data srcb bytes.now) (part line.customer spool.old)) }
+{
+    if bytes.is_empty() {
+        close(line.customer, kind, file, progress, spool)
+    } else {
+        store(line.customer, entry, line.line, kind, file, progress, srcb, bytes, spool)
     }
 }
 

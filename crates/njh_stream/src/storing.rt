@@ -105,7 +105,7 @@ fn header_with(file: &SpoolFile<'_>, srcb: u8, bytes: &[u8]) -> Option<JobHeader
 }
 
 /// The file is given up, and its owner is told this, where there is an owner and something to say.
-fn cancel(
+pub(crate) fn cancel(
     customer: u16,
     file: FileId,
     header: Option<JobHeader>,
