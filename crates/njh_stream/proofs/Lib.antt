@@ -1,3 +1,4 @@
 pub mod ProgressLaws
 pub mod ReceivingLaws
 pub mod StoringLaws
+pub mod AgreesLaws

@@ -76,12 +76,14 @@ without_open Idle s = s
 without_open (Open n progress) s = abandoned n s
 without_open Draining s = s
 
+-- a file is asked for, and the quota has room for one or not
+abbrev pub requested_where : Bool → Kind → CustomerSpool → Received
+requested_where true kind s =
+    record { receiver = Open (next_number s) Beginning; spool = begun kind s; answer = Some Permission; notice = None }
+requested_where false kind s = record { receiver = Idle; spool = s; answer = Some Refusal; notice = None }
+
 abbrev pub requested : Kind → CustomerSpool → Received
-requested kind s =
-    elim (has_file_room s && has_block s) [
-      | true ↦ record { receiver = Open (next_number s) Beginning; spool = begun kind s; answer = Some Permission; notice = None }
-      | false ↦ record { receiver = Idle; spool = s; answer = Some Refusal; notice = None }
-    ]
+requested kind s = requested_where (has_file_room s && has_block s) kind s
 
 -- a notice for the owner, where there is an owner and something to say
 abbrev pub notice_of : Option (List ℕ × List ℕ) → Option (List ℕ) → Option Notice

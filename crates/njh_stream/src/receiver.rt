@@ -19,7 +19,7 @@ use njh_block::{Answer, ControlRcb, Stream};
 use njh_ebcdic::FIELD;
 use njh_header::srcb;
 use njh_record::Kind;
-use njh_spool::{FileId, Spool};
+use njh_spool::{FileId, Spool, next_number_is_least};
 use njh_table::{Customer, LineId, Tables};
 
 /// How far a file that comes in has got.
@@ -130,7 +130,9 @@ impl Receiver {
         ensures answer { result.answer ≡ option_map (λ rcb. record { rcb = rcb; stream = record { byte = rcb_of stream } }) (received (entry_of (customer_at tables.now line.customer)) line.line (kind_of stream) self.old (arrival_of arrival.entry) (part line.customer spool.old)).answer }
         ensures notice { result.notice ≡ (received (entry_of (customer_at tables.now line.customer)) line.line (kind_of stream) self.old (arrival_of arrival.entry) (part line.customer spool.old)).notice }
         ensures spool { spool.new ≡ slice_set spool.old line.customer (received (entry_of (customer_at tables.now line.customer)) line.line (kind_of stream) self.old (arrival_of arrival.entry) (part line.customer spool.old)).spool }
+        ensures agrees { Agrees (kind_of stream) self.new (part line.customer spool.new) }
     {
+        next_number_is_least();
         let was = *self;
         let entry = tables.customer(line.customer);
         let after = receive(was, arrival, stream.kind(), line, entry, spool);
