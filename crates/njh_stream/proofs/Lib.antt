@@ -2,3 +2,4 @@ pub mod ProgressLaws
 pub mod ReceivingLaws
 pub mod StoringLaws
 pub mod AgreesLaws
+pub mod EndingLaws

@@ -3,6 +3,7 @@
 #![tactic(auto)]
 
 mod arrival;
+mod ending;
 mod judging;
 mod notice;
 mod receiver;
@@ -11,6 +12,7 @@ mod spool_file;
 mod storing;
 
 pub use arrival::Arrival;
+pub use ending::{end_receivers, end_senders};
 pub use notice::Notice;
 pub use receiver::{Progress, Receiver, Step};
 pub use sender::Sender;

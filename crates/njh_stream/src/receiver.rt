@@ -10,7 +10,7 @@ ghost use Rattle.njh_spool.specs.Spools.{part};
 ghost use Rattle.njh_table.specs.TableFile.{customer_at, entry_of};
 ghost use Rattle.njh_stream.specs.Arrivals.{arrival_of, IsShort};
 ghost use Rattle.njh_stream.specs.Judging.{IsAfter};
-ghost use Rattle.njh_stream.specs.Receiving.{Agrees, AgreesWith, closed, ends_whole, received, received_draining, received_idle, received_open, requested, Data};
+ghost use Rattle.njh_stream.specs.Receiving.{Agrees, AgreesWith, closed, ends_whole, received, received_draining, received_idle, received_open, requested, without_open, Data};
 
 use crate::arrival::Arrival;
 use crate::notice::Notice;
@@ -141,6 +141,24 @@ impl Receiver {
             answer: answer_of(after.answer, stream),
             notice: after.notice,
         }
+    }
+}
+
+impl Receiver {
+    /// The line's session ended: a file that is open is given up.
+    pub fn end(&mut self, customer: u16, spool: &mut Spool)
+        requires { customer < length spool.old }
+        ensures receiver { self.new ≡ Receiver.Idle }
+        ensures spool { spool.new ≡ slice_set spool.old customer (without_open self.old (part customer spool.old)) }
+    {
+        let was = *self;
+        match was {
+            Receiver::Open { file, .. } => {
+                spool.abandon(customer, file).ok();
+            }
+            Receiver::Idle | Receiver::Draining => {}
+        }
+        *self = Receiver::Idle;
     }
 }
 
