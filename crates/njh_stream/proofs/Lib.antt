@@ -3,3 +3,5 @@ pub mod ReceivingLaws
 pub mod StoringLaws
 pub mod AgreesLaws
 pub mod EndingLaws
+pub mod RoutingLaws
+pub mod OnlyOneLaws

@@ -4,3 +4,4 @@ pub mod Sending
 pub mod SpoolFiles
 pub mod Judging
 pub mod Arrivals
+pub mod Routing

@@ -1,6 +1,7 @@
 -- Transmissions from the hub (IBM SC23-0070): what a peer's answers do to them, what the end of a session does, and which files a line's
 -- streams are for.
 use Rattle.std.specs.Prelude.{◌≡◌, ℕ, ◌+◌, Bool, true, false, List, [], ◌∷◌, map, slice_get, Option, Some, None, ◌==◌, cond, ◌&&◌}
+use Rattle.njh_ebcdic.specs.Names.{is_name}
 use Rattle.njh_record.specs.Stored.{Stored}
 use Rattle.njh_spool.specs.declared.State.{State}
 use Rattle.njh_spool.specs.declared.State.TheVariants.{Ready, Refused}
@@ -89,14 +90,33 @@ is_line l Here = false
 is_line l (Line n) = n == l
 is_line l Unknown = false
 
+-- whether a node goes by a line; what is no name has no route
+abbrev pub node_goes_by : CustomerEntry → ℕ → List ℕ → Bool
+node_goes_by entry l node = is_name node && is_line l (route_of entry node)
+
+abbrev pub destination_goes_by : CustomerEntry → ℕ → Option (List ℕ × List ℕ) → Bool
+destination_goes_by entry l None = false
+destination_goes_by entry l (Some d) = node_goes_by entry l d.0
+
 -- whether a file's destination goes by a line
 abbrev pub goes_by : CustomerEntry → ℕ → WholeFile → Bool
-goes_by entry l f = elim (destination_of f.kind f.records) [ None ↦ false | Some d ↦ is_line l (route_of entry d.0) ]
+goes_by entry l f = destination_goes_by entry l (destination_of f.kind f.records)
 
 abbrev pub is_refused : State → Bool
 is_refused Refused = true
 is_refused _ = false
 
+abbrev pub may_go_again : CustomerEntry → ℕ → WholeFile → Bool
+may_go_again entry l f = is_refused f.state && goes_by entry l f
+
+abbrev pub ready : WholeFile → WholeFile
+ready f = record f { state = Ready }
+
 -- refused files that go by a line may go again
 abbrev pub tried_again : CustomerEntry → ℕ → CustomerSpool → CustomerSpool
-tried_again entry l s = record s { whole = map (λ f. cond (is_refused f.state && goes_by entry l f) (record f { state = Ready }) f) s.whole }
+tried_again entry l s = record s { whole = map (λ f. cond (may_go_again entry l f) (ready f) f) s.whole }
+
+-- whether a test holds of the file that is found
+abbrev pub holds_of : (WholeFile → Bool) → Option WholeFile → Bool
+holds_of p None = false
+holds_of p (Some f) = p f
