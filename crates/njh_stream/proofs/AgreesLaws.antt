@@ -1,5 +1,5 @@
 -- What a stream keeps agrees with its file after each arrival.
-use Rattle.std.proofs.Common.{◌≡◌, ℕ, ◌+◌, Bool, true, false, cond, ◌&&◌, ◌||◌, List, [], ◌∷◌, ◌++◌, length, map, find, slice_set, Option, Some, None, ◌==◌, ◌<◌, refl, sym, ap, subst, ◌∙◌, true≢false, eq-eqb}
+use Rattle.std.proofs.Common.{◌≡◌, ℕ, Bool, true, false, cond, ◌&&◌, ◌||◌, List, [], ◌∷◌, ◌++◌, length, map, find, slice_set, Option, Some, None, ◌==◌, ◌<◌, refl, sym, ap, subst, ◌∙◌, true≢false, eq-eqb}
 use Rattle.std.specs.List.{list_any}
 use Rattle.njh_record.specs.Stored.{Stored}
 use Rattle.njh_record.specs.declared.Kind.{Kind}
@@ -14,7 +14,7 @@ use Rattle.njh_stream.specs.declared.receiver.Progress.TheVariants.{Beginning}
 use Rattle.njh_stream.specs.declared.receiver.Receiver.{Receiver}
 use Rattle.njh_stream.specs.declared.receiver.Receiver.TheVariants.{Idle, Open, Draining}
 use Rattle.njh_stream.specs.Transmissions.{Verdict, Taken, Cancelled, is_whole, judged_coming, Fitting}
-use Rattle.njh_stream.specs.Receiving.{Agrees, AgreesWith, Arrival, Request, Data, Long, Abort, progress_of, requested, requested_where, closed, closed_by, stored, stored_by, received, received_open}
+use Rattle.njh_stream.specs.Receiving.{Agrees, AgreesWith, Arrival, Request, Data, Long, Abort, progress_of, requested, requested_where, closed_by, stored_by, received}
 
 -- the next number is no file's, where there may be one file more
 abbrev pub IsFree : CustomerSpool → Type 0
@@ -53,9 +53,9 @@ pub begun_agrees :
 begun_agrees kind s free =
     let new : PartialFile = record { number = next_number s; kind = kind; records = [] } in
     subst (AgreesWith kind Beginning)
-        (sym (found_last (next_number s) new s.partial (eq-eqb (next_number s) (next_number s) refl)
-            (or_right (list_any (λ f. f.number == next_number s) s.whole) (list_any (λ f. f.number == next_number s) s.partial) free)))
-        (refl, nothing_yet kind)
+    (sym (found_last (next_number s) new s.partial (eq-eqb (next_number s) (next_number s) refl)
+    (or_right (list_any (λ f. f.number == next_number s) s.whole) (list_any (λ f. f.number == next_number s) s.partial) free)))
+    (refl, nothing_yet kind)
 
 pub requested_agrees : (kind : Kind) (s : CustomerSpool) → IsFree s → Agrees kind (requested kind s).receiver (requested kind s).spool
 requested_agrees kind s free = at_room (has_file_room s && has_block s) refl
@@ -102,7 +102,7 @@ appended_agrees kind progress n r s agrees = at_file (partial_numbered n s) refl
     at_file None e agrees = absurd agrees
     at_file (Some f) e agrees =
         subst (AgreesWith kind (progress_of kind (partial_records n s ++ r ∷ []))) (sym (found_with_record n r s.partial f e))
-            (agrees.0, ap (λ o. progress_of kind (records_or_none o ++ r ∷ [])) e)
+        (agrees.0, ap (λ o. progress_of kind (records_or_none o ++ r ∷ [])) e)
 
 pub stored_agrees :
     (v : Verdict) (kind : Kind) (progress : Progress) (n : ℕ) (r : Stored) (s : CustomerSpool) → AgreesWith kind progress (partial_numbered n s)
@@ -143,6 +143,6 @@ pub step_agrees :
     → new ≡ slice_set old c (received entry l kind r a (part c old)).spool → Agrees kind now (part c new)
 step_agrees entry l c kind r now a old new free range agrees now_is new_is =
     subst (λ x. Agrees kind x (part c new)) (sym now_is)
-        (subst (Agrees kind (received entry l kind r a (part c old)).receiver)
-            (sym (ap (part c) new_is ∙ get_or-set_same old c (received entry l kind r a (part c old)).spool no_spool range))
-            (received_agrees entry l kind r a (part c old) free agrees))
+    (subst (Agrees kind (received entry l kind r a (part c old)).receiver)
+    (sym (ap (part c) new_is ∙ get_or-set_same old c (received entry l kind r a (part c old)).spool no_spool range))
+    (received_agrees entry l kind r a (part c old) free agrees))

@@ -1,5 +1,5 @@
 -- What a stream keeps of a file that comes in says what the records so far say, and one record more moves it.
-use Rattle.std.proofs.Common.{◌≡◌, ◌≢◌, ℕ, Bool, true, false, List, [], ◌∷◌, ◌++◌, Option, Some, None, Result, Ok, Err, ◌==◌, not, ◌&&◌, cond, refl, sym, ap, ap₂, subst, ◌∙◌, ◌⊎◌, inl, inr, true≢false}
+use Rattle.std.proofs.Common.{◌≡◌, ℕ, Bool, true, false, List, [], ◌∷◌, ◌++◌, Option, Some, None, Result, Ok, Err, ◌==◌, not, ◌&&◌, cond, refl, sym, ap, ap₂, subst, ◌∙◌, ◌⊎◌, inl, inr, true≢false}
 use Rattle.std.specs.List.{list_all}
 use Rattle.std.specs.Option.{option_map}
 use Rattle.std.specs.Result.{result_ok}
@@ -8,7 +8,7 @@ use Rattle.njh_record.specs.Stored.{Stored, has_srcb}
 use Rattle.njh_record.specs.declared.Kind.{Kind}
 use Rattle.njh_record.specs.declared.Kind.TheVariants.{In, Out}
 use Rattle.njh_header.specs.Headers.{data_set_header, DataSetHeader}
-use Rattle.njh_header.specs.FileHeaders.{data_set_header_of, destination_of, job_header_of}
+use Rattle.njh_header.specs.FileHeaders.{data_set_header_of}
 use Rattle.njh_table.specs.Entries.{CustomerEntry}
 use Rattle.njh_stream.specs.declared.receiver.Progress.{Progress}
 use Rattle.njh_stream.specs.declared.receiver.Progress.TheVariants.{Beginning, JobHeader, Placed}
@@ -16,7 +16,7 @@ use Rattle.njh_header.specs.declared.fault.HeaderFault.{HeaderFault}
 use Rattle.njh_stream.specs.declared.judging as declared_judging
 use Rattle.njh_stream.specs.declared.judging.Verdict.TheVariants as declared
 use Rattle.njh_stream.specs.Judging.{judged_placed, IsTakenAt, IsProgress, IsHeaderPlaced}
-use Rattle.njh_stream.specs.Transmissions.{Verdict, Taken, ends_in, node_of, judged, judged_against, judged_later, judged_data_set}
+use Rattle.njh_stream.specs.Transmissions.{Verdict, Taken, ends_in, judged, judged_against, judged_later, judged_data_set}
 use Rattle.njh_stream.specs.Receiving.{progress_of, placed, last_srcb}
 
 -- ---- the last record
@@ -167,10 +167,10 @@ placed_stays Out (x ∷ xs) r node last h = at_all (all_job_headers (x ∷ xs)) 
     at_all true e h = absurd (cc h)
     at_all false e h =
         ap₂ Placed
-            (ap node_in h ∙ ap (λ o. elim (option_map (λ d. d.destination) o) [ Some d ↦ d.0 | None ↦ [] ]) (sym (header_stays (x ∷ xs) r e)))
-            (sym (last_of_more (x ∷ xs) r))
+        (ap node_in h ∙ ap (λ o. elim (option_map (λ d. d.destination) o) [ Some d ↦ d.0 | None ↦ [] ]) (sym (header_stays (x ∷ xs) r e)))
+        (sym (last_of_more (x ∷ xs) r))
         ∙ sym (output_placed x (xs ++ r ∷ [])
-            (list_all-append (has_srcb 0xc0) (x ∷ xs) (r ∷ []) ∙ ap (λ a. a && (has_srcb 0xc0 r && true)) e))
+        (list_all-append (has_srcb 0xc0) (x ∷ xs) (r ∷ []) ∙ ap (λ a. a && (has_srcb 0xc0 r && true)) e))
 
 -- ---- the verdict on a record of a placed file
 
@@ -198,13 +198,13 @@ placed_judged entry l Out (x ∷ xs) r node last h = at_all (all_job_headers (x 
     at_all :
         (b : Bool) → Placed node last ≡ elim b [ true ↦ JobHeader | false ↦ placed Out (x ∷ xs) ]
         → where_all b (elim (has_srcb 0xc0 r) [ true ↦ Taken | false ↦ judged_data_set entry l (x ∷ xs) r ])
-            (elim (has_srcb 0xe0 r && not (ends_in 0xe0 (x ∷ xs))) [ true ↦ judged_later (x ∷ xs) r | false ↦ Taken ])
-            ≡ judged_placed Out node last r.srcb r.bytes
+        (elim (has_srcb 0xe0 r && not (ends_in 0xe0 (x ∷ xs))) [ true ↦ judged_later (x ∷ xs) r | false ↦ Taken ])
+        ≡ judged_placed Out node last r.srcb r.bytes
     at_all true h = absurd (cc h)
     at_all false h =
         ap₂ (λ n m. elim ((r.srcb == 0xe0) && not n) [ true ↦ judged_against m r.bytes | false ↦ Taken ])
-            (ends_by_last 0xe0 x xs ∙ ap (λ n. n == 0xe0) (sym (ap last_in h)))
-            (node_found (data_set_header_of (x ∷ xs)) ∙ sym (ap node_in h))
+        (ends_by_last 0xe0 x xs ∙ ap (λ n. n == 0xe0) (sym (ap last_in h)))
+        (node_found (data_set_header_of (x ∷ xs)) ∙ sym (ap node_in h))
 
 -- ---- what the verdict says of how far the file has come
 

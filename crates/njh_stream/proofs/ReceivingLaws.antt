@@ -1,21 +1,20 @@
 -- What a stream that is open keeps agrees with its file.
-use Rattle.std.proofs.Common.{◌≡◌, ◌≢◌, length, ℕ, Bool, true, false, List, [], ◌∷◌, ◌++◌, Option, Some, None, Result, Ok, Err, ◌==◌, ◌&&◌, ◌+◌, ◌≤◌, ◌<◌, slice_set, ap₂, cond, find, count_by, refl, sym, ap, ◌∙◌, MatchOption, IsOk, true≢false, eqb-true, arith}
+use Rattle.std.proofs.Common.{◌≡◌, ◌≢◌, length, ℕ, Bool, true, false, List, [], ◌∷◌, Option, Some, None, ◌==◌, ◌&&◌, ◌≤◌, ◌<◌, slice_set, ap₂, cond, find, count_by, refl, sym, ap, ◌∙◌, true≢false, eqb-true, arith}
 use Rattle.std.specs.Option.{option_map, option_or}
 use Rattle.std.proofs.lemmas.List.Sums.{sum_by-cons}
-use Rattle.std.specs.List.{list_all}
-use Rattle.njh_record.specs.Stored.{Stored, has_srcb}
+use Rattle.njh_record.specs.Stored.{Stored}
 use Rattle.njh_record.specs.declared.Kind.{Kind}
 use Rattle.njh_record.specs.declared.Kind.TheVariants.{In, Out}
 use Rattle.njh_table.specs.Entries.{CustomerEntry}
-use Rattle.njh_spool.specs.CustomerSpool.{CustomerSpool, WholeFile, PartialFile, whole_numbered, partial_numbered, partial_records, has_room_for}
+use Rattle.njh_spool.specs.CustomerSpool.{CustomerSpool, WholeFile, PartialFile, whole_numbered, partial_numbered, partial_records}
 use Rattle.njh_stream.specs.declared.receiver.Progress.{Progress}
-use Rattle.njh_stream.specs.declared.receiver.Progress.TheVariants.{Beginning, JobHeader, Placed}
+use Rattle.njh_stream.specs.declared.receiver.Progress.TheVariants.{JobHeader}
 use Rattle.njh_spool.specs.Spools.{IsSound, part, no_spool}
 use Rattle.std.proofs.lemmas.List.{set-set, get_or-set_same}
 use Rattle.njh_stream.specs.declared.receiver.After.{After}
 use Rattle.njh_stream.specs.Judging.{IsAfter}
 use Rattle.njh_stream.specs.SpoolFiles.{records_in}
-use Rattle.njh_stream.specs.Transmissions.{ends_in, is_whole}
+use Rattle.njh_stream.specs.Transmissions.{is_whole}
 use Rattle.njh_stream.specs.Receiving.{AgreesWith, progress_of, placed, ends_whole, last_srcb, closed, closed_by, stored, received_open, requested, Data}
 use Rattle.njh_stream.proofs.ProgressLaws.{ends_by_last, all_job_headers}
 
@@ -84,7 +83,7 @@ partial_records_in kind progress n s sound agrees = at_partial (partial_numbered
     at_partial None e agrees = absurd agrees
     at_partial (Some f) e agrees =
         ap (λ w. elim (option_or (option_map (λ g. g.records) w) (option_map (λ g. g.records) (partial_numbered n s))) [ Some records ↦ records | None ↦ [] ])
-            (no_whole n s f sound e)
+        (no_whole n s f sound e)
         ∙ ap (λ o. elim (option_map (λ g. g.records) o) [ Some records ↦ records | None ↦ [] ]) e
         ∙ ap (λ o. elim o [ Some g ↦ g.records | None ↦ [] ]) (sym e)
 
@@ -115,9 +114,9 @@ begun_after a new mid old c x kind range mid_is done =
       answer = done.answer ∙ ap (λ s. (requested kind s).answer) part_is;
       notice = done.notice ∙ ap (λ s. (requested kind s).notice) part_is;
       spool =
-        done.spool
-        ∙ ap₂ (λ m s. slice_set m c (requested kind s).spool) mid_is part_is
-        ∙ set-set old c x (requested kind x).spool;
+          done.spool
+          ∙ ap₂ (λ m s. slice_set m c (requested kind s).spool) mid_is part_is
+          ∙ set-set old c x (requested kind x).spool;
     }
   where
     part_is : part c mid ≡ x

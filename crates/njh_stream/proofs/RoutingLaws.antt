@@ -1,5 +1,5 @@
 -- Refused files go again, one after the other.
-use Rattle.std.proofs.Common.{◌≡◌, ◌≢◌, ◌<◌, ◌≤◌, ℕ, zero, suc, ◌+◌, Bool, true, false, cond, List, [], ◌∷◌, ◌++◌, length, take, drop, map, set, get_or, count_by, Option, Some, None, ◌==◌, slice_get, refl, sym, ap, ap₂, subst, ◌∙◌, arith, IsSomeAnd, zero-lt-suc, suc-le-suc, eq-eqb}
+use Rattle.std.proofs.Common.{◌≡◌, ◌<◌, ◌≤◌, ℕ, zero, suc, Bool, true, false, cond, List, [], ◌∷◌, ◌++◌, length, take, drop, map, set, get_or, count_by, Option, Some, None, ◌==◌, slice_get, refl, sym, ap, subst, ◌∙◌, arith, IsSomeAnd, zero-lt-suc, suc-le-suc, eq-eqb}
 use Rattle.std.proofs.lemmas.List.{set-get_or}
 use Rattle.njh_spool.specs.Spools.{IsSound}
 use Rattle.njh_spool.specs.declared.State.TheVariants.{Ready}
@@ -39,7 +39,7 @@ one_more entry l s i n y sound at number =
     ap (λ o. retried_where n (holds_of (may_go_again entry l) o) x) (found ∙ ap Some at_y)
     ∙ by_test (may_go_again entry l y) refl
     ∙ sym (ap (λ files. record s { whole = files })
-        (changed_more (again entry l) i s.whole y inside ∙ ap (λ f. set x.whole i (again entry l f)) (sym first ∙ at_y)))
+    (changed_more (again entry l) i s.whole y inside ∙ ap (λ f. set x.whole i (again entry l f)) (sym first ∙ at_y)))
   where
     x : CustomerSpool
     x = tried_up_to entry l i s
@@ -68,7 +68,7 @@ one_more entry l s i n y sound at number =
     by_test : (b : Bool) → may_go_again entry l y ≡ b → retried_where n b x ≡ record s { whole = set x.whole i (cond b (ready y) y) }
     by_test true e =
         ap (λ files. record s { whole = files })
-            (only_changed (λ f. f.number == n) ready x.whole i y there.0 passes few ∙ ap (λ f. set x.whole i (ready f)) at_y)
+        (only_changed (λ f. f.number == n) ready x.whole i y there.0 passes few ∙ ap (λ f. set x.whole i (ready f)) at_y)
     by_test false e = ap (λ files. record s { whole = files }) (sym (ap (λ f. set x.whole i f) (sym at_y) ∙ set-get_or x.whole i y))
 
 pub one_more_at :

@@ -1,5 +1,5 @@
 -- A record for an open file, by the verdict on it.
-use Rattle.std.proofs.Common.{◌≡◌, ℕ, Bool, true, false, List, [], ◌∷◌, ◌++◌, Option, Some, None, refl, sym, ap, ap₂, ◌∙◌}
+use Rattle.std.proofs.Common.{◌≡◌, ℕ, Bool, true, false, List, [], ◌∷◌, ◌++◌, Option, refl, sym, ap, ◌∙◌}
 use Rattle.std.specs.Option.{option_map}
 use Rattle.njh_record.specs.Stored.{Stored}
 use Rattle.njh_record.specs.declared.Kind.{Kind}
@@ -7,19 +7,16 @@ use Rattle.njh_header.specs.FileHeaders.{job_header_of}
 use Rattle.njh_table.specs.Entries.{CustomerEntry}
 use Rattle.njh_spool.specs.CustomerSpool.{CustomerSpool, partial_records, has_room_for}
 use Rattle.njh_stream.specs.declared.receiver.Progress.{Progress}
-use Rattle.njh_stream.specs.declared.receiver.Receiver.TheVariants.{Open}
-use Rattle.njh_stream.specs.declared.judging as code
-use Rattle.njh_stream.specs.declared.judging.Verdict.TheVariants as verdict
-use Rattle.njh_stream.specs.Judging.{said, IsProgress, appended_where}
-use Rattle.njh_stream.specs.Transmissions.{Taken, Cancelled, Fitting, judged, judged_coming, with_room}
-use Rattle.njh_stream.specs.Receiving.{Received, stored, stored_by, cancelled, notice_of, progress_of}
+use Rattle.njh_stream.specs.Judging.{appended_where}
+use Rattle.njh_stream.specs.Transmissions.{Taken, Cancelled, judged, with_room}
+use Rattle.njh_stream.specs.Receiving.{stored, stored_by, cancelled, notice_of, progress_of}
 
 -- with the records so far by another name
 pub stored_after :
     (entry : CustomerEntry) (l : ℕ) (kind : Kind) (n : ℕ) (r : Stored) (s : CustomerSpool) (earlier : List Stored)
     → earlier ≡ partial_records n s
     → stored entry l kind n r s
-        ≡ stored_by (with_room (has_room_for n r s) (earlier ++ r ∷ []) (judged entry l kind earlier r)) kind n r (earlier ++ r ∷ []) s
+    ≡ stored_by (with_room (has_room_for n r s) (earlier ++ r ∷ []) (judged entry l kind earlier r)) kind n r (earlier ++ r ∷ []) s
 stored_after entry l kind n r s earlier e =
     ap (λ x. stored_by (with_room (has_room_for n r s) (x ++ r ∷ []) (judged entry l kind x r)) kind n r (x ++ r ∷ []) s) (sym e)
 

@@ -1,5 +1,5 @@
 -- What the code's arrivals are.
-use Rattle.std.specs.Prelude.{ℕ, ◌≤◌, length}
+use Rattle.std.specs.Prelude.{◌≤◌, length}
 use Rattle.njh_stream.specs.declared.arrival.Arrival as code
 use Rattle.njh_stream.specs.declared.arrival.Arrival.TheVariants as variants
 use Rattle.njh_stream.specs.Receiving.{Arrival, Request, Data, Long, Abort}

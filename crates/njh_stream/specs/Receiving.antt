@@ -1,19 +1,19 @@
 -- One arrival on a stream to the hub: the stream, the spool and the answer after it, and what the owner of the file is told.
-use Rattle.std.specs.Prelude.{◌≡◌, ℕ, Bool, true, false, List, [], ◌∷◌, ◌++◌, Option, Some, None, ◌==◌, cond, ◌&&◌}
+use Rattle.std.specs.Prelude.{◌≡◌, ℕ, Bool, true, false, List, [], ◌∷◌, ◌++◌, Option, Some, None, ◌==◌, ◌&&◌}
 use Rattle.std.specs.List.{list_all}
 use Rattle.njh_record.specs.Stored.{Stored, has_srcb}
 use Rattle.njh_record.specs.declared.Kind.{Kind}
 use Rattle.njh_record.specs.declared.Kind.TheVariants.{In, Out}
 use Rattle.njh_block.specs.declared.rcb.ControlRcb.{ControlRcb}
 use Rattle.njh_block.specs.declared.rcb.ControlRcb.TheVariants.{Permission, Refusal, Completion}
-use Rattle.njh_header.specs.FileHeaders.{owner_of, name_of, destination_of}
+use Rattle.njh_header.specs.FileHeaders.{owner_of, destination_of}
 use Rattle.njh_table.specs.Entries.{CustomerEntry}
 use Rattle.njh_spool.specs.CustomerSpool.{CustomerSpool, PartialFile, has_file_room, has_block, next_number, begun, partial_numbered, partial_records, appended, has_room_for, abandoned, finished}
 use Rattle.njh_stream.specs.declared.receiver.Progress.{Progress}
 use Rattle.njh_stream.specs.declared.receiver.Progress.TheVariants.{Beginning, JobHeader, Placed}
 use Rattle.njh_stream.specs.declared.receiver.Receiver.{Receiver}
 use Rattle.njh_stream.specs.declared.receiver.Receiver.TheVariants.{Idle, Open, Draining}
-use Rattle.njh_stream.specs.Transmissions.{Verdict, Taken, Cancelled, Coming, Fitting, TooLong, judged_coming, is_whole}
+use Rattle.njh_stream.specs.Transmissions.{Verdict, Taken, Cancelled, Fitting, judged_coming, is_whole}
 
 -- ---- what a stream keeps of a file that comes in
 

@@ -1,6 +1,6 @@
 -- Transmissions to the hub (IBM SC23-0070, "Data streams"): which records are taken for a file, and what becomes of one.
 -- A record is judged by the list of those that came before it.
-use Rattle.std.specs.Prelude.{◌≡◌, ℕ, Bool, true, false, IsTrue, List, [], ◌∷◌, ◌++◌, Option, Some, None, Ok, Err, ◌==◌, cond, not, ◌&&◌, bytes_eq}
+use Rattle.std.specs.Prelude.{ℕ, Bool, true, false, List, [], ◌∷◌, ◌++◌, Option, Some, None, Ok, Err, ◌==◌, cond, not, ◌&&◌, bytes_eq}
 use Rattle.std.specs.List.{list_all}
 use Rattle.std.specs.Option.{option_map}
 use Rattle.njh_ebcdic.specs.Names.{is_name}
@@ -104,32 +104,12 @@ judged entry l Out (e ∷ es) r = judged_output entry l (e ∷ es) r
 abbrev pub is_whole : List Stored → Bool
 is_whole records = ends_in 0xd0 records
 
--- ---- what becomes of a transmission
+-- ---- with the room that there is
 
--- What comes of a transmission: a record, for which the spool had room at that moment or not, or one of more than 256 bytes.
+-- What comes of a transmission: a record, for which the spool has room at that moment or not, or one of more than 256 bytes.
 pub data Coming : Type 0 where
   Fitting : (stored : Stored) → (room : Bool) → Coming
   TooLong : Coming
-
--- What ends a transmission: its end of file, its sender, or the next request or the session's end.
-pub data Ending : Type 0 where
-  EndOfFile : Ending
-  GivenUp : Ending
-  CutOff : Ending
-
--- What becomes of a transmission: its records are a file; they are none; one of them cancelled it, and this text was for the owner; or its
--- end was told by nobody but its sender.
-pub data Outcome : Type 0 where
-  AFile : (records : List Stored) → Outcome
-  NotWhole : Outcome
-  CancelledBy : (text : Option (List ℕ)) → Outcome
-  Dropped : Outcome
-
--- the records among what came
-abbrev pub records_of : List Coming → List Stored
-records_of [] = []
-records_of (Fitting r room ∷ cs) = r ∷ records_of cs
-records_of (TooLong ∷ cs) = records_of cs
 
 -- the text for the owner where the quota has no room, if the file has a name
 abbrev pub full_text : Option (List ℕ × ℕ) → Option (List ℕ)
@@ -146,31 +126,3 @@ abbrev pub judged_coming : CustomerEntry → ℕ → Kind → List Stored → Co
 judged_coming entry l kind earlier TooLong = Cancelled None
 judged_coming entry l kind earlier (Fitting r room) =
     with_room room (earlier ++ r ∷ []) (judged entry l kind earlier r)
-
--- each was taken, after those before it
-abbrev pub AreTaken : CustomerEntry → ℕ → Kind → List Coming → Type 0
-AreTaken entry l kind cs =
-    (before : List Coming) (c : Coming) (after : List Coming) → cs ≡ before ++ c ∷ after
-    → judged_coming entry l kind (records_of before) c ≡ Taken
-
--- the first that wasn't taken, and those before it
-pub record IsCancelled (entry : CustomerEntry) (l : ℕ) (kind : Kind) (cs : List Coming) (text : Option (List ℕ)) : Type 0 where
-  pub before : List Coming
-  pub first : Coming
-  pub after : List Coming
-  pub parts : cs ≡ before ++ first ∷ after
-  pub taken : AreTaken entry l kind before
-  pub refused : judged_coming entry l kind (records_of before) first ≡ Cancelled text
-
--- what came and how it ended becomes this
-abbrev pub Becomes : CustomerEntry → ℕ → Kind → List Coming → Ending → Outcome → Type 0
-Becomes entry l kind cs ending (CancelledBy text) = IsCancelled entry l kind cs text
-Becomes entry l kind cs EndOfFile (AFile records) = AreTaken entry l kind cs × (records ≡ records_of cs) × IsTrue (is_whole records)
-Becomes entry l kind cs EndOfFile NotWhole = AreTaken entry l kind cs × (is_whole (records_of cs) ≡ false)
-Becomes entry l kind cs GivenUp Dropped = AreTaken entry l kind cs
-Becomes entry l kind cs CutOff Dropped = AreTaken entry l kind cs
-Becomes entry l kind cs EndOfFile Dropped = ⊥
-Becomes entry l kind cs GivenUp (AFile records) = ⊥
-Becomes entry l kind cs GivenUp NotWhole = ⊥
-Becomes entry l kind cs CutOff (AFile records) = ⊥
-Becomes entry l kind cs CutOff NotWhole = ⊥

@@ -11,8 +11,8 @@ use crate::receiver::Progress;
 use crate::spool_file::SpoolFile;
 use njh_ebcdic::{FIELD, Name};
 use njh_header::{
-    DataSetHeader, FileName, JobHeader, Text, name_of, no_files_for, node_unknown,
-    routed_back, srcb,
+    DataSetHeader, FileName, JobHeader, Text, name_of, no_files_for, node_unknown, routed_back,
+    srcb,
 };
 use njh_record::Kind;
 use njh_table::{Customer, Route};
@@ -159,7 +159,9 @@ fn judge_node(
     match customer.route(node) {
         Route::Here => Verdict::Cancelled(Some(no_files_for(customer.hub()))),
         Route::Unknown => Verdict::Cancelled(Some(node_unknown(node))),
-        Route::Line(route) if route == line => Verdict::Cancelled(file.map(|name| routed_back(name))),
+        Route::Line(route) if route == line => Verdict::Cancelled(file.map(|name| routed_back(
+            name,
+        ))),
         Route::Line(_) => Verdict::Taken(progress),
     }
 }

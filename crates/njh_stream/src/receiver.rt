@@ -260,7 +260,17 @@ fn receive_record(
     if bytes.is_empty() {
         close(line.customer, kind, file, progress, spool)
     } else {
-        store(line.customer, entry, line.line, kind, file, progress, srcb, bytes, spool)
+        store(
+            line.customer,
+            entry,
+            line.line,
+            kind,
+            file,
+            progress,
+            srcb,
+            bytes,
+            spool,
+        )
     }
 }
 

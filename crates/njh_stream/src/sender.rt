@@ -100,7 +100,9 @@ impl Sender {
         ensures { result ≡ sending.file_in self.now }
     {
         match *self {
-            Sender::Requested(file) | Sender::Sending(file, _) | Sender::EofSent(file) => Some(file),
+            Sender::Requested(file) | Sender::Sending(file, _) | Sender::EofSent(file) => Some(
+                file,
+            ),
             Sender::Idle | Sender::Aborting => None,
         }
     }

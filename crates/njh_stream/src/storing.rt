@@ -45,9 +45,7 @@ pub(crate) fn store(
     let header = header_with(&records, srcb, bytes);
     match verdict {
         Verdict::Cancelled(text) => cancel(customer, file, header, text, spool),
-        Verdict::Taken(progress) => {
-            append(customer, file, progress, header, srcb, bytes, spool)
-        }
+        Verdict::Taken(progress) => { append(customer, file, progress, header, srcb, bytes, spool) }
     }
 }
 

@@ -1,4 +1,4 @@
-use Rattle.std.proofs.Common.{◌≡◌, length, ◌++◌, take, drop, replicate, slice_set}
+use Rattle.std.proofs.Common.{◌≡◌, ◌++◌, take, drop, replicate, slice_set}
 use Rattle.njh_spool.specs.Spools.{part}
 use Rattle.njh_stream.specs.declared.receiver.Receiver.TheVariants.{Idle}
 use Rattle.njh_stream.specs.Receiving.{without_all_open}

@@ -1,4 +1,4 @@
-use Rattle.std.proofs.Common.{◌≡◌, length, ◌++◌, take, drop, replicate, slice_set}
+use Rattle.std.proofs.Common.{◌≡◌, ◌++◌, take, drop, replicate, slice_set}
 use Rattle.njh_spool.specs.Spools.{part}
 use Rattle.njh_stream.specs.declared.sender.Sender.TheVariants.{Idle}
 use Rattle.njh_stream.specs.Sending.{all_ended}

@@ -8,14 +8,14 @@ pub returns-in-Placed-clause-verdict : goal.returns-in-Placed-clause-verdict
 returns-in-Placed-clause-verdict c =
     c.judge_placed.ensures.verdict
     ∙ sym (placed_judged (entry_of c.args.customer.now) c.args.line c.args.kind c.args.file.now
-        (record { srcb = c.args.srcb; bytes = c.args.bytes.now }) c.in-Placed.node c.in-Placed.last (sym c.in-Placed.is ∙ c.requires))
+    (record { srcb = c.args.srcb; bytes = c.args.bytes.now }) c.in-Placed.node c.in-Placed.last (sym c.in-Placed.is ∙ c.requires))
 
 pub returns-in-Placed-clause-progress : goal.returns-in-Placed-clause-progress
 returns-in-Placed-clause-progress c =
     placed_progress c.args.kind c.args.file.now (record { srcb = c.args.srcb; bytes = c.args.bytes.now }) c.in-Placed.node c.in-Placed.last
-        c.judge_placed.result (sym c.in-Placed.is ∙ c.requires) c.judge_placed.ensures.progress
+    c.judge_placed.result (sym c.in-Placed.is ∙ c.requires) c.judge_placed.ensures.progress
 
 pub returns-else-srcb-eq-JOB_HEADER-clause-progress : goal.returns-else-srcb-eq-JOB_HEADER-clause-progress
 returns-else-srcb-eq-JOB_HEADER-clause-progress c =
     header_progress c.args.kind c.args.file.now (record { srcb = c.args.srcb; bytes = c.args.bytes.now }) c.judge_data_set.result
-        (sym c.in-JobHeader.is ∙ c.requires) c.judge_data_set.ensures.progress
+    (sym c.in-JobHeader.is ∙ c.requires) c.judge_data_set.ensures.progress

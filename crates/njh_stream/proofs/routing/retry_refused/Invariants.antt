@@ -1,4 +1,4 @@
-use Rattle.std.proofs.Common.{◌≡◌, ◌++◌, take, drop, map, cond, slice_set}
+use Rattle.std.proofs.Common.{◌≡◌, slice_set}
 use Rattle.njh_spool.specs.Spools.{part}
 use Rattle.njh_table.specs.TableFile.{entry_of}
 use Rattle.njh_stream.proofs.RoutingLaws.{tried_up_to}
