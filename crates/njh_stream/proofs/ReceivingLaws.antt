@@ -1,5 +1,6 @@
 -- What a stream that is open keeps agrees with its file.
-use Rattle.std.proofs.Common.{◌≡◌, ◌≢◌, length, ℕ, Bool, true, false, List, [], ◌∷◌, Option, Some, None, ◌==◌, ◌&&◌, ◌≤◌, ◌<◌, slice_set, ap₂, cond, find, count_by, refl, sym, ap, ◌∙◌, true≢false, eqb-true, arith}
+use Rattle.std.proofs.Common.{◌≡◌, ◌≢◌, length, ℕ, Bool, true, false, List, [], ◌∷◌, Option, Some, None, ◌==◌}
+use Rattle.std.proofs.Common.{◌&&◌, ◌≤◌, ◌<◌, slice_set, ap₂, cond, find, count_by, refl, sym, ap, ◌∙◌, true≢false, eqb-true, arith}
 use Rattle.std.specs.Option.{option_map, option_or}
 use Rattle.std.proofs.lemmas.List.Sums.{sum_by-cons}
 use Rattle.njh_record.specs.Stored.{Stored}
@@ -15,7 +16,8 @@ use Rattle.njh_stream.specs.declared.receiver.After.{After}
 use Rattle.njh_stream.specs.Judging.{IsAfter}
 use Rattle.njh_stream.specs.SpoolFiles.{records_in}
 use Rattle.njh_stream.specs.Transmissions.{is_whole}
-use Rattle.njh_stream.specs.Receiving.{AgreesWith, progress_of, placed, ends_whole, last_srcb, closed, closed_by, stored, received_open, requested, Data}
+use Rattle.njh_stream.specs.Receiving.{AgreesWith, progress_of, placed, ends_whole, last_srcb}
+use Rattle.njh_stream.specs.Receiving.{closed, closed_by, stored, received_open, requested, Data}
 use Rattle.njh_stream.proofs.ProgressLaws.{ends_by_last, all_job_headers}
 
 -- ---- the end of file

@@ -1,5 +1,6 @@
 -- Refused files go again, one after the other.
-use Rattle.std.proofs.Common.{◌≡◌, ◌<◌, ◌≤◌, ℕ, zero, suc, Bool, true, false, cond, List, [], ◌∷◌, ◌++◌, length, take, drop, map, set, get_or, count_by, Option, Some, None, ◌==◌, slice_get, refl, sym, ap, subst, ◌∙◌, arith, IsSomeAnd, zero-lt-suc, suc-le-suc, eq-eqb}
+use Rattle.std.proofs.Common.{◌≡◌, ◌<◌, ◌≤◌, ℕ, zero, suc, Bool, true, false, cond, List, [], ◌∷◌, ◌++◌, length, take, drop, map}
+use Rattle.std.proofs.Common.{set, get_or, count_by, Option, Some, None, ◌==◌, slice_get, refl, sym, ap, subst, ◌∙◌, arith, IsSomeAnd, zero-lt-suc, suc-le-suc, eq-eqb}
 use Rattle.std.proofs.lemmas.List.{set-get_or}
 use Rattle.njh_spool.specs.Spools.{IsSound}
 use Rattle.njh_spool.specs.declared.State.TheVariants.{Ready}

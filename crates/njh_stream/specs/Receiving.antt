@@ -8,7 +8,8 @@ use Rattle.njh_block.specs.declared.rcb.ControlRcb.{ControlRcb}
 use Rattle.njh_block.specs.declared.rcb.ControlRcb.TheVariants.{Permission, Refusal, Completion}
 use Rattle.njh_header.specs.FileHeaders.{owner_of, destination_of}
 use Rattle.njh_table.specs.Entries.{CustomerEntry}
-use Rattle.njh_spool.specs.CustomerSpool.{CustomerSpool, PartialFile, has_file_room, has_block, next_number, begun, partial_numbered, partial_records, appended, has_room_for, abandoned, finished}
+use Rattle.njh_spool.specs.CustomerSpool.{CustomerSpool, PartialFile, has_file_room, has_block, next_number, begun}
+use Rattle.njh_spool.specs.CustomerSpool.{partial_numbered, partial_records, appended, has_room_for, abandoned, finished}
 use Rattle.njh_stream.specs.declared.receiver.Progress.{Progress}
 use Rattle.njh_stream.specs.declared.receiver.Progress.TheVariants.{Beginning, JobHeader, Placed}
 use Rattle.njh_stream.specs.declared.receiver.Receiver.{Receiver}

@@ -34,7 +34,8 @@ pub(crate) fn judge(
     bytes: &[u8],
 ) -> Verdict
     requires { progress ≡ progress_of kind file.now }
-    ensures verdict { said result ≡ transmissions.judged (entry_of customer.now) line kind file.now (record { srcb = srcb; bytes = bytes.now }) }
+    ensures verdict { said result
+        ≡ transmissions.judged (entry_of customer.now) line kind file.now (record { srcb = srcb; bytes = bytes.now }) }
     ensures progress { IsProgress result kind (file.now ++ record { srcb = srcb; bytes = bytes.now } ∷ []) }
 {
     match progress {
@@ -71,7 +72,8 @@ fn judge_placed(kind: Kind, node: [u8; FIELD], last: u8, srcb: u8, bytes: &[u8])
 
 /// The first record: a job header that reads.
 fn judge_first(customer: &Customer, line: u16, kind: Kind, srcb: u8, bytes: &[u8]) -> Verdict
-    ensures verdict { said result ≡ transmissions.judged_first (entry_of customer.now) line kind (record { srcb = srcb; bytes = bytes.now }) }
+    ensures verdict { said result
+        ≡ transmissions.judged_first (entry_of customer.now) line kind (record { srcb = srcb; bytes = bytes.now }) }
     ensures progress { IsProgress result kind (record { srcb = srcb; bytes = bytes.now } ∷ []) }
 {
     if srcb != srcb::JOB_HEADER {
@@ -115,7 +117,8 @@ fn judge_data_set(
     srcb: u8,
     bytes: &[u8],
 ) -> Verdict
-    ensures verdict { said result ≡ transmissions.judged_data_set (entry_of customer.now) line file.now (record { srcb = srcb; bytes = bytes.now }) }
+    ensures verdict { said result
+        ≡ transmissions.judged_data_set (entry_of customer.now) line file.now (record { srcb = srcb; bytes = bytes.now }) }
     ensures progress { IsHeaderPlaced result (data_set_header bytes.now) srcb }
 {
     if srcb != srcb::DATA_SET_HEADER {

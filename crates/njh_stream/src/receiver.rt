@@ -8,9 +8,10 @@ ghost use Rattle.njh_record.specs.declared.Kind.{Kind};
 ghost use Rattle.njh_spool.specs.CustomerSpool.{partial_numbered};
 ghost use Rattle.njh_spool.specs.Spools.{part};
 ghost use Rattle.njh_table.specs.TableFile.{customer_at, entry_of};
-ghost use Rattle.njh_stream.specs.Arrivals.{arrival_of, IsShort};
+ghost use Rattle.njh_stream.specs.Arrivals.{answer_on, arrival_of, received_on, IsShort};
 ghost use Rattle.njh_stream.specs.Judging.{IsAfter};
-ghost use Rattle.njh_stream.specs.Receiving.{Agrees, AgreesWith, closed, ends_whole, received, received_draining, received_idle, received_open, requested, without_open, Data};
+ghost use Rattle.njh_stream.specs.Receiving.{Agrees, AgreesWith, closed, ends_whole, received};
+ghost use Rattle.njh_stream.specs.Receiving.{received_draining, received_idle, received_open, requested, without_open, Data};
 
 use crate::arrival::Arrival;
 use crate::notice::Notice;
@@ -126,10 +127,12 @@ impl Receiver {
         requires spooled { line.customer < length spool.old }
         requires short { IsShort (arrival_of arrival) }
         requires agrees { Agrees (kind_of stream) self.old (part line.customer spool.old) }
-        ensures receiver { self.new ≡ (received (entry_of (customer_at tables.now line.customer)) line.line (kind_of stream) self.old (arrival_of arrival.entry) (part line.customer spool.old)).receiver }
-        ensures answer { result.answer ≡ option_map (λ rcb. record { rcb = rcb; stream = record { byte = rcb_of stream } }) (received (entry_of (customer_at tables.now line.customer)) line.line (kind_of stream) self.old (arrival_of arrival.entry) (part line.customer spool.old)).answer }
-        ensures notice { result.notice ≡ (received (entry_of (customer_at tables.now line.customer)) line.line (kind_of stream) self.old (arrival_of arrival.entry) (part line.customer spool.old)).notice }
-        ensures spool { spool.new ≡ slice_set spool.old line.customer (received (entry_of (customer_at tables.now line.customer)) line.line (kind_of stream) self.old (arrival_of arrival.entry) (part line.customer spool.old)).spool }
+        ensures receiver { self.new ≡ (received_on tables.now spool.old line stream self.old (arrival_of arrival.entry)).receiver }
+        ensures answer { result.answer
+            ≡ option_map (answer_on stream) (received_on tables.now spool.old line stream self.old (arrival_of arrival.entry)).answer }
+        ensures notice { result.notice ≡ (received_on tables.now spool.old line stream self.old (arrival_of arrival.entry)).notice }
+        ensures spool { spool.new ≡ slice_set spool.old line.customer
+            (received_on tables.now spool.old line stream self.old (arrival_of arrival.entry)).spool }
         ensures agrees { Agrees (kind_of stream) self.new (part line.customer spool.new) }
     {
         next_number_is_least();
@@ -164,7 +167,7 @@ impl Receiver {
 
 /// An answer with a stream's RCB.
 fn answer_of(answer: Option<ControlRcb>, stream: Stream) -> Option<Answer>
-    ensures { result ≡ option_map (λ rcb. record { rcb = rcb; stream = record { byte = rcb_of stream } }) answer }
+    ensures { result ≡ option_map (answer_on stream) answer }
 {
     match answer {
         Some(rcb) => Some(Answer {
@@ -187,7 +190,8 @@ fn receive(
     requires spooled { line.customer < length spool.old }
     requires short { IsShort (arrival_of arrival) }
     requires agrees { Agrees kind receiver (part line.customer spool.old) }
-    ensures { IsAfter result spool.new spool.old line.customer (received (entry_of entry.now) line.line kind receiver (arrival_of arrival.entry) (part line.customer spool.old)) }
+    ensures { IsAfter result spool.new spool.old line.customer
+        (received (entry_of entry.now) line.line kind receiver (arrival_of arrival.entry) (part line.customer spool.old)) }
 {
     match receiver {
         Receiver::Idle => receive_idle(arrival, kind, line.customer, spool),
@@ -212,7 +216,8 @@ fn receive(
 /// An idle stream hears requests alone.
 fn receive_idle(arrival: Arrival<'_>, kind: Kind, customer: u16, spool: &mut Spool) -> After
     requires { customer < length spool.old }
-    ensures { IsAfter result spool.new spool.old customer (received_idle kind (arrival_of arrival.entry) (part customer spool.old)) }
+    ensures { IsAfter result spool.new spool.old customer
+        (received_idle kind (arrival_of arrival.entry) (part customer spool.old)) }
 {
     match arrival {
         Arrival::Request => begin(customer, kind, spool),
@@ -225,7 +230,8 @@ fn receive_idle(arrival: Arrival<'_>, kind: Kind, customer: u16, spool: &mut Spo
 /// The rest of a file that was given up goes by, up to its end.
 fn receive_draining(arrival: Arrival<'_>, kind: Kind, customer: u16, spool: &mut Spool) -> After
     requires { customer < length spool.old }
-    ensures { IsAfter result spool.new spool.old customer (received_draining kind (arrival_of arrival.entry) (part customer spool.old)) }
+    ensures { IsAfter result spool.new spool.old customer
+        (received_draining kind (arrival_of arrival.entry) (part customer spool.old)) }
 {
     match arrival {
         Arrival::Request => begin(customer, kind, spool),
@@ -255,7 +261,8 @@ fn receive_record(
     requires spooled { line.customer < length spool.old }
     requires short { length bytes.now ≤ 256 }
     requires agrees { AgreesWith kind progress (partial_numbered file (part line.customer spool.old)) }
-    ensures { IsAfter result spool.new spool.old line.customer (received_open (entry_of entry.now) line.line kind file (Data srcb bytes.now) (part line.customer spool.old)) }
+    ensures { IsAfter result spool.new spool.old line.customer
+        (received_open (entry_of entry.now) line.line kind file (Data srcb bytes.now) (part line.customer spool.old)) }
 {
     if bytes.is_empty() {
         close(line.customer, kind, file, progress, spool)

@@ -16,7 +16,8 @@ use njh_table::{Customer, Route};
 /// Whether a customer's whole file goes by a line: by the route of its destination's node.
 pub fn goes_by(entry: &Customer, line: u16, customer: u16, file: FileId, spool: &Spool) -> bool
     requires { customer < length spool.now }
-    ensures { (f : WholeFile) → whole_numbered file (part customer spool.now) ≡ Some f → result ≡ sending.goes_by (entry_of entry.now) line f }
+    ensures { (f : WholeFile) → whole_numbered file (part customer spool.now) ≡ Some f → result
+        ≡ sending.goes_by (entry_of entry.now) line f }
 {
     let Ok(kind) = spool.kind(customer, file) else {
         return false;
