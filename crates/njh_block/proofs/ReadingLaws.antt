@@ -7,7 +7,7 @@ use Rattle.njh_block.specs.declared.fault.BlockFault.{BlockFault}
 use Rattle.njh_block.specs.declared.rcb.Form.{Form}
 use Rattle.njh_block.specs.declared.rcb.Form.TheVariants as form
 use Rattle.njh_block.specs.Blocks.{Item, First, form_of, after_control, spelled, alone, formed, first_record, with_item, items_from, read_items, items_in}
-use Rattle.njh_block.proofs.Unspelling.{RestWithin, RestWithin-leaves, unspelled-leaves}
+use Rattle.njh_block.proofs.Unspelling.{RestWithin, unspelled-within}
 
 -- ---- the fuel does not matter
 
@@ -38,7 +38,7 @@ formed-shorter form.End rcb srcb rest = tt
 formed-shorter form.Bad rcb srcb rest = tt
 formed-shorter form.General rcb srcb rest = omega arith
 formed-shorter (form.Control c) rcb srcb rest = omega (arith, after_control-shorter rest)
-formed-shorter form.Spelled rcb srcb rest = spelled-shorter rcb srcb (length rest) (unspelled rest) (RestWithin-leaves rest (unspelled rest) (unspelled-leaves rest))
+formed-shorter form.Spelled rcb srcb rest = spelled-shorter rcb srcb (length rest) (unspelled rest) (unspelled-within rest)
 
 Shorter-more : (n : ℕ) (found : Result (Option First) BlockFault) → Shorter n found → Shorter (suc n) found
 Shorter-more n (Ok None) shorter = tt
