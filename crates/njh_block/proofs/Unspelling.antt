@@ -8,7 +8,7 @@ use Rattle.njh_record.specs.declared.RecordFault.TheVariants as faults
 use Rattle.njh_record.specs.Unspelled.{Unspelled, unspelled, unspelled_within, Fault, BadScb, Truncated, answer_to, answer_of, left_by, record_left, with_front, after_literal, after_scb, Scb, Ends, OfBlanks, OfRepeat, OfLiteral, Bad, scb_of}
 use Rattle.njh_block.specs.declared.fault.BlockFault.{BlockFault}
 use Rattle.njh_block.specs.declared.fault.BlockFault.TheVariants.{BadRecord}
-use Rattle.njh_block.specs.Blocks.{First, Data, Aborted, Long, spelled}
+use Rattle.njh_block.specs.Blocks.{First, Data, Aborted, Long, record_of_spelling}
 
 -- it leaves an end of them
 abbrev pub Leaves : List ℕ → Result Unspelled Fault → Type 0
@@ -70,22 +70,22 @@ answered rcb srcb bytes contents (Err (faults.TooLong used)) = Ok (Some (record 
 answered rcb srcb bytes contents (Err faults.BadScb) = Err BadRecord
 answered rcb srcb bytes contents (Err faults.Truncated) = Err BadRecord
 
-spelled-record : (rcb srcb : ℕ) (bytes contents rest : List ℕ) (short : Bool) (used : ℕ) → drop used bytes ≡ rest
+record_of_spelling-record : (rcb srcb : ℕ) (bytes contents rest : List ℕ) (short : Bool) (used : ℕ) → drop used bytes ≡ rest
     → Ok (Some (record { item = cond short (Data rcb srcb contents) (Long rcb srcb); rest = rest }))
     ≡ answered rcb srcb bytes (cond short contents []) (cond short (Ok (used, Record)) (Err (faults.TooLong used)))
-spelled-record rcb srcb bytes contents rest true used is = ap (λ (b : List ℕ). Ok (Some (record { item = Data rcb srcb contents; rest = b }))) (sym is)
-spelled-record rcb srcb bytes contents rest false used is = ap (λ (b : List ℕ). Ok (Some (record { item = Long rcb srcb; rest = b }))) (sym is)
+record_of_spelling-record rcb srcb bytes contents rest true used is = ap (λ (b : List ℕ). Ok (Some (record { item = Data rcb srcb contents; rest = b }))) (sym is)
+record_of_spelling-record rcb srcb bytes contents rest false used is = ap (λ (b : List ℕ). Ok (Some (record { item = Long rcb srcb; rest = b }))) (sym is)
 
-spelled-ended : (rcb srcb : ℕ) (bytes contents rest : List ℕ) (end : End) → drop (length bytes - length rest) bytes ≡ rest
-    → spelled rcb srcb (Ok (record { contents = contents; end = end; rest = rest }))
+record_of_spelling-ended : (rcb srcb : ℕ) (bytes contents rest : List ℕ) (end : End) → drop (length bytes - length rest) bytes ≡ rest
+    → record_of_spelling rcb srcb (Ok (record { contents = contents; end = end; rest = rest }))
     ≡ answered rcb srcb bytes (left_by (Ok (record { contents = contents; end = end; rest = rest }))) (answer_to bytes (Ok (record { contents = contents; end = end; rest = rest })))
-spelled-ended rcb srcb bytes contents rest Record is = spelled-record rcb srcb bytes contents rest (leb (length contents) 256) (length bytes - length rest) is
-spelled-ended rcb srcb bytes contents rest Abort is = ap (λ (b : List ℕ). Ok (Some (record { item = Aborted rcb srcb; rest = b }))) (sym is)
+record_of_spelling-ended rcb srcb bytes contents rest Record is = record_of_spelling-record rcb srcb bytes contents rest (leb (length contents) 256) (length bytes - length rest) is
+record_of_spelling-ended rcb srcb bytes contents rest Abort is = ap (λ (b : List ℕ). Ok (Some (record { item = Aborted rcb srcb; rest = b }))) (sym is)
 
-spelled-found : (rcb srcb : ℕ) (bytes : List ℕ) (found : Result Unspelled Fault) → Leaves bytes found → spelled rcb srcb found ≡ answered rcb srcb bytes (left_by found) (answer_to bytes found)
-spelled-found rcb srcb bytes (Ok r) leaves = spelled-ended rcb srcb bytes r.contents r.rest r.end (drop-leaves bytes r leaves)
-spelled-found rcb srcb bytes (Err BadScb) leaves = refl
-spelled-found rcb srcb bytes (Err Truncated) leaves = refl
+record_of_spelling-found : (rcb srcb : ℕ) (bytes : List ℕ) (found : Result Unspelled Fault) → Leaves bytes found → record_of_spelling rcb srcb found ≡ answered rcb srcb bytes (left_by found) (answer_to bytes found)
+record_of_spelling-found rcb srcb bytes (Ok r) leaves = record_of_spelling-ended rcb srcb bytes r.contents r.rest r.end (drop-leaves bytes r leaves)
+record_of_spelling-found rcb srcb bytes (Err BadScb) leaves = refl
+record_of_spelling-found rcb srcb bytes (Err Truncated) leaves = refl
 
-pub spelled-answered : (rcb srcb : ℕ) (bytes : List ℕ) → spelled rcb srcb (unspelled bytes) ≡ answered rcb srcb bytes (record_left bytes) (answer_of bytes)
-spelled-answered rcb srcb bytes = spelled-found rcb srcb bytes (unspelled bytes) (unspelled-leaves bytes)
+pub record_of_spelling-answered : (rcb srcb : ℕ) (bytes : List ℕ) → record_of_spelling rcb srcb (unspelled bytes) ≡ answered rcb srcb bytes (record_left bytes) (answer_of bytes)
+record_of_spelling-answered rcb srcb bytes = record_of_spelling-found rcb srcb bytes (unspelled bytes) (unspelled-leaves bytes)

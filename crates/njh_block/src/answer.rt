@@ -2,7 +2,7 @@
 
 ghost use Rattle.std.specs.Prelude.{◌≡◌};
 ghost use Rattle.njh_block.specs.Blocks.{Control, control_byte};
-ghost use Rattle.njh_block.specs.Shown.{outgoing};
+ghost use Rattle.njh_block.specs.Shown.{outgoing_item};
 
 use crate::out::Out;
 use crate::rcb::{ControlRcb, Rcb};
@@ -17,7 +17,7 @@ pub struct Answer {
 impl Answer {
     /// The record that says so.
     pub fn record<'a>(self) -> Out<'a>
-        ensures { outgoing result ≡ Control (control_byte self.rcb) self.stream.byte }
+        ensures { outgoing_item result ≡ Control (control_byte self.rcb) self.stream.byte }
     {
         Out::Control {
             rcb: self.rcb,

@@ -3,6 +3,7 @@
 use crate::fault::HeaderFault;
 use crate::field::{read_field, read_name, read_number, write_field};
 use crate::file_name::FileName;
+use crate::laws::one_job_header;
 use crate::places::job;
 use crate::section::find_general;
 use crate::user::{Destination, User};
@@ -32,12 +33,24 @@ impl Model for JobHeader {
 }
 
 impl JobHeader {
-    ghost use Rattle.std.specs.Prelude.{◌≡◌, ◌+◌, ◌≤◌, length, IfOk};
+    ghost use Rattle.std.specs.Prelude.{◌≡◌, ◌+◌, ◌≤◌, ◌↔◌, length, IfOk};
     ghost use Rattle.njh_record.specs.Bytes.{with_field};
-    ghost use Rattle.njh_header.specs.Headers.{job_header};
+    ghost use Rattle.njh_header.specs.Headers.{JobHeader as Seen, IsJobHeader, IsJobFault, job_header};
 
     /// The job header that a record is.
     pub fn read(bytes: &[u8]) -> Result<JobHeader, HeaderFault>
+        // It is what the record is by its sections, or the fault that the record has by them.
+        ensures read { (header : Seen) → (result ≡ Ok header) ↔ IsJobHeader bytes.now header }
+        ensures fault { (fault : HeaderFault) → (result ≡ Err fault) ↔ IsJobFault bytes.now fault }
+
+        ensures header { result ≡ job_header bytes.now }
+        ensures within { IfOk result (λ header. header.place + 8 ≤ length bytes.now) }
+    {
+        one_job_header();
+        Self::of_sections(bytes)
+    }
+
+    fn of_sections(bytes: &[u8]) -> Result<JobHeader, HeaderFault>
         ensures header { result ≡ job_header bytes.now }
         ensures within { IfOk result (λ header. header.place + 8 ≤ length bytes.now) }
     {

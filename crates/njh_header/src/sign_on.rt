@@ -7,11 +7,11 @@ use crate::field::{read_field, read_name, read_number};
 use crate::places::sign_on;
 use arrayvec::ArrayVec;
 use byteorder::{BigEndian, ByteOrder};
-use njh_ebcdic::Name;
+use njh_ebcdic::{BLANK, FIELD, Name};
 use std::marker::Model;
 
 /// A field of blanks.
-const BLANKS: [u8; 8] = [0x40; 8];
+const BLANKS: [u8; FIELD] = [BLANK; FIELD];
 
 /// The length that is written: that of the whole record, with RCB and SRCB.
 const LENGTH_OF_ALL: u8 = 41;
