@@ -7,7 +7,7 @@ use Rattle.njh_block.specs.declared.fault.BlockFault.{BlockFault}
 use Rattle.njh_block.specs.declared.rcb.Form.{Form}
 use Rattle.njh_block.specs.declared.rcb.Form.TheVariants as form
 use Rattle.njh_block.specs.Blocks.{Item, First, form_of, after_control, record_of_spelling, record_of_one_byte, record_of_form, first_record, with_item, read_items, items_in}
-use Rattle.njh_block.proofs.Unspelling.{RestWithin, RestWithin-leaves, unspelled-leaves}
+use Rattle.njh_block.proofs.Unspelling.{RestWithin, unspelled-within}
 
 -- the items where the first record is this, and onward reads what follows it
 abbrev pub items_from : Result (Option First) BlockFault → (List ℕ → Result (List Item) BlockFault) → Result (List Item) BlockFault
@@ -46,7 +46,7 @@ record_of_form-shorter form.End rcb srcb rest = tt
 record_of_form-shorter form.Bad rcb srcb rest = tt
 record_of_form-shorter form.General rcb srcb rest = omega arith
 record_of_form-shorter (form.Control c) rcb srcb rest = omega (arith, after_control-shorter rest)
-record_of_form-shorter form.Spelled rcb srcb rest = record_of_spelling-shorter rcb srcb (length rest) (unspelled rest) (RestWithin-leaves rest (unspelled rest) (unspelled-leaves rest))
+record_of_form-shorter form.Spelled rcb srcb rest = record_of_spelling-shorter rcb srcb (length rest) (unspelled rest) (unspelled-within rest)
 
 Shorter-more : (n : ℕ) (found : Result (Option First) BlockFault) → Shorter n found → Shorter (suc n) found
 Shorter-more n (Ok None) shorter = tt

@@ -7,7 +7,7 @@ use Rattle.std.proofs.lemmas.Bool.{cond-true, le-leb, leb-true, and_parts, or_pa
 use Rattle.std.proofs.lemmas.List.{append-nil, take_at}
 use Rattle.std.proofs.lemmas.List.Concat.{flat_map-append}
 use Rattle.njh_record.specs.Unspelled.{unspelled}
-use Rattle.njh_record.specs.Writing.{spell_of}
+use Rattle.njh_record.specs.Writing.{spelling_of}
 use Rattle.njh_record.specs.declared.End.TheVariants.{Record}
 use Rattle.njh_block.specs.declared.fault.BlockFault.{BlockFault}
 use Rattle.njh_block.specs.declared.rcb.ControlRcb.{ControlRcb}
@@ -58,13 +58,13 @@ pub record Adds (w : Writing) (i : Item) (text : List ℕ) : Type 0 where
   pub whole : IsWriting (writing_of w.limit text) text (is_general i)
 
 -- back: what is written of a record is read back, whatever follows it
-module _ (back : (contents rest : List ℕ) → unspelled (spell_of contents ++ rest) ≡ Ok (record { contents = contents; end = Record; rest = rest })) where
+module _ (back : (contents rest : List ℕ) → unspelled (spelling_of contents ++ rest) ≡ Ok (record { contents = contents; end = Record; rest = rest })) where
   -- ---- one record
 
   data-first : (rcb srcb : ℕ) (bytes after : List ℕ) → form_of rcb ≡ form.Spelled → length bytes ≤ 256
       → first_record (written_bytes (Data rcb srcb bytes) ++ after) ≡ Ok (Some (record { item = Data rcb srcb bytes; rest = after }))
   data-first rcb srcb bytes after is short =
-      record_of_form-first form.Spelled rcb srcb (spell_of bytes ++ after) is
+      record_of_form-first form.Spelled rcb srcb (spelling_of bytes ++ after) is
       ∙ (ap (record_of_spelling rcb srcb) (back bytes after)
       ∙ ap (λ (i : Item). Ok (Some (record { item = i; rest = after }))) (cond-true (leb (length bytes) 256) (Data rcb srcb bytes) (Long rcb srcb) (le-leb _ _ short)))
 
@@ -77,7 +77,7 @@ module _ (back : (contents rest : List ℕ) → unspelled (spell_of contents ++ 
   -- a record that isn't a general one is read back, whatever follows it
   written_bytes-read : (i : Item) (after : List ℕ) → IsWritten i → is_general i ≡ false → items_in (written_bytes i ++ after) ≡ with_item i (items_in after)
   written_bytes-read (Data rcb srcb bytes) after (is, short) other =
-      items_in-first (rcb ∷ srcb ∷ (spell_of bytes ++ after)) (record { item = Data rcb srcb bytes; rest = after }) (data-first rcb srcb bytes after is short)
+      items_in-first (rcb ∷ srcb ∷ (spelling_of bytes ++ after)) (record { item = Data rcb srcb bytes; rest = after }) (data-first rcb srcb bytes after is short)
   written_bytes-read (Aborted rcb srcb) after is other =
       items_in-first (rcb ∷ srcb ∷ 0x40 ∷ after) (record { item = Aborted rcb srcb; rest = after }) (record_of_form-first form.Spelled rcb srcb (0x40 ∷ after) is)
   written_bytes-read (Long rcb srcb) after is other = absurd is

@@ -8,7 +8,7 @@ ghost use Rattle.njh_block.specs.Shown.{first_shown, general_at, contents_after}
 use crate::fault::BlockFault;
 use crate::item::Item;
 use crate::rcb::{Form, GENERAL, OWN_ZERO, Rcb};
-use njh_record::{End, Record, RecordFault, unspell};
+use njh_record::{End, Record, RecordFault, one_reading, reads_spellings, unspell};
 
 /// A record, and the bytes behind it.
 type First<'a> = (Item<'a>, &'a [u8]);
@@ -33,6 +33,8 @@ fn read_spelled<'a>(
     ensures first { first_shown result contents.new.items ≡ record_of_spelling rcb.byte srcb (unspelled bytes.now) }
     ensures contents { contents.new.items ≡ contents_after (record_of_spelling rcb.byte srcb (unspelled bytes.now)) }
 {
+    one_reading();
+    reads_spellings();
     match unspell(bytes, contents) {
         Ok((used, End::Record)) => Ok(Some((Item::Data { rcb, srcb }, &bytes[used..]))),
         Ok((used, End::Abort)) => Ok(Some((Item::Abort { rcb, srcb }, &bytes[used..]))),
