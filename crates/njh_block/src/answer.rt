@@ -7,10 +7,12 @@ ghost use Rattle.njh_block.specs.Shown.{outgoing_item};
 use crate::out::Out;
 use crate::rcb::{ControlRcb, Rcb};
 
-/// What the hub answers to a stream of the peer, by the stream's RCB.
+/// What the hub answers to a stream of the peer.
 #[derive(Clone, Copy, Debug, PartialEq, Eq)]
 pub struct Answer {
+    /// What is answered.
     pub rcb: ControlRcb,
+    /// The RCB of the stream that it is answered to.
     pub stream: Rcb,
 }
 

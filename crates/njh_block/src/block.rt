@@ -35,14 +35,14 @@ impl<'a> Model for Block<'a> {
 }
 
 impl<'a> Block<'a> {
-    /// Reads a text (IBM SC23-0070, "Multileaving"). It is checked to its end before any record is given: `TooShort` is under three
-    /// bytes, and then the first fault from the left is told.
+    /// Reads a text (IBM SC23-0070, "Multileaving"). It is checked to its end before any record is given: `TooShort` comes first, and then
+    /// the first fault from the left is told.
     pub fn read(text: &'a [u8]) -> Result<Self, BlockFault>
-        ensures exact { result ≡ read_block text.now }
-
         // It is the block that the text is by the grammar, or the fault that the text has by it.
         ensures block { (block : Seen) → (result ≡ Ok block) ↔ IsBlock text.now block }
         ensures fault { (fault : BlockFault) → (result ≡ Err fault) ↔ IsFault text.now fault }
+
+        ensures exact { result ≡ read_block text.now }
     {
         one_reading();
         Self::of_text(text)
@@ -60,12 +60,14 @@ impl<'a> Block<'a> {
         Ok(Block { bcb, fcs, rest })
     }
 
+    /// Its block control byte.
     pub fn bcb(&self) -> Bcb
         ensures { result ≡ self.now.bcb }
     {
         self.bcb
     }
 
+    /// Its function control sequence.
     pub fn fcs(&self) -> Fcs
         ensures { result ≡ self.now.fcs }
     {

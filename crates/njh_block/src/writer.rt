@@ -10,7 +10,7 @@ use crate::fcs::Fcs;
 use crate::out::Out;
 use crate::rcb::{END, GENERAL, OWN_ZERO};
 use arrayvec::ArrayVec;
-use njh_record::{spell, spelled_len};
+use njh_record::{ABORT, put_bytes, spell, spelled_len};
 use std::marker::Model;
 
 /// The text of a block: at most 4,096 bytes.
@@ -19,16 +19,13 @@ pub type BlockText = ArrayVec<u8, 4096>;
 /// How many bytes the text of a block without records has.
 const WITHOUT_RECORDS: usize = 4;
 
-/// The string control byte of a record that is given up.
-const ABORT: u8 = 0x40;
-
 /// Puts the text of a block without records where nothing stands.
 fn put_header(text: &mut BlockText, bcb: Bcb, fcs: Fcs)
     requires { text.old.items ≡ [] }
     ensures { text.new.items ≡ text_of bcb fcs [] }
 {
     let (first, second) = fcs.bytes();
-    put(text, &[bcb.byte(), first, second, END]);
+    put_bytes(text, &[bcb.byte(), first, second, END]);
 }
 
 /// How many bytes a record takes.
@@ -51,14 +48,6 @@ fn is_general(out: &Out<'_>) -> bool
     matches!(out, Out::General { .. })
 }
 
-/// Adds bytes that have room.
-fn put(text: &mut BlockText, bytes: &[u8])
-    requires { length text.old.items + length bytes.now ≤ 4096 }
-    ensures { text.new.items ≡ text.old.items ++ bytes.now }
-{
-    text.try_extend_from_slice(bytes).unwrap();
-}
-
 /// Adds a record that has room.
 fn put_record(text: &mut BlockText, out: Out<'_>)
     requires writable { IsWritable out }
@@ -69,14 +58,14 @@ fn put_record(text: &mut BlockText, out: Out<'_>)
         Out::Data { rcb, srcb, bytes } => {
             let mut spelling = ArrayVec::new();
             spell(bytes, &mut spelling);
-            put(text, &[rcb.byte, srcb]);
-            put(text, &spelling);
+            put_bytes(text, &[rcb.byte, srcb]);
+            put_bytes(text, &spelling);
         }
-        Out::Abort { rcb, srcb } => put(text, &[rcb.byte, srcb, ABORT]),
-        Out::Control { rcb, srcb } => put(text, &[rcb.byte(), srcb, OWN_ZERO]),
+        Out::Abort { rcb, srcb } => put_bytes(text, &[rcb.byte, srcb, ABORT]),
+        Out::Control { rcb, srcb } => put_bytes(text, &[rcb.byte(), srcb, OWN_ZERO]),
         Out::General { srcb, bytes } => {
-            put(text, &[GENERAL, srcb]);
-            put(text, bytes);
+            put_bytes(text, &[GENERAL, srcb]);
+            put_bytes(text, bytes);
         }
     }
 }

@@ -1,13 +1,13 @@
 //! Data set headers.
 
 use crate::fault::HeaderFault;
-use crate::field::{read_field, read_name, write_field};
+use crate::field::{read_name, write_field};
 use crate::laws::one_data_set_header;
 use crate::places::data_set;
 use crate::section::find_general;
 use crate::user::{Destination, User};
 use njh_ebcdic::Name;
-use njh_record::Record;
+use njh_record::{Record, field_at};
 use std::marker::Model;
 
 /// What the general section of a data set header says (IBM SC23-0070, "Data set header").
@@ -55,18 +55,20 @@ impl DataSetHeader {
         Ok(DataSetHeader {
             destination: User {
                 node,
-                user: read_field(bytes, section + data_set::DESTINATION_USER),
+                user: field_at(bytes, section + data_set::DESTINATION_USER),
             },
             place,
         })
     }
 
+    /// The node that the data set goes to.
     pub fn destination_node(&self) -> Name
         ensures { result ≡ self.now.destination.0 }
     {
         self.destination.node
     }
 
+    /// The field of the user there.
     pub fn destination_user(&self) -> [u8; 8]
         ensures { result ≡ self.now.destination.1 }
     {

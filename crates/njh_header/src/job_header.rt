@@ -1,14 +1,14 @@
 //! Job headers.
 
 use crate::fault::HeaderFault;
-use crate::field::{read_field, read_name, read_number, write_field};
+use crate::field::{read_name, read_number, write_field};
 use crate::file_name::FileName;
 use crate::laws::one_job_header;
 use crate::places::job;
 use crate::section::find_general;
 use crate::user::{Destination, User};
 use njh_ebcdic::Name;
-use njh_record::Record;
+use njh_record::{Record, field_at};
 use std::marker::Model;
 
 /// What the general section of a job header says (IBM SC23-0070, "Job header").
@@ -59,15 +59,15 @@ impl JobHeader {
         let place = section + job::EXECUTION_NODE;
         Ok(JobHeader {
             number: read_number(bytes, section + job::NUMBER),
-            name: read_field(bytes, section + job::NAME),
-            user: read_field(bytes, section + job::USER),
+            name: field_at(bytes, section + job::NAME),
+            user: field_at(bytes, section + job::USER),
             origin: User {
                 node,
-                user: read_field(bytes, section + job::ORIGIN_USER),
+                user: field_at(bytes, section + job::ORIGIN_USER),
             },
             execution: Destination {
-                node: read_field(bytes, place),
-                user: read_field(bytes, section + job::EXECUTION_USER),
+                node: field_at(bytes, place),
+                user: field_at(bytes, section + job::EXECUTION_USER),
             },
             place,
         })
@@ -94,12 +94,14 @@ impl JobHeader {
         self.user
     }
 
+    /// The node that the job comes from.
     pub fn origin_node(&self) -> Name
         ensures { result ≡ self.now.origin.0 }
     {
         self.owner().node
     }
 
+    /// The field of the user there.
     pub fn origin_user(&self) -> [u8; 8]
         ensures { result ≡ self.now.origin.1 }
     {
@@ -113,6 +115,7 @@ impl JobHeader {
         self.destination().node
     }
 
+    /// The field of the user at the execution node.
     pub fn execution_user(&self) -> [u8; 8]
         ensures { result ≡ self.now.execution.1 }
     {

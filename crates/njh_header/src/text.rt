@@ -9,12 +9,15 @@ ghost use Rattle.njh_header.specs.Texts.{file_name as name_text};
 use crate::file_name::FileName;
 use arrayvec::ArrayVec;
 use njh_ebcdic::{byte_of, characters_and_bytes, trim_blanks};
+use njh_record::put_bytes;
 
 /// The message of a nodal message record, in EBCDIC: at most 148 bytes.
 pub type MessageText = ArrayVec<u8, 148>;
 
+/// What stands between the node and the number of a file's name.
 const FULL_STOP: u8 = 0x4b;
 
+/// The digit 0. The others follow it.
 const ZERO: u8 = 0xf0;
 
 /// Appends capital letters, digits, full stops and blanks.
@@ -39,7 +42,7 @@ pub fn push_trimmed(text: &mut MessageText, field: &[u8; 8])
     ensures text { text.new.items ≡ text.old.items ++ trimmed field.now }
     ensures few { length text.new.items ≤ length text.old.items + 8 }
 {
-    text.try_extend_from_slice(trim_blanks(field)).unwrap();
+    put_bytes(text, trim_blanks(field));
 }
 
 /// Appends a number in decimal digits, with no leading zeros.
