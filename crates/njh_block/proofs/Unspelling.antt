@@ -11,8 +11,8 @@ use Rattle.njh_record.specs.Reading.{Begins, Unspells}
 use Rattle.njh_record.specs.Unspelled.{Front, OfItem, OfEnd, Bad, Cut, repeat_front, literal_front, front_of, Unspelled, unspelled, unspelled_within, Fault, BadScb, Truncated, with_front, ReadsAs}
 use Rattle.njh_block.specs.declared.fault.BlockFault.{BlockFault}
 use Rattle.njh_block.specs.declared.fault.BlockFault.TheVariants.{BadRecord}
-use Rattle.njh_block.specs.Blocks.{First, Data, Aborted, Long, spelled}
-use Rattle.njh_block.specs.Shown.{left_by}
+use Rattle.njh_block.specs.Blocks.{First, Data, Aborted, Long, record_of_spelling}
+use Rattle.njh_block.specs.Shown.{contents_after}
 
 -- ---- it leaves no more than there was
 
@@ -79,25 +79,25 @@ answered rcb srcb bytes contents (Err faults.Truncated) = Err BadRecord
 module _ (only : (bytes : List ℕ) (read : Result Unspelled Fault) → ReadsAs bytes read → unspelled bytes ≡ read)
     (again : (spelling contents rest : List ℕ) (end : End) → Spelling spelling contents end → unspelled (spelling ++ rest) ≡ Ok (record { contents = contents; end = end; rest = rest })) where
   begins-spelled : (rcb srcb : ℕ) (bytes contents : List ℕ) (used : ℕ) (end : End) → Begins bytes used contents end
-      → spelled rcb srcb (unspelled bytes) ≡ spelled rcb srcb (Ok (record { contents = contents; end = end; rest = drop used bytes }))
+      → record_of_spelling rcb srcb (unspelled bytes) ≡ record_of_spelling rcb srcb (Ok (record { contents = contents; end = end; rest = drop used bytes }))
   begins-spelled rcb srcb bytes contents used end begins =
-      ap (λ (b : List ℕ). spelled rcb srcb (unspelled b)) (sym (take-append-drop used bytes)) ∙ ap (spelled rcb srcb) (again (take used bytes) contents (drop used bytes) end begins.spelling)
+      ap (λ (b : List ℕ). record_of_spelling rcb srcb (unspelled b)) (sym (take-append-drop used bytes)) ∙ ap (record_of_spelling rcb srcb) (again (take used bytes) contents (drop used bytes) end begins.spelling)
 
-  pub spelled-unspells : (rcb srcb : ℕ) (bytes contents : List ℕ) (answer : Result (ℕ × End) RecordFault) → Unspells bytes answer contents → spelled rcb srcb (unspelled bytes) ≡ answered rcb srcb bytes contents answer
-  spelled-unspells rcb srcb bytes contents (Ok (used, Record)) (begins, fits) =
+  pub record_of_spelling-unspells : (rcb srcb : ℕ) (bytes contents : List ℕ) (answer : Result (ℕ × End) RecordFault) → Unspells bytes answer contents → record_of_spelling rcb srcb (unspelled bytes) ≡ answered rcb srcb bytes contents answer
+  record_of_spelling-unspells rcb srcb bytes contents (Ok (used, Record)) (begins, fits) =
       begins-spelled rcb srcb bytes contents used Record begins
       ∙ ap (λ (t : Bool). Ok (Some (record { item = cond t (Data rcb srcb contents) (Long rcb srcb); rest = drop used bytes }))) (le-leb (length contents) 256 fits)
-  spelled-unspells rcb srcb bytes contents (Ok (used, Abort)) ((given_up, begins), none) = begins-spelled rcb srcb bytes given_up used Abort begins
-  spelled-unspells rcb srcb bytes contents (Err (faults.TooLong used)) ((long, begins, over), none) =
+  record_of_spelling-unspells rcb srcb bytes contents (Ok (used, Abort)) ((given_up, begins), none) = begins-spelled rcb srcb bytes given_up used Abort begins
+  record_of_spelling-unspells rcb srcb bytes contents (Err (faults.TooLong used)) ((long, begins, over), none) =
       begins-spelled rcb srcb bytes long used Record begins
       ∙ ap (λ (t : Bool). Ok (Some (record { item = cond t (Data rcb srcb long) (Long rcb srcb); rest = drop used bytes }))) (lt-leb (length long) 256 over)
-  spelled-unspells rcb srcb bytes contents (Err faults.BadScb) (bad, none) = ap (spelled rcb srcb) (only bytes (Err BadScb) bad)
-  spelled-unspells rcb srcb bytes contents (Err faults.Truncated) (cut, none) = ap (spelled rcb srcb) (only bytes (Err Truncated) cut)
+  record_of_spelling-unspells rcb srcb bytes contents (Err faults.BadScb) (bad, none) = ap (record_of_spelling rcb srcb) (only bytes (Err BadScb) bad)
+  record_of_spelling-unspells rcb srcb bytes contents (Err faults.Truncated) (cut, none) = ap (record_of_spelling rcb srcb) (only bytes (Err Truncated) cut)
 
-  pub spelled-left : (rcb srcb : ℕ) (bytes contents : List ℕ) (answer : Result (ℕ × End) RecordFault) → Unspells bytes answer contents → contents ≡ left_by (spelled rcb srcb (unspelled bytes))
-  spelled-left rcb srcb bytes contents answer unspells = left answer unspells ∙ ap left_by (sym (spelled-unspells rcb srcb bytes contents answer unspells))
+  pub record_of_spelling-left : (rcb srcb : ℕ) (bytes contents : List ℕ) (answer : Result (ℕ × End) RecordFault) → Unspells bytes answer contents → contents ≡ contents_after (record_of_spelling rcb srcb (unspelled bytes))
+  record_of_spelling-left rcb srcb bytes contents answer unspells = left answer unspells ∙ ap contents_after (sym (record_of_spelling-unspells rcb srcb bytes contents answer unspells))
     where
-      left : (answer : Result (ℕ × End) RecordFault) → Unspells bytes answer contents → contents ≡ left_by (answered rcb srcb bytes contents answer)
+      left : (answer : Result (ℕ × End) RecordFault) → Unspells bytes answer contents → contents ≡ contents_after (answered rcb srcb bytes contents answer)
       left (Ok (used, Record)) unspells = refl
       left (Ok (used, Abort)) unspells = unspells.1
       left (Err (faults.TooLong used)) unspells = unspells.1

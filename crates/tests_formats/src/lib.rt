@@ -4,7 +4,11 @@
 #[cfg(test)]
 mod bisync_tests;
 #[cfg(test)]
+mod block_tests;
+#[cfg(test)]
 mod ebcdic_tests;
+#[cfg(test)]
+mod header_tests;
 #[cfg(test)]
 mod nmr_tests;
 #[cfg(test)]
