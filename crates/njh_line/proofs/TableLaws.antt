@@ -6,14 +6,16 @@ use Rattle.njh_header.specs.SignOns.{SignOn}
 use Rattle.njh_line.specs.declared.Phase.{Phase}
 use Rattle.njh_line.specs.declared.Phase.TheVariants.{Down, Calling, Answered, SentI, Up}
 use Rattle.njh_line.specs.declared.config.Config.{Config}
+use Rattle.njh_line.specs.declared.config.Role.{Role}
+use Rattle.njh_line.specs.declared.config.Role.TheVariants.{Call, Answer}
 use Rattle.njh_line.specs.declared.counts.Counted.{Counted}
 use Rattle.njh_line.specs.declared.counts.Counted.TheVariants.{Acts, Repeats, OutOfSequence}
 use Rattle.njh_line.specs.declared.session.Session.{Session}
 use Rattle.njh_line.specs.declared.verdict.Reply.{Reply}
 use Rattle.njh_line.specs.declared.verdict.Reply.TheVariants.{Again, Control, Next}
 use Rattle.njh_line.specs.Counts.{after_acting, counted}
-use Rattle.njh_line.specs.Laws.{Stays, acted_after, acted_by, is_acting, is_disregarded, is_up, sets_tries}
-use Rattle.njh_line.specs.LineTable.{Input, Enquiry, Ack0, Nak, Eot, Lost, Tick, Garbled, Spoiled, Bad, Block, accepted, acknowledged, acting, block_came, dropped, enquired, over, quiet, signed_on, ticked, tried, with_reply}
+use Rattle.njh_line.specs.Laws.{Stays, last_bcb_after, last_bcb_by, is_acting, is_disregarded, is_up, sets_tries}
+use Rattle.njh_line.specs.LineTable.{Input, Enquiry, Ack0, Nak, Eot, Lost, Tick, Garbled, Spoiled, Bad, Block, accepted, acknowledged, acting, block_came, called, contacted, dropped, enquired, over, quiet, signed_on, ticked, tried, with_reply}
 use Rattle.njh_line.specs.Openings.{First}
 use Rattle.njh_line.specs.Sessions.{down, entered, in_session}
 use Rattle.njh_line.proofs.CountLaws.{clash}
@@ -23,14 +25,14 @@ use Rattle.njh_line.proofs.CountLaws.{clash}
 try_stays : (five : Bool) (reply : Reply) (s : Session) → five ≡ false
     → Stays s (cond five (over s) (with_reply reply (record s { tries = s.tries + 1 })))
 try_stays true reply s e = clash true refl e
-try_stays false reply s e = record { phase = refl; acted = refl; ended = refl; acts = refl }
+try_stays false reply s e = record { phase = refl; last_bcb = refl; ended = refl; acts = refl }
 
 not_five : (n : ℕ) → n < 5 → (n == 5) ≡ false
 not_five n h = ne_eqb n 5 (λ e. omega arith)
 
 disregarded_stays : (inside : Bool) (reply : Reply) (s : Session) → s.tries < 5 → Stays s (cond inside (tried reply s) (quiet s))
 disregarded_stays true reply s h = try_stays (s.tries == 5) reply s (not_five s.tries h)
-disregarded_stays false reply s h = record { phase = refl; acted = refl; ended = refl; acts = refl }
+disregarded_stays false reply s h = record { phase = refl; last_bcb = refl; ended = refl; acts = refl }
 
 pub stays : (line : Config) (s : Session) (input : Input) → is_disregarded input ≡ true → s.tries < 5 → Stays s (accepted line input s)
 unfolding accepted
@@ -73,9 +75,9 @@ repeated true Repeats line bcb fcs first s e f = refl
 repeated true OutOfSequence line bcb fcs first s e f = absurd (cc)
 
 pub repeat_tries : (line : Config) (s : Session) (bcb : ℕ) (fcs : ℕ × ℕ) (first : First) → in_session s.phase ≡ true
-    → counted s.acted bcb ≡ Repeats → accepted line (Block bcb fcs first) s ≡ tried Again s
+    → counted s.last_bcb bcb ≡ Repeats → accepted line (Block bcb fcs first) s ≡ tried Again s
 unfolding accepted
-repeat_tries line s bcb fcs first e f = repeated (in_session s.phase) (counted s.acted bcb) line bcb fcs first s e f
+repeat_tries line s bcb fcs first e f = repeated (in_session s.phase) (counted s.last_bcb bcb) line bcb fcs first s e f
 
 repeat_moves_nothing : (inside : Bool) (k : Counted) (line : Config) (bcb : ℕ) (fcs : ℕ × ℕ) (first : First) (s : Session) → inside ≡ true
     → k ≡ Repeats → s.tries < 5 → Stays s (cond inside (block_came k line bcb fcs first s) (quiet s))
@@ -85,9 +87,9 @@ repeat_moves_nothing true Repeats line bcb fcs first s e f h = try_stays (s.trie
 repeat_moves_nothing true OutOfSequence line bcb fcs first s e f h = absurd (cc)
 
 pub repeat_stays : (line : Config) (s : Session) (bcb : ℕ) (fcs : ℕ × ℕ) (first : First) → in_session s.phase ≡ true
-    → counted s.acted bcb ≡ Repeats → s.tries < 5 → Stays s (accepted line (Block bcb fcs first) s)
+    → counted s.last_bcb bcb ≡ Repeats → s.tries < 5 → Stays s (accepted line (Block bcb fcs first) s)
 unfolding accepted
-repeat_stays line s bcb fcs first e f h = repeat_moves_nothing (in_session s.phase) (counted s.acted bcb) line bcb fcs first s e f h
+repeat_stays line s bcb fcs first e f h = repeat_moves_nothing (in_session s.phase) (counted s.last_bcb bcb) line bcb fcs first s e f h
 
 -- ---- tries
 
@@ -100,13 +102,13 @@ inside_rises : (inside : Bool) (reply : Reply) (s : Session) → s.tries ≤ (co
 inside_rises true reply s = try_rises (s.tries == 5) reply s
 inside_rises false reply s = omega arith
 
-enquiry_keeps : (p : Phase) (line : Config) (s : Session) → in_session p ≡ true → (enquired p line s).verdict.ended ≡ false
-    → s.tries ≤ (enquired p line s).session.tries
-enquiry_keeps Down line s e f = clash false e refl
-enquiry_keeps Calling line s e f = clash false e refl
-enquiry_keeps Answered line s e f = omega arith
-enquiry_keeps SentI line s e f = omega arith
-enquiry_keeps Up line s e f = clash true refl f
+enquiry_keeps : (p : Phase) (role : Role) (s : Session) → in_session p ≡ true → (enquired p role s).verdict.ended ≡ false
+    → s.tries ≤ (enquired p role s).session.tries
+enquiry_keeps Down role s e f = clash false e refl
+enquiry_keeps Calling role s e f = clash false e refl
+enquiry_keeps Answered role s e f = omega arith
+enquiry_keeps SentI role s e f = omega arith
+enquiry_keeps Up role s e f = clash true refl f
 
 ack_keeps : (p : Phase) (s : Session) → in_session p ≡ true → is_up p ≡ false → s.tries ≤ (acknowledged p s).session.tries
 ack_keeps Down s e f = clash false e refl
@@ -122,17 +124,17 @@ drop_keeps Answered s = omega arith
 drop_keeps SentI s = omega arith
 drop_keeps Up s = omega arith
 
-waiting_keeps : (ours : Bool) (s : Session)
-    → s.tries ≤ (cond ours (with_reply (Next true) s) (tried (Control control.Nak) s)).session.tries
+waiting_keeps : (has_turn : Bool) (s : Session)
+    → s.tries ≤ (cond has_turn (with_reply (Next true) s) (tried (Control control.Nak) s)).session.tries
 waiting_keeps true s = omega arith
 waiting_keeps false s = try_rises (s.tries == 5) _ s
 
-tick_keeps : (p : Phase) (line : Config) (s : Session) → in_session p ≡ true → s.tries ≤ (ticked p line s).session.tries
-tick_keeps Down line s e = clash false e refl
-tick_keeps Calling line s e = clash false e refl
-tick_keeps Answered line s e = try_rises (s.tries == 5) _ s
-tick_keeps SentI line s e = try_rises (s.tries == 5) _ s
-tick_keeps Up line s e = waiting_keeps s.ours s
+tick_keeps : (p : Phase) (role : Role) (s : Session) → in_session p ≡ true → s.tries ≤ (ticked p role s).session.tries
+tick_keeps Down role s e = clash false e refl
+tick_keeps Calling role s e = clash false e refl
+tick_keeps Answered role s e = try_rises (s.tries == 5) _ s
+tick_keeps SentI role s e = try_rises (s.tries == 5) _ s
+tick_keeps Up role s e = waiting_keeps s.has_turn s
 
 block_keeps : (inside : Bool) (k : Counted) (line : Config) (bcb : ℕ) (fcs : ℕ × ℕ) (first : First) (s : Session)
     → is_acting k ≡ false → s.tries ≤ (cond inside (block_came k line bcb fcs first s) (quiet s)).session.tries
@@ -144,69 +146,69 @@ block_keeps true OutOfSequence line bcb fcs first s e = omega arith
 pub tries_stay : (line : Config) (s : Session) (input : Input) → in_session s.phase ≡ true
     → (accepted line input s).verdict.ended ≡ false → sets_tries input s ≡ false → s.tries ≤ (accepted line input s).session.tries
 unfolding accepted
-tries_stay line s Enquiry e f g = enquiry_keeps s.phase line s e f
+tries_stay line s Enquiry e f g = enquiry_keeps s.phase line.role s e f
 tries_stay line s Ack0 e f g = ack_keeps s.phase s e g
 tries_stay line s Nak e f g = inside_rises (in_session s.phase) _ s
 tries_stay line s Eot e f g = drop_keeps s.phase s
 tries_stay line s Lost e f g = drop_keeps s.phase s
-tries_stay line s Tick e f g = tick_keeps s.phase line s e
+tries_stay line s Tick e f g = tick_keeps s.phase line.role s e
 tries_stay line s Garbled e f g = inside_rises (in_session s.phase) _ s
 tries_stay line s Spoiled e f g = inside_rises (in_session s.phase) _ s
 tries_stay line s Bad e f g = inside_rises (in_session s.phase) _ s
-tries_stay line s (Block bcb fcs first) e f g = block_keeps (in_session s.phase) (counted s.acted bcb) line bcb fcs first s g
+tries_stay line s (Block bcb fcs first) e f g = block_keeps (in_session s.phase) (counted s.last_bcb bcb) line bcb fcs first s g
 
 -- ---- the last block acted on
 
 try_acted : (five : Bool) (reply : Reply) (s : Session)
-    → (cond five (over s) (with_reply reply (record s { tries = s.tries + 1 }))).session.acted ≡ s.acted
+    → (cond five (over s) (with_reply reply (record s { tries = s.tries + 1 }))).session.last_bcb ≡ s.last_bcb
 try_acted true reply s = refl
 try_acted false reply s = refl
 
-inside_acted : (inside : Bool) (reply : Reply) (s : Session) → (cond inside (tried reply s) (quiet s)).session.acted ≡ s.acted
+inside_acted : (inside : Bool) (reply : Reply) (s : Session) → (cond inside (tried reply s) (quiet s)).session.last_bcb ≡ s.last_bcb
 inside_acted true reply s = try_acted (s.tries == 5) reply s
 inside_acted false reply s = refl
 
-enquiry_acted : (p : Phase) (line : Config) (s : Session) → in_session p ≡ true → (enquired p line s).verdict.ended ≡ false
-    → (enquired p line s).session.acted ≡ s.acted
-enquiry_acted Down line s e f = clash false e refl
-enquiry_acted Calling line s e f = clash false e refl
-enquiry_acted Answered line s e f = refl
-enquiry_acted SentI line s e f = refl
-enquiry_acted Up line s e f = clash true refl f
+enquiry_acted : (p : Phase) (role : Role) (s : Session) → in_session p ≡ true → (enquired p role s).verdict.ended ≡ false
+    → (enquired p role s).session.last_bcb ≡ s.last_bcb
+enquiry_acted Down role s e f = clash false e refl
+enquiry_acted Calling role s e f = clash false e refl
+enquiry_acted Answered role s e f = refl
+enquiry_acted SentI role s e f = refl
+enquiry_acted Up role s e f = clash true refl f
 
-ack_acted : (p : Phase) (s : Session) → in_session p ≡ true → (acknowledged p s).session.acted ≡ s.acted
+ack_acted : (p : Phase) (s : Session) → in_session p ≡ true → (acknowledged p s).session.last_bcb ≡ s.last_bcb
 ack_acted Down s e = refl
 ack_acted Calling s e = clash false e refl
 ack_acted Answered s e = refl
 ack_acted SentI s e = refl
 ack_acted Up s e = refl
 
-drop_acted : (p : Phase) (s : Session) → (dropped p s).session.acted ≡ s.acted
+drop_acted : (p : Phase) (s : Session) → (dropped p s).session.last_bcb ≡ s.last_bcb
 drop_acted Down s = refl
 drop_acted Calling s = refl
 drop_acted Answered s = refl
 drop_acted SentI s = refl
 drop_acted Up s = refl
 
-waiting_acted : (ours : Bool) (s : Session)
-    → (cond ours (with_reply (Next true) s) (tried (Control control.Nak) s)).session.acted ≡ s.acted
+waiting_acted : (has_turn : Bool) (s : Session)
+    → (cond has_turn (with_reply (Next true) s) (tried (Control control.Nak) s)).session.last_bcb ≡ s.last_bcb
 waiting_acted true s = refl
 waiting_acted false s = try_acted (s.tries == 5) _ s
 
-tick_acted : (p : Phase) (line : Config) (s : Session) → in_session p ≡ true → (ticked p line s).session.acted ≡ s.acted
-tick_acted Down line s e = clash false e refl
-tick_acted Calling line s e = clash false e refl
-tick_acted Answered line s e = try_acted (s.tries == 5) _ s
-tick_acted SentI line s e = try_acted (s.tries == 5) _ s
-tick_acted Up line s e = waiting_acted s.ours s
+tick_acted : (p : Phase) (role : Role) (s : Session) → in_session p ≡ true → (ticked p role s).session.last_bcb ≡ s.last_bcb
+tick_acted Down role s e = clash false e refl
+tick_acted Calling role s e = clash false e refl
+tick_acted Answered role s e = try_acted (s.tries == 5) _ s
+tick_acted SentI role s e = try_acted (s.tries == 5) _ s
+tick_acted Up role s e = waiting_acted s.has_turn s
 
 sign_on_acted : (reply : Reply) (line : Config) (x : Option SignOn) (next : Session)
-    → (signed_on reply line x next).session.acted ≡ next.acted
+    → (signed_on reply line x next).session.last_bcb ≡ next.last_bcb
 sign_on_acted reply line None next = refl
 sign_on_acted reply line (Some x) next = refl
 
 acting_acted : (p : Phase) (line : Config) (first : First) (s next : Session) → in_session p ≡ true
-    → (acting p line first s next).session.acted ≡ next.acted
+    → (acting p line first s next).session.last_bcb ≡ next.last_bcb
 acting_acted Down line first s next e = clash false e refl
 acting_acted Calling line first s next e = clash false e refl
 acting_acted Answered line first s next e = sign_on_acted _ line _ next
@@ -215,46 +217,46 @@ acting_acted Up line first s next e = refl
 
 block_acted : (inside : Bool) (k : Counted) (line : Config) (bcb : ℕ) (fcs : ℕ × ℕ) (first : First) (s : Session)
     → inside ≡ true → in_session s.phase ≡ true
-    → (cond inside (block_came k line bcb fcs first s) (quiet s)).session.acted ≡ acted_by k bcb s.acted
+    → (cond inside (block_came k line bcb fcs first s) (quiet s)).session.last_bcb ≡ last_bcb_by k bcb s.last_bcb
 block_acted false k line bcb fcs first s e f = clash false e refl
 block_acted true Acts line bcb fcs first s e f = acting_acted s.phase line first s (after_acting bcb fcs s) f
 block_acted true Repeats line bcb fcs first s e f = try_acted (s.tries == 5) Again s
 block_acted true OutOfSequence line bcb fcs first s e f = refl
 
 pub last_acted : (line : Config) (s : Session) (input : Input) → in_session s.phase ≡ true
-    → (accepted line input s).verdict.ended ≡ false → (accepted line input s).session.acted ≡ acted_after input s
+    → (accepted line input s).verdict.ended ≡ false → (accepted line input s).session.last_bcb ≡ last_bcb_after input s
 unfolding accepted
-last_acted line s Enquiry e f = enquiry_acted s.phase line s e f
+last_acted line s Enquiry e f = enquiry_acted s.phase line.role s e f
 last_acted line s Ack0 e f = ack_acted s.phase s e
 last_acted line s Nak e f = inside_acted (in_session s.phase) _ s
 last_acted line s Eot e f = drop_acted s.phase s
 last_acted line s Lost e f = drop_acted s.phase s
-last_acted line s Tick e f = tick_acted s.phase line s e
+last_acted line s Tick e f = tick_acted s.phase line.role s e
 last_acted line s Garbled e f = inside_acted (in_session s.phase) _ s
 last_acted line s Spoiled e f = inside_acted (in_session s.phase) _ s
 last_acted line s Bad e f = inside_acted (in_session s.phase) _ s
-last_acted line s (Block bcb fcs first) e f = block_acted (in_session s.phase) (counted s.acted bcb) line bcb fcs first s e e
+last_acted line s (Block bcb fcs first) e f = block_acted (in_session s.phase) (counted s.last_bcb bcb) line bcb fcs first s e e
 
 -- ---- a session begins
 
-contact_afresh : (calls : Bool) (s : Session) → in_session s.phase ≡ false
-    → in_session (cond calls (quiet s) (with_reply (Control control.Ack0) (entered Answered s))).session.phase ≡ true
-    → ((cond calls (quiet s) (with_reply (Control control.Ack0) (entered Answered s))).session.tries ≡ 0)
-    × ((cond calls (quiet s) (with_reply (Control control.Ack0) (entered Answered s))).session.acted ≡ None)
-contact_afresh true s e f = clash _ f e
-contact_afresh false s e f = (refl, refl)
+contact_afresh : (role : Role) (s : Session) → in_session s.phase ≡ false
+    → in_session (contacted role s).session.phase ≡ true
+    → ((contacted role s).session.tries ≡ 0)
+    × ((contacted role s).session.last_bcb ≡ None)
+contact_afresh Call s e f = clash _ f e
+contact_afresh Answer s e f = (refl, refl)
 
-enquiry_afresh : (p : Phase) (line : Config) (s : Session) → in_session s.phase ≡ false
-    → in_session (enquired p line s).session.phase ≡ true
-    → ((enquired p line s).session.tries ≡ 0) × ((enquired p line s).session.acted ≡ None)
-enquiry_afresh Down line s e f = contact_afresh line.calls s e f
-enquiry_afresh Calling line s e f = clash _ f e
-enquiry_afresh Answered line s e f = clash _ f e
-enquiry_afresh SentI line s e f = clash _ f e
-enquiry_afresh Up line s e f = contact_afresh line.calls (down s) refl f
+enquiry_afresh : (p : Phase) (role : Role) (s : Session) → in_session s.phase ≡ false
+    → in_session (enquired p role s).session.phase ≡ true
+    → ((enquired p role s).session.tries ≡ 0) × ((enquired p role s).session.last_bcb ≡ None)
+enquiry_afresh Down role s e f = contact_afresh role s e f
+enquiry_afresh Calling role s e f = clash _ f e
+enquiry_afresh Answered role s e f = clash _ f e
+enquiry_afresh SentI role s e f = clash _ f e
+enquiry_afresh Up role s e f = contact_afresh role (down s) refl f
 
 ack_afresh : (p : Phase) (s : Session) → in_session s.phase ≡ false → in_session (acknowledged p s).session.phase ≡ true
-    → ((acknowledged p s).session.tries ≡ 0) × ((acknowledged p s).session.acted ≡ None)
+    → ((acknowledged p s).session.tries ≡ 0) × ((acknowledged p s).session.last_bcb ≡ None)
 ack_afresh Down s e f = clash _ f e
 ack_afresh Calling s e f = (refl, refl)
 ack_afresh Answered s e f = clash _ f e
@@ -278,23 +280,23 @@ inside_is_out : (inside : Bool) (reply : Reply) (s : Session) → in_session s.p
 inside_is_out true reply s e = try_is_out (s.tries == 5) reply s e
 inside_is_out false reply s e = e
 
-call_is_out : (calls : Bool) (s : Session) → in_session s.phase ≡ false
-    → in_session (cond calls (with_reply (Control control.Enquiry) (record s { phase = Calling })) (quiet s)).session.phase ≡ false
-call_is_out true s e = refl
-call_is_out false s e = e
+call_is_out : (role : Role) (s : Session) → in_session s.phase ≡ false
+    → in_session (called role s).session.phase ≡ false
+call_is_out Call s e = refl
+call_is_out Answer s e = e
 
-waiting_is_out : (ours : Bool) (s : Session) → in_session s.phase ≡ false
-    → in_session (cond ours (with_reply (Next true) s) (tried (Control control.Nak) s)).session.phase ≡ false
+waiting_is_out : (has_turn : Bool) (s : Session) → in_session s.phase ≡ false
+    → in_session (cond has_turn (with_reply (Next true) s) (tried (Control control.Nak) s)).session.phase ≡ false
 waiting_is_out true s e = e
 waiting_is_out false s e = try_is_out (s.tries == 5) _ s e
 
-tick_is_out : (p : Phase) (line : Config) (s : Session) → in_session s.phase ≡ false
-    → in_session (ticked p line s).session.phase ≡ false
-tick_is_out Down line s e = call_is_out line.calls s e
-tick_is_out Calling line s e = e
-tick_is_out Answered line s e = try_is_out (s.tries == 5) _ s e
-tick_is_out SentI line s e = try_is_out (s.tries == 5) _ s e
-tick_is_out Up line s e = waiting_is_out s.ours s e
+tick_is_out : (p : Phase) (role : Role) (s : Session) → in_session s.phase ≡ false
+    → in_session (ticked p role s).session.phase ≡ false
+tick_is_out Down role s e = call_is_out role s e
+tick_is_out Calling role s e = e
+tick_is_out Answered role s e = try_is_out (s.tries == 5) _ s e
+tick_is_out SentI role s e = try_is_out (s.tries == 5) _ s e
+tick_is_out Up role s e = waiting_is_out s.has_turn s e
 
 block_is_out : (inside : Bool) (k : Counted) (line : Config) (bcb : ℕ) (fcs : ℕ × ℕ) (first : First) (s : Session)
     → inside ≡ false → in_session s.phase ≡ false
@@ -304,16 +306,16 @@ block_is_out false k line bcb fcs first s e f = f
 
 pub afresh : (line : Config) (s : Session) (input : Input) → in_session s.phase ≡ false
     → in_session (accepted line input s).session.phase ≡ true
-    → ((accepted line input s).session.tries ≡ 0) × ((accepted line input s).session.acted ≡ None)
+    → ((accepted line input s).session.tries ≡ 0) × ((accepted line input s).session.last_bcb ≡ None)
 unfolding accepted
-afresh line s Enquiry e f = enquiry_afresh s.phase line s e f
+afresh line s Enquiry e f = enquiry_afresh s.phase line.role s e f
 afresh line s Ack0 e f = ack_afresh s.phase s e f
 afresh line s Nak e f = clash _ f (inside_is_out (in_session s.phase) _ s e)
 afresh line s Eot e f = clash _ f (drop_is_out s.phase s e)
 afresh line s Lost e f = clash _ f (drop_is_out s.phase s e)
-afresh line s Tick e f = clash _ f (tick_is_out s.phase line s e)
+afresh line s Tick e f = clash _ f (tick_is_out s.phase line.role s e)
 afresh line s Garbled e f = clash _ f (inside_is_out (in_session s.phase) _ s e)
 afresh line s Spoiled e f = clash _ f (inside_is_out (in_session s.phase) _ s e)
 afresh line s Bad e f = clash _ f (inside_is_out (in_session s.phase) _ s e)
 afresh line s (Block bcb fcs first) e f =
-    clash _ f (block_is_out (in_session s.phase) (counted s.acted bcb) line bcb fcs first s e e)
+    clash _ f (block_is_out (in_session s.phase) (counted s.last_bcb bcb) line bcb fcs first s e e)

@@ -27,12 +27,12 @@ is_repeat None bcb = false
 is_repeat (Some b) bcb = b == bcb
 
 abbrev pub counted : Option ℕ → ℕ → Counted
-counted acted bcb =
+counted last_bcb bcb =
     cond (bcb_type bcb == 1) Acts
-    (cond (is_repeat acted bcb) Repeats
+    (cond (is_repeat last_bcb bcb) Repeats
     (cond (bcb_type bcb == 2) Acts
-    (cond (is_taken acted (bcb_count bcb)) Acts OutOfSequence)))
+    (cond (is_taken last_bcb (bcb_count bcb)) Acts OutOfSequence)))
 
 -- a session once a block is acted on
 abbrev pub after_acting : ℕ → ℕ × ℕ → Session → Session
-after_acting bcb fcs s = record s { tries = 0; acted = cond (bcb_type bcb == 1) s.acted (Some bcb); peer = fcs }
+after_acting bcb fcs s = record s { tries = 0; last_bcb = cond (bcb_type bcb == 1) s.last_bcb (Some bcb); peer_fcs = fcs }

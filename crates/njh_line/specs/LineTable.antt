@@ -5,6 +5,8 @@ use Rattle.njh_header.specs.SignOns.{SignOn}
 use Rattle.njh_line.specs.declared.Phase.{Phase}
 use Rattle.njh_line.specs.declared.Phase.TheVariants.{Down, Calling, Answered, SentI, Up}
 use Rattle.njh_line.specs.declared.config.Config.{Config}
+use Rattle.njh_line.specs.declared.config.Role.{Role}
+use Rattle.njh_line.specs.declared.config.Role.TheVariants.{Call, Answer}
 use Rattle.njh_line.specs.declared.counts.Counted.{Counted}
 use Rattle.njh_line.specs.declared.counts.Counted.TheVariants.{Acts, Repeats, OutOfSequence}
 use Rattle.njh_line.specs.declared.input.Input as declared_input
@@ -66,19 +68,20 @@ abbrev pub tried_in_session : Reply → Session → Outcome
 tried_in_session reply s = cond (in_session s.phase) (tried reply s) (quiet s)
 
 -- a peer calls: the end that answers enters a session
-abbrev pub contacted : Config → Session → Outcome
-contacted line s = cond line.calls (quiet s) (with_reply (Control control.Ack0) (entered Answered s))
+abbrev pub contacted : Role → Session → Outcome
+contacted Call s = quiet s
+contacted Answer s = with_reply (Control control.Ack0) (entered Answered s)
 
 -- the session before is over
 abbrev pub ending : Outcome → Outcome
 ending x = record { session = x.session; verdict = record { ended = true; acts = x.verdict.acts; reply = x.verdict.reply } }
 
-abbrev pub enquired : Phase → Config → Session → Outcome
-enquired Down line s = contacted line s
-enquired Calling line s = quiet s
-enquired Answered line s = with_reply (Control control.Ack0) s
-enquired SentI line s = quiet s
-enquired Up line s = ending (contacted line (down s))
+abbrev pub enquired : Phase → Role → Session → Outcome
+enquired Down role s = contacted role s
+enquired Calling role s = quiet s
+enquired Answered role s = with_reply (Control control.Ack0) s
+enquired SentI role s = quiet s
+enquired Up role s = ending (contacted role (down s))
 
 abbrev pub acknowledged : Phase → Session → Outcome
 acknowledged Down s = quiet s
@@ -95,18 +98,19 @@ dropped SentI s = quiet (down s)
 dropped Up s = over s
 
 -- a call, by the end that calls
-abbrev pub called : Config → Session → Outcome
-called line s = cond line.calls (with_reply (Control control.Enquiry) (record s { phase = Calling })) (quiet s)
+abbrev pub called : Role → Session → Outcome
+called Call s = with_reply (Control control.Enquiry) (record s { phase = Calling })
+called Answer s = quiet s
 
 abbrev pub waited : Session → Outcome
-waited s = cond s.ours (with_reply (Next true) s) (tried (Control control.Nak) s)
+waited s = cond s.has_turn (with_reply (Next true) s) (tried (Control control.Nak) s)
 
-abbrev pub ticked : Phase → Config → Session → Outcome
-ticked Down line s = called line s
-ticked Calling line s = with_reply (Control control.Enquiry) s
-ticked Answered line s = tried (Control control.Nak) s
-ticked SentI line s = tried (Control control.Nak) s
-ticked Up line s = waited s
+abbrev pub ticked : Phase → Role → Session → Outcome
+ticked Down role s = called role s
+ticked Calling role s = with_reply (Control control.Enquiry) s
+ticked Answered role s = tried (Control control.Nak) s
+ticked SentI role s = tried (Control control.Nak) s
+ticked Up role s = waited s
 
 -- a sign-on came, or none that fits
 abbrev pub signed_on : Reply → Config → Option SignOn → Session → Outcome
@@ -125,17 +129,17 @@ acting Up line first s next = record { session = next; verdict = record { ended 
 abbrev pub block_came : Counted → Config → ℕ → ℕ × ℕ → First → Session → Outcome
 block_came Acts line bcb fcs first s = acting s.phase line first s (after_acting bcb fcs s)
 block_came Repeats line bcb fcs first s = tried Again s
-block_came OutOfSequence line bcb fcs first s = over_with (Sequence (0x80 + expected s.acted)) s
+block_came OutOfSequence line bcb fcs first s = over_with (Sequence (0x80 + expected s.last_bcb)) s
 
 -- the table: a row an input
 unfoldable pub accepted : Config → Input → Session → Outcome
-accepted line Enquiry s = enquired s.phase line s
+accepted line Enquiry s = enquired s.phase line.role s
 accepted line Ack0 s = acknowledged s.phase s
 accepted line Nak s = tried_in_session Again s
 accepted line Eot s = dropped s.phase s
 accepted line Lost s = dropped s.phase s
-accepted line Tick s = ticked s.phase line s
+accepted line Tick s = ticked s.phase line.role s
 accepted line Garbled s = tried_in_session (Control control.Nak) s
 accepted line Spoiled s = tried_in_session (Control control.Nak) s
 accepted line Bad s = tried_in_session (Control control.Nak) s
-accepted line (Block bcb fcs first) s = cond (in_session s.phase) (block_came (counted s.acted bcb) line bcb fcs first s) (quiet s)
+accepted line (Block bcb fcs first) s = cond (in_session s.phase) (block_came (counted s.last_bcb bcb) line bcb fcs first s) (quiet s)

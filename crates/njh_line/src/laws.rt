@@ -6,7 +6,7 @@ ghost use Rattle.njh_line.specs.declared.counts.Counted.TheVariants.{Acts, Repea
 ghost use Rattle.njh_line.specs.declared.session.Session.{Session};
 ghost use Rattle.njh_line.specs.declared.verdict.Reply.TheVariants.{Again};
 ghost use Rattle.njh_line.specs.Counts.{bcb_count, bcb_type, counted, is_taken};
-ghost use Rattle.njh_line.specs.Laws.{KeepsQueues, Stays, acted_after, is_disregarded, sets_tries};
+ghost use Rattle.njh_line.specs.Laws.{KeepsQueues, Stays, last_bcb_after, is_disregarded, sets_tries};
 ghost use Rattle.njh_line.specs.LineTable.{Block, Input, accepted, over, tried};
 ghost use Rattle.njh_line.specs.Lines.{LineState, after_input};
 ghost use Rattle.njh_line.specs.Openings.{First};
@@ -25,10 +25,10 @@ pub fn disregarded_changes_nothing()
 /// and it always does.
 pub fn repeats_are_tries()
     ensures tries { (line : Config) (s : Session) (bcb : ℕ) (fcs : ℕ × ℕ) (first : First) → in_session s.phase ≡ true
-        → counted s.acted bcb ≡ Repeats → accepted line (Block bcb fcs first) s ≡ tried Again s }
+        → counted s.last_bcb bcb ≡ Repeats → accepted line (Block bcb fcs first) s ≡ tried Again s }
     ensures stays { (line : Config) (s : Session) (bcb : ℕ) (fcs : ℕ × ℕ) (first : First) → in_session s.phase ≡ true
-        → counted s.acted bcb ≡ Repeats → s.tries < 5 → Stays s (accepted line (Block bcb fcs first) s) }
-    ensures same { (acted : Option ℕ) (bcb : ℕ) → counted acted bcb ≡ Repeats → acted ≡ Some bcb }
+        → counted s.last_bcb bcb ≡ Repeats → s.tries < 5 → Stays s (accepted line (Block bcb fcs first) s) }
+    ensures same { (last_bcb : Option ℕ) (bcb : ℕ) → counted last_bcb bcb ≡ Repeats → last_bcb ≡ Some bcb }
     ensures always { (bcb : ℕ) → (bcb_type bcb == 1) ≡ false → counted (Some bcb) bcb ≡ Repeats }
 {}
 
@@ -41,7 +41,7 @@ pub fn tries_stay()
 /// Within a session the counts taken are those of the BCB of the last block acted on whose count isn't unchecked, and of nothing else.
 pub fn counts_are_of_the_last_block()
     ensures kept { (line : Config) (s : Session) (input : Input) → in_session s.phase ≡ true → (accepted line input s).verdict.ended ≡ false
-        → (accepted line input s).session.acted ≡ acted_after input s }
+        → (accepted line input s).session.last_bcb ≡ last_bcb_after input s }
     ensures at_first { (k : ℕ) → is_taken None k ≡ ((k == 0) || (k == 1)) }
     ensures set { (bcb k : ℕ) → bcb_type bcb ≡ 2
         → is_taken (Some bcb) k ≡ ((k == bcb_count bcb) || (k == (bcb_count bcb + 1) % 16)) }
@@ -51,5 +51,5 @@ pub fn counts_are_of_the_last_block()
 /// A session begins with no tries, and before any block.
 pub fn sessions_begin_afresh()
     ensures { (line : Config) (s : Session) (input : Input) → in_session s.phase ≡ false → in_session (accepted line input s).session.phase ≡ true
-        → ((accepted line input s).session.tries ≡ 0) × ((accepted line input s).session.acted ≡ None) }
+        → ((accepted line input s).session.tries ≡ 0) × ((accepted line input s).session.last_bcb ≡ None) }
 {}

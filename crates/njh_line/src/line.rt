@@ -51,7 +51,7 @@ impl Line {
     ghost use Rattle.std.specs.Prelude.{◌≡◌, ◌≤◌, IfOk, length, nat_lt, option_map, slice_get};
     ghost use Rattle.njh_line.specs.Sessions.{IsConfig, IsSession};
     ghost use Rattle.njh_line.specs.LineTable.{accepted, shown};
-    ghost use Rattle.njh_line.specs.Lines.{IsShort, after_end, after_input, after_sending, answered, fresh_line, shown_sent, waits, without_answer, without_answers, without_message};
+    ghost use Rattle.njh_line.specs.Lines.{IsShort, after_end, after_input, after_sending, with_answer, fresh_line, shown_sent, with_message, without_answer, without_answers, without_message};
 
     /// A line that is down, with room for all that may wait and for the longest frame. Want of memory is the only refusal, and no
     /// other call takes any.
@@ -92,17 +92,17 @@ impl Line {
         ensures { self.new ≡ after_sending (shown_sent sent.now) self.old }
     {
         match sent {
-            Sent::Nothing => self.session.ours = true,
-            Sent::Nak | Sent::Again => self.session.ours = false,
+            Sent::Nothing => self.session.has_turn = true,
+            Sent::Nak | Sent::Again => self.session.has_turn = false,
             Sent::Frame(frame) => {
                 keep(&mut self.last, frame);
-                self.session.ours = false;
+                self.session.has_turn = false;
             }
-            Sent::Text { frame, fcs } => {
+            Sent::Block { frame, fcs } => {
                 keep(&mut self.last, frame);
-                self.session.ours = false;
-                self.session.own = *fcs;
-                self.session.count = (self.session.count + 1) % COUNTS;
+                self.session.has_turn = false;
+                self.session.own_fcs = *fcs;
+                self.session.next_count = (self.session.next_count + 1) % COUNTS;
             }
         }
     }
@@ -130,9 +130,9 @@ impl Line {
     }
 
     /// Lets an answer wait behind the others, where fewer than 32 wait. Otherwise it is dropped.
-    pub fn answer(&mut self, answer: Answer) -> bool
+    pub fn push_answer(&mut self, answer: Answer) -> bool
         ensures room { result ≡ nat_lt (length self.old.answers) 32 }
-        ensures line { self.new ≡ answered answer self.old }
+        ensures line { self.new ≡ with_answer answer self.old }
     {
         self.answers.try_push_back(answer).is_ok()
     }
@@ -157,9 +157,9 @@ impl Line {
     }
 
     /// Lets a nodal message wait behind the others, where fewer than 64 wait. Otherwise it is dropped.
-    pub fn message(&mut self, message: &Record) -> bool
+    pub fn push_message(&mut self, message: &Record) -> bool
         ensures room { result ≡ nat_lt (length self.old.messages) 64 }
-        ensures line { self.new ≡ waits message.now.items self.old }
+        ensures line { self.new ≡ with_message message.now.items self.old }
     {
         if self.messages.is_full() {
             return false;

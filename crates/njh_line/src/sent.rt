@@ -9,6 +9,6 @@ pub enum Sent<'a> {
     Nothing,
     Nak,
     Again,
-    Text { frame: &'a [u8], fcs: Fcs },
+    Block { frame: &'a [u8], fcs: Fcs },
     Frame(&'a [u8]),
 }

@@ -16,12 +16,12 @@ pub(crate) const LEAST_SIZE: u16 = 300;
 pub struct Session {
     pub phase: Phase,
     pub tries: u8,
-    pub ours: bool,
-    pub acted: Option<Bcb>,
-    pub count: u8,
+    pub has_turn: bool,
+    pub last_bcb: Option<Bcb>,
+    pub next_count: u8,
     pub size: u16,
-    pub peer: Fcs,
-    pub own: Fcs,
+    pub peer_fcs: Fcs,
+    pub own_fcs: Fcs,
 }
 
 impl Session {
@@ -32,12 +32,12 @@ impl Session {
         Session {
             phase: Phase::Down,
             tries: 0,
-            ours: false,
-            acted: None,
-            count: 0,
+            has_turn: false,
+            last_bcb: None,
+            next_count: 0,
             size: LEAST_SIZE,
-            peer: Fcs::nothing_suspended(),
-            own: Fcs::nothing_suspended(),
+            peer_fcs: Fcs::nothing_suspended(),
+            own_fcs: Fcs::nothing_suspended(),
         }
     }
 
@@ -48,10 +48,10 @@ impl Session {
         Session {
             phase,
             tries: 0,
-            ours: false,
-            acted: None,
-            count: 0,
-            own: Fcs::nothing_suspended(),
+            has_turn: false,
+            last_bcb: None,
+            next_count: 0,
+            own_fcs: Fcs::nothing_suspended(),
             ..self
         }
     }

@@ -7,7 +7,7 @@ ghost use Rattle.njh_line.specs.Counts.{after_acting, counted};
 ghost use Rattle.njh_line.specs.Openings.{shown_first};
 
 use crate::Phase::{Answered, Calling, Down, SentI, Up};
-use crate::config::Config;
+use crate::config::{Config, Role};
 use crate::counts::Counted;
 use crate::input::Input::{
     self, Ack0, Bad, Block, Enquiry, Eot, Garbled, Lost, Nak, Spoiled, Tick,
@@ -38,7 +38,7 @@ const NEXT_BLOCK_OR_TURN: Reply = Reply::Next { or_ack0: false };
 
 /// The session after an input, and what the input does.
 #[derive(Clone, Copy, Debug, PartialEq, Eq)]
-pub struct Outcome {
+pub(crate) struct Outcome {
     pub session: Session,
     pub verdict: Verdict,
 }
@@ -136,12 +136,12 @@ fn tried(session: Session, reply: Reply) -> Outcome
 
 /// A peer calls: the end that answers enters a session.
 fn contacted(config: &Config, session: Session) -> Outcome
-    ensures { result ≡ contacted config.now session }
+    ensures { result ≡ contacted config.now.role session }
 {
-    if config.calls {
-        return quiet(session);
+    match config.role {
+        Role::Call => quiet(session),
+        Role::Answer => with_reply(session.entered(Answered), ACK_0),
     }
-    with_reply(session.entered(Answered), ACK_0)
 }
 
 /// What ended a session that was up may begin another.
@@ -159,18 +159,18 @@ fn ending(outcome: Outcome) -> Outcome
 
 /// Only the end that calls does so.
 fn called(config: &Config, session: Session) -> Outcome
-    ensures { result ≡ called config.now session }
+    ensures { result ≡ called config.now.role session }
 {
-    if !config.calls {
-        return quiet(session);
+    match config.role {
+        Role::Call => with_reply(
+            Session {
+                phase: Calling,
+                ..session
+            },
+            ENQUIRY,
+        ),
+        Role::Answer => quiet(session),
     }
-    with_reply(
-        Session {
-            phase: Calling,
-            ..session
-        },
-        ENQUIRY,
-    )
 }
 
 /// A tick while the line is up.
@@ -179,7 +179,7 @@ fn waited(session: Session) -> Outcome
     ensures outcome { result ≡ waited session }
     ensures kept { IsSession result.session }
 {
-    if session.ours {
+    if session.has_turn {
         return with_reply(session, NEXT_BLOCK);
     }
     tried(session, NAK)
@@ -195,7 +195,7 @@ fn block_came(
 ) -> Outcome
     requires config { IsConfig config.now }
     requires session { IsSession session }
-    ensures outcome { result ≡ block_came (counted session.acted bcb) config.now bcb fcs (shown_first first.entry) session }
+    ensures outcome { result ≡ block_came (counted session.last_bcb bcb) config.now bcb fcs (shown_first first.entry) session }
     ensures kept { IsSession result.session }
 {
     match session.counted(bcb) {

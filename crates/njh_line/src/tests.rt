@@ -33,11 +33,11 @@ static METZ: [u8; 40] = *b"\x29\
     \x40\x40\x40\x40\x40\x40\x40\x40\
     \0\0\0\0\0\0";
 
-fn line(alloc: Global, calls: bool, password: Option<Name>) -> Result<Line, Fail> {
+fn line(alloc: Global, role: Role, password: Option<Name>) -> Result<Line, Fail> {
     let config = Config {
         hub: Name::of_text("BUREAU")?,
         node: Name::of_text("LYON")?,
-        calls,
+        role,
         block: 1024,
         password,
     };
@@ -100,7 +100,7 @@ fn sign_on(kind: Opening, bytes: &[u8]) -> Input<'_> {
 
 /// An answering line that is signed on, its J block sent.
 fn signed_on(rt: &impl Abort, alloc: Global) -> Result<Line, Fail> {
-    let mut line = line(alloc, false, None)?;
+    let mut line = line(alloc, Role::Answer, None)?;
     expect(
         rt,
         &mut line,
@@ -202,7 +202,7 @@ fn is_garbled_and_lost(rt: HostRuntime) -> Result<(), Fail> {
 
 /// A calling line that sent its I block.
 fn sent_i(rt: &impl Abort, alloc: Global) -> Result<Line, Fail> {
-    let mut line = line(alloc, true, None)?;
+    let mut line = line(alloc, Role::Call, None)?;
     expect(
         rt,
         &mut line,
@@ -275,7 +275,7 @@ fn refuses_sign_ons(rt: HostRuntime) -> Result<(), Fail> {
         nothing,
         Phase::Down,
     );
-    let mut answerer = line(rt.alloc(), false, Some(Name::of_text("SECRET")?))?;
+    let mut answerer = line(rt.alloc(), Role::Answer, Some(Name::of_text("SECRET")?))?;
     expect(
         &rt,
         &mut answerer,
@@ -305,13 +305,13 @@ fn takes_turns(rt: HostRuntime) -> Result<(), Fail> {
     );
     line.sent(&Sent::Nothing);
     expect(&rt, &mut line, &Input::Tick, replies(NEXT), Phase::Up);
-    let text = Sent::Text {
+    let text = Sent::Block {
         frame: b"\x10\x02\x80\x8f\xcf\x00\x10\x26",
         fcs: Fcs::streams_suspended(),
     };
     line.sent(&text);
-    assert_eq!(rt; line.session().count, 1);
-    assert_eq!(rt; line.session().own, Fcs::streams_suspended());
+    assert_eq!(rt; line.session().next_count, 1);
+    assert_eq!(rt; line.session().own_fcs, Fcs::streams_suspended());
     expect(&rt, &mut line, &Input::Tick, replies(NAK), Phase::Up);
     line.end();
     assert_eq!(rt; line.session().phase, Phase::Down);
@@ -328,11 +328,11 @@ fn permission(byte: u8) -> Answer {
 
 #[test]
 fn keeps_what_waits(rt: HostRuntime) -> Result<(), Fail> {
-    let mut line = line(rt.alloc(), false, None)?;
+    let mut line = line(rt.alloc(), Role::Answer, None)?;
     for byte in 0..32 {
-        assert!(rt; line.answer(permission(byte)));
+        assert!(rt; line.push_answer(permission(byte)));
     }
-    assert!(rt; !line.answer(permission(32)));
+    assert!(rt; !line.push_answer(permission(32)));
     assert_eq!(rt; line.pop_answer(), Some(permission(0)));
     assert_eq!(rt; line.front_answer(), Some(permission(1)));
     line.clear_answers();
@@ -341,11 +341,11 @@ fn keeps_what_waits(rt: HostRuntime) -> Result<(), Fail> {
     let mut message = Record::new();
     message.clear();
     for _ in 0..64 {
-        assert!(rt; line.message(&message));
+        assert!(rt; line.push_message(&message));
     }
-    assert!(rt; !line.message(&message));
+    assert!(rt; !line.push_message(&message));
     assert!(rt; line.front_message().is_some());
     assert!(rt; line.pop_message().is_some());
-    assert!(rt; line.message(&message));
+    assert!(rt; line.push_message(&message));
     Ok(())
 }
