@@ -8,9 +8,9 @@ ghost use Rattle.njh_line.specs.Lines.{Block, after_sending};
 ghost use Rattle.njh_line.specs.Openings.{opening};
 ghost use Rattle.njh_hub.specs.Sending.{all_on, filled, next_block, own_block, replies, sends_block, sends_control, sends_frame, with_left};
 
-use njh_bisync::{Control, put_control, put_text};
+use njh_bisync::{Control, LONGEST_FRAME, put_control, put_text};
 use njh_block::{Bcb, BlockWriter, ControlRcb, Fcs, Out, Rcb};
-use njh_line::{LONGEST_FRAME, Line, Opening, Reply, Sent};
+use njh_line::{Line, Opening, Reply, Sent};
 
 /// The SRCB of a nodal message that the hub writes.
 const MESSAGE_SRCB: u8 = 0x80;

@@ -1,7 +1,7 @@
 use Rattle.std.proofs.Common.{ap, ◌∙◌, arith}
 use Rattle.njh_nmr.specs.Nodal.{is_user_command}
 use Rattle.njh_nmr.proofs.Flags.{both_bits}
-use Rattle.njh_nmr.proofs.nmr.Nmr.command.Goals as goal
+use Rattle.njh_nmr.proofs.nmr.Nmr.is_user_command.Goals as goal
 
 pub returns-then-self-ne0 : goal.returns-then-self-ne0
 returns-then-self-ne0 c =
