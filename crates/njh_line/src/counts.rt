@@ -11,9 +11,12 @@ pub(crate) const COUNTS: u8 = 16;
 
 /// What a block does by its BCB.
 #[derive(Clone, Copy, Debug, PartialEq, Eq)]
-pub enum Counted {
+pub(crate) enum Counted {
+    /// It is acted on.
     Acts,
+    /// It is the last one again.
     Repeats,
+    /// Its count isn't one of those taken.
     OutOfSequence,
 }
 
