@@ -14,6 +14,7 @@ use Rattle.njh_line.specs.Openings.{First}
 use Rattle.njh_line.specs.Sessions.{in_session}
 use Rattle.njh_line.proofs.CountLaws.{clash}
 
+-- The count rule before the cells of a session is the count rule in each.
 in_row : (p : Phase) (k : Counted) (before before' down calling answered sent_i up again sequence : Outcome) → in_session p ≡ true →
     elim k [ Acts ↦ cell p before before' answered sent_i up | Repeats ↦ again | OutOfSequence ↦ sequence ]
     ≡ cell p down calling
@@ -53,7 +54,8 @@ pub repeats : (line : Config) (bcb : ℕ) (fcs : ℕ × ℕ) (first : First) (s 
 unfolding accepted
 repeats line bcb fcs first s e f =
     let k = counted s.last_bcb bcb in
-    where_repeats k (acting line first (after_acting bcb fcs s)) _ (end_with (Sequence (0x80 + expected s.last_bcb)) s) f ∙ in_row s.phase k _ _ _ _ _ _ _ _ _ e
+    where_repeats k (acting line first (after_acting bcb fcs s)) _ (end_with (Sequence (0x80 + expected s.last_bcb)) s) f
+    ∙ in_row s.phase k _ _ _ _ _ _ _ _ _ e
 
 pub is_out_of_sequence : (line : Config) (bcb : ℕ) (fcs : ℕ × ℕ) (first : First) (s : Session) → in_session s.phase ≡ true →
     counted s.last_bcb bcb ≡ OutOfSequence → end_with (Sequence (0x80 + expected s.last_bcb)) s ≡ accepted line (Block bcb fcs first) s

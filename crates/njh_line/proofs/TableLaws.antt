@@ -16,7 +16,8 @@ use Rattle.njh_line.specs.declared.verdict.Reply.{Reply}
 use Rattle.njh_line.specs.declared.verdict.Reply.TheVariants.{Again, Control, Next, Sequence}
 use Rattle.njh_line.specs.Counts.{after_acting, counted, expected}
 use Rattle.njh_line.specs.Laws.{MovesTriesAlone, is_acting, is_disregarded, is_up, last_bcb_after, last_bcb_by, sets_tries}
-use Rattle.njh_line.specs.LineTable.{Input, Enquiry, Ack0, Nak, Eot, Lost, Tick, Garbled, Spoiled, Bad, Block, accepted, act, by_count, call, cell, contact, end, end_with, i_sign_on, j_sign_on, none, signed_on, try_again, try_with, with_reply}
+use Rattle.njh_line.specs.LineTable.{Input, Enquiry, Ack0, Nak, Eot, Lost, Tick, Garbled, Spoiled, Bad, Block}
+use Rattle.njh_line.specs.LineTable.{accepted, act, by_count, call, cell, contact, end, end_with, i_sign_on, j_sign_on, none, signed_on, try_again, try_with, with_reply}
 use Rattle.njh_line.specs.Openings.{First}
 use Rattle.njh_line.specs.Sessions.{down, in_session}
 use Rattle.njh_line.proofs.CountLaws.{clash}
@@ -65,7 +66,8 @@ disregarded p reply s h =
     let try = try_moves (s.tries == 5) reply s (not_five s.tries h) in
     every (λ q x. MovesTriesAlone s x) p _ _ _ _ _ nothing nothing try try try
 
-pub stays : (line : Config) (s : Session) (input : Input) → is_disregarded input ≡ true → s.tries < 5 → MovesTriesAlone s (accepted line input s)
+pub stays : (line : Config) (s : Session) (input : Input) → is_disregarded input ≡ true → s.tries < 5
+    → MovesTriesAlone s (accepted line input s)
 unfolding accepted
 stays line s Enquiry e h = clash false e refl
 stays line s Ack0 e h = clash false e refl
@@ -110,7 +112,8 @@ repeat_tries line s bcb fcs first e f = sym (rows.repeats line bcb fcs first s e
 pub repeat_stays : (line : Config) (s : Session) (bcb : ℕ) (fcs : ℕ × ℕ) (first : First) → in_session s.phase ≡ true
     → counted s.last_bcb bcb ≡ Repeats → s.tries < 5 → MovesTriesAlone s (accepted line (Block bcb fcs first) s)
 repeat_stays line s bcb fcs first e f h =
-    subst (λ (x : Outcome). MovesTriesAlone s x) (rows.repeats line bcb fcs first s e f) (try_moves (s.tries == 5) Again s (not_five s.tries h))
+    subst (λ (x : Outcome). MovesTriesAlone s x) (rows.repeats line bcb fcs first s e f)
+    (try_moves (s.tries == 5) Again s (not_five s.tries h))
 
 -- ---- tries
 
@@ -144,7 +147,8 @@ unfolding accepted
 tries_stay line s Enquiry e f g =
     inside (λ q x. KeepsTries s x) s.phase _ _ _ _ _ e (λ h. omega arith) (λ h. omega arith) (λ h. clash true refl h) f
 tries_stay line s Ack0 e f g =
-    inside (λ q x. is_up q ≡ false → s.tries ≤ x.session.tries) s.phase _ _ _ _ _ e (λ h. omega arith) (λ h. omega arith) (λ h. clash true refl h) g
+    inside (λ q x. is_up q ≡ false → s.tries ≤ x.session.tries) s.phase _ _ _ _ _ e
+    (λ h. omega arith) (λ h. omega arith) (λ h. clash true refl h) g
 tries_stay line s Nak e f g = trying_keeps s.phase _ s e f
 tries_stay line s Eot e f g =
     inside (λ q x. s.tries ≤ x.session.tries) s.phase _ _ _ _ _ e (omega arith) (omega arith) (omega arith)
@@ -171,7 +175,8 @@ tries_stay line s (Block bcb fcs first) e f g =
 abbrev KeepsLast : Session → Outcome → Type 0
 KeepsLast s x = x.session.last_bcb ≡ s.last_bcb
 
-try_last : (five : Bool) (reply : Reply) (s : Session) → KeepsLast s (cond five (end s) (with_reply reply (record s { tries = s.tries + 1 })))
+try_last : (five : Bool) (reply : Reply) (s : Session)
+    → KeepsLast s (cond five (end s) (with_reply reply (record s { tries = s.tries + 1 })))
 try_last true reply s = refl
 try_last false reply s = refl
 
@@ -189,7 +194,8 @@ sign_on_last : (reply : Reply) (line : Config) (x : Option SignOn) (next : Sessi
 sign_on_last reply line None next = refl
 sign_on_last reply line (Some x) next = refl
 
-count_last : (k : Counted) (acted : Outcome) (reply : Reply) (bcb : ℕ) (fcs : ℕ × ℕ) (s : Session) → KeepsLast (after_acting bcb fcs s) acted
+count_last : (k : Counted) (acted : Outcome) (reply : Reply) (bcb : ℕ) (fcs : ℕ × ℕ) (s : Session)
+    → KeepsLast (after_acting bcb fcs s) acted
     → (elim k as (λ x. Outcome) [ Acts ↦ acted | Repeats ↦ try_again s | OutOfSequence ↦ end_with reply s ]).session.last_bcb
     ≡ last_bcb_by k bcb s.last_bcb
 count_last Acts acted reply bcb fcs s e = e

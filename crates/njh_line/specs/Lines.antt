@@ -1,7 +1,9 @@
 -- A line: its session, the last frame that it sent, NAKs aside, and what waits to be sent.
 use Rattle.std.specs.Prelude.{ℕ, ◌+◌, ◌%◌, ◌≤◌, true, false, List, [], ◌∷◌, ◌++◌, length, drop, nat_lt, cond}
+use Rattle.njh_bisync.specs.declared.frame.TheConstants.{LONGEST_FRAME}
 use Rattle.njh_line.specs.declared.config.Config.{Config}
 use Rattle.njh_block.specs.declared.answer.Answer.{Answer}
+use Rattle.njh_line.specs.declared.line.TheConstants.{ANSWERS, MESSAGES}
 use Rattle.njh_line.specs.declared.sent.Sent as declared_sent
 use Rattle.njh_line.specs.declared.sent.Sent.TheVariants as went
 use Rattle.njh_line.specs.declared.session.Session.{Session}
@@ -25,14 +27,13 @@ with_session session line = record line { session = session }
 abbrev pub after_input : Input → LineState → LineState
 after_input input line = with_session (accepted line.config input line.session).session line
 
--- What was sent: nothing, a NAK, the last transmission again, a text of the hub's own count with its function control sequence, or
--- another frame.
+-- What was sent.
 pub data Sent : Type 0 where
   Nothing : Sent
   Nak : Sent
-  Again : Sent
-  Block : (frame : List ℕ) → (fcs : ℕ × ℕ) → Sent
-  Frame : (frame : List ℕ) → Sent
+  Again : Sent  -- the last transmission
+  Block : (frame : List ℕ) → (fcs : ℕ × ℕ) → Sent  -- of the hub's own count
+  Frame : (frame : List ℕ) → Sent  -- any other
 
 -- what was sent, where the bytes are lent
 abbrev pub shown_sent : declared_sent.Sent → Sent
@@ -43,8 +44,8 @@ shown_sent (went.Block frame fcs) = Block frame.now fcs
 shown_sent (went.Frame frame) = Frame frame.now
 
 abbrev pub IsShort : Sent → Type 0
-IsShort (Block frame fcs) = length frame ≤ 8196
-IsShort (Frame frame) = length frame ≤ 8196
+IsShort (Block frame fcs) = length frame ≤ LONGEST_FRAME
+IsShort (Frame frame) = length frame ≤ LONGEST_FRAME
 IsShort Nothing = Unit {0}
 IsShort Nak = Unit {0}
 IsShort Again = Unit {0}
@@ -57,7 +58,7 @@ with_turn s = record s { has_turn = true }
 abbrev pub without_turn : Session → Session
 without_turn s = record s { has_turn = false }
 
--- a text of the hub's own count was sent
+-- a block of the hub's own count was sent
 abbrev pub with_block_sent : ℕ × ℕ → Session → Session
 with_block_sent fcs s = record s { has_turn = false; next_count = (s.next_count + 1) % 16; own_fcs = fcs }
 
@@ -74,11 +75,11 @@ after_end line = with_session (down line.session) line
 
 -- an answer waits, where there is room for it
 abbrev pub with_answer : Answer → LineState → LineState
-with_answer a line = record line { answers = cond (nat_lt (length line.answers) 32) (line.answers ++ a ∷ []) line.answers }
+with_answer a line = record line { answers = cond (nat_lt (length line.answers) ANSWERS) (line.answers ++ a ∷ []) line.answers }
 
 -- a nodal message waits, where there is room for it
 abbrev pub with_message : List ℕ → LineState → LineState
-with_message m line = record line { messages = cond (nat_lt (length line.messages) 64) (line.messages ++ m ∷ []) line.messages }
+with_message m line = record line { messages = cond (nat_lt (length line.messages) MESSAGES) (line.messages ++ m ∷ []) line.messages }
 
 abbrev pub without_answer : LineState → LineState
 without_answer line = record line { answers = drop 1 line.answers }

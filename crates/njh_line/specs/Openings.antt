@@ -6,6 +6,7 @@ use Rattle.njh_header.specs.SignOns.{SignOn, sign_on, sign_on_bytes}
 use Rattle.njh_line.specs.declared.config.Config.{Config}
 use Rattle.njh_line.specs.declared.opening.Opening.{Opening}
 use Rattle.njh_line.specs.declared.opening.Opening.TheVariants.{Initial, Response}
+use Rattle.njh_line.specs.Sessions.{nothing_suspended}
 
 abbrev pub srcb_of : Opening → ℕ
 srcb_of Initial = 0xc9
@@ -45,4 +46,4 @@ own_sign_on line = record { node = line.hub; block = line.block; password = pass
 
 -- the text of the I or the J block: a sign-on alone, which sets the count to 0 and suspends nothing
 abbrev pub opening : Opening → Config → List ℕ
-opening kind line = text_of 0xa0 (0x8f, 0xcf) (General (srcb_of kind) (sign_on_bytes (own_sign_on line)) ∷ [])
+opening kind line = text_of 0xa0 nothing_suspended (General (srcb_of kind) (sign_on_bytes (own_sign_on line)) ∷ [])

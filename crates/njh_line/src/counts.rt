@@ -1,7 +1,7 @@
 //! The count rule (IBM SC23-0070, "Multileaving").
 
-ghost use Rattle.std.specs.Prelude.{◌≡◌, ◌<◌, ◌+◌, ◌%◌};
-ghost use Rattle.njh_line.specs.Counts.{is_taken, is_repeat, expected, counted, after_acting};
+ghost use Rattle.std.specs.Prelude.{◌≡◌, ◌<◌};
+ghost use Rattle.njh_line.specs.Counts.{after_acting, count_after, counted, expected, is_repeat, is_taken};
 
 use crate::session::Session;
 use njh_block::{Bcb, Fcs, Numbering};
@@ -35,8 +35,8 @@ impl Session {
         }
     }
 
-    /// Whether a count is one of those taken: before any block 0 and 1; after a block that set the count that one and the next; after
-    /// another the next alone.
+    /// Whether a count is one of those taken: before any block 0 and 1; after a block that set the count that one and the next;
+    /// after another the next alone.
     fn takes(&self, count: u8) -> bool
         ensures { result ≡ is_taken self.now.last_bcb count }
     {
@@ -49,6 +49,7 @@ impl Session {
         }
     }
 
+    /// Whether a block is the last one again.
     fn repeats(&self, bcb: Bcb) -> bool
         ensures { result ≡ is_repeat self.now.last_bcb bcb }
     {
@@ -92,7 +93,7 @@ impl Session {
 }
 
 fn count_after(last: Bcb) -> u8
-    ensures value { result ≡ (last % 16 + 1) % 16 }
+    ensures value { result ≡ count_after last }
     ensures bound { result < 16 }
 {
     (last.count() + 1) % COUNTS

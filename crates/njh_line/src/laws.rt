@@ -50,6 +50,7 @@ pub fn counts_are_of_the_last_block()
 
 /// A session begins with no tries, and before any block.
 pub fn sessions_begin_afresh()
-    ensures { (line : Config) (s : Session) (input : Input) → in_session s.phase ≡ false → in_session (accepted line input s).session.phase ≡ true
+    ensures { (line : Config) (s : Session) (input : Input) → in_session s.phase ≡ false
+        → in_session (accepted line input s).session.phase ≡ true
         → ((accepted line input s).session.tries ≡ 0) × ((accepted line input s).session.last_bcb ≡ None) }
 {}

@@ -17,5 +17,6 @@ returns-in-Repeats-clause-outcome c =
 
 pub returns-in-OutOfSequence-clause-outcome : goal.returns-in-OutOfSequence-clause-outcome
 returns-in-OutOfSequence-clause-outcome c =
-    c.end_with.ensures ∙ ap (λ (n : ℕ). end_with (Sequence n) c.args.session) (c.normal.ensures ∙ ap (λ (n : ℕ). 0x80 + n) c.expected.ensures.value)
+    c.end_with.ensures
+    ∙ ap (λ (n : ℕ). end_with (Sequence n) c.args.session) (c.normal.ensures ∙ ap (λ (n : ℕ). 0x80 + n) c.expected.ensures.value)
     ∙ rows.is_out_of_sequence _ _ _ _ _ c.requires.inside (sym c.counted.ensures ∙ c.in-OutOfSequence.is)
