@@ -2,7 +2,7 @@ use Rattle.std.proofs.Common.{◌≡◌, ◌≤◌, [], drop, vec_len}
 use Rattle.toml.specs.View.{items_view}
 use Rattle.njh_table.specs.TableFile.{owners_from}
 use Rattle.njh_table.specs.Walk.{customers_onto}
-use Rattle.njh_table.proofs.walk.customers_in.Given as goal
+use Rattle.njh_table.proofs.walk.customers.customers_in.Given as goal
 
 abbrev pub invariant-loop-value : goal.invariant-loop-value
 invariant-loop-value l =

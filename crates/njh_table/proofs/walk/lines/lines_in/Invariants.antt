@@ -2,7 +2,7 @@ use Rattle.std.proofs.Common.{◌≡◌, [], ◌++◌, drop}
 use Rattle.toml.specs.View.{items_view}
 use Rattle.njh_table.specs.TableFile.{names_in, line_owners}
 use Rattle.njh_table.specs.Walk.{lines_onto}
-use Rattle.njh_table.proofs.walk.lines_in.Given as goal
+use Rattle.njh_table.proofs.walk.lines.lines_in.Given as goal
 
 abbrev pub invariant-loop-value : goal.invariant-loop-value
 invariant-loop-value l =

@@ -7,8 +7,8 @@ use Rattle.njh_table.specs.Walk.{next_customer, lines_onto, routes_onto, line_nu
 use Rattle.njh_table.proofs.OwnersLaws.{names-owners_from, owners_after, AreApart, own_line-is}
 use Rattle.njh_table.proofs.Gives.{given}
 use Rattle.njh_table.proofs.WalkedLines.{lines_onto-apart}
-use Rattle.njh_table.proofs.walk.next_customer.Goals as goal
-use Rattle.njh_table.proofs.walk.next_customer.Goals.{In_ok-lines}
+use Rattle.njh_table.proofs.walk.customers.next_customer.Goals as goal
+use Rattle.njh_table.proofs.walk.customers.next_customer.Goals.{In_ok-lines}
 
 -- the names of the lines before are those of the earlier customers
 names : (c : In_ok-lines) → names_in c.args.owners.now ≡ line_names c.args.earlier.now
@@ -40,8 +40,8 @@ unfolding next_customer
 returns-in_err-routes-clause-walk c =
     let lines = walked (goal.at.returns-in_err-routes-clause-walk c).In_ok-lines in
     let find = own (goal.at.returns-in_err-routes-clause-walk c).In_ok-lines in
-    let routes : c.in_err-routes.field-0.0 ≢ Memory → routes_onto c.in_ok-hub.hub (line_number c.in_ok-lines.lines.items) [] (items_view c.in_ok-route_values.route_values.now) ≡ Err c.in_err-routes.field-0.0 =
-    λ no_memory. ap (λ f. routes_onto c.in_ok-hub.hub f [] (items_view c.in_ok-route_values.route_values.now)) (sym find) ∙ c.in_err-routes.ensures no_memory in
+    let routes : c.in_err-routes.field-0.0 ≢ Memory → routes_onto c.in_ok-own.own.hub (line_number c.in_ok-lines.lines.items) [] (items_view c.in_ok-route_values.route_values.now) ≡ Err c.in_err-routes.field-0.0 =
+    λ no_memory. ap (λ f. routes_onto c.in_ok-own.own.hub f [] (items_view c.in_ok-route_values.route_values.now)) (sym find) ∙ c.in_err-routes.ensures no_memory in
     grind (arith, common_steps)
 
 pub returns-clause-walk : goal.returns-clause-walk
@@ -49,8 +49,8 @@ unfolding next_customer
 returns-clause-walk c =
     let lines = walked (goal.at.returns-clause-walk c).In_ok-lines in
     let find = own (goal.at.returns-clause-walk c).In_ok-lines in
-    let routes : routes_onto c.in_ok-hub.hub (line_number c.in_ok-lines.lines.items) [] (items_view c.in_ok-route_values.route_values.now) ≡ Ok c.in_ok-routes.routes =
-    ap (λ f. routes_onto c.in_ok-hub.hub f [] (items_view c.in_ok-route_values.route_values.now)) (sym find) ∙ c.in_ok-routes.ensures in
+    let routes : routes_onto c.in_ok-own.own.hub (line_number c.in_ok-lines.lines.items) [] (items_view c.in_ok-route_values.route_values.now) ≡ Ok c.in_ok-routes.routes =
+    ap (λ f. routes_onto c.in_ok-own.own.hub f [] (items_view c.in_ok-route_values.route_values.now)) (sym find) ∙ c.in_ok-routes.ensures in
     grind (arith, common_steps)
 
 pub returns-clause-owners : goal.returns-clause-owners

@@ -2,7 +2,7 @@ use Rattle.std.proofs.Common.{◌≡◌, [], drop}
 use Rattle.toml.specs.View.{items_view}
 use Rattle.njh_table.specs.TableFile.{own_line}
 use Rattle.njh_table.specs.Walk.{routes_onto}
-use Rattle.njh_table.proofs.walk.routes_in.Given as goal
+use Rattle.njh_table.proofs.walk.routes.routes_in.Given as goal
 
 abbrev pub invariant-loop-value : goal.invariant-loop-value
 invariant-loop-value l =

@@ -5,7 +5,7 @@ use Rattle.njh_table.specs.TableFile.{names_in, line_owners}
 use Rattle.njh_table.specs.Walk.{next_line, lines_onto}
 use Rattle.njh_table.proofs.OwnersLaws.{names_after, owners_push}
 use Rattle.njh_table.proofs.Loops.{turn, goes_on, ends, stops}
-use Rattle.njh_table.proofs.walk.lines_in.Goals as goal
+use Rattle.njh_table.proofs.walk.lines.lines_in.Goals as goal
 
 pub next_line-requires : goal.next_line-requires
 next_line-requires c =
