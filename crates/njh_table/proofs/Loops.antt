@@ -42,10 +42,14 @@ stops seen (Ok x) walked fault is_err told = elim is_err [ ]
 stops seen (Err e) walked fault same told = λ no_memory. told (λ memory. no_memory (same ∙ memory)) ∙ ap Err (sym same)
 
 -- the same, where no memory is asked for
-pub leaves : {A B : Type 0} (seen : A → B) (result : Result A TableFault) (walked : Walked B) (fault : TableFault)
+pub leaves : {A : Type 0} (result walked : Walked A) (fault : TableFault) → IsErrAnd result (λ e. e ≡ fault) → walked ≡ Err fault → result ≡ walked
+leaves (Ok x) walked fault is_err told = elim is_err [ ]
+leaves (Err e) walked fault same told = ap Err same ∙ sym told
+
+pub leaves_seen : {A B : Type 0} (seen : A → B) (result : Result A TableFault) (walked : Walked B) (fault : TableFault)
     → IsErrAnd result (λ e. e ≡ fault) → walked ≡ Err fault → result_map_both seen (λ f. f) result ≡ walked
-leaves seen (Ok x) walked fault is_err told = elim is_err [ ]
-leaves seen (Err e) walked fault same told = ap Err same ∙ sym told
+leaves_seen seen (Ok x) walked fault is_err told = elim is_err [ ]
+leaves_seen seen (Err e) walked fault same told = ap Err same ∙ sym told
 
 pub is_empty_view : (values : List Value) → is_empty (items_view values) ≡ (length values == 0)
 is_empty_view [] = refl
