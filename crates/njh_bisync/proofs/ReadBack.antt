@@ -1,5 +1,6 @@
 -- What was written is read back.
-use Rattle.std.proofs.Common.{◌≡◌, ℕ, ◌+◌, ◌<◌, ◌≤◌, ◌==◌, List, [], ◌∷◌, ◌++◌, length, Bool, true, false, if◌then◌else◌, refl, ap, sym, ◌∙◌, arith, append_assoc, append-nil, length-append}
+use Rattle.std.proofs.Common.{◌≡◌, ℕ, ◌+◌, ◌<◌, ◌≤◌, ◌==◌, List, [], ◌∷◌, ◌++◌, length, Bool, true, false, if◌then◌else◌, refl, ap, sym}
+use Rattle.std.proofs.Common.{◌∙◌, arith, append_assoc, append-nil, length-append}
 use Rattle.std.specs.Prelude.{flat_map, Option, Some}
 use Rattle.std.proofs.lemmas.Bool.{eqb-true, lt-ltb}
 use Rattle.njh_bisync.specs.Frames.{Text}
@@ -34,13 +35,16 @@ abbrev told : ℕ → List ℕ → Fed
 told n held = record { taken = n; frame = Some (Text held); rest = Nothing }
 
 read_data : (done held more : List ℕ) → length done + length held ≤ 4096
-    → fed (InText (Some done) false) (flat_map bytes_of_data held ++ (0x10 ∷ 0x26 ∷ more)) ≡ told (length (flat_map bytes_of_data held) + 2) (done ++ held)
+    → fed (InText (Some done) false) (flat_map bytes_of_data held ++ (0x10 ∷ 0x26 ∷ more)) ≡ told
+    (length (flat_map bytes_of_data held) + 2) (done ++ held)
 unfolding turn
 read_data done [] more room = ap (told 2) (sym (append-nil done))
 read_data done (byte ∷ held) more room =
     let rest = flat_map bytes_of_data held ++ (0x10 ∷ 0x26 ∷ more) in
     let longer : length (done ++ byte ∷ []) + length held ≤ 4096 = omega (arith, length-append done (byte ∷ [])) in
-    let added : length (bytes_of_data byte) + (length (flat_map bytes_of_data held) + 2) ≡ length (bytes_of_data byte ++ flat_map bytes_of_data held) + 2 = omega (arith, length-append (bytes_of_data byte) (flat_map bytes_of_data held)) in
+    let added : length (bytes_of_data byte) + (length (flat_map bytes_of_data held) + 2) ≡ length
+    (bytes_of_data byte ++ flat_map bytes_of_data held) + 2 =
+    omega (arith, length-append (bytes_of_data byte) (flat_map bytes_of_data held)) in
     ap (fed (InText (Some done) false)) (append_assoc (bytes_of_data byte) (flat_map bytes_of_data held) (0x10 ∷ 0x26 ∷ more))
     ∙ (data_byte-fed done byte (byte == 0x10) rest refl (omega arith)
     ∙ (ap (ahead (length (bytes_of_data byte))) (read_data (done ++ byte ∷ []) held more longer)
@@ -51,8 +55,11 @@ pub text_read_back : (held more : List ℕ) → length held ≤ 4096
     → fed Nothing (text_bytes held ++ more) ≡ record { taken = length (text_bytes held); frame = Some (Text held); rest = Nothing }
 unfolding turn text_bytes
 text_read_back held more room =
-    let long : 1 + (1 + (length (flat_map bytes_of_data held) + 2)) ≡ length (0x10 ∷ 0x02 ∷ flat_map bytes_of_data held ++ 0x10 ∷ 0x26 ∷ []) = omega (arith, length-append (flat_map bytes_of_data held) (0x10 ∷ 0x26 ∷ [])) in
-    ap (λ bytes. ahead 1 (ahead 1 (fed (InText (Some []) false) bytes))) (append_assoc (flat_map bytes_of_data held) (0x10 ∷ 0x26 ∷ []) more)
+    let long : 1 + (1 + (length (flat_map bytes_of_data held) + 2)) ≡ length
+    (0x10 ∷ 0x02 ∷ flat_map bytes_of_data held ++ 0x10 ∷ 0x26 ∷ []) =
+    omega (arith, length-append (flat_map bytes_of_data held) (0x10 ∷ 0x26 ∷ [])) in
+    ap (λ bytes. ahead 1 (ahead 1 (fed (InText (Some []) false) bytes)))
+    (append_assoc (flat_map bytes_of_data held) (0x10 ∷ 0x26 ∷ []) more)
     ∙ (ap (λ f. ahead 1 (ahead 1 f)) (read_data [] held more (omega arith))
     ∙ ap (λ n. told n held) long)
 
@@ -61,7 +68,8 @@ text_reads held room =
     reads_one (text_bytes held) (Text held) (ap (fed Nothing) (sym (append-nil (text_bytes held))) ∙ text_read_back held [] room)
 
 pub control_read_back : (control : Control) (more : List ℕ)
-    → fed Nothing (control_bytes control ++ more) ≡ record { taken = length (control_bytes control); frame = Some (control_frame control); rest = Nothing }
+    → fed Nothing (control_bytes control ++ more)
+    ≡ record { taken = length (control_bytes control); frame = Some (control_frame control); rest = Nothing }
 unfolding turn
 control_read_back Enquiry more = refl
 control_read_back Ack0 more = refl
@@ -69,4 +77,5 @@ control_read_back Nak more = refl
 
 pub control_reads : (control : Control) → Reads (control_bytes control) (control_frame control ∷ []) Nothing
 control_reads control =
-    reads_one (control_bytes control) (control_frame control) (ap (fed Nothing) (sym (append-nil (control_bytes control))) ∙ control_read_back control [])
+    reads_one (control_bytes control) (control_frame control)
+    (ap (fed Nothing) (sym (append-nil (control_bytes control))) ∙ control_read_back control [])

@@ -1,5 +1,6 @@
 -- How long what is written is.
-use Rattle.std.proofs.Common.{◌≡◌, ℕ, ◌+◌, ◌*◌, ◌≤◌, ◌==◌, List, [], ◌∷◌, length, Bool, true, false, if◌then◌else◌, refl, arith, length-append}
+use Rattle.std.proofs.Common.{◌≡◌, ℕ, ◌+◌, ◌*◌, ◌≤◌, ◌==◌, List, [], ◌∷◌, length, Bool, true, false, if◌then◌else◌, refl, arith}
+use Rattle.std.proofs.Common.{length-append}
 use Rattle.std.specs.Prelude.{flat_map, count_by}
 use Rattle.std.proofs.lemmas.List.Sums.{count_by-le-length, sum_by-cons}
 use Rattle.njh_bisync.specs.Written.{bytes_of_data, text_bytes}
@@ -12,7 +13,13 @@ length-if_doubled false byte = refl
 pub length-data_bytes : (held : List ℕ) → length (flat_map bytes_of_data held) ≡ length held + count_by (λ byte. byte == 0x10) held
 length-data_bytes [] = refl
 length-data_bytes (byte ∷ held) =
-    omega (arith, length-append (bytes_of_data byte) (flat_map bytes_of_data held), length-if_doubled (byte == 0x10) byte, length-data_bytes held, sum_by-cons (λ b. if b == 0x10 then 1 else 0) byte held)
+    omega (
+      arith,
+      length-append (bytes_of_data byte) (flat_map bytes_of_data held),
+      length-if_doubled (byte == 0x10) byte,
+      length-data_bytes held,
+      sum_by-cons (λ b. if b == 0x10 then 1 else 0) byte held,
+    )
 
 pub length-text_bytes : (held : List ℕ) → length (text_bytes held) ≡ 4 + length (flat_map bytes_of_data held)
 unfolding text_bytes

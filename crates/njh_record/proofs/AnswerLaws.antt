@@ -1,5 +1,6 @@
 -- What unspell answers and leaves, by the relation.
-use Rattle.std.proofs.Common.{◌≡◌, ℕ, ◌+◌, ◌-◌, inl, inr, cond, leb, List, [], ◌++◌, length, take, drop, Result, Ok, Err, refl, sym, ◌∙◌, ap, subst, arith, length-append, length-drop}
+use Rattle.std.proofs.Common.{◌≡◌, ℕ, ◌+◌, ◌-◌, inl, inr, cond, leb, List, [], ◌++◌, length, take, drop, Result, Ok, Err, refl, sym, ◌∙◌}
+use Rattle.std.proofs.Common.{ap, subst, arith, length-append, length-drop}
 use Rattle.std.proofs.lemmas.Bool.{cases_lt, cond-true, cond-false, le-leb, lt-leb}
 use Rattle.std.proofs.lemmas.List.{take_at, take-append-drop}
 use Rattle.njh_record.specs.Bytes.{AreBytes}
@@ -10,14 +11,17 @@ use Rattle.njh_record.specs.declared.RecordFault.TheVariants as faults
 use Rattle.njh_record.specs.Spelling.{Spelling}
 use Rattle.njh_record.specs.Reading.{Begins, Unspells}
 use Rattle.njh_record.specs.Unspelled.{Fault, BadScb, Truncated, Unspelled, unspelled, ReadsAs}
-use Rattle.njh_record.proofs.ReadingLaws.{found, only}
+use Rattle.njh_record.proofs.ReadingLaws.{found}
+use Rattle.njh_record.proofs.ReadBack.{only}
 
 -- ---- there is one
 
-pub begins : (bytes spelling contents rest : List ℕ) (end : End) → Spelling spelling contents end → bytes ≡ spelling ++ rest → Begins bytes (length bytes - length rest) contents end
+pub begins : (bytes spelling contents rest : List ℕ) (end : End) → Spelling spelling contents end → bytes ≡ spelling ++ rest
+    → Begins bytes (length bytes - length rest) contents end
 begins bytes spelling contents rest end spells parts =
     let size : length bytes ≡ length spelling + length rest = ap length parts ∙ length-append spelling rest in
-    let front : take (length bytes - length rest) bytes ≡ spelling = ap (take (length bytes - length rest)) parts ∙ take_at spelling rest (length bytes - length rest) (omega arith) in
+    let front : take (length bytes - length rest) bytes ≡ spelling =
+    ap (take (length bytes - length rest)) parts ∙ take_at spelling rest (length bytes - length rest) (omega arith) in
     let P : List ℕ → Type 0 = λ b. Spelling b contents end in
     record { within = omega arith; spelling = subst P (sym front) spells }
 
@@ -33,7 +37,8 @@ answered-begins bytes contents Record used starts =
 answered-begins bytes contents Abort used starts = (Ok (used, Abort), [], ((contents, starts), refl))
 
 answered : (bytes : List ℕ) (read : Result Unspelled Fault) → ReadsAs bytes read → Answered bytes
-answered bytes (Ok read) (spelling, spells, parts) = answered-begins bytes read.contents read.end _ (begins bytes spelling read.contents read.rest read.end spells parts)
+answered bytes (Ok read) (spelling, spells, parts) =
+    answered-begins bytes read.contents read.end _ (begins bytes spelling read.contents read.rest read.end spells parts)
 answered bytes (Err BadScb) bad = (Err faults.BadScb, [], (bad, refl))
 answered bytes (Err Truncated) cut = (Err faults.Truncated, [], (cut, refl))
 
@@ -79,5 +84,6 @@ outcome_is bytes (Err (faults.TooLong n)) contents ((long, starts, over), left) 
 pub one_answer : (bytes : List ℕ) (answer other : Result (ℕ × End) RecordFault) (contents others : List ℕ)
     → Unspells bytes answer contents → Unspells bytes other others → (answer ≡ other) × (contents ≡ others)
 one_answer bytes answer other contents others one two =
-    let same : ◌≡◌ {A = Outcome} (answer, contents) (other, others) = sym (outcome_is bytes answer contents one) ∙ outcome_is bytes other others two in
+    let same : ◌≡◌ {A = Outcome} (answer, contents) (other, others) =
+    sym (outcome_is bytes answer contents one) ∙ outcome_is bytes other others two in
     (ap (λ (o : Outcome). o.0) same, ap (λ (o : Outcome). o.1) same)

@@ -1,6 +1,8 @@
 -- What stands first in some bytes: the function gives it, and nothing else.
-use Rattle.std.proofs.Common.{◌≡◌, ℕ, ◌+◌, ◌-◌, ◌<◌, ◌≤◌, eqb, leb, ltb, cond, List, [], ◌∷◌, ◌++◌, length, take, drop, replicate, get_or, refl, sym, ◌∙◌, ap, subst, arith, length-append, length-take}
-use Rattle.std.proofs.lemmas.Bool.{cond_both, cond-true, cond-false, eqb-true, eqb-false, ne_eqb, ltb-true, ltb-false, lt-ltb, le-ltb, leb-true, leb-false, le-leb, lt-leb}
+use Rattle.std.proofs.Common.{◌≡◌, ℕ, ◌+◌, ◌-◌, ◌<◌, ◌≤◌, eqb, leb, ltb, cond, List, [], ◌∷◌, ◌++◌, length, take, drop, replicate, get_or}
+use Rattle.std.proofs.Common.{refl, sym, ◌∙◌, ap, subst, arith, length-append, length-take}
+use Rattle.std.proofs.lemmas.Bool.{cond_both, cond-true, cond-false, eqb-true, eqb-false, ne_eqb, ltb-true, ltb-false, lt-ltb, le-ltb}
+use Rattle.std.proofs.lemmas.Bool.{leb-true, leb-false, le-leb, lt-leb}
 use Rattle.std.proofs.lemmas.List.{length-replicate, take_at, drop_at, take-append-drop}
 use Rattle.njh_record.specs.declared.End.{End}
 use Rattle.njh_record.specs.declared.End.TheVariants.{Record, Abort}
@@ -10,7 +12,8 @@ use Rattle.njh_record.specs.Parts.{IsCounted, IsCutItem, StandsFirst}
 
 -- ---- what the function gives stands there
 
-pub cut_item : (bytes missing : List ℕ) (item : Item) → IsCounted item → 0 < length missing → bytes ++ missing ≡ item_bytes item → IsCutItem bytes
+pub cut_item : (bytes missing : List ℕ) (item : Item) → IsCounted item → 0 < length missing
+    → bytes ++ missing ≡ item_bytes item → IsCutItem bytes
 cut_item bytes missing item counted some parts = record { item = item; counted = counted; missing = missing; some = some; parts = parts }
 
 repeat-stands : (b n : ℕ) (rest : List ℕ) → b ≡ 0xA0 + n → n < 32 → StandsFirst (b ∷ rest) (repeat_front n rest)
@@ -31,12 +34,14 @@ literal-stands b n rest is =
     cut_item (b ∷ rest) missing (literal (rest ++ missing)) tt (omega arith) (ap (λ (x : ℕ). x ∷ (rest ++ missing)) size))
 
 abbrev counted_front : ℕ → List ℕ → Front
-counted_front b rest = cond (ltb b 0xA0) (OfItem (blanks (b - 0x80)) rest) (cond (ltb b 0xC0) (repeat_front (b - 0xA0) rest) (literal_front (b - 0xC0) rest))
+counted_front b rest =
+    cond (ltb b 0xA0) (OfItem (blanks (b - 0x80)) rest) (cond (ltb b 0xC0) (repeat_front (b - 0xA0) rest) (literal_front (b - 0xC0) rest))
 
 counted-stands : (b : ℕ) (rest : List ℕ) → 0x80 ≤ b → StandsFirst (b ∷ rest) (counted_front b rest)
 counted-stands b rest high =
     let P : Front → Type 0 = λ front. StandsFirst (b ∷ rest) front in
-    cond_both (ltb b 0xA0) (OfItem (blanks (b - 0x80)) rest) (cond (ltb b 0xC0) (repeat_front (b - 0xA0) rest) (literal_front (b - 0xC0) rest)) P
+    cond_both (ltb b 0xA0) (OfItem (blanks (b - 0x80)) rest)
+    (cond (ltb b 0xC0) (repeat_front (b - 0xA0) rest) (literal_front (b - 0xC0) rest)) P
     (λ l. let low = ltb-true b 0xA0 l in let is : b ≡ 0x80 + (b - 0x80) = omega arith in (omega arith, ap (λ (x : ℕ). x ∷ rest) is))
     (λ h. let above = ltb-false b 0xA0 h in
     cond_both (ltb b 0xC0) (repeat_front (b - 0xA0) rest) (literal_front (b - 0xC0) rest) P
@@ -59,22 +64,28 @@ front-stands (b ∷ rest) =
 
 front_of-high : (b : ℕ) (rest : List ℕ) → 0x80 ≤ b → front_of (b ∷ rest) ≡ counted_front b rest
 front_of-high b rest high =
-    cond-false (eqb b 0x00) _ _ (ne_eqb b 0x00 (λ e. omega arith)) ∙ (cond-false (eqb b 0x40) _ _ (ne_eqb b 0x40 (λ e. omega arith)) ∙ cond-false (ltb b 0x80) _ _ (le-ltb b 0x80 high))
+    cond-false (eqb b 0x00) _ _ (ne_eqb b 0x00 (λ e. omega arith))
+    ∙ (cond-false (eqb b 0x40) _ _ (ne_eqb b 0x40 (λ e. omega arith)) ∙ cond-false (ltb b 0x80) _ _ (le-ltb b 0x80 high))
 
 front_of-blanks : (b n : ℕ) (rest : List ℕ) → b ≡ 0x80 + n → n < 32 → front_of (b ∷ rest) ≡ OfItem (blanks n) rest
 front_of-blanks b n rest is below =
     let count : b - 0x80 ≡ n = omega arith in
-    front_of-high b rest (omega arith) ∙ (cond-true (ltb b 0xA0) _ _ (lt-ltb b 0xA0 (omega arith)) ∙ ap (λ (m : ℕ). OfItem (blanks m) rest) count)
+    front_of-high b rest (omega arith)
+    ∙ (cond-true (ltb b 0xA0) _ _ (lt-ltb b 0xA0 (omega arith)) ∙ ap (λ (m : ℕ). OfItem (blanks m) rest) count)
 
 front_of-repeat : (b n : ℕ) (rest : List ℕ) → b ≡ 0xA0 + n → n < 32 → front_of (b ∷ rest) ≡ repeat_front n rest
 front_of-repeat b n rest is below =
     let count : b - 0xA0 ≡ n = omega arith in
-    front_of-high b rest (omega arith) ∙ (cond-false (ltb b 0xA0) _ _ (le-ltb b 0xA0 (omega arith)) ∙ (cond-true (ltb b 0xC0) _ _ (lt-ltb b 0xC0 (omega arith)) ∙ ap (λ (m : ℕ). repeat_front m rest) count))
+    front_of-high b rest (omega arith)
+    ∙ (cond-false (ltb b 0xA0) _ _ (le-ltb b 0xA0 (omega arith))
+    ∙ (cond-true (ltb b 0xC0) _ _ (lt-ltb b 0xC0 (omega arith)) ∙ ap (λ (m : ℕ). repeat_front m rest) count))
 
 front_of-literal : (b n : ℕ) (rest : List ℕ) → b ≡ 0xC0 + n → front_of (b ∷ rest) ≡ literal_front n rest
 front_of-literal b n rest is =
     let count : b - 0xC0 ≡ n = omega arith in
-    front_of-high b rest (omega arith) ∙ (cond-false (ltb b 0xA0) _ _ (le-ltb b 0xA0 (omega arith)) ∙ (cond-false (ltb b 0xC0) _ _ (le-ltb b 0xC0 (omega arith)) ∙ ap (λ (m : ℕ). literal_front m rest) count))
+    front_of-high b rest (omega arith)
+    ∙ (cond-false (ltb b 0xA0) _ _ (le-ltb b 0xA0 (omega arith))
+    ∙ (cond-false (ltb b 0xC0) _ _ (le-ltb b 0xC0 (omega arith)) ∙ ap (λ (m : ℕ). literal_front m rest) count))
 
 item-only : (item : Item) (rest : List ℕ) → IsCounted item → front_of (item_bytes item ++ rest) ≡ OfItem item rest
 item-only (blanks n) rest below = front_of-blanks (0x80 + n) n rest refl below
@@ -82,28 +93,33 @@ item-only (repeat n byte) rest below = front_of-repeat (0xA0 + n) n (byte ∷ re
 item-only (literal bytes) rest counted =
     let n = length bytes in
     let room : n ≤ length (bytes ++ rest) = omega (arith, length-append bytes rest) in
-    front_of-literal (0xC0 + n) n (bytes ++ rest) refl ∙ (cond-true (leb n (length (bytes ++ rest))) _ _ (le-leb n (length (bytes ++ rest)) room)
-    ∙ (ap (λ (front : List ℕ). OfItem (literal front) (drop n (bytes ++ rest))) (take_at bytes rest n refl) ∙ ap (λ (after : List ℕ). OfItem (literal bytes) after) (drop_at bytes rest n refl)))
+    front_of-literal (0xC0 + n) n (bytes ++ rest) refl
+    ∙ (cond-true (leb n (length (bytes ++ rest))) _ _ (le-leb n (length (bytes ++ rest)) room)
+    ∙ (ap (λ (front : List ℕ). OfItem (literal front) (drop n (bytes ++ rest))) (take_at bytes rest n refl)
+    ∙ ap (λ (after : List ℕ). OfItem (literal bytes) after) (drop_at bytes rest n refl)))
 
 end-only : (end : End) (rest : List ℕ) → front_of (end_byte end ∷ rest) ≡ OfEnd end rest
 end-only Record rest = refl
 end-only Abort rest = refl
 
-cut-only : (b : ℕ) (rest missing : List ℕ) (item : Item) → IsCounted item → 0 < length missing → b ∷ (rest ++ missing) ≡ item_bytes item → front_of (b ∷ rest) ≡ Cut
+cut-only : (b : ℕ) (rest missing : List ℕ) (item : Item) → IsCounted item → 0 < length missing
+    → b ∷ (rest ++ missing) ≡ item_bytes item → front_of (b ∷ rest) ≡ Cut
 cut-only b rest missing (blanks n) counted some parts = absurd (omega (arith, ap length parts, length-append rest missing))
 cut-only b [] missing (repeat n byte) counted some parts = let is : b ≡ 0xA0 + n = cc in front_of-repeat b n [] is counted
 cut-only b (c ∷ rest) missing (repeat n byte) counted some parts = absurd (omega (arith, ap length parts, length-append rest missing))
 cut-only b rest missing (literal bytes) counted some parts =
     let is : b ≡ 0xC0 + length bytes = cc in
     let short : length rest < length bytes = omega (arith, ap length parts, length-append rest missing) in
-    front_of-literal b (length bytes) rest is ∙ cond-false (leb (length bytes) (length rest)) _ _ (lt-leb (length bytes) (length rest) short)
+    front_of-literal b (length bytes) rest is
+    ∙ cond-false (leb (length bytes) (length rest)) _ _ (lt-leb (length bytes) (length rest) short)
 
 pub front_only : (bytes : List ℕ) (front : Front) → StandsFirst bytes front → front_of bytes ≡ front
 front_only bytes (OfItem item rest) (counted, parts) = ap front_of parts ∙ item-only item rest counted
 front_only bytes (OfEnd end rest) parts = ap front_of parts ∙ end-only end rest
 front_only [] Bad bad = absurd bad
 front_only (b ∷ rest) Bad (above, below, other) =
-    cond-false (eqb b 0x00) _ _ (ne_eqb b 0x00 (λ e. omega arith)) ∙ (cond-false (eqb b 0x40) _ _ (ne_eqb b 0x40 other) ∙ cond-true (ltb b 0x80) _ _ (lt-ltb b 0x80 below))
+    cond-false (eqb b 0x00) _ _ (ne_eqb b 0x00 (λ e. omega arith))
+    ∙ (cond-false (eqb b 0x40) _ _ (ne_eqb b 0x40 other) ∙ cond-true (ltb b 0x80) _ _ (lt-ltb b 0x80 below))
 front_only [] Cut cut = refl
 front_only (b ∷ rest) Cut cut = cut-only b rest cut.missing cut.item cut.counted cut.some cut.parts
 
@@ -143,4 +159,5 @@ pub cut_literal : (bytes : List ℕ) (count : ℕ) → 0 < length bytes → get_
 cut_literal [] count some is short = absurd (omega arith)
 cut_literal (b ∷ rest) count some is short =
     let P : Front → Type 0 = λ front. StandsFirst (b ∷ rest) front in
-    subst P (cond-false (leb count (length rest)) (OfItem (literal (take count rest)) (drop count rest)) Cut (lt-leb count (length rest) (omega arith))) (literal-stands b count rest is)
+    subst P (cond-false (leb count (length rest)) (OfItem (literal (take count rest)) (drop count rest)) Cut
+    (lt-leb count (length rest) (omega arith))) (literal-stands b count rest is)

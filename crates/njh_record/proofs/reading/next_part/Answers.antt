@@ -11,4 +11,5 @@ returns-in_default-rest c = cut_repeat _ (omega (arith, length-take {A = ℕ}, l
 pub returns-in_default-split_at_checked : goal.returns-in_default-split_at_checked
 returns-in_default-split_at_checked c =
     let lacks = c.in_default-split_at_checked.ensures.cases in
-    cut_literal _ c.from-count-in-192-to-255.result (omega arith) (omega arith) (omega (arith, lacks, length-take {A = ℕ}, length-drop {A = ℕ}))
+    cut_literal _ c.from-count-in-192-to-255.result (omega arith) (omega arith)
+    (omega (arith, lacks, length-take {A = ℕ}, length-drop {A = ℕ}))

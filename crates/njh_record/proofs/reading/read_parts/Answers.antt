@@ -1,6 +1,7 @@
 use Rattle.std.proofs.Common.{arith}
 use Rattle.std.proofs.lemmas.Result.{err_from_is_err_and}
-use Rattle.njh_record.proofs.Steps.{HasRead-none, HasRead-takes, HasRead-passes, unspells-aborted, unspells-whole, unspells-too_long, unspells-fault}
+use Rattle.njh_record.proofs.Steps.{HasRead-none, HasRead-takes, HasRead-passes, unspells-aborted, unspells-whole, unspells-too_long}
+use Rattle.njh_record.proofs.Steps.{unspells-fault}
 use Rattle.njh_record.proofs.reading.read_parts.Goals as goal
 
 pub loop-part-preserved-then-fits : goal.loop-part-preserved-then-fits
@@ -20,10 +21,12 @@ pub returns-in-Abort : goal.returns-in-Abort
 returns-in-Abort c = unspells-aborted _ _ _ _ _ c.loop-part.invariant (rw (c.in-End.is, c.in-Abort.is) at c.in_ok-part.ensures)
 
 pub returns-then-fits-2 : goal.returns-then-fits-2
-returns-then-fits-2 c = unspells-whole _ _ _ _ _ c.if-fits-2.true c.loop-part.invariant (rw (c.in-End.is, c.in-Record.is) at c.in_ok-part.ensures)
+returns-then-fits-2 c =
+    unspells-whole _ _ _ _ _ c.if-fits-2.true c.loop-part.invariant (rw (c.in-End.is, c.in-Record.is) at c.in_ok-part.ensures)
 
 pub returns-in-Record : goal.returns-in-Record
-returns-in-Record c = unspells-too_long _ _ _ _ _ c.if-fits-2.false c.loop-part.invariant (rw (c.in-End.is, c.in-Record.is) at c.in_ok-part.ensures)
+returns-in-Record c =
+    unspells-too_long _ _ _ _ _ c.if-fits-2.false c.loop-part.invariant (rw (c.in-End.is, c.in-Record.is) at c.in_ok-part.ensures)
 
 pub loop-part-init : goal.loop-part-init
 loop-part-init c = HasRead-none _ _ c.requires (λ place. omega (arith, c.type_inv.bytes place))

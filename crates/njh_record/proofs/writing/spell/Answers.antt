@@ -18,8 +18,15 @@ loop-rest-preserved c =
 pub push-requires : goal.push-requires
 push-requires c =
     let done : length c.loop-rest.rest.now ≡ 0 = search rules in
-    let written = spelling_of-done _ _ _ done c.loop-rest.invariant in
-    (omega arith, omega (arith, ap length written, length-append c.loop-rest.out.items (0 ∷ []), length-spelling_of-record c.args.contents.now c.requires))
+    let written = spelling_of-done _ _ _ done c.loop-rest.invariant in (
+      omega arith,
+      omega (
+        arith,
+        ap length written,
+        length-append c.loop-rest.out.items (0 ∷ []),
+        length-spelling_of-record c.args.contents.now c.requires,
+      ),
+    )
 
 pub returns-clause-spelling : goal.returns-clause-spelling
 returns-clause-spelling c =
