@@ -10,6 +10,8 @@ mod ebcdic_tests;
 #[cfg(test)]
 mod header_tests;
 #[cfg(test)]
+mod line_tests;
+#[cfg(test)]
 mod nmr_tests;
 #[cfg(test)]
 mod record_tests;
