@@ -1,5 +1,6 @@
 -- A block that is being written (IBM SC23-0070, multileaving).
-use Rattle.std.specs.Prelude.{◌≡◌, ℕ, ◌≤◌, Bool, true, false, List, [], ◌∷◌, ◌++◌, ◌-◌, length, take, drop, slice_index, not, ◌&&◌, nat_le, IsTrue}
+use Rattle.std.specs.Prelude.{◌≡◌, ℕ, ◌≤◌, Bool, true, false, List, [], ◌∷◌, ◌++◌, ◌-◌, length, take, drop, slice_index, not, ◌&&◌}
+use Rattle.std.specs.Prelude.{nat_le, IsTrue}
 use Rattle.std.specs.List.{list_any}
 use Rattle.std.specs.Result.{result_unwrap_or}
 use Rattle.njh_block.specs.declared.rcb.ControlRcb.{ControlRcb}

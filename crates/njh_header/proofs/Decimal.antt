@@ -1,5 +1,6 @@
 -- The digits that are written of a number say it, and begin with no zero but where it is the only one.
-use Rattle.std.proofs.Common.{◌≡◌, ℕ, zero, suc, ◌+◌, ◌-◌, ◌*◌, ◌/◌, ◌%◌, ◌^◌, ◌<◌, ◌≤◌, ◌⊎◌, inl, inr, List, [], ◌∷◌, ◌++◌, length, refl, sym, ◌∙◌, ap, subst, arith}
+use Rattle.std.proofs.Common.{◌≡◌, ℕ, zero, suc, ◌+◌, ◌-◌, ◌*◌, ◌/◌, ◌%◌, ◌^◌, ◌<◌, ◌≤◌, ◌⊎◌, inl, inr, List, [], ◌∷◌, ◌++◌}
+use Rattle.std.proofs.Common.{refl, sym, ◌∙◌, ap, subst, arith}
 use Rattle.std.specs.List.{AllByRecursion}
 use Rattle.std.proofs.lemmas.Bool.{cases_lt}
 use Rattle.njh_ebcdic.specs.Names.{digits}
@@ -38,7 +39,8 @@ decimal_within k n within fits (inl small) = subst (λ (ds : List ℕ). IsDecima
 decimal_within zero n within fits (inr large) = absurd (omega arith)
 decimal_within (suc k) n within fits (inr large) =
     subst (λ (ds : List ℕ). IsDecimal ds n) (sym (digits-last n fits large))
-    (one_more (digits (n / 10)) (n / 10) (n % 10) n (decimal_within k (n / 10) (omega arith) (omega arith) (cases_lt (n / 10) 10)) (omega arith) (omega arith) (omega arith))
+    (one_more (digits (n / 10)) (n / 10) (n % 10) n (decimal_within k (n / 10) (omega arith) (omega arith) (cases_lt (n / 10) 10))
+    (omega arith) (omega arith) (omega arith))
 
 pub digits_say : (n : ℕ) → n < 2 ^ 32 → IsDecimal (digits n) n
 digits_say n fits = decimal_within n n (omega arith) fits (cases_lt n 10)

@@ -1,5 +1,5 @@
 -- What a record is read as is the header that it is by its sections, or why it is none.
-use Rattle.std.proofs.Common.{◌≡◌, ℕ, ◌+◌, Bool, true, false, List, Result, Ok, Err, cond, refl, sym, ◌∙◌, ap, subst, IsTrue}
+use Rattle.std.proofs.Common.{◌≡◌, ℕ, ◌+◌, Bool, true, false, List, Result, Ok, Err, cond, refl, sym, ◌∙◌, ap, subst}
 use Rattle.njh_record.specs.Bytes.{field}
 use Rattle.njh_ebcdic.specs.Names.{is_name}
 use Rattle.njh_header.specs.declared.fault.HeaderFault.{HeaderFault}
@@ -18,9 +18,11 @@ module _ {H : Type 0} (size name : ℕ) (fields : List ℕ → ℕ → H) where
   -- what the place of the general section gives
   abbrev pub read_at : List ℕ → Result ℕ HeaderFault → Result H HeaderFault
   read_at bytes place =
-      elim place [ Ok section ↦ cond (is_name (field (section + name) 8 bytes)) (Ok (fields bytes section)) (Err BadName) | Err fault ↦ Err fault ]
+      elim place
+      [ Ok section ↦ cond (is_name (field (section + name) 8 bytes)) (Ok (fields bytes section)) (Err BadName) | Err fault ↦ Err fault ]
 
-  named_tells : (bytes : List ℕ) (section : ℕ) (named : Bool) → is_name (field (section + name) 8 bytes) ≡ named → HasGeneral size bytes section
+  named_tells : (bytes : List ℕ) (section : ℕ) (named : Bool) → is_name (field (section + name) 8 bytes) ≡ named
+      → HasGeneral size bytes section
       → Tells bytes (cond named (Ok (fields bytes section)) (Err BadName))
   named_tells bytes section true is general = record { section = section; general = general; named = is; says = refl }
   named_tells bytes section false is general = (section, general, is)
@@ -55,9 +57,12 @@ module _ {H : Type 0} (size name : ℕ) (fields : List ℕ → ℕ → H) where
   -- ---- both ways
 
   pub header_law : (bytes : List ℕ) (header : H)
-      → (header_of size name fields bytes ≡ Ok header → IsHeader size name fields bytes header) × (IsHeader size name fields bytes header → header_of size name fields bytes ≡ Ok header)
+      → (header_of size name fields bytes
+      ≡ Ok header → IsHeader size name fields bytes header) × (IsHeader size name fields bytes header → header_of size name fields bytes
+      ≡ Ok header)
   header_law bytes header = (λ is. subst (Tells bytes) is (header_of-tells bytes), IsHeader-read bytes header)
 
   pub fault_law : (bytes : List ℕ) (fault : HeaderFault)
-      → (header_of size name fields bytes ≡ Err fault → IsFault size name bytes fault) × (IsFault size name bytes fault → header_of size name fields bytes ≡ Err fault)
+      → (header_of size name fields bytes
+      ≡ Err fault → IsFault size name bytes fault) × (IsFault size name bytes fault → header_of size name fields bytes ≡ Err fault)
   fault_law bytes fault = (λ is. subst (Tells bytes) is (header_of-tells bytes), IsFault-read bytes fault)

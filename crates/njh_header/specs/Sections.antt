@@ -1,4 +1,5 @@
--- The sections of a header (IBM SC23-0070): a prefix of four bytes, and sections, each with its length, of all its bytes, in its first two bytes,
+-- The sections of a header (IBM SC23-0070): a prefix of four bytes, and sections, each with its length, of all its bytes, in its first
+-- two bytes,
 -- and its type and modifier in the next two. The first whose type and modifier are 00 00 is the general one.
 use Rattle.std.specs.Prelude.{◌≡◌, ◌≢◌, ℕ, ◌+◌, ◌<◌, ◌≤◌, ◌⊎◌, List, [], ◌++◌, length}
 use Rattle.std.specs.List.{flat_map, AllByRecursion}

@@ -3,7 +3,7 @@
 use Rattle.std.specs.Prelude.{ℕ, zero, suc, ◌+◌, List, length, drop, Result, Ok, Err, ◌==◌, nat_lt, cond, ◌||◌}
 use Rattle.njh_record.specs.Bytes.{number_at}
 use Rattle.njh_header.specs.declared.fault.HeaderFault.{HeaderFault}
-use Rattle.njh_header.specs.declared.fault.HeaderFault.TheVariants.{TooShort, NoGeneralSection, BadName, SectionOverrun}
+use Rattle.njh_header.specs.declared.fault.HeaderFault.TheVariants.{TooShort, NoGeneralSection, SectionOverrun}
 
 -- What stands at the front of the sections that are left.
 pub data Front : Type 0 where

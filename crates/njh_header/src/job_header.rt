@@ -27,9 +27,23 @@ impl Model for JobHeader {
 
     ghost Value = { headers.JobHeader };
 
-    ghost view = { λ h. record { number = h.number; name = h.name; user = h.user; origin = h.origin; execution = h.execution; place = h.place } };
+    ghost view = { λ h. record {
+      number = h.number;
+      name = h.name;
+      user = h.user;
+      origin = h.origin;
+      execution = h.execution;
+      place = h.place;
+    } };
 
-    ghost inverse = { λ h. record { number = h.number; name = h.name; user = h.user; origin = h.origin; execution = h.execution; place = h.place } };
+    ghost inverse = { λ h. record {
+      number = h.number;
+      name = h.name;
+      user = h.user;
+      origin = h.origin;
+      execution = h.execution;
+      place = h.place;
+    } };
 }
 
 impl JobHeader {

@@ -6,7 +6,8 @@ ghost use Rattle.njh_record.specs.declared.Kind.{Kind};
 ghost use Rattle.njh_record.specs.Stored.{Stored};
 ghost use Rattle.njh_header.specs.Decimals.{IsDecimal};
 ghost use Rattle.njh_header.specs.FileHeaders.{with_destination};
-ghost use Rattle.njh_header.specs.Headers.{DataSetHeader, IsDataSetFault, IsDataSetHeader, IsJobFault, IsJobHeader, JobHeader, data_set_header, job_header};
+ghost use Rattle.njh_header.specs.Headers.{DataSetHeader, IsDataSetFault, IsDataSetHeader, data_set_header};
+ghost use Rattle.njh_header.specs.Headers.{IsJobFault, IsJobHeader, JobHeader, job_header};
 ghost use Rattle.njh_header.specs.Redirecting.{redirected};
 ghost use Rattle.njh_header.specs.Sections.{HasGeneral, LacksGeneral};
 ghost use Rattle.njh_header.specs.Walk.{general_section};
@@ -16,7 +17,8 @@ use crate::fault::HeaderFault;
 /// The walk over a header's sections gives where the general one begins, or why there is none, and nothing else.
 pub fn one_general_section()
     ensures found { (size : ℕ) (header : List ℕ) (place : ℕ) → (general_section size header ≡ Ok place) ↔ HasGeneral size header place }
-    ensures lacks { (size : ℕ) (header : List ℕ) (fault : HeaderFault) → (general_section size header ≡ Err fault) ↔ LacksGeneral size header fault }
+    ensures lacks { (size : ℕ) (header : List ℕ) (fault : HeaderFault) →
+        (general_section size header ≡ Err fault) ↔ LacksGeneral size header fault }
 {}
 
 /// A record is read as the job header that it is, or as why it is none, and as nothing else.
@@ -38,5 +40,6 @@ pub fn decimal_digits()
 
 /// A file that is redirected record by record is the file with another destination.
 pub fn redirected_by_records()
-    ensures { (kind : Kind) (node : List ℕ) (records : List Stored) → redirected kind node None records ≡ with_destination kind node records }
+    ensures { (kind : Kind) (node : List ℕ) (records : List Stored) →
+        redirected kind node None records ≡ with_destination kind node records }
 {}

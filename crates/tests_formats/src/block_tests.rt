@@ -68,11 +68,7 @@ fn records_of_texts(rt: HostRuntime) {
         ),
         (
             b"\x80\x8F\xCF\x99\x80\xBF\xC1\xBF\xC1\xBF\xC1\xBF\xC1\xBF\xC1\xBF\xC1\xBF\xC1\xBF\xC1\xA9\xC1\x00\x99\x80\x00\x00",
-            [
-                ("long", 0x99, 0x80, none),
-                ("data", 0x99, 0x80, none),
-                end,
-            ],
+            [("long", 0x99, 0x80, none), ("data", 0x99, 0x80, none), end],
         ),
         (
             b"\x81\x8F\xCF\x99\x80\x40\x00",
@@ -172,12 +168,7 @@ fn text_of_each_form(rt: HostRuntime) {
         permission.record(),
         b"\x80\x8F\xCF\xA0\x99\x00\x00",
     );
-    check_alone(
-        &rt,
-        Bcb::normal(1),
-        abort,
-        b"\x81\x8F\xCF\x99\x80\x40\x00",
-    );
+    check_alone(&rt, Bcb::normal(1), abort, b"\x81\x8F\xCF\x99\x80\x40\x00");
     check_alone(
         &rt,
         Bcb::normal(2),
@@ -207,7 +198,11 @@ fn streams_that_go_on(rt: HostRuntime) {
         assert_eq!(rt; fcs.all_suspended(), suspended);
         assert!(rt; fcs.messages_on());
         for place in 0..Stream::COUNT {
-            assert_eq!(rt; fcs.is_on(Stream::at(place)), streams[usize::from(place)], "{place}");
+            assert_eq!(rt;
+                fcs.is_on(Stream::at(place)),
+                streams[usize::from(place)],
+                "{place}"
+            );
         }
     }
 }

@@ -97,10 +97,17 @@ fn walks_over_sections(rt: HostRuntime) -> Result<(), Fail> {
         let record = joined(&rt, &[&JOB[..4], before, after]);
         match JobHeader::read(&record) {
             Ok(_) => assert_eq!(rt; "read", printed, "{record:?}"),
-            Err(fault) => assert_eq!(rt; format!(in rt.alloc(); "{fault}")?.as_str(), printed, "{record:?}"),
+            Err(fault) => assert_eq!(rt;
+                format!(in rt.alloc(); "{fault}")?.as_str(),
+                printed,
+                "{record:?}"
+            ),
         }
     }
-    assert_eq!(rt; JobHeader::read(&JOB[..3]).err(), Some(HeaderFault::TooShort));
+    assert_eq!(rt;
+        JobHeader::read(&JOB[..3]).err(),
+        Some(HeaderFault::TooShort)
+    );
     Ok(())
 }
 
@@ -118,8 +125,14 @@ fn signs_on(rt: HostRuntime) -> Result<(), Fail> {
     };
     assert_eq!(rt; SignOn::read(&SIGN_ON)?, sign_on);
     assert_eq!(rt; SignOn::read(&SIGN_ON[..18])?, sign_on);
-    assert_eq!(rt; SignOn::read(&SIGN_ON[..17]).err(), Some(HeaderFault::TooShort));
-    assert_eq!(rt; SignOn::read(&SIGN_ON[1..]).err(), Some(HeaderFault::BadName));
+    assert_eq!(rt;
+        SignOn::read(&SIGN_ON[..17]).err(),
+        Some(HeaderFault::TooShort)
+    );
+    assert_eq!(rt;
+        SignOn::read(&SIGN_ON[1..]).err(),
+        Some(HeaderFault::BadName)
+    );
     let with_password = joined(&rt, &[&SIGN_ON[..18], &PAUL]);
     assert_eq!(rt; SignOn::read(&with_password)?.password, PAUL);
     let mut out = ArrayVec::new();
@@ -166,9 +179,15 @@ fn file_by_its_headers(rt: HostRuntime) -> Result<(), Fail> {
     let node = Name::of_field(&LYON)?;
     assert_eq!(rt; name_of(&file), Some(FileName { node, number: 42 }));
     assert_eq!(rt; owner_of(&file), Some(User { node, user: ANNA }));
-    let job = Destination { node: METZ, user: BLANKS };
+    let job = Destination {
+        node: METZ,
+        user: BLANKS,
+    };
     assert_eq!(rt; destination_of(&file, Kind::In), Some(job));
-    let output = Destination { node: METZ, user: PAUL };
+    let output = Destination {
+        node: METZ,
+        user: PAUL,
+    };
     assert_eq!(rt; destination_of(&file, Kind::Out), Some(output));
     let headless = Records { all: &all[2..] };
     assert_eq!(rt; name_of(&headless), None);
@@ -203,6 +222,9 @@ fn notices(rt: HostRuntime) -> Result<(), Fail> {
     }
     let mut digits = MessageText::new();
     push_digits(&mut digits, 4294967295);
-    assert_eq!(rt; digits.as_slice(), b"\xf4\xf2\xf9\xf4\xf9\xf6\xf7\xf2\xf9\xf5".as_slice());
+    assert_eq!(rt;
+        digits.as_slice(),
+        b"\xf4\xf2\xf9\xf4\xf9\xf6\xf7\xf2\xf9\xf5".as_slice()
+    );
     Ok(())
 }
