@@ -5,8 +5,6 @@ mod characters;
 mod fields;
 mod laws;
 mod name;
-#[cfg(test)]
-mod tests;
 
 pub use characters::{byte_of, fold_upper, text_of};
 pub use fields::{BLANK, FIELD, is_name, pad, trim_blanks};
