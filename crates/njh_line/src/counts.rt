@@ -10,7 +10,7 @@ use njh_block::{Bcb, Fcs, Numbering};
 pub(crate) const COUNTS: u8 = 16;
 
 /// What a block does by its BCB.
-#[derive(Clone, Copy, Debug, PartialEq, Eq)]
+#[derive(Clone, Copy)]
 pub(crate) enum Counted {
     /// It is acted on.
     Acts,
