@@ -34,10 +34,10 @@ all_on = (0x8f, 0xcf)
 
 -- a block of the hub's own count, without records
 abbrev pub own_block : LineState → Writing
-own_block x = record { limit = x.session.size; bcb = 0x80 + x.session.count; fcs = all_on; items = [] }
+own_block x = record { limit = x.session.size; bcb = 0x80 + x.session.next_count; fcs = all_on; items = [] }
 
 abbrev pub sends_block : Writing → LineState → Sending
-sends_block w x = let frame = text_bytes (text_of w.bcb w.fcs w.items) in sends (line.Text frame all_on) frame x
+sends_block w x = let frame = text_bytes (text_of w.bcb w.fcs w.items) in sends (line.Block frame all_on) frame x
 
 -- the record of a nodal message in a block of the hub's
 abbrev pub message_item : List ℕ → Item

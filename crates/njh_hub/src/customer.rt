@@ -15,9 +15,9 @@ ghost use Rattle.njh_hub.specs.Parts.{customer_with};
 use crate::event::Signal;
 use crate::records::all_act;
 use crate::sending::send_reply;
-use njh_bisync::Frame;
+use njh_bisync::{Frame, LONGEST_FRAME};
 use njh_block::Block;
-use njh_line::{Input, LONGEST_FRAME, Line, Verdict};
+use njh_line::{Input, Line, Verdict};
 use njh_table::Customer;
 
 /// A frame comes on a line of a customer.

@@ -8,8 +8,8 @@ ghost use Rattle.njh_hub.specs.Parts.{customer_with};
 ghost use Rattle.njh_table.specs.TableFile.{entry_of};
 
 use crate::customer::frame_came;
-use njh_bisync::Deframer;
-use njh_line::{LONGEST_FRAME, Line};
+use njh_bisync::{Deframer, LONGEST_FRAME};
+use njh_line::Line;
 use njh_table::Customer;
 
 /// Takes the bytes up to the end of the first frame that is answered, or all of them, and says how many. `out` has the room for the

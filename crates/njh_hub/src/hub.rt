@@ -9,7 +9,7 @@ use crate::event::Signal;
 use crate::fault::HubFault;
 use crate::file_view::FileView;
 use crate::lines::Lines;
-use njh_line::LONGEST_FRAME;
+use njh_bisync::LONGEST_FRAME;
 use njh_table::{LineId, Tables};
 use std::alloc::Global;
 use std::marker::Model;

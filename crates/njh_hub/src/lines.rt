@@ -3,14 +3,14 @@
 ghost use Rattle.std.specs.Prelude.{◌≡◌, ◌<◌, ◌≤◌, [], length, IfOk};
 ghost use Rattle.std.specs.Vec.{vec_capacity};
 ghost use Rattle.njh_table.specs.TableFile.{entry_of, password_bytes};
-ghost use Rattle.njh_hub.specs.Customer.{config_of, password_in};
+ghost use Rattle.njh_hub.specs.Customer.{config_of, password_in, role_of};
 
 use crate::customer::signal_came;
 use crate::event::Signal;
 use crate::feeding::take_bytes;
-use njh_bisync::Deframer;
+use njh_bisync::{Deframer, LONGEST_FRAME};
 use njh_ebcdic::Name;
-use njh_line::{Config, LONGEST_FRAME, Line};
+use njh_line::{Config, Line};
 use njh_table::{Customer, Role};
 use std::alloc::{AllocError, Global};
 use std::marker::Model;
@@ -102,9 +102,19 @@ fn config_of(customer: &Customer, line: &njh_table::Line) -> Config
     Config {
         hub: customer.hub(),
         node: line.node(),
-        calls: line.role() == Role::Call,
+        role: role_of(line.role()),
         block: line.block(),
         password: whole_name(line.password()),
+    }
+}
+
+/// A line's role in the table, as the line's own.
+fn role_of(role: Role) -> njh_line::Role
+    ensures { result ≡ role_of role }
+{
+    match role {
+        Role::Call => njh_line::Role::Call,
+        Role::Answer => njh_line::Role::Answer,
     }
 }
 

@@ -60,7 +60,7 @@ fn message_came(customer: &Customer, bytes: &[u8], lines: &mut [Line])
 {
     match Nmr::read(bytes) {
         Ok(message) => {
-            if is_here(customer.route(message.to())) && message.command() {
+            if is_here(customer.route(message.to())) && message.is_user_command() {
                 command_came(customer, &message, lines);
             }
         }
@@ -92,7 +92,7 @@ fn say(route: Route, message: &Record, lines: &mut [Line])
     match route {
         Route::Line(line) => {
             if usize::from(line) < lines.len() {
-                lines[usize::from(line)].message(message);
+                lines[usize::from(line)].push_message(message);
             }
         }
         Route::Here | Route::Unknown => {}

@@ -4,13 +4,13 @@ ghost use Rattle.std.specs.Prelude.{◌≡◌, ◌≤◌, [], length};
 ghost use Rattle.std.specs.Vec.{vec_capacity};
 ghost use Rattle.njh_bisync.specs.Written.{text_bytes};
 ghost use Rattle.njh_block.specs.Blocks.{text_of};
-ghost use Rattle.njh_line.specs.Lines.{Text, after_sending};
+ghost use Rattle.njh_line.specs.Lines.{Block, after_sending};
 ghost use Rattle.njh_line.specs.Openings.{opening};
 ghost use Rattle.njh_hub.specs.Sending.{all_on, filled, next_block, own_block, replies, sends_block, sends_control, sends_frame, with_left};
 
-use njh_bisync::{Control, put_control, put_text};
+use njh_bisync::{Control, LONGEST_FRAME, put_control, put_text};
 use njh_block::{Bcb, BlockWriter, ControlRcb, Fcs, Out, Rcb};
-use njh_line::{LONGEST_FRAME, Line, Opening, Reply, Sent};
+use njh_line::{Line, Opening, Reply, Sent};
 
 /// The SRCB of a nodal message that the hub writes.
 const MESSAGE_SRCB: u8 = 0x80;
@@ -77,7 +77,7 @@ fn own_block(line: &Line) -> BlockWriter
     let session = line.session();
     BlockWriter::new(
         usize::from(session.size),
-        Bcb::normal(session.count),
+        Bcb::normal(session.next_count),
         Fcs::nothing_suspended(),
     )
 }
@@ -91,7 +91,7 @@ fn send_block(line: &mut Line, block: BlockWriter, out: &mut Vec<u8>)
     ensures room { vec_capacity out.old ≤ vec_capacity out.new }
 {
     put_text(&block.finish(), out).unwrap();
-    line.sent(&Sent::Text {
+    line.sent(&Sent::Block {
         frame: out,
         fcs: Fcs::nothing_suspended(),
     });
