@@ -4,7 +4,8 @@ use Rattle.std.specs.Str.{chars}
 use Rattle.toml.proofs.OnLiterals.{toml_on_literals}
 use Rattle.njh_ebcdic.specs.Characters.{byte_of_character}
 use Rattle.njh_table.specs.declared.fault.TableFault.{TableFault}
-use Rattle.njh_table.specs.declared.fault.TableFault.TheVariants.{BadToml, MissingKey, BadValue, DoubleLine, DoubleNode, UnknownLine, QuotaOver, TooMany, Memory}
+use Rattle.njh_table.specs.declared.fault.TableFault.TheVariants.{BadToml, MissingKey, BadValue, DoubleLine}
+use Rattle.njh_table.specs.declared.fault.TableFault.TheVariants.{DoubleNode, UnknownLine, QuotaOver, TooMany, Memory}
 use Rattle.njh_table.specs.declared.read.TheConstants.{BASE}
 use Rattle.njh_table.specs.Base.{base_tables}
 use Rattle.njh_table.specs.TableFile.{TableFile}
@@ -28,10 +29,12 @@ only_memory TooMany no_other = absurd (no_other (λ same. cc))
 only_memory Memory no_other = refl
 
 -- where the walk gives tables, reading answers them or want of memory
-pub read_gives : (walked : Walked TableFile) (tables : TableFile) (result : Result TableFile TableFault) → walked ≡ Ok tables → IfOk result (λ t. walked ≡ Ok t) → IfOk result (λ t. t ≡ tables)
+pub read_gives : (walked : Walked TableFile) (tables : TableFile) (result : Result TableFile TableFault) → walked ≡ Ok tables
+    → IfOk result (λ t. walked ≡ Ok t) → IfOk result (λ t. t ≡ tables)
 read_gives walked tables (Ok t) known told = cc
 read_gives walked tables (Err fault) known told = tt
 
-pub read_refuses : (walked : Walked TableFile) (tables : TableFile) (result : Result TableFile TableFault) → walked ≡ Ok tables → IfErr result (λ fault. fault ≢ Memory → walked ≡ Err fault) → IfErr result (λ fault. fault ≡ Memory)
+pub read_refuses : (walked : Walked TableFile) (tables : TableFile) (result : Result TableFile TableFault) → walked
+    ≡ Ok tables → IfErr result (λ fault. fault ≢ Memory → walked ≡ Err fault) → IfErr result (λ fault. fault ≡ Memory)
 read_refuses walked tables (Ok t) known told = tt
 read_refuses walked tables (Err fault) known told = only_memory fault (λ no_memory. let refused = told no_memory in cc)

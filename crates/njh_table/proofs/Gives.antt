@@ -56,7 +56,8 @@ with_keys Q value next more =
     and_then (λ _. ⊤) Q (keys_in value) next (some_or (λ _. ⊤) (as_table value) BadValue tt (any (as_table value))) (λ keys _. more keys)
 
 -- the value of a key that must be there, of which something holds, and what follows
-pub with_value : {A B : Type 0} (P : A → Type 0) (Q : B → Type 0) (read : Data → Option A) (key : List ℕ) (keys : Members) (next : A → Walked B)
+pub with_value : {A B : Type 0} (P : A → Type 0) (Q : B → Type 0) (read : Data → Option A) (key : List ℕ) (keys : Members)
+    (next : A → Walked B)
     → ((value : Data) → IfSome (read value) P) → ((x : A) → P x → Gives Q (next x)) → Gives Q (at_key read key keys >>= next)
 with_value P Q read key keys next holds more =
     and_then P Q (at_key read key keys) next

@@ -42,7 +42,8 @@ stops seen (Ok x) walked fault is_err told = elim is_err [ ]
 stops seen (Err e) walked fault same told = λ no_memory. told (λ memory. no_memory (same ∙ memory)) ∙ ap Err (sym same)
 
 -- the same, where no memory is asked for
-pub leaves : {A : Type 0} (result walked : Walked A) (fault : TableFault) → IsErrAnd result (λ e. e ≡ fault) → walked ≡ Err fault → result ≡ walked
+pub leaves : {A : Type 0} (result walked : Walked A) (fault : TableFault) → IsErrAnd result (λ e. e ≡ fault) → walked
+    ≡ Err fault → result ≡ walked
 leaves (Ok x) walked fault is_err told = elim is_err [ ]
 leaves (Err e) walked fault same told = ap Err same ∙ sym told
 

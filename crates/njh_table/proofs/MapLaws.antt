@@ -1,5 +1,6 @@
 -- The maps of names and of nodes, as the lists that contracts see.
-use Rattle.std.proofs.Common.{◌≡◌, ℕ, Bool, true, false, ◌||◌, cond, List, [], ◌∷◌, map, Option, Some, None, is_some, bytes_eq, refl, ap, sym, ◌∙◌}
+use Rattle.std.proofs.Common.{◌≡◌, ℕ, Bool, true, false, ◌||◌, cond, List, [], ◌∷◌, map, Option, Some, None, is_some}
+use Rattle.std.proofs.Common.{bytes_eq, refl, ap, sym, ◌∙◌}
 use Rattle.std.proofs.lemmas.Bool.{false≢true}
 use Rattle.std.specs.Cmp.Lexicographic.{nat_list_eq_equiv}
 use Rattle.std.specs.List.{list_any}
@@ -12,7 +13,8 @@ pub none_from_false : {X : Type 0} (o : Option X) → is_some o ≡ false → o 
 none_from_false None h = refl
 none_from_false (Some x) h = absurd (false≢true (sym h))
 
-is_some-cond : {X : Type 0} (b : Bool) (x : X) (rest : Option X) (any : Bool) → is_some rest ≡ any → is_some (cond b (Some x) rest) ≡ (b || any)
+is_some-cond : {X : Type 0} (b : Bool) (x : X) (rest : Option X) (any : Bool) → is_some rest ≡ any
+    → is_some (cond b (Some x) rest) ≡ (b || any)
 is_some-cond true x rest any h = refl
 is_some-cond false x rest any h = h
 

@@ -14,7 +14,8 @@ use Rattle.njh_table.specs.TableFile.{NamedLine}
 use Rattle.njh_table.specs.Keys.{number, node_name, is_line_name, line_name, role, password}
 use Rattle.njh_table.specs.Walk.{line_of, next_line, lines_onto}
 use Rattle.njh_table.proofs.OwnersLaws.{AreApart}
-use Rattle.njh_table.proofs.Gives.{Gives, and_then, weaker, past, with_keys, with_value, with_any, with_value_or, with_any_or, number-is, line_name-is}
+use Rattle.njh_table.proofs.Gives.{Gives, and_then, weaker, past, with_keys, with_value, with_any, with_value_or}
+use Rattle.njh_table.proofs.Gives.{with_any_or, number-is, line_name-is}
 use Rattle.njh_table.proofs.Distinct.{distinct_push}
 
 pub record IsNewLine (taken : List (List ℕ)) (l : NamedLine) : Type 0 where
@@ -27,10 +28,13 @@ unfolding line_of
 line_of-gives name keys is_name =
     with_any _ node_name (codes "node") keys _ (λ node.
     with_any _ role (codes "role") keys _ (λ role.
-    with_value (IsBetween MIN_BLOCK MAX_BLOCK) _ (number MIN_BLOCK MAX_BLOCK) (codes "block") keys _ (number-is MIN_BLOCK MAX_BLOCK) (λ block in_block.
-    with_value (IsBetween 1 MAX_STREAMS) _ (number 1 MAX_STREAMS) (codes "streams") keys _ (number-is 1 MAX_STREAMS) (λ streams in_streams.
+    with_value (IsBetween MIN_BLOCK MAX_BLOCK) _ (number MIN_BLOCK MAX_BLOCK) (codes "block") keys _
+    (number-is MIN_BLOCK MAX_BLOCK) (λ block in_block.
+    with_value (IsBetween 1 MAX_STREAMS) _ (number 1 MAX_STREAMS) (codes "streams") keys _ (number-is 1 MAX_STREAMS)
+    (λ streams in_streams.
     with_any_or _ password [] (codes "password") keys _ (λ password.
-    with_value_or (IsBetween 0 MAX_PORT) _ (number 0 MAX_PORT) 0 (codes "port") keys _ (omega arith, omega arith) (number-is 0 MAX_PORT) (λ port in_port.
+    with_value_or (IsBetween 0 MAX_PORT) _ (number 0 MAX_PORT) 0 (codes "port") keys _ (omega arith, omega arith)
+    (number-is 0 MAX_PORT) (λ port in_port.
     (refl, record { name = is_name; block = in_block; streams = in_streams; port = in_port.1 })))))))
 
 next_line-gives : (taken : List (List ℕ)) (value : Data) → Gives (IsNewLine taken) (next_line taken value)

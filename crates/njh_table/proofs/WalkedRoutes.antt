@@ -1,5 +1,6 @@
 -- What the walk over a customer's routes gives.
-use Rattle.std.proofs.Common.{◌≡◌, ℕ, ◌+◌, ◌<◌, ◌≤◌, Bool, true, false, cond, ◌||◌, nat_le, List, [], ◌∷◌, ◌++◌, length, map, codes, bytes_eq, All}
+use Rattle.std.proofs.Common.{◌≡◌, ℕ, ◌+◌, ◌<◌, ◌≤◌, Bool, true, false, cond, ◌||◌, nat_le, List, [], ◌∷◌, ◌++◌}
+use Rattle.std.proofs.Common.{length, map, codes, bytes_eq, All}
 use Rattle.std.proofs.Common.{Option, Some, IfSome, is_some, ok_or, refl, sym, ap, subst, ◌∙◌, arith}
 use Rattle.std.specs.List.{list_any, position_from}
 use Rattle.std.specs.Cmp.Lexicographic.{nat_list_eq_equiv}
@@ -74,7 +75,8 @@ pub routes_onto-gives : (hub : List ℕ) (lines : ℕ) (find : List ℕ → Opti
     → Finds lines find → AreRoutes hub lines done → Gives (AreRoutes hub lines) (routes_onto hub find done values)
 routes_onto-gives hub lines find done no_items finds routes = routes
 routes_onto-gives hub lines find done (item value more) finds routes =
-    and_then (IsNewRoute hub lines done) (AreRoutes hub lines) (next_route hub find done value) _ (next_route-gives hub lines find done value finds)
+    and_then (IsNewRoute hub lines done) (AreRoutes hub lines) (next_route hub find done value) _
+    (next_route-gives hub lines find done value finds)
     (λ r new. routes_onto-gives hub lines find (done ++ r ∷ []) more finds (AreRoutes-push hub lines done r routes new))
 
 position_from-below : {X : Type 0} (test : X → Bool) (k : ℕ) (xs : List X) → IfSome (position_from test k xs) (λ i. i < k + length xs)

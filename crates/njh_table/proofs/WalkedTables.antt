@@ -1,5 +1,6 @@
 -- What the walk accepts is within the limits, and its faults are its own.
-use Rattle.std.proofs.Common.{◌≡◌, ◌≢◌, ℕ, ◌<◌, ◌≤◌, false, nat_le, nat_lt, sum_by, List, [], ◌∷◌, ◌++◌, length, map, codes, bytes_eq, All}
+use Rattle.std.proofs.Common.{◌≡◌, ◌≢◌, ℕ, ◌<◌, ◌≤◌, false, nat_le, nat_lt, sum_by, List, [], ◌∷◌, ◌++◌, length, map}
+use Rattle.std.proofs.Common.{codes, bytes_eq, All}
 use Rattle.std.proofs.Common.{Option, Some, None, IfErr, ok_or, Result, Ok, Err, ◌↔◌, refl, sym, ap, subst, ◌∙◌, arith}
 use Rattle.std.specs.List.{list_any}
 use Rattle.std.specs.Cmp.Lexicographic.{nat_list_eq_equiv}
@@ -64,7 +65,8 @@ next_customer-gives done value customers =
     and_then (AreLines (line_names done)) _ (lines_onto (line_names done) [] line_values) _
     (lines_onto-gives (line_names done) [] line_values (none_yet done customers)) (λ lines are_lines.
     and_then (AreRoutes own.hub (length lines)) _ (routes_onto own.hub (line_number lines) [] route_values) _
-    (routes_onto-gives own.hub (length lines) (line_number lines) [] route_values (line_number-finds lines) (no_routes own.hub (length lines)))
+    (routes_onto-gives own.hub (length lines) (line_number lines) [] route_values (line_number-finds lines)
+    (no_routes own.hub (length lines)))
     (λ routes are_routes.
     record {
       room = leb-false MAX_CUSTOMERS (length done) room;
@@ -88,9 +90,11 @@ next_customer-gives done value customers =
     }
 
     no_routes : (hub : List ℕ) (lines : ℕ) → AreRoutes hub lines []
-    no_routes hub lines = record { count = omega arith; each = All-nil (IsRoute lines); nodes = λ i j d below within. absurd (omega arith) }
+    no_routes hub lines =
+        record { count = omega arith; each = All-nil (IsRoute lines); nodes = λ i j d below within. absurd (omega arith) }
 
-line_names-push : (done : List NamedCustomer) (c : NamedCustomer) → line_names (done ++ c ∷ []) ≡ line_names done ++ map (λ l. l.name) c.lines
+line_names-push : (done : List NamedCustomer) (c : NamedCustomer) → line_names (done ++ c ∷ [])
+    ≡ line_names done ++ map (λ l. l.name) c.lines
 line_names-push done c = flat_map-append _ done (c ∷ []) ∙ ap (λ names. line_names done ++ names) (append-nil (map (λ l. l.name) c.lines))
 
 -- a customer's name that none of those done has
@@ -147,7 +151,8 @@ some_customers (item value more) some =
 pub tables_in-gives : (keys : Members) → Gives IsAccepted (tables_in keys)
 unfolding tables_in
 tables_in-gives keys =
-    with_value (IsBetween 1 MAX_CAPACITY) _ (number 1 MAX_CAPACITY) (codes "capacity") keys _ (number-is 1 MAX_CAPACITY) (λ capacity in_capacity.
+    with_value (IsBetween 1 MAX_CAPACITY) _ (number 1 MAX_CAPACITY) (codes "capacity") keys _ (number-is 1 MAX_CAPACITY)
+    (λ capacity in_capacity.
     with_any _ as_array (codes "customer") keys _ (λ values.
     past _ (is_empty values) MissingKey _ tt (λ some.
     and_then (AreAtLeast 1) _ (customers_onto [] values) _ (some_customers values some) (λ customers accepted.

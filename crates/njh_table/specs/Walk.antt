@@ -1,15 +1,19 @@
 -- The walk over a table file: the tables that it gives, or its first fault. Each element of a list is walked after those before it: a list
 -- past its limit is refused before the element's keys, and keys that aren't named here are ignored.
-use Rattle.std.specs.Prelude.{◌≡◌, ◌≢◌, ℕ, Bool, true, false, ◌||◌, List, [], ◌∷◌, ◌++◌, length, map, codes, nat_le, nat_lt, sum_by, bytes_eq}
+use Rattle.std.specs.Prelude.{◌≡◌, ◌≢◌, ℕ, Bool, true, false, ◌||◌, List, [], ◌∷◌, ◌++◌, length, map, codes, nat_le}
+use Rattle.std.specs.Prelude.{nat_lt, sum_by, bytes_eq}
 use Rattle.std.specs.Prelude.{Option, None, ok_or, is_some, Result, Ok, Err, MatchResult}
 use Rattle.std.specs.List.{list_any, position_from}
 use Rattle.toml.specs.Data.{Data, Items, no_items, item, Members, as_str, as_array}
 use Rattle.toml.specs.Parse.{parse_document}
 use Rattle.njh_table.specs.declared.fault.TableFault.{TableFault}
-use Rattle.njh_table.specs.declared.fault.TableFault.TheVariants.{BadToml, MissingKey, BadValue, DoubleLine, DoubleNode, UnknownLine, QuotaOver, TooMany, Memory}
-use Rattle.njh_table.specs.declared.limits.TheConstants.{MAX_CUSTOMERS, MAX_LINES, MAX_ROUTES, MAX_CAPACITY, MAX_QUOTA, MAX_FILES, MIN_BLOCK, MAX_BLOCK, MAX_STREAMS, MAX_PORT}
+use Rattle.njh_table.specs.declared.fault.TableFault.TheVariants.{BadToml, MissingKey, BadValue, DoubleLine}
+use Rattle.njh_table.specs.declared.fault.TableFault.TheVariants.{DoubleNode, UnknownLine, QuotaOver, TooMany, Memory}
+use Rattle.njh_table.specs.declared.limits.TheConstants.{MAX_CUSTOMERS, MAX_LINES, MAX_ROUTES, MAX_CAPACITY, MAX_QUOTA}
+use Rattle.njh_table.specs.declared.limits.TheConstants.{MAX_FILES, MIN_BLOCK, MAX_BLOCK, MAX_STREAMS, MAX_PORT}
 use Rattle.njh_table.specs.Entries.{RouteEntry, line_to}
-use Rattle.njh_table.specs.Keys.{Walked, ◌>>=◌, ◌>>◌, fault_where, keys_in, at_key, at_key_or, number, node_name, line_name, role, password}
+use Rattle.njh_table.specs.Keys.{Walked, ◌>>=◌, ◌>>◌, fault_where, keys_in, at_key, at_key_or, number, node_name}
+use Rattle.njh_table.specs.Keys.{line_name, role, password}
 use Rattle.njh_table.specs.TableFile.{NamedLine, NamedCustomer, TableFile, line_names}
 
 -- ---- lines

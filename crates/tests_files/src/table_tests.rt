@@ -1,7 +1,6 @@
 //! Tables that are read, and tables that are refused.
 
-mod faults;
-mod order;
+mod changes;
 mod reading;
 mod sizes;
 
@@ -41,14 +40,11 @@ node = "LYON"
 line = "b1"
 "#;
 
-/// A text of the file, and what stands in its place.
-type Change = (&'static str, &'static str);
-
-/// The fault of a file, if it has one.
-fn fault_in(alloc: Global, text: &str) -> Result<Option<TableFault>, AllocError> {
+/// What comes of a file: `taken`, or its fault as it is printed.
+fn outcome(alloc: Global, text: &str) -> Result<String, AllocError> {
     match Tables::read(alloc, text) {
-        Ok(_) => Ok(None),
+        Ok(_) => String::from_str(alloc, "taken"),
         Err(TableFault::Memory) => Err(AllocError),
-        Err(fault) => Ok(Some(fault)),
+        Err(fault) => fault.to_string(alloc),
     }
 }

@@ -3,7 +3,7 @@
 use super::*;
 use std::test::Fail;
 
-/// A file of so many customers with four lines each, but so many of the first, and so many routes each.
+/// A file of so many customers with four lines each, the first with so many, and so many routes each.
 fn file(alloc: Global, customers: u32, lines: u32, routes: u32) -> Result<String, AllocError> {
     let mut text = String::from_str(alloc, "capacity = 4194240\n")?;
     for c in 0..customers {
@@ -27,26 +27,25 @@ fn file(alloc: Global, customers: u32, lines: u32, routes: u32) -> Result<String
     Ok(text)
 }
 
-/// Customers, lines of the first, routes of each, what stands behind them, and the fault.
-const FILES: [(u32, u32, u32, &str, Option<TableFault>); 9] = [
-    (64, 4, 512, "", None),
-    (65, 4, 0, "", Some(TableFault::TooMany)),
-    (64, 5, 0, "", Some(TableFault::TooMany)),
-    (1, 4, 513, "", Some(TableFault::TooMany)),
-    (64, 4, 0, "[[customer]]", Some(TableFault::TooMany)),
-    (63, 4, 0, "[[customer]]", Some(TableFault::MissingKey)),
-    (1, 256, 0, "[[customer.line]]", Some(TableFault::TooMany)),
-    (1, 255, 0, "[[customer.line]]", Some(TableFault::MissingKey)),
-    (1, 4, 512, "[[customer.route]]", Some(TableFault::TooMany)),
-];
-
+/// What is past its limit is told before its keys, which are missing.
 #[test]
 fn files_at_and_past_a_limit(rt: HostRuntime) -> Result<(), Fail> {
-    for (customers, lines, routes, last, fault) in FILES {
+    for (customers, lines, routes, last, want) in [
+        (64, 4, 0, "", "taken"),
+        (1, 4, 512, "", "taken"),
+        (65, 4, 0, "", "K8 TooMany"),
+        (64, 5, 0, "", "K8 TooMany"),
+        (1, 4, 513, "", "K8 TooMany"),
+        (64, 4, 0, "[[customer]]", "K8 TooMany"),
+        (63, 4, 0, "[[customer]]", "K2 MissingKey"),
+        (1, 256, 0, "[[customer.line]]", "K8 TooMany"),
+        (1, 255, 0, "[[customer.line]]", "K2 MissingKey"),
+        (1, 4, 512, "[[customer.route]]", "K8 TooMany"),
+    ] {
         let mut text = file(rt.alloc(), customers, lines, routes)?;
         text.push_str(last)?;
-        let found = fault_in(rt.alloc(), text.as_str())?;
-        assert_eq!(rt; found, fault, "{customers} {lines} {routes} {last}");
+        let found = outcome(rt.alloc(), text.as_str())?;
+        assert_eq!(rt; found.as_str(), want, "{customers} {lines} {routes} {last}");
     }
     Ok(())
 }

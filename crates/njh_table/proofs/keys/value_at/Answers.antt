@@ -1,4 +1,4 @@
-use Rattle.std.proofs.Common.{ok_or, ap, sym, ◌∙◌}
+use Rattle.std.proofs.Common.{ok_or, ap}
 use Rattle.njh_table.specs.declared.fault.TableFault.TheVariants.{MissingKey}
 use Rattle.njh_table.proofs.keys.value_at.Goals as goal
 

@@ -9,7 +9,8 @@ returns-in_err-name c = leaves_seen _ _ _ _ c.from_residual.ensures.1 (ends _ _ 
 
 pub returns-then-has_customer : goal.returns-then-has_customer
 unfolding customer_keys
-returns-then-has_customer c = sym (goes_on _ _ _ (sym c.in_ok-name.ensures) ∙ fails _ _ _ (sym c.has_customer.ensures ∙ c.if-has_customer.true))
+returns-then-has_customer c =
+    sym (goes_on _ _ _ (sym c.in_ok-name.ensures) ∙ fails _ _ _ (sym c.has_customer.ensures ∙ c.if-has_customer.true))
 
 pub returns-in_err-hub : goal.returns-in_err-hub
 unfolding customer_keys
@@ -30,10 +31,12 @@ unfolding customer_keys
 returns-in_err-files c =
     leaves_seen _ _ _ _ c.from_residual-in_err-files.ensures.1
     (goes_on _ _ _ (sym c.in_ok-name.ensures) ∙ passes _ _ _ (sym c.has_customer.ensures ∙ c.if-has_customer.false)
-    ∙ goes_on _ _ _ (sym c.in_ok-hub.ensures) ∙ goes_on _ _ _ (sym c.in_ok-quota.ensures.read) ∙ ends _ _ _ (sym c.in_err-files.ensures.read))
+    ∙ goes_on _ _ _ (sym c.in_ok-hub.ensures) ∙ goes_on _ _ _ (sym c.in_ok-quota.ensures.read)
+    ∙ ends _ _ _ (sym c.in_err-files.ensures.read))
 
 pub returns : goal.returns
 unfolding customer_keys
 returns c =
     sym (goes_on _ _ _ (sym c.in_ok-name.ensures) ∙ passes _ _ _ (sym c.has_customer.ensures ∙ c.if-has_customer.false)
-    ∙ goes_on _ _ _ (sym c.in_ok-hub.ensures) ∙ goes_on _ _ _ (sym c.in_ok-quota.ensures.read) ∙ goes_on _ _ _ (sym c.in_ok-files.ensures.read))
+    ∙ goes_on _ _ _ (sym c.in_ok-hub.ensures) ∙ goes_on _ _ _ (sym c.in_ok-quota.ensures.read)
+    ∙ goes_on _ _ _ (sym c.in_ok-files.ensures.read))

@@ -13,7 +13,8 @@ returns-in_err-customer-clause-walk c =
     let done = c.loop-value.customers.items in
     let here = turn c.args.values.now c.loop-value.value-index c.value-item.result c.loop-value-test.true c.value-item.is in
     stops _ _ _ _ c.from_residual.ensures.1 (λ no_memory. sym c.loop-value.invariant.0 ∙ ap (customers_onto done) here
-    ∙ ends _ _ _ (ap (λ d. next_customer d (view c.value-item.result)) (sym c.deref.ensures.value) ∙ c.in_err-customer.ensures.walk no_memory))
+    ∙ ends _ _ _ (ap (λ d. next_customer d (view c.value-item.result)) (sym c.deref.ensures.value)
+    ∙ c.in_err-customer.ensures.walk no_memory))
 
 pub loop-value-preserved : goal.loop-value-preserved
 loop-value-preserved c =

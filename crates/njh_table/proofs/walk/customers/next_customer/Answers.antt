@@ -1,4 +1,4 @@
-use Rattle.std.proofs.Common.{◌≡◌, [], ◌++◌, length, Ok, Err, ap, sym, refl, ◌∙◌}
+use Rattle.std.proofs.Common.{◌≡◌, [], ◌++◌, length, Ok, ap, sym, refl, ◌∙◌}
 use Rattle.std.proofs.lemmas.Bool.{lt-leb}
 use Rattle.toml.specs.View.{items_view}
 use Rattle.njh_table.specs.declared.limits.TheConstants.{MAX_CUSTOMERS}

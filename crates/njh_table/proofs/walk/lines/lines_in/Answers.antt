@@ -29,9 +29,13 @@ loop-value-preserved c =
     let line = c.in_ok-line.line in
     let names = ap names_in c.loop-value.invariant.1 ∙ names_after c.args.owners.now c.args.customer done in
     let here = turn c.args.values.now c.loop-value.value-index c.value-item.result c.loop-value-test.true c.value-item.is in
-    let walked = ap (lines_onto taken done) here ∙ goes_on _ _ _ (ap (λ n. next_line n (view c.value-item.result)) (sym names) ∙ c.in_ok-line.ensures.walk) in (
-      ap (λ ls. lines_onto taken ls (items_view (drop (c.loop-value.value-index + 1) c.args.values.now))) c.in_ok-push.ensures.items ∙ sym walked ∙ c.loop-value.invariant.0,
-      c.in_ok-line.ensures.owners ∙ ap (λ owners. owners ++ (line.name, record { customer = c.args.customer; line = c.len.result }) ∷ []) c.loop-value.invariant.1
+    let walked = ap (lines_onto taken done) here
+    ∙ goes_on _ _ _ (ap (λ n. next_line n (view c.value-item.result)) (sym names) ∙ c.in_ok-line.ensures.walk) in (
+      ap (λ ls. lines_onto taken ls
+          (items_view (drop (c.loop-value.value-index + 1) c.args.values.now))) c.in_ok-push.ensures.items ∙ sym walked
+          ∙ c.loop-value.invariant.0,
+      c.in_ok-line.ensures.owners
+          ∙ ap (λ owners. owners ++ (line.name, record { customer = c.args.customer; line = c.len.result }) ∷ []) c.loop-value.invariant.1
           ∙ owners_push c.args.owners.now c.args.customer done line c.len.result (c.len.ensures ∙ c.loop-value.lines.ok.0)
           ∙ ap (λ ls. c.args.owners.now ++ line_owners c.args.customer 0 ls) (sym c.in_ok-push.ensures.items),
     )
