@@ -67,7 +67,7 @@ fn own_block(line: &Line) -> BlockWriter
     let session = line.session();
     BlockWriter::new(
         usize::from(session.size),
-        Bcb::normal(session.count),
+        Bcb::normal(session.next_count),
         Fcs::nothing_suspended(),
     )
 }
@@ -78,7 +78,7 @@ fn send_block(line: &mut Line, block: BlockWriter, out: &mut FrameBuffer)
     ensures frame { out.new ≡ (block_sent block line.old).frame }
 {
     out.set_text(&block.finish());
-    line.sent(&Sent::Text {
+    line.sent(&Sent::Block {
         frame: out.bytes(),
         fcs: Fcs::nothing_suspended(),
     });
