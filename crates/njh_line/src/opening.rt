@@ -6,7 +6,7 @@ ghost use Rattle.njh_line.specs.Openings.{fits, fitting, is_password, opening, o
 use crate::config::Config;
 use crate::session::LEAST_SIZE;
 use arrayvec::ArrayVec;
-use njh_block::{Bcb, BlockWriter, Fcs, Out, Text};
+use njh_block::{Bcb, BlockText, BlockWriter, Fcs, Out};
 use njh_ebcdic::BLANK;
 use njh_header::SignOn;
 
@@ -56,7 +56,7 @@ impl Config {
 
     /// The text of the I or the J block: a sign-on alone, under a BCB that sets the count to 0, nothing suspended. A line without a
     /// password sends blanks.
-    pub fn opening(&self, kind: Opening) -> Text
+    pub fn opening(&self, kind: Opening) -> BlockText
         ensures { result.items ≡ opening kind self.now }
     {
         let mut sign_on = ArrayVec::new();
