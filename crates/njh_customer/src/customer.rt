@@ -110,7 +110,11 @@ fn act_where(acts: bool, customer: &Customer, block: Block<'_>, lines: &mut [Lin
     ensures ended { result ≡ (alone.acted_where acts (entry_of customer.now) block.entry.items lines.old).ended }
     ensures lines { lines.new ≡ (alone.acted_where acts (entry_of customer.now) block.entry.items lines.old).lines }
 {
-    if acts { all_act(customer, block, lines) } else { false }
+    if acts {
+        all_act(customer, block, lines)
+    } else {
+        false
+    }
 }
 
 /// A good block, as it comes to its line.
