@@ -12,7 +12,7 @@ use Rattle.njh_hub.specs.declared.fault.Cause.TheVariants as cause
 use Rattle.njh_hub.specs.declared.fault.HubFault.TheVariants.{UnknownLine, UnknownCustomer, Memory}
 use Rattle.njh_hub.specs.Own.{line_of}
 use Rattle.njh_hub.specs.Parts.{entries_of}
-use Rattle.njh_hub.specs.Runs.{Part, opened}
+use Rattle.njh_hub.specs.Whole.{Part, opened}
 use Rattle.njh_hub.specs.Stops.{CanStop}
 use Rattle.njh_hub.specs.Whole as hub
 use Rattle.njehub.specs.Names.{names_of}

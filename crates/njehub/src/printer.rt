@@ -39,7 +39,7 @@ impl<W: Write> Sink for Printer<'_, W> {
     ghost took = { λ before after pairs. (after.out.ghost_name ≡ before.out.ghost_name) × IsPrinted before.names.now after.names.now (W.contents before.out.now) (W.contents after.out.now) pairs };
 
     // A frame that was refused may be printed in part.
-    ghost refused = { λ before after. ⊤ };
+    ghost refused = { λ before after pair. ⊤ };
 
     ghost count = { λ printer. printer.failures };
 
