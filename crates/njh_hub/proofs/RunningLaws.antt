@@ -8,7 +8,8 @@ use Rattle.njh_table.specs.declared.LineId.{LineId}
 use Rattle.njh_hub.specs.declared.event.Event.{Event}
 use Rattle.njh_hub.specs.declared.event.Event.TheVariants.{Bytes}
 use Rattle.njh_hub.specs.Feeding.{sent_on, bytes_run}
-use Rattle.njh_hub.specs.Runs.{Part, part_takes, rest_on}
+use Rattle.njh_hub.specs.declared.event.Signal.{Signal}
+use Rattle.njh_hub.specs.Runs.{OwnEvent, OwnSignal, Part, event_run, part_hears, part_takes, rest_on}
 use Rattle.njh_hub.specs.Own.{first_bytes, first_of}
 use Rattle.njh_hub.specs.declared.fault.Cause.{Cause}
 use Rattle.njh_hub.specs.declared.fault.Cause.TheVariants.{Hub, Sink}
@@ -16,13 +17,8 @@ use Rattle.njh_hub.specs.declared.fault.HubFault.{HubFault}
 use Rattle.njh_hub.specs.declared.fault.HubFault.TheVariants.{UnknownLine, UnknownCustomer, Memory}
 use Rattle.njh_hub.specs.Stops.{CanStop, HandedUntil}
 use Rattle.njh_hub.specs.Whole.{no_part, part, HasLine, SameLines, sent_by, HubRun, hub_event, hub_run}
-use Rattle.njh_hub.specs.Sent.{but_last, IsCounted}
+use Rattle.njh_hub.specs.Sent.{IsCounted}
 use Rattle.njh_hub.proofs.PieceLaws.{after_bytes, after_bytes-none, after_bytes-step}
-
-pub but_last-push : {X : Type 0} (xs : List X) (x : X) → but_last (xs ++ x ∷ []) ≡ xs
-but_last-push [] x = refl
-but_last-push (y ∷ []) x = refl
-but_last-push (y ∷ z ∷ xs) x = ap (λ s. y ∷ s) (but_last-push (z ∷ xs) x)
 
 -- a customer with a line is there
 pub known-there : (parts : List Part) (line : LineId) → HasLine parts line → line.customer < length parts
@@ -103,9 +99,19 @@ sink_done parts line piece taken events bytes whole part =
     (cases_lt taken (length piece))
 
 -- a frame that was sent is the last pair
-pub but_last-frame : (pairs : List (LineId × List ℕ)) (c l : ℕ) (frame : List ℕ) → 0 < length frame → but_last (pairs ++ sent_by c (sent_on l frame)) ≡ pairs
-but_last-frame pairs c l [] some = absurd (omega arith)
-but_last-frame pairs c l (b ∷ frame) some = but_last-push pairs (record { customer = c; line = l }, b ∷ frame)
+pub last-frame : (pairs : List (LineId × List ℕ)) (line : LineId) (frame : List ℕ) → 0 < length frame
+    → pairs ++ sent_by line.customer (sent_on line.line frame) ≡ pairs ++ (line, frame) ∷ []
+last-frame pairs line [] some = absurd (omega arith)
+last-frame pairs line (b ∷ frame) some = refl
+
+-- the same of a signal
+pub last-signal : (parts : List Part) (line : LineId) (event : OwnEvent) (signal : Signal) (frame : List ℕ) → event ≡ OwnSignal signal line.line
+    → frame ≡ (part_hears (part line.customer parts) line.line signal).frame → 0 < length frame
+    → sent_by line.customer (event_run (part line.customer parts) event).sent ++ [] ≡ (line, frame) ∷ []
+last-signal parts line event signal frame is_signal is_frame some =
+    append-nil (sent_by line.customer (event_run (part line.customer parts) event).sent)
+    ∙ ap (λ (e : OwnEvent). sent_by line.customer (event_run (part line.customer parts) e).sent) is_signal
+    ∙ ap (λ (f : List ℕ). sent_by line.customer (sent_on line.line f)) (sym is_frame) ∙ last-frame [] line frame some
 
 pub some-frame : (pairs : List (LineId × List ℕ)) (c l : ℕ) (frame : List ℕ) → 0 < length frame → 0 < length (pairs ++ sent_by c (sent_on l frame))
 some-frame pairs c l [] some = absurd (omega arith)
@@ -140,14 +146,6 @@ first_of-later events i n bytes event within found stop =
     ∙ ap (λ (k : ℕ). take i events ++ first_of (event ∷ []) k 0) (sym w.0) ∙ ap (λ (k : ℕ). take i events ++ first_of (event ∷ []) n k) (sym w.1))
     stop
 
-but_last-cons : {X : Type 0} (x : X) (ys : List X) → 0 < length ys → but_last (x ∷ ys) ≡ x ∷ but_last ys
-but_last-cons x [] some = absurd (omega arith)
-but_last-cons x (y ∷ ys) some = refl
-
-but_last-append : {X : Type 0} (xs ys : List X) → 0 < length ys → but_last (xs ++ ys) ≡ xs ++ but_last ys
-but_last-append [] ys some = refl
-but_last-append (x ∷ xs) ys some = but_last-cons x (xs ++ ys) (omega (arith, length-append xs ys)) ∙ ap (λ s. x ∷ s) (but_last-append xs ys some)
-
 -- a step on a line refuses for no customer
 pub CanStop-step : (fault : HubFault) (P : Type 0) → ((P → ⊥) → fault ≡ UnknownLine) → (P → fault ≡ Memory) → CanStop (Hub fault)
 CanStop-step UnknownLine P unknown memory = tt
@@ -155,12 +153,13 @@ CanStop-step UnknownCustomer P unknown memory = let never : P → ⊥ = λ p. cc
 CanStop-step Memory P unknown memory = tt
 
 -- What a sink took before, and then up to a stop.
-pub HandedUntil-after : {S : Type 0} (took : S → S → List (LineId × List ℕ) → Type 0) (refused : S → S → Type 0) (cause : Cause) (a b c : S) (xs ys : List (LineId × List ℕ)) →
+pub HandedUntil-after : {S : Type 0} (took : S → S → List (LineId × List ℕ) → Type 0) (refused : S → S → LineId × List ℕ → Type 0) (cause : Cause)
+    (a b c : S) (xs ys : List (LineId × List ℕ)) →
     ((a b c : S) (xs ys : List (LineId × List ℕ)) → took a b xs → took b c ys → took a c (xs ++ ys)) →
-    took a b xs → HandedUntil took refused cause b c ys → (cause ≡ Sink → 0 < length ys) → HandedUntil took refused cause a c (xs ++ ys)
-HandedUntil-after took refused (Hub fault) a b c xs ys more before here some = more a b c xs ys before here
-HandedUntil-after took refused Sink a b c xs ys more before here some =
-    (here.0, rw (but_last-append xs ys (some refl)) (more a b here.0 xs (but_last ys) before here.1), here.2)
+    took a b xs → HandedUntil took refused cause b c ys → HandedUntil took refused cause a c (xs ++ ys)
+HandedUntil-after took refused (Hub fault) a b c xs ys more before here = more a b c xs ys before here
+HandedUntil-after took refused Sink a b c xs ys more before (front, last, between, all, taken, left) =
+    (xs ++ front, last, between, ap (λ s. xs ++ s) all ∙ sym (append_assoc xs front (last ∷ [])), more a b between xs front before taken, left)
 
 -- the hub after more events
 abbrev pub later_than : List Part → List (LineId × List ℕ) → List Event → HubRun

@@ -1,5 +1,5 @@
 -- How far a run came, and why it stopped.
-use Rattle.std.specs.Prelude.{◌≡◌, ℕ, ◌<◌, ◌⊎◌, List, Result, Ok, Err, ⊤}
+use Rattle.std.specs.Prelude.{◌≡◌, ℕ, ◌<◌, ◌⊎◌, List, [], ◌∷◌, ◌++◌, Result, Ok, Err, ⊤}
 use Rattle.njh_table.specs.declared.LineId.{LineId}
 use Rattle.njh_hub.specs.declared.event.Event.{Event}
 use Rattle.njh_hub.specs.declared.fault.HubFault.TheVariants.{UnknownLine, UnknownCustomer, Memory}
@@ -7,7 +7,6 @@ use Rattle.njh_hub.specs.declared.fault.Cause.{Cause}
 use Rattle.njh_hub.specs.declared.fault.Cause.TheVariants.{Hub, Sink}
 use Rattle.njh_hub.specs.declared.fault.RunFault.{RunFault}
 use Rattle.njh_hub.specs.Own.{first_of, bytes_in_event}
-use Rattle.njh_hub.specs.Sent.{but_last}
 
 -- the events that happened: all, or up to where the run stopped
 abbrev pub done : {A : Type 0} → List Event → Result A RunFault → List Event
@@ -22,12 +21,15 @@ CanStop (Hub Memory) = ⊤
 CanStop Sink = ⊤
 
 -- What a sink took where a run was stopped: the frames that were sent, or all but the last, which it then refused.
-abbrev pub HandedUntil : {S : Type 0} → (S → S → List (LineId × List ℕ) → Type 0) → (S → S → Type 0) → Cause → S → S → List (LineId × List ℕ) → Type 0
+abbrev pub HandedUntil : {S : Type 0} → (S → S → List (LineId × List ℕ) → Type 0) → (S → S → LineId × List ℕ → Type 0) → Cause
+    → S → S → List (LineId × List ℕ) → Type 0
 HandedUntil took refused (Hub fault) before after sent = took before after sent
-HandedUntil {S} took refused Sink before after sent = (between : S) × took before between (but_last sent) × refused between after
+HandedUntil {S} took refused Sink before after sent = (front : List (LineId × List ℕ)) × (last : LineId × List ℕ) × (between : S)
+    × (sent ≡ front ++ last ∷ []) × took before between front × refused between after last
 
 -- What it took in a run.
-abbrev pub Handed : {S A : Type 0} → (S → S → List (LineId × List ℕ) → Type 0) → (S → S → Type 0) → Result A RunFault → S → S → List (LineId × List ℕ) → Type 0
+abbrev pub Handed : {S A : Type 0} → (S → S → List (LineId × List ℕ) → Type 0) → (S → S → LineId × List ℕ → Type 0) → Result A RunFault
+    → S → S → List (LineId × List ℕ) → Type 0
 Handed took refused (Ok x) before after sent = took before after sent
 Handed took refused (Err fault) before after sent = HandedUntil took refused fault.cause before after sent
 

@@ -190,7 +190,7 @@ fn after_sink(taken: usize, len: usize) -> RunFault
 /// Hands the frame of a step to the sink, where one was sent.
 fn hand_over<S: Sink>(line: LineId, frame: &[u8], sink: &mut S) -> Result<(), SinkFault>
     ensures ok { OnOk result (S.took sink.old sink.new (sent_by line.customer (sent_on line.line frame.now))) }
-    ensures err { OnErr result (S.refused sink.old sink.new × (0 < length frame.now)) }
+    ensures err { OnErr result (S.refused sink.old sink.new (line, frame.now) × (0 < length frame.now)) }
     ensures counts { S.count sink.old ≤ S.count sink.new }
     ensures counted { OnErr result (IsCounted (S.count sink.old) (S.count sink.new)) }
 {

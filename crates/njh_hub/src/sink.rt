@@ -23,8 +23,8 @@ pub trait Sink {
     /// Between these two states it took these pairs, in this order, and nothing else.
     ghost took: { Self → Self → List (LineId × List ℕ) → Type 0 };
 
-    /// Between these two states it refused a frame.
-    ghost refused: { Self → Self → Type 0 };
+    /// Between these two states it refused this pair.
+    ghost refused: { Self → Self → LineId × List ℕ → Type 0 };
 
     /// How often it failed.
     ghost count: { Self → ℕ };
@@ -34,7 +34,7 @@ pub trait Sink {
 
     fn send(&mut self, line: LineId, frame: &[u8]) -> Result<(), SinkFault>
         ensures ok { OnOk result (took self.old self.new ((line, frame.now) ∷ [])) }
-        ensures err { OnErr result (refused self.old self.new) }
+        ensures err { OnErr result (refused self.old self.new (line, frame.now)) }
         ensures counts { count self.old ≤ count self.new }
         ensures counted { OnErr result (IsCounted (count self.old) (count self.new)) };
 
@@ -96,7 +96,7 @@ impl Sink for MemorySink {
 
     ghost took = { λ before after pairs. after.pairs ≡ before.pairs ++ pairs };
 
-    ghost refused = { λ before after. after.pairs ≡ before.pairs };
+    ghost refused = { λ before after pair. after.pairs ≡ before.pairs };
 
     ghost count = { λ sink. sink.failures };
 
@@ -166,7 +166,7 @@ impl Sink for FailingSink {
 
     ghost took = { λ before after pairs. after.kept.pairs ≡ before.kept.pairs ++ pairs };
 
-    ghost refused = { λ before after. after.kept.pairs ≡ before.kept.pairs };
+    ghost refused = { λ before after pair. after.kept.pairs ≡ before.kept.pairs };
 
     ghost count = { λ sink. sink.kept.failures };
 

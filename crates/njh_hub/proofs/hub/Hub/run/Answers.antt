@@ -38,7 +38,7 @@ returns-in-Err-clause-handed g c =
     let sent = (hub_run start (take k events)).sent in
     let more = (hub_run c.loop-index.self (first_of (event ∷ []) fault.events fault.bytes)).sent in
     let handed = HandedUntil-after g.S.Sink.took g.S.Sink.refused fault.cause c.args.sink.now c.loop-index.sink c.run_event.new.sink sent more
-    g.met.S.Sink.more c.loop-index.invariant.sent c.in-Err.ensures.handed c.in-Err.ensures.refused in
+    g.met.S.Sink.more c.loop-index.invariant.sent c.in-Err.ensures.handed in
     let P : HubRun → Type 0 = λ h. HandedUntil g.S.Sink.took g.S.Sink.refused fault.cause c.args.sink.now c.run_event.new.sink h.sent in
     let Q : RunFault → Type 0 = λ f. HandedUntil g.S.Sink.took g.S.Sink.refused f.cause c.args.sink.now c.run_event.new.sink (hub_run start (first_of events f.events f.bytes)).sent in
     subst Q (sym c.after.ensures) (subst P (sym stop) handed)

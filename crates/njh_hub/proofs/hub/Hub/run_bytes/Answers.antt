@@ -1,15 +1,13 @@
-use Rattle.std.proofs.Common.{◌≡◌, ℕ, ◌+◌, ◌<◌, List, [], ◌∷◌, length, take, ap, sym, subst, ◌∙◌, arith}
+use Rattle.std.proofs.Common.{◌≡◌, ℕ, ◌+◌, ◌<◌, List, [], ◌∷◌, length, take, ap, sym, subst, ◌∙◌, arith, ◌++◌}
 use Rattle.std.proofs.lemmas.List.{take_all}
-use Rattle.njh_table.specs.declared.LineId.{LineId}
 use Rattle.njh_hub.specs.declared.event.Event.TheVariants.{Bytes}
 use Rattle.njh_hub.specs.declared.fault.Cause.{Cause}
 use Rattle.njh_hub.specs.Feeding.{sent_on}
 use Rattle.njh_hub.specs.Own.{first_of}
 use Rattle.njh_hub.specs.Whole.{HubRun, HasLine, sent_by, hub_run}
-use Rattle.njh_hub.specs.Sent.{but_last}
 use Rattle.njh_hub.specs.Stops.{HandedUntil}
 use Rattle.njh_hub.proofs.PieceLaws.{after_bytes}
-use Rattle.njh_hub.proofs.RunningLaws.{IsStep, step_done, sink_done, whole_done, but_last-frame, some-frame}
+use Rattle.njh_hub.proofs.RunningLaws.{IsStep, step_done, sink_done, whole_done, last-frame, some-frame}
 use Rattle.njh_hub.proofs.hub.Hub.run_bytes.Goals as goal
 
 pub loop-used-preserved : goal.loop-used-preserved
@@ -115,12 +113,12 @@ returns-in-Err-hand_over-clause-handed g c =
     let stop = sink_done start line c.args.piece.now (c.loop-used.taken + c.in-Ok.used) c.after_sink.result.events c.after_sink.result.bytes c.after_sink.ensures.whole c.after_sink.ensures.part in
     let sent = (after_bytes start line (take c.loop-used.taken c.args.piece.now)).sent in
     let some : 0 < length c.take.new.out.items = omega (arith, c.in-Err-hand_over.ensures.err.1, ap (λ (b : List ℕ). length b) c.deref.ensures.value) in
-    let last : sent ≡ but_last (hub_run start (first_of (Bytes line c.args.piece.now ∷ []) c.after_sink.result.events c.after_sink.result.bytes)).sent =
-    sym (but_last-frame sent line.customer line.line c.take.new.out.items some) ∙ ap (λ (h : HubRun). but_last h.sent) (sym (stop ∙ there)) in
     let all = (hub_run start (first_of (Bytes line c.args.piece.now ∷ []) c.after_sink.result.events c.after_sink.result.bytes)).sent in
-    let P : List (LineId × List ℕ) → Type 0 = λ pairs. g.S.Sink.took c.args.sink.now c.loop-used.sink pairs in
+    let last : all ≡ sent ++ (line, c.deref.result.now) ∷ [] =
+    ap (λ (h : HubRun). h.sent) (stop ∙ there) ∙ last-frame sent line c.take.new.out.items some
+    ∙ ap (λ (b : List ℕ). sent ++ (line, b) ∷ []) (sym c.deref.ensures.value) in
     let Q : Cause → Type 0 = λ cause. HandedUntil g.S.Sink.took g.S.Sink.refused cause c.args.sink.now c.hand_over.new.sink all in
-    subst Q (sym c.after_sink.ensures.cause) (c.loop-used.sink, subst P last c.loop-used.invariant.sent, c.in-Err-hand_over.ensures.err.0)
+    subst Q (sym c.after_sink.ensures.cause) (sent, (line, c.deref.result.now), c.loop-used.sink, last, c.loop-used.invariant.sent, c.in-Err-hand_over.ensures.err.0)
 
 pub returns-in-Err-hand_over-clause-refused : goal.returns-in-Err-hand_over-clause-refused
 returns-in-Err-hand_over-clause-refused g c = λ _.
