@@ -1,12 +1,14 @@
 -- The parts that a table and lists of lines make.
-use Rattle.std.proofs.Common.{◌≡◌, ◌≢◌, ℕ, eqb, true, false, zero, suc, ◌<◌, ◌≤◌, List, [], ◌∷◌, length, set, get_or, refl, ap, sym, ◌∙◌, ⊎_elim, arith}
-use Rattle.std.proofs.lemmas.List.{get_or_read, get_or_past, get_or-set_same, get_or-set_other, set_past}
+use Rattle.std.proofs.Common.{◌≡◌, ◌≢◌, ℕ, eqb, true, false, zero, suc, ◌<◌, ◌≤◌, List, [], ◌∷◌, length, map, set, get_or, refl, ap, sym, ◌∙◌, ⊎_elim, arith}
+use Rattle.std.proofs.lemmas.List.{get_or_read, get_or_past, get_or-map, length-map, get_or-set_same, get_or-set_other, set_past}
 use Rattle.std.proofs.lemmas.Bool.{cases_lt}
 use Rattle.std.proofs.lemmas.Bool.Decides.{eqb_tells}
+use Rattle.njh_table.specs.declared.LineId.{LineId}
 use Rattle.njh_table.specs.Entries.{CustomerEntry}
-use Rattle.njh_hub.specs.Runs.{Part}
-use Rattle.njh_hub.specs.Whole.{no_entry, no_part, part, SameLines}
-use Rattle.njh_hub.specs.Parts.{Lines, part_with, parts_of, no_lines}
+use Rattle.njh_table.specs.TableFile.{NamedCustomer, no_customer, entry_of}
+use Rattle.njh_customer.specs.Part.{Lines, part_with}
+use Rattle.njh_hub.specs.Whole.{Part, no_entry, no_part, part, HasLine, SameLines}
+use Rattle.njh_hub.specs.Parts.{parts_of, no_lines}
 
 pub part-parts_of : (c : ℕ) (es : List CustomerEntry) (ls : List Lines) → length ls ≡ length es →
     part c (parts_of es ls) ≡ part_with (get_or es c no_entry) (get_or ls c no_lines)
@@ -79,3 +81,55 @@ length-parts_of [] [] h = refl
 length-parts_of [] (l ∷ ls) h = absurd (omega arith)
 length-parts_of (e ∷ es) [] h = absurd (omega arith)
 length-parts_of (e ∷ es) (l ∷ ls) h = omega (arith, length-parts_of es ls (omega arith))
+
+-- a customer of the table, and the entry in its place
+pub entry-there : (customers : List NamedCustomer) (c : ℕ) (customer : NamedCustomer) → c < length customers → customer ≡ get_or customers c no_customer →
+    entry_of customer ≡ get_or (map entry_of customers) c no_entry
+entry-there customers c customer within is = ap entry_of is ∙ sym (get_or-map entry_of customers c no_customer no_entry within)
+
+-- What a step on a line finds in the hub: a customer of the table and its lines, which are the customer's part.
+pub record Found (customers : List NamedCustomer) (ls : List Lines) (parts : List Part) (line : LineId) (customer : NamedCustomer) (x : Lines) : Type 0 where
+  pub stands : Stands (map entry_of customers) ls parts
+  pub there : line.customer < length ls
+  pub lines_is : x ≡ get_or ls line.customer x
+  pub entry_is : entry_of customer ≡ get_or (map entry_of customers) line.customer no_entry
+  pub part_is : part_with (entry_of customer) x ≡ part line.customer parts
+
+-- the customer of a line that is there
+pub found-there : (customers : List NamedCustomer) {ls : List Lines} {parts : List Part} (line : LineId) → Stands (map entry_of customers) ls parts →
+    HasLine parts line → (line.customer < length ls) × (line.customer < length customers)
+found-there customers line stands known =
+    let there = customer-there line.customer line.line stands known in
+    (there, omega (arith, there, stands.each, length-map customers entry_of))
+
+pub found : (customers : List NamedCustomer) {ls : List Lines} {parts : List Part} (line : LineId) (customer : NamedCustomer) (x : Lines) →
+    Stands (map entry_of customers) ls parts → HasLine parts line → customer ≡ get_or customers line.customer no_customer → x ≡ get_or ls line.customer x →
+    Found customers ls parts line customer x
+found customers line customer x stands known is here =
+    let t = found-there customers line stands known in
+    let entry = entry-there customers line.customer customer t.1 is in
+    record {
+      stands = stands;
+      there = t.0;
+      lines_is = here;
+      entry_is = entry;
+      part_is = ap (λ (e : CustomerEntry). part_with e x) entry ∙ part-there line.customer x stands t.0 here;
+    }
+
+-- it has the line
+pub found-line : {customers : List NamedCustomer} {ls : List Lines} {parts : List Part} {line : LineId} {customer : NamedCustomer} {x : Lines} →
+    Found customers ls parts line customer x → HasLine parts line → line.line < length x.states
+found-line {line = line} {x = x} f known = omega (arith, known, lines-there line.customer x f.stands f.there f.lines_is)
+
+-- its lines became others: the part moved, and no other
+pub found-moved : {customers : List NamedCustomer} {ls : List Lines} {parts : List Part} {line : LineId} {customer : NamedCustomer} {x : Lines} →
+    Found customers ls parts line customer x → (y : Lines) (p : Part) → part_with (entry_of customer) y ≡ p →
+    parts_of (map entry_of customers) (set ls line.customer y) ≡ set parts line.customer p
+found-moved {line = line} f y p moved = part-moved line.customer y p f.stands (ap (λ (e : CustomerEntry). part_with e y) (sym f.entry_is) ∙ moved)
+
+-- as many lines leave each customer with as many
+pub found-lines : {customers : List NamedCustomer} {ls : List Lines} {parts : List Part} {line : LineId} {customer : NamedCustomer} {x : Lines} →
+    Found customers ls parts line customer x → (y : Lines) → length y.states ≡ length x.states → SameLines parts (parts_of (map entry_of customers) (set ls line.customer y))
+found-lines {line = line} {x = x} f y count d =
+    ap (λ (ps : List Part). length (part d ps).customer.lines) (part-moved line.customer y _ f.stands refl)
+    ∙ same_lines line.customer x y f.stands f.there f.lines_is count d

@@ -38,15 +38,6 @@ impl Piece {
     }
 }
 
-/// What comes to a line but bytes: a tick of the clock, the adapter's word for a failed block check, or
-/// the line's loss.
-#[derive(Clone, Copy, Debug, PartialEq, Eq)]
-pub enum Signal {
-    Tick,
-    Garbled,
-    Lost,
-}
-
 /// What comes to the hub, each on one line.
 #[derive(Drop)]
 pub enum Event {

@@ -1,6 +1,6 @@
 //! Laws of the definitions: what holds of all runs, whoever computes them.
 
-ghost use Rattle.njh_hub.specs.Laws.{EachIsAlone, TwoListsAreLike, CustomersNeverMeet, CutsAreLike};
+ghost use Rattle.njh_hub.specs.Laws.{EachIsAlone, TwoListsAreLike, CustomersNeverMeet};
 
 /// Whatever events come, each customer's part of the hub and the frames on its lines are those of that customer alone over its own
 /// events.
@@ -17,9 +17,4 @@ pub fn two_lists_are_like()
 /// events of that customer, the frames on its lines and its part are equal. One of the hubs may be a hub of its own.
 pub fn customers_never_meet()
     ensures { CustomersNeverMeet }
-{}
-
-/// It doesn't matter how the bytes of a line are cut into pieces.
-pub fn cuts_are_like()
-    ensures { CutsAreLike }
 {}

@@ -11,13 +11,11 @@ use crate::session::Session;
 use crate::table::accepted;
 use crate::verdict::Verdict;
 use circular_buffer::HeapCircularBuffer;
+use njh_bisync::LONGEST_FRAME;
 use njh_block::Answer;
 use njh_record::Record;
 use std::alloc::{AllocError, Global};
 use std::marker::Model;
-
-/// The most bytes of a frame: 4,096 bytes of data, each doubled, and four of framing.
-pub const LONGEST_FRAME: usize = 8196;
 
 /// How many answers may wait.
 const ANSWERS: usize = 32;

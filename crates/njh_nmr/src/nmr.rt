@@ -147,7 +147,7 @@ impl Nmr {
     }
 
     /// Whether this is a command whose user field holds its sender.
-    pub fn command(&self) -> bool
+    pub fn is_user_command(&self) -> bool
         ensures { result ≡ is_user_command self.now }
     {
         self.flag & COMMAND != 0 && self.flag & OF_USER != 0

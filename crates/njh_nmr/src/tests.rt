@@ -44,7 +44,7 @@ const ANNA: [u8; 8] = *b"\xc1\xd5\xd5\xc1\x40\x40\x40\x40";
 #[test]
 fn a_command_and_its_reply(rt: HostRuntime) -> Result<(), Fail> {
     let command = Nmr::read(COMMAND)?;
-    assert!(rt; command.command());
+    assert!(rt; command.is_user_command());
     assert_eq!(rt; command.to(), Name::of_text("BUREAU")?);
     assert_eq!(rt; command.origin(), Name::of_text("LYON")?);
     assert_eq!(rt; command.user(), ANNA);
@@ -53,7 +53,7 @@ fn a_command_and_its_reply(rt: HostRuntime) -> Result<(), Fail> {
     command.write(&mut record);
     assert_eq!(rt; record.as_slice(), COMMAND);
     let reply = command.reply(Name::of_text("BUREAU")?, NO_FILES);
-    assert!(rt; !reply.command());
+    assert!(rt; !reply.is_user_command());
     reply.write(&mut record);
     assert_eq!(rt; record.as_slice(), REPLY);
     Ok(())
@@ -76,7 +76,7 @@ fn a_notice(rt: HostRuntime) -> Result<(), Fail> {
 #[test]
 fn a_message_sent_on(rt: HostRuntime) -> Result<(), Fail> {
     let message = Nmr::read(MESSAGE)?;
-    assert!(rt; !message.command());
+    assert!(rt; !message.is_user_command());
     assert_eq!(rt; message.to(), Name::of_text("METZ")?);
     assert_eq!(rt; message.message(), b"\xc8\xc9".as_slice());
     let mut record = Record::new();
@@ -96,7 +96,7 @@ fn what_is_not_read_is_kept(rt: HostRuntime) -> Result<(), Fail> {
     odd[13] = 0x00;
     odd[29] = 0x44;
     let message = Nmr::read(&odd)?;
-    assert!(rt; !message.command());
+    assert!(rt; !message.is_user_command());
     let mut record = Record::new();
     message.write(&mut record);
     assert_eq!(rt; record.as_slice(), odd.as_slice());
@@ -119,7 +119,11 @@ fn flags(rt: HostRuntime) -> Result<(), Fail> {
         let mut record = [0xc1; 30];
         record[0] = flag;
         record[3] = 0;
-        assert_eq!(rt; Nmr::read(&record)?.command(), command, "{flag:02x}");
+        assert_eq!(rt;
+            Nmr::read(&record)?.is_user_command(),
+            command,
+            "{flag:02x}"
+        );
     }
     Ok(())
 }

@@ -1,5 +1,6 @@
 -- What the arguments name, from the matches of a parse.
-use Rattle.std.proofs.Common.{◌≡◌, Result, Ok, Err, OnOk, IfErr, Bool, true, false, cond, List, [], ◌∷◌, map, Option, Some, None, option_and_then, refl, sym, ap, ◌∙◌, inl, inr}
+use Rattle.std.proofs.Common.{◌≡◌, Result, Ok, Err, OnOk, IfErr, Bool, true, false, cond, List, [], ◌∷◌, map, Option}
+use Rattle.std.proofs.Common.{Some, None, option_and_then, refl, sym, ap, ◌∙◌, inl, inr}
 use Rattle.std.specs.Prelude.{find, option_map, slice_get, bytes_eq}
 use Rattle.std.proofs.lemmas.Option.{slice_get-map}
 use Rattle.std.specs.Box.{box_value}
@@ -15,7 +16,8 @@ use Rattle.clap.specs.declared.parser.matches.ArgMatches.{ArgMatches}
 use Rattle.clap.specs.declared.parser.matches.ArgMatches.TheViews.{out-ArgMatches, out-SubCommand}
 use Rattle.njh_program.specs.Arguments.{program_app}
 
-cond-map : {X Y : Type 0} (f : X → Y) (b : Bool) (x : X) (o : Option Y) (later : Option X) → o ≡ option_map f later → cond b (Some (f x)) o ≡ option_map f (cond b (Some x) later)
+cond-map : {X Y : Type 0} (f : X → Y) (b : Bool) (x : X) (o : Option Y) (later : Option X) → o ≡ option_map f later
+    → cond b (Some (f x)) o ≡ option_map f (cond b (Some x) later)
 cond-map f true x o later same = refl
 cond-map f false x o later same = same
 
@@ -23,7 +25,8 @@ find-map : {X Y : Type 0} (f : X → Y) (p : Y → Bool) (xs : List X) → find 
 find-map f p [] = refl
 find-map f p (x ∷ xs) = cond-map f (p (f x)) x (find p (map f xs)) (find (λ y. p (f y)) xs) (find-map f p xs)
 
-at_entry : {X Y : Type 0} (o : Option X) (to : X → Y) (read : Y → Option Text) (row : X → Row) → ((x : X) → read (to x) ≡ slice_get (row x).values 0)
+at_entry : {X Y : Type 0} (o : Option X) (to : X → Y) (read : Y → Option Text) (row : X → Row)
+    → ((x : X) → read (to x) ≡ slice_get (row x).values 0)
     → option_and_then read (option_map to o) ≡ option_and_then (λ r. slice_get r.values 0) (option_map row o)
 at_entry None to read row same = refl
 at_entry (Some x) to read row same = same x
@@ -38,7 +41,8 @@ first_value-rows m id =
 
 -- a pair by its halves
 pair_of : {X : Type 0} (f : X → Text) (g : X → List Row) (o : Option X) (name : Text) (rows : List Row)
-    → Some name ≡ option_map f o → Some rows ≡ option_map (λ (p : Text × List Row). p.1) (option_map {U = Text × List Row} (λ x. (f x, g x)) o)
+    → Some name ≡ option_map f o → Some rows ≡ option_map (λ (p : Text × List Row). p.1)
+    (option_map {U = Text × List Row} (λ x. (f x, g x)) o)
     → option_map {U = Text × List Row} (λ x. (f x, g x)) o ≡ Some (name, rows)
 pair_of f g None name rows first second = cc first
 pair_of f g (Some x) name rows first second =
@@ -50,7 +54,8 @@ pair_of f g (Some x) name rows first second =
 pub subcommand_is : (m : ArgMatches) (name : Text) (rows : List Row) → Some name ≡ subcommand_name_of m
     → Some rows ≡ option_map (λ (p : Text × List Row). p.1) (subcommand_rows_of m) → subcommand_rows_of m ≡ Some (name, rows)
 subcommand_is m name rows named rowed =
-    pair_of (λ b. (out-SubCommand (box_value b)).name.now) (λ b. rows_of (found_of (out-SubCommand (box_value b)).matches)) (out-ArgMatches m).subcommand name rows named rowed
+    pair_of (λ b. (out-SubCommand (box_value b)).name.now)
+    (λ b. rows_of (found_of (out-SubCommand (box_value b)).matches)) (out-ArgMatches m).subcommand name rows named rowed
 
 -- the program's own arguments are simple, as clap's definitions have it
 pub is_simple_program : is_simple program_app ≡ true

@@ -1,5 +1,7 @@
 -- How a line falls into words, and the event of each form of line.
-use Rattle.std.proofs.Common.{◌≡◌, ℕ, ◌<◌, ◌≤◌, eqb, Bool, true, false, cond, codes, List, [], ◌∷◌, length, get_or, Option, Some, None, option_and_then, Result, Ok, Err, ◌⊎◌, inl, inr, refl, sym, ap, ◌∙◌, arith, lit<, Bor}
+use Rattle.std.proofs.Common.{◌≡◌, ℕ, ◌<◌, ◌≤◌, eqb, Bool, true, false, cond, codes, List, [], ◌∷◌, length, get_or}
+use Rattle.std.proofs.Common.{Option, Some, None, option_and_then, Result, Ok, Err, ◌⊎◌, inl, inr, refl, sym, ap, ◌∙◌}
+use Rattle.std.proofs.Common.{arith, lit<, Bor}
 use Rattle.std.proofs.lemmas.Bool.{cases_lt, eqb-true}
 use Rattle.std.proofs.lemmas.List.Splits.{slice_split_none, slice_split_first}
 use Rattle.std.proofs.lemmas.Str.Pattern.{IsSplitOnceResult, split_once_first}
@@ -19,7 +21,8 @@ is_blank b = eqb b 32
 -- a text without a blank is one word
 words_of-none : (line : List ℕ) → length line ≤ position_or_len is_blank line → words_of line ≡ line ∷ []
 words_of-none line past =
-    slice_split_none is_blank line (λ k d below. let before : k < position_or_len is_blank line = omega arith in fails_before_first is_blank line k d before)
+    slice_split_none is_blank line (λ k d below. let before : k < position_or_len is_blank line =
+    omega arith in fails_before_first is_blank line k d before)
 
 -- a text with a blank is what stands before the first, and the words of what stands after it
 words_of-first : (line : List ℕ) → position_or_len is_blank line < length line
@@ -43,7 +46,8 @@ onto_first-some : (b : ℕ) (words : List (List ℕ)) → (word : List ℕ) × (
 onto_first-some b [] = (b ∷ [], [], refl)
 onto_first-some b (word ∷ words) = (b ∷ word, words, refl)
 
-cond-some : (test : Bool) (b : ℕ) (words : List (List ℕ)) → (word : List ℕ) × (others : List (List ℕ)) × (cond test ([] ∷ words) (onto_first b words) ≡ word ∷ others)
+cond-some : (test : Bool) (b : ℕ) (words : List (List ℕ)) → (word : List ℕ) × (others : List (List ℕ))
+    × (cond test ([] ∷ words) (onto_first b words) ≡ word ∷ others)
 cond-some true b words = ([], words, refl)
 cond-some false b words = onto_first-some b words
 
@@ -78,7 +82,8 @@ no_line (Some line) tell none = none line
 no_line None tell none = refl
 
 -- a line of one word tells no event
-pub event_of_words-one : (names : List ℕ → Option LineId) (line : List ℕ) → IsSplitOnceResult 32 line None → event_of_words names (words_of line) ≡ None
+pub event_of_words-one : (names : List ℕ → Option LineId) (line : List ℕ) → IsSplitOnceResult 32 line None
+    → event_of_words names (words_of line) ≡ None
 event_of_words-one names line whole = rw (words_of-whole line whole) refl
 
 -- the event of a word and the name of a line
@@ -92,12 +97,16 @@ pub event_of_words-three : (names : List ℕ → Option LineId) (line : List ℕ
     → IsSplitOnceResult 32 line (Some (word, rest)) → IsSplitOnceResult 32 rest.now (Some (name, digits)) → found ≡ names name.now
     → event_of_words names (words_of line) ≡ option_and_then (bytes_on word.now digits.now) found
 event_of_words-three names line word rest name digits found split again known =
-    ap (event_of_words names) (words_of-split line word rest split ∙ ap (λ (words : List (List ℕ)). word.now ∷ words) (words_of-split rest.now name digits again))
-    ∙ last (cases_lt (position_or_len is_blank digits.now) (length digits.now)) ∙ ap (option_and_then (bytes_on word.now digits.now)) (sym known) where
+    ap (event_of_words names) (words_of-split line word rest split
+    ∙ ap (λ (words : List (List ℕ)). word.now ∷ words) (words_of-split rest.now name digits again))
+    ∙ last (cases_lt (position_or_len is_blank digits.now) (length digits.now))
+    ∙ ap (option_and_then (bytes_on word.now digits.now)) (sym known) where
       last : (position_or_len is_blank digits.now < length digits.now) ⊎ (length digits.now ≤ position_or_len is_blank digits.now)
-          → event_of_words names (word.now ∷ name.now ∷ words_of digits.now) ≡ option_and_then (bytes_on word.now digits.now) (names name.now)
+          → event_of_words names (word.now ∷ name.now ∷ words_of digits.now) ≡ option_and_then
+          (bytes_on word.now digits.now) (names name.now)
       last (inl below) =
           let more = words_of-some (after_first is_blank digits.now) in
-          ap (λ (words : List (List ℕ)). event_of_words names (word.now ∷ name.now ∷ words)) (words_of-first digits.now below ∙ ap (λ (words : List (List ℕ)). before_first is_blank digits.now ∷ words) more.2)
+          ap (λ (words : List (List ℕ)). event_of_words names (word.now ∷ name.now ∷ words))
+          (words_of-first digits.now below ∙ ap (λ (words : List (List ℕ)). before_first is_blank digits.now ∷ words) more.2)
           ∙ sym (no_line (names name.now) (bytes_on word.now digits.now) (λ line. bytes_on-blank word.now digits.now line below))
       last (inr past) = ap (λ (words : List (List ℕ)). event_of_words names (word.now ∷ name.now ∷ words)) (words_of-none digits.now past)

@@ -1,5 +1,7 @@
 -- A script read line by line.
-use Rattle.std.proofs.Common.{◌≡◌, ℕ, ◌+◌, ◌<◌, ◌≤◌, Bool, true, false, not, cond, eqb, ltb, List, [], ◌∷◌, ◌++◌, length, get_or, take, Option, Some, None, Ok, Err, refl, sym, ap, ◌∙◌, subst, arith, inl, inr, ◌⊎◌}
+use Rattle.std.proofs.Common.{◌≡◌, ℕ, ◌+◌, ◌<◌, ◌≤◌, Bool, true, false, not, cond, eqb, ltb, List, [], ◌∷◌, ◌++◌}
+use Rattle.std.proofs.Common.{length, get_or, take, Option, Some, None, Ok, Err, refl, sym, ap, ◌∙◌, subst, arith, inl}
+use Rattle.std.proofs.Common.{inr, ◌⊎◌}
 use Rattle.std.specs.List.{position, position_or_len, filter_map, cons_option}
 use Rattle.std.specs.Option.{option_map}
 use Rattle.std.proofs.lemmas.Bool.{cases_eq, lt-ltb, le-ltb}
@@ -9,7 +11,8 @@ use Rattle.std.proofs.lemmas.List.Splits.{length-slice_split}
 use Rattle.std.proofs.lemmas.List.Sums.{position_or_len_is, count_by-le-length}
 use Rattle.njh_table.specs.declared.LineId.{LineId}
 use Rattle.njh_hub.specs.declared.event.Event.{Event}
-use Rattle.njh_program.specs.Script.{lines_of, is_skipped, event_of, can_stand, event_in, events_of, first_bad, events_or_bad, script_of_lines}
+use Rattle.njh_program.specs.Script.{lines_of, is_skipped, event_of, can_stand, event_in, events_of, first_bad}
+use Rattle.njh_program.specs.Script.{events_or_bad, script_of_lines}
 
 -- there is at most one line more than the text has bytes
 pub length-lines_of : (text : List ℕ) → length (lines_of text) ≤ length text + 1
@@ -29,8 +32,10 @@ Reads-more : (names : List ℕ → Option LineId) (lines : List (List ℕ)) (n :
     → can_stand names line ≡ true → more ≡ cons_option (event_in names line) [] → Reads names lines (n + 1) (events ++ more)
 Reads-more names lines n events more line so_far within at good said = record {
   tell =
-      let front : take (n + 1) lines ≡ take n lines ++ line ∷ [] = take_more lines n line within ∙ ap (λ (x : List ℕ). take n lines ++ x ∷ []) (sym at) in
-      rw (front, filter_map-append) (ap (λ (xs : List Event). xs ++ more) so_far.tell ∙ ap (λ (xs : List Event). filter_map (event_in names) (take n lines) ++ xs) said);
+      let front : take (n + 1) lines ≡ take n lines ++ line ∷ [] = take_more lines n line within
+      ∙ ap (λ (x : List ℕ). take n lines ++ x ∷ []) (sym at) in
+      rw (front, filter_map-append) (ap (λ (xs : List Event). xs ++ more) so_far.tell
+      ∙ ap (λ (xs : List Event). filter_map (event_in names) (take n lines) ++ xs) said);
   good = λ k d below.
       elim (cases_eq k n) [
         | inl last ↦ rw (last, ← get_or_read lines n line within at d) good
@@ -58,7 +63,8 @@ first_bad-at : (names : List ℕ → Option LineId) (lines : List (List ℕ)) (n
     → n ≤ length lines → ((k : ℕ) → k < n → can_stand names (get_or lines k d) ≡ true)
     → (n < length lines → can_stand names (get_or lines n d) ≡ false) → position_or_len (λ line. not (can_stand names line)) lines ≡ n
 first_bad-at names lines n d within good bad =
-    position_or_len_is (λ line. not (can_stand names line)) lines n d within (λ k below. rw (good k below) refl) (λ below. rw (bad below) refl)
+    position_or_len_is (λ line. not (can_stand names line)) lines n d within (λ k below. rw (good k below) refl)
+    (λ below. rw (bad below) refl)
 
 pub Reads-bad : (names : List ℕ → Option LineId) (lines : List (List ℕ)) (n : ℕ) (events : List Event) (line : List ℕ)
     → Reads names lines n events → n < length lines → line ≡ get_or lines n line

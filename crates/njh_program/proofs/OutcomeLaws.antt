@@ -14,12 +14,14 @@ use Rattle.njh_program.specs.Replayed.{HasTooLong, HasBadLine, MayEnd}
 use Rattle.njh_program.specs.Status.{Becomes, status_of}
 use Rattle.njh_program.specs.TableBytes.{AreRefused}
 
-pub failed_arguments : (arguments : List Text) (left : Option (List ℕ)) (error : Error) (failure : Failure) → HasKind (MissingSubcommand ∷ fault_of program_app arguments) error
+pub failed_arguments : (arguments : List Text) (left : Option (List ℕ)) (error : Error) (failure : Failure)
+    → HasKind (MissingSubcommand ∷ fault_of program_app arguments) error
     → Becomes (kind_of error) OutOfMemory (Arguments error) failure → IsFailed arguments left failure
 failed_arguments arguments left error failure kind (inl memory) = subst (IsFailed arguments left) (sym memory.1) refl
 failed_arguments arguments left error failure kind (inr other) = subst (IsFailed arguments left) (sym other.1) kind
 
-pub failed_tables : (arguments : List Text) (left : Option (List ℕ)) (file : Option Text) (failure : Failure) → choice_by arguments ≡ Some (codes "replay", file)
+pub failed_tables : (arguments : List Text) (left : Option (List ℕ)) (file : Option Text) (failure : Failure)
+    → choice_by arguments ≡ Some (codes "replay", file)
     → AreRefused file failure → IsFailed arguments left failure
 failed_tables arguments left None failure chosen refused = subst (IsFailed arguments left) (sym refused) (None, chosen, refl)
 failed_tables arguments left (Some path) failure chosen (inl device) = subst (IsFailed arguments left) (sym device) tt

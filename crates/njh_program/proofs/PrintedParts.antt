@@ -25,13 +25,16 @@ beginning-after a b c front text more whole written begun all =
     let rest = begun.1 in (
       front ++ begin,
       rest ++ more,
-      append_assoc front begin (rest ++ more) ∙ ap (λ (s : List ℕ). front ++ s) (sym (append_assoc begin rest more) ∙ ap (λ (s : List ℕ). s ++ more) begun.2) ∙ all,
+      append_assoc front begin (rest ++ more) ∙ ap (λ (s : List ℕ). front ++ s)
+          (sym (append_assoc begin rest more) ∙ ap (λ (s : List ℕ). s ++ more) begun.2) ∙ all,
       Appends-trans a b c front begin written begun.3,
     )
 
 -- some frames, and then a frame in part, begin the text of a list that begins with all of them
-pub beginning-part : (names later : List (List (List ℕ))) (a b c : Option (List ℕ)) (front : List (LineId × List ℕ)) (last : LineId × List ℕ) (more whole : List (LineId × List ℕ))
-    → IsPrinted names later a b front → (final : List (List (List ℕ))) → IsPrintedInPart later final b c last → (front ++ last ∷ []) ++ more ≡ whole
+pub beginning-part : (names later : List (List (List ℕ))) (a b c : Option (List ℕ)) (front : List (LineId × List ℕ))
+    (last : LineId × List ℕ) (more whole : List (LineId × List ℕ))
+    → IsPrinted names later a b front → (final : List (List (List ℕ))) → IsPrintedInPart later final b c last
+    → (front ++ last ∷ []) ++ more ≡ whole
     → AppendsBeginning a c (text_of names whole)
 beginning-part names later a b c front last more whole printed final begun all =
     let part : AppendsBeginning b c (pair_text names last) = rw printed.0 at begun.1 in

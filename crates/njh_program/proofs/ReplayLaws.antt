@@ -1,5 +1,6 @@
 -- A hub that was just opened on tables, a run of it over a script, and what is printed.
-use Rattle.std.proofs.Common.{◌≡◌, ℕ, zero, suc, List, [], ◌∷◌, ◌++◌, length, map, get_or, Option, Some, None, refl, sym, ap, subst, ◌∙◌, append-nil, arith}
+use Rattle.std.proofs.Common.{◌≡◌, ℕ, zero, suc, List, [], ◌∷◌, ◌++◌, length, map, get_or, Option, Some, None, refl}
+use Rattle.std.proofs.Common.{sym, ap, subst, ◌∙◌, append-nil, arith}
 use Rattle.std.specs.Prelude.{All, IsSomeAnd, OnOk, Result, Ok, Err, slice_get}
 use Rattle.std.specs.Io.KnownBytes.{Appends, Keeps}
 use Rattle.std.proofs.lemmas.List.{length-map}
@@ -13,7 +14,7 @@ use Rattle.njh_hub.specs.declared.fault.HubFault.{HubFault}
 use Rattle.njh_hub.specs.declared.fault.HubFault.TheVariants.{UnknownLine, UnknownCustomer, Memory}
 use Rattle.njh_hub.specs.Own.{line_of}
 use Rattle.njh_hub.specs.Parts.{entries_of}
-use Rattle.njh_hub.specs.Runs.{Part, opened}
+use Rattle.njh_hub.specs.Whole.{Part, opened}
 use Rattle.njh_hub.specs.Stops.{CanStop, HandedUntil}
 use Rattle.njh_hub.specs.Whole as hub
 use Rattle.njh_program.specs.Names.{names_of}
@@ -30,7 +31,8 @@ get_or-map_default f (x ∷ xs) (suc k) d = get_or-map_default f xs k d
 
 -- a customer's part is that of its entry
 opened_part : (t : TableFile) (c : ℕ) → hub.part c (map opened (entries_of t)) ≡ opened (entry_of (customer_at t c))
-opened_part t c = get_or-map_default opened (entries_of t) c hub.no_entry ∙ ap opened (get_or-map_default entry_of t.customers c no_customer)
+opened_part t c = get_or-map_default opened (entries_of t) c hub.no_entry
+    ∙ ap opened (get_or-map_default entry_of t.customers c no_customer)
 
 -- the hub has the lines of its tables
 opened_line : (t : TableFile) (line : LineId) → HasLine t line → hub.HasLine (map opened (entries_of t)) line
@@ -39,7 +41,8 @@ opened_line t line known =
     let here : length (hub.part line.customer (map opened (entries_of t))).customer.lines ≡ length (opened e).customer.lines =
     ap (λ (p : Part). length p.customer.lines) (opened_part t line.customer) in
     let states : length (opened e).customer.lines ≡ length e.lines = length-map e.lines _ in
-    let entries : length e.lines ≡ length (customer_at t line.customer).lines = length-map (customer_at t line.customer).lines (λ (l : NamedLine). l.entry) in
+    let entries : length e.lines ≡ length (customer_at t line.customer).lines =
+    length-map (customer_at t line.customer).lines (λ (l : NamedLine). l.entry) in
     omega (arith, known, here, states, entries)
 
 -- so the events of a script are all on lines of the hub
@@ -59,7 +62,8 @@ pub never_unknown : (parts : List Part) (events : List Event) (k : ℕ) → All 
 never_unknown parts events k known some =
     IsSomeAnd-never (slice_get events k) (λ event. hub.HasLine parts (line_of event) → ⊥) (λ event at unknown.
     let there : hub.HasLine parts (line_of event) =
-    subst (λ (e : Event). hub.HasLine parts (line_of e)) (get_or_from_slice_get events k event event at) (known k event (slice_get_within events k event at)) in
+    subst (λ (e : Event). hub.HasLine parts (line_of e)) (get_or_from_slice_get events k event event at)
+    (known k event (slice_get_within events k event at)) in
     unknown there) some
 
 -- what is left that stops a run
@@ -71,15 +75,19 @@ MayEnd-stopped cause.Sink can known = tt
 
 -- A run that stopped printed a beginning of the text of all frames: the frames of what happened, or all but the last and that in part.
 pub stopped_begun : {S : Type 0} (took : S → S → List (LineId × List ℕ) → Type 0) (refused : S → S → LineId × List ℕ → Type 0) (why : Cause)
-    (before after : S) (sent whole : List (LineId × List ℕ)) (P : Type 0) → HandedUntil took refused why before after sent → Begins sent whole
+    (before after : S) (sent whole : List (LineId × List ℕ)) (P : Type 0)
+    → HandedUntil took refused why before after sent → Begins sent whole
     → ((front more : List (LineId × List ℕ)) → took before after front → front ++ more ≡ whole → P)
-    → ((front : List (LineId × List ℕ)) (last : LineId × List ℕ) (between : S) (more : List (LineId × List ℕ)) → took before between front → refused between after last
+    → ((front : List (LineId × List ℕ)) (last : LineId × List ℕ) (between : S) (more : List (LineId × List ℕ))
+    → took before between front → refused between after last
     → (front ++ last ∷ []) ++ more ≡ whole → P) → P
 stopped_begun took refused (cause.Hub fault) before after sent whole P handed begins all part = all sent begins.0 handed begins.1
 stopped_begun took refused cause.Sink before after sent whole P handed begins all part =
-    part handed.0 handed.1 handed.2 begins.0 handed.4 handed.5 (ap (λ (s : List (LineId × List ℕ)). s ++ begins.0) (sym handed.3) ∙ begins.1)
+    part handed.front handed.last handed.between begins.0 handed.took_front handed.refused_last
+    (ap (λ (s : List (LineId × List ℕ)). s ++ begins.0) (sym handed.are) ∙ begins.1)
 
-pub printed_begins : (names later : List (List (List ℕ))) (a b : Option (List ℕ)) (front more whole : List (LineId × List ℕ)) → IsPrinted names later a b front
+pub printed_begins : (names later : List (List (List ℕ))) (a b : Option (List ℕ))
+    (front more whole : List (LineId × List ℕ)) → IsPrinted names later a b front
     → front ++ more ≡ whole → AppendsBeginning a b (text_of names whole)
 printed_begins names later a b front more whole printed all =
     (text_of names front, text_of names more, sym (text_of-append names front more) ∙ ap (text_of names) all, printed.1)
@@ -99,10 +107,12 @@ Keeps-none (Some x) None written = absurd written
 Keeps-none (Some x) (Some y) written = written ∙ append-nil x
 
 -- what a hub that was just opened prints
-pub fresh_text : (t : TableFile) (names : List (List (List ℕ))) (parts : List Part) (events : List Event) → names ≡ names_of t → parts ≡ map opened (entries_of t)
+pub fresh_text : (t : TableFile) (names : List (List (List ℕ))) (parts : List Part) (events : List Event)
+    → names ≡ names_of t → parts ≡ map opened (entries_of t)
     → text_of names (hub.hub_run parts events).sent ≡ text_of_run t events
 fresh_text t names parts events named fresh =
-    ap (λ (ns : List (List (List ℕ))). text_of ns (hub.hub_run parts events).sent) named ∙ ap (λ (ps : List Part). text_of (names_of t) (hub.hub_run ps events).sent) fresh
+    ap (λ (ns : List (List (List ℕ))). text_of ns (hub.hub_run parts events).sent) named
+    ∙ ap (λ (ps : List Part). text_of (names_of t) (hub.hub_run ps events).sent) fresh
 
 -- on Ok alone
 pub on_ok_then : {A E : Type 0} (r : Result A E) (P Q : Type 0) → (P → Q) → OnOk r P → OnOk r Q

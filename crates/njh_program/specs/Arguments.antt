@@ -1,6 +1,7 @@
 -- The arguments of the command line.
 use Rattle.std.specs.Prelude.{List, codes, true, Option, Some, option_map}
-use Rattle.clap.specs.Words.{App, Row, Rule, Text, first_of, new_app, new_rule, subcommand_of, subcommand_rows_of, with_rule, with_subcommand}
+use Rattle.clap.specs.Words.{App, Row, Rule, Text, first_of, new_app, new_rule, subcommand_of, subcommand_rows_of}
+use Rattle.clap.specs.Words.{with_rule, with_subcommand}
 use Rattle.clap.specs.declared.builder.ArgAction.TheVariants.{Set}
 use Rattle.clap.specs.declared.parser.matches.ArgMatches.{ArgMatches}
 use Rattle.njh_program.specs.declared.arguments.Request.{Request}
@@ -16,7 +17,10 @@ replay_app = with_rule (new_app (codes "replay")) tables_rule
 
 -- a program whose first word is a subcommand
 abbrev pub bare_app : App
-bare_app = let a = new_app (codes "njehub") in record a { top = record a.top { subcommand_required = true; disable_help_subcommand = true } }
+bare_app = let a = new_app (codes "njehub") in record a {
+  top =
+      record a.top { subcommand_required = true; disable_help_subcommand = true };
+}
 
 -- the program, as clap's definitions take it
 abbrev pub program_app : App

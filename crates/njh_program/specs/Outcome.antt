@@ -31,6 +31,7 @@ abbrev pub IsFailed : (arguments : List Text) (left : Option (List ℕ)) → Fai
 IsFailed arguments left (Arguments error) = HasKind (MissingSubcommand ∷ fault_of program_app arguments) error
 IsFailed arguments left (Tables fault) = ChoosesRefused arguments (Tables fault)
 IsFailed arguments left (Replay TooLong) = (tables : TableFile) × Chooses arguments tables × HasTooLong left
-IsFailed arguments left (Replay (Script number)) = (tables : TableFile) × Chooses arguments tables × HasBadLine (owner_of tables) left number
+IsFailed arguments left (Replay (Script number)) = (tables : TableFile) × Chooses arguments tables
+    × HasBadLine (owner_of tables) left number
 IsFailed arguments left (Replay Device) = ⊤
 IsFailed arguments left (Replay (Hub fault)) = fault ≡ Memory

@@ -6,10 +6,12 @@ use Rattle.njh_table.specs.declared.LineId.{LineId}
 use Rattle.njh_program.specs.Printed.{pair_text, text_of, IsPrinted}
 
 -- the text of some frames and then of more
-pub text_of-append : (names : List (List (List ℕ))) (xs ys : List (LineId × List ℕ)) → text_of names (xs ++ ys) ≡ text_of names xs ++ text_of names ys
+pub text_of-append : (names : List (List (List ℕ))) (xs ys : List (LineId × List ℕ))
+    → text_of names (xs ++ ys) ≡ text_of names xs ++ text_of names ys
 text_of-append names [] ys = refl
 text_of-append names (x ∷ xs) ys =
-    ap (λ (text : List ℕ). pair_text names x ++ text) (text_of-append names xs ys) ∙ sym (append_assoc (pair_text names x) (text_of names xs) (text_of names ys))
+    ap (λ (text : List ℕ). pair_text names x ++ text) (text_of-append names xs ys)
+    ∙ sym (append_assoc (pair_text names x) (text_of names xs) (text_of names ys))
 
 pub IsPrinted-none : (names : List (List (List ℕ))) (known : Option (List ℕ)) → IsPrinted names names known known []
 IsPrinted-none names known = (refl, Appends-nil known)

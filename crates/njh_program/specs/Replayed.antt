@@ -4,7 +4,7 @@ use Rattle.std.specs.Io.KnownBytes.{Appends}
 use Rattle.njh_table.specs.declared.LineId.{LineId}
 use Rattle.njh_table.specs.TableFile.{TableFile, owner_of}
 use Rattle.njh_hub.specs.Parts.{entries_of}
-use Rattle.njh_hub.specs.Runs.{opened}
+use Rattle.njh_hub.specs.Whole.{opened}
 use Rattle.njh_hub.specs.Whole.{hub_run}
 use Rattle.njh_hub.specs.declared.event.Event.{Event}
 use Rattle.njh_hub.specs.declared.fault.Cause.{Cause}
@@ -36,12 +36,14 @@ text_of_run tables events = text_of (names_of tables) (hub_run (map opened (entr
 -- A script was replayed: what a reader had left is a good script, and the text of the run over its events came after what had
 -- been written; each where that is known.
 abbrev pub IsReplayed : (tables : TableFile) (left old new : Option (List ℕ)) → Type 0
-IsReplayed tables left old new = (events : List Event) × HasScript (owner_of tables) left events × Appends old new (text_of_run tables events)
+IsReplayed tables left old new = (events : List Event) × HasScript (owner_of tables) left events
+    × Appends old new (text_of_run tables events)
 
 -- A script was replayed in part: it is a good script, and a beginning of the text of the run over its events came after what had been
 -- written; each where that is known.
 abbrev pub IsBegun : (tables : TableFile) (left old new : Option (List ℕ)) → Type 0
-IsBegun tables left old new = (events : List Event) × HasScript (owner_of tables) left events × AppendsBeginning old new (text_of_run tables events)
+IsBegun tables left old new = (events : List Event) × HasScript (owner_of tables) left events
+    × AppendsBeginning old new (text_of_run tables events)
 
 -- the faults by which a script is refused
 abbrev pub IsRefusal : ReplayFault → Type 0

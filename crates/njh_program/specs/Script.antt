@@ -1,5 +1,6 @@
 -- The event script: lines of text, each of which has one event on one line of the hub.
-use Rattle.std.specs.Prelude.{ℕ, ◌+◌, ◌==◌, ◌||◌, Bool, true, not, List, [], ◌∷◌, codes, if◌then◌else◌, Option, Some, None, is_some, option_and_then, Result, Ok, Err}
+use Rattle.std.specs.Prelude.{ℕ, ◌+◌, ◌==◌, ◌||◌, Bool, true, not, List, [], ◌∷◌, codes, if◌then◌else◌, Option, Some}
+use Rattle.std.specs.Prelude.{None, is_some, option_and_then, Result, Ok, Err}
 use Rattle.std.specs.List.{slice_split, position, filter_map}
 use Rattle.std.specs.Option.{option_map}
 use Rattle.std.specs.Str.{is_utf8, bytes_eq}

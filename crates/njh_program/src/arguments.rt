@@ -11,7 +11,7 @@ use std::alloc::{AllocError, Global};
 use std::convert::AsStr;
 
 /// What the arguments ask for.
-#[derive(Clone, Copy, Debug)]
+#[derive(Clone, Copy)]
 pub enum Request<'a> {
     /// To replay a script.
     Replay {

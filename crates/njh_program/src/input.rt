@@ -19,7 +19,8 @@ pub fn read_text<R: Read>(alloc: Global, script: &mut R) -> Result<Vec<u8>, Repl
     ensures text { IfOk result (λ text. IfSome (R.remaining script.old) (λ left. text.items ≡ left)) }
     ensures within { IfOk result (λ text. vec_len text ≤ LIMIT) }
     ensures long { result ≡ Err ReplayFault.TooLong → HasTooLong (R.remaining script.old) }
-    ensures refused { IfErr result (λ fault. (fault ≡ ReplayFault.TooLong) ⊎ (fault ≡ ReplayFault.Device) ⊎ (fault ≡ ReplayFault.Hub HubFault.Memory)) }
+    ensures refused { IfErr result (λ fault. (fault ≡ ReplayFault.TooLong) ⊎ (fault ≡ ReplayFault.Device)
+        ⊎ (fault ≡ ReplayFault.Hub HubFault.Memory)) }
 {
     let mut text = Vec::new(alloc);
     let mut piece = [0; PIECE];

@@ -14,16 +14,21 @@ use std::io::Write;
 /// Prints each frame that a run sends, with the name of its line. It counts the frames that it couldn't print.
 #[derive(Drop)]
 pub struct Printer<'a, W> {
+    /// Where it prints.
     pub out: &'a mut W,
+    /// The names of the lines.
     pub names: &'a LineNames,
+    /// How many frames it couldn't print.
     pub failures: u64,
 }
 
 impl<W: Write> Printer<'_, W> {
     /// Prints a frame, and says whether it is printed whole.
     fn print(&mut self, line: LineId, frame: &[u8]) -> bool
-        ensures whole { OnTrue result (IsPrinted self.old.names.now self.new.names.now (W.contents self.old.out.now) (W.contents self.new.out.now) ((line, frame.now) ∷ [])) }
-        ensures part { OnFalse result (IsPrintedInPart self.old.names.now self.new.names.now (W.contents self.old.out.now) (W.contents self.new.out.now) (line, frame.now)) }
+        ensures whole { OnTrue result (IsPrinted self.old.names.now self.new.names.now
+            (W.contents self.old.out.now) (W.contents self.new.out.now) ((line, frame.now) ∷ [])) }
+        ensures part { OnFalse result (IsPrintedInPart self.old.names.now self.new.names.now
+            (W.contents self.old.out.now) (W.contents self.new.out.now) (line, frame.now)) }
         ensures same_reference { self.new.out.ghost_name ≡ self.old.out.ghost_name }
         ensures failures { self.new.failures ≡ self.old.failures }
     {
@@ -50,9 +55,9 @@ impl<W: Write> Sink for Printer<'_, W> {
 
     ghost none = { λ s. (refl, IsPrinted-none s.names.now (W.contents s.out.now)) };
 
-    ghost more = { λ a b c xs ys front back. (
+    ghost more = { λ a b c xs ys front back. let held = W.contents in (
       same_then front.0 back.0,
-      IsPrinted-more a.names.now b.names.now c.names.now (W.contents a.out.now) (W.contents b.out.now) (W.contents c.out.now) xs ys front.1 back.1,
+      IsPrinted-more a.names.now b.names.now c.names.now (held a.out.now) (held b.out.now) (held c.out.now) xs ys front.1 back.1,
     ) };
 
     fn failures(&self) -> u64 {

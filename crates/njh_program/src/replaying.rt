@@ -3,7 +3,8 @@
 ghost use Rattle.std.specs.Prelude.{◌≡◌, ◌⊎◌, ℕ, All, IfOk, IfErr, OnOk, OnErr};
 ghost use Rattle.std.specs.Io.KnownBytes.{Appends, Keeps};
 ghost use Rattle.njh_program.specs.Printed.{text_of, AppendsBeginning};
-ghost use Rattle.njh_program.specs.Replayed.{text_of_run, HasScript, HasTooLong, HasBadLine, IsBegun, IsReplayed, IsRefusal, MayEnd, fault_after};
+ghost use Rattle.njh_program.specs.Replayed.{fault_after, text_of_run, HasScript, HasTooLong, HasBadLine};
+ghost use Rattle.njh_program.specs.Replayed.{IsBegun, IsReplayed, IsRefusal, MayEnd};
 ghost use Rattle.njh_table.specs.TableFile.{owner_of, HasLine};
 ghost use Rattle.njh_hub.specs.Own.{line_of};
 ghost use Rattle.njh_hub.specs.Whole.{hub_run, HasLine as HubHasLine};
@@ -31,7 +32,8 @@ pub fn replay<R: Read, W: Write>(
 
     // It is refused where it is too long, or else at its first bad line, and then nothing is written.
     ensures long { result ≡ Err ReplayFault.TooLong → HasTooLong (R.remaining script.old) }
-    ensures bad { (number : ℕ) → result ≡ Err (ReplayFault.Script number) → HasBadLine (owner_of tables) (R.remaining script.old) number }
+    ensures bad { (number : ℕ) → result ≡ Err (ReplayFault.Script number) →
+        HasBadLine (owner_of tables) (R.remaining script.old) number }
     ensures silent { IfErr result (λ fault. IsRefusal fault → out.new ≡ out.old) }
 
     // Else a device failed, and a beginning of that text is written, or nothing; or memory ran out, and nothing is written.
@@ -71,8 +73,10 @@ fn print_run<W: Write>(
     out: &mut W,
 ) -> Result<(), ReplayFault>
     requires { All (λ event. HubHasLine hub.old (line_of event)) events.now }
-    ensures printed { OnOk result (Appends (W.contents out.old) (W.contents out.new) (text_of names.now (hub_run hub.old events.now).sent)) }
-    ensures begun { OnErr result (AppendsBeginning (W.contents out.old) (W.contents out.new) (text_of names.now (hub_run hub.old events.now).sent)) }
+    ensures printed { OnOk result (Appends (W.contents out.old) (W.contents out.new)
+        (text_of names.now (hub_run hub.old events.now).sent)) }
+    ensures begun { OnErr result (AppendsBeginning (W.contents out.old) (W.contents out.new)
+        (text_of names.now (hub_run hub.old events.now).sent)) }
     ensures memory { result ≡ Err (ReplayFault.Hub HubFault.Memory) → Keeps (W.contents out.old) (W.contents out.new) }
     ensures faults { IfErr result MayEnd }
     ensures refuses_no_script { IfErr result (λ fault. ¬ IsRefusal fault) }
@@ -101,7 +105,8 @@ fn read_events<R: Read>(
     ensures good { IfOk result (λ events. HasScript (owner_of tables.now) (R.remaining script.old) events.items) }
     ensures lines { IfOk result (λ events. All (λ event. HasLine tables.now (line_of event)) events.items) }
     ensures long { result ≡ Err ReplayFault.TooLong → HasTooLong (R.remaining script.old) }
-    ensures bad { (number : ℕ) → result ≡ Err (ReplayFault.Script number) → HasBadLine (owner_of tables.now) (R.remaining script.old) number }
+    ensures bad { (number : ℕ) → result ≡ Err (ReplayFault.Script number) →
+        HasBadLine (owner_of tables.now) (R.remaining script.old) number }
     ensures faults { IfErr result MayEnd }
 {
     let text = read_text(alloc, script)?;

@@ -21,7 +21,8 @@ pub fn events_of(alloc: Global, tables: &Tables, text: &[u8]) -> Result<Vec<Even
     ensures events { IfOk result (λ events. script_of (owner_of tables.now) text.now ≡ Ok events.items) }
     ensures lines { IfOk result (λ events. All (λ event. HasLine tables.now (line_of event)) events.items) }
     ensures bad { (number : ℕ) → result ≡ Err (ReplayFault.Script number) → script_of (owner_of tables.now) text.now ≡ Err number }
-    ensures refused { IfErr result (λ fault. (fault ≡ ReplayFault.Hub HubFault.Memory) ⊎ ((number : ℕ) × (fault ≡ ReplayFault.Script number))) }
+    ensures refused { IfErr result (λ fault. (fault ≡ ReplayFault.Hub HubFault.Memory)
+        ⊎ ((number : ℕ) × (fault ≡ ReplayFault.Script number))) }
 {
     let mut events = Vec::new(alloc);
     let mut number = 0;

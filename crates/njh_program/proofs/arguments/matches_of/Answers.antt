@@ -12,7 +12,8 @@ returns-clause-asked g c =
     let arguments = map g.S.AsStr.text c.args.arguments.now in
     let ours = c.requires in
     IfOk-weaker c.try_get_matches_from_mut.result _ _
-    (λ found parsed. ap choice_of_rows ((parsed.2 (ap is_simple ours ∙ is_simple_program)).1 ∙ ap (λ (a : App). subcommand_of a arguments) ours))
+    (λ found parsed. ap choice_of_rows ((parsed.2 (ap is_simple ours ∙ is_simple_program)).1
+    ∙ ap (λ (a : App). subcommand_of a arguments) ours))
     c.try_get_matches_from_mut.ensures.ok
 
 pub returns-clause-taken : goal.returns-clause-taken

@@ -7,5 +7,6 @@ pub returns : goal.returns
 returns c =
     let replay_is = c.in_ok-replay.ensures.app in
     IfOk-weaker c.subcommand.result _ _
-    (λ command added. added.shape c.in_ok-replay.ensures.local ∙ ap₂ with_subcommand c.bare_command.ensures (ap (λ (a : App). a.top) replay_is))
+    (λ command added. added.shape c.in_ok-replay.ensures.local
+    ∙ ap₂ with_subcommand c.bare_command.ensures (ap (λ (a : App). a.top) replay_is))
     c.subcommand.ensures

@@ -6,4 +6,5 @@ use Rattle.njh_program.proofs.arguments.replay_command.Goals as goal
 pub returns-clause-app : goal.returns-clause-app
 returns-clause-app c =
     let started : app_of c.about.result ≡ new_app (codes "replay") = search rules in
-    IfOk-weaker c.arg.result _ _ (λ command added. added.shape c.tables_option.ensures.local ∙ ap₂ with_rule started c.tables_option.ensures.rule) c.arg.ensures
+    IfOk-weaker c.arg.result _ _ (λ command added. added.shape c.tables_option.ensures.local
+    ∙ ap₂ with_rule started c.tables_option.ensures.rule) c.arg.ensures

@@ -11,7 +11,8 @@ returns-in-Some-replay-default c =
     let name = c.in-Some-replay-default.field-0-0.now in
     let rows = rows_of (found_of c.in-Some-replay-default.options.now) in
     let named : Some name ≡ subcommand_name_of c.args.found.now = c.in-Some-replay-default.ensures.name in
-    let rowed : Some rows ≡ option_map (λ (p : Text × List Row). p.1) (subcommand_rows_of c.args.found.now) = c.in-Some-replay-default.ensures.rows in
+    let rowed : Some rows ≡ option_map (λ (p : Text × List Row). p.1) (subcommand_rows_of c.args.found.now) =
+    c.in-Some-replay-default.ensures.rows in
     let file : first_of (codes "tables") rows ≡ option_map (λ s. s.now) c.get_str.result =
     sym (first_value-rows c.in-Some-replay-default.options.now (codes "tables")) ∙ sym c.get_str.ensures in
     let replay : name ≡ codes "replay" = search rules in

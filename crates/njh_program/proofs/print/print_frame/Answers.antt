@@ -11,7 +11,8 @@ returns-in_err-write_bytes-clause-err g c =
     let name = c.args.name.now in
     let frame = c.args.frame.now in
     let more = 32 ∷ (encode_lower frame ++ 10 ∷ []) in
-    on_err_of c.from_residual.result _ (beginning-after _ _ _ [] c.as_bytes.result.now more (frame_text name frame) (Appends-nil _) c.in_err-write_bytes.ensures.err
+    on_err_of c.from_residual.result _ (beginning-after _ _ _ [] c.as_bytes.result.now more (frame_text name frame)
+    (Appends-nil _) c.in_err-write_bytes.ensures.err
     (ap (λ (text : List ℕ). text ++ more) c.as_bytes.ensures.value ∙ frame-parts name frame))
 
 pub returns-in_err-write_bytes-2-clause-err : goal.returns-in_err-write_bytes-2-clause-err
@@ -20,7 +21,8 @@ returns-in_err-write_bytes-2-clause-err g c =
     let frame = c.args.frame.now in
     let contents = g.W.Write.contents in
     let P : List ℕ → Type 0 = λ text. Appends (contents c.args.out.now) (contents c.write_bytes.new.out) text in
-    on_err_of c.from_residual-in_err-write_bytes-2.result _ (beginning-after _ _ _ name (32 ∷ []) (encode_lower frame ++ 10 ∷ []) (frame_text name frame)
+    on_err_of c.from_residual-in_err-write_bytes-2.result _
+    (beginning-after _ _ _ name (32 ∷ []) (encode_lower frame ++ 10 ∷ []) (frame_text name frame)
     (subst P c.as_bytes.ensures.value c.in_ok-write_bytes.ensures.ok) c.in_err-write_bytes-2.ensures.err (frame-parts name frame))
 
 pub returns-in_err-print_hex-clause-err : goal.returns-in_err-print_hex-clause-err
@@ -30,7 +32,8 @@ returns-in_err-print_hex-clause-err g c =
     let contents = g.W.Write.contents in
     let P : List ℕ → Type 0 = λ text. Appends (contents c.args.out.now) (contents c.write_bytes.new.out) text in
     let first = subst P c.as_bytes.ensures.value c.in_ok-write_bytes.ensures.ok in
-    on_err_of c.from_residual-in_err-print_hex.result _ (beginning-after _ _ _ (name ++ 32 ∷ []) (encode_lower frame) (10 ∷ []) (frame_text name frame)
+    on_err_of c.from_residual-in_err-print_hex.result _
+    (beginning-after _ _ _ (name ++ 32 ∷ []) (encode_lower frame) (10 ∷ []) (frame_text name frame)
     (Appends-trans _ _ _ name (32 ∷ []) first c.in_ok-write_bytes-2.ensures.ok) c.in_err-print_hex.ensures.err
     (sym (append_assoc (name ++ 32 ∷ []) (encode_lower frame) (10 ∷ []))))
 

@@ -41,8 +41,10 @@ returns-in-Err-clause-memory g c = λ memory.
     let start = c.args.hub.now in
     let events = c.args.events.now in
     let stop : fault_after fault.cause ≡ Hub Memory = cc (c.fault_after.ensures, memory) in
-    let printed = stopped_empty _ _ fault.cause _ _ (hub_run start (first_of events fault.events fault.bytes)).sent c.in-Err.ensures.handed stop
+    let printed = stopped_empty _ _ fault.cause _ _
+    (hub_run start (first_of events fault.events fault.bytes)).sent c.in-Err.ensures.handed stop
     (λ why. let at = c.in-Err.ensures.memory why in
-    ap (λ (n : ℕ). (hub_run start (first_of events n fault.bytes)).sent) at.0 ∙ ap (λ (n : ℕ). (hub_run start (first_of events 0 n)).sent) at.1) in
+    ap (λ (n : ℕ). (hub_run start (first_of events n fault.bytes)).sent) at.0
+    ∙ ap (λ (n : ℕ). (hub_run start (first_of events 0 n)).sent) at.1) in
     let same = printed.0 in
     Keeps-trans _ _ _ (Keeps-none _ _ printed.1.1) (search (rules, same))

@@ -1,6 +1,6 @@
 use Rattle.std.proofs.Common.{List, length, ap, refl, arith}
 use Rattle.std.proofs.lemmas.Bool.{false≢true}
-use Rattle.njh_hub.specs.Runs.{Part}
+use Rattle.njh_hub.specs.Whole.{Part}
 use Rattle.njh_hub.specs.Parts.{entries_of}
 use Rattle.njh_hub.proofs.PartsLaws.{length-parts_of}
 use Rattle.njh_hub.proofs.hub.Hub.files.Goals as goal

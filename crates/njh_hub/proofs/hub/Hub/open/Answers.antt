@@ -2,8 +2,9 @@ use Rattle.std.proofs.Common.{◌≡◌, ◌+◌, ◌<◌, List, [], ◌∷◌, 
 use Rattle.std.proofs.lemmas.List.{take_more, get_or-map, length-map, length-take-le}
 use Rattle.njh_table.specs.Entries.{CustomerEntry}
 use Rattle.njh_table.specs.TableFile.{NamedCustomer, entry_of}
-use Rattle.njh_hub.specs.Runs.{Part, opened}
-use Rattle.njh_hub.specs.Parts.{entries_of, part_with, parts_of}
+use Rattle.njh_customer.specs.Part.{part_with}
+use Rattle.njh_hub.specs.Whole.{Part, opened}
+use Rattle.njh_hub.specs.Parts.{entries_of, parts_of}
 use Rattle.njh_hub.proofs.OpenLaws.{parts_of-push, map-opened-push}
 use Rattle.njh_hub.proofs.hub.Hub.open.Goals as goal
 

@@ -1,5 +1,5 @@
 use Rattle.std.proofs.Common.{◌≡◌, length, map, take}
-use Rattle.njh_hub.specs.Runs.{opened}
+use Rattle.njh_hub.specs.Whole.{opened}
 use Rattle.njh_hub.specs.Parts.{entries_of, parts_of}
 use Rattle.njh_hub.proofs.hub.Hub.open.Given as goal
 

@@ -1,19 +1,34 @@
-use Rattle.std.proofs.Common.{◌≡◌, [], ◌∷◌, ◌++◌, sym, ap, subst, ◌∙◌}
-use Rattle.njh_table.specs.declared.LineId.{LineId}
-use Rattle.njh_hub.specs.Runs.{OwnSignal, event_run}
-use Rattle.njh_hub.specs.Own.{own}
-use Rattle.njh_hub.specs.Whole.{part, sent_by}
-use Rattle.njh_hub.proofs.RunningLaws.{last-signal}
+use Rattle.std.proofs.Common.{◌≡◌, ◌∙◌, sym, List, [], ℕ, ap, rules}
+use Rattle.njh_customer.specs.Feeding.{sent_on}
+use Rattle.njh_hub.specs.Whole.{HubRun, sent_by}
+use Rattle.njh_hub.proofs.RunningLaws.{signal_done, sent_pair}
 use Rattle.njh_hub.proofs.hub.Hub.run_signal.Goals as goal
 
-pub returns-in-Err-hand_over-clause-handed : goal.returns-in-Err-hand_over-clause-handed
-returns-in-Err-hand_over-clause-handed g c =
-    let start = c.args.self.now in
-    let event = own c.args.event.now in
+pub returns-in-Err-hand_over : goal.returns-in-Err-hand_over
+returns-in-Err-hand_over g c =
     let line = c.line-line.result in
-    let there = c.line-line.ensures in
     let frame = c.deref.result.now in
-    let is_signal = c.requires ∙ ap (λ (l : LineId). OwnSignal c.args.signal l.line) (sym there) in
-    let sent = last-signal start line event c.args.signal frame is_signal (c.deref.ensures.value ∙ c.in-Ok.ensures.frame) c.in-Err-hand_over.ensures.err.1 in
-    let P : LineId → Type 0 = λ l. sent_by l.customer (event_run (part l.customer start) event).sent ++ [] ≡ (line, frame) ∷ [] in
-    ([], (line, frame), c.args.sink.now, subst P there sent, g.met.S.Sink.none c.args.sink.now, c.in-Err-hand_over.ensures.err.0)
+    let there = signal_done c.args.self.now c.args.event.now line c.args.signal c.line-line.ensures c.requires in
+    let same : c.signal.new.out.items ≡ frame = sym c.deref.ensures.value in
+    record {
+      leads = c.in-Ok.ensures.hub ∙ ap (λ (h : HubRun). h.parts) (sym there);
+      handed = record {
+        front = [];
+        last = (line, frame);
+        between = c.args.sink.now;
+        are = ap (λ (h : HubRun). h.sent) there ∙ ap (λ (b : List ℕ). sent_by line.customer (sent_on line.line b)) (sym c.in-Ok.ensures.frame ∙ same)
+            ∙ sent_pair line frame c.in-Err-hand_over.ensures.err.1;
+        took_front = g.met.S.Sink.none c.args.sink.now;
+        refused_last = c.in-Err-hand_over.ensures.err.0;
+      };
+      known = search rules;
+      lines = c.in-Ok.ensures.lines;
+      room = search rules;
+      one = search rules;
+      behind = search rules;
+      causes = search rules;
+      unknown = search rules;
+      memory = search rules;
+      counts = c.in-Err-hand_over.ensures.counts;
+      counted = λ _. c.in-Err-hand_over.ensures.counted;
+    }
