@@ -52,13 +52,13 @@ fn first_difference(text: &[u8], wanted: &[u8]) -> Option<u64> {
     if text == wanted {
         return None;
     }
-    let mut number = 1;
+    let mut number = 1u64;
     for (byte, other) in text.iter().zip(wanted) {
         if byte != other {
             break;
         }
         if *byte == b'\n' {
-            number += 1;
+            number = number.saturating_add(1);
         }
     }
     Some(number)
