@@ -9,7 +9,8 @@ sent_first-assoc a b r = ap (λ (s : List (ℕ × List ℕ)). record r { sent = 
 
 -- a run over bytes and more is the run over the bytes, and then the run over the rest
 pub bytes_run-append : (rest : Rest) (c : Customer) (l : ℕ) (a b : List ℕ) →
-    bytes_run rest c l (a ++ b) ≡ sent_first (bytes_run rest c l a).sent (bytes_run (bytes_run rest c l a).rest (bytes_run rest c l a).after l b)
+    bytes_run rest c l (a ++ b) ≡ sent_first (bytes_run rest c l a).sent
+    (bytes_run (bytes_run rest c l a).rest (bytes_run rest c l a).after l b)
 bytes_run-append rest c l [] b = refl
 bytes_run-append rest c l (byte ∷ a) b =
     let x = byte_step rest c l byte in

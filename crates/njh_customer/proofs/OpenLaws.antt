@@ -20,4 +20,5 @@ rests_of_lines (l ∷ ls) = ap (λ (rests : List Rest). Nothing ∷ rests) (rest
 pub states_of_lines : (entry : CustomerEntry) (lines : List NamedLine) →
     map (λ line. fresh_line (config_of entry line)) (map (λ l. l.entry) lines) ≡ map (λ l. fresh_line (config_of entry l.entry)) lines
 states_of_lines entry [] = refl
-states_of_lines entry (l ∷ ls) = ap (λ (states : List LineState). fresh_line (config_of entry l.entry) ∷ states) (states_of_lines entry ls)
+states_of_lines entry (l ∷ ls) = ap (λ (states : List LineState). fresh_line (config_of entry l.entry) ∷ states)
+    (states_of_lines entry ls)

@@ -6,7 +6,7 @@ use Rattle.njh_customer.specs.Customer.{Customer}
 use Rattle.njh_customer.specs.Feeding.{byte_step, Taking, or_later, take_step, LineRun, bytes_run, sent_on, sent_first}
 use Rattle.njh_customer.specs.Part.{Part, rest_on}
 use Rattle.njh_customer.specs.Runs.{OwnEvent, Run, alone_run}
-use Rattle.njh_customer.specs.Laws.{CutsAreLike, NoBytesDoNothing, StepsFollowBytes}
+use Rattle.njh_customer.specs.Laws.{CutsAreLike, FirstBytesSendFirst, NoBytesDoNothing, StepsFollowBytes}
 use Rattle.njh_customer.proofs.FeedingLaws.{bytes_run-append}
 
 take-one_more : (n byte : ℕ) (bytes : List ℕ) → take (1 + n) (byte ∷ bytes) ≡ byte ∷ take n bytes
@@ -16,12 +16,14 @@ take-one_more n byte bytes = let e : 1 + n ≡ suc n = omega arith in rw e refl
 abbrev run_by : ℕ → Taking → LineRun
 run_by l t = record { rest = t.rest; after = t.after; sent = sent_on l t.frame }
 
-after_byte : (go : List ℕ → LineRun) (byte : ℕ) (rest : Rest) (after : Customer) (frame : List ℕ) (l : ℕ) (bytes : List ℕ) (later : Taking) →
+after_byte : (go : List ℕ → LineRun) (byte : ℕ) (rest : Rest) (after : Customer) (frame : List ℕ) (l : ℕ) (bytes : List ℕ)
+    (later : Taking) →
     ((more : List ℕ) → go (byte ∷ more) ≡ sent_first (sent_on l frame) (bytes_run rest after l more)) →
     bytes_run rest after l (take later.taken bytes) ≡ run_by l later →
     go (take (or_later 1 rest (record { after = after; frame = frame }) later).taken (byte ∷ bytes))
     ≡ run_by l (or_later 1 rest (record { after = after; frame = frame }) later)
-after_byte go byte rest after [] l bytes later opens same = ap go (take-one_more later.taken byte bytes) ∙ opens (take later.taken bytes) ∙ same
+after_byte go byte rest after [] l bytes later opens same = ap go (take-one_more later.taken byte bytes)
+    ∙ opens (take later.taken bytes) ∙ same
 after_byte go byte rest after (b ∷ frame) l bytes later opens same = opens []
 
 take_step-run : (rest : Rest) (c : Customer) (l : ℕ) (piece : List ℕ) →
@@ -62,7 +64,8 @@ steps_follow_bytes p l front left within =
     let r = bytes_run (rest_on l p) p.customer l front in
     let q = read_part p l r in
     let t = take_step (rest_on l q) q.customer l left in
-    ap (λ (x : LineRun). run_with (read_part p l x) x.sent) (bytes_run-more p l front (take t.taken left) (omega (arith, within, length-set p.rests l r.rest))
+    ap (λ (x : LineRun). run_with (read_part p l x) x.sent)
+    (bytes_run-more p l front (take t.taken left) (omega (arith, within, length-set p.rests l r.rest))
     ∙ ap (sent_first r.sent) (take_step-run (rest_on l q) q.customer l left))
     ∙ ap (λ (y : Part). run_with y (r.sent ++ sent_on l t.frame)) (read_part-twice p l r (run_by l t))
 
@@ -82,3 +85,8 @@ cuts_are_like p l front back events within =
     ap (λ (x : LineRun). later_run x.sent (read_part p l x) events) (bytes_run-more p l front back within)
     ∙ later_run-twice r.sent s.sent (read_part p l s) events
     ∙ ap (λ (y : Part). run_with (alone_run y events).after (r.sent ++ (s.sent ++ (alone_run y events).sent))) (read_part-twice p l r s)
+
+pub first_bytes_send_first : FirstBytesSendFirst
+first_bytes_send_first p l front back =
+    let r = bytes_run (rest_on l p) p.customer l front in
+    ((bytes_run r.rest r.after l back).sent, ap (λ (x : LineRun). x.sent) (sym (bytes_run-append (rest_on l p) p.customer l front back)))

@@ -1,5 +1,6 @@
 -- A customer alone: what each frame and each signal on one of its lines does and sends.
-use Rattle.std.specs.Prelude.{ℕ, Bool, true, false, List, [], ◌∷◌, length, slice_index_or, slice_set, Ok, Err, ◌==◌, ◌||◌, nat_lt, cond, None}
+use Rattle.std.specs.Prelude.{ℕ, Bool, true, false, List, [], ◌∷◌, length, slice_index_or, slice_set, Ok, Err, ◌==◌, ◌||◌}
+use Rattle.std.specs.Prelude.{nat_lt, cond, None}
 use Rattle.njh_bisync.specs.Frames as frame
 use Rattle.njh_bisync.specs.Frames.{Received}
 use Rattle.njh_block.specs.Blocks.{Item, Data, Aborted, Long, Control, General, Block, read_block, general_first}
@@ -84,7 +85,8 @@ pub record Acted : Type 0 where
 -- the records act in their order, up to one that ends the session
 abbrev pub all_acted : CustomerEntry → List Item → List LineState → Acted
 all_acted entry [] lines = record { ended = false; lines = lines }
-all_acted entry (i ∷ is) lines = elim (ends_session i) [ true ↦ record { ended = true; lines = lines } | false ↦ all_acted entry is (acted entry i lines) ]
+all_acted entry (i ∷ is) lines =
+    elim (ends_session i) [ true ↦ record { ended = true; lines = lines } | false ↦ all_acted entry is (acted entry i lines) ]
 
 abbrev pub acted_where : Bool → CustomerEntry → List Item → List LineState → Acted
 acted_where true entry items lines = all_acted entry items lines

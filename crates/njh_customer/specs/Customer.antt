@@ -20,7 +20,13 @@ is_call Call = true
 is_call Answer = false
 
 abbrev pub config_of : CustomerEntry → LineEntry → Config
-config_of entry line = record { hub = entry.hub; node = line.node; calls = is_call line.role; block = line.block; password = password_in line.password }
+config_of entry line = record {
+  hub = entry.hub;
+  node = line.node;
+  calls = is_call line.role;
+  block = line.block;
+  password = password_in line.password;
+}
 
 -- a customer of a hub that was just opened
 abbrev pub fresh_customer : CustomerEntry → Customer

@@ -34,7 +34,11 @@ abbrev pub later_by : ℕ → Taking → Taking
 later_by n t = record t { taken = n + t.taken }
 
 abbrev pub or_later : ℕ → Rest → Step → Taking → Taking
-or_later n rest step later = elim step.frame [ [] ↦ later_by n later | b ∷ bytes ↦ record { rest = rest; after = step.after; frame = b ∷ bytes; taken = n } ]
+or_later n rest step later =
+    elim step.frame [
+      | [] ↦ later_by n later
+      | b ∷ bytes ↦ record { rest = rest; after = step.after; frame = b ∷ bytes; taken = n }
+    ]
 
 abbrev pub take_step : Rest → Customer → ℕ → List ℕ → Taking
 take_step rest c l [] = record { rest = rest; after = c; frame = []; taken = 0 }

@@ -23,3 +23,9 @@ StepsFollowBytes =
     (p : Part) (l : ℕ) (front left : List ℕ) → l < length (event_run p (OwnBytes l front)).after.rests →
     event_run p (OwnBytes l (front ++ take (bytes_taken (event_run p (OwnBytes l front)).after l left).taken left))
     ≡ followed_by (event_run p (OwnBytes l front)) l left
+
+-- The frames that the first bytes of a piece send come first of those that the piece sends.
+abbrev pub FirstBytesSendFirst : Type 0
+FirstBytesSendFirst =
+    (p : Part) (l : ℕ) (front back : List ℕ) →
+    (more : List (ℕ × List ℕ)) × ((event_run p (OwnBytes l front)).sent ++ more ≡ (event_run p (OwnBytes l (front ++ back))).sent)

@@ -51,7 +51,11 @@ pub record Filling : Type 0 where
 -- messages go into a block in their order, until one has no room
 abbrev pub filled : List (List ℕ) → Writing → Filling
 filled [] w = record { writing = w; left = [] }
-filled (m ∷ ms) w = elim (has_room w (message_item m)) [ true ↦ filled ms (with_last (message_item m) w) | false ↦ record { writing = w; left = m ∷ ms } ]
+filled (m ∷ ms) w =
+    elim (has_room w (message_item m)) [
+      | true ↦ filled ms (with_last (message_item m) w)
+      | false ↦ record { writing = w; left = m ∷ ms }
+    ]
 
 abbrev pub with_left : List (List ℕ) → LineState → LineState
 with_left left x = record x { messages = left }

@@ -13,6 +13,6 @@ mod sending;
 mod signal;
 
 pub use frame_buffer::FrameBuffer;
-pub use law::{cuts_are_like, no_bytes_do_nothing, steps_follow_bytes};
+pub use law::{cuts_are_like, first_bytes_send_first, no_bytes_do_nothing, steps_follow_bytes};
 pub use lines::Lines;
 pub use signal::Signal;

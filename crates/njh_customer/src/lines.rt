@@ -109,10 +109,12 @@ impl Lines {
         ensures rest { rest_at line self.new.rests ≡ (fed (rest_at line self.old.rests) piece.now).rest }
         ensures rests { self.new.rests ≡ slice_set self.old.rests line (rest_at line self.new.rests) }
         ensures customer { customer_with (entry_of customer.now) self.new.states
-            ≡ (acted_on line (fed (rest_at line self.old.rests) piece.now).frame (customer_with (entry_of customer.now) self.old.states)).after }
+            ≡ (acted_on line (fed (rest_at line self.old.rests) piece.now).frame
+            (customer_with (entry_of customer.now) self.old.states)).after }
         ensures count { length self.new.states ≡ length self.old.states }
         ensures frame { out.new
-            ≡ (acted_on line (fed (rest_at line self.old.rests) piece.now).frame (customer_with (entry_of customer.now) self.old.states)).frame }
+            ≡ (acted_on line (fed (rest_at line self.old.rests) piece.now).frame
+            (customer_with (entry_of customer.now) self.old.states)).frame }
     {
         let (taken, frame) = self.deframers[usize::from(line)].feed(piece);
         match frame {

@@ -3,7 +3,8 @@
 ghost use Rattle.std.specs.Prelude.{◌≡◌};
 ghost use Rattle.njh_bisync.specs.Written.{text_bytes};
 ghost use Rattle.njh_line.specs.Openings.{opening};
-ghost use Rattle.njh_customer.specs.Sending.{filled, own_block, with_left, block_sent, control_sent, frame_sent, next_sent, no_block_sent, reply_sent};
+ghost use Rattle.njh_customer.specs.Sending.{filled, own_block, with_left};
+ghost use Rattle.njh_customer.specs.Sending.{block_sent, control_sent, frame_sent, next_sent, no_block_sent, reply_sent};
 
 use crate::frame_buffer::FrameBuffer;
 use njh_bisync::Control;

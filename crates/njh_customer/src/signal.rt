@@ -1,9 +1,12 @@
-//! What comes to a line but bytes.
+//! Signals.
 
-/// A tick of the clock, the adapter's word for a failed block check, or the line's loss.
+/// What comes to a line but bytes.
 #[derive(Clone, Copy, Debug, PartialEq, Eq)]
 pub enum Signal {
+    /// A tick of the clock.
     Tick,
+    /// The adapter's word that a block check failed.
     Garbled,
+    /// The line is lost.
     Lost,
 }

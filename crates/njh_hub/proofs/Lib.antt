@@ -2,4 +2,5 @@ pub mod OpenLaws
 pub mod PartsLaws
 pub mod PieceLaws
 pub mod RunLaws
+pub mod OrderLaws
 pub mod RunningLaws

@@ -9,9 +9,10 @@ use Rattle.njh_customer.specs.Runs.{OwnBytes, Run, event_run}
 use Rattle.njh_hub.specs.declared.event.Event.TheVariants.{Bytes}
 use Rattle.njh_hub.specs.Whole.{Part, no_part, part, sent_by, HubRun, hub_event}
 
-sent_by-append : (c : ℕ) (xs ys : List (ℕ × List ℕ)) → sent_by c (xs ++ ys) ≡ sent_by c xs ++ sent_by c ys
+pub sent_by-append : (c : ℕ) (xs ys : List (ℕ × List ℕ)) → sent_by c (xs ++ ys) ≡ sent_by c xs ++ sent_by c ys
 sent_by-append c [] ys = refl
-sent_by-append c (x ∷ xs) ys = ap (λ (s : List (LineId × List ℕ)). (record { customer = c; line = x.0 }, x.1) ∷ s) (sent_by-append c xs ys)
+sent_by-append c (x ∷ xs) ys = ap (λ (s : List (LineId × List ℕ)). (record { customer = c; line = x.0 }, x.1) ∷ s)
+    (sent_by-append c xs ys)
 
 abbrev run_with : List Part → List (LineId × List ℕ) → HubRun
 run_with parts sent = record { parts = parts; sent = sent }
@@ -27,7 +28,8 @@ stepped h line left =
     record { parts = set h.parts line.customer t.after; sent = h.sent ++ sent_by line.customer (sent_on line.line t.frame) }
 
 -- no bytes change nothing
-pub after_bytes-none : NoBytesDoNothing → (parts : List Part) (line : LineId) → after_bytes parts line [] ≡ record { parts = parts; sent = [] }
+pub after_bytes-none : NoBytesDoNothing → (parts : List Part) (line : LineId) → after_bytes parts line []
+    ≡ record { parts = parts; sent = [] }
 after_bytes-none nothing parts line =
     let c = line.customer in
     ap (λ (r : Run). run_with (set parts c r.after) (sent_by c r.sent)) (nothing (part c parts) line.line)
@@ -38,7 +40,8 @@ abbrev Goes : List Part → LineId → List ℕ → List ℕ → Part → Type 0
 Goes parts line a left q =
     let t = bytes_taken q line.line left in
     after_bytes parts line (a ++ take t.taken left)
-    ≡ run_with (set (after_bytes parts line a).parts line.customer t.after) ((after_bytes parts line a).sent ++ sent_by line.customer (sent_on line.line t.frame))
+    ≡ run_with (set (after_bytes parts line a).parts line.customer t.after)
+    ((after_bytes parts line a).sent ++ sent_by line.customer (sent_on line.line t.frame))
 
 -- what a line read is what its bytes lead to, whether a step came between or not
 pub after_bytes-step : StepsFollowBytes → (parts : List Part) (line : LineId) (a left : List ℕ) →

@@ -1,5 +1,6 @@
 -- Runs of a whole hub, seen by one customer.
-use Rattle.std.proofs.Common.{◌≡◌, ◌≢◌, ℕ, ◌<◌, Bool, true, false, cond, eqb, List, [], ◌∷◌, ◌++◌, length, map, set, refl, ap, sym, ◌∙◌, ⊎_elim, arith}
+use Rattle.std.proofs.Common.{◌≡◌, ◌≢◌, ℕ, ◌<◌, Bool, true, false, cond, eqb, List, [], ◌∷◌, ◌++◌, length, map, set, refl}
+use Rattle.std.proofs.Common.{ap, sym, ◌∙◌, ⊎_elim, arith}
 use Rattle.std.proofs.lemmas.List.{get_or-set_same, get_or-set_other, length-map, length-set}
 use Rattle.std.proofs.lemmas.Bool.Decides.{eqb_tells}
 use Rattle.std.proofs.Math.ListN.{get_or-map}
@@ -18,7 +19,8 @@ cond-append false x xs ys zs e = e
 
 pub sent_to-append : (c : ℕ) (xs ys : List (LineId × List ℕ)) → sent_to c (xs ++ ys) ≡ sent_to c xs ++ sent_to c ys
 sent_to-append c [] ys = refl
-sent_to-append c (x ∷ xs) ys = cond-append (eqb x.0.customer c) (x.0.line, x.1) (sent_to c (xs ++ ys)) (sent_to c xs) (sent_to c ys) (sent_to-append c xs ys)
+sent_to-append c (x ∷ xs) ys = cond-append (eqb x.0.customer c) (x.0.line, x.1) (sent_to c (xs ++ ys)) (sent_to c xs)
+    (sent_to c ys) (sent_to-append c xs ys)
 
 pub sent_to-sent_by_same : (c d : ℕ) → eqb d c ≡ true → (xs : List (ℕ × List ℕ)) → sent_to c (sent_by d xs) ≡ xs
 sent_to-sent_by_same c d same [] = refl
@@ -32,7 +34,8 @@ sent_to-sent_by_other c d other (x ∷ xs) = rw other (sent_to-sent_by_other c d
 own_event-then : (c d : ℕ) (parts : List Part) (event : OwnEvent) (events : List Event) →
     eqb d c ≡ true → d ≡ c → c < length parts → IsAlone c (own_event parts d event).parts events →
     (part c (hub_run (own_event parts d event).parts events).parts ≡ (alone_run (part c parts) (event ∷ events_of c events)).after)
-    × (sent_to c ((own_event parts d event).sent ++ (hub_run (own_event parts d event).parts events).sent) ≡ (alone_run (part c parts) (event ∷ events_of c events)).sent)
+    × (sent_to c ((own_event parts d event).sent ++ (hub_run (own_event parts d event).parts events).sent)
+    ≡ (alone_run (part c parts) (event ∷ events_of c events)).sent)
 own_event-then c d parts event events same e within later =
     let own_part : event_run (part d parts) event ≡ event_run (part c parts) event = ap (λ (n : ℕ). event_run (part n parts) event) e in
     let x = event_run (part c parts) event in
@@ -49,13 +52,15 @@ own_event-then c d parts event events same e within later =
 other_event-then : (c d : ℕ) (parts : List Part) (event : OwnEvent) (events : List Event) →
     eqb d c ≡ false → c ≢ d → IsAlone c (own_event parts d event).parts events →
     (part c (hub_run (own_event parts d event).parts events).parts ≡ (alone_run (part c parts) (events_of c events)).after)
-    × (sent_to c ((own_event parts d event).sent ++ (hub_run (own_event parts d event).parts events).sent) ≡ (alone_run (part c parts) (events_of c events)).sent)
+    × (sent_to c ((own_event parts d event).sent ++ (hub_run (own_event parts d event).parts events).sent)
+    ≡ (alone_run (part c parts) (events_of c events)).sent)
 other_event-then c d parts event events other apart later =
     let x = event_run (part d parts) event in
     let stays : part c (own_event parts d event).parts ≡ part c parts = get_or-set_other parts d c x.after no_part apart in (
       later.after ∙ ap (λ (p : Part). (alone_run p (events_of c events)).after) stays,
       sent_to-append c (sent_by d x.sent) (hub_run (own_event parts d event).parts events).sent
-          ∙ ap (λ (s : List (ℕ × List ℕ)). s ++ sent_to c (hub_run (own_event parts d event).parts events).sent) (sent_to-sent_by_other c d other x.sent)
+          ∙ ap (λ (s : List (ℕ × List ℕ)). s ++ sent_to c (hub_run (own_event parts d event).parts events).sent)
+          (sent_to-sent_by_other c d other x.sent)
           ∙ later.sent ∙ ap (λ (p : Part). (alone_run p (events_of c events)).sent) stays,
     )
 
@@ -68,7 +73,8 @@ each_is_alone c parts (event ∷ events) within =
     ⊎_elim (λ (w : (eqb d c ≡ true) × (d ≡ c)).
     let t = own_event-then c d parts (own event) events w.0 w.1 within later in record { after = rw w.0 t.0; sent = rw w.0 t.1 })
     (λ (w : (eqb d c ≡ false) × (d ≢ c)).
-    let t = other_event-then c d parts (own event) events w.0 (λ e. w.1 (sym e)) later in record { after = rw w.0 t.0; sent = rw w.0 t.1 })
+    let t = other_event-then c d parts (own event) events w.0 (λ e. w.1 (sym e)) later in
+    record { after = rw w.0 t.0; sent = rw w.0 t.1 })
     (eqb_tells d c)
 
 pub two_lists_are_like : TwoListsAreLike

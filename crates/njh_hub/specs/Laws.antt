@@ -1,9 +1,9 @@
 -- What is said of all runs, over the definitions alone.
-use Rattle.std.specs.Prelude.{◌≡◌, ℕ, ◌<◌, List, length, map, slice_index_or}
+use Rattle.std.specs.Prelude.{◌≡◌, ℕ, ◌<◌, List, ◌++◌, length, map, slice_index_or}
 use Rattle.njh_table.specs.Entries.{CustomerEntry}
 use Rattle.njh_hub.specs.declared.event.Event.{Event}
 use Rattle.njh_customer.specs.Runs.{alone_run}
-use Rattle.njh_hub.specs.Own.{events_of, sent_to}
+use Rattle.njh_hub.specs.Own.{events_of, first_of, sent_to}
 use Rattle.njh_hub.specs.Whole.{Part, opened, no_entry, part, hub_run}
 
 -- Events lead customer c's part of a hub, and what is sent on its lines, as its own events lead that part alone.
@@ -38,3 +38,13 @@ CustomersNeverMeet =
     (c d : ℕ) (entries others : List CustomerEntry) (events more : List Event) →
     c < length entries → d < length others → entry_at c entries ≡ entry_at d others → events_of c events ≡ events_of d more →
     IsLike c d (map opened entries) (map opened others) events more
+
+-- a list begins another
+abbrev pub Begins : {X : Type 0} → List X → List X → Type 0
+Begins {X} front whole = (more : List X) × (front ++ more ≡ whole)
+
+-- The frames of what happened up to a stop come first of those of all events.
+abbrev pub SentInOrder : Type 0
+SentInOrder =
+    (parts : List Part) (events : List Event) (whole bytes : ℕ) →
+    Begins (hub_run parts (first_of events whole bytes)).sent (hub_run parts events).sent

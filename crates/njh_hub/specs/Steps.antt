@@ -6,9 +6,10 @@ use Rattle.njh_hub.specs.declared.fault.HubFault.{HubFault}
 use Rattle.njh_hub.specs.declared.fault.HubFault.TheVariants.{UnknownLine, Memory}
 use Rattle.njh_hub.specs.Whole.{Part, HasLine, SameLines}
 
--- A step on a line leads that line's customer to `after` and no other anywhere, and puts what it sent in the place of what `out` held; or it
--- is refused, and nothing has changed.
-pub record IsStep {A Z : Type 0} (parts : List Part) (line : LineId) (after : Part) (sent : List ℕ) (out : Vec ℕ Z) (result : Result A HubFault) (new : List Part) (new_out : Vec ℕ Z) : Type 0 where
+-- A step on a line leads that line's customer to `after` and no other anywhere, and puts what it sent in the place of what `out` held;
+-- or it is refused, and nothing has changed.
+pub record IsStep {A Z : Type 0} (parts : List Part) (line : LineId) (after : Part) (sent : List ℕ) (out : Vec ℕ Z)
+    (result : Result A HubFault) (new : List Part) (new_out : Vec ℕ Z) : Type 0 where
   pub hub : OnOk result (new ≡ slice_set parts line.customer after)
   pub frame : OnOk result (new_out.items ≡ sent)
   pub lines : SameLines parts new

@@ -41,9 +41,13 @@ impl Piece {
 /// What comes to the hub, each on one line.
 #[derive(Drop)]
 pub enum Event {
+    /// Some bytes.
     Bytes(LineId, Piece),
+    /// A tick of the clock.
     Tick(LineId),
+    /// The adapter's word that a block check failed.
     Garbled(LineId),
+    /// The line is lost.
     Lost(LineId),
 }
 

@@ -21,11 +21,12 @@ impl Hub {
 
     /// Works off the events in order, and hands each frame that is sent to the sink. Stops at the first fault.
     ///
-    /// For every customer, whatever the others do: its part of the hub is what its own events lead it to by itself, and the sink was handed
-    /// on its lines what it sends by itself.
+    /// For every customer, whatever the others do: its part of the hub is what its own events lead it to by itself, and the sink was
+    /// handed on its lines what it sends by itself.
     pub fn run<S: Sink>(&mut self, events: &[Event], sink: &mut S) -> Result<(), RunFault>
         // For each customer: its part, and in order the frames on its lines, are those of that customer alone.
-        ensures parts { (c : ℕ) → c < length self.old → part c self.new ≡ (alone_run (part c self.old) (events_of c (done events.now result))).after }
+        ensures parts { (c : ℕ) → c < length self.old →
+            part c self.new ≡ (alone_run (part c self.old) (events_of c (done events.now result))).after }
         ensures sent { OnOk result ((pairs : List (LineId × List ℕ)) × S.took sink.old sink.new pairs ×
             ((c : ℕ) → c < length self.old → sent_to c pairs ≡ (alone_run (part c self.old) (events_of c events.now)).sent)) }
 

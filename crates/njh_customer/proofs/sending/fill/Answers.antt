@@ -14,14 +14,16 @@ pub returns-in_default-clause-line : goal.returns-in_default-clause-line
 returns-in_default-clause-line c =
     let none : slice_get c.messages.line.messages 0 ≡ None = search rules in
     c.messages.invariant.line
-    ∙ ap (λ (f : Filling). with_left f.left c.args.line.now) (sym (filled-none c.messages.line.messages c.messages.block none) ∙ c.messages.invariant.rest)
+    ∙ ap (λ (f : Filling). with_left f.left c.args.line.now)
+    (sym (filled-none c.messages.line.messages c.messages.block none) ∙ c.messages.invariant.rest)
 
 pub returns-then-not-fits-clause-block : goal.returns-then-not-fits-clause-block
 returns-then-not-fits-clause-block c =
     let some : slice_get c.messages.line.messages 0 ≡ Some c.in-Some.message.now.items = search rules in
     let full : has_room c.messages.block (message_item c.in-Some.message.now.items) ≡ false =
     ap (λ (bytes : List ℕ). has_room c.messages.block (message_item bytes)) (sym c.deref.ensures.0) ∙ sym c.if-not-fits.ensures.exact in
-    ap (λ (f : Filling). f.writing) (sym (filled-full c.messages.line.messages c.in-Some.message.now.items c.messages.block some full) ∙ c.messages.invariant.rest)
+    ap (λ (f : Filling). f.writing) (sym
+    (filled-full c.messages.line.messages c.in-Some.message.now.items c.messages.block some full) ∙ c.messages.invariant.rest)
 
 pub returns-then-not-fits-clause-line : goal.returns-then-not-fits-clause-line
 returns-then-not-fits-clause-line c =
@@ -29,4 +31,5 @@ returns-then-not-fits-clause-line c =
     let full : has_room c.messages.block (message_item c.in-Some.message.now.items) ≡ false =
     ap (λ (bytes : List ℕ). has_room c.messages.block (message_item bytes)) (sym c.deref.ensures.0) ∙ sym c.if-not-fits.ensures.exact in
     c.messages.invariant.line
-    ∙ ap (λ (f : Filling). with_left f.left c.args.line.now) (sym (filled-full c.messages.line.messages c.in-Some.message.now.items c.messages.block some full) ∙ c.messages.invariant.rest)
+    ∙ ap (λ (f : Filling). with_left f.left c.args.line.now)
+    (sym (filled-full c.messages.line.messages c.in-Some.message.now.items c.messages.block some full) ∙ c.messages.invariant.rest)

@@ -21,9 +21,11 @@ loop-line-preserved c =
     let rests : c.push.new.self.items ≡ c.loop-line.deframers.items ++ Nothing ∷ [] = search rules in
     let states : c.push-in-loop-line.new.self.items ≡ c.loop-line.lines.items ++ state c.line-item.result ∷ [] = search rules in
     record {
-      rests = rests ∙ ap (λ (rs : List Rest). rs ++ Nothing ∷ []) c.loop-line.invariant.rests ∙ sym (map_more (λ (l : NamedLine). Nothing) lines i c.line-item.result within);
+      rests = rests ∙ ap (λ (rs : List Rest). rs ++ Nothing ∷ []) c.loop-line.invariant.rests
+          ∙ sym (map_more (λ (l : NamedLine). Nothing) lines i c.line-item.result within);
       states = states ∙ ap (λ (ss : List LineState). ss ++ state c.line-item.result ∷ []) c.loop-line.invariant.states
-          ∙ ap (λ (l : NamedLine). map state (take i lines) ++ state l ∷ []) item ∙ sym (map_more state lines i c.line-item.result within);
+          ∙ ap (λ (l : NamedLine). map state (take i lines) ++ state l ∷ []) item
+          ∙ sym (map_more state lines i c.line-item.result within);
     }
 
 pub returns : goal.returns
@@ -31,7 +33,8 @@ returns c =
     let lines : List NamedLine = c.args.customer.now.lines in
     let entry = entry_of c.args.customer.now in
     let state : NamedLine → LineState = λ l. fresh_line (config_of entry l.entry) in
-    let all : take c.loop-line.line-index lines ≡ lines = take_all _ lines (omega (arith, ap (λ (ls : List NamedLine). length ls) c.lines-line-items.ensures)) in
+    let all : take c.loop-line.line-index lines
+    ≡ lines = take_all _ lines (omega (arith, ap (λ (ls : List NamedLine). length ls) c.lines-line-items.ensures)) in
     let part_of : List Rest → List LineState → Part = λ rests states. record { rests = rests; customer = customer_with entry states } in
     ap (λ (rests : List Rest). part_of rests c.loop-line.lines.items)
     (c.loop-line.invariant.rests ∙ ap (λ (ls : List NamedLine). map (λ (l : NamedLine). Nothing) ls) all ∙ sym (rests_of_lines lines))

@@ -19,12 +19,15 @@ loop-out-preserved c =
     let unanswered : c.loop-out.out ≡ [] = search rules in
     record {
       taken =
-          ap (λ (left : List ℕ). or_later (c.loop-out.taken + t.result) new (record { after = after; frame = t.new.out }) (take_step new after line left)) c.split_at.ensures.back
+          ap (λ (left : List ℕ). or_later (c.loop-out.taken + t.result) new (record { after = after; frame = t.new.out })
+          (take_step new after line left)) c.split_at.ensures.back
           ∙ takes_on c.loop-out.taken t.result old before line c.loop-out.left.now new after t.new.out
           (record { more_is = t.ensures.taken; rest_is = t.ensures.rest; after_is = t.ensures.customer; frame_is = t.ensures.frame })
-          ∙ ap (λ (frame : List ℕ). or_later c.loop-out.taken old (record { after = before; frame = frame }) (take_step old before line c.loop-out.left.now)) (sym unanswered)
+          ∙ ap (λ (frame : List ℕ). or_later c.loop-out.taken old (record { after = before; frame = frame })
+          (take_step old before line c.loop-out.left.now)) (sym unanswered)
           ∙ c.loop-out.invariant.taken;
-      rests = t.ensures.rests ∙ ap (λ (rests : List Rest). set rests line new) c.loop-out.invariant.rests ∙ set-set c.args.self.now.rests line old new;
+      rests = t.ensures.rests ∙ ap (λ (rests : List Rest). set rests line new) c.loop-out.invariant.rests
+          ∙ set-set c.args.self.now.rests line old new;
       count = omega arith;
       few = omega (arith, c.split_at.ensures.back_len);
       progress = λ _. let left : 0 < length c.loop-out.left.now = search rules in omega arith;

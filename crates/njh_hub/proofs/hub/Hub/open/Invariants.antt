@@ -6,6 +6,7 @@ use Rattle.njh_hub.proofs.hub.Hub.open.Given as goal
 -- so many customers are open
 abbrev pub invariant-loop-customer : goal.invariant-loop-customer
 invariant-loop-customer l = record {
-  parts : parts_of (take l.customer-index (entries_of l.fn.tables)) l.lines.items ≡ map opened (take l.customer-index (entries_of l.fn.tables));
+  parts : parts_of (take l.customer-index (entries_of l.fn.tables)) l.lines.items
+      ≡ map opened (take l.customer-index (entries_of l.fn.tables));
   count : length l.lines.items ≡ l.customer-index;
 }

@@ -17,7 +17,8 @@ loop-used-preserved g c =
     let line = c.args.line in
     let did = c.in-Ok.ensures.step in
     let known : HasLine start line = omega (arith, did.known, c.loop-used.invariant.same line.customer) in
-    let step : GoesOn start c.loop-used.self c.take.new.self line c.args.piece.now c.split_at.result.1.now c.loop-used.taken c.in-Ok.used c.take.new.out.items = record {
+    let step : GoesOn start c.loop-used.self c.take.new.self line c.args.piece.now c.split_at.result.1.now
+    c.loop-used.taken c.in-Ok.used c.take.new.out.items = record {
       follow = c.steps_follow_bytes.ensures;
       known = known;
       now_is = c.loop-used.invariant.parts;
@@ -40,7 +41,8 @@ loop-used-preserved g c =
       same = λ d. did.lines d ∙ c.loop-used.invariant.same d;
       known = λ _. known;
       room = λ _. did.room;
-      first = λ none. let left : 0 < length c.split_at.result.1.now = omega (arith, c.split_at.ensures.back_len) in absurd (omega (arith, c.in-Ok.ensures.progress.0 left));
+      first = λ none. let left : 0 < length c.split_at.result.1.now = omega (arith, c.split_at.ensures.back_len) in
+          absurd (omega (arith, c.in-Ok.ensures.progress.0 left));
       counts = omega (arith, c.in-Ok-hand_over.ensures.counts);
     }
 
@@ -50,7 +52,8 @@ returns-then-taken-piece g c =
     let line = c.args.line in
     let did = c.in-Ok.ensures.step in
     let known : HasLine start line = omega (arith, did.known, c.loop-used.invariant.same line.customer) in
-    let step : GoesOn start c.loop-used.self c.take.new.self line c.args.piece.now c.split_at.result.1.now c.loop-used.taken c.in-Ok.used c.take.new.out.items = record {
+    let step : GoesOn start c.loop-used.self c.take.new.self line c.args.piece.now c.split_at.result.1.now
+    c.loop-used.taken c.in-Ok.used c.take.new.out.items = record {
       follow = c.steps_follow_bytes.ensures;
       known = known;
       now_is = c.loop-used.invariant.parts;
@@ -66,7 +69,8 @@ returns-then-taken-piece g c =
     let P : HubRun → Type 0 = λ h. g.S.Sink.took c.args.sink.now c.hand_over.new.sink h.sent in
     let took = subst P (sym there) (g.met.S.Sink.more _ _ _ _ _ c.loop-used.invariant.sent handed) in
     let all : take (c.loop-used.taken + c.in-Ok.used) c.args.piece.now ≡ c.args.piece.now = take_all _ c.args.piece.now (omega arith) in
-    let on : after_bytes start line (take (c.loop-used.taken + c.in-Ok.used) c.args.piece.now) ≡ hub_run start (Bytes line c.args.piece.now ∷ []) =
+    let on : after_bytes start line (take (c.loop-used.taken + c.in-Ok.used) c.args.piece.now)
+    ≡ hub_run start (Bytes line c.args.piece.now ∷ []) =
     ap (after_bytes start line) all ∙ sym (whole_done start (Bytes line c.args.piece.now)) in
     record {
       leads = sym (ap (λ (h : HubRun). h.parts) there) ∙ ap (λ (h : HubRun). h.parts) on;
@@ -89,7 +93,8 @@ returns-in-Err-hand_over g c =
     let line = c.args.line in
     let did = c.in-Ok.ensures.step in
     let known : HasLine start line = omega (arith, did.known, c.loop-used.invariant.same line.customer) in
-    let step : GoesOn start c.loop-used.self c.take.new.self line c.args.piece.now c.split_at.result.1.now c.loop-used.taken c.in-Ok.used c.take.new.out.items = record {
+    let step : GoesOn start c.loop-used.self c.take.new.self line c.args.piece.now c.split_at.result.1.now
+    c.loop-used.taken c.in-Ok.used c.take.new.out.items = record {
       follow = c.steps_follow_bytes.ensures;
       known = known;
       now_is = c.loop-used.invariant.parts;
@@ -103,7 +108,8 @@ returns-in-Err-hand_over g c =
     let frame = c.deref.result.now in
     let fault = c.after_sink.result in
     let taken = c.loop-used.taken + c.in-Ok.used in
-    let stop = sink_done c.no_bytes_do_nothing.ensures start line c.args.piece.now taken fault.events fault.bytes c.after_sink.ensures.whole c.after_sink.ensures.part in
+    let stop = sink_done c.no_bytes_do_nothing.ensures start line c.args.piece.now taken fault.events fault.bytes
+    c.after_sink.ensures.whole c.after_sink.ensures.part in
     let sent = (after_bytes start line (take c.loop-used.taken c.args.piece.now)).sent in
     let all = (hub_run start (first_of (Bytes line c.args.piece.now ∷ []) fault.events fault.bytes)).sent in
     let Q : Cause → Type 0 = λ cause. HandedUntil g.S.Sink.took g.S.Sink.refused cause c.args.sink.now c.hand_over.new.sink all in
@@ -115,7 +121,8 @@ returns-in-Err-hand_over g c =
         last = (line, frame);
         between = c.loop-used.sink;
         are = ap (λ (h : HubRun). h.sent) (stop ∙ there)
-            ∙ ap (λ (pairs : List (LineId × List ℕ)). sent ++ pairs) (ap (λ (b : List ℕ). sent_by line.customer (sent_on line.line b)) (sym c.deref.ensures.value)
+            ∙ ap (λ (pairs : List (LineId × List ℕ)). sent ++ pairs)
+            (ap (λ (b : List ℕ). sent_by line.customer (sent_on line.line b)) (sym c.deref.ensures.value)
             ∙ sent_pair line frame c.in-Err-hand_over.ensures.err.1);
         took_front = c.loop-used.invariant.sent;
         refused_last = c.in-Err-hand_over.ensures.err.0;
@@ -129,5 +136,6 @@ returns-in-Err-hand_over g c =
       unknown = λ is. cc (is, c.after_sink.ensures.cause);
       memory = λ is. cc (is, c.after_sink.ensures.cause);
       counts = omega (arith, c.in-Err-hand_over.ensures.counts);
-      counted = λ _. counted_from (g.S.Sink.count c.args.sink.now) (g.S.Sink.count c.loop-used.sink) (g.S.Sink.count c.hand_over.new.sink) c.loop-used.invariant.counts c.in-Err-hand_over.ensures.counted;
+      counted = λ _. counted_from (g.S.Sink.count c.args.sink.now) (g.S.Sink.count c.loop-used.sink)
+          (g.S.Sink.count c.hand_over.new.sink) c.loop-used.invariant.counts c.in-Err-hand_over.ensures.counted;
     }

@@ -16,7 +16,8 @@ returns-in-Err-hand_over g c =
         front = [];
         last = (line, frame);
         between = c.args.sink.now;
-        are = ap (λ (h : HubRun). h.sent) there ∙ ap (λ (b : List ℕ). sent_by line.customer (sent_on line.line b)) (sym c.in-Ok.ensures.frame ∙ same)
+        are = ap (λ (h : HubRun). h.sent) there
+            ∙ ap (λ (b : List ℕ). sent_by line.customer (sent_on line.line b)) (sym c.in-Ok.ensures.frame ∙ same)
             ∙ sent_pair line frame c.in-Err-hand_over.ensures.err.1;
         took_front = g.met.S.Sink.none c.args.sink.now;
         refused_last = c.in-Err-hand_over.ensures.err.0;
