@@ -1,6 +1,6 @@
 -- What the arguments name, from the matches of a parse.
 use Rattle.std.proofs.Common.{◌≡◌, Result, Ok, Err, OnOk, IfErr, Bool, true, false, cond, List, [], ◌∷◌, map, Option}
-use Rattle.std.proofs.Common.{Some, None, option_and_then, refl, sym, ap, ◌∙◌, inl, inr}
+use Rattle.std.proofs.Common.{Some, None, option_and_then, refl, sym, ap, ◌∙◌}
 use Rattle.std.specs.Prelude.{find, option_map, slice_get, bytes_eq}
 use Rattle.std.proofs.lemmas.Option.{slice_get-map}
 use Rattle.std.specs.Box.{box_value}
@@ -65,11 +65,6 @@ is_simple_program = refl
 pub is_free_program : is_simple_and_free program_app ≡ true
 unfolding clap_on_literals
 is_free_program = refl
-
--- a kind among more
-pub HasKind-more : (kind : ErrorKind) (kinds : Kinds) (e : Error) → HasKind kinds e → HasKind (kind ∷ kinds) e
-HasKind-more kind kinds e (inl memory) = inl memory
-HasKind-more kind kinds e (inr among) = inr (inr among)
 
 -- what a parse that may fail by these kinds says of each answer
 pub FailsBy-ok : {A : Type 0} (kinds : Kinds) (r : Result A Error) → FailsBy kinds r → OnOk r (kinds ≡ [])

@@ -1,8 +1,6 @@
 mod ArgumentLaws
-mod BeginningLaws
 mod LineForms
 mod Lines
-mod OutcomeLaws
 mod PrintedParts
 mod Printing
 mod ReplayLaws

@@ -15,12 +15,12 @@ use Rattle.njh_hub.specs.declared.fault.HubFault.TheVariants.{UnknownLine, Unkno
 use Rattle.njh_hub.specs.Own.{line_of}
 use Rattle.njh_hub.specs.Parts.{entries_of}
 use Rattle.njh_hub.specs.Whole.{Part, opened}
+use Rattle.njh_hub.specs.Laws.{Begins}
 use Rattle.njh_hub.specs.Stops.{CanStop, HandedUntil}
 use Rattle.njh_hub.specs.Whole as hub
 use Rattle.njh_program.specs.Names.{names_of}
 use Rattle.njh_program.specs.declared.fault.ReplayFault.TheVariants.{Hub}
 use Rattle.njh_program.specs.Printed.{text_of, AppendsBeginning, IsPrinted}
-use Rattle.njh_program.proofs.BeginningLaws.{Begins}
 use Rattle.njh_program.specs.PrintedLaws.{text_of-append}
 use Rattle.njh_program.specs.Replayed.{MayEnd, fault_after, text_of_run}
 

@@ -14,7 +14,7 @@ use crate::input::read_text;
 use crate::names::LineNames;
 use crate::printer::Printer;
 use crate::script::events_of;
-use njh_hub::{Cause, Event, Hub, HubFault};
+use njh_hub::{Cause, Event, Hub, HubFault, sent_in_order};
 use njh_table::Tables;
 use std::alloc::Global;
 use std::io::{Read, Write};
@@ -88,7 +88,10 @@ fn print_run<W: Write>(
     };
     match hub.run(events, &mut printer) {
         Ok(()) => {}
-        Err(fault) => return Err(fault_after(fault.cause)),
+        Err(fault) => {
+            sent_in_order();
+            return Err(fault_after(fault.cause));
+        }
     }
     match out.flush() {
         Ok(()) => Ok(()),

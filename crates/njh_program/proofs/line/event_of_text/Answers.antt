@@ -8,9 +8,9 @@ returns-in_default-clause-event c = sym (event_of_words-one (owner_of c.args.tab
 
 pub returns-in-None-clause-event : goal.returns-in-None-clause-event
 returns-in-None-clause-event c =
-    let told = event_of_words-two (owner_of c.args.tables.now) c.args.line.now c.in-Some.word c.in-Some.rest
+    let same = event_of_words-two (owner_of c.args.tables.now) c.args.line.now c.in-Some.word c.in-Some.rest
     c.in-Some.ensures.cases c.in-None.ensures.cases in
-    search (rules, told)
+    search (rules, same)
 
 pub returns-in-None-line_owner-clause-event : goal.returns-in-None-line_owner-clause-event
 returns-in-None-line_owner-clause-event c =
@@ -22,7 +22,7 @@ returns-in-None-line_owner-clause-event c =
 pub returns-in-Some-line_owner-clause-event : goal.returns-in-Some-line_owner-clause-event
 returns-in-Some-line_owner-clause-event c =
     let known = sym c.in-Some-line_owner.is ∙ c.line_owner-in-Some-split_once.ensures.owner in
-    let told = event_of_words-three
+    let same = event_of_words-three
     (owner_of c.args.tables.now) c.args.line.now c.in-Some.word c.in-Some.rest c.in-Some-split_once.name c.in-Some-split_once.digits _
     c.in-Some.ensures.cases c.in-Some-split_once.ensures.cases known in
-    rw told c.bytes_on.ensures.event
+    rw same c.bytes_on.ensures.event

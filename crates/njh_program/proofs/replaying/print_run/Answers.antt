@@ -6,7 +6,6 @@ use Rattle.njh_hub.specs.Whole.{hub_run}
 use Rattle.njh_program.specs.declared.fault.ReplayFault.TheVariants.{Hub}
 use Rattle.njh_program.specs.Replayed.{fault_after}
 use Rattle.njh_program.specs.Printed.{text_of, AppendsBeginning}
-use Rattle.njh_program.proofs.BeginningLaws.{hub_run-begins}
 use Rattle.njh_program.proofs.PrintedParts.{beginning-kept, beginning-part}
 use Rattle.njh_program.proofs.ReplayLaws.{MayEnd-stopped, never_unknown, printed_begins, stopped_begun, stopped_empty, Keeps-none}
 use Rattle.njh_program.proofs.replaying.print_run.Goals as goal
@@ -25,7 +24,7 @@ returns-in-Err-clause-begun g c =
     let events = c.args.events.now in
     let sent = (hub_run c.args.hub.now (first_of events fault.events fault.bytes)).sent in
     let whole = (hub_run c.args.hub.now events).sent in
-    let begins = hub_run-begins c.args.hub.now events fault.events fault.bytes in
+    let begins = c.sent_in_order.ensures c.args.hub.now events fault.events fault.bytes in
     let begun : AppendsBeginning (contents c.args.out.now) (contents c.run.new.sink.out.now) (text_of names whole) =
     stopped_begun _ _ fault.cause _ _ sent whole _ c.in-Err.ensures.handed begins
     (λ front more printed all. printed_begins names _ _ _ front more whole printed.1 all)

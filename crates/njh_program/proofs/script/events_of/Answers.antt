@@ -45,7 +45,7 @@ returns-in-None-2-clause-bad c = λ number same.
     (λ x b q k. search (rules, tests))) c.loop-line.yielded _ c.loop-line.yielded_by _ _ c.in-Some.line c.in-Some.is c.next.ensures.steps in
     let first = Reads-bad (owner_of c.args.tables.now)
     (lines_of c.args.text.now) _ _ c.in-Some.line.now c.loop-line.invariant.reads turn.0 turn.1 (search rules) (search rules) in
-    let told : c.loop-line.number + 1 ≡ number = cc same in
+    let counted : c.loop-line.number + 1 ≡ number = cc same in
     let placed : length c.loop-line.yielded + 1 ≡ number = omega arith in
     rw placed at first
 
