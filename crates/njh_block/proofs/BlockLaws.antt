@@ -1,5 +1,5 @@
 -- What a text is read as, by the grammar.
-use Rattle.std.proofs.Common.{◌≡◌, ℕ, Bool, true, false, List, [], ◌∷◌, ◌++◌, Result, Ok, Err, refl, sym, ◌∙◌, ap, subst, arith, IsTrue}
+use Rattle.std.proofs.Common.{◌≡◌, ℕ, Bool, true, false, cond, List, [], ◌∷◌, ◌++◌, Result, Ok, Err, refl, sym, ◌∙◌, ap, subst, arith, IsTrue}
 use Rattle.std.proofs.lemmas.List.{append-nil}
 use Rattle.njh_record.specs.Bytes.{AreBytes}
 use Rattle.njh_record.specs.Spelling.{Spelling}
@@ -7,10 +7,14 @@ use Rattle.njh_record.specs.Unspelled.{unspelled, ReadsAs}
 use Rattle.njh_record.specs.declared.End.{End}
 use Rattle.njh_block.specs.declared.fault.BlockFault.{BlockFault}
 use Rattle.njh_block.specs.declared.fault.BlockFault.TheVariants.{TooShort, BadBcb, BadFcs, BadRcb, BadRecord}
-use Rattle.njh_block.specs.Blocks.{Item, Block, items_in, is_bcb, is_fcs, block_with, where_good, read_block}
-use Rattle.njh_block.specs.Grammar.{Part, bytes_of, items_of, Front, IsBlock, IsBadRcb, IsBadRecord, StopsAt, IsFault}
+use Rattle.njh_block.specs.Blocks.{Item, Block, items_in, is_bcb, is_fcs, block_with, read_block}
+use Rattle.njh_block.specs.Grammar.{Part, covered_bytes, items_of, Front, IsBlock, IsBadRcb, IsBadRecord, StopsAt, IsFault}
 use Rattle.njh_block.proofs.FirstLaws.{AreBytes-drop}
 use Rattle.njh_block.proofs.GrammarLaws.{Split, Reads, with_items, with_items-Ok, with_items-Err, items_in-reads, items_in-parts, items_in-end, items_in-bad_rcb, items_in-bad_record}
+
+-- a block, where its block control byte and its function control sequence are good
+abbrev pub where_good : Bool → Bool → Result Block BlockFault → Result Block BlockFault
+where_good bcb fcs block = cond bcb (cond fcs block (Err BadFcs)) (Err BadBcb)
 
 -- ---- from the reading to the grammar
 
@@ -52,8 +56,8 @@ module _ (found : (bytes : List ℕ) → AreBytes bytes → ReadsAs bytes (unspe
   front-read : (text : List ℕ) (bcb : ℕ) (fcs : ℕ × ℕ) (parts : List Part) (after : List ℕ) → Front text bcb fcs parts after → read_block text ≡ block_with bcb fcs (with_items (items_of parts) (items_in after))
   front-read text bcb fcs parts after front =
       ap read_block front.joined
-      ∙ (ap (λ (t : Bool). where_good t (is_fcs fcs) (block_with bcb fcs (items_in (bytes_of parts ++ after)))) front.good_bcb
-      ∙ (ap (λ (t : Bool). where_good true t (block_with bcb fcs (items_in (bytes_of parts ++ after)))) front.good_fcs
+      ∙ (ap (λ (t : Bool). where_good t (is_fcs fcs) (block_with bcb fcs (items_in (covered_bytes parts ++ after)))) front.good_bcb
+      ∙ (ap (λ (t : Bool). where_good true t (block_with bcb fcs (items_in (covered_bytes parts ++ after)))) front.good_fcs
       ∙ ap (block_with bcb fcs) (items_in-parts found again parts after front.each)))
 
   pub IsBlock-read : (text : List ℕ) (block : Block) → IsBlock text block → read_block text ≡ Ok block
@@ -71,7 +75,7 @@ module _ (found : (bytes : List ℕ) → AreBytes bytes → ReadsAs bytes (unspe
 
   AreBytes-after : (text : List ℕ) (bcb : ℕ) (fcs : ℕ × ℕ) (parts : List Part) (after : List ℕ) → Front text bcb fcs parts after → AreBytes text → AreBytes after
   AreBytes-after text bcb fcs parts after front are =
-      AreBytes-drop (bytes_of parts) after (AreBytes-drop (bcb ∷ fcs.0 ∷ fcs.1 ∷ []) (bytes_of parts ++ after) (subst AreBytes front.joined are))
+      AreBytes-drop (covered_bytes parts) after (AreBytes-drop (bcb ∷ fcs.0 ∷ fcs.1 ∷ []) (covered_bytes parts ++ after) (subst AreBytes front.joined are))
 
   pub IsFault-read : (text : List ℕ) (e : BlockFault) → AreBytes text → IsFault text e → read_block text ≡ Err e
   IsFault-read [] TooShort are is = refl

@@ -7,9 +7,9 @@ use Rattle.njh_record.specs.declared.End.{End}
 use Rattle.njh_block.specs.declared.fault.BlockFault.{BlockFault}
 use Rattle.njh_block.specs.declared.fault.BlockFault.TheVariants.{TooShort, BadBcb, BadFcs, BadRcb, BadRecord}
 use Rattle.njh_block.specs.declared.rcb.Form.{Form}
-use Rattle.njh_block.specs.Blocks.{Item, First, alone, formed, first_record, with_item, items_from, read_items, items_in}
-use Rattle.njh_block.specs.Grammar.{Covers, Part, bytes_of, items_of, EachCovers, IsEnd, IsBadRcb, IsBadRecord}
-use Rattle.njh_block.proofs.ReadingLaws.{Shorter, first_record-shorter, items_in_step}
+use Rattle.njh_block.specs.Blocks.{Item, First, record_of_one_byte, record_of_form, first_record, with_item, read_items, items_in}
+use Rattle.njh_block.specs.Grammar.{Covers, Part, covered_bytes, items_of, EachCovers, IsEnd, IsBadRcb, IsBadRecord}
+use Rattle.njh_block.proofs.ReadingLaws.{items_from, Shorter, first_record-shorter, items_in_step}
 use Rattle.njh_block.proofs.Forms.{form_of-bad}
 use Rattle.njh_block.proofs.FirstLaws.{AreBytes-drop, Stands, first_record-stands, Covers-first}
 
@@ -36,14 +36,14 @@ items_in-end (b ∷ c ∷ after) is = ap (λ (x : ℕ). items_in (x ∷ c ∷ af
 
 pub items_in-bad_rcb : (after : List ℕ) → IsBadRcb after → items_in after ≡ Err BadRcb
 items_in-bad_rcb [] is = absurd is
-items_in-bad_rcb (b ∷ []) is = ap (λ (f : Form). items_from (alone f) (read_items 0)) (form_of-bad b is.0 is.1)
-items_in-bad_rcb (b ∷ c ∷ after) is = ap (λ (f : Form). items_from (formed f b c after) (read_items (suc (length after)))) (form_of-bad b is.0 is.1)
+items_in-bad_rcb (b ∷ []) is = ap (λ (f : Form). items_from (record_of_one_byte f) (read_items 0)) (form_of-bad b is.0 is.1)
+items_in-bad_rcb (b ∷ c ∷ after) is = ap (λ (f : Form). items_from (record_of_form f b c after) (read_items (suc (length after)))) (form_of-bad b is.0 is.1)
 
 -- What the items that were read say of the bytes.
 pub record Split (bytes : List ℕ) (items : List Item) (Then : List ℕ → Type 0) : Type 0 where
   pub parts : List Part
   pub after : List ℕ
-  pub joined : bytes ≡ bytes_of parts ++ after
+  pub joined : bytes ≡ covered_bytes parts ++ after
   pub each : EachCovers parts after
   pub then : Then after
   pub items_are : items ≡ items_of parts
@@ -64,7 +64,7 @@ Split-more i covered rest bytes items Then joined covers s =
     record {
       parts = record { item = i; bytes = covered } ∷ s.parts;
       after = s.after;
-      joined = joined ∙ (ap (λ (b : List ℕ). covered ++ b) s.joined ∙ sym (append_assoc covered (bytes_of s.parts) s.after));
+      joined = joined ∙ (ap (λ (b : List ℕ). covered ++ b) s.joined ∙ sym (append_assoc covered (covered_bytes s.parts) s.after));
       each = (subst (λ (b : List ℕ). Covers i covered b) s.joined covers, s.each);
       then = s.then;
       items_are = ap (λ (is : List Item). i ∷ is) s.items_are;
@@ -81,11 +81,11 @@ Reads-more i covered rest bytes (Err BadFcs) joined covers reads = reads
 -- found: what is unspelled stands so; again: a spelling is read, whatever follows it
 module _ (found : (bytes : List ℕ) → AreBytes bytes → ReadsAs bytes (unspelled bytes))
     (again : (spelling contents rest : List ℕ) (end : End) → Spelling spelling contents end → unspelled (spelling ++ rest) ≡ Ok (record { contents = contents; end = end; rest = rest })) where
-  pub items_in-parts : (parts : List Part) (after : List ℕ) → EachCovers parts after → items_in (bytes_of parts ++ after) ≡ with_items (items_of parts) (items_in after)
+  pub items_in-parts : (parts : List Part) (after : List ℕ) → EachCovers parts after → items_in (covered_bytes parts ++ after) ≡ with_items (items_of parts) (items_in after)
   items_in-parts [] after each = refl
   items_in-parts (p ∷ ps) after each =
-      ap items_in (append_assoc p.bytes (bytes_of ps) after)
-      ∙ (items_in-first (p.bytes ++ (bytes_of ps ++ after)) (record { item = p.item; rest = bytes_of ps ++ after }) (Covers-first found again p.item p.bytes (bytes_of ps ++ after) each.0)
+      ap items_in (append_assoc p.bytes (covered_bytes ps) after)
+      ∙ (items_in-first (p.bytes ++ (covered_bytes ps ++ after)) (record { item = p.item; rest = covered_bytes ps ++ after }) (Covers-first found again p.item p.bytes (covered_bytes ps ++ after) each.0)
       ∙ ap (with_item p.item) (items_in-parts ps after each.1))
 
   -- where no record stands at an RCB, the reading says so

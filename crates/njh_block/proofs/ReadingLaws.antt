@@ -6,8 +6,16 @@ use Rattle.njh_record.specs.Unspelled.{Unspelled, unspelled, Fault}
 use Rattle.njh_block.specs.declared.fault.BlockFault.{BlockFault}
 use Rattle.njh_block.specs.declared.rcb.Form.{Form}
 use Rattle.njh_block.specs.declared.rcb.Form.TheVariants as form
-use Rattle.njh_block.specs.Blocks.{Item, First, form_of, after_control, spelled, alone, formed, first_record, with_item, items_from, read_items, items_in}
-use Rattle.njh_block.proofs.Unspelling.{RestWithin, RestWithin-leaves, unspelled-leaves}
+use Rattle.njh_block.specs.Blocks.{Item, First, form_of, after_control, record_of_spelling, record_of_one_byte, record_of_form, first_record, with_item, read_items, items_in}
+use Rattle.njh_block.proofs.Unspelling.{RestWithin, unspelled-within}
+
+-- the items where the first record is this, and onward reads what follows it
+abbrev pub items_from : Result (Option First) BlockFault → (List ℕ → Result (List Item) BlockFault) → Result (List Item) BlockFault
+items_from found onward =
+    elim found [
+      | Ok first ↦ elim first [ None ↦ Ok [] | Some x ↦ with_item x.item (onward x.rest) ]
+      | Err e ↦ Err e
+    ]
 
 -- ---- the fuel does not matter
 
@@ -22,23 +30,23 @@ after_control-shorter [] = omega arith
 after_control-shorter (b ∷ []) = omega arith
 after_control-shorter (b ∷ c ∷ rest) = elim (eqb b 0) as (λ (t : Bool). length (cond t (c ∷ rest) (b ∷ c ∷ rest)) ≤ suc (suc (length rest))) [ true ↦ omega arith | false ↦ omega arith ]
 
-spelled-shorter : (rcb srcb n : ℕ) (found : Result Unspelled Fault) → RestWithin n found → Shorter (suc n) (spelled rcb srcb found)
-spelled-shorter rcb srcb n (Ok r) within = omega arith
-spelled-shorter rcb srcb n (Err e) within = tt
+record_of_spelling-shorter : (rcb srcb n : ℕ) (found : Result Unspelled Fault) → RestWithin n found → Shorter (suc n) (record_of_spelling rcb srcb found)
+record_of_spelling-shorter rcb srcb n (Ok r) within = omega arith
+record_of_spelling-shorter rcb srcb n (Err e) within = tt
 
-alone-shorter : (f : Form) (n : ℕ) → Shorter n (alone f)
-alone-shorter form.End n = tt
-alone-shorter form.Bad n = tt
-alone-shorter form.General n = tt
-alone-shorter (form.Control c) n = tt
-alone-shorter form.Spelled n = tt
+record_of_one_byte-shorter : (f : Form) (n : ℕ) → Shorter n (record_of_one_byte f)
+record_of_one_byte-shorter form.End n = tt
+record_of_one_byte-shorter form.Bad n = tt
+record_of_one_byte-shorter form.General n = tt
+record_of_one_byte-shorter (form.Control c) n = tt
+record_of_one_byte-shorter form.Spelled n = tt
 
-formed-shorter : (f : Form) (rcb srcb : ℕ) (rest : List ℕ) → Shorter (suc (length rest)) (formed f rcb srcb rest)
-formed-shorter form.End rcb srcb rest = tt
-formed-shorter form.Bad rcb srcb rest = tt
-formed-shorter form.General rcb srcb rest = omega arith
-formed-shorter (form.Control c) rcb srcb rest = omega (arith, after_control-shorter rest)
-formed-shorter form.Spelled rcb srcb rest = spelled-shorter rcb srcb (length rest) (unspelled rest) (RestWithin-leaves rest (unspelled rest) (unspelled-leaves rest))
+record_of_form-shorter : (f : Form) (rcb srcb : ℕ) (rest : List ℕ) → Shorter (suc (length rest)) (record_of_form f rcb srcb rest)
+record_of_form-shorter form.End rcb srcb rest = tt
+record_of_form-shorter form.Bad rcb srcb rest = tt
+record_of_form-shorter form.General rcb srcb rest = omega arith
+record_of_form-shorter (form.Control c) rcb srcb rest = omega (arith, after_control-shorter rest)
+record_of_form-shorter form.Spelled rcb srcb rest = record_of_spelling-shorter rcb srcb (length rest) (unspelled rest) (unspelled-within rest)
 
 Shorter-more : (n : ℕ) (found : Result (Option First) BlockFault) → Shorter n found → Shorter (suc n) found
 Shorter-more n (Ok None) shorter = tt
@@ -47,8 +55,8 @@ Shorter-more n (Err e) shorter = tt
 
 pub first_record-shorter : (bytes : List ℕ) → Shorter (length bytes) (first_record bytes)
 first_record-shorter [] = tt
-first_record-shorter (rcb ∷ []) = alone-shorter (form_of rcb) 1
-first_record-shorter (rcb ∷ srcb ∷ rest) = Shorter-more (suc (length rest)) (formed (form_of rcb) rcb srcb rest) (formed-shorter (form_of rcb) rcb srcb rest)
+first_record-shorter (rcb ∷ []) = record_of_one_byte-shorter (form_of rcb) 1
+first_record-shorter (rcb ∷ srcb ∷ rest) = Shorter-more (suc (length rest)) (record_of_form (form_of rcb) rcb srcb rest) (record_of_form-shorter (form_of rcb) rcb srcb rest)
 
 items_from-agree : (n : ℕ) (found : Result (Option First) BlockFault) (one other : List ℕ → Result (List Item) BlockFault) → Shorter n found → ((bytes : List ℕ) → length bytes < n → one bytes ≡ other bytes) → items_from found one ≡ items_from found other
 items_from-agree n (Ok None) one other shorter agree = refl

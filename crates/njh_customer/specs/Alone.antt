@@ -4,13 +4,14 @@ use Rattle.std.specs.Prelude.{nat_lt, cond, None}
 use Rattle.njh_bisync.specs.Frames as frame
 use Rattle.njh_bisync.specs.Frames.{Received}
 use Rattle.njh_block.specs.Blocks.{Item, Data, Aborted, Long, Control, General, Block, read_block, general_first}
-use Rattle.njh_nmr.specs.Nodal.{Nodal, nodal_of, is_user_command, said_by}
+use Rattle.njh_nmr.specs.Nodal.{Nodal, nodal_of, is_user_command, notice_record}
 use Rattle.njh_table.specs.Entries.{CustomerEntry, route_of}
 use Rattle.njh_table.specs.declared.Route.{Route}
 use Rattle.njh_table.specs.declared.Route.TheVariants.{Here, Line, Unknown}
 use Rattle.njh_line.specs.LineTable as input
 use Rattle.njh_line.specs.LineTable.{Input, accepted}
-use Rattle.njh_line.specs.Lines.{LineState, fresh_line, after_input, after_end, waits, without_answers}
+use Rattle.njh_line.specs.Lines.{LineState, fresh_line, after_input, after_end, with_message, without_answers}
+use Rattle.njh_line.specs.declared.config.Role.TheVariants.{Answer}
 use Rattle.njh_line.specs.declared.verdict.Verdict.{Verdict}
 use Rattle.njh_customer.specs.declared.signal.Signal.{Signal}
 use Rattle.njh_customer.specs.declared.signal.Signal.TheVariants as signal
@@ -20,7 +21,7 @@ use Rattle.njh_customer.specs.Sending.{Sending, reply_sent}
 
 -- a line in the place of one that isn't there
 abbrev pub no_line : LineState
-no_line = fresh_line (record { hub = []; node = []; calls = false; block = 0; password = None })
+no_line = fresh_line (record { hub = []; node = []; role = Answer; block = 0; password = None })
 
 abbrev pub line_at : ℕ → List LineState → LineState
 line_at l lines = slice_index_or lines l no_line
@@ -44,12 +45,12 @@ reaction_on l f lines = let s = f (line_at l lines) in record { lines = slice_se
 -- what the hub says to a user goes by the route of the node, and is dropped where there is no line
 abbrev pub said : Route → List ℕ → List LineState → List LineState
 said Here m lines = lines
-said (Line k) m lines = on_line k (waits m) lines
+said (Line k) m lines = on_line k (with_message m) lines
 said Unknown m lines = lines
 
 -- a nodal message that came: a command of a user for the hub itself is answered, any other is dropped
 abbrev pub command_came : CustomerEntry → Nodal → List LineState → List LineState
-command_came entry n lines = said (route_of entry n.origin) (said_by entry.hub (n.origin, n.user) (reply_to n.message)) lines
+command_came entry n lines = said (route_of entry n.origin) (notice_record entry.hub (n.origin, n.user) (reply_to n.message)) lines
 
 abbrev pub is_here : Route → Bool
 is_here Here = true

@@ -34,10 +34,10 @@ nothing_suspended = (0x8f, 0xcf)
 
 -- a block of the hub's own count, without records
 abbrev pub own_block : LineState → Writing
-own_block x = record { limit = x.session.size; bcb = 0x80 + x.session.count; fcs = nothing_suspended; items = [] }
+own_block x = record { limit = x.session.size; bcb = 0x80 + x.session.next_count; fcs = nothing_suspended; items = [] }
 
 abbrev pub block_sent : Writing → LineState → Sending
-block_sent w x = let frame = text_bytes (text_of w.bcb w.fcs w.items) in sent_as (line.Text frame nothing_suspended) frame x
+block_sent w x = let frame = text_bytes (text_of w.bcb w.fcs w.items) in sent_as (line.Block frame nothing_suspended) frame x
 
 -- the record of a nodal message in a block of the hub's
 abbrev pub message_item : List ℕ → Item

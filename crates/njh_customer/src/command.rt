@@ -3,16 +3,14 @@
 ghost use Rattle.std.specs.Prelude.{◌≡◌};
 ghost use Rattle.njh_customer.specs.Command.{after_blanks, is_list, reply_to};
 
-use njh_ebcdic::{fold_upper, trim_blanks};
-use njh_header::{Text, push_ascii};
-
-const BLANK: u8 = 0x40;
+use njh_ebcdic::{BLANK, fold_upper, trim_blanks};
+use njh_header::{MessageText, push_ascii};
 
 /// What is said to the sender of a command.
-pub fn reply_to(message: &[u8]) -> Text
+pub fn reply_to(message: &[u8]) -> MessageText
     ensures { result.items ≡ reply_to message.now }
 {
-    let mut text = Text::new();
+    let mut text = MessageText::new();
     if is_list(message) {
         push_ascii(&mut text, "NJH002 0 FILES");
     } else {

@@ -97,11 +97,23 @@ fn block_came(
 {
     let input = block_input(&block);
     let verdict = lines[usize::from(line)].accept(&input);
-    if verdict.acts && all_act(customer, block, lines) {
+    if act_where(verdict.acts, customer, block, lines) {
         end_session(&mut lines[usize::from(line)]);
         out.clear();
     } else {
         carry_out(&mut lines[usize::from(line)], verdict, out);
+    }
+}
+
+/// The records of a block act where they may. Says whether one ended the session.
+fn act_where(acts: bool, customer: &Customer, block: Block<'_>, lines: &mut [Line]) -> bool
+    ensures ended { result ≡ (alone.acted_where acts (entry_of customer.now) block.entry.items lines.old).ended }
+    ensures lines { lines.new ≡ (alone.acted_where acts (entry_of customer.now) block.entry.items lines.old).lines }
+{
+    if acts {
+        all_act(customer, block, lines)
+    } else {
+        false
     }
 }
 

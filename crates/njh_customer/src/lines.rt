@@ -3,7 +3,7 @@
 ghost use Rattle.std.specs.Prelude.{◌≡◌, ◌<◌, ◌≤◌, length, slice_set, IfOk};
 ghost use Rattle.njh_bisync.specs.Fed.{fed};
 ghost use Rattle.njh_table.specs.TableFile.{entry_of, password_bytes};
-ghost use Rattle.njh_customer.specs.Customer.{config_of, customer_with, password_in};
+ghost use Rattle.njh_customer.specs.Customer.{config_of, customer_with, password_in, role_of};
 ghost use Rattle.njh_customer.specs.Feeding.{acted_on};
 ghost use Rattle.njh_customer.specs.Part.{rest_at};
 
@@ -151,9 +151,19 @@ fn config_of(customer: &Customer, line: &njh_table::Line) -> Config
     Config {
         hub: customer.hub(),
         node: line.node(),
-        calls: line.role() == Role::Call,
+        role: role_of(line.role()),
         block: line.block(),
         password: whole_name(line.password()),
+    }
+}
+
+/// A line's role in the table, as the line's own.
+fn role_of(role: Role) -> njh_line::Role
+    ensures { result ≡ role_of role }
+{
+    match role {
+        Role::Call => njh_line::Role::Call,
+        Role::Answer => njh_line::Role::Answer,
     }
 }
 

@@ -92,7 +92,7 @@ fn say(route: Route, message: &Record, lines: &mut [Line])
     match route {
         Route::Line(line) => {
             if usize::from(line) < lines.len() {
-                lines[usize::from(line)].message(message);
+                lines[usize::from(line)].push_message(message);
             }
         }
         Route::Here | Route::Unknown => {}

@@ -33,7 +33,7 @@ pub fn send_reply(line: &mut Line, reply: Reply, out: &mut FrameBuffer)
                 rcb: ControlRcb::SequenceError,
                 srcb: expected.byte(),
             });
-            send_block(line, block, out);
+            send_block(line, &block, out);
         }
         Reply::Next { or_ack0 } => send_next(line, or_ack0, out),
     }
@@ -67,18 +67,18 @@ fn own_block(line: &Line) -> BlockWriter
     let session = line.session();
     BlockWriter::new(
         usize::from(session.size),
-        Bcb::normal(session.count),
+        Bcb::normal(session.next_count),
         Fcs::nothing_suspended(),
     )
 }
 
 /// Sends a block of the hub's own count.
-fn send_block(line: &mut Line, block: BlockWriter, out: &mut FrameBuffer)
-    ensures line { line.new ≡ (block_sent block line.old).line }
-    ensures frame { out.new ≡ (block_sent block line.old).frame }
+fn send_block(line: &mut Line, block: &BlockWriter, out: &mut FrameBuffer)
+    ensures line { line.new ≡ (block_sent block.now line.old).line }
+    ensures frame { out.new ≡ (block_sent block.now line.old).frame }
 {
-    out.set_text(&block.finish());
-    line.sent(&Sent::Text {
+    out.set_text(block.text());
+    line.sent(&Sent::Block {
         frame: out.bytes(),
         fcs: Fcs::nothing_suspended(),
     });
@@ -97,7 +97,7 @@ fn send_next(line: &mut Line, or_ack0: bool, out: &mut FrameBuffer)
     if block.is_empty() {
         send_no_block(line, or_ack0, out);
     } else {
-        send_block(line, block, out);
+        send_block(line, &block, out);
     }
 }
 

@@ -8,17 +8,22 @@ use Rattle.std.proofs.lemmas.Grind.{flat_map-append}
 use Rattle.njh_record.specs.Bytes.{number_at}
 use Rattle.njh_header.specs.declared.fault.HeaderFault.{HeaderFault}
 use Rattle.njh_header.specs.declared.fault.HeaderFault.TheVariants.{TooShort, NoGeneralSection, BadName, SectionOverrun}
-use Rattle.njh_header.specs.Headers.{Front, Ends, Cut, Small, General, Other, front_of, walk, general_section}
-use Rattle.njh_header.specs.Sections.{IsOther, Passes, IsCut, IsSmall, Finds}
+use Rattle.njh_header.specs.Walk.{Front, Ends, Cut, Small, General, Other, front_of, walk, general_section}
+use Rattle.njh_header.specs.Sections.{IsOther, Passes, IsCut, HasGeneral, LacksGeneral}
 use Rattle.njh_header.proofs.Fields.{number_at-take, number_at-append}
 use Rattle.njh_header.proofs.Walking.{IsFront, BeginsOther, other_front, decided, walk_front, walk_fuel}
+
+-- what is found says of the header what its sections are
+abbrev pub Finds : ℕ → List ℕ → Result ℕ HeaderFault → Type 0
+Finds size header (Ok place) = HasGeneral size header place
+Finds size header (Err fault) = LacksGeneral size header fault
 
 cut_is : (size : ℕ) (rest : List ℕ) → front_of size rest ≡ Cut → (length rest < 4) ⊎ (4 ≤ length rest) → (number_at 0 rest < 4) ⊎ (4 ≤ number_at 0 rest) → IsCut rest
 cut_is size rest e (inl few) long = record { some_left = grind (arith, nat_tests); short = inl few }
 cut_is size rest e (inr enough) (inl short) = record { some_left = grind (arith, nat_tests); short = inr (inl short) }
 cut_is size rest e (inr enough) (inr long) = record { some_left = grind (arith, nat_tests); short = inr (inr (λ zero. grind (arith, nat_tests), grind (arith, nat_tests))) }
 
-small_is : (size : ℕ) (rest : List ℕ) → front_of size rest ≡ Small → (number_at 0 rest < size) ⊎ (size ≤ number_at 0 rest) → IsSmall size rest
+small_is : (size : ℕ) (rest : List ℕ) → front_of size rest ≡ Small → (number_at 0 rest < size) ⊎ (size ≤ number_at 0 rest) → (number_at 0 rest < size) ⊎ (length rest < size)
 small_is size rest e (inl small) = inl small
 small_is size rest e (inr enough) = inr (grind (arith, nat_tests))
 
@@ -71,8 +76,12 @@ decided_finds size place header rest next Ends p e after =
     let none : rest ≡ [] = nil_from_length rest (front_is size rest Ends e) in
     (place, subst (Passes header place) none p)
 decided_finds size place header rest next Cut p e after = (place, rest, p, front_is size rest Cut e)
-decided_finds size place header rest next Small p e after = let is = front_is size rest Small e in inr (place, rest, p, is.0, is.1)
-decided_finds size place header rest next General p e after = let is = front_is size rest General e in (rest, p, is.0, is.1, is.2)
+decided_finds size place header rest next Small p e after =
+    let is = front_is size rest Small e in
+    inr (record { place = place; rest = rest; passes = p; begins = is.0; small = is.1 })
+decided_finds size place header rest next General p e after =
+    let is = front_is size rest General e in
+    record { rest = rest; passes = p; begins = is.0; long_enough = is.1; whole = is.2 }
 decided_finds size place header rest next Other p e after = after (other_front size rest e)
 
 walk_finds : (k size place : ℕ) (header rest : List ℕ) → length rest ≤ k → Passes header place rest → Finds size header (walk k size place rest)
@@ -148,11 +157,23 @@ found_by size header (inr enough) =
 pub found : (size : ℕ) (header : List ℕ) → Finds size header (general_section size header)
 found size header = found_by size header (cases_lt (length header) 4)
 
-pub only : (size : ℕ) (header : List ℕ) (result : Result ℕ HeaderFault) → Finds size header result → result ≡ general_section size header
-only size header (Ok place) f = sym (front_gives size place header f.0 General f.1 (f.2, f.3, f.4))
-only size header (Err TooShort) (inl few) =
-    sym (cond-true (nat_lt (length header) 4) (Err TooShort) (walk (length header) size 4 (drop 4 header)) (lt-ltb (length header) 4 few))
-only size header (Err TooShort) (inr f) = sym (front_gives size f.0 header f.1 Small f.2 (f.3, f.4))
-only size header (Err NoGeneralSection) f = sym (front_gives size f.0 header [] Ends f.1 refl)
-only size header (Err SectionOverrun) f = sym (front_gives size f.0 header f.1 Cut f.2 f.3)
-only size header (Err BadName) f = absurd f
+pub general_found : (size : ℕ) (header : List ℕ) (place : ℕ) → HasGeneral size header place → general_section size header ≡ Ok place
+general_found size header place f = front_gives size place header f.rest General f.passes (f.begins, f.long_enough, f.whole)
+
+pub lack_found : (size : ℕ) (header : List ℕ) (fault : HeaderFault) → LacksGeneral size header fault → general_section size header ≡ Err fault
+lack_found size header TooShort (inl few) =
+    cond-true (nat_lt (length header) 4) (Err TooShort) (walk (length header) size 4 (drop 4 header)) (lt-ltb (length header) 4 few)
+lack_found size header TooShort (inr f) = front_gives size f.place header f.rest Small f.passes (f.begins, f.small)
+lack_found size header NoGeneralSection f = front_gives size f.0 header [] Ends f.1 refl
+lack_found size header SectionOverrun f = front_gives size f.0 header f.1 Cut f.2 f.3
+lack_found size header BadName f = absurd f
+
+-- ---- both ways
+
+pub general_law : (size : ℕ) (header : List ℕ) (place : ℕ)
+    → (general_section size header ≡ Ok place → HasGeneral size header place) × (HasGeneral size header place → general_section size header ≡ Ok place)
+general_law size header place = (λ is. rw is at (found size header), general_found size header place)
+
+pub lack_law : (size : ℕ) (header : List ℕ) (fault : HeaderFault)
+    → (general_section size header ≡ Err fault → LacksGeneral size header fault) × (LacksGeneral size header fault → general_section size header ≡ Err fault)
+lack_law size header fault = (λ is. rw is at (found size header), lack_found size header fault)

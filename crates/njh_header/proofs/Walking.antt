@@ -5,8 +5,8 @@ use Rattle.std.proofs.lemmas.Bool.Decides.{nat_tests}
 use Rattle.njh_record.specs.Bytes.{number_at}
 use Rattle.njh_header.specs.declared.fault.HeaderFault.{HeaderFault}
 use Rattle.njh_header.specs.declared.fault.HeaderFault.TheVariants.{TooShort, NoGeneralSection, SectionOverrun}
-use Rattle.njh_header.specs.Headers.{Front, Ends, Cut, Small, General, Other, front_of, walk, general_section}
-use Rattle.njh_header.specs.Sections.{BeginsGeneral, IsCut, IsSmall}
+use Rattle.njh_header.specs.Walk.{Front, Ends, Cut, Small, General, Other, front_of, walk, general_section}
+use Rattle.njh_header.specs.Sections.{BeginsGeneral, IsCut}
 
 -- a whole section of another kind stands at the front
 pub record BeginsOther (rest : List ℕ) : Type 0 where
@@ -18,7 +18,7 @@ pub record BeginsOther (rest : List ℕ) : Type 0 where
 abbrev pub IsFront : ℕ → List ℕ → Front → Type 0
 IsFront size rest Ends = length rest ≡ 0
 IsFront size rest Cut = IsCut rest
-IsFront size rest Small = BeginsGeneral rest × IsSmall size rest
+IsFront size rest Small = BeginsGeneral rest × ((number_at 0 rest < size) ⊎ (length rest < size))
 IsFront size rest General = BeginsGeneral rest × (size ≤ number_at 0 rest) × (size ≤ length rest)
 IsFront size rest Other = BeginsOther rest
 

@@ -1,4 +1,4 @@
-pub mod Unspelling
+pub mod Fronts
 pub mod Steps
 pub mod ReadingLaws
 pub mod AnswerLaws
