@@ -12,10 +12,15 @@ use std::alloc::{AllocError, Global};
 /// Where in the grammar the bytes so far end.
 #[derive(Clone, Copy, Debug)]
 pub enum Place {
+    /// Behind a whole unit.
     Between,
+    /// Behind SOH.
     Soh,
+    /// Behind DLE outside a text.
     Dle,
+    /// Within a text, behind a whole unit.
     Inside,
+    /// Within a text, behind DLE.
     InsideDle,
 }
 

@@ -1,6 +1,6 @@
 //! Frames written.
 ghost use Rattle.std.specs.Prelude.{◌≡◌, ◌+◌, ◌*◌, ◌≤◌, ◌++◌, length, flat_map, IsOk, OnOk, OnErr, vec_len, vec_capacity};
-ghost use Rattle.njh_bisync.specs.Written.{spelled, text_bytes, control_bytes};
+ghost use Rattle.njh_bisync.specs.Written.{bytes_of_data, text_bytes, control_bytes};
 
 use crate::frame::{Control, LONGEST_FRAME, LONGEST_TEXT};
 use crate::line_byte::{ACK_0, DLE, ENQ, ETB, NAK, SOH, STX};
@@ -92,8 +92,8 @@ fn put_bytes(bytes: &[u8], out: &mut Vec<u8>)
 
 /// Appends bytes with each DLE doubled, in room that is there.
 fn put_data(data: &[u8], out: &mut Vec<u8>)
-    requires { vec_len out.old + length (flat_map spelled «data».now) ≤ vec_capacity out.old }
-    ensures items { out.new.items ≡ out.old.items ++ flat_map spelled «data».now }
+    requires { vec_len out.old + length (flat_map bytes_of_data «data».now) ≤ vec_capacity out.old }
+    ensures items { out.new.items ≡ out.old.items ++ flat_map bytes_of_data «data».now }
     ensures capacity { vec_capacity out.new ≡ vec_capacity out.old }
 {
     for byte in data {

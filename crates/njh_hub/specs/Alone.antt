@@ -3,7 +3,7 @@ use Rattle.std.specs.Prelude.{ℕ, Bool, true, false, List, [], ◌∷◌, lengt
 use Rattle.njh_bisync.specs.Frames as frame
 use Rattle.njh_bisync.specs.Frames.{Received}
 use Rattle.njh_block.specs.Blocks.{Item, Data, Aborted, Long, Control, General, Block, read_block, general_first}
-use Rattle.njh_nmr.specs.Nodal.{Nodal, nodal_of, is_user_command, said_by}
+use Rattle.njh_nmr.specs.Nodal.{Nodal, nodal_of, is_user_command, notice_record}
 use Rattle.njh_table.specs.Entries.{CustomerEntry, route_of}
 use Rattle.njh_table.specs.declared.Route.{Route}
 use Rattle.njh_table.specs.declared.Route.TheVariants.{Here, Line, Unknown}
@@ -49,7 +49,7 @@ said_on Unknown m lines = lines
 
 -- a nodal message that came: a command of a user for the hub itself is answered, any other is dropped
 abbrev pub command_came : CustomerEntry → Nodal → List LineState → List LineState
-command_came entry n lines = said_on (route_of entry n.origin) (said_by entry.hub (n.origin, n.user) (reply_to n.message)) lines
+command_came entry n lines = said_on (route_of entry n.origin) (notice_record entry.hub (n.origin, n.user) (reply_to n.message)) lines
 
 abbrev pub is_here : Route → Bool
 is_here Here = true

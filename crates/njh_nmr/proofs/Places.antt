@@ -7,15 +7,15 @@ use Rattle.njh_record.specs.Bytes.{field}
 use Rattle.njh_ebcdic.specs.Names.{is_name}
 use Rattle.njh_nmr.specs.declared.fault.NmrFault.{NmrFault}
 use Rattle.njh_nmr.specs.declared.fault.NmrFault.TheVariants.{TooShort, BadLength, BadName}
-use Rattle.njh_nmr.specs.Nodal.{Nodal, bytes_of, fields_of, cut_after_message, nodal_of}
+use Rattle.njh_nmr.specs.Nodal.{Nodal, record_of, fields_of, cut_after_message, nodal_of}
 
 -- a record's bytes, one field after the other
 abbrev pub nested : Nodal → List ℕ
 nested n =
     n.flag ∷ n.level ∷ n.kind ∷ length n.message ∷ (n.to ++ (n.to_qualifier ∷ (n.user ++ (n.origin ++ (n.origin_qualifier ∷ n.message)))))
 
-pub bytes_of-nested : (n : Nodal) → bytes_of n ≡ nested n
-bytes_of-nested n = simp append_assoc
+pub record_of-nested : (n : Nodal) → record_of n ≡ nested n
+record_of-nested n = simp append_assoc
 
 -- from a place on: one byte and the rest, or some bytes and the rest
 one : (bytes : List ℕ) (place size rest : ℕ) → place < length bytes → size ≡ rest + 1 → field place size bytes ≡ slice_index bytes place ∷ field (place + 1) rest bytes
@@ -46,14 +46,14 @@ cut-nested bytes len within is =
 
 -- the bytes with these fields in their places
 abbrev with_parts : List ℕ → List ℕ → List ℕ → List ℕ → List ℕ → List ℕ
-with_parts bytes to user origin message = bytes_of (record (fields_of 0 bytes) { to = to; user = user; origin = origin; message = message })
+with_parts bytes to user origin message = record_of (record (fields_of 0 bytes) { to = to; user = user; origin = origin; message = message })
 
-pub bytes_of-parts : (bytes : List ℕ) (len : ℕ) (to user origin message : List ℕ) → 30 + len ≤ length bytes → len ≡ slice_index bytes 3 → to ≡ field 4 8 bytes → user ≡ field 13 8 bytes → origin ≡ field 21 8 bytes → message ≡ field 30 len bytes → with_parts bytes to user origin message ≡ cut_after_message bytes
-bytes_of-parts bytes len to user origin message within told is_to is_user is_origin is_message =
+pub record_of-parts : (bytes : List ℕ) (len : ℕ) (to user origin message : List ℕ) → 30 + len ≤ length bytes → len ≡ slice_index bytes 3 → to ≡ field 4 8 bytes → user ≡ field 13 8 bytes → origin ≡ field 21 8 bytes → message ≡ field 30 len bytes → with_parts bytes to user origin message ≡ cut_after_message bytes
+record_of-parts bytes len to user origin message within told is_to is_user is_origin is_message =
     ap (λ x. with_parts bytes x user origin message) is_to
     ∙ (ap (λ x. with_parts bytes (field 4 8 bytes) x origin message) is_user
     ∙ (ap (λ x. with_parts bytes (field 4 8 bytes) (field 13 8 bytes) x message) is_origin
     ∙ (ap (λ x. with_parts bytes (field 4 8 bytes) (field 13 8 bytes) (field 21 8 bytes) x) is_message
-    ∙ (bytes_of-nested (fields_of len bytes)
+    ∙ (record_of-nested (fields_of len bytes)
     ∙ (sym (cut-nested bytes len within told)
     ∙ ap (λ n. take (30 + n) bytes) told)))))

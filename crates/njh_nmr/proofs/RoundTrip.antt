@@ -6,8 +6,8 @@ use Rattle.njh_record.specs.Bytes.{field}
 use Rattle.njh_ebcdic.specs.Names.{is_name}
 use Rattle.njh_nmr.specs.declared.fault.NmrFault.{NmrFault}
 use Rattle.njh_nmr.specs.declared.fault.NmrFault.TheVariants.{TooShort, BadLength, BadName}
-use Rattle.njh_nmr.specs.Nodal.{Nodal, IsMessage, bytes_of, fields_of, cut_after_message, nodal_of}
-use Rattle.njh_nmr.proofs.Places.{nested, bytes_of-nested, cut-nested}
+use Rattle.njh_nmr.specs.Nodal.{Nodal, IsMessage, record_of, fields_of, cut_after_message, nodal_of}
+use Rattle.njh_nmr.proofs.Places.{nested, record_of-nested, cut-nested}
 
 -- what makes bytes read as this message
 pub record IsRead (bytes : List ℕ) (n : Nodal) : Type 0 where
@@ -47,12 +47,12 @@ nodal_of-IsRead bytes n read =
     ∙ (cond-true (is_name (field 4 8 bytes) && is_name (field 21 8 bytes)) _ _ (and_from _ _ read.to_named read.origin_named)
     ∙ ap Ok read.same))
 
-pub bytes_of-read : (bytes : List ℕ) (n : Nodal) → nodal_of bytes ≡ Ok n → bytes_of n ≡ cut_after_message bytes
-bytes_of-read bytes n is =
+pub record_of-read : (bytes : List ℕ) (n : Nodal) → nodal_of bytes ≡ Ok n → record_of n ≡ cut_after_message bytes
+record_of-read bytes n is =
     let read = IsRead-nodal_of bytes n is in
     let len = slice_index bytes 3 in
     let enough : 30 + len ≤ length bytes = omega (arith, read.long, read.within) in
-    ap bytes_of (sym read.same) ∙ (bytes_of-nested (fields_of len bytes) ∙ sym (cut-nested bytes len enough refl))
+    ap record_of (sym read.same) ∙ (record_of-nested (fields_of len bytes) ∙ sym (cut-nested bytes len enough refl))
 
 pub IsMessage-read : (bytes : List ℕ) (n : Nodal) → nodal_of bytes ≡ Ok n → IsMessage n
 IsMessage-read bytes n is =
@@ -94,7 +94,7 @@ abbrev message_with : ℕ × ℕ × ℕ × ℕ × ℕ → List ℕ → List ℕ 
 message_with bytes to user origin message =
     record { flag = bytes.0; level = bytes.1; kind = bytes.2; to = to; to_qualifier = bytes.3; user = user; origin = origin; origin_qualifier = bytes.4; message = message }
 
-written : (bytes : ℕ × ℕ × ℕ × ℕ × ℕ) {to user origin : List ℕ} (message behind : List ℕ) → IsEight to → IsEight user → IsEight origin → is_name to ≡ true → is_name origin ≡ true → length message ≤ 148 → IsRead (bytes_of (message_with bytes to user origin message) ++ behind) (message_with bytes to user origin message)
+written : (bytes : ℕ × ℕ × ℕ × ℕ × ℕ) {to user origin : List ℕ} (message behind : List ℕ) → IsEight to → IsEight user → IsEight origin → is_name to ≡ true → is_name origin ≡ true → length message ≤ 148 → IsRead (record_of (message_with bytes to user origin message) ++ behind) (message_with bytes to user origin message)
 written bytes message behind (eight a b c d e f g h) (eight i j k l m n o p) (eight q r s t u v w x) to origin few = record {
   long = omega (arith, length-append message behind);
   few = few;
@@ -104,7 +104,7 @@ written bytes message behind (eight a b c d e f g h) (eight i j k l m n o p) (ei
   same = with_message (message_with bytes (a ∷ b ∷ c ∷ d ∷ e ∷ f ∷ g ∷ h ∷ []) (i ∷ j ∷ k ∷ l ∷ m ∷ n ∷ o ∷ p ∷ []) (q ∷ r ∷ s ∷ t ∷ u ∷ v ∷ w ∷ x ∷ []) message) (take (length message) (message ++ behind)) (take_at message behind (length message) refl);
 }
 
-pub nodal_of-bytes_of : (n : Nodal) (behind : List ℕ) → IsMessage n → nodal_of (bytes_of n ++ behind) ≡ Ok n
-nodal_of-bytes_of n behind is =
-    nodal_of-IsRead (bytes_of n ++ behind) n
+pub nodal_of-record_of : (n : Nodal) (behind : List ℕ) → IsMessage n → nodal_of (record_of n ++ behind) ≡ Ok n
+nodal_of-record_of n behind is =
+    nodal_of-IsRead (record_of n ++ behind) n
     (written (n.flag, n.level, n.kind, n.to_qualifier, n.origin_qualifier) n.message behind (IsEight-is_name n.to is.to_named) (IsEight-length n.user is.user_size) (IsEight-is_name n.origin is.origin_named) is.to_named is.origin_named is.fits)

@@ -1,6 +1,6 @@
 -- What unspell answers and leaves, by the relation.
-use Rattle.std.proofs.Common.{◌≡◌, ℕ, ◌+◌, ◌-◌, inl, inr, Bool, true, false, cond, leb, List, [], ◌++◌, length, take, drop, Result, Ok, Err, refl, sym, ◌∙◌, ap, subst, arith, length-append, length-drop}
-use Rattle.std.proofs.lemmas.Bool.{cases_lt, le-leb, lt-leb}
+use Rattle.std.proofs.Common.{◌≡◌, ℕ, ◌+◌, ◌-◌, inl, inr, cond, leb, List, [], ◌++◌, length, take, drop, Result, Ok, Err, refl, sym, ◌∙◌, ap, subst, arith, length-append, length-drop}
+use Rattle.std.proofs.lemmas.Bool.{cases_lt, cond-true, cond-false, le-leb, lt-leb}
 use Rattle.std.proofs.lemmas.List.{take_at, take-append-drop}
 use Rattle.njh_record.specs.Bytes.{AreBytes}
 use Rattle.njh_record.specs.declared.End.{End}
@@ -42,50 +42,42 @@ some_answer bytes are = answered bytes (unspelled bytes) (found bytes are)
 
 -- ---- and no other: each is made of what the function gives
 
-abbrev answer_to : List ℕ → Result Unspelled Fault → Result (ℕ × End) RecordFault
-answer_to bytes (Ok found) =
-    let used = length bytes - length found.rest in
-    elim found.end [ Record ↦ cond (leb (length found.contents) 256) (Ok (used, Record)) (Err (faults.TooLong used)) | Abort ↦ Ok (used, Abort) ]
-answer_to bytes (Err BadScb) = Err faults.BadScb
-answer_to bytes (Err Truncated) = Err faults.Truncated
+abbrev Outcome : Type 0
+Outcome = Result (ℕ × End) RecordFault × List ℕ
 
-abbrev left_by : Result Unspelled Fault → List ℕ
-left_by (Ok found) = elim found.end [ Record ↦ cond (leb (length found.contents) 256) found.contents [] | Abort ↦ [] ]
-left_by (Err fault) = []
+abbrev ended : ℕ → List ℕ → End → Outcome
+ended used contents Record = cond (leb (length contents) 256) (Ok (used, Record), contents) (Err (faults.TooLong used), [])
+ended used contents Abort = (Ok (used, Abort), [])
 
-record Answers (bytes : List ℕ) (answer : Result (ℕ × End) RecordFault) (contents : List ℕ) : Type 0 where
-  same : answer_to bytes (unspelled bytes) ≡ answer
-  left : left_by (unspelled bytes) ≡ contents
+abbrev outcome : List ℕ → Result Unspelled Fault → Outcome
+outcome bytes (Ok read) = ended (length bytes - length read.rest) read.contents read.end
+outcome bytes (Err BadScb) = (Err faults.BadScb, [])
+outcome bytes (Err Truncated) = (Err faults.Truncated, [])
 
-answers_at : (bytes : List ℕ) (read : Result Unspelled Fault) (answer : Result (ℕ × End) RecordFault) (contents : List ℕ) → ReadsAs bytes read → answer_to bytes read ≡ answer → left_by read ≡ contents → Answers bytes answer contents
-answers_at bytes read answer contents reads same left = record { same = ap (answer_to bytes) (only bytes read reads) ∙ same; left = ap left_by (only bytes read reads) ∙ left }
-
-abbrev front_read : List ℕ → ℕ → List ℕ → End → Result Unspelled Fault
-front_read bytes n contents end = Ok (record { contents = contents; end = end; rest = drop n bytes })
-
-reads_front : (bytes : List ℕ) (n : ℕ) (contents : List ℕ) (end : End) → Begins bytes n contents end → ReadsAs bytes (front_read bytes n contents end)
-reads_front bytes n contents end starts = (take n bytes, starts.spelling, sym (take-append-drop n bytes))
-
-answers-record : (bytes : List ℕ) (n : ℕ) (contents : List ℕ) (fits : Bool) → leb (length contents) 256 ≡ fits → Begins bytes n contents Record → Answers bytes (cond fits (Ok (n, Record)) (Err (faults.TooLong n))) (cond fits contents [])
-answers-record bytes n contents fits is starts =
+outcome-begins : (bytes : List ℕ) (n : ℕ) (contents : List ℕ) (end : End) → Begins bytes n contents end
+    → outcome bytes (unspelled bytes) ≡ ended n contents end
+outcome-begins bytes n contents end starts =
+    let read : Result Unspelled Fault = Ok (record { contents = contents; end = end; rest = drop n bytes }) in
     let used : length bytes - length (drop n bytes) ≡ n = omega (arith, length-drop n bytes, starts.within) in
-    answers_at bytes (front_read bytes n contents Record) _ _ (reads_front bytes n contents Record starts)
-    (ap (λ (t : Bool). cond t (Ok (length bytes - length (drop n bytes), Record)) (Err (faults.TooLong (length bytes - length (drop n bytes))))) is ∙ ap (λ (used : ℕ). cond fits (Ok (used, Record)) (Err (faults.TooLong used))) used)
-    (ap (λ (t : Bool). cond t contents []) is)
+    ap (outcome bytes) (only bytes read (take n bytes, starts.spelling, sym (take-append-drop n bytes)))
+    ∙ ap (λ (m : ℕ). ended m contents end) used
 
-answers : (bytes : List ℕ) (answer : Result (ℕ × End) RecordFault) (contents : List ℕ) → Unspells bytes answer contents → Answers bytes answer contents
-answers bytes (Ok (n, Record)) contents (starts, fits) = answers-record bytes n contents true (le-leb (length contents) 256 fits) starts
-answers bytes (Ok (n, Abort)) contents ((given_up, starts), left) =
-    let used : length bytes - length (drop n bytes) ≡ n = omega (arith, length-drop n bytes, starts.within) in
-    answers_at bytes (front_read bytes n given_up Abort) _ _ (reads_front bytes n given_up Abort starts) (ap (λ (used : ℕ). Ok (used, Abort)) used) (sym left)
-answers bytes (Err faults.BadScb) contents (bad, left) = answers_at bytes (Err BadScb) _ _ bad refl (sym left)
-answers bytes (Err faults.Truncated) contents (cut, left) = answers_at bytes (Err Truncated) _ _ cut refl (sym left)
-answers bytes (Err (faults.TooLong n)) contents ((long, starts, over), left) =
-    let P : List ℕ → Type 0 = λ b. Answers bytes (Err (faults.TooLong n)) b in
-    subst P (sym left) (answers-record bytes n long false (lt-leb (length long) 256 over) starts)
+outcome_is : (bytes : List ℕ) (answer : Result (ℕ × End) RecordFault) (contents : List ℕ) → Unspells bytes answer contents
+    → ◌≡◌ {A = Outcome} (outcome bytes (unspelled bytes)) (answer, contents)
+outcome_is bytes (Ok (n, Record)) contents (starts, fits) =
+    outcome-begins bytes n contents Record starts ∙ cond-true (leb (length contents) 256) _ _ (le-leb (length contents) 256 fits)
+outcome_is bytes (Ok (n, Abort)) contents ((given_up, starts), left) =
+    outcome-begins bytes n given_up Abort starts ∙ ap (λ (b : List ℕ). (Ok (n, Abort), b)) (sym left)
+outcome_is bytes (Err faults.BadScb) contents (bad, left) =
+    ap (outcome bytes) (only bytes (Err BadScb) bad) ∙ ap (λ (b : List ℕ). (Err faults.BadScb, b)) (sym left)
+outcome_is bytes (Err faults.Truncated) contents (cut, left) =
+    ap (outcome bytes) (only bytes (Err Truncated) cut) ∙ ap (λ (b : List ℕ). (Err faults.Truncated, b)) (sym left)
+outcome_is bytes (Err (faults.TooLong n)) contents ((long, starts, over), left) =
+    outcome-begins bytes n long Record starts
+    ∙ (cond-false (leb (length long) 256) _ _ (lt-leb (length long) 256 over) ∙ ap (λ (b : List ℕ). (Err (faults.TooLong n), b)) (sym left))
 
-pub one_answer : (bytes : List ℕ) (answer other : Result (ℕ × End) RecordFault) (contents others : List ℕ) → Unspells bytes answer contents → Unspells bytes other others → (answer ≡ other) × (contents ≡ others)
+pub one_answer : (bytes : List ℕ) (answer other : Result (ℕ × End) RecordFault) (contents others : List ℕ)
+    → Unspells bytes answer contents → Unspells bytes other others → (answer ≡ other) × (contents ≡ others)
 one_answer bytes answer other contents others one two =
-    let first = answers bytes answer contents one in
-    let second = answers bytes other others two in
-    (sym first.same ∙ second.same, sym first.left ∙ second.left)
+    let same : ◌≡◌ {A = Outcome} (answer, contents) (other, others) = sym (outcome_is bytes answer contents one) ∙ outcome_is bytes other others two in
+    (ap (λ (o : Outcome). o.0) same, ap (λ (o : Outcome). o.1) same)

@@ -7,7 +7,7 @@ use Rattle.njh_record.specs.Bytes.{AreBytes}
 use Rattle.njh_record.specs.declared.End.{End}
 use Rattle.njh_record.specs.declared.End.TheVariants.{Record}
 use Rattle.njh_record.specs.Spelling.{Item, blanks, IsItem, item_bytes, added, end_byte, ItemsThen, Spelling}
-use Rattle.njh_record.specs.Reading.{IsTruncated}
+use Rattle.njh_record.specs.Reading.{HasBadScb, IsTruncated}
 use Rattle.njh_record.specs.Unspelled.{Front, OfItem, OfEnd, Bad, Cut, front_of, Fault, BadScb, Truncated, Unspelled, with_front, unspelled_within, unspelled, ReadsAs}
 use Rattle.njh_record.specs.Parts.{IsCutItem, StandsFirst}
 use Rattle.njh_record.proofs.Fronts.{cut_item, front-stands, front_only, some_item, front_leaves_less, IsItem-counted, IsCounted-item}
@@ -15,10 +15,13 @@ use Rattle.njh_record.proofs.Fronts.{cut_item, front-stands, front_only, some_it
 -- ---- a step
 
 abbrev read_on : (List ℕ → Result Unspelled Fault) → Front → Result Unspelled Fault
-read_on again (OfItem item rest) = with_front (added item) (again rest)
-read_on again (OfEnd end rest) = Ok (record { contents = []; end = end; rest = rest })
-read_on again Bad = Err BadScb
-read_on again Cut = Err Truncated
+read_on again front =
+    elim front [
+      | OfItem item rest ↦ with_front (added item) (again rest)
+      | OfEnd end rest ↦ Ok (record { contents = []; end = end; rest = rest })
+      | Bad ↦ Err BadScb
+      | Cut ↦ Err Truncated
+    ]
 
 -- readers that agree on what is shorter
 same_on : (one other : List ℕ → Result Unspelled Fault) (bytes : List ℕ) (front : Front) → StandsFirst bytes front
@@ -28,15 +31,6 @@ same_on one other bytes (OfEnd end rest) parts same = refl
 same_on one other bytes Bad bad same = refl
 same_on one other bytes Cut cut same = refl
 
-within_step : (k : ℕ) (bytes : List ℕ) → unspelled_within (suc k) bytes ≡ read_on (unspelled_within k) (front_of bytes)
-within_step k bytes = go (front_of bytes)
-  where
-    go : (front : Front) → elim front [ OfItem item rest ↦ with_front (added item) (unspelled_within k rest) | OfEnd end rest ↦ Ok (record { contents = []; end = end; rest = rest }) | Bad ↦ Err BadScb | Cut ↦ Err Truncated ] ≡ read_on (unspelled_within k) front
-    go (OfItem item rest) = refl
-    go (OfEnd end rest) = refl
-    go Bad = refl
-    go Cut = refl
-
 enough : (k j : ℕ) (bytes : List ℕ) → length bytes ≤ k → length bytes ≤ j → unspelled_within k bytes ≡ unspelled_within j bytes
 enough zero zero bytes p q = refl
 enough zero (suc j) [] p q = refl
@@ -44,12 +38,12 @@ enough zero (suc j) (b ∷ rest) p q = absurd (omega arith)
 enough (suc k) zero [] p q = refl
 enough (suc k) zero (b ∷ rest) p q = absurd (omega arith)
 enough (suc k) (suc j) bytes p q =
-    within_step k bytes ∙ (same_on (unspelled_within k) (unspelled_within j) bytes (front_of bytes) (front-stands bytes) (λ rest less. enough k j rest (omega arith) (omega arith)) ∙ sym (within_step j bytes))
+    same_on (unspelled_within k) (unspelled_within j) bytes (front_of bytes) (front-stands bytes) (λ rest less. enough k j rest (omega arith) (omega arith))
 
 unspelled-step : (bytes : List ℕ) → unspelled bytes ≡ read_on unspelled (front_of bytes)
 unspelled-step [] = refl
 unspelled-step (b ∷ rest) =
-    within_step (length rest) (b ∷ rest) ∙ same_on (unspelled_within (length rest)) unspelled (b ∷ rest) (front_of (b ∷ rest)) (front-stands (b ∷ rest)) (λ after less. enough (length rest) (length after) after (omega arith) (omega arith))
+    same_on (unspelled_within (length rest)) unspelled (b ∷ rest) (front_of (b ∷ rest)) (front-stands (b ∷ rest)) (λ after less. enough (length rest) (length after) after (omega arith) (omega arith))
 
 pub unspelled-first : (bytes : List ℕ) (front : Front) → StandsFirst bytes front → unspelled bytes ≡ read_on unspelled front
 unspelled-first bytes front stands = unspelled-step bytes ∙ ap (read_on unspelled) (front_only bytes front stands)
@@ -73,7 +67,7 @@ ItemsThen-item item bytes items rest is then = record { each = (is, then.each); 
 Spelling-item : (item : Item) (bytes contents : List ℕ) (end : End) → IsItem item → Spelling bytes contents end → Spelling (item_bytes item ++ bytes) (added item ++ contents) end
 Spelling-item item bytes contents end is spells = record { items = item ∷ spells.items; whole = ItemsThen-item item bytes spells.items (end_byte end ∷ []) is spells.whole; adds = ap (λ (b : List ℕ). added item ++ b) spells.adds }
 
-Spelling-end : (end : End) → Spelling (end_byte end ∷ []) [] end
+pub Spelling-end : (end : End) → Spelling (end_byte end ∷ []) [] end
 Spelling-end end = record { items = []; whole = record { each = tt; parts = refl }; adds = refl }
 
 ReadsAs-item : (item : Item) (rest : List ℕ) (read : Result Unspelled Fault) → IsItem item → ReadsAs rest read → ReadsAs (item_bytes item ++ rest) (with_front (added item) read)
@@ -97,32 +91,35 @@ truncated_at (b ∷ rest) are cut =
     let first : b ≡ get_or (item_bytes cut.item) 0 0 = ap (λ (bytes : List ℕ). get_or bytes 0 0) cut.parts in
     IsTruncated-item (b ∷ rest) cut.missing cut.item cut.parts (IsItem-counted cut.item cut.counted (omega (arith, are 0, first)))
 
--- so is what stands behind whole items
-Truncated-each : (items : List Item) (rest : List ℕ) → AllByRecursion IsItem items → IsTruncated rest → IsTruncated (flat_map item_bytes items ++ rest)
-Truncated-each [] rest each cut = cut
-Truncated-each (item ∷ items) rest each cut =
-    subst IsTruncated (sym (append_assoc (item_bytes item) (flat_map item_bytes items) rest)) (ReadsAs-item item (flat_map item_bytes items ++ rest) (Err Truncated) each.0 (Truncated-each items rest each.1 cut))
-
-pub Truncated-items : (bytes rest : List ℕ) (items : List Item) → ItemsThen bytes items rest → IsTruncated rest → IsTruncated bytes
-Truncated-items bytes rest items then cut = subst IsTruncated (sym then.parts) (Truncated-each items rest then.each cut)
-
 pub AreBytes-behind : (front rest : List ℕ) → AreBytes (front ++ rest) → AreBytes rest
 AreBytes-behind [] rest are = are
 AreBytes-behind (b ∷ front) rest are = AreBytes-behind front rest (λ place. are (suc place))
 
-abbrev FoundIn : List ℕ → Result Unspelled Fault → Type 0
-FoundIn bytes read = AreBytes bytes → ReadsAs bytes read
+-- what stands first, and what the rest reads as
+pub AreBytes-left : (bytes rest : List ℕ) (item : Item) → AreBytes bytes → StandsFirst bytes (OfItem item rest) → AreBytes rest
+AreBytes-left bytes rest item are stands = AreBytes-behind (item_bytes item) rest (subst AreBytes stands.1 are)
 
-found_at : (bytes : List ℕ) (front : Front) → StandsFirst bytes front → ((rest : List ℕ) → length rest < length bytes → FoundIn rest (unspelled rest)) → FoundIn bytes (read_on unspelled front)
-found_at bytes (OfItem item rest) (counted, parts) again are =
-    let P : List ℕ → Type 0 = λ b. ReadsAs b (with_front (added item) (unspelled rest)) in
+pub item_reads : (bytes rest : List ℕ) (item : Item) (read : Result Unspelled Fault) → AreBytes bytes → StandsFirst bytes (OfItem item rest)
+    → ReadsAs rest read → ReadsAs bytes (with_front (added item) read)
+item_reads bytes rest item read are (counted, parts) reads =
     let here : AreBytes (item_bytes item ++ rest) = subst AreBytes parts are in
     let first = get_or_append_left (item_bytes item) rest 0 0 (some_item item) in
     let is = IsItem-counted item counted (omega (arith, here 0, first)) in
-    subst P (sym parts) (ReadsAs-item item rest (unspelled rest) is (again rest (front_leaves_less bytes rest item parts) (AreBytes-behind (item_bytes item) rest here)))
+    subst (λ (b : List ℕ). ReadsAs b (with_front (added item) read)) (sym parts) (ReadsAs-item item rest read is reads)
+
+pub bad_reads : (bytes : List ℕ) → StandsFirst bytes Bad → HasBadScb bytes
+bad_reads [] bad = absurd bad
+bad_reads (b ∷ rest) bad = record { items = []; byte = b; rest = rest; front = record { each = tt; parts = refl }; bad = bad }
+
+abbrev FoundIn : List ℕ → Result Unspelled Fault → Type 0
+FoundIn bytes read = AreBytes bytes → ReadsAs bytes read
+
+found_at : (bytes : List ℕ) (front : Front) → StandsFirst bytes front
+    → ((rest : List ℕ) → length rest < length bytes → FoundIn rest (unspelled rest)) → FoundIn bytes (read_on unspelled front)
+found_at bytes (OfItem item rest) stands again are =
+    item_reads bytes rest item (unspelled rest) are stands (again rest (front_leaves_less bytes rest item stands.1) (AreBytes-left bytes rest item are stands))
 found_at bytes (OfEnd end rest) parts again are = (end_byte end ∷ [], Spelling-end end, parts)
-found_at [] Bad bad again are = absurd bad
-found_at (b ∷ rest) Bad bad again are = record { items = []; byte = b; rest = rest; front = record { each = tt; parts = refl }; bad = bad }
+found_at bytes Bad bad again are = bad_reads bytes bad
 found_at bytes Cut cut again are = truncated_at bytes are cut
 
 pub found : (bytes : List ℕ) → AreBytes bytes → ReadsAs bytes (unspelled bytes)
@@ -130,11 +127,11 @@ found = by_steps FoundIn found_at
 
 -- ---- what stands there is found
 
-with_front-with_front : (a b : List ℕ) (read : Result Unspelled Fault) → with_front a (with_front b read) ≡ with_front (a ++ b) read
+pub with_front-with_front : (a b : List ℕ) (read : Result Unspelled Fault) → with_front a (with_front b read) ≡ with_front (a ++ b) read
 with_front-with_front a b (Ok found) = ap (λ (bytes : List ℕ). Ok (record found { contents = bytes })) (sym (append_assoc a b found.contents))
 with_front-with_front a b (Err fault) = refl
 
-with_front-nil : (read : Result Unspelled Fault) → read ≡ with_front [] read
+pub with_front-nil : (read : Result Unspelled Fault) → read ≡ with_front [] read
 with_front-nil (Ok found) = refl
 with_front-nil (Err fault) = refl
 
@@ -210,8 +207,9 @@ behind_at bytes (OfEnd end rest) parts again = record { used = 1; some = omega a
 behind_at bytes Bad bad again = tt
 behind_at bytes Cut cut again = tt
 
-pub rest_behind : (bytes : List ℕ) (found : Unspelled) → unspelled bytes ≡ Ok found → (used : ℕ) × (0 < used) × (used ≤ length bytes) × (found.rest ≡ drop used bytes)
-rest_behind bytes found is =
+pub rest_behind : (bytes : List ℕ) (read : Unspelled) → unspelled bytes ≡ Ok read
+    → (used : ℕ) × (0 < used) × (used ≤ length bytes) × (read.rest ≡ drop used bytes)
+rest_behind bytes read is =
     let P : Result Unspelled Fault → Type 0 = λ read. RestBehind bytes read in
     let behind = subst P is (by_steps RestBehind behind_at bytes) in
     (behind.used, behind.some, behind.within, behind.is)

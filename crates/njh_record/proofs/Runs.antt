@@ -1,6 +1,6 @@
 -- Runs at the front of bytes, and the bytes before them.
-use Rattle.std.proofs.Common.{◌≡◌, ℕ, ◌+◌, ◌<◌, ◌≤◌, min, Bool, true, false, cond, eqb, leb, List, [], ◌∷◌, ◌++◌, length, take, drop, replicate, get_or, refl, sym, ◌∙◌, ap, subst, append_assoc, one-add, arith, ◌⊎◌, inl, inr, length-take}
-use Rattle.std.proofs.lemmas.Bool.{cases_lt, cases_Bool, eqb-true, leb-true}
+use Rattle.std.proofs.Common.{◌≡◌, ℕ, ◌+◌, ◌<◌, ◌≤◌, min, Bool, true, false, eqb, leb, List, [], ◌∷◌, ◌++◌, length, take, drop, replicate, get_or, refl, sym, ◌∙◌, ap, subst, append_assoc, one-add, arith, ◌⊎◌, inl, inr, length-take}
+use Rattle.std.proofs.lemmas.Bool.{cases_lt, cases_Bool, cond_both, cond-true, cond-false, eqb-true, leb-true}
 use Rattle.std.proofs.lemmas.List.{take-take, take_all, append-nil, take_more, drop_more, drop_all, take-append-le}
 use Rattle.std.proofs.lemmas.List.Sums.{prefix_len-le-length}
 use Rattle.std.specs.List.{prefix_len}
@@ -9,26 +9,18 @@ use Rattle.njh_record.specs.Writing.{first_of, run_of, is_run, begins_run, befor
 -- ---- runs
 
 pub is_run-two : (byte n : ℕ) → is_run byte n ≡ true → 2 ≤ n
-is_run-two byte n is = go (eqb byte 0x40) n is
-  where
-    go : (blank : Bool) (n : ℕ) → cond blank (leb 2 n) (leb 3 n) ≡ true → 2 ≤ n
-    go true n is = leb-true 2 n is
-    go false n is = omega (arith, leb-true 3 n is)
+is_run-two byte n = cond_both (eqb byte 0x40) (leb 2 n) (leb 3 n) (λ t. t ≡ true → 2 ≤ n) (λ blank is. leb-true 2 n is) (λ other is. omega (arith, leb-true 3 n is))
 
 pub is_run-three : (byte n : ℕ) → eqb byte 0x40 ≡ false → is_run byte n ≡ true → 3 ≤ n
-is_run-three byte n other is = go (eqb byte 0x40) n other is
-  where
-    go : (blank : Bool) (n : ℕ) → blank ≡ false → cond blank (leb 2 n) (leb 3 n) ≡ true → 3 ≤ n
-    go true n other is = absurd cc
-    go false n other is = leb-true 3 n is
+is_run-three byte n other is = leb-true 3 n (sym (cond-false (eqb byte 0x40) (leb 2 n) (leb 3 n) other) ∙ is)
 
 front_is : (byte : ℕ) (bytes : List ℕ) → take (prefix_len (λ x. eqb x byte) bytes) bytes ≡ replicate (prefix_len (λ x. eqb x byte) bytes) byte
 front_is byte [] = refl
-front_is byte (x ∷ bytes) = go (eqb x byte) (λ is. eqb-true x byte is) (front_is byte bytes)
-  where
-    go : (same : Bool) → (same ≡ true → x ≡ byte) → take (prefix_len (λ x. eqb x byte) bytes) bytes ≡ replicate (prefix_len (λ x. eqb x byte) bytes) byte → take (cond same (1 + prefix_len (λ x. eqb x byte) bytes) 0) (x ∷ bytes) ≡ replicate (cond same (1 + prefix_len (λ x. eqb x byte) bytes) 0) byte
-    go true equal rest = rw one-add (ap (λ (y : ℕ). y ∷ take (prefix_len (λ x. eqb x byte) bytes) bytes) (equal refl) ∙ ap (λ (ys : List ℕ). byte ∷ ys) rest)
-    go false equal rest = refl
+front_is byte (x ∷ bytes) =
+    let n = prefix_len (λ x. eqb x byte) bytes in
+    cond_both (eqb x byte) (1 + n) 0 (λ m. take m (x ∷ bytes) ≡ replicate m byte)
+    (λ same. rw one-add (ap (λ (y : ℕ). y ∷ take n bytes) (eqb-true x byte same) ∙ ap (λ (ys : List ℕ). byte ∷ ys) (front_is byte bytes)))
+    (λ other. refl)
 
 pub run_of-short : (bytes : List ℕ) → run_of bytes ≤ 31
 run_of-short bytes = omega (arith, prefix_len-le-length (λ x. eqb x (first_of bytes)) (take 31 bytes), length-take 31 bytes)
@@ -44,19 +36,11 @@ take-run_of bytes = sym (take-take (run_of bytes) 31 bytes (run_of-short bytes))
 pub before_run-at : (bytes : List ℕ) → begins_run bytes ≡ true → before_run bytes ≡ []
 unfolding before_run
 before_run-at [] is = refl
-before_run-at (byte ∷ bytes) is = go (begins_run (byte ∷ bytes)) is
-  where
-    go : (runs : Bool) → runs ≡ true → cond runs [] (byte ∷ before_run bytes) ≡ []
-    go true is = refl
-    go false is = absurd cc
+before_run-at (byte ∷ bytes) is = cond-true (begins_run (byte ∷ bytes)) [] (byte ∷ before_run bytes) is
 
 pub before_run-past : (byte : ℕ) (bytes : List ℕ) → begins_run (byte ∷ bytes) ≡ false → before_run (byte ∷ bytes) ≡ byte ∷ before_run bytes
 unfolding before_run
-before_run-past byte bytes is = go (begins_run (byte ∷ bytes)) is
-  where
-    go : (runs : Bool) → runs ≡ false → cond runs [] (byte ∷ before_run bytes) ≡ byte ∷ before_run bytes
-    go true is = absurd cc
-    go false is = refl
+before_run-past byte bytes is = cond-false (begins_run (byte ∷ bytes)) [] (byte ∷ before_run bytes) is
 
 pub before_run-nil : before_run [] ≡ []
 unfolding before_run

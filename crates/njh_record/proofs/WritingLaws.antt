@@ -1,6 +1,6 @@
 -- The one spelling is a spelling, and how long it is.
-use Rattle.std.proofs.Common.{◌≡◌, ℕ, zero, suc, ◌+◌, ◌-◌, ◌*◌, ◌<◌, ◌≤◌, ◌⊎◌, inl, inr, min, Bool, true, false, cond, eqb, List, [], ◌∷◌, ◌++◌, length, take, drop, replicate, refl, sym, ◌∙◌, ap, subst, append_assoc, arith, length-append, length-take}
-use Rattle.std.proofs.lemmas.Bool.{cases_lt, cases_Bool, both_ways, eqb-true}
+use Rattle.std.proofs.Common.{◌≡◌, ℕ, zero, suc, ◌+◌, ◌-◌, ◌*◌, ◌<◌, ◌≤◌, ◌⊎◌, inl, inr, min, true, false, eqb, List, [], ◌∷◌, ◌++◌, length, take, drop, replicate, refl, sym, ◌∙◌, ap, subst, append_assoc, arith, length-append, length-take}
+use Rattle.std.proofs.lemmas.Bool.{cases_lt, cases_Bool, cond_both, cond-true, cond-false, both_ways, eqb-true}
 use Rattle.std.proofs.lemmas.List.{take_min, take-take, take_all, length-replicate, take-append-drop}
 use Rattle.std.specs.List.{flat_map, AllByRecursion}
 use Rattle.njh_record.specs.declared.End.TheVariants.{Record}
@@ -12,51 +12,27 @@ use Rattle.njh_record.proofs.Runs.{is_run-two, is_run-three, run_of-short, run_o
 -- ---- the item that spells a run
 
 pub IsItem-run_item : (byte n : ℕ) → n < 32 → IsItem (run_item byte n)
-IsItem-run_item byte n short = go (eqb byte 0x40)
-  where
-    go : (blank : Bool) → IsItem (cond blank (blanks n) (repeat n byte))
-    go true = short
-    go false = short
+IsItem-run_item byte n short = cond_both (eqb byte 0x40) (blanks n) (repeat n byte) IsItem (λ _. short) (λ _. short)
 
 pub added-run_item : (byte n : ℕ) → added (run_item byte n) ≡ replicate n byte
-added-run_item byte n = go (eqb byte 0x40) (λ is. eqb-true byte 0x40 is)
-  where
-    go : (blank : Bool) → (blank ≡ true → byte ≡ 0x40) → added (cond blank (blanks n) (repeat n byte)) ≡ replicate n byte
-    go true is = ap (replicate n) (sym (is refl))
-    go false is = refl
+added-run_item byte n =
+    cond_both (eqb byte 0x40) (blanks n) (repeat n byte) (λ item. added item ≡ replicate n byte) (λ is. ap (replicate n) (sym (eqb-true byte 0x40 is))) (λ _. refl)
 
 -- a run is spelled shorter than it is
 pub length-run_item : (byte n : ℕ) → is_run byte n ≡ true → length (item_bytes (run_item byte n)) < n
-length-run_item byte n is = go (eqb byte 0x40) (is_run-two byte n is) (λ other. is_run-three byte n other is)
-  where
-    go : (blank : Bool) → 2 ≤ n → (blank ≡ false → 3 ≤ n) → length (item_bytes (cond blank (blanks n) (repeat n byte))) < n
-    go true two three = omega arith
-    go false two three = omega (arith, three refl)
-
-pub length-run_item-most : (byte n : ℕ) → length (item_bytes (run_item byte n)) ≤ 2
-length-run_item-most byte n = go (eqb byte 0x40)
-  where
-    go : (blank : Bool) → length (item_bytes (cond blank (blanks n) (repeat n byte))) ≤ 2
-    go true = omega arith
-    go false = omega arith
+length-run_item byte n is =
+    cond_both (eqb byte 0x40) (blanks n) (repeat n byte) (λ item. length (item_bytes item) < n)
+    (λ _. omega (arith, is_run-two byte n is)) (λ other. omega (arith, is_run-three byte n other is))
 
 -- ---- the first item
 
 pub first_item-run : (bytes : List ℕ) → begins_run bytes ≡ true → first_item bytes ≡ run_item (first_of bytes) (run_of bytes)
 unfolding first_item
-first_item-run bytes is = go (begins_run bytes) is
-  where
-    go : (runs : Bool) → runs ≡ true → cond runs (run_item (first_of bytes) (run_of bytes)) (literal (take 63 (before_run bytes))) ≡ run_item (first_of bytes) (run_of bytes)
-    go true is = refl
-    go false is = absurd cc
+first_item-run bytes is = cond-true (begins_run bytes) _ _ is
 
 pub first_item-literal : (bytes : List ℕ) → begins_run bytes ≡ false → first_item bytes ≡ literal (take 63 (before_run bytes))
 unfolding first_item
-first_item-literal bytes is = go (begins_run bytes) is
-  where
-    go : (runs : Bool) → runs ≡ false → cond runs (run_item (first_of bytes) (run_of bytes)) (literal (take 63 (before_run bytes))) ≡ literal (take 63 (before_run bytes))
-    go true is = absurd cc
-    go false is = refl
+first_item-literal bytes is = cond-false (begins_run bytes) _ _ is
 
 -- what is spelled first stands first
 front_before : (bytes : List ℕ) → take (length (before_run bytes)) bytes ≡ before_run bytes

@@ -1,7 +1,7 @@
 -- What reading knows on its way: what stands first in the bytes, and what the items so far add.
 use Rattle.std.specs.Prelude.{◌≡◌, ℕ, ◌<◌, ◌≤◌, Bool, true, false, List, [], ◌∷◌, ◌+◌, ◌++◌, length, Result, Ok, Err}
 use Rattle.std.specs.Borrow.{Bor}
-use Rattle.std.specs.List.{flat_map}
+use Rattle.njh_record.specs.Bytes.{AreBytes}
 use Rattle.njh_record.specs.declared.RecordFault.{RecordFault}
 use Rattle.njh_record.specs.declared.RecordFault.TheVariants as faults
 use Rattle.njh_record.specs.declared.item.Item as own
@@ -10,9 +10,9 @@ use Rattle.njh_record.specs.declared.reading.Part.{Part}
 use Rattle.njh_record.specs.declared.reading.Part.TheVariants as part
 use Rattle.njh_record.specs.declared.End.{End}
 use Rattle.njh_record.specs.declared.End.TheVariants.{Record, Abort}
-use Rattle.njh_record.specs.Spelling.{Item, blanks, repeat, literal, added, item_bytes, end_byte, ItemsThen}
+use Rattle.njh_record.specs.Spelling.{Item, blanks, repeat, literal, item_bytes, end_byte}
 use Rattle.njh_record.specs.Reading.{IsBadScb}
-use Rattle.njh_record.specs.Unspelled.{Front, OfItem, OfEnd, Bad, Cut}
+use Rattle.njh_record.specs.Unspelled.{Front, OfItem, OfEnd, Bad, Cut, Fault, Unspelled, with_front, ReadsAs}
 
 -- The items of the code as those of the definition.
 abbrev pub item_of : own.Item → Item
@@ -64,11 +64,13 @@ abbrev pub Holds : Bool → List ℕ → List ℕ → Type 0
 Holds true added contents = (contents ≡ added) × (length added ≤ 256)
 Holds false added contents = 256 < length added
 
--- the items up to a rest were read, and a record holds what they add
+-- the bytes up to a rest were read, and a record holds what they add: what the rest reads as, the whole does with that in front
 pub record HasRead (bytes rest contents : List ℕ) (fits : Bool) : Type 0 where
-  pub items : List Item
-  pub front : ItemsThen bytes items rest
-  pub holds : Holds fits (flat_map added items) contents
+  pub adds : List ℕ
+  pub reads : (read : Result Unspelled Fault) → ReadsAs rest read → ReadsAs bytes (with_front adds read)
+  pub left : AreBytes rest
+  pub within : length rest ≤ length bytes
+  pub holds : Holds fits adds contents
 
 -- what of a record is kept: nothing after a fault or an abort
 abbrev pub kept_by : Result (ℕ × End) RecordFault → List ℕ → List ℕ

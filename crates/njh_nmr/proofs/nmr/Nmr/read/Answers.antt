@@ -1,7 +1,7 @@
 use Rattle.std.proofs.Common.{◌≡◌, ◌+◌, ◌-◌, Err, take, drop, inl, inr, sym, ap, ◌∙◌, arith}
 use Rattle.std.proofs.lemmas.Result.{err_from_is_err_and}
 use Rattle.njh_nmr.proofs.Nodes.{nodal_of-bad_name, node_of-named}
-use Rattle.njh_nmr.proofs.Places.{bytes_of-parts}
+use Rattle.njh_nmr.proofs.Places.{record_of-parts}
 use Rattle.njh_nmr.proofs.nmr.Nmr.read.Goals as goal
 
 pub returns-in_err-to-clause-read : goal.returns-in_err-to-clause-read
@@ -19,6 +19,6 @@ returns-clause-sent_on c =
     let bytes = c.args.bytes.now in
     let len = c.from-length.result in
     let size : (30 + len) - 30 ≡ len = omega arith in
-    bytes_of-parts bytes len c.in_ok-to.to c.field_at.result c.in_ok-origin.origin c.message_of.result.items (omega arith) c.from-length.ensures
+    record_of-parts bytes len c.in_ok-to.to c.field_at.result c.in_ok-origin.origin c.message_of.result.items (omega arith) c.from-length.ensures
     (node_of-named _ _ (sym c.in_ok-to.was ∙ c.name_at.ensures)) c.field_at.ensures (node_of-named _ _ (sym c.in_ok-origin.was ∙ c.name_at-2.ensures))
     (c.message_of.ensures ∙ ap (λ n. take n (drop 30 bytes)) size)
