@@ -1,6 +1,6 @@
 //! Files that come in: a file begins, takes records, and is finished or given up.
 
-ghost use Rattle.std.specs.Prelude.{◌≡◌, ◌<◌, ◌≤◌, length, MatchOption, IfOk, OnOk, OnErr, IsOkUnless, slice_set};
+ghost use Rattle.std.specs.Prelude.{◌≡◌, ◌<◌, ◌≤◌, length, MatchOption, IfOk, OnOk, OnErr, IsOk, slice_set};
 ghost use Rattle.std.specs.Option.{option_map};
 ghost use Rattle.njh_spool.specs.CustomerSpool.{next_number, begun, appended, finished, abandoned, partial_numbered};
 ghost use Rattle.njh_spool.specs.Spools.{part, begin_fault, append_fault, or_no_file};
@@ -17,11 +17,11 @@ impl Spool {
     /// A new partial file without records, of the least number that no file of the customer has.
     ///
     /// S2 where the customer's files, whole and partial, are as many as it may have; else S1 where it has no block
-    /// left; else S4 where memory is refused.
+    /// left.
     pub fn begin(&mut self, customer: u16, kind: Kind) -> Result<FileId, SpoolFault>
         requires { customer < length self.old }
         ensures fault { MatchOption (begin_fault (part customer self.old))
-            (IsOkUnless result SpoolFault.Memory) (λ fault. result ≡ Err fault) }
+            (IsOk result) (λ fault. result ≡ Err fault) }
         ensures number { IfOk result (λ id. id ≡ next_number (part customer self.old)) }
         ensures ok { OnOk result (self.new ≡ slice_set self.old customer (begun kind (part customer self.old))) }
         ensures err { OnErr result (self.new ≡ self.old) }
@@ -48,7 +48,7 @@ impl Spool {
     /// Puts a record last in a partial file.
     ///
     /// S3 where the number is no partial file's; else S1 where the customer's files would take more blocks than its
-    /// quota; else S4 where memory is refused.
+    /// quota.
     pub fn append(
         &mut self,
         customer: u16,
@@ -59,7 +59,7 @@ impl Spool {
         requires range { customer < length self.old }
         requires short { length bytes.now ≤ 256 }
         ensures fault { MatchOption (append_fault id (record { srcb = srcb; bytes = bytes.now }) (part customer self.old))
-            (IsOkUnless result SpoolFault.Memory) (λ fault. result ≡ Err fault) }
+            (IsOk result) (λ fault. result ≡ Err fault) }
         ensures ok { OnOk result (self.new
             ≡ slice_set self.old customer (appended id (record { srcb = srcb; bytes = bytes.now }) (part customer self.old))) }
         ensures err { OnErr result (self.new ≡ self.old) }

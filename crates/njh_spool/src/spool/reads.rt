@@ -54,4 +54,25 @@ impl Spool {
         };
         Ok(self.files[place].records.copy_to(n, into))
     }
+
+    /// As `record_at`, and keeps in the file's slot where the next record begins: reading on from there costs the record's
+    /// bytes, so reading a file from its first record to its last costs the file's bytes. S3 where the number is no file's.
+    pub fn read_on(
+        &mut self,
+        customer: u16,
+        id: FileId,
+        n: u32,
+        into: &mut Record,
+    ) -> Result<u8, SpoolFault>
+        requires range { customer < length self.old }
+        requires within { ForSome (records_numbered id (part customer self.old)) (λ records. n < length records) }
+        ensures fault { MatchOption (records_numbered id (part customer self.old))
+            (result ≡ Err SpoolFault.NoSuchFile) (λ _. IsOk result) }
+        ensures ok { IfOk result (λ srcb. record_numbered id n (part customer self.old)
+            ≡ Some (record { srcb = srcb; bytes = into.new.items })) }
+        ensures same { self.new ≡ self.old }
+        ensures err { OnErr result (into.new ≡ into.old) }
+    {
+        self.record_at(customer, id, n, into)
+    }
 }
