@@ -1,0 +1,63 @@
+-- How byte strings lie in the blocks of one slab, each block linked to the next of its chain.
+use Rattle.std.specs.Prelude.{◌≡◌, ℕ, zero, suc, ◌+◌, ◌-◌, ◌*◌, ◌<◌, ◌≤◌, ◌^◌, ◌==◌, List, [], ◌∷◌, length, map, take, count_by, sum_by, slice_index, Option, Some, None}
+use Rattle.std.specs.List.{flat_map, All}
+use Rattle.slab.specs.Slab.{Slab, get, slab_len}
+use Rattle.njh_spool.specs.declared.store.block.Block.{Block}
+use Rattle.njh_spool.specs.declared.store.slot.Slot.{Slot}
+use Rattle.njh_spool.specs.declared.store.TheConstants.{MOST_CAPACITY}
+use Rattle.njh_spool.specs.Chains.{Chain, blocks_for}
+
+-- the link of the block at a key
+abbrev pub next_at : Slab Block → ℕ → ℕ
+next_at blocks key = elim (get blocks key) [ Some block ↦ block.next | None ↦ 0 ]
+
+-- its data bytes
+abbrev pub data_at : Slab Block → ℕ → List ℕ
+data_at blocks key = elim (get blocks key) [ Some block ↦ block.bytes | None ↦ [] ]
+
+-- how many blocks lie at a key: one, or none
+abbrev pub blocks_at : Slab Block → ℕ → ℕ
+blocks_at blocks key = elim (get blocks key) [ Some block ↦ 1 | None ↦ 0 ]
+
+-- so many keys, the first and from each the one that its block is linked to
+abbrev pub keys_from : Slab Block → ℕ → ℕ → List ℕ
+keys_from blocks zero key = []
+keys_from blocks (suc more) key = key ∷ keys_from blocks more (next_at blocks key)
+
+-- the data bytes at keys, in a row
+abbrev pub data_of : Slab Block → List ℕ → List ℕ
+data_of blocks keys = flat_map (data_at blocks) keys
+
+-- the keys of a slot's blocks
+abbrev pub keys_of : Slab Block → Slot → List ℕ
+keys_of blocks slot = keys_from blocks (blocks_for slot.len) slot.head
+
+-- the chain of a slot
+abbrev pub chain_of : Slab Block → Slot → Chain
+chain_of blocks slot = record { keys = keys_of blocks slot; bytes = take slot.len (data_of blocks (keys_of blocks slot)) }
+
+abbrev pub chains_of : Slab Block → List Slot → List Chain
+chains_of blocks slots = map (chain_of blocks) slots
+
+-- how many times a key stands in a list of keys
+abbrev pub times_in : ℕ → List ℕ → ℕ
+times_in key keys = count_by (λ k. k == key) keys
+
+-- how many times a key stands in the chains of all slots together
+abbrev pub times : Slab Block → List Slot → ℕ → ℕ
+times blocks slots key = sum_by (λ slot. times_in key (keys_of blocks slot)) slots
+
+-- a slot knows the last key of its chain
+abbrev pub KnowsLast : Slab Block → Slot → Type 0
+KnowsLast blocks slot = 0 < slot.len → slice_index (keys_of blocks slot) (blocks_for slot.len - 1) ≡ slot.last
+
+pub record IsChained (blocks : Slab Block) (slots : List Slot) (capacity : ℕ) : Type 0 where
+  -- each block that isn't vacant lies once in the chain of exactly one slot, and no vacant one in any
+  pub once : (key : ℕ) → times blocks slots key ≡ blocks_at blocks key
+  -- there are as many blocks as the strings need
+  pub counted : slab_len blocks ≡ sum_by (λ slot. blocks_for slot.len) slots
+  pub full : (key : ℕ) → length (data_at blocks key) ≡ 252 * blocks_at blocks key
+  pub last : All (KnowsLast blocks) slots
+  pub room : capacity ≤ blocks.capacity
+  pub small : capacity ≤ MOST_CAPACITY
+  pub keys_fit : blocks.capacity ≤ 2 ^ 32
