@@ -16,3 +16,14 @@ pub mod QuotaLaws
 pub mod CountLaws
 pub mod OpenLaws
 pub mod BeginLaws
+pub mod ChainLists
+pub mod ChainKeys
+pub mod ChainMoves
+pub mod ChainLaws
+pub mod ChainPuts
+pub mod ChainAdds
+pub mod ChainRemoves
+pub mod ChainPlaces
+pub mod ChainWrites
+pub mod ChainSlots
+pub mod ChainMarks

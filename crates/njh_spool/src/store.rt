@@ -4,19 +4,22 @@
 
 pub mod block;
 mod growing;
+mod laws;
 pub mod mark;
 mod places;
 pub mod slot;
 
 ghost use Rattle.std.specs.Prelude.{◌≡◌, ℕ, ◌+◌, ◌<◌, ◌≤◌, ◌==◌, ◌++◌, length, replicate, count_by, sum_by, IfOk, All};
 ghost use Rattle.njh_record.specs.Bytes.{field, with_field};
-ghost use Rattle.njh_spool.specs.Chains.{Grows, empty_chain, chain_at, with_chain, with_bytes, blocks_of, blocks_used, IsMark, IsNear};
+ghost use Rattle.njh_spool.specs.Chains.{empty_chain, chain_at, with_chain, with_bytes, blocks_for, blocks_of, blocks_used};
+ghost use Rattle.njh_spool.specs.Chains.{Grows, IsMark, IsNear};
 
 use block::{BLOCK_DATA, Block};
+pub use laws::each_block_lies_once;
 use mark::Mark;
 use njh_record::Record;
 use slab::Slab;
-use slot::Slot;
+use slot::{Slot, empty_slots};
 use std::alloc::{AllocError, Global};
 use std::marker::Model;
 
@@ -52,17 +55,10 @@ impl Store {
         if blocks.capacity() > u32::MAX as usize {
             return Err(AllocError);
         }
-        let mut all = Vec::with_capacity(alloc, slots as usize)?;
-        for _ in 0..slots {
-            all.push_reserved(Slot {
-                head: 0,
-                last: 0,
-                len: 0,
-            });
-        }
+        let slots = empty_slots(alloc, slots)?;
         Ok(Store {
             blocks,
-            slots: all,
+            slots,
             capacity,
         })
     }
@@ -70,7 +66,8 @@ impl Store {
     /// How many bytes a slot's string has.
     pub fn len(&self, slot: u32) -> u32
         requires { slot < length self.now.chains }
-        ensures { result ≡ length (chain_at slot self.now).bytes }
+        ensures bytes { result ≡ length (chain_at slot self.now).bytes }
+        ensures blocks { length (chain_at slot self.now).keys ≡ blocks_for result }
     {
         self.slots[slot as usize].len
     }
@@ -91,9 +88,7 @@ impl Store {
     {
         let room = self.room_in_last(slot);
         let (first, mut left) = bytes.split_at(room.min(bytes.len()));
-        if !first.is_empty() {
-            self.extend_last(slot, first);
-        }
+        self.fill_last(slot, first);
         while !left.is_empty() {
             let (part, after) = left.split_at(BLOCK_DATA.min(left.len()));
             self.add_block(slot, part);
@@ -124,10 +119,7 @@ impl Store {
         let room = (mark.block as usize + 1) * BLOCK_DATA - place;
         let (first, second) = bytes.split_at(room.min(bytes.len()));
         self.put_part(slot, mark, place, first);
-        if !second.is_empty() {
-            let after = self.next(slot, mark);
-            self.put_part(slot, after, place + first.len(), second);
-        }
+        self.put_rest(slot, mark, place + first.len(), second);
     }
 
     /// Puts `n` bytes from a place on of a slot's string into `into`. They are looked for from a mark on, where the mark

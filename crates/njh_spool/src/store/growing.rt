@@ -1,6 +1,6 @@
 //! A chain grows at its end, and is given back from its first block on.
 
-ghost use Rattle.std.specs.Prelude.{◌≡◌, ℕ, ◌+◌, ◌-◌, ◌*◌, ◌%◌, ◌<◌, ◌≤◌, [], ◌∷◌, ◌++◌, length, drop};
+ghost use Rattle.std.specs.Prelude.{◌≡◌, ◌+◌, ◌*◌, ◌<◌, ◌≤◌, ◌++◌, length, drop};
 ghost use Rattle.njh_spool.specs.Chains.{Grows, chain_at, with_chain, with_bytes, blocks_of, blocks_used};
 
 use crate::store::Store;
@@ -17,7 +17,18 @@ impl Store {
         BLOCK_DATA * len.div_ceil(BLOCK_DATA) - len
     }
 
-    /// Appends to a string whose last block has room for it.
+    /// Appends what the last block has room for.
+    pub(super) fn fill_last(&mut self, slot: u32, bytes: &[u8])
+        requires slot { slot < length self.old.chains }
+        requires room { length (chain_at slot self.old).bytes + length bytes.now ≤ 252 * blocks_of (chain_at slot self.old).bytes }
+        ensures { self.new ≡ with_bytes slot ((chain_at slot self.old).bytes ++ bytes.now) self.old }
+    {
+        if !bytes.is_empty() {
+            self.extend_last(slot, bytes);
+        }
+    }
+
+    /// Appends at least a byte to a string whose last block has room for it.
     pub(super) fn extend_last(&mut self, slot: u32, bytes: &[u8])
         requires slot { slot < length self.old.chains }
         requires some { 0 < length bytes.now }

@@ -14,7 +14,7 @@ impl Store {
     pub(super) fn key_of(&self, slot: u32, mark: Mark) -> u32
         requires slot { slot < length self.now.chains }
         requires mark { IsMark (chain_at slot self.now).keys mark }
-        requires within { mark.block < length (chain_at slot self.now).keys }
+        requires within { 252 * mark.block < length (chain_at slot self.now).bytes }
         ensures { slice_get (chain_at slot self.now).keys mark.block ≡ Some result }
     {
         if mark.block == 0 {
@@ -28,14 +28,15 @@ impl Store {
     pub(super) fn next(&self, slot: u32, mark: Mark) -> Mark
         requires slot { slot < length self.now.chains }
         requires mark { IsMark (chain_at slot self.now).keys mark }
-        requires within { mark.block + 1 < length (chain_at slot self.now).keys }
+        requires within { 252 * mark.block + 252 < length (chain_at slot self.now).bytes }
         ensures mark { IsMark (chain_at slot self.now).keys result }
         ensures block { result.block ≡ mark.block + 1 }
     {
         let key = self.key_of(slot, mark);
+        let next = self.blocks[key as usize].next;
         Mark {
             block: mark.block + 1,
-            key: self.blocks[key as usize].next,
+            key: next,
         }
     }
 
@@ -105,5 +106,20 @@ impl Store {
         let key = self.key_of(slot, mark);
         let at = place - mark.block as usize * BLOCK_DATA;
         put(&mut self.blocks, key, at, bytes);
+    }
+
+    /// Writes over bytes from the end of a mark's block on, if any are given.
+    pub(super) fn put_rest(&mut self, slot: u32, mark: Mark, place: usize, bytes: &[u8])
+        requires slot { slot < length self.old.chains }
+        requires mark { IsMark (chain_at slot self.old).keys mark }
+        requires begins { 0 < length bytes.now → place ≡ 252 * mark.block + 252 }
+        requires short { length bytes.now ≤ 252 }
+        requires within { place + length bytes.now ≤ length (chain_at slot self.old).bytes }
+        ensures { self.new ≡ with_bytes slot (with_field place bytes.now (chain_at slot self.old).bytes) self.old }
+    {
+        if !bytes.is_empty() {
+            let after = self.next(slot, mark);
+            self.put_part(slot, after, place, bytes);
+        }
     }
 }
