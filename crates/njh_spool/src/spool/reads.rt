@@ -6,7 +6,8 @@ ghost use Rattle.njh_spool.specs.Spools.{part, or_no_file, kind_numbered, record
 
 use crate::SpoolFault;
 use crate::file_id::FileId;
-use crate::places::place;
+use crate::places::{place, slot_at};
+use crate::reading::{place_of_record, read_record};
 use crate::spool::Spool;
 use njh_record::{Kind, Record};
 
@@ -16,10 +17,11 @@ impl Spool {
         requires { customer < length self.now }
         ensures { result ≡ or_no_file (kind_numbered id (part customer self.now)) }
     {
-        let Some(place) = place(&self.files, customer, id) else {
+        let slot = slot_at(&self.slots, customer, id);
+        if slot.is_free() {
             return Err(SpoolFault::NoSuchFile);
-        };
-        Ok(self.files[place].kind)
+        }
+        Ok(slot.kind)
     }
 
     /// How many records a file has. S3 where the number is no file's.
@@ -27,10 +29,11 @@ impl Spool {
         requires { customer < length self.now }
         ensures { result ≡ or_no_file (option_map (λ records. length records) (records_numbered id (part customer self.now))) }
     {
-        let Some(place) = place(&self.files, customer, id) else {
+        let slot = slot_at(&self.slots, customer, id);
+        if slot.is_free() {
             return Err(SpoolFault::NoSuchFile);
-        };
-        Ok(self.files[place].records.len())
+        }
+        Ok(slot.count)
     }
 
     /// Puts the n-th record's bytes into `into` and gives its SRCB. S3 where the number is no file's.
@@ -49,10 +52,14 @@ impl Spool {
             ≡ Some (record { srcb = srcb; bytes = into.new.items })) }
         ensures err { OnErr result (into.new ≡ into.old) }
     {
-        let Some(place) = place(&self.files, customer, id) else {
+        let slot = slot_at(&self.slots, customer, id);
+        if slot.is_free() {
             return Err(SpoolFault::NoSuchFile);
-        };
-        Ok(self.files[place].records.copy_to(n, into))
+        }
+        let at = place(customer, id);
+        let begins = place_of_record(&self.store, at, &slot, n);
+        let (srcb, _) = read_record(&self.store, at, &slot, begins, into);
+        Ok(srcb)
     }
 
     /// As `record_at`, and keeps in the file's slot where the next record begins: reading on from there costs the record's
@@ -73,6 +80,15 @@ impl Spool {
         ensures same { self.new ≡ self.old }
         ensures err { OnErr result (into.new ≡ into.old) }
     {
-        self.record_at(customer, id, n, into)
+        let mut slot = slot_at(&self.slots, customer, id);
+        if slot.is_free() {
+            return Err(SpoolFault::NoSuchFile);
+        }
+        let at = place(customer, id);
+        let begins = place_of_record(&self.store, at, &slot, n);
+        let (srcb, next) = read_record(&self.store, at, &slot, begins, into);
+        slot.next = next;
+        self.slots[at as usize] = slot;
+        Ok(srcb)
     }
 }
