@@ -8,7 +8,7 @@ ghost use Rattle.njh_header.specs.Texts.{file_name as name_text};
 
 use crate::file_name::FileName;
 use arrayvec::ArrayVec;
-use njh_ebcdic::{byte_of, characters_and_bytes, trim_blanks};
+use njh_ebcdic::{plain_byte, trim_blanks};
 use njh_record::put_bytes;
 
 /// The message of a nodal message record, in EBCDIC: at most 148 bytes.
@@ -26,12 +26,8 @@ pub fn push_ascii(text: &mut MessageText, ascii: &str)
     requires known { IsTrue (list_all is_plain ascii.now) }
     ensures { text.new.items ≡ text.old.items ++ ebcdic ascii.now }
 {
-    characters_and_bytes();
     for character in ascii.as_bytes() {
-        let Some(byte) = byte_of(char::from(*character)) else {
-            unreachable!()
-        };
-        text.push(byte);
+        text.push(plain_byte(*character));
     }
 }
 
