@@ -1,5 +1,6 @@
 -- What one call takes of a piece, and the frames of bytes that come one after another.
-use Rattle.std.proofs.Common.{◌≡◌, ℕ, zero, suc, ◌+◌, ◌<◌, ◌≤◌, List, [], ◌∷◌, ◌++◌, length, take, drop, refl, ap, sym, ◌∙◌, subst, arith, append-nil, one-add, zero-add}
+use Rattle.std.proofs.Common.{◌≡◌, ℕ, zero, suc, ◌+◌, ◌<◌, ◌≤◌, List, [], ◌∷◌, ◌++◌, length, take, drop, refl, ap, sym, ◌∙◌, subst, arith}
+use Rattle.std.proofs.Common.{append-nil, one-add, zero-add}
 use Rattle.std.specs.Prelude.{Option, Some, None}
 use Rattle.std.specs.List.{cons_option}
 use Rattle.std.proofs.lemmas.List.{take-append-drop, take_all}
@@ -8,15 +9,18 @@ use Rattle.njh_bisync.specs.Reading.{Rest, Nothing, rest_of, Reads, frame_list, 
 use Rattle.njh_bisync.specs.Fed.{Turn, turn, Fed, ahead, stop_or, fed, frames_after, rest_after, GoesOn}
 use Rattle.njh_bisync.proofs.UnitReader.{run, runs_as, run-split}
 
-cons_option-append : (frame : Option Received) (front back : List Received) → cons_option frame (front ++ back) ≡ cons_option frame front ++ back
+cons_option-append : (frame : Option Received) (front back : List Received)
+    → cons_option frame (front ++ back) ≡ cons_option frame front ++ back
 cons_option-append None front back = refl
 cons_option-append (Some frame) front back = refl
 
-pub frames_after-append : (rest : Rest) (front back : List ℕ) → frames_after rest (front ++ back) ≡ frames_after rest front ++ frames_after (rest_after rest front) back
+pub frames_after-append : (rest : Rest) (front back : List ℕ)
+    → frames_after rest (front ++ back) ≡ frames_after rest front ++ frames_after (rest_after rest front) back
 frames_after-append rest [] back = refl
 frames_after-append rest (byte ∷ front) back =
     ap (cons_option (turn rest byte).frame) (frames_after-append (turn rest byte).rest front back)
-    ∙ cons_option-append (turn rest byte).frame (frames_after (turn rest byte).rest front) (frames_after (rest_after (turn rest byte).rest front) back)
+    ∙ cons_option-append (turn rest byte).frame (frames_after (turn rest byte).rest front)
+    (frames_after (rest_after (turn rest byte).rest front) back)
 
 pub rest_after-append : (rest : Rest) (front back : List ℕ) → rest_after rest (front ++ back) ≡ rest_after (rest_after rest front) back
 rest_after-append rest [] back = refl
@@ -32,10 +36,12 @@ pub record TakesFront (rest : Rest) (piece : List ℕ) (f : Fed) : Type 0 where
   pub all : f.frame ≡ None → f.taken ≡ length piece
 
 -- one byte, by what its turn gives
-frames_after-turned : (rest : Rest) (byte : ℕ) (bytes : List ℕ) (t : Turn) → turn rest byte ≡ t → frames_after rest (byte ∷ bytes) ≡ cons_option t.frame (frames_after t.rest bytes)
+frames_after-turned : (rest : Rest) (byte : ℕ) (bytes : List ℕ) (t : Turn) → turn rest byte ≡ t
+    → frames_after rest (byte ∷ bytes) ≡ cons_option t.frame (frames_after t.rest bytes)
 frames_after-turned rest byte bytes t turned = ap (λ t'. cons_option t'.frame (frames_after t'.rest bytes)) turned
 
-rest_after-turned : (rest : Rest) (byte : ℕ) (bytes : List ℕ) (t : Turn) → turn rest byte ≡ t → rest_after rest (byte ∷ bytes) ≡ rest_after t.rest bytes
+rest_after-turned : (rest : Rest) (byte : ℕ) (bytes : List ℕ) (t : Turn) → turn rest byte ≡ t
+    → rest_after rest (byte ∷ bytes) ≡ rest_after t.rest bytes
 rest_after-turned rest byte bytes t turned = ap (λ t'. rest_after t'.rest bytes) turned
 
 none_before-end : (rest : Rest) (piece : List ℕ) (k : ℕ) → k < 1 → frames_after rest (take k piece) ≡ []
@@ -49,7 +55,8 @@ none_before-later rest next byte bytes n (suc k) turned later below =
     frames_after-turned rest byte (take k bytes) _ turned ∙ later k (omega arith)
 
 one_more : (rest next : Rest) (frame : Option Received) (byte : ℕ) (bytes : List ℕ) → turn rest byte ≡ record { frame = frame; rest = next }
-    → TakesFront next bytes (fed next bytes) → TakesFront rest (byte ∷ bytes) (stop_or (record { frame = frame; rest = next }) (fed next bytes))
+    → TakesFront next bytes (fed next bytes) → TakesFront rest (byte ∷ bytes)
+    (stop_or (record { frame = frame; rest = next }) (fed next bytes))
 one_more rest next (Some frame) byte bytes turned later = record {
   within = omega arith;
   some = λ h. omega arith;
@@ -68,8 +75,17 @@ one_more rest next None byte bytes turned later = record {
 }
 
 pub takes_front : (rest : Rest) (piece : List ℕ) → TakesFront rest piece (fed rest piece)
-takes_front rest [] = record { within = omega arith; some = λ h. h; frames = refl; left = refl; none_before = λ k below. absurd (omega arith); all = λ h. refl }
-takes_front rest (byte ∷ bytes) = one_more rest (turn rest byte).rest (turn rest byte).frame byte bytes refl (takes_front (turn rest byte).rest bytes)
+takes_front rest [] =
+    record {
+      within = omega arith;
+      some = λ h. h;
+      frames = refl;
+      left = refl;
+      none_before = λ k below. absurd (omega arith);
+      all = λ h. refl;
+    }
+takes_front rest (byte ∷ bytes) =
+    one_more rest (turn rest byte).rest (turn rest byte).frame byte bytes refl (takes_front (turn rest byte).rest bytes)
 
 -- cut where it was taken, a piece gives its first frame and then those of what is left
 pub goes_on : (rest : Rest) (piece : List ℕ) → GoesOn rest piece (fed rest piece).taken (fed rest piece).frame (fed rest piece).rest
@@ -97,19 +113,23 @@ taken_all rest piece none =
     (front.all none, sym front.left ∙ ap (rest_after rest) whole, ap (frames_after rest) (sym whole) ∙ (front.frames ∙ ap frame_list none))
 
 -- a piece after one in which no frame ends
-on_one_more : (frame : Option Received) (next : Rest) (first whole : Fed) (n : ℕ) (later : Rest → Fed) → (first.frame ≡ None → whole ≡ ahead n (later first.rest))
+on_one_more : (frame : Option Received) (next : Rest) (first whole : Fed) (n : ℕ) (later : Rest → Fed)
+    → (first.frame ≡ None → whole ≡ ahead n (later first.rest))
     → (stop_or (record { frame = frame; rest = next }) first).frame ≡ None
-    → stop_or (record { frame = frame; rest = next }) whole ≡ ahead (suc n) (later (stop_or (record { frame = frame; rest = next }) first).rest)
+    → stop_or (record { frame = frame; rest = next }) whole ≡ ahead (suc n)
+    (later (stop_or (record { frame = frame; rest = next }) first).rest)
 on_one_more (Some frame) next first whole n later more none = cc
 on_one_more None next first whole n later more none =
     let sum : 1 + (n + (later first.rest).taken) ≡ suc n + (later first.rest).taken = omega arith in
     ap (ahead 1) (more none) ∙ ap (λ (k : ℕ). record (later first.rest) { taken = k }) sum
 
-pub fed-append_none : (rest : Rest) (front back : List ℕ) → (fed rest front).frame ≡ None → fed rest (front ++ back) ≡ ahead (length front) (fed (fed rest front).rest back)
+pub fed-append_none : (rest : Rest) (front back : List ℕ) → (fed rest front).frame ≡ None
+    → fed rest (front ++ back) ≡ ahead (length front) (fed (fed rest front).rest back)
 fed-append_none rest [] back none = ap (λ (k : ℕ). record (fed rest back) { taken = k }) (sym (zero-add (fed rest back).taken))
 fed-append_none rest (byte ∷ front) back none =
     let next = (turn rest byte).rest in
-    on_one_more (turn rest byte).frame next (fed next front) (fed next (front ++ back)) (length front) (λ r. fed r back) (fed-append_none next front back) none
+    on_one_more (turn rest byte).frame next (fed next front) (fed next (front ++ back)) (length front) (λ r. fed r back)
+    (fed-append_none next front back) none
 
 -- and after one in which one ends
 ended_one_more : (ended : Option Received) (next : Rest) (first whole : Fed) (frame : Received) → (first.frame ≡ Some frame → whole ≡ first)
@@ -118,15 +138,18 @@ ended_one_more : (ended : Option Received) (next : Rest) (first whole : Fed) (fr
 ended_one_more (Some ended) next first whole frame more some = refl
 ended_one_more None next first whole frame more some = ap (ahead 1) (more some)
 
-pub fed-append_some : (rest : Rest) (front back : List ℕ) (frame : Received) → (fed rest front).frame ≡ Some frame → fed rest (front ++ back) ≡ fed rest front
+pub fed-append_some : (rest : Rest) (front back : List ℕ) (frame : Received) → (fed rest front).frame ≡ Some frame
+    → fed rest (front ++ back) ≡ fed rest front
 fed-append_some rest [] back frame some = cc
 fed-append_some rest (byte ∷ front) back frame some =
     let next = (turn rest byte).rest in
-    ended_one_more (turn rest byte).frame next (fed next front) (fed next (front ++ back)) frame (fed-append_some next front back frame) some
+    ended_one_more (turn rest byte).frame next (fed next front) (fed next (front ++ back)) frame
+    (fed-append_some next front back frame) some
 
 -- the grammar and the functions say the same
 
-pub one_splitting : (bytes : List ℕ) (units : List LineUnit) (partial : Partial) → Splits bytes units partial → run nothing bytes ≡ record { units = units; partial = partial }
+pub one_splitting : (bytes : List ℕ) (units : List LineUnit) (partial : Partial) → Splits bytes units partial
+    → run nothing bytes ≡ record { units = units; partial = partial }
 one_splitting bytes units partial splits = ap (run nothing) splits.whole ∙ run-split units partial splits.each splits.partial
 
 pub a_splitting : (bytes : List ℕ) → Splits bytes (run nothing bytes).units (run nothing bytes).partial
@@ -136,11 +159,13 @@ a_splitting bytes =
 
 pub reads_frames : (bytes : List ℕ) (frames : List Received) (rest : Rest) → Reads bytes frames rest → frames ≡ frames_after Nothing bytes
 reads_frames bytes frames rest reads =
-    reads.frames_are ∙ (ap (λ r. frames_of r.units) (sym (one_splitting bytes reads.units reads.partial reads.splits)) ∙ sym (runs_as nothing bytes tt).frames)
+    reads.frames_are ∙ (ap (λ r. frames_of r.units) (sym (one_splitting bytes reads.units reads.partial reads.splits))
+    ∙ sym (runs_as nothing bytes tt).frames)
 
 pub reads_rest : (bytes : List ℕ) (frames : List Received) (rest : Rest) → Reads bytes frames rest → rest ≡ rest_after Nothing bytes
 reads_rest bytes frames rest reads =
-    reads.rest_is ∙ (ap (λ r. rest_of r.partial) (sym (one_splitting bytes reads.units reads.partial reads.splits)) ∙ sym (runs_as nothing bytes tt).rest)
+    reads.rest_is ∙ (ap (λ r. rest_of r.partial) (sym (one_splitting bytes reads.units reads.partial reads.splits))
+    ∙ sym (runs_as nothing bytes tt).rest)
 
 pub reads_from : (bytes : List ℕ) → Reads bytes (frames_after Nothing bytes) (rest_after Nothing bytes)
 reads_from bytes = record {
@@ -152,13 +177,17 @@ reads_from bytes = record {
 }
 
 -- what more bytes add
-pub reads_more : (seen : List ℕ) (frames : List Received) (rest : Rest) (more : List ℕ) → Reads seen frames rest → Reads (seen ++ more) (frames ++ frames_after rest more) (rest_after rest more)
+pub reads_more : (seen : List ℕ) (frames : List Received) (rest : Rest) (more : List ℕ) → Reads seen frames rest
+    → Reads (seen ++ more) (frames ++ frames_after rest more) (rest_after rest more)
 reads_more seen frames rest more reads =
     let frames_are = reads_frames seen frames rest reads in
     let rest_is = reads_rest seen frames rest reads in
     let frames_then : frames_after Nothing (seen ++ more) ≡ frames ++ frames_after rest more =
-    frames_after-append Nothing seen more ∙ (ap (λ l. l ++ frames_after (rest_after Nothing seen) more) (sym frames_are) ∙ ap (λ r. frames ++ frames_after r more) (sym rest_is)) in
-    let rest_then : rest_after Nothing (seen ++ more) ≡ rest_after rest more = rest_after-append Nothing seen more ∙ ap (λ r. rest_after r more) (sym rest_is) in
+    frames_after-append Nothing seen more
+    ∙ (ap (λ l. l ++ frames_after (rest_after Nothing seen) more) (sym frames_are)
+    ∙ ap (λ r. frames ++ frames_after r more) (sym rest_is)) in
+    let rest_then : rest_after Nothing (seen ++ more) ≡ rest_after rest more =
+    rest_after-append Nothing seen more ∙ ap (λ r. rest_after r more) (sym rest_is) in
     subst (λ (r : Rest). Reads (seen ++ more) (frames ++ frames_after rest more) r) rest_then
     (subst (λ (l : List Received). Reads (seen ++ more) l (rest_after Nothing (seen ++ more))) frames_then (reads_from (seen ++ more)))
 
@@ -170,11 +199,13 @@ takes_first seen frames rest piece reads =
     record {
       within = front.within;
       through = subst (λ (r : Rest). Reads (seen ++ take f.taken piece) (frames ++ frame_list f.frame) r) front.left
-          (subst (λ (l : List Received). Reads (seen ++ take f.taken piece) (frames ++ l) (rest_after rest (take f.taken piece))) front.frames
+          (subst (λ (l : List Received). Reads (seen ++ take f.taken piece) (frames ++ l)
+          (rest_after rest (take f.taken piece))) front.frames
           (reads_more seen frames rest (take f.taken piece) reads));
       none_before = λ k below. (
         rest_after rest (take k piece),
-        subst (λ (l : List Received). Reads (seen ++ take k piece) l (rest_after rest (take k piece))) (ap (λ l. frames ++ l) (front.none_before k below) ∙ append-nil frames)
+        subst (λ (l : List Received). Reads (seen ++ take k piece) l (rest_after rest (take k piece)))
+            (ap (λ l. frames ++ l) (front.none_before k below) ∙ append-nil frames)
             (reads_more seen frames rest (take k piece) reads),
       );
       all = front.all;
@@ -182,17 +213,20 @@ takes_first seen frames rest piece reads =
 
 -- what callers of `feed` learn beside the number, the frame and the rest themselves
 pub record Feeds (rest : Rest) (piece : List ℕ) (taken : ℕ) (frame : Option Received) : Type 0 where
-  pub first : (seen : List ℕ) (frames : List Received) → Reads seen frames rest → TakesFirst seen frames piece taken frame (fed rest piece).rest
+  pub first : (seen : List ℕ) (frames : List Received) → Reads seen frames rest
+      → TakesFirst seen frames piece taken frame (fed rest piece).rest
   pub goes_on : GoesOn rest piece taken frame (fed rest piece).rest
 
-pub feeds : (rest : Rest) (piece : List ℕ) (taken : ℕ) (frame : Option Received) → taken ≡ (fed rest piece).taken → frame ≡ (fed rest piece).frame → Feeds rest piece taken frame
+pub feeds : (rest : Rest) (piece : List ℕ) (taken : ℕ) (frame : Option Received) → taken ≡ (fed rest piece).taken
+    → frame ≡ (fed rest piece).frame → Feeds rest piece taken frame
 feeds rest piece taken frame taken_is frame_is =
     subst (λ (n : ℕ). Feeds rest piece n frame) (sym taken_is)
     (subst (λ (f : Option Received). Feeds rest piece (fed rest piece).taken f) (sym frame_is)
     (record { first = λ seen frames reads. takes_first seen frames rest piece reads; goes_on = goes_on rest piece }))
 
 -- what is one frame to the turns is one frame to the grammar
-pub reads_one : (bytes : List ℕ) (frame : Received) → fed Nothing bytes ≡ record { taken = length bytes; frame = Some frame; rest = Nothing } → Reads bytes (frame ∷ []) Nothing
+pub reads_one : (bytes : List ℕ) (frame : Received)
+    → fed Nothing bytes ≡ record { taken = length bytes; frame = Some frame; rest = Nothing } → Reads bytes (frame ∷ []) Nothing
 reads_one bytes frame is =
     let first = takes_first [] [] Nothing bytes (reads_from []) in
     let whole : take (length bytes) bytes ≡ bytes = take_all (length bytes) bytes (omega arith) in

@@ -1,5 +1,6 @@
 -- What one more inner unit makes of the data of a text.
-use Rattle.std.proofs.Common.{◌≡◌, ℕ, ◌≤◌, List, [], ◌∷◌, ◌++◌, length, Bool, true, false, if◌then◌else◌, refl, ap, ◌∙◌, arith, inl, inr, length-append, append-nil}
+use Rattle.std.proofs.Common.{◌≡◌, ℕ, ◌≤◌, List, [], ◌∷◌, ◌++◌, length, Bool, true, false, if◌then◌else◌, refl, ap, ◌∙◌, arith, inl, inr}
+use Rattle.std.proofs.Common.{length-append, append-nil}
 use Rattle.std.specs.Prelude.{◌||◌, nat_lt, flat_map, Option, Some, None}
 use Rattle.std.specs.List.{list_any}
 use Rattle.std.proofs.lemmas.Bool.{cases_lt, lt-ltb, le-ltb}
@@ -23,10 +24,18 @@ kept_of-push true held byte = refl
 kept_of-push false held byte =
     elim (cases_lt (length held) 4096) [
       | inl below ↦
-          rw (le-ltb 4096 (length (held ++ byte ∷ [])) (omega (arith, length-append held (byte ∷ []))), le-ltb 4096 (length held) (omega arith))
+          rw (
+            le-ltb 4096 (length (held ++ byte ∷ [])) (omega (arith, length-append held (byte ∷ []))),
+            le-ltb 4096
+                (length held) (omega arith),
+          )
           (rw (lt-ltb (length held) 4096 below))
       | inr full ↦
-          rw (lt-ltb 4096 (length (held ++ byte ∷ [])) (omega (arith, length-append held (byte ∷ []))), full-kept_with (nat_lt 4096 (length held)) held byte full)
+          rw (
+            lt-ltb 4096 (length (held ++ byte ∷ [])) (omega (arith, length-append held (byte ∷ []))),
+            full-kept_with
+                (nat_lt 4096 (length held)) held byte full,
+          )
     ]
 
 kept_of-stray : (bad : Bool) (held : List ℕ) → kept_of (bad || true) held ≡ None
@@ -38,7 +47,9 @@ kept_of-same true held = refl
 kept_of-same false held = refl
 
 -- `kept` of one more inner unit, taken apart
-kept-append : (inners : List Inner) (inner : Inner) → kept (inners ++ inner ∷ []) ≡ kept_of (list_any is_stray inners || (is_stray inner || false)) (flat_map data_of_inner inners ++ (data_of_inner inner ++ []))
+kept-append : (inners : List Inner) (inner : Inner)
+    → kept (inners ++ inner ∷ []) ≡ kept_of (list_any is_stray inners || (is_stray inner || false))
+    (flat_map data_of_inner inners ++ (data_of_inner inner ++ []))
 unfolding kept
 kept-append inners inner = rw (list_any-append is_stray inners (inner ∷ []), flat_map-append data_of_inner inners (inner ∷ []))
 
@@ -54,7 +65,8 @@ pub kept-fill : (inners : List Inner) → kept (inners ++ fill ∷ []) ≡ kept 
 unfolding kept
 kept-fill inners =
     kept-append inners fill
-    ∙ (ap (kept_of (list_any is_stray inners || false)) (append-nil (flat_map data_of_inner inners)) ∙ kept_of-same (list_any is_stray inners) (flat_map data_of_inner inners))
+    ∙ (ap (kept_of (list_any is_stray inners || false)) (append-nil (flat_map data_of_inner inners))
+    ∙ kept_of-same (list_any is_stray inners) (flat_map data_of_inner inners))
 
 pub kept-stray : (inners : List Inner) (byte : ℕ) → kept (inners ++ stray byte ∷ []) ≡ None
 unfolding kept

@@ -1,11 +1,12 @@
 -- What was written is read back.
-use Rattle.std.proofs.Common.{◌≡◌, ℕ, ◌+◌, ◌<◌, ◌≤◌, ◌==◌, List, [], ◌∷◌, ◌++◌, length, Bool, true, false, if◌then◌else◌, refl, ap, sym, ◌∙◌, arith, append_assoc, append-nil, length-append}
+use Rattle.std.proofs.Common.{◌≡◌, ℕ, ◌+◌, ◌<◌, ◌≤◌, ◌==◌, List, [], ◌∷◌, ◌++◌, length, Bool, true, false, if◌then◌else◌, refl, ap, sym}
+use Rattle.std.proofs.Common.{◌∙◌, arith, append_assoc, append-nil, length-append}
 use Rattle.std.specs.Prelude.{flat_map, Option, Some}
 use Rattle.std.proofs.lemmas.Bool.{eqb-true, lt-ltb}
 use Rattle.njh_bisync.specs.Frames.{Text}
 use Rattle.njh_bisync.specs.Reading.{Nothing, InText, Reads}
 use Rattle.njh_bisync.specs.Fed.{turn, Fed, ahead, fed, kept_with}
-use Rattle.njh_bisync.specs.Written.{spelled, text_bytes, control_bytes, control_frame}
+use Rattle.njh_bisync.specs.Written.{bytes_of_data, text_bytes, control_bytes, control_frame}
 use Rattle.njh_bisync.specs.declared.frame.Control.{Control}
 use Rattle.njh_bisync.specs.declared.frame.Control.TheVariants.{Enquiry, Ack0, Nak}
 use Rattle.njh_bisync.proofs.FedLaws.{reads_one}
@@ -19,40 +20,46 @@ ahead-ahead f =
     ap (λ (n : ℕ). record f { taken = n }) e
 
 -- one byte of data, as it is written
-spelled-fed : (held : List ℕ) (byte : ℕ) (same : Bool) (more : List ℕ) → (byte == 0x10) ≡ same → length held < 4096
+data_byte-fed : (held : List ℕ) (byte : ℕ) (same : Bool) (more : List ℕ) → (byte == 0x10) ≡ same → length held < 4096
     → fed (InText (Some held) false) ((if same then 0x10 ∷ 0x10 ∷ [] else byte ∷ []) ++ more)
     ≡ ahead (length (if same then 0x10 ∷ 0x10 ∷ [] else byte ∷ [])) (fed (InText (Some (held ++ byte ∷ [])) false) more)
 unfolding turn
-spelled-fed held byte true more is room =
+data_byte-fed held byte true more is room =
     ahead-ahead (fed (InText (kept_with (Some held) 0x10) false) more)
     ∙ (ap (λ (h : Option (List ℕ)). ahead 2 (fed (InText h false) more)) (room-kept_with held 0x10 room)
     ∙ ap (λ b. ahead 2 (fed (InText (Some (held ++ b ∷ [])) false) more)) (sym (eqb-true byte 0x10 is)))
-spelled-fed held byte false more is room = rw (is, lt-ltb (length held) 4096 room)
+data_byte-fed held byte false more is room = rw (is, lt-ltb (length held) 4096 room)
 
 -- a text that ended so many bytes ahead
 abbrev told : ℕ → List ℕ → Fed
 told n held = record { taken = n; frame = Some (Text held); rest = Nothing }
 
 read_data : (done held more : List ℕ) → length done + length held ≤ 4096
-    → fed (InText (Some done) false) (flat_map spelled held ++ (0x10 ∷ 0x26 ∷ more)) ≡ told (length (flat_map spelled held) + 2) (done ++ held)
+    → fed (InText (Some done) false) (flat_map bytes_of_data held ++ (0x10 ∷ 0x26 ∷ more)) ≡ told
+    (length (flat_map bytes_of_data held) + 2) (done ++ held)
 unfolding turn
 read_data done [] more room = ap (told 2) (sym (append-nil done))
 read_data done (byte ∷ held) more room =
-    let rest = flat_map spelled held ++ (0x10 ∷ 0x26 ∷ more) in
+    let rest = flat_map bytes_of_data held ++ (0x10 ∷ 0x26 ∷ more) in
     let longer : length (done ++ byte ∷ []) + length held ≤ 4096 = omega (arith, length-append done (byte ∷ [])) in
-    let added : length (spelled byte) + (length (flat_map spelled held) + 2) ≡ length (spelled byte ++ flat_map spelled held) + 2 = omega (arith, length-append (spelled byte) (flat_map spelled held)) in
-    ap (fed (InText (Some done) false)) (append_assoc (spelled byte) (flat_map spelled held) (0x10 ∷ 0x26 ∷ more))
-    ∙ (spelled-fed done byte (byte == 0x10) rest refl (omega arith)
-    ∙ (ap (ahead (length (spelled byte))) (read_data (done ++ byte ∷ []) held more longer)
+    let added : length (bytes_of_data byte) + (length (flat_map bytes_of_data held) + 2) ≡ length
+    (bytes_of_data byte ++ flat_map bytes_of_data held) + 2 =
+    omega (arith, length-append (bytes_of_data byte) (flat_map bytes_of_data held)) in
+    ap (fed (InText (Some done) false)) (append_assoc (bytes_of_data byte) (flat_map bytes_of_data held) (0x10 ∷ 0x26 ∷ more))
+    ∙ (data_byte-fed done byte (byte == 0x10) rest refl (omega arith)
+    ∙ (ap (ahead (length (bytes_of_data byte))) (read_data (done ++ byte ∷ []) held more longer)
     ∙ (ap (λ n. told n ((done ++ byte ∷ []) ++ held)) added
-    ∙ ap (told (length (spelled byte ++ flat_map spelled held) + 2)) (append_assoc done (byte ∷ []) held))))
+    ∙ ap (told (length (bytes_of_data byte ++ flat_map bytes_of_data held) + 2)) (append_assoc done (byte ∷ []) held))))
 
 pub text_read_back : (held more : List ℕ) → length held ≤ 4096
     → fed Nothing (text_bytes held ++ more) ≡ record { taken = length (text_bytes held); frame = Some (Text held); rest = Nothing }
 unfolding turn text_bytes
 text_read_back held more room =
-    let long : 1 + (1 + (length (flat_map spelled held) + 2)) ≡ length (0x10 ∷ 0x02 ∷ flat_map spelled held ++ 0x10 ∷ 0x26 ∷ []) = omega (arith, length-append (flat_map spelled held) (0x10 ∷ 0x26 ∷ [])) in
-    ap (λ bytes. ahead 1 (ahead 1 (fed (InText (Some []) false) bytes))) (append_assoc (flat_map spelled held) (0x10 ∷ 0x26 ∷ []) more)
+    let long : 1 + (1 + (length (flat_map bytes_of_data held) + 2)) ≡ length
+    (0x10 ∷ 0x02 ∷ flat_map bytes_of_data held ++ 0x10 ∷ 0x26 ∷ []) =
+    omega (arith, length-append (flat_map bytes_of_data held) (0x10 ∷ 0x26 ∷ [])) in
+    ap (λ bytes. ahead 1 (ahead 1 (fed (InText (Some []) false) bytes)))
+    (append_assoc (flat_map bytes_of_data held) (0x10 ∷ 0x26 ∷ []) more)
     ∙ (ap (λ f. ahead 1 (ahead 1 f)) (read_data [] held more (omega arith))
     ∙ ap (λ n. told n held) long)
 
@@ -61,7 +68,8 @@ text_reads held room =
     reads_one (text_bytes held) (Text held) (ap (fed Nothing) (sym (append-nil (text_bytes held))) ∙ text_read_back held [] room)
 
 pub control_read_back : (control : Control) (more : List ℕ)
-    → fed Nothing (control_bytes control ++ more) ≡ record { taken = length (control_bytes control); frame = Some (control_frame control); rest = Nothing }
+    → fed Nothing (control_bytes control ++ more)
+    ≡ record { taken = length (control_bytes control); frame = Some (control_frame control); rest = Nothing }
 unfolding turn
 control_read_back Enquiry more = refl
 control_read_back Ack0 more = refl
@@ -69,4 +77,5 @@ control_read_back Nak more = refl
 
 pub control_reads : (control : Control) → Reads (control_bytes control) (control_frame control ∷ []) Nothing
 control_reads control =
-    reads_one (control_bytes control) (control_frame control) (ap (fed Nothing) (sym (append-nil (control_bytes control))) ∙ control_read_back control [])
+    reads_one (control_bytes control) (control_frame control)
+    (ap (fed Nothing) (sym (append-nil (control_bytes control))) ∙ control_read_back control [])

@@ -1,11 +1,14 @@
 -- A reader of units, one byte after another: what it has read is the one splitting of the bytes.
-use Rattle.std.proofs.Common.{◌≡◌, ◌≢◌, ℕ, ◌==◌, List, [], ◌∷◌, ◌++◌, Bool, true, false, if◌then◌else◌, refl, ap, sym, ◌∙◌, append_assoc, append-nil}
+use Rattle.std.proofs.Common.{◌≡◌, ◌≢◌, ℕ, ◌==◌, List, [], ◌∷◌, ◌++◌, Bool, true, false, if◌then◌else◌, refl, ap, sym, ◌∙◌, append_assoc}
+use Rattle.std.proofs.Common.{append-nil}
 use Rattle.std.specs.Prelude.{flat_map, Option, Some, None}
 use Rattle.std.specs.List.{AllByRecursion, cons_option}
 use Rattle.std.specs.Option.{option_to_list, option_and_then}
 use Rattle.std.proofs.lemmas.Bool.{eqb-true, eqb-false, ne_eqb}
 use Rattle.std.proofs.lemmas.List.Concat.{flat_map-append}
-use Rattle.njh_bisync.specs.Frames.{Inner, plain, doubled, fill, stray, bytes_of_inner, IsInner, End, etb, etx, enq, bytes_of_end, LineUnit, enquiry, ack0, nak, eot, text, after_soh, after_dle, single, bytes_of_unit, IsUnit, kept, frame_of, frames_of, Received, Partial, nothing, soh, dle, unended, bytes_of_partial, IsPartial}
+use Rattle.njh_bisync.specs.Frames.{Inner, plain, doubled, fill, stray, bytes_of_inner, IsInner, End, etb, etx, enq, bytes_of_end, LineUnit}
+use Rattle.njh_bisync.specs.Frames.{enquiry, ack0, nak, eot, text, after_soh, after_dle, single, bytes_of_unit, IsUnit, kept, frame_of}
+use Rattle.njh_bisync.specs.Frames.{frames_of, Received, Partial, nothing, soh, dle, unended, bytes_of_partial, IsPartial}
 use Rattle.njh_bisync.specs.Reading.{InText, rest_of}
 use Rattle.njh_bisync.specs.Fed.{Turn, on_to, ends, turn, frames_after, rest_after}
 use Rattle.njh_bisync.proofs.KeptLaws.{kept-none, kept-plain, kept-doubled, kept-fill, kept-stray}
@@ -42,7 +45,8 @@ step (unended inners true) byte =
 
 -- A step keeps the bytes, reads what the grammar allows, and agrees with the turn of the rest.
 pub record Agrees (partial : Partial) (byte : ℕ) (turned : Turn) (stepped : Step) : Type 0 where
-  pub bytes : bytes_of_partial partial ++ byte ∷ [] ≡ flat_map bytes_of_unit (option_to_list stepped.unit) ++ bytes_of_partial stepped.partial
+  pub bytes : bytes_of_partial partial ++ byte ∷ [] ≡ flat_map bytes_of_unit
+      (option_to_list stepped.unit) ++ bytes_of_partial stepped.partial
   pub each : AllByRecursion IsUnit (option_to_list stepped.unit)
   pub is_partial : IsPartial stepped.partial
   pub frame : turned.frame ≡ option_and_then frame_of stepped.unit
@@ -60,7 +64,8 @@ tested : (partial : Partial) (byte value : ℕ) (t t' : Turn) (s s' : Step)
     → Agrees partial byte (if byte == value then t else t') (if byte == value then s else s')
 tested partial byte value t t' s s' same other = tested_at partial byte value t t' s s' (byte == value) refl same other
 
-each-push : (inners : List Inner) (inner : Inner) → AllByRecursion IsInner inners → IsInner inner → AllByRecursion IsInner (inners ++ inner ∷ [])
+each-push : (inners : List Inner) (inner : Inner) → AllByRecursion IsInner inners → IsInner inner
+    → AllByRecursion IsInner (inners ++ inner ∷ [])
 each-push [] inner each is = (is, tt)
 each-push (first ∷ inners) inner each is = (each.0, each-push inners inner each.1 is)
 
@@ -68,13 +73,16 @@ each-push (first ∷ inners) inner each is = (each.0, each-push inners inner eac
 bytes-dangling : (inners : List Inner) (inner : Inner) (byte : ℕ) → 0x10 ∷ byte ∷ [] ≡ bytes_of_inner inner
     → (flat_map bytes_of_inner inners ++ 0x10 ∷ []) ++ byte ∷ [] ≡ flat_map bytes_of_inner (inners ++ inner ∷ [])
 bytes-dangling inners inner byte is =
-    append_assoc (flat_map bytes_of_inner inners) (0x10 ∷ []) (byte ∷ []) ∙ (ap (λ bytes. flat_map bytes_of_inner inners ++ bytes) (is ∙ sym (append-nil _)) ∙ sym (flat_map-append bytes_of_inner inners (inner ∷ [])))
+    append_assoc (flat_map bytes_of_inner inners) (0x10 ∷ []) (byte ∷ [])
+    ∙ (ap (λ bytes. flat_map bytes_of_inner inners ++ bytes) (is ∙ sym (append-nil _))
+    ∙ sym (flat_map-append bytes_of_inner inners (inner ∷ [])))
 
 -- an open 10 and the byte after it are an end
 bytes-ended : (inners : List Inner) (end : End) (byte : ℕ) → 0x10 ∷ byte ∷ [] ≡ bytes_of_end end
     → (flat_map bytes_of_inner inners ++ 0x10 ∷ []) ++ byte ∷ [] ≡ ((flat_map bytes_of_inner inners ++ bytes_of_end end) ++ []) ++ []
 bytes-ended inners end byte is =
-    append_assoc (flat_map bytes_of_inner inners) (0x10 ∷ []) (byte ∷ []) ∙ (ap (λ bytes. flat_map bytes_of_inner inners ++ bytes) is ∙ (sym (append-nil _) ∙ sym (append-nil _)))
+    append_assoc (flat_map bytes_of_inner inners) (0x10 ∷ []) (byte ∷ [])
+    ∙ (ap (λ bytes. flat_map bytes_of_inner inners ++ bytes) is ∙ (sym (append-nil _) ∙ sym (append-nil _)))
 
 -- an open 10 and the byte after it go on with the text
 inside : (inners : List Inner) (inner : Inner) (byte : ℕ) (held : Option (List ℕ)) → AllByRecursion IsInner inners → IsInner inner
@@ -103,20 +111,34 @@ ended inners end byte frame each bytes is = record {
 pub agrees : (partial : Partial) (byte : ℕ) → IsPartial partial → Agrees partial byte (turn (rest_of partial) byte) (step partial byte)
 unfolding turn
 agrees nothing byte is =
-    tested nothing byte 0x01 _ _ _ _ (λ e. record { bytes = ap (λ b. b ∷ []) e; each = tt; is_partial = tt; frame = refl; rest = refl }) (λ not_soh.
-    tested nothing byte 0x10 _ _ _ _ (λ e. record { bytes = ap (λ b. b ∷ []) e; each = tt; is_partial = tt; frame = refl; rest = refl }) (λ not_dle.
-    tested nothing byte 0x3D _ _ _ _ (λ e. record { bytes = ap (λ b. b ∷ []) e; each = (tt, tt); is_partial = tt; frame = refl; rest = refl }) (λ not_nak.
-    tested nothing byte 0x37 _ _ _ _ (λ e. record { bytes = ap (λ b. b ∷ []) e; each = (tt, tt); is_partial = tt; frame = refl; rest = refl }) (λ not_eot.
+    tested nothing byte 0x01 _ _ _ _
+    (λ e. record { bytes = ap (λ b. b ∷ []) e; each = tt; is_partial = tt; frame = refl; rest = refl }) (λ not_soh.
+    tested nothing byte 0x10 _ _ _ _
+    (λ e. record { bytes = ap (λ b. b ∷ []) e; each = tt; is_partial = tt; frame = refl; rest = refl }) (λ not_dle.
+    tested nothing byte 0x3D _ _ _ _
+    (λ e. record { bytes = ap (λ b. b ∷ []) e; each = (tt, tt); is_partial = tt; frame = refl; rest = refl }) (λ not_nak.
+    tested nothing byte 0x37 _ _ _ _
+    (λ e. record { bytes = ap (λ b. b ∷ []) e; each = (tt, tt); is_partial = tt; frame = refl; rest = refl }) (λ not_eot.
     record { bytes = refl; each = ((not_soh, not_dle, not_nak, not_eot), tt); is_partial = tt; frame = refl; rest = refl }))))
 agrees soh byte is =
-    tested soh byte 0x2D _ _ _ _ (λ e. record { bytes = ap (λ b. 0x01 ∷ b ∷ []) e; each = (tt, tt); is_partial = tt; frame = refl; rest = refl }) (λ not_enq.
+    tested soh byte 0x2D _ _ _ _
+    (λ e. record { bytes = ap (λ b. 0x01 ∷ b ∷ []) e; each = (tt, tt); is_partial = tt; frame = refl; rest = refl }) (λ not_enq.
     record { bytes = refl; each = (not_enq, tt); is_partial = tt; frame = refl; rest = refl })
 agrees dle byte is =
-    tested dle byte 0x70 _ _ _ _ (λ e. record { bytes = ap (λ b. 0x10 ∷ b ∷ []) e; each = (tt, tt); is_partial = tt; frame = refl; rest = refl }) (λ not_ack.
-    tested dle byte 0x02 _ _ _ _ (λ e. record { bytes = ap (λ b. 0x10 ∷ b ∷ []) e; each = tt; is_partial = tt; frame = refl; rest = kept-none }) (λ not_stx.
+    tested dle byte 0x70 _ _ _ _
+    (λ e. record { bytes = ap (λ b. 0x10 ∷ b ∷ []) e; each = (tt, tt); is_partial = tt; frame = refl; rest = refl }) (λ not_ack.
+    tested dle byte 0x02 _ _ _ _
+    (λ e. record { bytes = ap (λ b. 0x10 ∷ b ∷ []) e; each = tt; is_partial = tt; frame = refl; rest = kept-none }) (λ not_stx.
     record { bytes = refl; each = ((not_ack, not_stx), tt); is_partial = tt; frame = refl; rest = refl }))
 agrees (unended inners false) byte is =
-    tested (unended inners false) byte 0x10 _ _ _ _ (λ e. record { bytes = ap (λ b. 0x10 ∷ 0x02 ∷ flat_map bytes_of_inner inners ++ b ∷ []) e; each = tt; is_partial = is; frame = refl; rest = refl }) (λ not_dle.
+    tested (unended inners false) byte 0x10 _ _ _ _
+    (λ e. record {
+      bytes = ap (λ b. 0x10 ∷ 0x02 ∷ flat_map bytes_of_inner inners ++ b ∷ []) e;
+      each = tt;
+      is_partial = is;
+      frame = refl;
+      rest = refl;
+    }) (λ not_dle.
     record {
       bytes = ap (λ more. 0x10 ∷ 0x02 ∷ more) (sym (flat_map-append bytes_of_inner inners (plain byte ∷ [])));
       each = tt;
@@ -126,12 +148,17 @@ agrees (unended inners false) byte is =
     })
 agrees (unended inners true) byte is =
     let P = unended inners true in
-    tested P byte 0x10 _ _ _ _ (λ e. inside inners doubled byte _ is tt (ap (λ b. 0x10 ∷ b ∷ []) e) (ap (λ held. InText held false) (sym (kept-doubled inners)))) (λ not_dle.
-    tested P byte 0x32 _ _ _ _ (λ e. inside inners fill byte _ is tt (ap (λ b. 0x10 ∷ b ∷ []) e) (ap (λ held. InText held false) (sym (kept-fill inners)))) (λ not_syn.
+    tested P byte 0x10 _ _ _ _
+    (λ e. inside inners doubled byte _ is tt (ap (λ b. 0x10 ∷ b ∷ []) e)
+    (ap (λ held. InText held false) (sym (kept-doubled inners)))) (λ not_dle.
+    tested P byte 0x32 _ _ _ _
+    (λ e. inside inners fill byte _ is tt (ap (λ b. 0x10 ∷ b ∷ []) e)
+    (ap (λ held. InText held false) (sym (kept-fill inners)))) (λ not_syn.
     tested P byte 0x26 _ _ _ _ (λ e. ended inners etb byte _ is (ap (λ b. 0x10 ∷ b ∷ []) e) refl) (λ not_etb.
     tested P byte 0x03 _ _ _ _ (λ e. ended inners etx byte _ is (ap (λ b. 0x10 ∷ b ∷ []) e) refl) (λ not_etx.
     tested P byte 0x2D _ _ _ _ (λ e. ended inners enq byte _ is (ap (λ b. 0x10 ∷ b ∷ []) e) refl) (λ not_enq.
-    inside inners (stray byte) byte _ is (not_dle, not_syn, not_etb, not_etx, not_enq) refl (ap (λ held. InText held false) (sym (kept-stray inners byte))))))))
+    inside inners (stray byte) byte _ is (not_dle, not_syn, not_etb, not_etx, not_enq) refl
+    (ap (λ held. InText held false) (sym (kept-stray inners byte))))))))
 
 -- what bytes after a rest read as: the units that end in them, and the rest then
 pub record Run : Type 0 where
@@ -154,7 +181,8 @@ pub record RunsAs (partial : Partial) (bytes : List ℕ) (r : Run) : Type 0 wher
   pub rest : rest_after (rest_of partial) bytes ≡ rest_of r.partial
 
 -- what a byte makes of a front, and what the bytes after it make of that
-joined : (front next read read_later last : List ℕ) (byte : ℕ) (bytes : List ℕ) → front ++ byte ∷ [] ≡ read ++ next → next ++ bytes ≡ read_later ++ last
+joined : (front next read read_later last : List ℕ) (byte : ℕ) (bytes : List ℕ) → front ++ byte ∷ [] ≡ read ++ next
+    → next ++ bytes ≡ read_later ++ last
     → front ++ byte ∷ bytes ≡ (read ++ read_later) ++ last
 joined front next read read_later last byte bytes one more =
     sym (append_assoc front (byte ∷ []) bytes)
@@ -166,16 +194,20 @@ whole-after : (unit : Option LineUnit) (partial next : Partial) (byte : ℕ) (by
     → bytes_of_partial next ++ bytes ≡ flat_map bytes_of_unit r.units ++ bytes_of_partial r.partial
     → bytes_of_partial partial ++ byte ∷ bytes ≡ flat_map bytes_of_unit (cons_option unit r.units) ++ bytes_of_partial r.partial
 whole-after None partial next byte bytes r one more =
-    joined (bytes_of_partial partial) (bytes_of_partial next) [] (flat_map bytes_of_unit r.units) (bytes_of_partial r.partial) byte bytes one more
+    joined (bytes_of_partial partial) (bytes_of_partial next) [] (flat_map bytes_of_unit r.units)
+    (bytes_of_partial r.partial) byte bytes one more
 whole-after (Some unit) partial next byte bytes r one more =
-    joined (bytes_of_partial partial) (bytes_of_partial next) (bytes_of_unit unit) (flat_map bytes_of_unit r.units) (bytes_of_partial r.partial) byte bytes
+    joined (bytes_of_partial partial) (bytes_of_partial next) (bytes_of_unit unit) (flat_map bytes_of_unit r.units)
+    (bytes_of_partial r.partial) byte bytes
     (one ∙ ap (λ l. l ++ bytes_of_partial next) (append-nil (bytes_of_unit unit))) more
 
-each-after : (unit : Option LineUnit) (units : List LineUnit) → AllByRecursion IsUnit (option_to_list unit) → AllByRecursion IsUnit units → AllByRecursion IsUnit (cons_option unit units)
+each-after : (unit : Option LineUnit) (units : List LineUnit) → AllByRecursion IsUnit (option_to_list unit)
+    → AllByRecursion IsUnit units → AllByRecursion IsUnit (cons_option unit units)
 each-after None units one more = more
 each-after (Some unit) units one more = (one.0, more)
 
-frames-after : (unit : Option LineUnit) (units : List LineUnit) → cons_option (option_and_then frame_of unit) (frames_of units) ≡ frames_of (cons_option unit units)
+frames-after : (unit : Option LineUnit) (units : List LineUnit)
+    → cons_option (option_and_then frame_of unit) (frames_of units) ≡ frames_of (cons_option unit units)
 frames-after None units = refl
 frames-after (Some unit) units = refl
 
@@ -185,7 +217,8 @@ runs_as partial (byte ∷ bytes) is =
     let one = agrees partial byte is in
     let more = runs_as (step partial byte).partial bytes one.is_partial in
     record {
-      whole = whole-after (step partial byte).unit partial (step partial byte).partial byte bytes (run (step partial byte).partial bytes) one.bytes more.whole;
+      whole = whole-after (step partial byte).unit partial (step partial byte).partial byte bytes
+          (run (step partial byte).partial bytes) one.bytes more.whole;
       each = each-after (step partial byte).unit _ one.each more.each;
       is_partial = more.is_partial;
       frames = rw (one.frame, one.rest, more.frames) (frames-after (step partial byte).unit (run (step partial byte).partial bytes).units);
@@ -193,10 +226,12 @@ runs_as partial (byte ∷ bytes) is =
     }
 
 -- what a byte does that isn't any of those that mean something there
-step-plain : (inners : List Inner) (byte : ℕ) → byte ≢ 0x10 → step (unended inners false) byte ≡ goes_on (unended (inners ++ plain byte ∷ []) false)
+step-plain : (inners : List Inner) (byte : ℕ) → byte ≢ 0x10
+    → step (unended inners false) byte ≡ goes_on (unended (inners ++ plain byte ∷ []) false)
 step-plain inners byte is = rw (ne_eqb byte 0x10 is)
 
-step-stray : (inners : List Inner) (byte : ℕ) → IsInner (stray byte) → step (unended inners true) byte ≡ goes_on (unended (inners ++ stray byte ∷ []) false)
+step-stray : (inners : List Inner) (byte : ℕ) → IsInner (stray byte)
+    → step (unended inners true) byte ≡ goes_on (unended (inners ++ stray byte ∷ []) false)
 step-stray inners byte is =
     rw (ne_eqb byte 0x10 is.0, ne_eqb byte 0x32 is.1, ne_eqb byte 0x26 is.2, ne_eqb byte 0x03 is.3, ne_eqb byte 0x2D is.4)
 
@@ -229,12 +264,14 @@ run-inners done (stray byte ∷ inners) more each =
     ap (run_after (flat_map bytes_of_inner inners ++ more)) (step-stray done byte each.0)
     ∙ (run-inners (done ++ stray byte ∷ []) inners more each.1 ∙ regrouped done inners (stray byte) more)
 
-run-end : (inners : List Inner) (end : End) (more : List ℕ) → run (unended inners false) (bytes_of_end end ++ more) ≡ after_unit (Some (text inners end)) (run nothing more)
+run-end : (inners : List Inner) (end : End) (more : List ℕ)
+    → run (unended inners false) (bytes_of_end end ++ more) ≡ after_unit (Some (text inners end)) (run nothing more)
 run-end inners etb more = refl
 run-end inners etx more = refl
 run-end inners enq more = refl
 
-run-unit : (unit : LineUnit) (more : List ℕ) → IsUnit unit → run nothing (bytes_of_unit unit ++ more) ≡ after_unit (Some unit) (run nothing more)
+run-unit : (unit : LineUnit) (more : List ℕ) → IsUnit unit
+    → run nothing (bytes_of_unit unit ++ more) ≡ after_unit (Some unit) (run nothing more)
 run-unit enquiry more is = refl
 run-unit ack0 more is = refl
 run-unit nak more is = refl
@@ -250,7 +287,8 @@ run-partial : (partial : Partial) → IsPartial partial → run nothing (bytes_o
 run-partial nothing is = refl
 run-partial soh is = refl
 run-partial dle is = refl
-run-partial (unended inners false) is = ap (run (unended [] false)) (sym (append-nil (flat_map bytes_of_inner inners))) ∙ run-inners [] inners [] is
+run-partial (unended inners false) is =
+    ap (run (unended [] false)) (sym (append-nil (flat_map bytes_of_inner inners))) ∙ run-inners [] inners [] is
 run-partial (unended inners true) is = run-inners [] inners (0x10 ∷ []) is
 
 pub run-split : (units : List LineUnit) (partial : Partial) → AllByRecursion IsUnit units → IsPartial partial
@@ -258,4 +296,5 @@ pub run-split : (units : List LineUnit) (partial : Partial) → AllByRecursion I
 run-split [] partial each is = run-partial partial is
 run-split (unit ∷ units) partial each is =
     ap (run nothing) (append_assoc (bytes_of_unit unit) (flat_map bytes_of_unit units) (bytes_of_partial partial))
-    ∙ (run-unit unit (flat_map bytes_of_unit units ++ bytes_of_partial partial) each.0 ∙ ap (after_unit (Some unit)) (run-split units partial each.1 is))
+    ∙ (run-unit unit (flat_map bytes_of_unit units ++ bytes_of_partial partial) each.0
+    ∙ ap (after_unit (Some unit)) (run-split units partial each.1 is))

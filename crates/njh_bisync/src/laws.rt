@@ -6,6 +6,8 @@ ghost use Rattle.njh_bisync.specs.Fed.{ahead, fed, frames_after, rest_after, Goe
 ghost use Rattle.njh_bisync.specs.Written.{text_bytes, control_bytes, control_frame};
 ghost use Rattle.njh_bisync.specs.declared.frame.Control.{Control};
 
+use crate::frame::LONGEST_TEXT;
+
 /// Bytes are units and then a rest, in exactly one way.
 pub fn one_splitting()
     ensures some { (bytes : List ℕ)
@@ -50,10 +52,10 @@ pub fn fed_in_parts()
 
 /// A text that was written is read back as that text and nothing else, whatever follows.
 pub fn text_reads_back()
-    ensures fed { (held more : List ℕ) → length held ≤ 4096
+    ensures fed { (held more : List ℕ) → length held ≤ LONGEST_TEXT
         → fed Nothing (text_bytes held ++ more)
         ≡ record { taken = length (text_bytes held); frame = Some (Text held); rest = Nothing } }
-    ensures reads { (held : List ℕ) → length held ≤ 4096
+    ensures reads { (held : List ℕ) → length held ≤ LONGEST_TEXT
         → Reads (text_bytes held) (Text held ∷ []) Nothing }
 {}
 

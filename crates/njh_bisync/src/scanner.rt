@@ -3,6 +3,7 @@ ghost use Rattle.std.specs.Prelude.{◌≡◌, ◌≤◌, [], false, IfOk, optio
 ghost use Rattle.njh_bisync.specs.Fed.{turn, fed, kept_with};
 ghost use Rattle.njh_bisync.specs.Frames.{text_or_spoiled, IsShort};
 ghost use Rattle.njh_bisync.specs.Reading.{Nothing, InText};
+ghost use Rattle.njh_bisync.specs.declared.frame.TheConstants.{LONGEST_TEXT};
 
 use crate::frame::{Frame, LONGEST_TEXT};
 use crate::line_byte::{ACK_0, DLE, ENQ, EOT, ETB, ETX, NAK, SOH, STX, SYN};
@@ -11,10 +12,15 @@ use std::alloc::{AllocError, Global};
 /// Where in the grammar the bytes so far end.
 #[derive(Clone, Copy, Debug)]
 pub enum Place {
+    /// Behind a whole unit.
     Between,
+    /// Behind SOH.
     Soh,
+    /// Behind DLE outside a text.
     Dle,
+    /// Within a text, behind a whole unit.
     Inside,
+    /// Within a text, behind DLE.
     InsideDle,
 }
 
@@ -35,8 +41,8 @@ pub struct Scanner {
     place: Place,
     spoiled: bool,
     held: Vec<u8>,
-    ghost short: { vec_len held ≤ 4096 },
-    ghost room: { 4096 ≤ vec_capacity held },
+    ghost short: { vec_len held ≤ LONGEST_TEXT },
+    ghost room: { LONGEST_TEXT ≤ vec_capacity held },
 }
 
 impl Scanner {

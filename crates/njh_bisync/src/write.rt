@@ -1,8 +1,8 @@
 //! Frames written.
 ghost use Rattle.std.specs.Prelude.{◌≡◌, ◌+◌, ◌*◌, ◌≤◌, ◌++◌, length, flat_map, IsOk, OnOk, OnErr, vec_len, vec_capacity};
-ghost use Rattle.njh_bisync.specs.Written.{spelled, text_bytes, control_bytes};
+ghost use Rattle.njh_bisync.specs.Written.{bytes_of_data, text_bytes, control_bytes};
 
-use crate::frame::Control;
+use crate::frame::{Control, LONGEST_FRAME, LONGEST_TEXT};
 use crate::line_byte::{ACK_0, DLE, ENQ, ETB, NAK, SOH, STX};
 use std::alloc::AllocError;
 
@@ -11,7 +11,7 @@ use std::alloc::AllocError;
 /// It ends in DLE ETB. Where `out` has the room for it no memory is asked for.
 #[tactic(auto, using(crate::proofs::WrittenLaws::lengths), unfolding(crate::specs::Written::text_bytes))]
 pub fn put_text(data: &[u8], out: &mut Vec<u8>) -> Result<(), AllocError>
-    requires { length «data».now ≤ 4096 }
+    requires { length «data».now ≤ LONGEST_TEXT }
     ensures ok { OnOk result (out.new.items ≡ out.old.items ++ text_bytes «data».now) }
     ensures err { OnErr result
         ((out.new.items ≡ out.old.items) × (vec_capacity out.new ≡ vec_capacity out.old)) }
@@ -21,6 +21,7 @@ pub fn put_text(data: &[u8], out: &mut Vec<u8>) -> Result<(), AllocError>
         → vec_capacity out.new ≡ vec_capacity out.old }
     ensures capacity { vec_capacity out.old ≤ vec_capacity out.new }
     ensures short { length (text_bytes «data».now) ≤ 4 + 2 * length «data».now }
+    ensures longest { length (text_bytes «data».now) ≤ LONGEST_FRAME }
 {
     make_room(out, text_len(data))?;
     put_bytes(&[DLE, STX], out);
@@ -54,7 +55,7 @@ pub fn put_control(control: Control, out: &mut Vec<u8>) -> Result<(), AllocError
 /// How many bytes `put_text` appends.
 #[tactic(auto, using(crate::proofs::WrittenLaws::lengths))]
 fn text_len(data: &[u8]) -> usize
-    requires { length «data».now ≤ 4096 }
+    requires { length «data».now ≤ LONGEST_TEXT }
     ensures exact { result ≡ length (text_bytes «data».now) }
     ensures short { result ≤ 4 + 2 * length «data».now }
 {
@@ -91,8 +92,8 @@ fn put_bytes(bytes: &[u8], out: &mut Vec<u8>)
 
 /// Appends bytes with each DLE doubled, in room that is there.
 fn put_data(data: &[u8], out: &mut Vec<u8>)
-    requires { vec_len out.old + length (flat_map spelled «data».now) ≤ vec_capacity out.old }
-    ensures items { out.new.items ≡ out.old.items ++ flat_map spelled «data».now }
+    requires { vec_len out.old + length (flat_map bytes_of_data «data».now) ≤ vec_capacity out.old }
+    ensures items { out.new.items ≡ out.old.items ++ flat_map bytes_of_data «data».now }
     ensures capacity { vec_capacity out.new ≡ vec_capacity out.old }
 {
     for byte in data {

@@ -50,4 +50,5 @@ high_control Ready = omega arith
 high_control SequenceError = omega arith
 
 pub form_of-bad : (rcb : ℕ) → 0 < rcb → rcb < 0x80 → form_of rcb ≡ form.Bad
-form_of-bad rcb above below = cond-false (eqb rcb 0) _ _ (ne_eqb rcb 0 (λ e. omega arith)) ∙ cond-true (ltb rcb 0x80) _ _ (lt-ltb rcb 0x80 below)
+form_of-bad rcb above below =
+    cond-false (eqb rcb 0) _ _ (ne_eqb rcb 0 (λ e. omega arith)) ∙ cond-true (ltb rcb 0x80) _ _ (lt-ltb rcb 0x80 below)

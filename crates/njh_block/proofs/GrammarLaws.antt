@@ -1,5 +1,6 @@
 -- All the records of some bytes, by the grammar.
-use Rattle.std.proofs.Common.{◌≡◌, ℕ, zero, suc, ◌<◌, ◌≤◌, List, [], ◌∷◌, ◌++◌, length, Option, Some, None, Result, Ok, Err, refl, sym, ◌∙◌, ap, subst, append_assoc, arith}
+use Rattle.std.proofs.Common.{◌≡◌, ℕ, zero, suc, ◌<◌, ◌≤◌, List, [], ◌∷◌, ◌++◌, length, Option, Some, None, Result, Ok, Err, refl, sym}
+use Rattle.std.proofs.Common.{◌∙◌, ap, subst, append_assoc, arith}
 use Rattle.njh_record.specs.Bytes.{AreBytes}
 use Rattle.njh_record.specs.Spelling.{Spelling}
 use Rattle.njh_record.specs.Unspelled.{unspelled, ReadsAs}
@@ -7,9 +8,9 @@ use Rattle.njh_record.specs.declared.End.{End}
 use Rattle.njh_block.specs.declared.fault.BlockFault.{BlockFault}
 use Rattle.njh_block.specs.declared.fault.BlockFault.TheVariants.{TooShort, BadBcb, BadFcs, BadRcb, BadRecord}
 use Rattle.njh_block.specs.declared.rcb.Form.{Form}
-use Rattle.njh_block.specs.Blocks.{Item, First, alone, formed, first_record, with_item, items_from, read_items, items_in}
-use Rattle.njh_block.specs.Grammar.{Covers, Part, bytes_of, items_of, EachCovers, IsEnd, IsBadRcb, IsBadRecord}
-use Rattle.njh_block.proofs.ReadingLaws.{Shorter, first_record-shorter, items_in_step}
+use Rattle.njh_block.specs.Blocks.{Item, First, record_of_one_byte, record_of_form, first_record, with_item, read_items, items_in}
+use Rattle.njh_block.specs.Grammar.{Covers, Part, covered_bytes, items_of, EachCovers, IsEnd, IsBadRcb, IsBadRecord}
+use Rattle.njh_block.proofs.ReadingLaws.{items_from, Shorter, first_record-shorter, items_in_step}
 use Rattle.njh_block.proofs.Forms.{form_of-bad}
 use Rattle.njh_block.proofs.FirstLaws.{AreBytes-drop, Stands, first_record-stands, Covers-first}
 
@@ -36,14 +37,15 @@ items_in-end (b ∷ c ∷ after) is = ap (λ (x : ℕ). items_in (x ∷ c ∷ af
 
 pub items_in-bad_rcb : (after : List ℕ) → IsBadRcb after → items_in after ≡ Err BadRcb
 items_in-bad_rcb [] is = absurd is
-items_in-bad_rcb (b ∷ []) is = ap (λ (f : Form). items_from (alone f) (read_items 0)) (form_of-bad b is.0 is.1)
-items_in-bad_rcb (b ∷ c ∷ after) is = ap (λ (f : Form). items_from (formed f b c after) (read_items (suc (length after)))) (form_of-bad b is.0 is.1)
+items_in-bad_rcb (b ∷ []) is = ap (λ (f : Form). items_from (record_of_one_byte f) (read_items 0)) (form_of-bad b is.0 is.1)
+items_in-bad_rcb (b ∷ c ∷ after) is =
+    ap (λ (f : Form). items_from (record_of_form f b c after) (read_items (suc (length after)))) (form_of-bad b is.0 is.1)
 
 -- What the items that were read say of the bytes.
 pub record Split (bytes : List ℕ) (items : List Item) (Then : List ℕ → Type 0) : Type 0 where
   pub parts : List Part
   pub after : List ℕ
-  pub joined : bytes ≡ bytes_of parts ++ after
+  pub joined : bytes ≡ covered_bytes parts ++ after
   pub each : EachCovers parts after
   pub then : Then after
   pub items_are : items ≡ items_of parts
@@ -59,37 +61,45 @@ Reads bytes (Err BadFcs) = ⊥
 Split-none : (bytes : List ℕ) (Then : List ℕ → Type 0) → Then bytes → Split bytes [] Then
 Split-none bytes Then is = record { parts = []; after = bytes; joined = refl; each = tt; then = is; items_are = refl }
 
-Split-more : (i : Item) (covered rest bytes : List ℕ) (items : List Item) (Then : List ℕ → Type 0) → bytes ≡ covered ++ rest → Covers i covered rest → Split rest items Then → Split bytes (i ∷ items) Then
+Split-more : (i : Item) (covered rest bytes : List ℕ) (items : List Item) (Then : List ℕ → Type 0) → bytes ≡ covered ++ rest
+    → Covers i covered rest → Split rest items Then → Split bytes (i ∷ items) Then
 Split-more i covered rest bytes items Then joined covers s =
     record {
       parts = record { item = i; bytes = covered } ∷ s.parts;
       after = s.after;
-      joined = joined ∙ (ap (λ (b : List ℕ). covered ++ b) s.joined ∙ sym (append_assoc covered (bytes_of s.parts) s.after));
+      joined = joined ∙ (ap (λ (b : List ℕ). covered ++ b) s.joined ∙ sym (append_assoc covered (covered_bytes s.parts) s.after));
       each = (subst (λ (b : List ℕ). Covers i covered b) s.joined covers, s.each);
       then = s.then;
       items_are = ap (λ (is : List Item). i ∷ is) s.items_are;
     }
 
-Reads-more : (i : Item) (covered rest bytes : List ℕ) (read : Result (List Item) BlockFault) → bytes ≡ covered ++ rest → Covers i covered rest → Reads rest read → Reads bytes (with_item i read)
+Reads-more : (i : Item) (covered rest bytes : List ℕ) (read : Result (List Item) BlockFault) → bytes ≡ covered ++ rest
+    → Covers i covered rest → Reads rest read → Reads bytes (with_item i read)
 Reads-more i covered rest bytes (Ok items) joined covers reads = Split-more i covered rest bytes items IsEnd joined covers reads
-Reads-more i covered rest bytes (Err BadRcb) joined covers reads = (i ∷ reads.0, Split-more i covered rest bytes reads.0 IsBadRcb joined covers reads.1)
-Reads-more i covered rest bytes (Err BadRecord) joined covers reads = (i ∷ reads.0, Split-more i covered rest bytes reads.0 IsBadRecord joined covers reads.1)
+Reads-more i covered rest bytes (Err BadRcb) joined covers reads =
+    (i ∷ reads.0, Split-more i covered rest bytes reads.0 IsBadRcb joined covers reads.1)
+Reads-more i covered rest bytes (Err BadRecord) joined covers reads =
+    (i ∷ reads.0, Split-more i covered rest bytes reads.0 IsBadRecord joined covers reads.1)
 Reads-more i covered rest bytes (Err TooShort) joined covers reads = reads
 Reads-more i covered rest bytes (Err BadBcb) joined covers reads = reads
 Reads-more i covered rest bytes (Err BadFcs) joined covers reads = reads
 
 -- found: what is unspelled stands so; again: a spelling is read, whatever follows it
 module _ (found : (bytes : List ℕ) → AreBytes bytes → ReadsAs bytes (unspelled bytes))
-    (again : (spelling contents rest : List ℕ) (end : End) → Spelling spelling contents end → unspelled (spelling ++ rest) ≡ Ok (record { contents = contents; end = end; rest = rest })) where
-  pub items_in-parts : (parts : List Part) (after : List ℕ) → EachCovers parts after → items_in (bytes_of parts ++ after) ≡ with_items (items_of parts) (items_in after)
+    (again : (spelling contents rest : List ℕ) (end : End) → Spelling spelling contents end
+    → unspelled (spelling ++ rest) ≡ Ok (record { contents = contents; end = end; rest = rest })) where
+  pub items_in-parts : (parts : List Part) (after : List ℕ) → EachCovers parts after
+      → items_in (covered_bytes parts ++ after) ≡ with_items (items_of parts) (items_in after)
   items_in-parts [] after each = refl
   items_in-parts (p ∷ ps) after each =
-      ap items_in (append_assoc p.bytes (bytes_of ps) after)
-      ∙ (items_in-first (p.bytes ++ (bytes_of ps ++ after)) (record { item = p.item; rest = bytes_of ps ++ after }) (Covers-first found again p.item p.bytes (bytes_of ps ++ after) each.0)
+      ap items_in (append_assoc p.bytes (covered_bytes ps) after)
+      ∙ (items_in-first (p.bytes ++ (covered_bytes ps ++ after)) (record { item = p.item; rest = covered_bytes ps ++ after })
+      (Covers-first found again p.item p.bytes (covered_bytes ps ++ after) each.0)
       ∙ ap (with_item p.item) (items_in-parts ps after each.1))
 
   -- where no record stands at an RCB, the reading says so
-  bad_record-first : (bytes : List ℕ) (read : Result (Option First) BlockFault) → IsBadRecord bytes → Stands bytes read → read ≡ Err BadRecord
+  bad_record-first : (bytes : List ℕ) (read : Result (Option First) BlockFault) → IsBadRecord bytes → Stands bytes read
+      → read ≡ Err BadRecord
   bad_record-first [] read is stands = absurd is
   bad_record-first (rcb ∷ rest) (Ok None) is stands = absurd (omega (arith, is.0, stands))
   bad_record-first (rcb ∷ rest) (Ok (Some x)) is stands = absurd (is.1 x.item stands.0 x.rest stands.1 stands.2)
@@ -101,11 +111,15 @@ module _ (found : (bytes : List ℕ) → AreBytes bytes → ReadsAs bytes (unspe
 
   pub items_in-bad_record : (after : List ℕ) → AreBytes after → IsBadRecord after → items_in after ≡ Err BadRecord
   items_in-bad_record after bytes is =
-      items_in_step after ∙ ap (λ (f : Result (Option First) BlockFault). items_from f items_in) (bad_record-first after (first_record after) is (first_record-stands found again after bytes))
+      items_in_step after
+      ∙ ap (λ (f : Result (Option First) BlockFault). items_from f items_in)
+      (bad_record-first after (first_record after) is (first_record-stands found again after bytes))
 
-  not_read : (item : Item) (covered after bytes : List ℕ) → first_record bytes ≡ Err BadRecord → bytes ≡ covered ++ after → Covers item covered after → ⊥
+  not_read : (item : Item) (covered after bytes : List ℕ) → first_record bytes ≡ Err BadRecord → bytes ≡ covered ++ after
+      → Covers item covered after → ⊥
   not_read item covered after bytes is joined covers =
-      let read : first_record bytes ≡ Ok (Some (record { item = item; rest = after })) = ap first_record joined ∙ Covers-first found again item covered after covers in cc
+      let read : first_record bytes ≡ Ok (Some (record { item = item; rest = after })) =
+      ap first_record joined ∙ Covers-first found again item covered after covers in cc
 
   bad_record : (bytes : List ℕ) → first_record bytes ≡ Err BadRecord → Stands bytes (Err BadRecord) → IsBadRecord bytes
   bad_record [] is (rcb, rest, split, high) = absurd cc
@@ -113,7 +127,8 @@ module _ (found : (bytes : List ℕ) → AreBytes bytes → ReadsAs bytes (unspe
       let same : b ≡ rcb = cc in
       (omega arith, λ item covered after joined covers. not_read item covered after (b ∷ bytes) is joined covers)
 
-  from_first : (bytes : List ℕ) (read : Result (Option First) BlockFault) (onward : List ℕ → Result (List Item) BlockFault) → AreBytes bytes → first_record bytes ≡ read → Stands bytes read → Shorter (length bytes) read
+  from_first : (bytes : List ℕ) (read : Result (Option First) BlockFault) (onward : List ℕ → Result (List Item) BlockFault)
+      → AreBytes bytes → first_record bytes ≡ read → Stands bytes read → Shorter (length bytes) read
       → ((rest : List ℕ) → length rest < length bytes → AreBytes rest → Reads rest (onward rest)) → Reads bytes (items_from read onward)
   from_first bytes (Ok None) onward are is stands shorter reads = Split-none bytes IsEnd stands
   from_first bytes (Ok (Some x)) onward are is stands shorter reads =

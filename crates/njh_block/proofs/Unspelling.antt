@@ -1,64 +1,87 @@
--- What an unspelling leaves of the bytes.
-use Rattle.std.proofs.Common.{◌≡◌, ℕ, zero, suc, ◌-◌, ◌≤◌, Bool, true, false, leb, List, [], ◌∷◌, ◌++◌, length, take, drop, replicate, cond, Option, Some, Result, Ok, Err, refl, sym, ◌∙◌, ap, append_assoc, length-append, arith}
-use Rattle.std.proofs.lemmas.List.{take-append-drop, drop_at}
+-- What an unspelling leaves of the bytes, and what an answer of the reader of records says.
+use Rattle.std.proofs.Common.{◌≡◌, ℕ, zero, suc, ◌-◌, ◌≤◌, Bool, true, false, eqb, leb, ltb, List, [], ◌∷◌, ◌++◌, length, take, drop}
+use Rattle.std.proofs.Common.{cond, Option, Some, Result, Ok, Err, refl, sym, ◌∙◌, ap, length-drop, arith}
+use Rattle.std.proofs.lemmas.Bool.{le-leb, lt-leb}
+use Rattle.std.proofs.lemmas.List.{take-append-drop}
 use Rattle.njh_record.specs.declared.End.{End}
 use Rattle.njh_record.specs.declared.End.TheVariants.{Record, Abort}
 use Rattle.njh_record.specs.declared.RecordFault.{RecordFault}
 use Rattle.njh_record.specs.declared.RecordFault.TheVariants as faults
-use Rattle.njh_record.specs.Unspelled.{Unspelled, unspelled, unspelled_within, Fault, BadScb, Truncated, answer_to, answer_of, left_by, record_left, with_front, after_literal, after_scb, Scb, Ends, OfBlanks, OfRepeat, OfLiteral, Bad, scb_of}
+use Rattle.njh_record.specs.Spelling.{Spelling, blanks, literal, added}
+use Rattle.njh_record.specs.Reading.{Begins, Unspells}
+use Rattle.njh_record.specs.Unspelled.{Front, OfItem, OfEnd, Bad, Cut, repeat_front, literal_front, front_of, Unspelled, unspelled}
+use Rattle.njh_record.specs.Unspelled.{unspelled_within, Fault, BadScb, Truncated, with_front, ReadsAs}
 use Rattle.njh_block.specs.declared.fault.BlockFault.{BlockFault}
 use Rattle.njh_block.specs.declared.fault.BlockFault.TheVariants.{BadRecord}
-use Rattle.njh_block.specs.Blocks.{First, Data, Aborted, Long, spelled}
+use Rattle.njh_block.specs.Blocks.{First, Data, Aborted, Long, record_of_spelling}
+use Rattle.njh_block.specs.Shown.{contents_after}
 
--- it leaves an end of them
-abbrev pub Leaves : List ℕ → Result Unspelled Fault → Type 0
-Leaves bytes (Ok r) = (front : List ℕ) × (bytes ≡ front ++ r.rest)
-Leaves bytes (Err e) = Unit {0}
+-- ---- it leaves no more than there was
 
-with_front-leaves : (bytes front : List ℕ) (found : Result Unspelled Fault) → Leaves bytes found → Leaves bytes (with_front front found)
-with_front-leaves bytes front (Ok r) leaves = leaves
-with_front-leaves bytes front (Err e) leaves = tt
+abbrev FrontWithin : ℕ → Front → Type 0
+FrontWithin n (OfItem item rest) = length rest ≤ n
+FrontWithin n (OfEnd end rest) = length rest ≤ n
+FrontWithin n Bad = Unit {0}
+FrontWithin n Cut = Unit {0}
 
-Leaves-more : (front rest : List ℕ) (found : Result Unspelled Fault) → Leaves rest found → Leaves (front ++ rest) found
-Leaves-more front rest (Ok r) leaves = (front ++ leaves.0, ap (λ (bytes : List ℕ). front ++ bytes) leaves.1 ∙ sym (append_assoc front leaves.0 r.rest))
-Leaves-more front rest (Err e) leaves = tt
+either-within : (t : Bool) (n : ℕ) (one other : Front) → FrontWithin n one → FrontWithin n other → FrontWithin n (cond t one other)
+either-within true n one other within others = within
+either-within false n one other within others = others
 
-after_literal-leaves : (fits : Bool) (n b : ℕ) (again : List ℕ → Result Unspelled Fault) (rest : List ℕ) → ((bytes : List ℕ) → Leaves bytes (again bytes)) → Leaves (b ∷ rest) (after_literal fits n again rest)
-after_literal-leaves true n b again rest leaves =
-    let whole : Leaves (b ∷ (take n rest ++ drop n rest)) (again (drop n rest)) = Leaves-more (b ∷ take n rest) (drop n rest) (again (drop n rest)) (leaves (drop n rest)) in
-    with_front-leaves (b ∷ rest) (take n rest) (again (drop n rest)) (rw take-append-drop at whole)
-after_literal-leaves false n b again rest leaves = tt
+repeat-within : (n : ℕ) (rest : List ℕ) → FrontWithin (length rest) (repeat_front n rest)
+repeat-within n [] = tt
+repeat-within n (byte ∷ rest) = omega arith
 
-after_scb-leaves : (scb : Scb) (b : ℕ) (again : List ℕ → Result Unspelled Fault) (rest : List ℕ) → ((bytes : List ℕ) → Leaves bytes (again bytes)) → Leaves (b ∷ rest) (after_scb scb again rest)
-after_scb-leaves (Ends end) b again rest leaves = (b ∷ [], refl)
-after_scb-leaves (OfBlanks n) b again rest leaves = with_front-leaves (b ∷ rest) (replicate n 0x40) (again rest) (Leaves-more (b ∷ []) rest (again rest) (leaves rest))
-after_scb-leaves (OfRepeat n) b again [] leaves = tt
-after_scb-leaves (OfRepeat n) b again (c ∷ rest) leaves = with_front-leaves (b ∷ c ∷ rest) (replicate n c) (again rest) (Leaves-more (b ∷ c ∷ []) rest (again rest) (leaves rest))
-after_scb-leaves (OfLiteral n) b again rest leaves = after_literal-leaves (leb n (length rest)) n b again rest leaves
-after_scb-leaves Bad b again rest leaves = tt
+literal-within : (n : ℕ) (rest : List ℕ) → FrontWithin (length rest) (literal_front n rest)
+literal-within n rest =
+    either-within (leb n (length rest)) (length rest) (OfItem (literal (take n rest)) (drop n rest)) Cut
+    (omega (arith, length-drop n rest)) tt
 
-unspelled_within-leaves : (k : ℕ) (bytes : List ℕ) → Leaves bytes (unspelled_within k bytes)
-unspelled_within-leaves zero bytes = tt
-unspelled_within-leaves (suc k) [] = tt
-unspelled_within-leaves (suc k) (b ∷ rest) = after_scb-leaves (scb_of b) b (unspelled_within k) rest (unspelled_within-leaves k)
+counted-within : (b : ℕ) (rest : List ℕ)
+    → FrontWithin (length rest)
+    (cond (ltb b 0xA0) (OfItem (blanks (b - 0x80)) rest) (cond (ltb b 0xC0) (repeat_front (b - 0xA0) rest) (literal_front (b - 0xC0) rest)))
+counted-within b rest =
+    either-within (ltb b 0xA0) (length rest) (OfItem (blanks (b - 0x80)) rest)
+    (cond (ltb b 0xC0) (repeat_front (b - 0xA0) rest) (literal_front (b - 0xC0) rest)) (omega arith)
+    (either-within (ltb b 0xC0) (length rest) (repeat_front (b - 0xA0) rest) (literal_front (b - 0xC0) rest)
+    (repeat-within (b - 0xA0) rest) (literal-within (b - 0xC0) rest))
 
-pub unspelled-leaves : (bytes : List ℕ) → Leaves bytes (unspelled bytes)
-unspelled-leaves bytes = unspelled_within-leaves (length bytes) bytes
+front-within : (b : ℕ) (rest : List ℕ) → FrontWithin (length rest) (front_of (b ∷ rest))
+front-within b rest =
+    either-within (eqb b 0x00) (length rest) _ _ (omega arith)
+    (either-within (eqb b 0x40) (length rest) _ _ (omega arith) (either-within (ltb b 0x80) (length rest) _ _ tt (counted-within b rest)))
 
--- it is no longer than they are
 abbrev pub RestWithin : ℕ → Result Unspelled Fault → Type 0
 RestWithin n (Ok r) = length r.rest ≤ n
 RestWithin n (Err e) = Unit {0}
 
-pub RestWithin-leaves : (bytes : List ℕ) (found : Result Unspelled Fault) → Leaves bytes found → RestWithin (length bytes) found
-RestWithin-leaves bytes (Ok r) leaves = omega (arith, ap length leaves.1, length-append leaves.0 r.rest)
-RestWithin-leaves bytes (Err e) leaves = tt
+with_front-within : (n m : ℕ) (front : List ℕ) (read : Result Unspelled Fault) → n ≤ m → RestWithin n read
+    → RestWithin m (with_front front read)
+with_front-within n m front (Ok r) le within = omega arith
+with_front-within n m front (Err e) le within = tt
 
--- it is what stands behind as many bytes as it is shorter
-pub drop-leaves : (bytes : List ℕ) (r : Unspelled) → Leaves bytes (Ok r) → drop (length bytes - length r.rest) bytes ≡ r.rest
-drop-leaves bytes r (front, joined) =
-    let same : length bytes - length r.rest ≡ length front = omega (arith, ap length joined, length-append front r.rest) in
-    ap (λ (b : List ℕ). drop (length bytes - length r.rest) b) joined ∙ drop_at front r.rest (length bytes - length r.rest) (sym same)
+within_steps : (k : ℕ) (bytes : List ℕ) → RestWithin (length bytes) (unspelled_within k bytes)
+within_steps zero bytes = tt
+within_steps (suc k) [] = tt
+within_steps (suc k) (b ∷ rest) = go (front_of (b ∷ rest)) (front-within b rest) (within_steps k)
+  where
+    go : (front : Front) → FrontWithin (length rest) front → ((after : List ℕ) → RestWithin (length after) (unspelled_within k after))
+        → RestWithin (suc (length rest))
+        (elim front [
+          | OfItem item after ↦ with_front (added item) (unspelled_within k after)
+          | OfEnd end after ↦ Ok
+              (record { contents = []; end = end; rest = after })
+          | Bad ↦ Err BadScb
+          | Cut ↦ Err Truncated
+        ])
+    go (OfItem item after) within again =
+        with_front-within (length after) (suc (length rest)) (added item) (unspelled_within k after) (omega arith) (again after)
+    go (OfEnd end after) within again = omega arith
+    go Bad within again = tt
+    go Cut within again = tt
+
+pub unspelled-within : (bytes : List ℕ) → RestWithin (length bytes) (unspelled bytes)
+unspelled-within bytes = within_steps (length bytes) bytes
 
 -- ---- what an answer of the reader of records says
 
@@ -70,22 +93,43 @@ answered rcb srcb bytes contents (Err (faults.TooLong used)) = Ok (Some (record 
 answered rcb srcb bytes contents (Err faults.BadScb) = Err BadRecord
 answered rcb srcb bytes contents (Err faults.Truncated) = Err BadRecord
 
-spelled-record : (rcb srcb : ℕ) (bytes contents rest : List ℕ) (short : Bool) (used : ℕ) → drop used bytes ≡ rest
-    → Ok (Some (record { item = cond short (Data rcb srcb contents) (Long rcb srcb); rest = rest }))
-    ≡ answered rcb srcb bytes (cond short contents []) (cond short (Ok (used, Record)) (Err (faults.TooLong used)))
-spelled-record rcb srcb bytes contents rest true used is = ap (λ (b : List ℕ). Ok (Some (record { item = Data rcb srcb contents; rest = b }))) (sym is)
-spelled-record rcb srcb bytes contents rest false used is = ap (λ (b : List ℕ). Ok (Some (record { item = Long rcb srcb; rest = b }))) (sym is)
+-- only: nothing but what is unspelled stands so; again: a spelling is read, whatever follows it
+module _ (only : (bytes : List ℕ) (read : Result Unspelled Fault) → ReadsAs bytes read → unspelled bytes ≡ read)
+    (again : (spelling contents rest : List ℕ) (end : End) → Spelling spelling contents end
+    → unspelled (spelling ++ rest) ≡ Ok (record { contents = contents; end = end; rest = rest })) where
+  begins-spelled : (rcb srcb : ℕ) (bytes contents : List ℕ) (used : ℕ) (end : End) → Begins bytes used contents end
+      → record_of_spelling rcb srcb (unspelled bytes)
+      ≡ record_of_spelling rcb srcb (Ok (record { contents = contents; end = end; rest = drop used bytes }))
+  begins-spelled rcb srcb bytes contents used end begins =
+      ap (λ (b : List ℕ). record_of_spelling rcb srcb (unspelled b)) (sym (take-append-drop used bytes))
+      ∙ ap (record_of_spelling rcb srcb) (again (take used bytes) contents (drop used bytes) end begins.spelling)
 
-spelled-ended : (rcb srcb : ℕ) (bytes contents rest : List ℕ) (end : End) → drop (length bytes - length rest) bytes ≡ rest
-    → spelled rcb srcb (Ok (record { contents = contents; end = end; rest = rest }))
-    ≡ answered rcb srcb bytes (left_by (Ok (record { contents = contents; end = end; rest = rest }))) (answer_to bytes (Ok (record { contents = contents; end = end; rest = rest })))
-spelled-ended rcb srcb bytes contents rest Record is = spelled-record rcb srcb bytes contents rest (leb (length contents) 256) (length bytes - length rest) is
-spelled-ended rcb srcb bytes contents rest Abort is = ap (λ (b : List ℕ). Ok (Some (record { item = Aborted rcb srcb; rest = b }))) (sym is)
+  pub record_of_spelling-unspells : (rcb srcb : ℕ) (bytes contents : List ℕ) (answer : Result (ℕ × End) RecordFault)
+      → Unspells bytes answer contents → record_of_spelling rcb srcb (unspelled bytes) ≡ answered rcb srcb bytes contents answer
+  record_of_spelling-unspells rcb srcb bytes contents (Ok (used, Record)) (begins, fits) =
+      begins-spelled rcb srcb bytes contents used Record begins
+      ∙ ap (λ (t : Bool). Ok (Some (record { item = cond t (Data rcb srcb contents) (Long rcb srcb); rest = drop used bytes })))
+      (le-leb (length contents) 256 fits)
+  record_of_spelling-unspells rcb srcb bytes contents (Ok (used, Abort)) ((given_up, begins), none) =
+      begins-spelled rcb srcb bytes given_up used Abort begins
+  record_of_spelling-unspells rcb srcb bytes contents (Err (faults.TooLong used)) ((long, begins, over), none) =
+      begins-spelled rcb srcb bytes long used Record begins
+      ∙ ap (λ (t : Bool). Ok (Some (record { item = cond t (Data rcb srcb long) (Long rcb srcb); rest = drop used bytes })))
+      (lt-leb (length long) 256 over)
+  record_of_spelling-unspells rcb srcb bytes contents (Err faults.BadScb) (bad, none) =
+      ap (record_of_spelling rcb srcb) (only bytes (Err BadScb) bad)
+  record_of_spelling-unspells rcb srcb bytes contents (Err faults.Truncated) (cut, none) =
+      ap (record_of_spelling rcb srcb) (only bytes (Err Truncated) cut)
 
-spelled-found : (rcb srcb : ℕ) (bytes : List ℕ) (found : Result Unspelled Fault) → Leaves bytes found → spelled rcb srcb found ≡ answered rcb srcb bytes (left_by found) (answer_to bytes found)
-spelled-found rcb srcb bytes (Ok r) leaves = spelled-ended rcb srcb bytes r.contents r.rest r.end (drop-leaves bytes r leaves)
-spelled-found rcb srcb bytes (Err BadScb) leaves = refl
-spelled-found rcb srcb bytes (Err Truncated) leaves = refl
-
-pub spelled-answered : (rcb srcb : ℕ) (bytes : List ℕ) → spelled rcb srcb (unspelled bytes) ≡ answered rcb srcb bytes (record_left bytes) (answer_of bytes)
-spelled-answered rcb srcb bytes = spelled-found rcb srcb bytes (unspelled bytes) (unspelled-leaves bytes)
+  pub record_of_spelling-left : (rcb srcb : ℕ) (bytes contents : List ℕ) (answer : Result (ℕ × End) RecordFault)
+      → Unspells bytes answer contents → contents ≡ contents_after (record_of_spelling rcb srcb (unspelled bytes))
+  record_of_spelling-left rcb srcb bytes contents answer unspells =
+      left answer unspells ∙ ap contents_after (sym (record_of_spelling-unspells rcb srcb bytes contents answer unspells))
+    where
+      left : (answer : Result (ℕ × End) RecordFault) → Unspells bytes answer contents
+          → contents ≡ contents_after (answered rcb srcb bytes contents answer)
+      left (Ok (used, Record)) unspells = refl
+      left (Ok (used, Abort)) unspells = unspells.1
+      left (Err (faults.TooLong used)) unspells = unspells.1
+      left (Err faults.BadScb) unspells = unspells.1
+      left (Err faults.Truncated) unspells = unspells.1

@@ -42,8 +42,8 @@ pub record Part : Type 0 where
   pub item : Item
   pub bytes : List ℕ
 
-abbrev pub bytes_of : List Part → List ℕ
-bytes_of parts = flat_map (λ (p : Part). p.bytes) parts
+abbrev pub covered_bytes : List Part → List ℕ
+covered_bytes parts = flat_map (λ (p : Part). p.bytes) parts
 
 abbrev pub items_of : List Part → List Item
 items_of [] = []
@@ -52,13 +52,13 @@ items_of (p ∷ ps) = p.item ∷ items_of ps
 -- each part covers its bytes, where those of the later parts and these follow it
 abbrev pub EachCovers : List Part → List ℕ → Type 0
 EachCovers [] after = Unit {0}
-EachCovers (p ∷ ps) after = Covers p.item p.bytes (bytes_of ps ++ after) × EachCovers ps after
+EachCovers (p ∷ ps) after = Covers p.item p.bytes (covered_bytes ps ++ after) × EachCovers ps after
 
 -- A text's block control byte, function control sequence and whole records, and what stands behind these.
 pub record Front (text : List ℕ) (bcb : ℕ) (fcs : ℕ × ℕ) (parts : List Part) (after : List ℕ) : Type 0 where
   pub good_bcb : IsTrue (is_bcb bcb)
   pub good_fcs : IsTrue (is_fcs fcs)
-  pub joined : text ≡ bcb ∷ fcs.0 ∷ fcs.1 ∷ (bytes_of parts ++ after)
+  pub joined : text ≡ bcb ∷ fcs.0 ∷ fcs.1 ∷ (covered_bytes parts ++ after)
   pub each : EachCovers parts after
 
 -- the end of the text, or a 00 with anything behind it

@@ -23,22 +23,22 @@ first_shown (Ok (Some x)) bytes = Ok (Some (record { item = shown bytes x.0; res
 first_shown (Err e) bytes = Err e
 
 -- the bytes that an item leaves in the record
-abbrev pub bytes_of : Item → List ℕ
-bytes_of (Data rcb srcb bytes) = bytes
-bytes_of (Aborted rcb srcb) = []
-bytes_of (Long rcb srcb) = []
-bytes_of (Control rcb srcb) = []
-bytes_of (General srcb rest) = []
+abbrev pub contents_of : Item → List ℕ
+contents_of (Data rcb srcb bytes) = bytes
+contents_of (Aborted rcb srcb) = []
+contents_of (Long rcb srcb) = []
+contents_of (Control rcb srcb) = []
+contents_of (General srcb rest) = []
 
-abbrev pub left_by : Result (Option First) BlockFault → List ℕ
-left_by (Ok None) = []
-left_by (Ok (Some x)) = bytes_of x.item
-left_by (Err e) = []
+abbrev pub contents_after : Result (Option First) BlockFault → List ℕ
+contents_after (Ok None) = []
+contents_after (Ok (Some x)) = contents_of x.item
+contents_after (Err e) = []
 
 -- the bytes that the first of some items leaves in the record
-abbrev pub left_in : List Item → List ℕ
-left_in [] = []
-left_in (i ∷ is) = bytes_of i
+abbrev pub first_contents : List Item → List ℕ
+first_contents [] = []
+first_contents (i ∷ is) = contents_of i
 
 -- a general record at the front of some bytes
 abbrev pub general_at : List ℕ → Option (ℕ × List ℕ)
@@ -48,11 +48,11 @@ general_at (rcb ∷ srcb ∷ rest) = cond (rcb == 0xf0) (Some (srcb, rest)) None
 
 -- ---- what is written
 
-abbrev pub outgoing : Out → Item
-outgoing (out.Data rcb srcb bytes) = Data rcb.byte srcb bytes.now
-outgoing (out.Abort rcb srcb) = Aborted rcb.byte srcb
-outgoing (out.Control rcb srcb) = Control (control_byte rcb) srcb
-outgoing (out.General srcb bytes) = General srcb bytes.now
+abbrev pub outgoing_item : Out → Item
+outgoing_item (out.Data rcb srcb bytes) = Data rcb.byte srcb bytes.now
+outgoing_item (out.Abort rcb srcb) = Aborted rcb.byte srcb
+outgoing_item (out.Control rcb srcb) = Control (control_byte rcb) srcb
+outgoing_item (out.General srcb bytes) = General srcb bytes.now
 
 -- It can be written: a spelling stands behind its RCB, and its bytes are few enough.
 abbrev pub IsWritable : Out → Type 0

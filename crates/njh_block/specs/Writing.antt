@@ -1,10 +1,11 @@
 -- A block that is being written (IBM SC23-0070, multileaving).
-use Rattle.std.specs.Prelude.{◌≡◌, ℕ, ◌<◌, ◌≤◌, Bool, true, false, List, [], ◌∷◌, ◌++◌, length, drop, slice_index, not, ◌&&◌, nat_le, IsTrue}
-use Rattle.std.specs.List.{list_any, flat_map}
+use Rattle.std.specs.Prelude.{◌≡◌, ℕ, ◌≤◌, Bool, true, false, List, [], ◌∷◌, ◌++◌, ◌-◌, length, take, drop, slice_index, not, ◌&&◌}
+use Rattle.std.specs.Prelude.{nat_le, IsTrue}
+use Rattle.std.specs.List.{list_any}
 use Rattle.std.specs.Result.{result_unwrap_or}
 use Rattle.njh_block.specs.declared.rcb.ControlRcb.{ControlRcb}
 use Rattle.njh_block.specs.declared.rcb.Form.TheVariants as form
-use Rattle.njh_block.specs.Blocks.{Item, Data, Aborted, Long, Control, General, control_byte, form_of, is_bcb, is_fcs, items_in, written, text_of}
+use Rattle.njh_block.specs.Blocks.{Item, Data, Aborted, Long, Control, General, control_byte, form_of, is_bcb, is_fcs, items_in, text_of}
 
 -- What the text may hold at most, its first bytes, and the items so far.
 pub record Writing : Type 0 where
@@ -52,25 +53,25 @@ read_back (General srcb rest ∷ is) = General srcb (rest ++ 0 ∷ []) ∷ read_
 
 -- ---- the text so far
 
+-- the text without the closing 00
+abbrev pub without_end : List ℕ → List ℕ
+without_end text = take (length text - 1) text
+
 -- The items so far are those that the text without its end is read as.
 abbrev pub items_so_far : List ℕ → List Item
-items_so_far text = result_unwrap_or (items_in (drop 3 text)) []
+items_so_far text = result_unwrap_or (items_in (drop 3 (without_end text))) []
 
 abbrev pub writing_of : ℕ → List ℕ → Writing
 writing_of limit text =
     record { limit = limit; bcb = slice_index text 0; fcs = (slice_index text 1, slice_index text 2); items = items_so_far text }
 
--- the bytes of a block without its end
-abbrev pub bytes_so_far : Writing → List ℕ
-bytes_so_far w = w.bcb ∷ w.fcs.0 ∷ w.fcs.1 ∷ flat_map written w.items
-
--- The text is that of the block without its end, which has room, and it is told whether a general record ended it.
+-- The text is that of the block, and it is told whether a general record ended it.
 pub record IsWriting (w : Writing) (text : List ℕ) (ended : Bool) : Type 0 where
   pub low : 300 ≤ w.limit
   pub high : w.limit ≤ 4096
   pub good_bcb : IsTrue (is_bcb w.bcb)
   pub good_fcs : IsTrue (is_fcs w.fcs)
-  pub bytes : text ≡ bytes_so_far w
+  pub bytes : text ≡ text_of w.bcb w.fcs w.items
   pub each : AreWritten w.items
   pub general : ended ≡ list_any is_general w.items
-  pub within : length text < w.limit
+  pub within : length text ≤ w.limit

@@ -6,11 +6,14 @@ ghost use Rattle.njh_block.specs.Codes.{numbering_bits};
 
 use std::marker::Model;
 
-/// What a block's count does at its receiver: it is checked, it is not, or it sets the count that is expected.
+/// What a block's count does at its receiver.
 #[derive(Clone, Copy, Debug, PartialEq, Eq)]
 pub enum Numbering {
+    /// It is checked.
     Normal,
+    /// It isn't looked at.
     Unchecked,
+    /// It sets the count that is expected.
     Setting,
 }
 
@@ -31,12 +34,16 @@ impl Model for Bcb {
     ghost inverse = { λ n. record { byte = n } };
 }
 
+/// NNN is 000.
 const NORMAL: u8 = 0x80;
 
+/// NNN is 010.
 const SETTING: u8 = 0xa0;
 
+/// NNN is 011, and from here on nothing is assigned.
 const UNASSIGNED: u8 = 0xb0;
 
+/// How many counts there are.
 const COUNTS: u8 = 16;
 
 impl Bcb {
@@ -71,6 +78,7 @@ impl Bcb {
         }
     }
 
+    /// The byte.
     pub fn byte(self) -> u8
         ensures value { result ≡ self }
         ensures valid { IsTrue (is_bcb result) }

@@ -3,14 +3,14 @@
 ghost use Rattle.std.specs.Prelude.{◌≡◌, ◌↔◌, drop, slice_get, option_map};
 ghost use Rattle.njh_block.specs.Blocks.{Block as Seen, read_block, general_first};
 ghost use Rattle.njh_block.specs.Grammar.{IsBlock, IsFault};
-ghost use Rattle.njh_block.specs.Shown.{shown, left_in};
+ghost use Rattle.njh_block.specs.Shown.{shown, first_contents};
 
 use crate::bcb::Bcb;
 use crate::fault::BlockFault;
 use crate::fcs::Fcs;
 use crate::item::Item;
 use crate::laws::one_reading;
-use crate::reading::{check_records, first_record, general_record};
+use crate::reading::{check_records, read_first, read_general};
 use njh_record::Record;
 use std::marker::Model;
 
@@ -35,14 +35,14 @@ impl<'a> Model for Block<'a> {
 }
 
 impl<'a> Block<'a> {
-    /// Reads a text (IBM SC23-0070, "Multileaving"). It is checked to its end before any record is given: `TooShort` is under three
-    /// bytes, and then the first fault from the left is told.
+    /// Reads a text (IBM SC23-0070, "Multileaving"). It is checked to its end before any record is given: `TooShort` comes first, and then
+    /// the first fault from the left is told.
     pub fn read(text: &'a [u8]) -> Result<Self, BlockFault>
-        ensures exact { result ≡ read_block text.now }
-
         // It is the block that the text is by the grammar, or the fault that the text has by it.
         ensures block { (block : Seen) → (result ≡ Ok block) ↔ IsBlock text.now block }
         ensures fault { (fault : BlockFault) → (result ≡ Err fault) ↔ IsFault text.now fault }
+
+        ensures exact { result ≡ read_block text.now }
     {
         one_reading();
         Self::of_text(text)
@@ -60,12 +60,14 @@ impl<'a> Block<'a> {
         Ok(Block { bcb, fcs, rest })
     }
 
+    /// Its block control byte.
     pub fn bcb(&self) -> Bcb
         ensures { result ≡ self.now.bcb }
     {
         self.bcb
     }
 
+    /// Its function control sequence.
     pub fn fcs(&self) -> Fcs
         ensures { result ≡ self.now.fcs }
     {
@@ -77,16 +79,16 @@ impl<'a> Block<'a> {
     pub fn first_general(&self) -> Option<(u8, &'a [u8])>
         ensures { option_map (λ x. (x.0, x.1.now)) result ≡ general_first self.now.items }
     {
-        general_record(self.rest)
+        read_general(self.rest)
     }
 
     /// Takes the next record. The bytes of a `Data` are put in `contents`, which any other leaves empty.
     pub fn next(&mut self, contents: &mut Record) -> Option<Item<'a>>
         ensures first { option_map (shown contents.new.items) result ≡ slice_get self.old.items 0 }
-        ensures bytes { contents.new.items ≡ left_in self.old.items }
+        ensures bytes { contents.new.items ≡ first_contents self.old.items }
         ensures rest { self.new ≡ record self.old { items = drop 1 self.old.items } }
     {
-        let Ok(first) = first_record(self.rest, contents) else {
+        let Ok(first) = read_first(self.rest, contents) else {
             unreachable!()
         };
         let (item, rest) = first?;

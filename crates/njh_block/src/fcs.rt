@@ -26,12 +26,16 @@ impl Model for Fcs {
     ghost inverse = { λ p. record { first = p.0; second = p.1 } };
 }
 
+/// The bit 1 that either byte begins with.
 const MARK: u8 = 0x80;
 
+/// S of the first byte.
 const ALL_SUSPENDED: u8 = 0x40;
 
+/// T of the second byte.
 const MESSAGES: u8 = 0x40;
 
+/// ABCD of the first byte, WXYZ of the second.
 const STREAMS: u8 = 0x0f;
 
 impl Fcs {
@@ -46,6 +50,7 @@ impl Fcs {
         }
     }
 
+    /// Nothing is suspended.
     pub fn nothing_suspended() -> Self
         ensures { result ≡ (0x8f, 0xcf) }
     {
@@ -65,6 +70,7 @@ impl Fcs {
         }
     }
 
+    /// The two bytes.
     pub fn bytes(self) -> (u8, u8)
         ensures value { result ≡ self }
         ensures valid { IsTrue (is_fcs result) }
@@ -72,6 +78,7 @@ impl Fcs {
         (self.first, self.second)
     }
 
+    /// Whether all streams are suspended.
     pub fn all_suspended(self) -> bool
         ensures { result ≡ all_suspended self }
     {

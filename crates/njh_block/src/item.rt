@@ -2,13 +2,42 @@
 
 use crate::rcb::{ControlRcb, Rcb};
 
-/// A record of a block, with its SRCB. The bytes of `Data` are in the record that was read into, and those of `General`, the rest of
-/// the text, are lent from the text. `Abort` was given up by its sender, and `Long` had more than 256 bytes.
+/// A record of a block that was read.
 #[derive(Clone, Copy, Debug)]
 pub enum Item<'a> {
-    Data { rcb: Rcb, srcb: u8 },
-    Abort { rcb: Rcb, srcb: u8 },
-    Long { rcb: Rcb, srcb: u8 },
-    Control { rcb: ControlRcb, srcb: u8 },
-    General { srcb: u8, rest: &'a [u8] },
+    /// A record of a stream or a nodal message. Its bytes are in the record that was read into.
+    Data {
+        /// Its RCB.
+        rcb: Rcb,
+        /// Its SRCB.
+        srcb: u8,
+    },
+    /// A record that its sender gave up.
+    Abort {
+        /// Its RCB.
+        rcb: Rcb,
+        /// Its SRCB.
+        srcb: u8,
+    },
+    /// A record of more than 256 bytes.
+    Long {
+        /// Its RCB.
+        rcb: Rcb,
+        /// Its SRCB.
+        srcb: u8,
+    },
+    /// A two-byte record.
+    Control {
+        /// What it says.
+        rcb: ControlRcb,
+        /// Its SRCB.
+        srcb: u8,
+    },
+    /// A general control record.
+    General {
+        /// Its SRCB.
+        srcb: u8,
+        /// The rest of the text, behind the SRCB.
+        rest: &'a [u8],
+    },
 }

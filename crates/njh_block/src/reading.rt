@@ -1,20 +1,20 @@
 //! Reading: the record at the front of some bytes.
 
 ghost use Rattle.std.specs.Prelude.{◌≡◌, [], Err, IsOk, MatchResult, option_map};
-ghost use Rattle.njh_block.specs.Blocks.{form_of, after_control, spelled, formed, first_record, items_in};
+ghost use Rattle.njh_block.specs.Blocks.{form_of, after_control, record_of_spelling, record_of_form, first_record, items_in};
 ghost use Rattle.njh_record.specs.Unspelled.{unspelled};
-ghost use Rattle.njh_block.specs.Shown.{first_shown, general_at, left_by};
+ghost use Rattle.njh_block.specs.Shown.{first_shown, general_at, contents_after};
 
 use crate::fault::BlockFault;
 use crate::item::Item;
 use crate::rcb::{Form, GENERAL, OWN_ZERO, Rcb};
-use njh_record::{End, Record, RecordFault, unspell};
+use njh_record::{End, Record, RecordFault, one_reading, reads_spellings, unspell};
 
 /// A record, and the bytes behind it.
 type First<'a> = (Item<'a>, &'a [u8]);
 
 /// What follows a two-byte record: a 00 that another byte follows is its own.
-fn after_control(rest: &[u8]) -> &[u8]
+fn skip_own_zero(rest: &[u8]) -> &[u8]
     ensures { result.now ≡ after_control rest.now }
 {
     match rest {
@@ -24,15 +24,17 @@ fn after_control(rest: &[u8]) -> &[u8]
 }
 
 /// A record whose spelling begins the bytes.
-fn spelled<'a>(
+fn read_spelled<'a>(
     rcb: Rcb,
     srcb: u8,
     bytes: &'a [u8],
     contents: &mut Record,
 ) -> Result<Option<First<'a>>, BlockFault>
-    ensures first { first_shown result contents.new.items ≡ spelled rcb.byte srcb (unspelled bytes.now) }
-    ensures contents { contents.new.items ≡ left_by (spelled rcb.byte srcb (unspelled bytes.now)) }
+    ensures first { first_shown result contents.new.items ≡ record_of_spelling rcb.byte srcb (unspelled bytes.now) }
+    ensures contents { contents.new.items ≡ contents_after (record_of_spelling rcb.byte srcb (unspelled bytes.now)) }
 {
+    one_reading();
+    reads_spellings();
     match unspell(bytes, contents) {
         Ok((used, End::Record)) => Ok(Some((Item::Data { rcb, srcb }, &bytes[used..]))),
         Ok((used, End::Abort)) => Ok(Some((Item::Abort { rcb, srcb }, &bytes[used..]))),
@@ -43,34 +45,34 @@ fn spelled<'a>(
 }
 
 /// A record by its RCB, the byte behind it, and what follows the two.
-fn formed<'a>(
+fn read_formed<'a>(
     rcb: Rcb,
     srcb: u8,
     rest: &'a [u8],
     contents: &mut Record,
 ) -> Result<Option<First<'a>>, BlockFault>
     requires { contents.old.items ≡ [] }
-    ensures first { first_shown result contents.new.items ≡ formed (form_of rcb.byte) rcb.byte srcb rest.now }
-    ensures contents { contents.new.items ≡ left_by (formed (form_of rcb.byte) rcb.byte srcb rest.now) }
+    ensures first { first_shown result contents.new.items ≡ record_of_form (form_of rcb.byte) rcb.byte srcb rest.now }
+    ensures contents { contents.new.items ≡ contents_after (record_of_form (form_of rcb.byte) rcb.byte srcb rest.now) }
 {
     let (item, rest) = match rcb.form() {
         Form::End => return Ok(None),
         Form::Bad => return Err(BlockFault::BadRcb),
         Form::General => (Item::General { srcb, rest }, &[][..]),
-        Form::Control(control) => (Item::Control { rcb: control, srcb }, after_control(rest)),
-        Form::Spelled => return spelled(rcb, srcb, rest, contents),
+        Form::Control(control) => (Item::Control { rcb: control, srcb }, skip_own_zero(rest)),
+        Form::Spelled => return read_spelled(rcb, srcb, rest, contents),
     };
     Ok(Some((item, rest)))
 }
 
 /// The record at the front of the bytes behind a function control sequence; none where the block ends. A record other than `Data`
 /// leaves `contents` empty.
-pub(crate) fn first_record<'a>(
+pub(crate) fn read_first<'a>(
     bytes: &'a [u8],
     contents: &mut Record,
 ) -> Result<Option<First<'a>>, BlockFault>
     ensures first { first_shown result contents.new.items ≡ first_record bytes.now }
-    ensures contents { contents.new.items ≡ left_by (first_record bytes.now) }
+    ensures contents { contents.new.items ≡ contents_after (first_record bytes.now) }
 {
     contents.clear();
     match bytes {
@@ -80,7 +82,7 @@ pub(crate) fn first_record<'a>(
             Form::Bad => Err(BlockFault::BadRcb),
             _ => Err(BlockFault::BadRecord),
         },
-        [rcb, srcb, rest @ ..] => formed(Rcb { byte: *rcb }, *srcb, rest, contents),
+        [rcb, srcb, rest @ ..] => read_formed(Rcb { byte: *rcb }, *srcb, rest, contents),
     }
 }
 
@@ -90,14 +92,14 @@ pub(crate) fn check_records(bytes: &[u8]) -> Result<(), BlockFault>
 {
     let mut contents = Record::new();
     let mut rest = bytes;
-    while let Some((_, after)) = first_record(rest, &mut contents)? {
+    while let Some((_, after)) = read_first(rest, &mut contents)? {
         rest = after;
     }
     Ok(())
 }
 
 /// A general record at the front of the bytes: its SRCB, and the rest of the text.
-pub(crate) fn general_record(bytes: &[u8]) -> Option<(u8, &[u8])>
+pub(crate) fn read_general(bytes: &[u8]) -> Option<(u8, &[u8])>
     ensures { option_map (λ x. (x.0, x.1.now)) result ≡ general_at bytes.now }
 {
     match bytes {

@@ -4,7 +4,7 @@ ghost use Rattle.std.specs.Prelude.{◌≡◌, ℕ, ◌+◌, ◌%◌, ◌<◌};
 ghost use Rattle.njh_block.specs.Blocks.{form_of, stream_bit, rcb_of, stream_of};
 ghost use Rattle.njh_block.specs.Codes.{kind_of};
 
-use crate::rcb::{Form, Rcb};
+use crate::rcb::{FIRST_OF_STREAMS, Form, Rcb, STEP, SYSIN, SYSOUT};
 use njh_record::Kind;
 use std::marker::Model;
 
@@ -23,12 +23,6 @@ impl Model for Stream {
 
     ghost inverse = { λ n. record { place = n } };
 }
-
-const FIRST_SYSIN: u8 = 0x98;
-
-const FIRST_SYSOUT: u8 = 0x99;
-
-const STEP: u8 = 0x10;
 
 impl Stream {
     /// How many streams of each kind a line has at most.
@@ -63,6 +57,7 @@ impl Stream {
         Stream { place }
     }
 
+    /// Its place among the eight of a line.
     pub fn place(self) -> u8
         ensures value { result ≡ self }
         ensures bound { result < 8 }
@@ -70,6 +65,7 @@ impl Stream {
         self.place
     }
 
+    /// What its files are.
     pub fn kind(self) -> Kind
         ensures { result ≡ kind_of self }
     {
@@ -93,12 +89,12 @@ impl Stream {
         ensures form { form_of result.byte ≡ Form.Spelled }
         ensures names { stream_of 4 result.byte ≡ Some self }
     {
-        let first = match self.kind() {
-            Kind::In => FIRST_SYSIN,
-            Kind::Out => FIRST_SYSOUT,
+        let kind = match self.kind() {
+            Kind::In => SYSIN,
+            Kind::Out => SYSOUT,
         };
         Rcb {
-            byte: first + STEP * self.number(),
+            byte: FIRST_OF_STREAMS + STEP * self.number() + kind,
         }
     }
 

@@ -1,8 +1,8 @@
 //! Blocks, written.
 
-ghost use Rattle.std.specs.Prelude.{◌≡◌, ℕ, ◌+◌, ◌<◌, ◌≤◌, ◌++◌, [], ◌∷◌, ◌↔◌, length, IsTrue};
-ghost use Rattle.njh_block.specs.Blocks.{written, text_of};
-ghost use Rattle.njh_block.specs.Shown.{outgoing, IsWritable};
+ghost use Rattle.std.specs.Prelude.{◌≡◌, ◌+◌, ◌≤◌, ◌++◌, [], ◌↔◌, length, IsTrue};
+ghost use Rattle.njh_block.specs.Blocks.{written_bytes, text_of};
+ghost use Rattle.njh_block.specs.Shown.{outgoing_item, IsWritable};
 ghost use Rattle.njh_block.specs.Writing.{is_general, has_room, with_last};
 
 use crate::bcb::Bcb;
@@ -10,30 +10,28 @@ use crate::fcs::Fcs;
 use crate::out::Out;
 use crate::rcb::{END, GENERAL, OWN_ZERO};
 use arrayvec::ArrayVec;
-use njh_record::{spell, spelled_len};
+use njh_record::{ABORT, put_bytes, spell, spelled_len};
 use std::marker::Model;
 
 /// The text of a block: at most 4,096 bytes.
-pub type Text = ArrayVec<u8, 4096>;
+pub type BlockText = ArrayVec<u8, 4096>;
 
-/// How many bytes stand before the records.
-const HEADER: usize = 3;
+/// How many bytes the text of a block without records has.
+const WITHOUT_RECORDS: usize = 4;
 
-/// The string control byte of a record that is given up.
-const ABORT: u8 = 0x40;
-
-/// Adds bytes that have room.
-fn put(text: &mut Text, bytes: &[u8])
-    requires { length text.old.items + length bytes.now ≤ 4096 }
-    ensures { text.new.items ≡ text.old.items ++ bytes.now }
+/// Puts the text of a block without records where nothing stands.
+fn put_header(text: &mut BlockText, bcb: Bcb, fcs: Fcs)
+    requires { text.old.items ≡ [] }
+    ensures { text.new.items ≡ text_of bcb fcs [] }
 {
-    text.try_extend_from_slice(bytes).unwrap();
+    let (first, second) = fcs.bytes();
+    put_bytes(text, &[bcb.byte(), first, second, END]);
 }
 
 /// How many bytes a record takes.
 fn written_len(out: &Out<'_>) -> usize
     requires { IsWritable out.now }
-    ensures value { result ≡ length (written (outgoing out.now)) }
+    ensures value { result ≡ length (written_bytes (outgoing_item out.now)) }
     ensures bound { result ≤ 264 }
 {
     njh_record::spelling_bounds();
@@ -45,38 +43,41 @@ fn written_len(out: &Out<'_>) -> usize
 }
 
 fn is_general(out: &Out<'_>) -> bool
-    ensures { result ≡ is_general (outgoing out.now) }
+    ensures { result ≡ is_general (outgoing_item out.now) }
 {
     matches!(out, Out::General { .. })
 }
 
 /// Adds a record that has room.
-fn put_record(text: &mut Text, out: Out<'_>)
+fn put_record(text: &mut BlockText, out: Out<'_>)
     requires writable { IsWritable out }
-    requires room { length text.old.items + length (written (outgoing out)) ≤ 4096 }
-    ensures { text.new.items ≡ text.old.items ++ written (outgoing out.entry) }
+    requires room { length text.old.items + length (written_bytes (outgoing_item out)) ≤ 4096 }
+    ensures { text.new.items ≡ text.old.items ++ written_bytes (outgoing_item out.entry) }
 {
     match out {
         Out::Data { rcb, srcb, bytes } => {
             let mut spelling = ArrayVec::new();
             spell(bytes, &mut spelling);
-            put(text, &[rcb.byte, srcb]);
-            put(text, &spelling);
+            put_bytes(text, &[rcb.byte, srcb]);
+            put_bytes(text, &spelling);
         }
-        Out::Abort { rcb, srcb } => put(text, &[rcb.byte, srcb, ABORT]),
-        Out::Control { rcb, srcb } => put(text, &[rcb.byte(), srcb, OWN_ZERO]),
+        Out::Abort { rcb, srcb } => put_bytes(text, &[rcb.byte, srcb, ABORT]),
+        Out::Control { rcb, srcb } => put_bytes(text, &[rcb.byte(), srcb, OWN_ZERO]),
         Out::General { srcb, bytes } => {
-            put(text, &[GENERAL, srcb]);
-            put(text, bytes);
+            put_bytes(text, &[GENERAL, srcb]);
+            put_bytes(text, bytes);
         }
     }
 }
 
 /// A block that is being written, in a text of at most so many bytes. A contract sees the records that were added.
+///
+/// The text lies in the writer itself, and making one clears all its 4,096 bytes: a writer that is kept, `restart`ed for
+/// each block and read by `text` clears and copies no more than was written.
 #[derive(Drop)]
 pub struct BlockWriter {
     limit: usize,
-    text: Text,
+    text: BlockText,
     ended: bool,
 }
 
@@ -98,8 +99,7 @@ impl BlockWriter {
         ensures { result ≡ record { limit = limit; bcb = bcb; fcs = fcs; items = [] } }
     {
         let mut text = ArrayVec::new();
-        let (first, second) = fcs.bytes();
-        put(&mut text, &[bcb.byte(), first, second]);
+        put_header(&mut text, bcb, fcs);
         BlockWriter {
             limit,
             text,
@@ -107,41 +107,63 @@ impl BlockWriter {
         }
     }
 
+    /// Begins another block, without records, in place of this one.
+    pub fn restart(&mut self, limit: usize, bcb: Bcb, fcs: Fcs)
+        requires low { 300 ≤ limit }
+        requires high { limit ≤ 4096 }
+        ensures { self.new ≡ record { limit = limit; bcb = bcb; fcs = fcs; items = [] } }
+    {
+        self.limit = limit;
+        self.ended = false;
+        self.text.clear();
+        put_header(&mut self.text, bcb, fcs);
+    }
+
     /// Whether nothing was added.
     pub fn is_empty(&self) -> bool
         ensures { IsTrue result ↔ (self.now.items ≡ []) }
     {
-        self.text.len() == HEADER
+        self.text.len() == WITHOUT_RECORDS
     }
 
     /// Whether a record has room, with the closing 00 behind it. Behind a general one nothing has, and in a block without records
     /// each has.
     pub fn fits(&self, out: &Out<'_>) -> bool
         requires { IsWritable out.now }
-        ensures exact { result ≡ has_room self.now (outgoing out.now) }
+        ensures exact { result ≡ has_room self.now (outgoing_item out.now) }
         ensures first { self.now.items ≡ [] → IsTrue result }
     {
-        !self.ended && self.text.len() + written_len(out) < self.limit
+        !self.ended && self.text.len() + written_len(out) <= self.limit
     }
 
     /// Adds a record that has room.
     pub fn add(&mut self, out: Out<'_>)
         requires writable { IsWritable out }
-        requires room { IsTrue (has_room self.old (outgoing out)) }
-        ensures { self.new ≡ with_last (outgoing out.entry) self.old }
+        requires room { IsTrue (has_room self.old (outgoing_item out)) }
+        ensures { self.new ≡ with_last (outgoing_item out.entry) self.old }
     {
         njh_record::reads_back();
         self.ended = is_general(&out);
+        let _end = self.text.pop();
         put_record(&mut self.text, out);
+        self.text.push(END);
     }
 
     /// The text, with the closing 00.
-    pub fn finish(self) -> Text
+    pub fn text(&self) -> &[u8]
+        ensures text { result.now ≡ text_of self.now.bcb self.now.fcs self.now.items }
+        ensures within { length result.now ≤ self.now.limit }
+        ensures longest { length result.now ≤ 4096 }
+    {
+        &self.text
+    }
+
+    /// The text, with the closing 00.
+    pub fn finish(self) -> BlockText
         ensures text { result.items ≡ text_of self.bcb self.fcs self.items }
         ensures within { length result.items ≤ self.limit }
     {
-        let BlockWriter { mut text, .. } = self;
-        text.push(END);
+        let BlockWriter { text, .. } = self;
         text
     }
 }

@@ -1,5 +1,6 @@
 -- What trimming leaves, by the last byte.
-use Rattle.std.proofs.Common.{◌≡◌, ◌≢◌, ℕ, zero, suc, drop, not, ◌-◌, ◌<◌, ◌≤◌, arith, length, replicate, Bool, true, false, cond, eqb, List, [], ◌∷◌, ◌++◌, refl, sym, ap, ◌∙◌}
+use Rattle.std.proofs.Common.{◌≡◌, ◌≢◌, ℕ, zero, suc, drop, not, ◌-◌, ◌<◌, ◌≤◌, arith, length, replicate, Bool, true, false, cond, eqb}
+use Rattle.std.proofs.Common.{List, [], ◌∷◌, ◌++◌, refl, sym, ap, ◌∙◌}
 use Rattle.std.specs.List.{list_all}
 use Rattle.std.proofs.Math.Seq.{append_snoc}
 use Rattle.std.proofs.lemmas.Bool.{ne_eqb, false≢true, and_parts, and_from, eq-eqb, eqb-true, not-true}
@@ -40,7 +41,8 @@ trimmed-other bytes front last is other =
 pub trimmed-append_blanks : (bytes : List ℕ) (count : ℕ) → trimmed (bytes ++ replicate count 0x40) ≡ trimmed bytes
 trimmed-append_blanks bytes zero = ap trimmed (append-nil bytes)
 trimmed-append_blanks bytes (suc count) =
-    ap trimmed (sym (append_snoc bytes 0x40 (replicate count 0x40))) ∙ (trimmed-append_blanks (bytes ++ 0x40 ∷ []) count ∙ trimmed-push_blank bytes)
+    ap trimmed (sym (append_snoc bytes 0x40 (replicate count 0x40)))
+    ∙ (trimmed-append_blanks (bytes ++ 0x40 ∷ []) count ∙ trimmed-push_blank bytes)
 
 pub not_blank : (b : ℕ) → is_name_byte b ≡ true → eqb b 0x40 ≡ false
 not_blank b name =
@@ -66,7 +68,8 @@ length-padded bytes few =
     omega (arith, length-append bytes (replicate (8 - length bytes) 0x40), length-replicate {A = ℕ} (8 - length bytes) 0x40)
 
 -- 1 to 8 bytes of a name, padded, are one
-pub is_name-padded : (bytes : List ℕ) → 0 < length bytes → length bytes ≤ 8 → list_all is_name_byte bytes ≡ true → is_name (padded bytes) ≡ true
+pub is_name-padded : (bytes : List ℕ) → 0 < length bytes → length bytes ≤ 8 → list_all is_name_byte bytes ≡ true
+    → is_name (padded bytes) ≡ true
 is_name-padded [] some few named = absurd (omega arith)
 is_name-padded (b ∷ bytes) some few named =
     let whole = trimmed-padded (b ∷ bytes) named in
@@ -79,7 +82,8 @@ padded-overlay front word same =
     ap (λ bytes. bytes ++ drop (length word) (replicate 8 0x40)) same ∙ ap (λ blanks. word ++ blanks) (drop-replicate (length word) 8 0x40)
 
 -- a byte in front of bytes that are followed by blanks
-lone-blanks : (b : ℕ) (bytes : List ℕ) (t : Bool) → (t ≡ true → b ≡ 0x40) → replicate (length bytes) 0x40 ≡ bytes → cond t [] (b ∷ []) ++ replicate (suc (length bytes) - length (cond t [] (b ∷ []))) 0x40 ≡ b ∷ bytes
+lone-blanks : (b : ℕ) (bytes : List ℕ) (t : Bool) → (t ≡ true → b ≡ 0x40) → replicate (length bytes) 0x40 ≡ bytes
+    → cond t [] (b ∷ []) ++ replicate (suc (length bytes) - length (cond t [] (b ∷ []))) 0x40 ≡ b ∷ bytes
 lone-blanks b bytes true blank is =
     let same : suc (length bytes) - 0 ≡ suc (length bytes) = omega arith in
     ap (λ count. replicate {A = ℕ} count 0x40) same ∙ (ap (λ all. 0x40 ∷ all) is ∙ ap (λ first. first ∷ bytes) (sym (blank refl)))
@@ -87,7 +91,8 @@ lone-blanks b bytes false blank is =
     let same : suc (length bytes) - 1 ≡ length bytes = omega arith in
     ap (λ count. b ∷ replicate count 0x40) same ∙ ap (λ all. b ∷ all) is
 
-in_front-blanks : (b : ℕ) (rest bytes : List ℕ) → rest ++ replicate (length bytes - length rest) 0x40 ≡ bytes → in_front b rest ++ replicate (suc (length bytes) - length (in_front b rest)) 0x40 ≡ b ∷ bytes
+in_front-blanks : (b : ℕ) (rest bytes : List ℕ) → rest ++ replicate (length bytes - length rest) 0x40 ≡ bytes
+    → in_front b rest ++ replicate (suc (length bytes) - length (in_front b rest)) 0x40 ≡ b ∷ bytes
 in_front-blanks b [] bytes is =
     let same : length bytes - 0 ≡ length bytes = omega arith in
     lone-blanks b bytes (eqb b 0x40) (eqb-true b 0x40) (ap (λ count. replicate {A = ℕ} count 0x40) (sym same) ∙ is)

@@ -1,5 +1,6 @@
 -- The chart of 256 characters is the table: what each says of a byte and of a character.
-use Rattle.std.proofs.Common.{◌≡◌, ◌≢◌, ℕ, suc, ◌+◌, ◌-◌, ◌<◌, ◌≤◌, true, false, cond, eqb, ltb, Option, Some, None, List, [], ◌∷◌, ◌++◌, length, take, get_or, refl, sym, ap, ◌∙◌, arith, ⊎_elim, unwrap_or, find, position}
+use Rattle.std.proofs.Common.{◌≡◌, ◌≢◌, ℕ, suc, ◌+◌, ◌-◌, ◌<◌, ◌≤◌, true, false, cond, eqb, ltb, Option, Some, None, List, [], ◌∷◌, ◌++◌}
+use Rattle.std.proofs.Common.{length, take, get_or, refl, sym, ap, ◌∙◌, arith, ⊎_elim, unwrap_or, find, position}
 use Rattle.std.specs.Prelude.{encode_utf8}
 use Rattle.std.specs.List.{list_all, position_from}
 use Rattle.std.specs.Option.{option_map}
@@ -46,13 +47,15 @@ at_character-other c place d pairs other =
 at_byte-past : (byte place c : ℕ) (cs : List ℕ) → place ≢ byte → at_byte byte (filled place (c ∷ cs)) ≡ at_byte byte (filled (place + 1) cs)
 at_byte-past byte place c cs other =
     ⊎_elim (λ (none : eqb c 63 ≡ true). ap (at_byte byte) (cond-true (eqb c 63) (filled (place + 1) cs) _ none))
-    (λ (some : eqb c 63 ≡ false). ap (at_byte byte) (cond-false (eqb c 63) (filled (place + 1) cs) _ some) ∙ at_byte-other byte place c _ other)
+    (λ (some : eqb c 63 ≡ false). ap (at_byte byte) (cond-false (eqb c 63) (filled (place + 1) cs) _ some)
+    ∙ at_byte-other byte place c _ other)
     (cases_Bool (eqb c 63))
 
 at_character-past : (c place d : ℕ) (ds : List ℕ) → d ≢ c → at_character c (filled place (d ∷ ds)) ≡ at_character c (filled (place + 1) ds)
 at_character-past c place d ds other =
     ⊎_elim (λ (none : eqb d 63 ≡ true). ap (at_character c) (cond-true (eqb d 63) (filled (place + 1) ds) _ none))
-    (λ (some : eqb d 63 ≡ false). ap (at_character c) (cond-false (eqb d 63) (filled (place + 1) ds) _ some) ∙ at_character-other c place d _ other)
+    (λ (some : eqb d 63 ≡ false). ap (at_character c) (cond-false (eqb d 63) (filled (place + 1) ds) _ some)
+    ∙ at_character-other c place d _ other)
     (cases_Bool (eqb d 63))
 
 -- before the chart begins there is nothing
@@ -64,8 +67,11 @@ at_byte-before byte place (c ∷ cs) before =
 -- the first place, where the byte is that place
 at_byte-first : (byte c : ℕ) (cs : List ℕ) → unwrap_or (at_byte byte (filled byte (c ∷ cs))) 63 ≡ c
 at_byte-first byte c cs =
-    ⊎_elim (λ (none : eqb c 63 ≡ true). ap (λ o. unwrap_or o 63) (ap (at_byte byte) (cond-true (eqb c 63) (filled (byte + 1) cs) _ none) ∙ at_byte-before byte (byte + 1) cs (omega arith)) ∙ sym (eqb-true c 63 none))
-    (λ (some : eqb c 63 ≡ false). ap (λ o. unwrap_or o 63) (ap (at_byte byte) (cond-false (eqb c 63) (filled (byte + 1) cs) _ some) ∙ at_byte-here byte byte c _ refl))
+    ⊎_elim (λ (none : eqb c 63 ≡ true). ap (λ o. unwrap_or o 63)
+    (ap (at_byte byte) (cond-true (eqb c 63) (filled (byte + 1) cs) _ none)
+    ∙ at_byte-before byte (byte + 1) cs (omega arith)) ∙ sym (eqb-true c 63 none))
+    (λ (some : eqb c 63 ≡ false). ap (λ o. unwrap_or o 63)
+    (ap (at_byte byte) (cond-false (eqb c 63) (filled (byte + 1) cs) _ some) ∙ at_byte-here byte byte c _ refl))
     (cases_Bool (eqb c 63))
 
 -- what a chart has at a byte is the byte's character, or a question mark
@@ -77,7 +83,8 @@ at_byte-filled byte place (c ∷ cs) from =
     rw here (at_byte-first byte c cs) ∙ sym (ap (λ k. get_or (c ∷ cs) k 63) first))
     (λ (other : place ≢ byte).
     let later : byte - place ≡ suc (byte - (place + 1)) = omega arith in
-    ap (λ o. unwrap_or o 63) (at_byte-past byte place c cs other) ∙ (at_byte-filled byte (place + 1) cs (omega arith) ∙ sym (ap (λ k. get_or (c ∷ cs) k 63) later)))
+    ap (λ o. unwrap_or o 63) (at_byte-past byte place c cs other)
+    ∙ (at_byte-filled byte (place + 1) cs (omega arith) ∙ sym (ap (λ k. get_or (c ∷ cs) k 63) later)))
     (cases_eq place byte)
 
 -- the first place of a character is its byte
@@ -85,9 +92,11 @@ at_character-filled : (c place : ℕ) (ds : List ℕ) → c ≢ 63 → at_charac
 at_character-filled c place [] known = refl
 at_character-filled c place (d ∷ ds) known =
     ⊎_elim (λ (here : d ≡ c).
-    ap (at_character c) (cond-false (eqb d 63) (filled (place + 1) ds) _ (ne_eqb d 63 (λ none. known (sym here ∙ none)))) ∙ (at_character-here c place d _ here ∙ sym (cond-true (eqb d c) (Some place) _ (eq-eqb d c here))))
+    ap (at_character c) (cond-false (eqb d 63) (filled (place + 1) ds) _ (ne_eqb d 63 (λ none. known (sym here ∙ none))))
+    ∙ (at_character-here c place d _ here ∙ sym (cond-true (eqb d c) (Some place) _ (eq-eqb d c here))))
     (λ (other : d ≢ c).
-    at_character-past c place d ds other ∙ (at_character-filled c (place + 1) ds known ∙ sym (cond-false (eqb d c) (Some place) _ (ne_eqb d c other))))
+    at_character-past c place d ds other
+    ∙ (at_character-filled c (place + 1) ds known ∙ sym (cond-false (eqb d c) (Some place) _ (ne_eqb d c other))))
     (cases_eq d c)
 
 pub shown-chart : (byte : ℕ) → byte < 256 → shown byte ≡ get_or CHART byte 0
@@ -105,11 +114,13 @@ unfolding byte_of_character
 byte_of_character-none = refl
 
 -- a text of ASCII alone
-at_byte-ascii : (byte : ℕ) (pairs : List (ℕ × ℕ)) → list_all (λ (pair : ℕ × ℕ). ltb pair.1 128) pairs ≡ true → unwrap_or (at_byte byte pairs) 63 < 128
+at_byte-ascii : (byte : ℕ) (pairs : List (ℕ × ℕ)) → list_all (λ (pair : ℕ × ℕ). ltb pair.1 128) pairs ≡ true
+    → unwrap_or (at_byte byte pairs) 63 < 128
 at_byte-ascii byte [] ascii = omega arith
 at_byte-ascii byte (pair ∷ pairs) ascii =
     let parts = and_parts (ltb pair.1 128) (list_all (λ (pair : ℕ × ℕ). ltb pair.1 128) pairs) ascii in
-    cond_both (eqb pair.0 byte) (Some pair) (find (λ (pair : ℕ × ℕ). eqb pair.0 byte) pairs) (λ found. unwrap_or (option_map (λ (pair : ℕ × ℕ). pair.1) found) 63 < 128)
+    cond_both (eqb pair.0 byte) (Some pair) (find (λ (pair : ℕ × ℕ). eqb pair.0 byte) pairs)
+    (λ found. unwrap_or (option_map (λ (pair : ℕ × ℕ). pair.1) found) 63 < 128)
     (λ here. ltb-true pair.1 128 parts.0) (λ other. at_byte-ascii byte pairs parts.1)
 
 pub shown-ascii : (byte : ℕ) → shown byte < 128
@@ -117,7 +128,9 @@ unfolding character_of
 shown-ascii byte = at_byte-ascii byte table refl
 
 -- one more byte is shown
-pub shown_text-more : (bytes : List ℕ) (i d c : ℕ) → i < length bytes → c ≡ shown (get_or bytes i d) → shown_text (take i bytes) ++ encode_utf8 c ≡ shown_text (take (i + 1) bytes)
+pub shown_text-more : (bytes : List ℕ) (i d c : ℕ) → i < length bytes → c ≡ shown (get_or bytes i d)
+    → shown_text (take i bytes) ++ encode_utf8 c ≡ shown_text (take (i + 1) bytes)
 shown_text-more bytes i d c within is =
     let ascii : c < 128 = rw is (shown-ascii (get_or bytes i d)) in
-    ap (λ text. shown_text (take i bytes) ++ text) (encode_ascii c ascii ∙ ap (λ e. e ∷ []) is) ∙ sym (ap shown_text (take_more bytes i d within) ∙ map-append shown (take i bytes) (get_or bytes i d ∷ []))
+    ap (λ text. shown_text (take i bytes) ++ text) (encode_ascii c ascii ∙ ap (λ e. e ∷ []) is)
+    ∙ sym (ap shown_text (take_more bytes i d within) ∙ map-append shown (take i bytes) (get_or bytes i d ∷ []))

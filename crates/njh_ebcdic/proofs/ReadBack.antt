@@ -14,7 +14,9 @@ use Rattle.njh_ebcdic.proofs.TableLaws.{byte_or_blank-shown}
 pub name_of_word-trimmed : (name : List ℕ) → is_name name ≡ true → name_of_word (trimmed name) ≡ Ok name
 name_of_word-trimmed name is =
     let parts = IsNamed-is_name name is in
-    cond-false (is_empty (trimmed name)) _ _ parts.some ∙ (cond-false (ltb 8 (length (trimmed name))) _ _ (le-ltb 8 _ parts.few) ∙ (cond-true (list_all is_name_byte (trimmed name)) _ _ parts.named ∙ ap Ok parts.whole))
+    cond-false (is_empty (trimmed name)) _ _ parts.some
+    ∙ (cond-false (ltb 8 (length (trimmed name))) _ _ (le-ltb 8 _ parts.few)
+    ∙ (cond-true (list_all is_name_byte (trimmed name)) _ _ parts.named ∙ ap Ok parts.whole))
 
 shown_text-ascii : (bytes : List ℕ) (i : ℕ) → slice_index (shown_text bytes) i < 128
 shown_text-ascii [] i = omega arith
@@ -25,10 +27,12 @@ bytes_or_blanks-shown_text : (bytes : List ℕ) → list_all is_name_byte bytes 
 bytes_or_blanks-shown_text [] named = refl
 bytes_or_blanks-shown_text (b ∷ bytes) named =
     let parts = and_parts (is_name_byte b) (list_all is_name_byte bytes) named in
-    ap (λ first. first ∷ bytes_or_blanks (shown_text bytes)) (byte_or_blank-shown b parts.0) ∙ ap (λ rest. b ∷ rest) (bytes_or_blanks-shown_text bytes parts.1)
+    ap (λ first. first ∷ bytes_or_blanks (shown_text bytes)) (byte_or_blank-shown b parts.0)
+    ∙ ap (λ rest. b ∷ rest) (bytes_or_blanks-shown_text bytes parts.1)
 
 pub name_of_text-shown_text : (name : List ℕ) → is_name name ≡ true → name_of_text (shown_text (trimmed name)) ≡ Ok name
 name_of_text-shown_text name is =
     let parts = IsNamed-is_name name is in
-    let same = ap bytes_or_blanks (chars-IsAscii (shown_text (trimmed name)) (shown_text-ascii (trimmed name))) ∙ bytes_or_blanks-shown_text (trimmed name) parts.named in
+    let same = ap bytes_or_blanks (chars-IsAscii (shown_text (trimmed name)) (shown_text-ascii (trimmed name)))
+    ∙ bytes_or_blanks-shown_text (trimmed name) parts.named in
     ap name_of_word same ∙ name_of_word-trimmed name is

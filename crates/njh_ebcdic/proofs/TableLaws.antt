@@ -1,5 +1,6 @@
 -- The table read in both directions, and folding by the table.
-use Rattle.std.proofs.Common.{◌≡◌, ℕ, ◌-◌, ◌<◌, Bool, true, false, eqb, not, Option, Some, None, List, [], ◌∷◌, ◌||◌, refl, sym, ap, ◌∙◌, ⊎_elim, find, arith}
+use Rattle.std.proofs.Common.{◌≡◌, ℕ, ◌-◌, ◌<◌, Bool, true, false, eqb, not, Option, Some, None, List, [], ◌∷◌, ◌||◌, refl, sym, ap, ◌∙◌}
+use Rattle.std.proofs.Common.{⊎_elim, find, arith}
 use Rattle.std.specs.List.{list_all}
 use Rattle.std.specs.Option.{option_map}
 use Rattle.std.proofs.lemmas.Bool.{cases_Bool, eqb-true, and_parts, cond-true, cond-false, agree_below_at, false≢true}
@@ -21,7 +22,8 @@ option_map-some f None n is = cc
 option_map-some f (Some pair) n is = (pair, refl, cc)
 
 -- what holds of each pair holds of one that was found, and it was looked for
-found-all : (test fact : ℕ × ℕ → Bool) (pairs : List (ℕ × ℕ)) (pair : ℕ × ℕ) → find test pairs ≡ Some pair → list_all fact pairs ≡ true → (test pair ≡ true) × (fact pair ≡ true)
+found-all : (test fact : ℕ × ℕ → Bool) (pairs : List (ℕ × ℕ)) (pair : ℕ × ℕ) → find test pairs ≡ Some pair
+    → list_all fact pairs ≡ true → (test pair ≡ true) × (fact pair ≡ true)
 found-all test fact [] pair found all = cc
 found-all test fact (p ∷ ps) pair found all =
     let parts = and_parts (fact p) (list_all fact ps) all in
@@ -36,14 +38,18 @@ pub byte_of_character-character : (byte character : ℕ) → character_of byte �
 unfolding character_of byte_of_character
 byte_of_character-character byte character is =
     let at = option_map-some (λ pair. pair.1) (find (λ (pair : ℕ × ℕ). eqb pair.0 byte) table) character is in
-    let known = found-all (λ pair. eqb pair.0 byte) (λ pair. is_just pair.0 (option_map (λ (other : ℕ × ℕ). other.0) (find (λ other. eqb other.1 pair.1) table))) table at.0 at.1 refl in
+    let known = found-all (λ pair. eqb pair.0 byte)
+    (λ pair. is_just pair.0
+    (option_map (λ (other : ℕ × ℕ). other.0) (find (λ other. eqb other.1 pair.1) table))) table at.0 at.1 refl in
     ap byte_of_character (sym at.2) ∙ (is_just-true _ _ known.1 ∙ ap Some (eqb-true _ byte known.0))
 
 pub character_of-byte : (byte character : ℕ) → byte_of_character character ≡ Some byte → character_of byte ≡ Some character
 unfolding character_of byte_of_character
 character_of-byte byte character is =
     let at = option_map-some (λ pair. pair.0) (find (λ (pair : ℕ × ℕ). eqb pair.1 character) table) byte is in
-    let known = found-all (λ pair. eqb pair.1 character) (λ pair. is_just pair.1 (option_map (λ (other : ℕ × ℕ). other.1) (find (λ other. eqb other.0 pair.0) table))) table at.0 at.1 refl in
+    let known = found-all (λ pair. eqb pair.1 character)
+    (λ pair. is_just pair.1
+    (option_map (λ (other : ℕ × ℕ). other.1) (find (λ other. eqb other.0 pair.0) table))) table at.0 at.1 refl in
     ap character_of (sym at.2) ∙ (is_just-true _ _ known.1 ∙ ap Some (eqb-true _ character known.0))
 
 -- a test that a condition brings about, where both are computed
@@ -57,7 +63,8 @@ plain_below c plain = grind (arith, nat_tests)
 pub byte_of_character-plain : (c : ℕ) → is_plain c ≡ true → byte_of_character c ≡ Some (ebcdic_byte c)
 unfolding byte_of_character
 byte_of_character-plain c plain =
-    let all = agree_below_at (λ k. not (is_plain k) || is_just (ebcdic_byte k) (byte_of_character k)) (λ _. true) 91 c refl (plain_below c plain) in
+    let all = agree_below_at (λ k. not (is_plain k) || is_just (ebcdic_byte k) (byte_of_character k)) (λ _. true) 91 c refl
+    (plain_below c plain) in
     is_just-true _ _ (brings _ _ all plain)
 
 pub shown-upper : (byte : ℕ) → byte < 256 → within 97 122 (shown byte) ≡ true → shown (upper byte) ≡ shown byte - 32
@@ -78,5 +85,6 @@ name_byte_below b name = grind (arith, nat_tests)
 pub byte_or_blank-shown : (b : ℕ) → is_name_byte b ≡ true → byte_or_blank (shown b) ≡ b
 unfolding character_of byte_of_character
 byte_or_blank-shown b name =
-    let all = agree_below_at (λ k. not (is_name_byte k) || eqb (byte_or_blank (shown k)) k) (λ _. true) 256 b refl (name_byte_below b name) in
+    let all = agree_below_at (λ k. not (is_name_byte k) || eqb (byte_or_blank (shown k)) k) (λ _. true) 256 b refl
+    (name_byte_below b name) in
     eqb-true _ _ (brings _ _ all name)

@@ -1,8 +1,11 @@
 //! The characters of EBCDIC, and their bytes.
 
-ghost use Rattle.std.specs.Prelude.{◌≡◌, ◌==◌, ◌<◌, IfSome, position};
-ghost use Rattle.njh_ebcdic.specs.Characters.{byte_of_character, shown};
-ghost use Rattle.njh_ebcdic.specs.Names.{upper};
+ghost use Rattle.std.specs.Prelude.{◌≡◌, ◌==◌, ◌<◌, IfSome, IsTrue, position};
+ghost use Rattle.njh_ebcdic.specs.Characters.{byte_of_character, is_plain, shown};
+ghost use Rattle.njh_ebcdic.specs.Names.{ebcdic_byte, upper};
+
+use crate::fields::BLANK;
+use crate::laws::characters_and_bytes;
 
 /// What is shown of a byte that has no character.
 const NONE: char = '?';
@@ -45,6 +48,15 @@ pub fn byte_of(character: char) -> Option<u8>
     }
     let place = place_of(character)?;
     Some(place as u8)
+}
+
+/// The byte of a capital letter, a digit, a full stop or a blank of ASCII: a character of the hub's own words.
+pub fn plain_byte(character: u8) -> u8
+    requires { IsTrue (is_plain character) }
+    ensures { result ≡ ebcdic_byte character }
+{
+    characters_and_bytes();
+    byte_of(char::from(character)).unwrap_or(BLANK)
 }
 
 /// Where a character stands first in the chart.

@@ -5,10 +5,8 @@ mod characters;
 mod fields;
 mod laws;
 mod name;
-#[cfg(test)]
-mod tests;
 
-pub use characters::{byte_of, fold_upper, text_of};
+pub use characters::{byte_of, fold_upper, plain_byte, text_of};
 pub use fields::{BLANK, FIELD, is_name, pad, trim_blanks};
 pub use laws::{characters_and_bytes, folding, names_read_back, trimming};
 pub use name::{Name, NameFault};

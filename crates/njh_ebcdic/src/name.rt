@@ -12,10 +12,13 @@ use thiserror::Error;
 /// Why a text or a field is no name.
 #[derive(Clone, Copy, Debug, PartialEq, Eq, Error)]
 pub enum NameFault {
+    /// There are no characters, or blanks alone.
     #[error("E1 Empty")]
     Empty,
+    /// There are more than eight characters.
     #[error("E2 TooLong")]
     TooLong,
+    /// A character is none of a name.
     #[error("E3 BadCharacter")]
     BadCharacter,
 }
@@ -23,7 +26,7 @@ pub enum NameFault {
 /// Eight bytes of EBCDIC: 1 to 8 of A to Z, 0 to 9, `$`, `#`, `@`, and blanks behind them.
 #[derive(Clone, Copy, Debug, PartialEq, Eq, PartialOrd, Ord, Hash)]
 pub struct Name {
-    bytes: [u8; 8],
+    bytes: [u8; FIELD],
 }
 
 impl Model for Name {

@@ -1,5 +1,6 @@
 -- Decimal digits.
-use Rattle.std.proofs.Common.{◌≡◌, ℕ, zero, suc, ◌+◌, ◌/◌, ◌%◌, ◌^◌, ◌<◌, ◌≤◌, ◌⊎◌, inl, inr, Bool, true, false, List, [], ◌∷◌, ◌++◌, length, sym, ◌∙◌, ap, arith, length-append}
+use Rattle.std.proofs.Common.{◌≡◌, ℕ, zero, suc, ◌+◌, ◌/◌, ◌%◌, ◌^◌, ◌<◌, ◌≤◌, ◌⊎◌, inl, inr, Bool, true, false, List, [], ◌∷◌, ◌++◌}
+use Rattle.std.proofs.Common.{length, sym, ◌∙◌, ap, arith, length-append}
 use Rattle.std.proofs.Math.Nat.{pow-suc}
 use Rattle.std.proofs.lemmas.Bool.{lt-ltb, le-ltb, cases_lt}
 use Rattle.njh_ebcdic.specs.Names.{digits, digits_within}
@@ -20,7 +21,8 @@ one_more k n fits (inl small) = one_digit k n small ∙ sym (one_digit (suc k) n
 one_more zero n fits (inr large) = absurd (omega (arith, pow-suc 10 zero))
 one_more (suc k) n fits (inr large) =
     more_digits (suc k) n large
-    ∙ ap (λ (higher : List ℕ). higher ++ (n % 10 + 0xf0) ∷ []) (one_more k (n / 10) (omega (arith, pow-suc 10 (suc k))) (cases_lt (n / 10) 10))
+    ∙ ap (λ (higher : List ℕ). higher ++ (n % 10 + 0xf0) ∷ [])
+    (one_more k (n / 10) (omega (arith, pow-suc 10 (suc k))) (cases_lt (n / 10) 10))
     ∙ sym (more_digits (suc (suc k)) n large)
 
 -- the last digit stands behind the others

@@ -9,18 +9,21 @@ number_at-take place n bytes within =
     let low = get_or-take n bytes (place + 1) 0 (omega arith) in
     omega arith
 
-pub number_at-append : (place : ℕ) (bytes more : List ℕ) → place + 2 ≤ length bytes → number_at place (bytes ++ more) ≡ number_at place bytes
+pub number_at-append : (place : ℕ) (bytes more : List ℕ) → place + 2 ≤ length bytes
+    → number_at place (bytes ++ more) ≡ number_at place bytes
 number_at-append place bytes more within =
     let high = get_or_append_left bytes more 0 place (omega arith) in
     let low = get_or_append_left bytes more 0 (place + 1) (omega arith) in
     omega arith
 
 -- a field that stands behind some bytes
-pub field_at : (before inner after : List ℕ) (place size : ℕ) → length before ≡ place → length inner ≡ size → field place size (before ++ (inner ++ after)) ≡ inner
+pub field_at : (before inner after : List ℕ) (place size : ℕ) → length before ≡ place → length inner ≡ size
+    → field place size (before ++ (inner ++ after)) ≡ inner
 field_at before inner after place size e f = ap (take size) (drop_at before (inner ++ after) place e) ∙ take_at inner after size f
 
 -- a number that stands behind some bytes
-pub number_at-two_bytes : (before after : List ℕ) (place n : ℕ) → length before ≡ place → n < 65536 → number_at place (before ++ (two_bytes n ++ after)) ≡ n
+pub number_at-two_bytes : (before after : List ℕ) (place n : ℕ) → length before ≡ place → n < 65536
+    → number_at place (before ++ (two_bytes n ++ after)) ≡ n
 number_at-two_bytes before after place n e small =
     let high = get_or_at before (n / 256 % 256) (n % 256 ∷ after) 0 place e in
     let low : get_or (before ++ (two_bytes n ++ after)) (place + 1) 0 ≡ n % 256 =

@@ -10,7 +10,8 @@ use Rattle.njh_header.specs.FileHeaders.{data_set_header_of}
 
 drop_at_get : (records : List Stored) (n : ℕ) (r : Stored) → slice_get records n ≡ Some r → drop n records ≡ r ∷ drop (n + 1) records
 drop_at_get records n r at =
-    drop_more records n r (slice_get_within records n r at) ∙ ap (λ (x : Stored). x ∷ drop (n + 1) records) (get_or_from_slice_get records n r r at)
+    drop_more records n r (slice_get_within records n r at)
+    ∙ ap (λ (x : Stored). x ∷ drop (n + 1) records) (get_or_from_slice_get records n r r at)
 
 -- what the record at the front says, by the tests of its SRCB
 said : (r : Stored) → Option DataSetHeader → Bool → Bool → Option DataSetHeader

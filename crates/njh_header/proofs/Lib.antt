@@ -1,4 +1,5 @@
 pub mod Digits
+pub mod Decimal
 pub mod Fields
 pub mod TextLemmas
 pub mod Trimmed
@@ -6,4 +7,5 @@ pub mod Walking
 pub mod FirstHeader
 pub mod Redirected
 pub mod SectionsLaw
+pub mod HeadersLaw
 pub mod SignOnBack

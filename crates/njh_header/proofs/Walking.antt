@@ -1,12 +1,13 @@
 -- The walk over a header's sections.
-use Rattle.std.proofs.Common.{◌≡◌, ◌≢◌, ℕ, zero, suc, ◌+◌, ◌-◌, ◌<◌, ◌≤◌, List, [], ◌∷◌, length, drop, nat_lt, Result, Ok, Err, refl, sym, ◌∙◌, ap, arith, length-drop, inl, inr, ◌⊎◌}
+use Rattle.std.proofs.Common.{◌≡◌, ◌≢◌, ℕ, zero, suc, ◌+◌, ◌-◌, ◌<◌, ◌≤◌, List, [], ◌∷◌, length, drop, nat_lt, Result, Ok, Err, refl}
+use Rattle.std.proofs.Common.{sym, ◌∙◌, ap, arith, length-drop, inl, inr, ◌⊎◌}
 use Rattle.std.proofs.lemmas.Bool.{le-ltb, cond-false}
 use Rattle.std.proofs.lemmas.Bool.Decides.{nat_tests}
 use Rattle.njh_record.specs.Bytes.{number_at}
 use Rattle.njh_header.specs.declared.fault.HeaderFault.{HeaderFault}
 use Rattle.njh_header.specs.declared.fault.HeaderFault.TheVariants.{TooShort, NoGeneralSection, SectionOverrun}
-use Rattle.njh_header.specs.Headers.{Front, Ends, Cut, Small, General, Other, front_of, walk, general_section}
-use Rattle.njh_header.specs.Sections.{BeginsGeneral, IsCut, IsSmall}
+use Rattle.njh_header.specs.Walk.{Front, Ends, Cut, Small, General, Other, front_of, walk, general_section}
+use Rattle.njh_header.specs.Sections.{BeginsGeneral, IsCut}
 
 -- a whole section of another kind stands at the front
 pub record BeginsOther (rest : List ℕ) : Type 0 where
@@ -18,11 +19,12 @@ pub record BeginsOther (rest : List ℕ) : Type 0 where
 abbrev pub IsFront : ℕ → List ℕ → Front → Type 0
 IsFront size rest Ends = length rest ≡ 0
 IsFront size rest Cut = IsCut rest
-IsFront size rest Small = BeginsGeneral rest × IsSmall size rest
+IsFront size rest Small = BeginsGeneral rest × ((number_at 0 rest < size) ⊎ (length rest < size))
 IsFront size rest General = BeginsGeneral rest × (size ≤ number_at 0 rest) × (size ≤ length rest)
 IsFront size rest Other = BeginsOther rest
 
-cut_front : (size : ℕ) (rest : List ℕ) → 0 < length rest → (length rest < 4) ⊎ ((number_at 0 rest < 4) ⊎ ((number_at 2 rest ≢ 0) × (length rest < number_at 0 rest))) → front_of size rest ≡ Cut
+cut_front : (size : ℕ) (rest : List ℕ) → 0 < length rest
+    → (length rest < 4) ⊎ ((number_at 0 rest < 4) ⊎ ((number_at 2 rest ≢ 0) × (length rest < number_at 0 rest))) → front_of size rest ≡ Cut
 cut_front size rest some_left (inl few) = grind (arith, nat_tests)
 cut_front size rest some_left (inr (inl short)) = grind (arith, nat_tests)
 cut_front size rest some_left (inr (inr over)) = grind (arith, nat_tests)
@@ -47,7 +49,8 @@ decided front place next =
       | Other ↦ next
     ]
 
-decided_same : (front : Front) (place : ℕ) (m n : Result ℕ HeaderFault) → (front ≡ Other → m ≡ n) → decided front place m ≡ decided front place n
+decided_same : (front : Front) (place : ℕ) (m n : Result ℕ HeaderFault) → (front ≡ Other → m ≡ n)
+    → decided front place m ≡ decided front place n
 decided_same Ends place m n same = refl
 decided_same Cut place m n same = refl
 decided_same Small place m n same = refl
@@ -65,24 +68,29 @@ walk_fuel (suc k) (suc m) size place rest h i =
     (λ e.
     let other = other_front size rest e in
     let shorter = length-drop (number_at 0 rest) rest in
-    walk_fuel k m size (place + number_at 0 rest) (drop (number_at 0 rest) rest) (omega (arith, other.length_field)) (omega (arith, other.length_field)))
+    walk_fuel k m size (place + number_at 0 rest) (drop (number_at 0 rest) rest) (omega (arith, other.length_field))
+    (omega (arith, other.length_field)))
 
 -- one section on
 walk_at : (size place : ℕ) (rest : List ℕ) → walk (length rest) size place rest
-    ≡ decided (front_of size rest) place (walk (length (drop (number_at 0 rest) rest)) size (place + number_at 0 rest) (drop (number_at 0 rest) rest))
+    ≡ decided (front_of size rest) place
+    (walk (length (drop (number_at 0 rest) rest)) size (place + number_at 0 rest) (drop (number_at 0 rest) rest))
 walk_at size place rest =
     walk_fuel (length rest) (suc (length rest)) size place rest (omega arith) (omega arith)
     ∙ decided_same (front_of size rest) place _ _
     (λ e.
     let other = other_front size rest e in
     let shorter = length-drop (number_at 0 rest) rest in
-    walk_fuel (length rest) (length (drop (number_at 0 rest) rest)) size (place + number_at 0 rest) (drop (number_at 0 rest) rest) (omega arith) (omega arith))
+    walk_fuel (length rest) (length (drop (number_at 0 rest) rest)) size (place + number_at 0 rest) (drop (number_at 0 rest) rest)
+    (omega arith) (omega arith))
 
 pub walk_front : (size place : ℕ) (rest : List ℕ) (front : Front) → IsFront size rest front → walk (length rest) size place rest
     ≡ decided front place (walk (length (drop (number_at 0 rest) rest)) size (place + number_at 0 rest) (drop (number_at 0 rest) rest))
 walk_front size place rest front is =
     walk_at size place rest
-    ∙ ap (λ (f : Front). decided f place (walk (length (drop (number_at 0 rest) rest)) size (place + number_at 0 rest) (drop (number_at 0 rest) rest))) (front_only size rest front is)
+    ∙ ap (λ (f : Front). decided f place
+    (walk (length (drop (number_at 0 rest) rest)) size (place + number_at 0 rest)
+    (drop (number_at 0 rest) rest))) (front_only size rest front is)
 
 pub walk_cut : (size place : ℕ) (rest : List ℕ) → IsCut rest → walk (length rest) size place rest ≡ Err SectionOverrun
 walk_cut size place rest cut = walk_front size place rest Cut cut
@@ -97,10 +105,12 @@ walk_begins size bytes rest enough is =
     ∙ ap (λ (r : List ℕ). walk (length bytes) size 4 r) is
     ∙ sym (cond-false (nat_lt (length bytes) 4) (Err TooShort) (walk (length bytes) size 4 (drop 4 bytes)) (le-ltb (length bytes) 4 enough))
 
-pub walk_passes : (size : ℕ) (bytes rest after : List ℕ) → length rest ≤ length bytes → BeginsOther rest → after ≡ drop (number_at 0 rest) rest
+pub walk_passes : (size : ℕ) (bytes rest after : List ℕ) → length rest ≤ length bytes → BeginsOther rest
+    → after ≡ drop (number_at 0 rest) rest
     → walk (length after) size (length bytes - length after) after ≡ walk (length rest) size (length bytes - length rest) rest
 walk_passes size bytes rest after within other is =
-    let shorter : length after + number_at 0 rest ≡ length rest = omega (arith, ap length is, length-drop (number_at 0 rest) rest, other.within) in
+    let shorter : length after + number_at 0 rest ≡ length rest =
+    omega (arith, ap length is, length-drop (number_at 0 rest) rest, other.within) in
     let further : length bytes - length after ≡ length bytes - length rest + number_at 0 rest = omega arith in
     ap (λ (place : ℕ). walk (length after) size place after) further
     ∙ ap (λ (r : List ℕ). walk (length r) size (length bytes - length rest + number_at 0 rest) r) is

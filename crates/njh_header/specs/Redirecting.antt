@@ -13,12 +13,14 @@ abbrev pub is_after_header : Option ℕ → Bool
 is_after_header None = false
 is_after_header (Some before) = before == 0xe0
 
--- where a record names the file's destination, by the SRCB of the record before it: a job's file in its first record, an output file in each
+-- where a record names the file's destination, by the SRCB of the record before it: a job's file in its first record, an output file in
+-- each
 -- data set header that is no continuation
 abbrev pub destination_place : Kind → Option ℕ → Stored → Option ℕ
 destination_place In None r = option_map (λ h. h.place) (result_ok (job_header r.bytes))
 destination_place In (Some before) r = None
-destination_place Out before r = cond (has_srcb 0xe0 r && not (is_after_header before)) (option_map (λ h. h.place) (result_ok (data_set_header r.bytes))) None
+destination_place Out before r =
+    cond (has_srcb 0xe0 r && not (is_after_header before)) (option_map (λ h. h.place) (result_ok (data_set_header r.bytes))) None
 
 abbrev pub redirected_record : List ℕ → Option ℕ → Stored → Stored
 redirected_record node None r = r

@@ -1,12 +1,13 @@
 //! Data set headers.
 
 use crate::fault::HeaderFault;
-use crate::field::{read_field, read_name, write_field};
+use crate::field::{read_name, write_field};
+use crate::laws::one_data_set_header;
 use crate::places::data_set;
 use crate::section::find_general;
 use crate::user::{Destination, User};
 use njh_ebcdic::Name;
-use njh_record::Record;
+use njh_record::{Record, field_at};
 use std::marker::Model;
 
 /// What the general section of a data set header says (IBM SC23-0070, "Data set header").
@@ -27,12 +28,24 @@ impl Model for DataSetHeader {
 }
 
 impl DataSetHeader {
-    ghost use Rattle.std.specs.Prelude.{◌≡◌, ◌+◌, ◌≤◌, length, IfOk};
+    ghost use Rattle.std.specs.Prelude.{◌≡◌, ◌+◌, ◌≤◌, ◌↔◌, length, IfOk};
     ghost use Rattle.njh_record.specs.Bytes.{with_field};
-    ghost use Rattle.njh_header.specs.Headers.{data_set_header};
+    ghost use Rattle.njh_header.specs.Headers.{DataSetHeader as Seen, IsDataSetHeader, IsDataSetFault, data_set_header};
 
     /// The data set header that a record is.
     pub fn read(bytes: &[u8]) -> Result<DataSetHeader, HeaderFault>
+        // It is what the record is by its sections, or the fault that the record has by them.
+        ensures read { (header : Seen) → (result ≡ Ok header) ↔ IsDataSetHeader bytes.now header }
+        ensures fault { (fault : HeaderFault) → (result ≡ Err fault) ↔ IsDataSetFault bytes.now fault }
+
+        ensures header { result ≡ data_set_header bytes.now }
+        ensures within { IfOk result (λ header. header.place + 8 ≤ length bytes.now) }
+    {
+        one_data_set_header();
+        Self::of_sections(bytes)
+    }
+
+    fn of_sections(bytes: &[u8]) -> Result<DataSetHeader, HeaderFault>
         ensures header { result ≡ data_set_header bytes.now }
         ensures within { IfOk result (λ header. header.place + 8 ≤ length bytes.now) }
     {
@@ -42,18 +55,20 @@ impl DataSetHeader {
         Ok(DataSetHeader {
             destination: User {
                 node,
-                user: read_field(bytes, section + data_set::DESTINATION_USER),
+                user: field_at(bytes, section + data_set::DESTINATION_USER),
             },
             place,
         })
     }
 
+    /// The node that the data set goes to.
     pub fn destination_node(&self) -> Name
         ensures { result ≡ self.now.destination.0 }
     {
         self.destination.node
     }
 
+    /// The field of the user there.
     pub fn destination_user(&self) -> [u8; 8]
         ensures { result ≡ self.now.destination.1 }
     {

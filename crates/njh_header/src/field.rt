@@ -7,7 +7,7 @@ ghost use Rattle.njh_ebcdic.specs.Names.{is_name};
 use crate::fault::HeaderFault;
 use byteorder::{BigEndian, ByteOrder};
 use njh_ebcdic::Name;
-use njh_record::Record;
+use njh_record::{Record, field_at};
 
 /// The number in the two bytes at a place, the high byte first.
 pub fn read_number(bytes: &[u8], place: usize) -> u16
@@ -17,16 +17,6 @@ pub fn read_number(bytes: &[u8], place: usize) -> u16
     BigEndian::read_u16(&bytes[place..])
 }
 
-/// The eight bytes at a place.
-pub fn read_field(bytes: &[u8], place: usize) -> [u8; 8]
-    requires { place + 8 ≤ length bytes.now }
-    ensures { result ≡ field place 8 bytes.now }
-{
-    let mut eight = [0; 8];
-    eight.copy_from_slice(&bytes[place..place + 8]);
-    eight
-}
-
 /// The name in the eight bytes at a place.
 pub fn read_name(bytes: &[u8], place: usize) -> Result<Name, HeaderFault>
     requires { place + 8 ≤ length bytes.now }
@@ -34,7 +24,7 @@ pub fn read_name(bytes: &[u8], place: usize) -> Result<Name, HeaderFault>
     ensures name { IfOk result (λ name. name ≡ field place 8 bytes.now) }
     ensures fault { IfErr result (λ fault. fault ≡ HeaderFault.BadName) }
 {
-    Name::of_field(&read_field(bytes, place)).map_err(|_| HeaderFault::BadName)
+    Name::of_field(&field_at(bytes, place)).map_err(|_| HeaderFault::BadName)
 }
 
 /// Puts eight bytes at a place, and leaves the others.

@@ -3,10 +3,12 @@
 use njh_ebcdic::Name;
 use std::marker::Model;
 
-/// What a file is called: its origin node and its original job number.
+/// What a file is called.
 #[derive(Clone, Copy, Debug, PartialEq, Eq)]
 pub struct FileName {
+    /// Its origin node.
     pub node: Name,
+    /// Its original job number.
     pub number: u16,
 }
 

@@ -1,13 +1,14 @@
 //! Job headers.
 
 use crate::fault::HeaderFault;
-use crate::field::{read_field, read_name, read_number, write_field};
+use crate::field::{read_name, read_number, write_field};
 use crate::file_name::FileName;
+use crate::laws::one_job_header;
 use crate::places::job;
 use crate::section::find_general;
 use crate::user::{Destination, User};
 use njh_ebcdic::Name;
-use njh_record::Record;
+use njh_record::{Record, field_at};
 use std::marker::Model;
 
 /// What the general section of a job header says (IBM SC23-0070, "Job header").
@@ -26,18 +27,44 @@ impl Model for JobHeader {
 
     ghost Value = { headers.JobHeader };
 
-    ghost view = { λ h. record { number = h.number; name = h.name; user = h.user; origin = h.origin; execution = h.execution; place = h.place } };
+    ghost view = { λ h. record {
+      number = h.number;
+      name = h.name;
+      user = h.user;
+      origin = h.origin;
+      execution = h.execution;
+      place = h.place;
+    } };
 
-    ghost inverse = { λ h. record { number = h.number; name = h.name; user = h.user; origin = h.origin; execution = h.execution; place = h.place } };
+    ghost inverse = { λ h. record {
+      number = h.number;
+      name = h.name;
+      user = h.user;
+      origin = h.origin;
+      execution = h.execution;
+      place = h.place;
+    } };
 }
 
 impl JobHeader {
-    ghost use Rattle.std.specs.Prelude.{◌≡◌, ◌+◌, ◌≤◌, length, IfOk};
+    ghost use Rattle.std.specs.Prelude.{◌≡◌, ◌+◌, ◌≤◌, ◌↔◌, length, IfOk};
     ghost use Rattle.njh_record.specs.Bytes.{with_field};
-    ghost use Rattle.njh_header.specs.Headers.{job_header};
+    ghost use Rattle.njh_header.specs.Headers.{JobHeader as Seen, IsJobHeader, IsJobFault, job_header};
 
     /// The job header that a record is.
     pub fn read(bytes: &[u8]) -> Result<JobHeader, HeaderFault>
+        // It is what the record is by its sections, or the fault that the record has by them.
+        ensures read { (header : Seen) → (result ≡ Ok header) ↔ IsJobHeader bytes.now header }
+        ensures fault { (fault : HeaderFault) → (result ≡ Err fault) ↔ IsJobFault bytes.now fault }
+
+        ensures header { result ≡ job_header bytes.now }
+        ensures within { IfOk result (λ header. header.place + 8 ≤ length bytes.now) }
+    {
+        one_job_header();
+        Self::of_sections(bytes)
+    }
+
+    fn of_sections(bytes: &[u8]) -> Result<JobHeader, HeaderFault>
         ensures header { result ≡ job_header bytes.now }
         ensures within { IfOk result (λ header. header.place + 8 ≤ length bytes.now) }
     {
@@ -46,15 +73,15 @@ impl JobHeader {
         let place = section + job::EXECUTION_NODE;
         Ok(JobHeader {
             number: read_number(bytes, section + job::NUMBER),
-            name: read_field(bytes, section + job::NAME),
-            user: read_field(bytes, section + job::USER),
+            name: field_at(bytes, section + job::NAME),
+            user: field_at(bytes, section + job::USER),
             origin: User {
                 node,
-                user: read_field(bytes, section + job::ORIGIN_USER),
+                user: field_at(bytes, section + job::ORIGIN_USER),
             },
             execution: Destination {
-                node: read_field(bytes, place),
-                user: read_field(bytes, section + job::EXECUTION_USER),
+                node: field_at(bytes, place),
+                user: field_at(bytes, section + job::EXECUTION_USER),
             },
             place,
         })
@@ -81,12 +108,14 @@ impl JobHeader {
         self.user
     }
 
+    /// The node that the job comes from.
     pub fn origin_node(&self) -> Name
         ensures { result ≡ self.now.origin.0 }
     {
         self.owner().node
     }
 
+    /// The field of the user there.
     pub fn origin_user(&self) -> [u8; 8]
         ensures { result ≡ self.now.origin.1 }
     {
@@ -100,6 +129,7 @@ impl JobHeader {
         self.destination().node
     }
 
+    /// The field of the user at the execution node.
     pub fn execution_user(&self) -> [u8; 8]
         ensures { result ≡ self.now.execution.1 }
     {

@@ -1,22 +1,45 @@
-//! Laws of the definitions.
+//! Laws of the definitions. Each function does nothing: its contract is the law.
 
-ghost use Rattle.std.specs.Prelude.{◌≡◌, ℕ, List, Result, None};
+ghost use Rattle.std.specs.Prelude.{◌≡◌, ◌<◌, ◌^◌, ◌↔◌, ℕ, List, Ok, Err, None};
+ghost use Rattle.njh_ebcdic.specs.Names.{digits};
 ghost use Rattle.njh_record.specs.declared.Kind.{Kind};
 ghost use Rattle.njh_record.specs.Stored.{Stored};
+ghost use Rattle.njh_header.specs.Decimals.{IsDecimal};
 ghost use Rattle.njh_header.specs.FileHeaders.{with_destination};
-ghost use Rattle.njh_header.specs.Headers.{general_section};
+ghost use Rattle.njh_header.specs.Headers.{DataSetHeader, IsDataSetFault, IsDataSetHeader, data_set_header};
+ghost use Rattle.njh_header.specs.Headers.{IsJobFault, IsJobHeader, JobHeader, job_header};
 ghost use Rattle.njh_header.specs.Redirecting.{redirected};
-ghost use Rattle.njh_header.specs.Sections.{Finds};
+ghost use Rattle.njh_header.specs.Sections.{HasGeneral, LacksGeneral};
+ghost use Rattle.njh_header.specs.Walk.{general_section};
 
 use crate::fault::HeaderFault;
 
-/// What is found in a header's list of sections is what the walk over them gives, and nothing else is found.
+/// The walk over a header's sections gives where the general one begins, or why there is none, and nothing else.
 pub fn one_general_section()
-    ensures found { (size : ℕ) (header : List ℕ) → Finds size header (general_section size header) }
-    ensures only { (size : ℕ) (header : List ℕ) (result : Result ℕ HeaderFault) → Finds size header result → result ≡ general_section size header }
+    ensures found { (size : ℕ) (header : List ℕ) (place : ℕ) → (general_section size header ≡ Ok place) ↔ HasGeneral size header place }
+    ensures lacks { (size : ℕ) (header : List ℕ) (fault : HeaderFault) →
+        (general_section size header ≡ Err fault) ↔ LacksGeneral size header fault }
+{}
+
+/// A record is read as the job header that it is, or as why it is none, and as nothing else.
+pub fn one_job_header()
+    ensures header { (bytes : List ℕ) (header : JobHeader) → (job_header bytes ≡ Ok header) ↔ IsJobHeader bytes header }
+    ensures fault { (bytes : List ℕ) (fault : HeaderFault) → (job_header bytes ≡ Err fault) ↔ IsJobFault bytes fault }
+{}
+
+/// A record is read as the data set header that it is, or as why it is none, and as nothing else.
+pub fn one_data_set_header()
+    ensures header { (bytes : List ℕ) (header : DataSetHeader) → (data_set_header bytes ≡ Ok header) ↔ IsDataSetHeader bytes header }
+    ensures fault { (bytes : List ℕ) (fault : HeaderFault) → (data_set_header bytes ≡ Err fault) ↔ IsDataSetFault bytes fault }
+{}
+
+/// The digits of a number say it, and begin with no zero but where it is the only one.
+pub fn decimal_digits()
+    ensures { (number : ℕ) → number < 2 ^ 32 → IsDecimal (digits number) number }
 {}
 
 /// A file that is redirected record by record is the file with another destination.
 pub fn redirected_by_records()
-    ensures { (kind : Kind) (node : List ℕ) (records : List Stored) → redirected kind node None records ≡ with_destination kind node records }
+    ensures { (kind : Kind) (node : List ℕ) (records : List Stored) →
+        redirected kind node None records ≡ with_destination kind node records }
 {}

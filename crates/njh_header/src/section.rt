@@ -1,7 +1,7 @@
 //! The walk over a header's sections.
 
 ghost use Rattle.std.specs.Prelude.{◌≡◌, ◌+◌, ◌≤◌, length, IfOk};
-ghost use Rattle.njh_header.specs.Headers.{general_section};
+ghost use Rattle.njh_header.specs.Walk.{general_section};
 
 use crate::fault::HeaderFault;
 use crate::field::read_number;

@@ -1,21 +1,21 @@
 //! Sign-ons.
 
-ghost use Rattle.std.specs.Prelude.{◌≡◌, ◌+◌, ◌≤◌, ◌++◌, length};
-
 use crate::fault::HeaderFault;
-use crate::field::{read_field, read_name, read_number};
+use crate::field::{read_name, read_number};
 use crate::places::sign_on;
 use arrayvec::ArrayVec;
 use byteorder::{BigEndian, ByteOrder};
-use njh_ebcdic::Name;
+use njh_ebcdic::{BLANK, FIELD, Name};
+use njh_record::{field_at, put_bytes};
 use std::marker::Model;
 
 /// A field of blanks.
-const BLANKS: [u8; 8] = [0x40; 8];
+const BLANKS: [u8; FIELD] = [BLANK; FIELD];
 
 /// The length that is written: that of the whole record, with RCB and SRCB.
 const LENGTH_OF_ALL: u8 = 41;
 
+/// What stands behind the node.
 const QUALIFIER: u8 = 0x01;
 
 /// Event sequence (4) and resistance (2).
@@ -27,6 +27,7 @@ const FLAG_AND_FEATURES: [u8; 5] = [0; 5];
 /// What a sign-on says (IBM SC23-0070, "I and J control records"), from its length byte on.
 #[derive(Clone, Copy, Debug, PartialEq, Eq)]
 pub struct SignOn {
+    /// The node that its sender is.
     pub node: Name,
     /// The size of the longest text that its sender takes.
     pub block: u16,
@@ -59,7 +60,7 @@ impl SignOn {
         let password = if bytes.len() < sign_on::PASSWORD + BLANKS.len() {
             BLANKS
         } else {
-            read_field(bytes, sign_on::PASSWORD)
+            field_at(bytes, sign_on::PASSWORD)
         };
         Ok(SignOn {
             node,
@@ -79,20 +80,12 @@ impl SignOn {
         BigEndian::write_u16(&mut block, self.block);
         out.clear();
         out.push(LENGTH_OF_ALL);
-        put(out, &self.node.bytes());
+        put_bytes(out, &self.node.bytes());
         out.push(QUALIFIER);
-        put(out, &SEQUENCE_AND_RESISTANCE);
-        put(out, &block);
-        put(out, &self.password);
-        put(out, &BLANKS);
-        put(out, &FLAG_AND_FEATURES);
+        put_bytes(out, &SEQUENCE_AND_RESISTANCE);
+        put_bytes(out, &block);
+        put_bytes(out, &self.password);
+        put_bytes(out, &BLANKS);
+        put_bytes(out, &FLAG_AND_FEATURES);
     }
-}
-
-/// Appends bytes.
-fn put(out: &mut ArrayVec<u8, 41>, bytes: &[u8])
-    requires { length out.old.items + length bytes.now ≤ 41 }
-    ensures { out.new.items ≡ out.old.items ++ bytes.now }
-{
-    out.try_extend_from_slice(bytes).unwrap();
 }

@@ -2,60 +2,48 @@
 
 ghost use Rattle.std.specs.Prelude.{◌≡◌, ◌+◌, ◌≤◌, ◌++◌, length, IsTrue};
 ghost use Rattle.std.specs.List.{list_all};
-ghost use Rattle.njh_ebcdic.specs.Names.{digits, ebcdic, ebcdic_byte, trimmed};
-ghost use Rattle.njh_header.specs.Texts.{file_name as name_text, has_byte};
+ghost use Rattle.njh_ebcdic.specs.Characters.{is_plain};
+ghost use Rattle.njh_ebcdic.specs.Names.{digits, ebcdic, trimmed};
+ghost use Rattle.njh_header.specs.Texts.{file_name as name_text};
 
 use crate::file_name::FileName;
 use arrayvec::ArrayVec;
-use njh_ebcdic::trim_blanks;
+use njh_ebcdic::{plain_byte, trim_blanks};
+use njh_record::put_bytes;
 
-/// The message of a nodal message record, in EBCDIC.
-pub type Text = ArrayVec<u8, 148>;
+/// The message of a nodal message record, in EBCDIC: at most 148 bytes.
+pub type MessageText = ArrayVec<u8, 148>;
 
-const BLANK: u8 = 0x40;
-
+/// What stands between the node and the number of a file's name.
 const FULL_STOP: u8 = 0x4b;
 
+/// The digit 0. The others follow it.
 const ZERO: u8 = 0xf0;
 
 /// Appends capital letters, digits, full stops and blanks.
-pub fn push_ascii(text: &mut Text, ascii: &str)
+pub fn push_ascii(text: &mut MessageText, ascii: &str)
     requires room { length text.old.items + length ascii.now ≤ 148 }
-    requires known { IsTrue (list_all has_byte ascii.now) }
+    requires known { IsTrue (list_all is_plain ascii.now) }
     ensures { text.new.items ≡ text.old.items ++ ebcdic ascii.now }
 {
     for character in ascii.as_bytes() {
-        text.push(byte_of_ascii(*character));
-    }
-}
-
-/// The byte of a capital letter, a digit or a full stop, and the blank's for every other character.
-fn byte_of_ascii(character: u8) -> u8
-    ensures { result ≡ ebcdic_byte character }
-{
-    match character {
-        b'A'..=b'I' => character - b'A' + 0xc1,
-        b'J'..=b'R' => character - b'J' + 0xd1,
-        b'S'..=b'Z' => character - b'S' + 0xe2,
-        b'0'..=b'9' => character - b'0' + ZERO,
-        b'.' => FULL_STOP,
-        _ => BLANK,
+        text.push(plain_byte(*character));
     }
 }
 
 /// Appends a field without the blanks behind it.
 #[tactic(auto, using(crate::proofs::TextLemmas::trimmed_size))]
-pub fn push_trimmed(text: &mut Text, field: &[u8; 8])
+pub fn push_trimmed(text: &mut MessageText, field: &[u8; 8])
     requires { length text.old.items + 8 ≤ 148 }
     ensures text { text.new.items ≡ text.old.items ++ trimmed field.now }
     ensures few { length text.new.items ≤ length text.old.items + 8 }
 {
-    text.try_extend_from_slice(trim_blanks(field)).unwrap();
+    put_bytes(text, trim_blanks(field));
 }
 
 /// Appends a number in decimal digits, with no leading zeros.
 #[tactic(auto, using(crate::proofs::TextLemmas::digit_steps))]
-pub fn push_digits(text: &mut Text, number: u32)
+pub fn push_digits(text: &mut MessageText, number: u32)
     requires { length text.old.items + 10 ≤ 148 }
     ensures text { text.new.items ≡ text.old.items ++ digits number }
     ensures few { length text.new.items ≤ length text.old.items + 10 }
@@ -64,7 +52,7 @@ pub fn push_digits(text: &mut Text, number: u32)
 }
 
 #[tactic(auto, using(crate::proofs::TextLemmas::digit_steps))]
-fn push_each_digit(text: &mut Text, number: u32)
+fn push_each_digit(text: &mut MessageText, number: u32)
     requires { length text.old.items + length (digits number) ≤ 148 }
     ensures { text.new.items ≡ text.old.items ++ digits number }
 {
@@ -75,7 +63,7 @@ fn push_each_digit(text: &mut Text, number: u32)
 }
 
 /// Appends a file's name: node, full stop, number.
-pub fn push_file_name(text: &mut Text, name: FileName)
+pub fn push_file_name(text: &mut MessageText, name: FileName)
     requires { length text.old.items + 19 ≤ 148 }
     ensures text { text.new.items ≡ text.old.items ++ name_text name }
     ensures few { length text.new.items ≤ length text.old.items + 19 }

@@ -3,10 +3,12 @@
 use njh_ebcdic::Name;
 use std::marker::Model;
 
-/// A user at a node, by the field of eight bytes for the user, blanks where there is none.
+/// A user at a node.
 #[derive(Clone, Copy, Debug, PartialEq, Eq)]
 pub struct User {
+    /// The node.
     pub node: Name,
+    /// The field of the user there, blanks where there is none.
     pub user: [u8; 8],
 }
 
@@ -20,10 +22,12 @@ impl Model for User {
     ghost inverse = { λ pair. record { node = pair.0; user = pair.1 } };
 }
 
-/// Where a file goes, by the fields for a node and for a user there. The node needn't be a name.
+/// Where a file goes.
 #[derive(Clone, Copy, Debug, PartialEq, Eq)]
 pub struct Destination {
+    /// The field of the node, which needn't be a name.
     pub node: [u8; 8],
+    /// The field of the user there, blanks where there is none.
     pub user: [u8; 8],
 }
 

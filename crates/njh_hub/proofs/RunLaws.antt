@@ -1,18 +1,16 @@
 -- Runs of a whole hub, seen by one customer.
-use Rattle.std.proofs.Common.{◌≡◌, ◌≢◌, ℕ, ◌<◌, Bool, true, false, cond, eqb, List, [], ◌∷◌, ◌++◌, length, map, set, refl, ap, sym, ◌∙◌, ⊎_elim, arith, append_assoc}
-use Rattle.std.proofs.lemmas.List.{get_or-set_same, get_or-set_other, length-map, length-set, set-set}
+use Rattle.std.proofs.Common.{◌≡◌, ◌≢◌, ℕ, ◌<◌, Bool, true, false, cond, eqb, List, [], ◌∷◌, ◌++◌, length, map, set, refl}
+use Rattle.std.proofs.Common.{ap, sym, ◌∙◌, ⊎_elim, arith}
+use Rattle.std.proofs.lemmas.List.{get_or-set_same, get_or-set_other, length-map, length-set}
 use Rattle.std.proofs.lemmas.Bool.Decides.{eqb_tells}
 use Rattle.std.proofs.Math.ListN.{get_or-map}
 use Rattle.njh_table.specs.Entries.{CustomerEntry}
 use Rattle.njh_table.specs.declared.LineId.{LineId}
-use Rattle.njh_bisync.specs.Reading.{Rest, Nothing}
 use Rattle.njh_hub.specs.declared.event.Event.{Event}
-use Rattle.njh_hub.specs.Runs.{Part, opened, OwnEvent, Run, event_run, alone_run, rest_on}
-use Rattle.njh_hub.specs.Feeding.{LineRun, bytes_run}
+use Rattle.njh_customer.specs.Runs.{OwnEvent, Run, event_run, alone_run}
 use Rattle.njh_hub.specs.Own.{line_of, own, events_of, sent_to}
-use Rattle.njh_hub.specs.Whole.{no_entry, no_part, part, sent_by, own_event, hub_run}
-use Rattle.njh_hub.specs.Laws.{IsAlone, EachIsAlone, TwoListsAreLike, entry_at, CustomersNeverMeet, CutsAreLike}
-use Rattle.njh_hub.proofs.FeedingLaws.{bytes_run-append}
+use Rattle.njh_hub.specs.Whole.{Part, opened, no_entry, no_part, part, sent_by, own_event, hub_run}
+use Rattle.njh_hub.specs.Laws.{IsAlone, EachIsAlone, TwoListsAreLike, entry_at, CustomersNeverMeet}
 
 -- a pair is sent to c or not, before more
 cond-append : {A : Type 0} (b : Bool) (x : A) (xs ys zs : List A) → xs ≡ ys ++ zs → cond b (x ∷ xs) xs ≡ cond b (x ∷ ys) ys ++ zs
@@ -21,7 +19,8 @@ cond-append false x xs ys zs e = e
 
 pub sent_to-append : (c : ℕ) (xs ys : List (LineId × List ℕ)) → sent_to c (xs ++ ys) ≡ sent_to c xs ++ sent_to c ys
 sent_to-append c [] ys = refl
-sent_to-append c (x ∷ xs) ys = cond-append (eqb x.0.customer c) (x.0.line, x.1) (sent_to c (xs ++ ys)) (sent_to c xs) (sent_to c ys) (sent_to-append c xs ys)
+sent_to-append c (x ∷ xs) ys = cond-append (eqb x.0.customer c) (x.0.line, x.1) (sent_to c (xs ++ ys)) (sent_to c xs)
+    (sent_to c ys) (sent_to-append c xs ys)
 
 pub sent_to-sent_by_same : (c d : ℕ) → eqb d c ≡ true → (xs : List (ℕ × List ℕ)) → sent_to c (sent_by d xs) ≡ xs
 sent_to-sent_by_same c d same [] = refl
@@ -35,7 +34,8 @@ sent_to-sent_by_other c d other (x ∷ xs) = rw other (sent_to-sent_by_other c d
 own_event-then : (c d : ℕ) (parts : List Part) (event : OwnEvent) (events : List Event) →
     eqb d c ≡ true → d ≡ c → c < length parts → IsAlone c (own_event parts d event).parts events →
     (part c (hub_run (own_event parts d event).parts events).parts ≡ (alone_run (part c parts) (event ∷ events_of c events)).after)
-    × (sent_to c ((own_event parts d event).sent ++ (hub_run (own_event parts d event).parts events).sent) ≡ (alone_run (part c parts) (event ∷ events_of c events)).sent)
+    × (sent_to c ((own_event parts d event).sent ++ (hub_run (own_event parts d event).parts events).sent)
+    ≡ (alone_run (part c parts) (event ∷ events_of c events)).sent)
 own_event-then c d parts event events same e within later =
     let own_part : event_run (part d parts) event ≡ event_run (part c parts) event = ap (λ (n : ℕ). event_run (part n parts) event) e in
     let x = event_run (part c parts) event in
@@ -52,13 +52,15 @@ own_event-then c d parts event events same e within later =
 other_event-then : (c d : ℕ) (parts : List Part) (event : OwnEvent) (events : List Event) →
     eqb d c ≡ false → c ≢ d → IsAlone c (own_event parts d event).parts events →
     (part c (hub_run (own_event parts d event).parts events).parts ≡ (alone_run (part c parts) (events_of c events)).after)
-    × (sent_to c ((own_event parts d event).sent ++ (hub_run (own_event parts d event).parts events).sent) ≡ (alone_run (part c parts) (events_of c events)).sent)
+    × (sent_to c ((own_event parts d event).sent ++ (hub_run (own_event parts d event).parts events).sent)
+    ≡ (alone_run (part c parts) (events_of c events)).sent)
 other_event-then c d parts event events other apart later =
     let x = event_run (part d parts) event in
     let stays : part c (own_event parts d event).parts ≡ part c parts = get_or-set_other parts d c x.after no_part apart in (
       later.after ∙ ap (λ (p : Part). (alone_run p (events_of c events)).after) stays,
       sent_to-append c (sent_by d x.sent) (hub_run (own_event parts d event).parts events).sent
-          ∙ ap (λ (s : List (ℕ × List ℕ)). s ++ sent_to c (hub_run (own_event parts d event).parts events).sent) (sent_to-sent_by_other c d other x.sent)
+          ∙ ap (λ (s : List (ℕ × List ℕ)). s ++ sent_to c (hub_run (own_event parts d event).parts events).sent)
+          (sent_to-sent_by_other c d other x.sent)
           ∙ later.sent ∙ ap (λ (p : Part). (alone_run p (events_of c events)).sent) stays,
     )
 
@@ -71,7 +73,8 @@ each_is_alone c parts (event ∷ events) within =
     ⊎_elim (λ (w : (eqb d c ≡ true) × (d ≡ c)).
     let t = own_event-then c d parts (own event) events w.0 w.1 within later in record { after = rw w.0 t.0; sent = rw w.0 t.1 })
     (λ (w : (eqb d c ≡ false) × (d ≢ c)).
-    let t = other_event-then c d parts (own event) events w.0 (λ e. w.1 (sym e)) later in record { after = rw w.0 t.0; sent = rw w.0 t.1 })
+    let t = other_event-then c d parts (own event) events w.0 (λ e. w.1 (sym e)) later in
+    record { after = rw w.0 t.0; sent = rw w.0 t.1 })
     (eqb_tells d c)
 
 pub two_lists_are_like : TwoListsAreLike
@@ -93,33 +96,3 @@ customers_never_meet c d entries others events more within there agree same =
     two_lists_are_like c d (map opened entries) (map opened others) events more
     (omega (arith, length-map entries opened)) (omega (arith, length-map others opened))
     (part-opened c entries ∙ ap opened agree ∙ sym (part-opened d others)) same
-
--- a part whose line l has read some bytes
-abbrev read_part : Part → ℕ → LineRun → Part
-read_part p l r = record { rests = set p.rests l r.rest; customer = r.after }
-
-abbrev run_of : Part → List (ℕ × List ℕ) → Run
-run_of after sent = record { after = after; sent = sent }
-
--- a run goes on from a part, after frames that were sent before
-abbrev later_run : List (ℕ × List ℕ) → Part → List OwnEvent → Run
-later_run sent p events = record { after = (alone_run p events).after; sent = sent ++ (alone_run p events).sent }
-
-later_run-twice : (a b : List (ℕ × List ℕ)) (p : Part) (events : List OwnEvent) →
-    later_run (a ++ b) p events ≡ record { after = (alone_run p events).after; sent = a ++ (b ++ (alone_run p events).sent) }
-later_run-twice a b p events = ap (λ (s : List (ℕ × List ℕ)). record { after = (alone_run p events).after; sent = s }) (append_assoc a b (alone_run p events).sent)
-
--- a line that read some bytes and then more has read the last
-read_part-twice : (p : Part) (l : ℕ) (r q : LineRun) → read_part p l q ≡ read_part (read_part p l r) l q
-read_part-twice p l r q = ap (λ (rests : List Rest). record { rests = rests; customer = q.after }) (sym (set-set p.rests l r.rest q.rest))
-
-pub cuts_are_like : CutsAreLike
-cuts_are_like p l front back events within =
-    let r = bytes_run (rest_on l p) p.customer l front in
-    let q = bytes_run r.rest r.after l back in
-    let rest_is : rest_on l (read_part p l r) ≡ r.rest = get_or-set_same p.rests l r.rest Nothing within in
-    let again : q ≡ bytes_run (rest_on l (read_part p l r)) r.after l back = ap (λ (x : Rest). bytes_run x r.after l back) (sym rest_is) in
-    ap (λ (x : LineRun). later_run x.sent (read_part p l x) events) (bytes_run-append (rest_on l p) p.customer l front back)
-    ∙ later_run-twice r.sent q.sent (read_part p l q) events
-    ∙ ap (λ (y : Part). run_of (alone_run y events).after (r.sent ++ (q.sent ++ (alone_run y events).sent))) (read_part-twice p l r q)
-    ∙ ap (λ (x : LineRun). run_of (alone_run (read_part (read_part p l r) l x) events).after (r.sent ++ (x.sent ++ (alone_run (read_part (read_part p l r) l x) events).sent))) again

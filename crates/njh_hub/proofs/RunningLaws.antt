@@ -1,127 +1,131 @@
 -- A run in the middle: what has happened, and what the sink took of it.
-use Rattle.std.proofs.Common.{◌≡◌, ℕ, zero, suc, ◌+◌, ◌<◌, ◌≤◌, List, [], ◌∷◌, ◌++◌, length, take, drop, set, get_or, Option, Some, refl, ap, sym, ◌∙◌, ⊎_elim, arith, append_assoc, append-nil, inl, inr, ◌⊎◌}
-use Rattle.std.proofs.lemmas.List.{get_or-set_same, get_or_past, length-set, length-append, take_all, take_more}
+use Rattle.std.proofs.Common.{◌≡◌, ℕ, zero, suc, ◌+◌, ◌<◌, ◌≤◌, List, [], ◌∷◌, ◌++◌, length, take, drop, set, get_or}
+use Rattle.std.proofs.Common.{Option, Some, refl, ap, sym, subst, ◌∙◌, ⊎_elim, arith, append_assoc, append-nil, inl, inr}
+use Rattle.std.proofs.Common.{◌⊎◌}
+use Rattle.std.proofs.lemmas.List.{get_or_past, length-set, length-append, take_all, take_more}
 use Rattle.std.proofs.lemmas.Option.{slice_get-get_or}
+use Rattle.std.proofs.lemmas.List.Elements.{All-push, All-same}
+use Rattle.std.specs.Prelude.{All}
 use Rattle.std.proofs.lemmas.Bool.{cases_lt}
 use Rattle.std.proofs.Math.Seq.{take-add}
 use Rattle.njh_table.specs.declared.LineId.{LineId}
 use Rattle.njh_hub.specs.declared.event.Event.{Event}
 use Rattle.njh_hub.specs.declared.event.Event.TheVariants.{Bytes}
-use Rattle.njh_hub.specs.Feeding.{sent_on, bytes_run}
-use Rattle.njh_hub.specs.Runs.{Part, part_takes, rest_on}
-use Rattle.njh_hub.specs.Own.{first_bytes, first_of}
+use Rattle.njh_customer.specs.Feeding.{sent_on}
+use Rattle.njh_customer.specs.Laws.{NoBytesDoNothing, StepsFollowBytes}
+use Rattle.njh_customer.specs.declared.signal.Signal.{Signal}
+use Rattle.njh_customer.specs.Part.{bytes_taken, signal_taken}
+use Rattle.njh_customer.specs.Runs.{OwnSignal, event_run}
+use Rattle.njh_hub.specs.Own.{line_of, own, first_bytes, first_of}
 use Rattle.njh_hub.specs.declared.fault.Cause.{Cause}
 use Rattle.njh_hub.specs.declared.fault.Cause.TheVariants.{Hub, Sink}
 use Rattle.njh_hub.specs.declared.fault.HubFault.{HubFault}
 use Rattle.njh_hub.specs.declared.fault.HubFault.TheVariants.{UnknownLine, UnknownCustomer, Memory}
-use Rattle.njh_hub.specs.Stops.{CanStop, HandedUntil}
-use Rattle.njh_hub.specs.Whole.{no_part, part, HasLine, SameLines, sent_by, HubRun, hub_event, hub_run}
-use Rattle.njh_hub.specs.Sent.{but_last, IsCounted}
+use Rattle.njh_hub.specs.declared.fault.RunFault.{RunFault}
+use Rattle.njh_hub.specs.Stops.{CanStop, HandedUntil, IsWithinOne}
+use Rattle.njh_hub.specs.Whole.{Part, no_part, part, HasLine, SameLines, sent_by, HubRun, own_event, hub_event, hub_run}
+use Rattle.njh_hub.specs.Sent.{IsCounted}
 use Rattle.njh_hub.proofs.PieceLaws.{after_bytes, after_bytes-none, after_bytes-step}
-
-pub but_last-push : {X : Type 0} (xs : List X) (x : X) → but_last (xs ++ x ∷ []) ≡ xs
-but_last-push [] x = refl
-but_last-push (y ∷ []) x = refl
-but_last-push (y ∷ z ∷ xs) x = ap (λ s. y ∷ s) (but_last-push (z ∷ xs) x)
 
 -- a customer with a line is there
 pub known-there : (parts : List Part) (line : LineId) → HasLine parts line → line.customer < length parts
 known-there parts line known =
     ⊎_elim (λ (w : line.customer < length parts). w)
-    (λ (w : length parts ≤ line.customer). absurd (omega (arith, ap (λ (p : Part). length p.customer.lines) (get_or_past parts line.customer no_part w))))
+    (λ (w : length parts ≤ line.customer). absurd
+    (omega (arith, ap (λ (p : Part). length p.customer.lines) (get_or_past parts line.customer no_part w))))
     (cases_lt line.customer (length parts))
 
 only_one : (h : HubRun) → record { parts = h.parts; sent = h.sent ++ [] } ≡ h
 only_one h = ap (λ (s : List (LineId × List ℕ)). record h { sent = s }) (append-nil h.sent)
 
 -- the first bytes of an event as the only one
-pub part_done : (parts : List Part) (line : LineId) (piece : List ℕ) (n : ℕ) →
+pub part_done : NoBytesDoNothing → (parts : List Part) (line : LineId) (piece : List ℕ) (n : ℕ) →
     hub_run parts (first_of (Bytes line piece ∷ []) 0 n) ≡ after_bytes parts line (take n piece)
-part_done parts line piece zero = sym (after_bytes-none parts line)
-part_done parts line piece (suc n) = only_one (after_bytes parts line (take (suc n) piece))
+part_done nothing parts line piece zero = sym (after_bytes-none nothing parts line)
+part_done nothing parts line piece (suc n) = only_one (after_bytes parts line (take (suc n) piece))
 
 pub whole_done : (parts : List Part) (event : Event) → hub_run parts (event ∷ []) ≡ hub_event parts event
 whole_done parts event = only_one (hub_event parts event)
 
 -- A step by bytes of a piece, so many of which were taken before.
-pub record IsStep (start now after : List Part) (line : LineId) (piece left : List ℕ) (before used : ℕ) (frame : List ℕ) : Type 0 where
+pub record GoesOn (start now after : List Part) (line : LineId) (piece left : List ℕ) (before used : ℕ) (frame : List ℕ) : Type 0 where
+  pub follow : StepsFollowBytes
   pub known : HasLine start line
   pub now_is : now ≡ (after_bytes start line (take before piece)).parts
   pub left_is : left ≡ drop before piece
   pub rests : line.line < length (part line.customer now).rests
-  pub used_is : used ≡ (part_takes (part line.customer now) line.line left).taken
-  pub after_is : after ≡ set now line.customer (part_takes (part line.customer now) line.line left).after
-  pub frame_is : frame ≡ (part_takes (part line.customer now) line.line left).frame
-
--- bytes on a line leave as many rests
-after_bytes-rests : (parts : List Part) (line : LineId) (bytes : List ℕ) → line.customer < length parts →
-    length (part line.customer (after_bytes parts line bytes).parts).rests ≡ length (part line.customer parts).rests
-after_bytes-rests parts line bytes there =
-    let p = part line.customer parts in
-    let r = bytes_run (rest_on line.line p) p.customer line.line bytes in
-    ap (λ (q : Part). length q.rests) (get_or-set_same parts line.customer (record { rests = set p.rests line.line r.rest; customer = r.after }) no_part there)
-    ∙ length-set p.rests line.line r.rest
+  pub used_is : used ≡ (bytes_taken (part line.customer now) line.line left).taken
+  pub after_is : after ≡ set now line.customer (bytes_taken (part line.customer now) line.line left).after
+  pub frame_is : frame ≡ (bytes_taken (part line.customer now) line.line left).frame
 
 abbrev step_from : List Part → LineId → List (LineId × List ℕ) → List ℕ → HubRun
 step_from now line sent left =
-    let t = part_takes (part line.customer now) line.line left in
+    let t = bytes_taken (part line.customer now) line.line left in
     record { parts = set now line.customer t.after; sent = sent ++ sent_by line.customer (sent_on line.line t.frame) }
 
 -- such a step leads to where the bytes lead, and sends what they send
 pub step_done : {start now after : List Part} {line : LineId} {piece left : List ℕ} {before used : ℕ} {frame : List ℕ} →
-    IsStep start now after line piece left before used frame →
+    GoesOn start now after line piece left before used frame →
     after_bytes start line (take (before + used) piece)
-    ≡ record { parts = after; sent = (after_bytes start line (take before piece)).sent ++ sent_by line.customer (sent_on line.line frame) }
+    ≡ record {
+      parts = after;
+      sent = (after_bytes start line (take before piece)).sent ++ sent_by line.customer
+          (sent_on line.line frame);
+    }
 step_done {start} {now} {after} {line} {piece} {left} {before} {used} {frame} h =
     let there = known-there start line h.known in
     let front = take before piece in
     let old = after_bytes start line front in
-    let t = part_takes (part line.customer now) line.line left in
-    let rests : line.line < length (part line.customer start).rests =
-    omega (arith, h.rests, after_bytes-rests start line front there, ap (λ (ps : List Part). length (part line.customer ps).rests) h.now_is) in
-    let o = part_takes (part line.customer old.parts) line.line left in
-    let same : t ≡ o = ap (λ (ps : List Part). part_takes (part line.customer ps) line.line left) h.now_is in
+    let t = bytes_taken (part line.customer now) line.line left in
+    let rests : line.line < length (part line.customer old.parts).rests =
+    omega (arith, h.rests, ap (λ (ps : List Part). length (part line.customer ps).rests) h.now_is) in
+    let o = bytes_taken (part line.customer old.parts) line.line left in
+    let same : t ≡ o = ap (λ (ps : List Part). bytes_taken (part line.customer ps) line.line left) h.now_is in
     let cut : take (before + used) piece ≡ front ++ take o.taken left =
-    take-add before used piece ∙ ap (λ (n : ℕ). front ++ take n (drop before piece)) (h.used_is ∙ ap (λ x. x.taken) same) ∙ ap (λ (bs : List ℕ). front ++ take o.taken bs) (sym h.left_is) in
-    ap (after_bytes start line) cut ∙ after_bytes-step start line front left there rests
+    take-add before used piece ∙ ap (λ (n : ℕ). front ++ take n (drop before piece)) (h.used_is ∙ ap (λ x. x.taken) same)
+    ∙ ap (λ (bs : List ℕ). front ++ take o.taken bs) (sym h.left_is) in
+    ap (after_bytes start line) cut ∙ after_bytes-step h.follow start line front left there rests
     ∙ ap (λ (ps : List Part). step_from ps line old.sent left) (sym h.now_is)
-    ∙ ap (λ (ps : List Part). record { parts = ps; sent = old.sent ++ sent_by line.customer (sent_on line.line t.frame) }) (sym h.after_is)
+    ∙ ap (λ (ps : List Part). record { parts = ps; sent = old.sent ++ sent_by line.customer (sent_on line.line t.frame) })
+    (sym h.after_is)
     ∙ ap (λ (b : List ℕ). record { parts = after; sent = old.sent ++ sent_by line.customer (sent_on line.line b) }) (sym h.frame_is)
 
 -- the same, where a sink refused the frame: the event is done with its last step
-pub sink_done : (parts : List Part) (line : LineId) (piece : List ℕ) (taken events bytes : ℕ) →
+pub sink_done : NoBytesDoNothing → (parts : List Part) (line : LineId) (piece : List ℕ) (taken events bytes : ℕ) →
     (length piece ≤ taken → (events ≡ 1) × (bytes ≡ 0)) → (taken < length piece → (events ≡ 0) × (bytes ≡ taken)) →
     hub_run parts (first_of (Bytes line piece ∷ []) events bytes) ≡ after_bytes parts line (take taken piece)
-sink_done parts line piece taken events bytes whole part =
+sink_done nothing parts line piece taken events bytes whole part =
     ⊎_elim (λ (w : taken < length piece).
     let e = part w in
-    ap (λ (n : ℕ). hub_run parts (first_of (Bytes line piece ∷ []) n bytes)) e.0 ∙ ap (λ (n : ℕ). hub_run parts (first_of (Bytes line piece ∷ []) 0 n)) e.1 ∙ part_done parts line piece taken)
+    ap (λ (n : ℕ). hub_run parts (first_of (Bytes line piece ∷ []) n bytes)) e.0
+    ∙ ap (λ (n : ℕ). hub_run parts (first_of (Bytes line piece ∷ []) 0 n)) e.1 ∙ part_done nothing parts line piece taken)
     (λ (w : length piece ≤ taken).
     let e = whole w in
-    ap (λ (n : ℕ). hub_run parts (first_of (Bytes line piece ∷ []) n bytes)) e.0 ∙ ap (λ (n : ℕ). hub_run parts (first_of (Bytes line piece ∷ []) 1 n)) e.1
+    ap (λ (n : ℕ). hub_run parts (first_of (Bytes line piece ∷ []) n bytes)) e.0
+    ∙ ap (λ (n : ℕ). hub_run parts (first_of (Bytes line piece ∷ []) 1 n)) e.1
     ∙ whole_done parts (Bytes line piece) ∙ ap (after_bytes parts line) (sym (take_all taken piece w)))
     (cases_lt taken (length piece))
 
--- a frame that was sent is the last pair
-pub but_last-frame : (pairs : List (LineId × List ℕ)) (c l : ℕ) (frame : List ℕ) → 0 < length frame → but_last (pairs ++ sent_by c (sent_on l frame)) ≡ pairs
-but_last-frame pairs c l [] some = absurd (omega arith)
-but_last-frame pairs c l (b ∷ frame) some = but_last-push pairs (record { customer = c; line = l }, b ∷ frame)
-
-pub some-frame : (pairs : List (LineId × List ℕ)) (c l : ℕ) (frame : List ℕ) → 0 < length frame → 0 < length (pairs ++ sent_by c (sent_on l frame))
-some-frame pairs c l [] some = absurd (omega arith)
-some-frame pairs c l (b ∷ frame) some = omega (arith, length-append pairs ((record { customer = c; line = l }, b ∷ frame) ∷ []))
+-- a frame that was sent, with its line
+pub sent_pair : (line : LineId) (frame : List ℕ) → 0 < length frame → sent_by line.customer (sent_on line.line frame) ≡ (line, frame) ∷ []
+sent_pair line [] some = absurd (omega arith)
+sent_pair line (b ∷ frame) some = refl
 
 pub counted_from : (before now after : ℕ) → before ≤ now → IsCounted now after → IsCounted before after
 counted_from before now after h c = ⊎_elim (λ (w : now < after). inl (omega arith)) (λ (w : after ≡ 18446744073709551615). inr w) c
 
 pub hub_run-append : (parts : List Part) (a b : List Event) →
-    hub_run parts (a ++ b) ≡ record { parts = (hub_run (hub_run parts a).parts b).parts; sent = (hub_run parts a).sent ++ (hub_run (hub_run parts a).parts b).sent }
+    hub_run parts (a ++ b) ≡ record {
+      parts = (hub_run (hub_run parts a).parts b).parts;
+      sent = (hub_run parts a).sent ++ (hub_run (hub_run parts a).parts b).sent;
+    }
 hub_run-append parts [] b = refl
 hub_run-append parts (event ∷ a) b =
     let x = hub_event parts event in
     let r = hub_run x.parts a in
     ap (λ (h : HubRun). record { parts = h.parts; sent = x.sent ++ h.sent }) (hub_run-append x.parts a b)
-    ∙ ap (λ (s : List (LineId × List ℕ)). record { parts = (hub_run r.parts b).parts; sent = s }) (sym (append_assoc x.sent r.sent (hub_run r.parts b).sent))
+    ∙ ap (λ (s : List (LineId × List ℕ)). record { parts = (hub_run r.parts b).parts; sent = s })
+    (sym (append_assoc x.sent r.sent (hub_run r.parts b).sent))
 
 -- the events that happened where a run stopped within the next one
 pub first_of-later : (events : List Event) (i n bytes : ℕ) (event : Event) → i < length events → event ≡ get_or events i event →
@@ -137,16 +141,9 @@ first_of-later events i n bytes event within found stop =
     ap (λ (k : ℕ). first_of events k bytes) e ∙ ap (first_of events (i + 1)) w.1
     ∙ append-nil (take (i + 1) events)
     ∙ take_more events i event within ∙ ap (λ (x : Event). take i events ++ x ∷ []) (sym found)
-    ∙ ap (λ (k : ℕ). take i events ++ first_of (event ∷ []) k 0) (sym w.0) ∙ ap (λ (k : ℕ). take i events ++ first_of (event ∷ []) n k) (sym w.1))
+    ∙ ap (λ (k : ℕ). take i events ++ first_of (event ∷ []) k 0) (sym w.0)
+    ∙ ap (λ (k : ℕ). take i events ++ first_of (event ∷ []) n k) (sym w.1))
     stop
-
-but_last-cons : {X : Type 0} (x : X) (ys : List X) → 0 < length ys → but_last (x ∷ ys) ≡ x ∷ but_last ys
-but_last-cons x [] some = absurd (omega arith)
-but_last-cons x (y ∷ ys) some = refl
-
-but_last-append : {X : Type 0} (xs ys : List X) → 0 < length ys → but_last (xs ++ ys) ≡ xs ++ but_last ys
-but_last-append [] ys some = refl
-but_last-append (x ∷ xs) ys some = but_last-cons x (xs ++ ys) (omega (arith, length-append xs ys)) ∙ ap (λ s. x ∷ s) (but_last-append xs ys some)
 
 -- a step on a line refuses for no customer
 pub CanStop-step : (fault : HubFault) (P : Type 0) → ((P → ⊥) → fault ≡ UnknownLine) → (P → fault ≡ Memory) → CanStop (Hub fault)
@@ -155,19 +152,35 @@ CanStop-step UnknownCustomer P unknown memory = let never : P → ⊥ = λ p. cc
 CanStop-step Memory P unknown memory = tt
 
 -- What a sink took before, and then up to a stop.
-pub HandedUntil-after : {S : Type 0} (took : S → S → List (LineId × List ℕ) → Type 0) (refused : S → S → Type 0) (cause : Cause) (a b c : S) (xs ys : List (LineId × List ℕ)) →
+pub HandedUntil-after : {S : Type 0} (took : S → S → List (LineId × List ℕ) → Type 0) (refused : S → S → LineId × List ℕ → Type 0)
+    (cause : Cause) (a b c : S) (xs ys : List (LineId × List ℕ)) →
     ((a b c : S) (xs ys : List (LineId × List ℕ)) → took a b xs → took b c ys → took a c (xs ++ ys)) →
-    took a b xs → HandedUntil took refused cause b c ys → (cause ≡ Sink → 0 < length ys) → HandedUntil took refused cause a c (xs ++ ys)
-HandedUntil-after took refused (Hub fault) a b c xs ys more before here some = more a b c xs ys before here
-HandedUntil-after took refused Sink a b c xs ys more before here some =
-    (here.0, rw (but_last-append xs ys (some refl)) (more a b here.0 xs (but_last ys) before here.1), here.2)
+    took a b xs → HandedUntil took refused cause b c ys → HandedUntil took refused cause a c (xs ++ ys)
+HandedUntil-after took refused (Hub fault) a b c xs ys more before here = more a b c xs ys before here
+HandedUntil-after took refused Sink a b c xs ys more before here = record {
+  front = xs ++ here.front;
+  last = here.last;
+  between = here.between;
+  are = ap (λ (s : List (LineId × List ℕ)). xs ++ s) here.are ∙ sym (append_assoc xs here.front (here.last ∷ []));
+  took_front = more a b here.between xs here.front before here.took_front;
+  refused_last = here.refused_last;
+}
+
+-- a sink that refused has refused a frame
+pub HandedUntil-some : {S : Type 0} (took : S → S → List (LineId × List ℕ) → Type 0) (refused : S → S → LineId × List ℕ → Type 0)
+    (cause : Cause) (a c : S) (sent : List (LineId × List ℕ)) →
+    cause ≡ Sink → HandedUntil took refused cause a c sent → 0 < length sent
+HandedUntil-some took refused (Hub fault) a c sent is here = cc
+HandedUntil-some took refused Sink a c sent is here =
+    omega (arith, ap (λ (s : List (LineId × List ℕ)). length s) here.are, length-append here.front (here.last ∷ []))
 
 -- the hub after more events
 abbrev pub later_than : List Part → List (LineId × List ℕ) → List Event → HubRun
 later_than now sent events = record { parts = (hub_run now events).parts; sent = sent ++ (hub_run now events).sent }
 
 -- so many events happened, and then what a stop within the next leaves of it
-pub stopped_in : (start now : List Part) (events : List Event) (k n bytes : ℕ) (event : Event) → k < length events → event ≡ get_or events k event →
+pub stopped_in : (start now : List Part) (events : List Event) (k n bytes : ℕ) (event : Event) → k < length events → event
+    ≡ get_or events k event →
     ((n ≡ 0) ⊎ ((n ≡ 1) × (bytes ≡ 0))) → now ≡ (hub_run start (take k events)).parts →
     hub_run start (first_of events (k + n) bytes) ≡ later_than now (hub_run start (take k events)).sent (first_of (event ∷ []) n bytes)
 stopped_in start now events k n bytes event within found stop here =
@@ -177,7 +190,8 @@ stopped_in start now events k n bytes event within found stop here =
 
 -- one event more
 pub went_on : (start now : List Part) (events : List Event) (k : ℕ) (event : Event) → k < length events → event ≡ get_or events k event →
-    now ≡ (hub_run start (take k events)).parts → hub_run start (take (k + 1) events) ≡ later_than now (hub_run start (take k events)).sent (event ∷ [])
+    now ≡ (hub_run start (take k events)).parts → hub_run start (take (k + 1) events)
+    ≡ later_than now (hub_run start (take k events)).sent (event ∷ [])
 went_on start now events k event within found here =
     ap (hub_run start) (take_more events k event within ∙ ap (λ (x : Event). take k events ++ x ∷ []) (sym found))
     ∙ hub_run-append start (take k events) (event ∷ [])
@@ -185,3 +199,51 @@ went_on start now events k event within found here =
 
 pub known-more : (start now : List Part) (line : LineId) → SameLines start now → HasLine now line → HasLine start line
 known-more start now line same known = omega (arith, known, same line.customer)
+
+-- a hub keeps its customers over a run
+pub hub_run-length : (parts : List Part) (events : List Event) → length (hub_run parts events).parts ≡ length parts
+hub_run-length parts [] = refl
+hub_run-length parts (event ∷ events) =
+    let c = (line_of event).customer in
+    let after = (event_run (part c parts) (own event)).after in
+    hub_run-length (set parts c after) events ∙ length-set parts c after
+
+pub cases_zero : (n : ℕ) → (n ≡ 0) ⊎ (0 < n)
+cases_zero n = ⊎_elim (λ (w : n < 1). inl (omega arith)) (λ (w : 1 ≤ n). inr (omega arith)) (cases_lt n 1)
+
+-- every event before a stop within the next one, or right after it, was on a line of the hub
+pub behind-known : (start : List Part) (events : List Event) (i n bytes : ℕ) (event : Event) → i < length events → event
+    ≡ get_or events i event →
+    ((n ≡ 0) ⊎ ((n ≡ 1) × (bytes ≡ 0))) → (n ≡ 1 → HasLine start (line_of event)) →
+    All (λ e. HasLine start (line_of e)) (take i events) → All (λ e. HasLine start (line_of e)) (take (i + n) events)
+behind-known start events i n bytes event within found stop behind known =
+    let P : ℕ → Type 0 = λ k. All (λ e. HasLine start (line_of e)) (take k events) in
+    ⊎_elim (λ (w : n ≡ 0). subst P (omega arith) known)
+    (λ (w : (n ≡ 1) × (bytes ≡ 0)).
+    let more : P (i + 1) = All-same (λ e. HasLine start (line_of e)) _ _
+    (take_more events i event within ∙ ap (λ (x : Event). take i events ++ x ∷ []) (sym found))
+    (All-push (λ e. HasLine start (line_of e)) (take i events) event known (behind w.0)) in
+    subst P (omega (arith, w.0)) more)
+    stop
+
+-- a signal on a line as the only event
+pub signal_done : (parts : List Part) (event : Event) (line : LineId) (signal : Signal) → line ≡ line_of event → own event
+    ≡ OwnSignal signal (line_of event).line →
+    (let t = signal_taken (part line.customer parts) line.line signal in
+    hub_run parts (event ∷ []) ≡ record {
+      parts = set parts line.customer t.after;
+      sent = sent_by line.customer (sent_on line.line t.frame);
+    })
+signal_done parts event line signal is same =
+    whole_done parts event ∙ ap (own_event parts (line_of event).customer) same
+    ∙ ap (λ (l : LineId). own_event parts l.customer (OwnSignal signal l.line)) (sym is)
+
+-- a sink's stop is within the event
+pub is_within_one : (line : LineId) (piece : List ℕ) (taken : ℕ) (fault : RunFault) →
+    (length piece ≤ taken → (fault.events ≡ 1) × (fault.bytes ≡ 0)) →
+    (taken < length piece → (fault.events ≡ 0) × (fault.bytes ≡ taken)) →
+    IsWithinOne (Bytes line piece) fault
+is_within_one line piece taken fault whole part =
+    ⊎_elim (λ (w : taken < length piece). let e = part w in (λ _. (e.0, omega (arith, e.1)), inl e.0))
+    (λ (w : length piece ≤ taken). let e = whole w in (λ some. absurd (omega (arith, e.1, some)), inr e))
+    (cases_lt taken (length piece))

@@ -1,10 +1,10 @@
 -- What is said of all runs, over the definitions alone.
-use Rattle.std.specs.Prelude.{◌≡◌, ℕ, ◌<◌, List, ◌∷◌, ◌++◌, length, map, slice_index_or}
+use Rattle.std.specs.Prelude.{◌≡◌, ℕ, ◌<◌, List, ◌++◌, length, map, slice_index_or}
 use Rattle.njh_table.specs.Entries.{CustomerEntry}
 use Rattle.njh_hub.specs.declared.event.Event.{Event}
-use Rattle.njh_hub.specs.Runs.{Part, opened, OwnEvent, OwnBytes, alone_run}
-use Rattle.njh_hub.specs.Own.{events_of, sent_to}
-use Rattle.njh_hub.specs.Whole.{no_entry, part, hub_run}
+use Rattle.njh_customer.specs.Runs.{alone_run}
+use Rattle.njh_hub.specs.Own.{events_of, first_of, sent_to}
+use Rattle.njh_hub.specs.Whole.{Part, opened, no_entry, part, hub_run}
 
 -- Events lead customer c's part of a hub, and what is sent on its lines, as its own events lead that part alone.
 pub record IsAlone (c : ℕ) (parts : List Part) (events : List Event) : Type 0 where
@@ -39,8 +39,12 @@ CustomersNeverMeet =
     c < length entries → d < length others → entry_at c entries ≡ entry_at d others → events_of c events ≡ events_of d more →
     IsLike c d (map opened entries) (map opened others) events more
 
--- A piece that comes in two gives the same frames and the same part.
-abbrev pub CutsAreLike : Type 0
-CutsAreLike =
-    (p : Part) (l : ℕ) (front back : List ℕ) (events : List OwnEvent) → l < length p.rests →
-    alone_run p (OwnBytes l (front ++ back) ∷ events) ≡ alone_run p (OwnBytes l front ∷ OwnBytes l back ∷ events)
+-- a list begins another
+abbrev pub Begins : {X : Type 0} → List X → List X → Type 0
+Begins {X} front whole = (more : List X) × (front ++ more ≡ whole)
+
+-- The frames of what happened up to a stop come first of those of all events.
+abbrev pub SentInOrder : Type 0
+SentInOrder =
+    (parts : List Part) (events : List Event) (whole bytes : ℕ) →
+    Begins (hub_run parts (first_of events whole bytes)).sent (hub_run parts events).sent

@@ -3,8 +3,8 @@ use Rattle.std.specs.Prelude.{ℕ, zero, suc, List, [], ◌∷◌, ◌++◌, ◌
 use Rattle.njh_table.specs.declared.LineId.{LineId}
 use Rattle.njh_hub.specs.declared.event.Event.{Event}
 use Rattle.njh_hub.specs.declared.event.Event.TheVariants.{Bytes, Tick, Garbled, Lost}
-use Rattle.njh_hub.specs.declared.event.Signal.TheVariants as signal
-use Rattle.njh_hub.specs.Runs.{OwnEvent, OwnBytes, OwnSignal}
+use Rattle.njh_customer.specs.declared.signal.Signal.TheVariants as signal
+use Rattle.njh_customer.specs.Runs.{OwnEvent, OwnBytes, OwnSignal}
 
 abbrev pub line_of : Event → LineId
 line_of (Bytes line piece) = line

@@ -1,13 +1,15 @@
 -- How far a run came, and why it stopped.
-use Rattle.std.specs.Prelude.{◌≡◌, ℕ, ◌<◌, ◌⊎◌, List, Result, Ok, Err, ⊤}
+use Rattle.std.specs.Prelude.{◌≡◌, ℕ, ◌<◌, ◌≤◌, ◌⊎◌, List, [], ◌∷◌, ◌++◌, Result, Ok, Err, OnOk, IfErr, Vec, vec_capacity, ⊤}
+use Rattle.njh_bisync.specs.declared.frame.TheConstants.{LONGEST_FRAME}
 use Rattle.njh_table.specs.declared.LineId.{LineId}
 use Rattle.njh_hub.specs.declared.event.Event.{Event}
 use Rattle.njh_hub.specs.declared.fault.HubFault.TheVariants.{UnknownLine, UnknownCustomer, Memory}
 use Rattle.njh_hub.specs.declared.fault.Cause.{Cause}
 use Rattle.njh_hub.specs.declared.fault.Cause.TheVariants.{Hub, Sink}
 use Rattle.njh_hub.specs.declared.fault.RunFault.{RunFault}
-use Rattle.njh_hub.specs.Own.{first_of, bytes_in_event}
-use Rattle.njh_hub.specs.Sent.{but_last}
+use Rattle.njh_hub.specs.Own.{line_of, first_of, bytes_in_event}
+use Rattle.njh_hub.specs.Sent.{IsCounted}
+use Rattle.njh_hub.specs.Whole.{Part, HasLine, SameLines, hub_run}
 
 -- the events that happened: all, or up to where the run stopped
 abbrev pub done : {A : Type 0} → List Event → Result A RunFault → List Event
@@ -21,16 +23,47 @@ CanStop (Hub UnknownCustomer) = ⊥
 CanStop (Hub Memory) = ⊤
 CanStop Sink = ⊤
 
+-- A sink took all of these frames but the last, and refused that one.
+pub record RefusedLast {S : Type 0} (took : S → S → List (LineId × List ℕ) → Type 0) (refused : S → S → LineId × List ℕ → Type 0)
+    (before after : S) (sent : List (LineId × List ℕ)) : Type 0 where
+  pub front : List (LineId × List ℕ)
+  pub last : LineId × List ℕ
+  pub between : S
+  pub are : sent ≡ front ++ last ∷ []
+  pub took_front : took before between front
+  pub refused_last : refused between after last
+
 -- What a sink took where a run was stopped: the frames that were sent, or all but the last, which it then refused.
-abbrev pub HandedUntil : {S : Type 0} → (S → S → List (LineId × List ℕ) → Type 0) → (S → S → Type 0) → Cause → S → S → List (LineId × List ℕ) → Type 0
+abbrev pub HandedUntil : {S : Type 0} → (S → S → List (LineId × List ℕ) → Type 0) → (S → S → LineId × List ℕ → Type 0) → Cause → S →
+    S → List (LineId × List ℕ) → Type 0
 HandedUntil took refused (Hub fault) before after sent = took before after sent
-HandedUntil {S} took refused Sink before after sent = (between : S) × took before between (but_last sent) × refused between after
+HandedUntil took refused Sink before after sent = RefusedLast took refused before after sent
 
 -- What it took in a run.
-abbrev pub Handed : {S A : Type 0} → (S → S → List (LineId × List ℕ) → Type 0) → (S → S → Type 0) → Result A RunFault → S → S → List (LineId × List ℕ) → Type 0
+abbrev pub Handed : {S A : Type 0} → (S → S → List (LineId × List ℕ) → Type 0) → (S → S → LineId × List ℕ → Type 0) →
+    Result A RunFault → S → S → List (LineId × List ℕ) → Type 0
 Handed took refused (Ok x) before after sent = took before after sent
 Handed took refused (Err fault) before after sent = HandedUntil took refused fault.cause before after sent
 
 -- A stop within one event: before it or after so many of its bytes, and not all; or right after it.
 abbrev pub IsWithinOne : Event → RunFault → Type 0
-IsWithinOne event fault = (0 < fault.bytes → (fault.events ≡ 0) × (fault.bytes < bytes_in_event event)) × ((fault.events ≡ 0) ⊎ ((fault.events ≡ 1) × (fault.bytes ≡ 0)))
+IsWithinOne event fault = (0 < fault.bytes → (fault.events ≡ 0) × (fault.bytes < bytes_in_event event)) ×
+    ((fault.events ≡ 0) ⊎ ((fault.events ≡ 1) × (fault.bytes ≡ 0)))
+
+-- One event of a run. A fault speaks of it as of the only one.
+pub record IsEventRun {S A Z : Type 0} (took : S → S → List (LineId × List ℕ) → Type 0)
+    (refused : S → S → LineId × List ℕ → Type 0) (count : S → ℕ) (parts : List Part) (event : Event) (out : Vec ℕ Z) (sink : S)
+    (result : Result A RunFault) (new : List Part) (new_out : Vec ℕ Z) (new_sink : S) : Type 0 where
+  pub leads : new ≡ (hub_run parts (done (event ∷ []) result)).parts
+  pub handed : Handed took refused result sink new_sink (hub_run parts (done (event ∷ []) result)).sent
+  pub known : OnOk result (HasLine parts (line_of event))
+  pub lines : SameLines parts new
+  pub room : OnOk result (LONGEST_FRAME ≤ vec_capacity new_out)
+  pub one : IfErr result (IsWithinOne event)
+  pub behind : IfErr result (λ fault. fault.events ≡ 1 → HasLine parts (line_of event))
+  pub causes : IfErr result (λ fault. CanStop fault.cause)
+  pub unknown : IfErr result (λ fault. fault.cause ≡ Hub UnknownLine → (fault.events ≡ 0) × (HasLine parts (line_of event) → ⊥))
+  pub memory : IfErr result (λ fault. fault.cause ≡ Hub Memory → (fault.events ≡ 0) × (fault.bytes ≡ 0) ×
+      HasLine parts (line_of event) × (vec_capacity out < LONGEST_FRAME))
+  pub counts : count sink ≤ count new_sink
+  pub counted : IfErr result (λ fault. fault.cause ≡ Sink → IsCounted (count sink) (count new_sink))

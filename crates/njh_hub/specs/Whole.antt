@@ -2,7 +2,8 @@
 use Rattle.std.specs.Prelude.{◌≡◌, ℕ, ◌<◌, List, [], ◌∷◌, ◌++◌, length, slice_index_or, slice_set}
 use Rattle.njh_table.specs.declared.LineId.{LineId}
 use Rattle.njh_table.specs.Entries.{CustomerEntry}
-use Rattle.njh_hub.specs.Runs.{Part, opened, OwnEvent, event_run}
+pub use Rattle.njh_customer.specs.Part.{Part, opened}
+use Rattle.njh_customer.specs.Runs.{OwnEvent, event_run}
 use Rattle.njh_hub.specs.Own.{line_of, own}
 use Rattle.njh_hub.specs.declared.event.Event.{Event}
 

@@ -38,21 +38,16 @@ impl Piece {
     }
 }
 
-/// What comes to a line but bytes: a tick of the clock, the adapter's word for a failed block check, or
-/// the line's loss.
-#[derive(Clone, Copy, Debug, PartialEq, Eq)]
-pub enum Signal {
-    Tick,
-    Garbled,
-    Lost,
-}
-
 /// What comes to the hub, each on one line.
 #[derive(Drop)]
 pub enum Event {
+    /// Some bytes.
     Bytes(LineId, Piece),
+    /// A tick of the clock.
     Tick(LineId),
+    /// The adapter's word that a block check failed.
     Garbled(LineId),
+    /// The line is lost.
     Lost(LineId),
 }
 

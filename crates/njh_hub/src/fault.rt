@@ -8,10 +8,13 @@ use thiserror::Error;
 /// Why a call of the hub was refused. Nothing has changed then.
 #[derive(Clone, Copy, Debug, PartialEq, Eq, Error)]
 pub enum HubFault {
+    /// The hub has no such line.
     #[error("U1 UnknownLine")]
     UnknownLine,
+    /// The hub has no such customer.
     #[error("U2 UnknownCustomer")]
     UnknownCustomer,
+    /// There was no memory.
     #[error("U3 Memory")]
     Memory,
 }
@@ -38,10 +41,12 @@ impl<T: Drop> From<AllocFailed<T>> for HubFault {
     }
 }
 
-/// Who stopped a run: the hub, which refused a step, or the sink, which refused its frame.
+/// Who stopped a run.
 #[derive(Clone, Copy, Debug, PartialEq, Eq)]
 pub enum Cause {
+    /// The hub refused a step.
     Hub(HubFault),
+    /// The sink refused a frame.
     Sink,
 }
 
@@ -51,8 +56,11 @@ pub enum Cause {
 /// alone is missing.
 #[derive(Clone, Copy, Debug, PartialEq, Eq)]
 pub struct RunFault {
+    /// How many events are done whole.
     pub events: usize,
+    /// How many bytes of the next event are done.
     pub bytes: usize,
+    /// Who stopped the run.
     pub cause: Cause,
 }
 

@@ -1,18 +1,19 @@
 //! The hub: each customer's lines, and a step for each event on one of them.
 
-ghost use Rattle.std.specs.Prelude.{◌≡◌, ℕ, ◌+◌, ◌<◌, ◌≤◌, ◌↔◌, List, [], length, slice_set, IsTrue, OnOk, OnErr, IfOk, IsOk, Err};
+ghost use Rattle.std.specs.Prelude.{◌≡◌, ℕ, ◌+◌, ◌<◌, ◌≤◌, ◌↔◌, List, [], length, IsTrue, OnOk, OnErr, IfOk, IsOk, Err};
 ghost use Rattle.std.specs.Vec.{vec_len, vec_capacity};
-ghost use Rattle.njh_hub.specs.Runs.{part_takes, part_hears};
-ghost use Rattle.njh_hub.specs.Whole.{part, HasLine, SameLines};
+ghost use Rattle.njh_customer.specs.Part.{bytes_taken, signal_taken};
+ghost use Rattle.njh_hub.specs.Steps.{IsStep};
+ghost use Rattle.njh_hub.specs.Whole.{part, HasLine};
 
-use crate::event::Signal;
 use crate::fault::HubFault;
 use crate::file_view::FileView;
-use crate::lines::Lines;
-use njh_line::LONGEST_FRAME;
+use njh_bisync::LONGEST_FRAME;
+use njh_customer::{FrameBuffer, Lines, Signal};
 use njh_table::{LineId, Tables};
 use std::alloc::Global;
 use std::marker::Model;
+use std::mem;
 
 /// Customers with lines of their own, over one table. A caller sees it as the list of the customers' parts.
 #[derive(Drop)]
@@ -24,7 +25,7 @@ pub struct Hub {
 
 impl Model for Hub {
     ghost use Rattle.std.specs.Prelude.{◌≡◌, List, length};
-    ghost use Rattle.njh_hub.specs.Runs.{Part};
+    ghost use Rattle.njh_hub.specs.Whole.{Part};
     ghost use Rattle.njh_hub.specs.Parts.{entries_of, parts_of};
 
     ghost Value = { List Part };
@@ -36,7 +37,7 @@ impl Model for Hub {
 
 impl Hub {
     ghost use Rattle.std.specs.Prelude.{map};
-    ghost use Rattle.njh_hub.specs.Runs.{opened};
+    ghost use Rattle.njh_hub.specs.Whole.{opened};
     ghost use Rattle.njh_hub.specs.Parts.{entries_of};
 
     /// A hub of these tables, with all the room that its lines need. Want of memory is the only refusal.
@@ -57,7 +58,8 @@ impl Hub {
 
     /// Whether the hub has this line.
     pub fn is_line(&self, line: LineId) -> bool
-        ensures { IsTrue result ↔ HasLine self.now line }
+        ensures line { IsTrue result ↔ HasLine self.now line }
+        ensures rests { IsTrue result → line.line < length (part line.customer self.now).rests }
     {
         let customer = usize::from(line.customer);
         if customer >= self.lines.len() {
@@ -89,65 +91,40 @@ impl Hub {
     ///
     /// `UnknownLine` comes where the hub has no such line, `Memory` where `out` found no room for a frame past what it held.
     pub fn take(&mut self, line: LineId, piece: &[u8], out: &mut Vec<u8>) -> Result<usize, HubFault>
-        ensures taken { IfOk result (λ taken. taken ≡ (part_takes (part line.customer self.old) line.line piece.now).taken) }
+        ensures taken { IfOk result (λ taken. taken ≡ (bytes_taken (part line.customer self.old) line.line piece.now).taken) }
         ensures progress { IfOk result (λ taken. (0 < length piece.now → 0 < taken) × (taken ≤ length piece.now)) }
-        ensures hub { OnOk result (self.new ≡ slice_set self.old line.customer (part_takes (part line.customer self.old) line.line piece.now).after) }
-        ensures frame { OnOk result (out.new.items ≡ (part_takes (part line.customer self.old) line.line piece.now).frame) }
-        ensures lines { SameLines self.old self.new }
-        ensures room { OnOk result (8196 ≤ vec_capacity out.new) }
-        ensures known { OnOk result (HasLine self.old line) }
+        ensures step { let t = bytes_taken (part line.customer self.old) line.line piece.now in
+            IsStep self.old line t.after t.frame out.old result self.new out.new }
         ensures rests { OnOk result (line.line < length (part line.customer self.old).rests) }
-        ensures unknown { ¬ HasLine self.old line → result ≡ Err HubFault.UnknownLine }
-        ensures memory { HasLine self.old line → OnErr result ((result ≡ Err HubFault.Memory) × (vec_capacity out.old < vec_len out.old + 8196)) }
-        ensures err { OnErr result ((self.new ≡ self.old) × (out.new.items ≡ out.old.items) × (vec_capacity out.new ≡ vec_capacity out.old)) }
     {
-        if !self.is_line(line) {
-            return Err(HubFault::UnknownLine);
-        }
-        make_room(out)?;
+        let mut frame = self.frame_buffer(line, out)?;
         let customer = self.tables.customer(line.customer);
         let lines = &mut self.lines[usize::from(line.customer)];
-        Ok(lines.take(customer, line.line, piece, out))
+        let taken = lines.take_bytes(customer, line.line, piece, &mut frame);
+        *out = frame.into_bytes();
+        Ok(taken)
     }
 
     /// A tick of the clock on a line. Refusals and `out` are those of `take`.
     pub fn tick(&mut self, line: LineId, out: &mut Vec<u8>) -> Result<(), HubFault>
-        ensures hub { OnOk result (self.new ≡ slice_set self.old line.customer (part_hears (part line.customer self.old) line.line Signal.Tick).after) }
-        ensures frame { OnOk result (out.new.items ≡ (part_hears (part line.customer self.old) line.line Signal.Tick).frame) }
-        ensures lines { SameLines self.old self.new }
-        ensures room { OnOk result (8196 ≤ vec_capacity out.new) }
-        ensures known { OnOk result (HasLine self.old line) }
-        ensures unknown { ¬ HasLine self.old line → result ≡ Err HubFault.UnknownLine }
-        ensures memory { HasLine self.old line → OnErr result ((result ≡ Err HubFault.Memory) × (vec_capacity out.old < vec_len out.old + 8196)) }
-        ensures err { OnErr result ((self.new ≡ self.old) × (out.new.items ≡ out.old.items) × (vec_capacity out.new ≡ vec_capacity out.old)) }
+        ensures { let t = signal_taken (part line.customer self.old) line.line Signal.Tick in
+            IsStep self.old line t.after t.frame out.old result self.new out.new }
     {
         self.signal(line, Signal::Tick, out)
     }
 
     /// The adapter's word that a block check failed on a line. Refusals and `out` are those of `take`.
     pub fn garbled(&mut self, line: LineId, out: &mut Vec<u8>) -> Result<(), HubFault>
-        ensures hub { OnOk result (self.new ≡ slice_set self.old line.customer (part_hears (part line.customer self.old) line.line Signal.Garbled).after) }
-        ensures frame { OnOk result (out.new.items ≡ (part_hears (part line.customer self.old) line.line Signal.Garbled).frame) }
-        ensures lines { SameLines self.old self.new }
-        ensures room { OnOk result (8196 ≤ vec_capacity out.new) }
-        ensures known { OnOk result (HasLine self.old line) }
-        ensures unknown { ¬ HasLine self.old line → result ≡ Err HubFault.UnknownLine }
-        ensures memory { HasLine self.old line → OnErr result ((result ≡ Err HubFault.Memory) × (vec_capacity out.old < vec_len out.old + 8196)) }
-        ensures err { OnErr result ((self.new ≡ self.old) × (out.new.items ≡ out.old.items) × (vec_capacity out.new ≡ vec_capacity out.old)) }
+        ensures { let t = signal_taken (part line.customer self.old) line.line Signal.Garbled in
+            IsStep self.old line t.after t.frame out.old result self.new out.new }
     {
         self.signal(line, Signal::Garbled, out)
     }
 
     /// The loss of a line. Refusals and `out` are those of `take`.
     pub fn lost(&mut self, line: LineId, out: &mut Vec<u8>) -> Result<(), HubFault>
-        ensures hub { OnOk result (self.new ≡ slice_set self.old line.customer (part_hears (part line.customer self.old) line.line Signal.Lost).after) }
-        ensures frame { OnOk result (out.new.items ≡ (part_hears (part line.customer self.old) line.line Signal.Lost).frame) }
-        ensures lines { SameLines self.old self.new }
-        ensures room { OnOk result (8196 ≤ vec_capacity out.new) }
-        ensures known { OnOk result (HasLine self.old line) }
-        ensures unknown { ¬ HasLine self.old line → result ≡ Err HubFault.UnknownLine }
-        ensures memory { HasLine self.old line → OnErr result ((result ≡ Err HubFault.Memory) × (vec_capacity out.old < vec_len out.old + 8196)) }
-        ensures err { OnErr result ((self.new ≡ self.old) × (out.new.items ≡ out.old.items) × (vec_capacity out.new ≡ vec_capacity out.old)) }
+        ensures { let t = signal_taken (part line.customer self.old) line.line Signal.Lost in
+            IsStep self.old line t.after t.frame out.old result self.new out.new }
     {
         self.signal(line, Signal::Lost, out)
     }
@@ -159,37 +136,32 @@ impl Hub {
         signal: Signal,
         out: &mut Vec<u8>,
     ) -> Result<(), HubFault>
-        ensures hub { OnOk result (self.new ≡ slice_set self.old line.customer (part_hears (part line.customer self.old) line.line signal).after) }
-        ensures frame { OnOk result (out.new.items ≡ (part_hears (part line.customer self.old) line.line signal).frame) }
-        ensures lines { SameLines self.old self.new }
-        ensures room { OnOk result (8196 ≤ vec_capacity out.new) }
-        ensures known { OnOk result (HasLine self.old line) }
-        ensures unknown { ¬ HasLine self.old line → result ≡ Err HubFault.UnknownLine }
-        ensures memory { HasLine self.old line → OnErr result ((result ≡ Err HubFault.Memory) × (vec_capacity out.old < vec_len out.old + 8196)) }
-        ensures err { OnErr result ((self.new ≡ self.old) × (out.new.items ≡ out.old.items) × (vec_capacity out.new ≡ vec_capacity out.old)) }
+        ensures { let t = signal_taken (part line.customer self.old) line.line signal in
+            IsStep self.old line t.after t.frame out.old result self.new out.new }
+    {
+        let mut frame = self.frame_buffer(line, out)?;
+        let customer = self.tables.customer(line.customer);
+        let lines = &mut self.lines[usize::from(line.customer)];
+        lines.take_signal(customer, line.line, signal, &mut frame);
+        *out = frame.into_bytes();
+        Ok(())
+    }
+
+    /// The room of `out` for the frame of a step on a line. Where the step is refused `out` stays as it was.
+    fn frame_buffer(&self, line: LineId, out: &mut Vec<u8>) -> Result<FrameBuffer, HubFault>
+        ensures known { OnOk result (HasLine self.now line) }
+        ensures rests { OnOk result (line.line < length (part line.customer self.now).rests) }
+        ensures unknown { ¬ HasLine self.now line → result ≡ Err HubFault.UnknownLine }
+        ensures memory { HasLine self.now line →
+            OnErr result ((result ≡ Err HubFault.Memory) × (vec_capacity out.old < vec_len out.old + LONGEST_FRAME)) }
+        ensures err { OnErr result ((out.new.items ≡ out.old.items) × (vec_capacity out.new ≡ vec_capacity out.old)) }
     {
         if !self.is_line(line) {
             return Err(HubFault::UnknownLine);
         }
-        make_room(out)?;
-        let customer = self.tables.customer(line.customer);
-        let lines = &mut self.lines[usize::from(line.customer)];
-        lines.hear(customer, line.line, signal, out);
-        Ok(())
-    }
-}
-
-/// Empties `out`, once it has the room for any frame past what it held.
-fn make_room(out: &mut Vec<u8>) -> Result<(), HubFault>
-    ensures ok { OnOk result ((out.new.items ≡ []) × (8196 ≤ vec_capacity out.new)) }
-    ensures memory { OnErr result ((result ≡ Err HubFault.Memory) × (vec_capacity out.old < vec_len out.old + 8196)) }
-    ensures err { OnErr result ((out.new.items ≡ out.old.items) × (vec_capacity out.new ≡ vec_capacity out.old)) }
-{
-    match out.reserve(LONGEST_FRAME) {
-        Ok(()) => {
-            out.clear();
-            Ok(())
+        match out.reserve(LONGEST_FRAME) {
+            Ok(()) => Ok(FrameBuffer::of(mem::replace(out, Vec::new(self.alloc)))),
+            Err(_) => Err(HubFault::Memory),
         }
-        Err(_) => Err(HubFault::Memory),
     }
 }

@@ -1,6 +1,8 @@
 //! Laws of the definitions: what holds of all runs, whoever computes them.
 
-ghost use Rattle.njh_hub.specs.Laws.{EachIsAlone, TwoListsAreLike, CustomersNeverMeet, CutsAreLike};
+ghost use Rattle.njh_hub.specs.Laws.{EachIsAlone, TwoListsAreLike, CustomersNeverMeet, SentInOrder};
+
+use njh_customer::first_bytes_send_first;
 
 /// Whatever events come, each customer's part of the hub and the frames on its lines are those of that customer alone over its own
 /// events.
@@ -19,7 +21,9 @@ pub fn customers_never_meet()
     ensures { CustomersNeverMeet }
 {}
 
-/// It doesn't matter how the bytes of a line are cut into pieces.
-pub fn cuts_are_like()
-    ensures { CutsAreLike }
-{}
+/// The frames of the first events, and of the first bytes of the next, come first of the frames of all.
+pub fn sent_in_order()
+    ensures { SentInOrder }
+{
+    first_bytes_send_first();
+}

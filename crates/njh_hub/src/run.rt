@@ -1,19 +1,19 @@
 //! Runs over lists of events.
 
-ghost use Rattle.std.specs.Prelude.{◌≡◌, ℕ, ◌+◌, ◌<◌, ◌≤◌, List, [], ◌∷◌, length, slice_get, OnOk, OnErr, IfErr, IsSomeAnd, All};
-ghost use Rattle.std.specs.Vec.{vec_len, vec_capacity};
-ghost use Rattle.njh_hub.specs.Runs.{alone_run, OwnSignal};
-ghost use Rattle.njh_hub.specs.Feeding.{sent_on};
+ghost use Rattle.std.specs.Prelude.{◌≡◌, ℕ, ◌+◌, ◌<◌, ◌≤◌, List, [], ◌∷◌, length, slice_get, take, OnOk, OnErr, IfErr, IsSomeAnd, All};
+ghost use Rattle.njh_customer.specs.Feeding.{sent_on};
+ghost use Rattle.njh_customer.specs.Runs.{alone_run, OwnSignal};
 ghost use Rattle.njh_hub.specs.Own.{line_of, own, events_of, sent_to, bytes_in_event};
-ghost use Rattle.njh_hub.specs.Whole.{part, HasLine, SameLines, sent_by, hub_run};
 ghost use Rattle.njh_hub.specs.Sent.{IsCounted};
-ghost use Rattle.njh_hub.specs.Stops.{done, CanStop, Handed, IsWithinOne};
+ghost use Rattle.njh_hub.specs.Stops.{done, CanStop, Handed, IsEventRun};
+ghost use Rattle.njh_hub.specs.Whole.{part, HasLine, SameLines, sent_by, hub_run};
 ghost use Rattle.njh_hub.specs.declared.event.Event.TheVariants.{Bytes};
 
-use crate::event::{Event, Signal};
+use crate::event::Event;
 use crate::fault::{Cause, HubFault, RunFault};
 use crate::hub::Hub;
 use crate::sink::{Sink, SinkFault};
+use njh_customer::{Signal, no_bytes_do_nothing, steps_follow_bytes};
 use njh_table::LineId;
 
 impl Hub {
@@ -21,11 +21,12 @@ impl Hub {
 
     /// Works off the events in order, and hands each frame that is sent to the sink. Stops at the first fault.
     ///
-    /// For every customer, whatever the others do: its part of the hub is what its own events lead it to by itself, and the sink was handed
-    /// on its lines what it sends by itself.
+    /// For every customer, whatever the others do: its part of the hub is what its own events lead it to by itself, and the sink was
+    /// handed on its lines what it sends by itself.
     pub fn run<S: Sink>(&mut self, events: &[Event], sink: &mut S) -> Result<(), RunFault>
         // For each customer: its part, and in order the frames on its lines, are those of that customer alone.
-        ensures parts { (c : ℕ) → c < length self.old → part c self.new ≡ (alone_run (part c self.old) (events_of c (done events.now result))).after }
+        ensures parts { (c : ℕ) → c < length self.old →
+            part c self.new ≡ (alone_run (part c self.old) (events_of c (done events.now result))).after }
         ensures sent { OnOk result ((pairs : List (LineId × List ℕ)) × S.took sink.old sink.new pairs ×
             ((c : ℕ) → c < length self.old → sent_to c pairs ≡ (alone_run (part c self.old) (events_of c events.now)).sent)) }
 
@@ -33,13 +34,21 @@ impl Hub {
         ensures handed { Handed S.took S.refused result sink.old sink.new (hub_run self.old (done events.now result)).sent }
         ensures refused { IfErr result (λ fault. fault.cause ≡ Cause.Sink → 0 < length (hub_run self.old (done events.now result)).sent) }
 
-        // When it stops, and where.
+        // The customers and their lines stay.
+        ensures customers { length self.new ≡ length self.old }
+        ensures lines { SameLines self.old self.new }
+
+        // When it stops, and where: every event before the stop was on a line of the hub.
         ensures known { OnOk result (All (λ event. HasLine self.old (line_of event)) events.now) }
-        ensures within { IfErr result (λ fault. 0 < fault.bytes → IsSomeAnd (slice_get events.now fault.events) (λ event. fault.bytes < bytes_in_event event)) }
+        ensures before { IfErr result (λ fault. All (λ event. HasLine self.old (line_of event)) (take fault.events events.now)) }
+        ensures few { IfErr result (λ fault. fault.events ≤ length events.now) }
+        ensures within { IfErr result (λ fault. 0 < fault.bytes →
+            IsSomeAnd (slice_get events.now fault.events) (λ event. fault.bytes < bytes_in_event event)) }
         ensures causes { IfErr result (λ fault. CanStop fault.cause) }
         ensures unknown { IfErr result (λ fault. fault.cause ≡ Cause.Hub HubFault.UnknownLine →
             IsSomeAnd (slice_get events.now fault.events) (λ event. ¬ HasLine self.old (line_of event))) }
-        ensures memory { IfErr result (λ fault. fault.cause ≡ Cause.Hub HubFault.Memory → (fault.events ≡ 0) × (fault.bytes ≡ 0)) }
+        ensures memory { IfErr result (λ fault. fault.cause ≡ Cause.Hub HubFault.Memory →
+            (fault.events ≡ 0) × (fault.bytes ≡ 0) × IsSomeAnd (slice_get events.now 0) (λ event. HasLine self.old (line_of event))) }
         ensures counted { IfErr result (λ fault. fault.cause ≡ Cause.Sink → IsCounted (S.count sink.old) (S.count sink.new)) }
     {
         let mut out = Vec::new(self.allocator());
@@ -59,18 +68,7 @@ impl Hub {
         out: &mut Vec<u8>,
         sink: &mut S,
     ) -> Result<(), RunFault>
-        ensures parts { self.new ≡ (hub_run self.old (done (event.now ∷ []) result)).parts }
-        ensures handed { Handed S.took S.refused result sink.old sink.new (hub_run self.old (done (event.now ∷ []) result)).sent }
-        ensures refused { IfErr result (λ fault. fault.cause ≡ Cause.Sink → 0 < length (hub_run self.old (done (event.now ∷ []) result)).sent) }
-        ensures known { OnOk result (HasLine self.old (line_of event.now)) }
-        ensures lines { SameLines self.old self.new }
-        ensures room { OnOk result (8196 ≤ vec_capacity out.new) }
-        ensures one { IfErr result (IsWithinOne (event.now)) }
-        ensures causes { IfErr result (λ fault. CanStop fault.cause) }
-        ensures unknown { IfErr result (λ fault. fault.cause ≡ Cause.Hub HubFault.UnknownLine → (fault.events ≡ 0) × ¬ HasLine self.old (line_of event.now)) }
-        ensures memory { IfErr result (λ fault. fault.cause ≡ Cause.Hub HubFault.Memory → (fault.events ≡ 0) × (fault.bytes ≡ 0) × (vec_capacity out.old < 8196)) }
-        ensures counts { S.count sink.old ≤ S.count sink.new }
-        ensures counted { IfErr result (λ fault. fault.cause ≡ Cause.Sink → IsCounted (S.count sink.old) (S.count sink.new)) }
+        ensures { IsEventRun S.took S.refused S.count self.old event.now out.old sink.old result self.new out.new sink.new }
     {
         match event {
             Event::Bytes(line, piece) => self.run_bytes(*line, piece.bytes(), out, sink),
@@ -89,18 +87,7 @@ impl Hub {
         sink: &mut S,
     ) -> Result<(), RunFault>
         requires { own event.now ≡ OwnSignal signal (line_of event.now).line }
-        ensures parts { self.new ≡ (hub_run self.old (done (event.now ∷ []) result)).parts }
-        ensures handed { Handed S.took S.refused result sink.old sink.new (hub_run self.old (done (event.now ∷ []) result)).sent }
-        ensures refused { IfErr result (λ fault. fault.cause ≡ Cause.Sink → 0 < length (hub_run self.old (done (event.now ∷ []) result)).sent) }
-        ensures known { OnOk result (HasLine self.old (line_of event.now)) }
-        ensures lines { SameLines self.old self.new }
-        ensures room { OnOk result (8196 ≤ vec_capacity out.new) }
-        ensures one { IfErr result (IsWithinOne (event.now)) }
-        ensures causes { IfErr result (λ fault. CanStop fault.cause) }
-        ensures unknown { IfErr result (λ fault. fault.cause ≡ Cause.Hub HubFault.UnknownLine → (fault.events ≡ 0) × ¬ HasLine self.old (line_of event.now)) }
-        ensures memory { IfErr result (λ fault. fault.cause ≡ Cause.Hub HubFault.Memory → (fault.events ≡ 0) × (fault.bytes ≡ 0) × (vec_capacity out.old < 8196)) }
-        ensures counts { S.count sink.old ≤ S.count sink.new }
-        ensures counted { IfErr result (λ fault. fault.cause ≡ Cause.Sink → IsCounted (S.count sink.old) (S.count sink.new)) }
+        ensures { IsEventRun S.took S.refused S.count self.old event.now out.old sink.old result self.new out.new sink.new }
     {
         let line = event.line();
         out.clear();
@@ -130,19 +117,10 @@ impl Hub {
         out: &mut Vec<u8>,
         sink: &mut S,
     ) -> Result<(), RunFault>
-        ensures parts { self.new ≡ (hub_run self.old (done (Bytes line piece.now ∷ []) result)).parts }
-        ensures handed { Handed S.took S.refused result sink.old sink.new (hub_run self.old (done (Bytes line piece.now ∷ []) result)).sent }
-        ensures refused { IfErr result (λ fault. fault.cause ≡ Cause.Sink → 0 < length (hub_run self.old (done (Bytes line piece.now ∷ []) result)).sent) }
-        ensures known { OnOk result (HasLine self.old line) }
-        ensures lines { SameLines self.old self.new }
-        ensures room { OnOk result (8196 ≤ vec_capacity out.new) }
-        ensures one { IfErr result (IsWithinOne (Bytes line piece.now)) }
-        ensures causes { IfErr result (λ fault. CanStop fault.cause) }
-        ensures unknown { IfErr result (λ fault. fault.cause ≡ Cause.Hub HubFault.UnknownLine → (fault.events ≡ 0) × ¬ HasLine self.old line) }
-        ensures memory { IfErr result (λ fault. fault.cause ≡ Cause.Hub HubFault.Memory → (fault.events ≡ 0) × (fault.bytes ≡ 0) × (vec_capacity out.old < 8196)) }
-        ensures counts { S.count sink.old ≤ S.count sink.new }
-        ensures counted { IfErr result (λ fault. fault.cause ≡ Cause.Sink → IsCounted (S.count sink.old) (S.count sink.new)) }
+        ensures { IsEventRun S.took S.refused S.count self.old (Bytes line piece.now) out.old sink.old result self.new out.new sink.new }
     {
+        no_bytes_do_nothing();
+        steps_follow_bytes();
         let mut taken = 0;
         loop {
             let (_, left) = piece.split_at(taken);
@@ -190,7 +168,7 @@ fn after_sink(taken: usize, len: usize) -> RunFault
 /// Hands the frame of a step to the sink, where one was sent.
 fn hand_over<S: Sink>(line: LineId, frame: &[u8], sink: &mut S) -> Result<(), SinkFault>
     ensures ok { OnOk result (S.took sink.old sink.new (sent_by line.customer (sent_on line.line frame.now))) }
-    ensures err { OnErr result (S.refused sink.old sink.new × (0 < length frame.now)) }
+    ensures err { OnErr result (S.refused sink.old sink.new (line, frame.now) × (0 < length frame.now)) }
     ensures counts { S.count sink.old ≤ S.count sink.new }
     ensures counted { OnErr result (IsCounted (S.count sink.old) (S.count sink.new)) }
 {

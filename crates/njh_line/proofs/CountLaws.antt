@@ -18,12 +18,12 @@ repeats false false true taken e = absurd (cc)
 repeats false false false true e = absurd (cc)
 repeats false false false false e = absurd (cc)
 
-is_the_last : (acted : Option ℕ) (bcb : ℕ) → is_repeat acted bcb ≡ true → acted ≡ Some bcb
+is_the_last : (last_bcb : Option ℕ) (bcb : ℕ) → is_repeat last_bcb bcb ≡ true → last_bcb ≡ Some bcb
 is_the_last None bcb e = clash false e refl
 is_the_last (Some b) bcb e = ap Some (eqb-true b bcb e)
 
-pub same : (acted : Option ℕ) (bcb : ℕ) → counted acted bcb ≡ Repeats → acted ≡ Some bcb
-same acted bcb e = is_the_last acted bcb (repeats _ _ _ _ e)
+pub same : (last_bcb : Option ℕ) (bcb : ℕ) → counted last_bcb bcb ≡ Repeats → last_bcb ≡ Some bcb
+same last_bcb bcb e = is_the_last last_bcb bcb (repeats _ _ _ _ e)
 
 repeated : (unchecked repeat set taken : Bool) → unchecked ≡ false → repeat ≡ true
     → cond unchecked Acts (cond repeat Repeats (cond set Acts (cond taken Acts OutOfSequence))) ≡ Repeats

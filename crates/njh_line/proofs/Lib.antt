@@ -1,2 +1,3 @@
-pub mod TableLaws
 pub mod CountLaws
+pub mod RowLaws
+pub mod TableLaws

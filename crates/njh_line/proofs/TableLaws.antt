@@ -1,38 +1,73 @@
 -- Laws of the line table, row by row.
-use Rattle.std.proofs.Common.{◌≡◌, ◌≤◌, ◌<◌, ℕ, ◌+◌, Bool, true, false, Option, Some, None, cond, ◌==◌, refl, arith, eq-eqb}
+use Rattle.std.proofs.Common.{◌≡◌, ◌≤◌, ◌<◌, ℕ, ◌+◌, Bool, true, false, Option, Some, None, cond, ◌==◌, refl, sym, subst, arith, eq-eqb}
 use Rattle.std.proofs.lemmas.Bool.{ne_eqb}
 use Rattle.njh_bisync.specs.declared.frame.Control.TheVariants as control
 use Rattle.njh_header.specs.SignOns.{SignOn}
 use Rattle.njh_line.specs.declared.Phase.{Phase}
 use Rattle.njh_line.specs.declared.Phase.TheVariants.{Down, Calling, Answered, SentI, Up}
 use Rattle.njh_line.specs.declared.config.Config.{Config}
+use Rattle.njh_line.specs.declared.config.Role.{Role}
+use Rattle.njh_line.specs.declared.config.Role.TheVariants.{Call, Answer}
 use Rattle.njh_line.specs.declared.counts.Counted.{Counted}
 use Rattle.njh_line.specs.declared.counts.Counted.TheVariants.{Acts, Repeats, OutOfSequence}
 use Rattle.njh_line.specs.declared.session.Session.{Session}
+use Rattle.njh_line.specs.declared.table.Outcome.{Outcome}
 use Rattle.njh_line.specs.declared.verdict.Reply.{Reply}
-use Rattle.njh_line.specs.declared.verdict.Reply.TheVariants.{Again, Control, Next}
-use Rattle.njh_line.specs.Counts.{after_acting, counted}
-use Rattle.njh_line.specs.Laws.{Stays, acted_after, acted_by, is_acting, is_disregarded, is_up, sets_tries}
-use Rattle.njh_line.specs.LineTable.{Input, Enquiry, Ack0, Nak, Eot, Lost, Tick, Garbled, Spoiled, Bad, Block, accepted, acknowledged, acting, block_came, dropped, enquired, over, quiet, signed_on, ticked, tried, with_reply}
+use Rattle.njh_line.specs.declared.verdict.Reply.TheVariants.{Again, Control, Next, Sequence}
+use Rattle.njh_line.specs.Counts.{after_acting, counted, expected}
+use Rattle.njh_line.specs.Laws.{MovesTriesAlone, is_acting, is_disregarded, is_up, last_bcb_after, last_bcb_by, sets_tries}
+use Rattle.njh_line.specs.LineTable.{Input, Enquiry, Ack0, Nak, Eot, Lost, Tick, Garbled, Spoiled, Bad, Block}
+use Rattle.njh_line.specs.LineTable.{accepted, act, by_count, call, cell, contact, end, end_with, i_sign_on, j_sign_on, none, signed_on, try_again, try_with, with_reply}
 use Rattle.njh_line.specs.Openings.{First}
-use Rattle.njh_line.specs.Sessions.{down, entered, in_session}
+use Rattle.njh_line.specs.Sessions.{down, in_session}
 use Rattle.njh_line.proofs.CountLaws.{clash}
+use Rattle.njh_line.proofs.RowLaws as rows
+
+-- ---- what holds of each cell holds of the row
+
+every : (P : Phase → Outcome → Type 0) (p : Phase) (d c a i u : Outcome)
+    → P Down d → P Calling c → P Answered a → P SentI i → P Up u → P p (cell p d c a i u)
+every P Down down calling answered sent_i up d c a i u = d
+every P Calling down calling answered sent_i up d c a i u = c
+every P Answered down calling answered sent_i up d c a i u = a
+every P SentI down calling answered sent_i up d c a i u = i
+every P Up down calling answered sent_i up d c a i u = u
+
+inside : (P : Phase → Outcome → Type 0) (p : Phase) (d c a i u : Outcome) → in_session p ≡ true
+    → P Answered a → P SentI i → P Up u → P p (cell p d c a i u)
+inside P Down down calling answered sent_i up e a i u = clash false e refl
+inside P Calling down calling answered sent_i up e a i u = clash false e refl
+inside P Answered down calling answered sent_i up e a i u = a
+inside P SentI down calling answered sent_i up e a i u = i
+inside P Up down calling answered sent_i up e a i u = u
+
+outside : (P : Phase → Outcome → Type 0) (p : Phase) (d c a i u : Outcome) → in_session p ≡ false
+    → P Down d → P Calling c → P p (cell p d c a i u)
+outside P Down down calling answered sent_i up e d c = d
+outside P Calling down calling answered sent_i up e d c = c
+outside P Answered down calling answered sent_i up e d c = clash true refl e
+outside P SentI down calling answered sent_i up e d c = clash true refl e
+outside P Up down calling answered sent_i up e d c = clash true refl e
 
 -- ---- a text that is disregarded, and a repeat
-
-try_stays : (five : Bool) (reply : Reply) (s : Session) → five ≡ false
-    → Stays s (cond five (over s) (with_reply reply (record s { tries = s.tries + 1 })))
-try_stays true reply s e = clash true refl e
-try_stays false reply s e = record { phase = refl; acted = refl; ended = refl; acts = refl }
 
 not_five : (n : ℕ) → n < 5 → (n == 5) ≡ false
 not_five n h = ne_eqb n 5 (λ e. omega arith)
 
-disregarded_stays : (inside : Bool) (reply : Reply) (s : Session) → s.tries < 5 → Stays s (cond inside (tried reply s) (quiet s))
-disregarded_stays true reply s h = try_stays (s.tries == 5) reply s (not_five s.tries h)
-disregarded_stays false reply s h = record { phase = refl; acted = refl; ended = refl; acts = refl }
+try_moves : (five : Bool) (reply : Reply) (s : Session) → five ≡ false
+    → MovesTriesAlone s (cond five (end s) (with_reply reply (record s { tries = s.tries + 1 })))
+try_moves true reply s e = clash true refl e
+try_moves false reply s e = record { session = refl; ended = refl; acts = refl }
 
-pub stays : (line : Config) (s : Session) (input : Input) → is_disregarded input ≡ true → s.tries < 5 → Stays s (accepted line input s)
+disregarded : (p : Phase) (reply : Reply) (s : Session) → s.tries < 5
+    → MovesTriesAlone s (cell p (none s) (none s) (try_with reply s) (try_with reply s) (try_with reply s))
+disregarded p reply s h =
+    let nothing : MovesTriesAlone s (none s) = record { session = refl; ended = refl; acts = refl } in
+    let try = try_moves (s.tries == 5) reply s (not_five s.tries h) in
+    every (λ q x. MovesTriesAlone s x) p _ _ _ _ _ nothing nothing try try try
+
+pub stays : (line : Config) (s : Session) (input : Input) → is_disregarded input ≡ true → s.tries < 5
+    → MovesTriesAlone s (accepted line input s)
 unfolding accepted
 stays line s Enquiry e h = clash false e refl
 stays line s Ack0 e h = clash false e refl
@@ -40,19 +75,24 @@ stays line s Nak e h = clash false e refl
 stays line s Eot e h = clash false e refl
 stays line s Lost e h = clash false e refl
 stays line s Tick e h = clash false e refl
-stays line s Garbled e h = disregarded_stays (in_session s.phase) _ s h
-stays line s Spoiled e h = disregarded_stays (in_session s.phase) _ s h
-stays line s Bad e h = disregarded_stays (in_session s.phase) _ s h
+stays line s Garbled e h = disregarded s.phase _ s h
+stays line s Spoiled e h = disregarded s.phase _ s h
+stays line s Bad e h = disregarded s.phase _ s h
 stays line s (Block bcb fcs first) e h = clash false e refl
 
-fifth : (inside five : Bool) (reply : Reply) (s : Session) → inside ≡ true → five ≡ true
-    → cond inside (cond five (over s) (with_reply reply (record s { tries = s.tries + 1 }))) (quiet s) ≡ over s
-fifth true true reply s e f = refl
-fifth true false reply s e f = clash false f refl
-fifth false five reply s e f = clash false e refl
+fifth_try : (five : Bool) (reply : Reply) (s : Session) → five ≡ true
+    → cond five (end s) (with_reply reply (record s { tries = s.tries + 1 })) ≡ end s
+fifth_try true reply s e = refl
+fifth_try false reply s e = clash false e refl
+
+fifth : (p : Phase) (reply : Reply) (s : Session) → in_session p ≡ true → s.tries ≡ 5
+    → cell p (none s) (none s) (try_with reply s) (try_with reply s) (try_with reply s) ≡ end s
+fifth p reply s i h =
+    let try = fifth_try (s.tries == 5) reply s (eq-eqb s.tries 5 h) in
+    inside (λ q x. x ≡ end s) p _ _ _ _ _ i try try try
 
 pub ends : (line : Config) (s : Session) (input : Input) → is_disregarded input ≡ true → in_session s.phase ≡ true → s.tries ≡ 5
-    → accepted line input s ≡ over s
+    → accepted line input s ≡ end s
 unfolding accepted
 ends line s Enquiry e i h = clash false e refl
 ends line s Ack0 e i h = clash false e refl
@@ -60,260 +100,156 @@ ends line s Nak e i h = clash false e refl
 ends line s Eot e i h = clash false e refl
 ends line s Lost e i h = clash false e refl
 ends line s Tick e i h = clash false e refl
-ends line s Garbled e i h = fifth (in_session s.phase) (s.tries == 5) _ s i (eq-eqb s.tries 5 h)
-ends line s Spoiled e i h = fifth (in_session s.phase) (s.tries == 5) _ s i (eq-eqb s.tries 5 h)
-ends line s Bad e i h = fifth (in_session s.phase) (s.tries == 5) _ s i (eq-eqb s.tries 5 h)
+ends line s Garbled e i h = fifth s.phase _ s i h
+ends line s Spoiled e i h = fifth s.phase _ s i h
+ends line s Bad e i h = fifth s.phase _ s i h
 ends line s (Block bcb fcs first) e i h = clash false e refl
 
-repeated : (inside : Bool) (k : Counted) (line : Config) (bcb : ℕ) (fcs : ℕ × ℕ) (first : First) (s : Session) → inside ≡ true
-    → k ≡ Repeats → cond inside (block_came k line bcb fcs first s) (quiet s) ≡ tried Again s
-repeated false k line bcb fcs first s e f = clash false e refl
-repeated true Acts line bcb fcs first s e f = absurd (cc)
-repeated true Repeats line bcb fcs first s e f = refl
-repeated true OutOfSequence line bcb fcs first s e f = absurd (cc)
-
 pub repeat_tries : (line : Config) (s : Session) (bcb : ℕ) (fcs : ℕ × ℕ) (first : First) → in_session s.phase ≡ true
-    → counted s.acted bcb ≡ Repeats → accepted line (Block bcb fcs first) s ≡ tried Again s
-unfolding accepted
-repeat_tries line s bcb fcs first e f = repeated (in_session s.phase) (counted s.acted bcb) line bcb fcs first s e f
-
-repeat_moves_nothing : (inside : Bool) (k : Counted) (line : Config) (bcb : ℕ) (fcs : ℕ × ℕ) (first : First) (s : Session) → inside ≡ true
-    → k ≡ Repeats → s.tries < 5 → Stays s (cond inside (block_came k line bcb fcs first s) (quiet s))
-repeat_moves_nothing false k line bcb fcs first s e f h = clash false e refl
-repeat_moves_nothing true Acts line bcb fcs first s e f h = absurd (cc)
-repeat_moves_nothing true Repeats line bcb fcs first s e f h = try_stays (s.tries == 5) Again s (not_five s.tries h)
-repeat_moves_nothing true OutOfSequence line bcb fcs first s e f h = absurd (cc)
+    → counted s.last_bcb bcb ≡ Repeats → accepted line (Block bcb fcs first) s ≡ try_again s
+repeat_tries line s bcb fcs first e f = sym (rows.repeats line bcb fcs first s e f)
 
 pub repeat_stays : (line : Config) (s : Session) (bcb : ℕ) (fcs : ℕ × ℕ) (first : First) → in_session s.phase ≡ true
-    → counted s.acted bcb ≡ Repeats → s.tries < 5 → Stays s (accepted line (Block bcb fcs first) s)
-unfolding accepted
-repeat_stays line s bcb fcs first e f h = repeat_moves_nothing (in_session s.phase) (counted s.acted bcb) line bcb fcs first s e f h
+    → counted s.last_bcb bcb ≡ Repeats → s.tries < 5 → MovesTriesAlone s (accepted line (Block bcb fcs first) s)
+repeat_stays line s bcb fcs first e f h =
+    subst (λ (x : Outcome). MovesTriesAlone s x) (rows.repeats line bcb fcs first s e f)
+    (try_moves (s.tries == 5) Again s (not_five s.tries h))
 
 -- ---- tries
 
+abbrev KeepsTries : Session → Outcome → Type 0
+KeepsTries s x = x.verdict.ended ≡ false → s.tries ≤ x.session.tries
+
 try_rises : (five : Bool) (reply : Reply) (s : Session)
-    → s.tries ≤ (cond five (over s) (with_reply reply (record s { tries = s.tries + 1 }))).session.tries
+    → s.tries ≤ (cond five (end s) (with_reply reply (record s { tries = s.tries + 1 }))).session.tries
 try_rises true reply s = omega arith
 try_rises false reply s = omega arith
 
-inside_rises : (inside : Bool) (reply : Reply) (s : Session) → s.tries ≤ (cond inside (tried reply s) (quiet s)).session.tries
-inside_rises true reply s = try_rises (s.tries == 5) reply s
-inside_rises false reply s = omega arith
+wait_rises : (turn : Bool) (s : Session) → s.tries ≤ (cond turn (with_reply (Next true) s) (try_with (Control control.Nak) s)).session.tries
+wait_rises true s = omega arith
+wait_rises false s = try_rises (s.tries == 5) _ s
 
-enquiry_keeps : (p : Phase) (line : Config) (s : Session) → in_session p ≡ true → (enquired p line s).verdict.ended ≡ false
-    → s.tries ≤ (enquired p line s).session.tries
-enquiry_keeps Down line s e f = clash false e refl
-enquiry_keeps Calling line s e f = clash false e refl
-enquiry_keeps Answered line s e f = omega arith
-enquiry_keeps SentI line s e f = omega arith
-enquiry_keeps Up line s e f = clash true refl f
+count_rises : (k : Counted) (acted : Outcome) (reply : Reply) (s : Session) → is_acting k ≡ false
+    → s.tries ≤ (elim k as (λ x. Outcome) [ Acts ↦ acted | Repeats ↦ try_again s | OutOfSequence ↦ end_with reply s ]).session.tries
+count_rises Acts acted reply s e = clash true refl e
+count_rises Repeats acted reply s e = try_rises (s.tries == 5) Again s
+count_rises OutOfSequence acted reply s e = omega arith
 
-ack_keeps : (p : Phase) (s : Session) → in_session p ≡ true → is_up p ≡ false → s.tries ≤ (acknowledged p s).session.tries
-ack_keeps Down s e f = clash false e refl
-ack_keeps Calling s e f = clash false e refl
-ack_keeps Answered s e f = omega arith
-ack_keeps SentI s e f = omega arith
-ack_keeps Up s e f = clash true refl f
-
-drop_keeps : (p : Phase) (s : Session) → s.tries ≤ (dropped p s).session.tries
-drop_keeps Down s = omega arith
-drop_keeps Calling s = omega arith
-drop_keeps Answered s = omega arith
-drop_keeps SentI s = omega arith
-drop_keeps Up s = omega arith
-
-waiting_keeps : (ours : Bool) (s : Session)
-    → s.tries ≤ (cond ours (with_reply (Next true) s) (tried (Control control.Nak) s)).session.tries
-waiting_keeps true s = omega arith
-waiting_keeps false s = try_rises (s.tries == 5) _ s
-
-tick_keeps : (p : Phase) (line : Config) (s : Session) → in_session p ≡ true → s.tries ≤ (ticked p line s).session.tries
-tick_keeps Down line s e = clash false e refl
-tick_keeps Calling line s e = clash false e refl
-tick_keeps Answered line s e = try_rises (s.tries == 5) _ s
-tick_keeps SentI line s e = try_rises (s.tries == 5) _ s
-tick_keeps Up line s e = waiting_keeps s.ours s
-
-block_keeps : (inside : Bool) (k : Counted) (line : Config) (bcb : ℕ) (fcs : ℕ × ℕ) (first : First) (s : Session)
-    → is_acting k ≡ false → s.tries ≤ (cond inside (block_came k line bcb fcs first s) (quiet s)).session.tries
-block_keeps false k line bcb fcs first s e = omega arith
-block_keeps true Acts line bcb fcs first s e = clash true refl e
-block_keeps true Repeats line bcb fcs first s e = try_rises (s.tries == 5) Again s
-block_keeps true OutOfSequence line bcb fcs first s e = omega arith
+trying_keeps : (p : Phase) (reply : Reply) (s : Session) → in_session p ≡ true
+    → KeepsTries s (cell p (none s) (none s) (try_with reply s) (try_with reply s) (try_with reply s))
+trying_keeps p reply s e =
+    let try : KeepsTries s (try_with reply s) = λ f. try_rises (s.tries == 5) reply s in
+    inside (λ q x. KeepsTries s x) p _ _ _ _ _ e try try try
 
 pub tries_stay : (line : Config) (s : Session) (input : Input) → in_session s.phase ≡ true
     → (accepted line input s).verdict.ended ≡ false → sets_tries input s ≡ false → s.tries ≤ (accepted line input s).session.tries
 unfolding accepted
-tries_stay line s Enquiry e f g = enquiry_keeps s.phase line s e f
-tries_stay line s Ack0 e f g = ack_keeps s.phase s e g
-tries_stay line s Nak e f g = inside_rises (in_session s.phase) _ s
-tries_stay line s Eot e f g = drop_keeps s.phase s
-tries_stay line s Lost e f g = drop_keeps s.phase s
-tries_stay line s Tick e f g = tick_keeps s.phase line s e
-tries_stay line s Garbled e f g = inside_rises (in_session s.phase) _ s
-tries_stay line s Spoiled e f g = inside_rises (in_session s.phase) _ s
-tries_stay line s Bad e f g = inside_rises (in_session s.phase) _ s
-tries_stay line s (Block bcb fcs first) e f g = block_keeps (in_session s.phase) (counted s.acted bcb) line bcb fcs first s g
+tries_stay line s Enquiry e f g =
+    inside (λ q x. KeepsTries s x) s.phase _ _ _ _ _ e (λ h. omega arith) (λ h. omega arith) (λ h. clash true refl h) f
+tries_stay line s Ack0 e f g =
+    inside (λ q x. is_up q ≡ false → s.tries ≤ x.session.tries) s.phase _ _ _ _ _ e
+    (λ h. omega arith) (λ h. omega arith) (λ h. clash true refl h) g
+tries_stay line s Nak e f g = trying_keeps s.phase _ s e f
+tries_stay line s Eot e f g =
+    inside (λ q x. s.tries ≤ x.session.tries) s.phase _ _ _ _ _ e (omega arith) (omega arith) (omega arith)
+tries_stay line s Lost e f g =
+    inside (λ q x. s.tries ≤ x.session.tries) s.phase _ _ _ _ _ e (omega arith) (omega arith) (omega arith)
+tries_stay line s Tick e f g =
+    let try = try_rises (s.tries == 5) _ s in
+    inside (λ q x. s.tries ≤ x.session.tries) s.phase _ _ _ _ _ e try try (wait_rises s.has_turn s)
+tries_stay line s Garbled e f g = trying_keeps s.phase _ s e f
+tries_stay line s Spoiled e f g = trying_keeps s.phase _ s e f
+tries_stay line s Bad e f g = trying_keeps s.phase _ s e f
+tries_stay line s (Block bcb fcs first) e f g =
+    let k = counted s.last_bcb bcb in
+    let next = after_acting bcb fcs s in
+    let sequence = Sequence (0x80 + expected s.last_bcb) in
+    inside (λ q x. s.tries ≤ x.session.tries) s.phase (none s) (none s)
+    (by_count bcb fcs (i_sign_on line first) s) (by_count bcb fcs (j_sign_on line first) s) (by_count bcb fcs act s) e
+    (count_rises k (i_sign_on line first next) sequence s g)
+    (count_rises k (j_sign_on line first next) sequence s g)
+    (count_rises k (act next) sequence s g)
 
 -- ---- the last block acted on
 
-try_acted : (five : Bool) (reply : Reply) (s : Session)
-    → (cond five (over s) (with_reply reply (record s { tries = s.tries + 1 }))).session.acted ≡ s.acted
-try_acted true reply s = refl
-try_acted false reply s = refl
+abbrev KeepsLast : Session → Outcome → Type 0
+KeepsLast s x = x.session.last_bcb ≡ s.last_bcb
 
-inside_acted : (inside : Bool) (reply : Reply) (s : Session) → (cond inside (tried reply s) (quiet s)).session.acted ≡ s.acted
-inside_acted true reply s = try_acted (s.tries == 5) reply s
-inside_acted false reply s = refl
+try_last : (five : Bool) (reply : Reply) (s : Session)
+    → KeepsLast s (cond five (end s) (with_reply reply (record s { tries = s.tries + 1 })))
+try_last true reply s = refl
+try_last false reply s = refl
 
-enquiry_acted : (p : Phase) (line : Config) (s : Session) → in_session p ≡ true → (enquired p line s).verdict.ended ≡ false
-    → (enquired p line s).session.acted ≡ s.acted
-enquiry_acted Down line s e f = clash false e refl
-enquiry_acted Calling line s e f = clash false e refl
-enquiry_acted Answered line s e f = refl
-enquiry_acted SentI line s e f = refl
-enquiry_acted Up line s e f = clash true refl f
+wait_last : (turn : Bool) (s : Session) → KeepsLast s (cond turn (with_reply (Next true) s) (try_with (Control control.Nak) s))
+wait_last true s = refl
+wait_last false s = try_last (s.tries == 5) _ s
 
-ack_acted : (p : Phase) (s : Session) → in_session p ≡ true → (acknowledged p s).session.acted ≡ s.acted
-ack_acted Down s e = refl
-ack_acted Calling s e = clash false e refl
-ack_acted Answered s e = refl
-ack_acted SentI s e = refl
-ack_acted Up s e = refl
+trying_last : (p : Phase) (reply : Reply) (s : Session)
+    → KeepsLast s (cell p (none s) (none s) (try_with reply s) (try_with reply s) (try_with reply s))
+trying_last p reply s =
+    let try = try_last (s.tries == 5) reply s in
+    every (λ q x. KeepsLast s x) p _ _ _ _ _ refl refl try try try
 
-drop_acted : (p : Phase) (s : Session) → (dropped p s).session.acted ≡ s.acted
-drop_acted Down s = refl
-drop_acted Calling s = refl
-drop_acted Answered s = refl
-drop_acted SentI s = refl
-drop_acted Up s = refl
+sign_on_last : (reply : Reply) (line : Config) (x : Option SignOn) (next : Session) → KeepsLast next (signed_on reply line x next)
+sign_on_last reply line None next = refl
+sign_on_last reply line (Some x) next = refl
 
-waiting_acted : (ours : Bool) (s : Session)
-    → (cond ours (with_reply (Next true) s) (tried (Control control.Nak) s)).session.acted ≡ s.acted
-waiting_acted true s = refl
-waiting_acted false s = try_acted (s.tries == 5) _ s
-
-tick_acted : (p : Phase) (line : Config) (s : Session) → in_session p ≡ true → (ticked p line s).session.acted ≡ s.acted
-tick_acted Down line s e = clash false e refl
-tick_acted Calling line s e = clash false e refl
-tick_acted Answered line s e = try_acted (s.tries == 5) _ s
-tick_acted SentI line s e = try_acted (s.tries == 5) _ s
-tick_acted Up line s e = waiting_acted s.ours s
-
-sign_on_acted : (reply : Reply) (line : Config) (x : Option SignOn) (next : Session)
-    → (signed_on reply line x next).session.acted ≡ next.acted
-sign_on_acted reply line None next = refl
-sign_on_acted reply line (Some x) next = refl
-
-acting_acted : (p : Phase) (line : Config) (first : First) (s next : Session) → in_session p ≡ true
-    → (acting p line first s next).session.acted ≡ next.acted
-acting_acted Down line first s next e = clash false e refl
-acting_acted Calling line first s next e = clash false e refl
-acting_acted Answered line first s next e = sign_on_acted _ line _ next
-acting_acted SentI line first s next e = sign_on_acted _ line _ next
-acting_acted Up line first s next e = refl
-
-block_acted : (inside : Bool) (k : Counted) (line : Config) (bcb : ℕ) (fcs : ℕ × ℕ) (first : First) (s : Session)
-    → inside ≡ true → in_session s.phase ≡ true
-    → (cond inside (block_came k line bcb fcs first s) (quiet s)).session.acted ≡ acted_by k bcb s.acted
-block_acted false k line bcb fcs first s e f = clash false e refl
-block_acted true Acts line bcb fcs first s e f = acting_acted s.phase line first s (after_acting bcb fcs s) f
-block_acted true Repeats line bcb fcs first s e f = try_acted (s.tries == 5) Again s
-block_acted true OutOfSequence line bcb fcs first s e f = refl
+count_last : (k : Counted) (acted : Outcome) (reply : Reply) (bcb : ℕ) (fcs : ℕ × ℕ) (s : Session)
+    → KeepsLast (after_acting bcb fcs s) acted
+    → (elim k as (λ x. Outcome) [ Acts ↦ acted | Repeats ↦ try_again s | OutOfSequence ↦ end_with reply s ]).session.last_bcb
+    ≡ last_bcb_by k bcb s.last_bcb
+count_last Acts acted reply bcb fcs s e = e
+count_last Repeats acted reply bcb fcs s e = try_last (s.tries == 5) Again s
+count_last OutOfSequence acted reply bcb fcs s e = refl
 
 pub last_acted : (line : Config) (s : Session) (input : Input) → in_session s.phase ≡ true
-    → (accepted line input s).verdict.ended ≡ false → (accepted line input s).session.acted ≡ acted_after input s
+    → (accepted line input s).verdict.ended ≡ false → (accepted line input s).session.last_bcb ≡ last_bcb_after input s
 unfolding accepted
-last_acted line s Enquiry e f = enquiry_acted s.phase line s e f
-last_acted line s Ack0 e f = ack_acted s.phase s e
-last_acted line s Nak e f = inside_acted (in_session s.phase) _ s
-last_acted line s Eot e f = drop_acted s.phase s
-last_acted line s Lost e f = drop_acted s.phase s
-last_acted line s Tick e f = tick_acted s.phase line s e
-last_acted line s Garbled e f = inside_acted (in_session s.phase) _ s
-last_acted line s Spoiled e f = inside_acted (in_session s.phase) _ s
-last_acted line s Bad e f = inside_acted (in_session s.phase) _ s
-last_acted line s (Block bcb fcs first) e f = block_acted (in_session s.phase) (counted s.acted bcb) line bcb fcs first s e e
+last_acted line s Enquiry e f =
+    inside (λ q x. x.verdict.ended ≡ false → KeepsLast s x) s.phase _ _ _ _ _ e (λ h. refl) (λ h. refl) (λ h. clash true refl h) f
+last_acted line s Ack0 e f = inside (λ q x. KeepsLast s x) s.phase _ _ _ _ _ e refl refl refl
+last_acted line s Nak e f = trying_last s.phase _ s
+last_acted line s Eot e f = every (λ q x. KeepsLast s x) s.phase _ _ _ _ _ refl refl refl refl refl
+last_acted line s Lost e f = every (λ q x. KeepsLast s x) s.phase _ _ _ _ _ refl refl refl refl refl
+last_acted line s Tick e f =
+    let try = try_last (s.tries == 5) _ s in
+    inside (λ q x. KeepsLast s x) s.phase _ _ _ _ _ e try try (wait_last s.has_turn s)
+last_acted line s Garbled e f = trying_last s.phase _ s
+last_acted line s Spoiled e f = trying_last s.phase _ s
+last_acted line s Bad e f = trying_last s.phase _ s
+last_acted line s (Block bcb fcs first) e f =
+    let k = counted s.last_bcb bcb in
+    let next = after_acting bcb fcs s in
+    inside (λ q x. x.session.last_bcb ≡ last_bcb_by k bcb s.last_bcb) s.phase _ _ _ _ _ e
+    (count_last k _ _ bcb fcs s (sign_on_last _ line _ next)) (count_last k _ _ bcb fcs s (sign_on_last _ line _ next)) (count_last k _ _ bcb fcs s refl)
 
 -- ---- a session begins
 
-contact_afresh : (calls : Bool) (s : Session) → in_session s.phase ≡ false
-    → in_session (cond calls (quiet s) (with_reply (Control control.Ack0) (entered Answered s))).session.phase ≡ true
-    → ((cond calls (quiet s) (with_reply (Control control.Ack0) (entered Answered s))).session.tries ≡ 0)
-    × ((cond calls (quiet s) (with_reply (Control control.Ack0) (entered Answered s))).session.acted ≡ None)
-contact_afresh true s e f = clash _ f e
-contact_afresh false s e f = (refl, refl)
+abbrev IsFresh : Outcome → Type 0
+IsFresh x = in_session x.session.phase ≡ true → (x.session.tries ≡ 0) × (x.session.last_bcb ≡ None)
 
-enquiry_afresh : (p : Phase) (line : Config) (s : Session) → in_session s.phase ≡ false
-    → in_session (enquired p line s).session.phase ≡ true
-    → ((enquired p line s).session.tries ≡ 0) × ((enquired p line s).session.acted ≡ None)
-enquiry_afresh Down line s e f = contact_afresh line.calls s e f
-enquiry_afresh Calling line s e f = clash _ f e
-enquiry_afresh Answered line s e f = clash _ f e
-enquiry_afresh SentI line s e f = clash _ f e
-enquiry_afresh Up line s e f = contact_afresh line.calls (down s) refl f
+none_afresh : (s : Session) → in_session s.phase ≡ false → IsFresh (none s)
+none_afresh s e f = clash _ f e
 
-ack_afresh : (p : Phase) (s : Session) → in_session s.phase ≡ false → in_session (acknowledged p s).session.phase ≡ true
-    → ((acknowledged p s).session.tries ≡ 0) × ((acknowledged p s).session.acted ≡ None)
-ack_afresh Down s e f = clash _ f e
-ack_afresh Calling s e f = (refl, refl)
-ack_afresh Answered s e f = clash _ f e
-ack_afresh SentI s e f = clash _ f e
-ack_afresh Up s e f = clash _ f e
+contact_afresh : (role : Role) (s : Session) → in_session s.phase ≡ false → IsFresh (contact role s)
+contact_afresh Call s e = λ f. clash _ f e
+contact_afresh Answer s e = λ f. (refl, refl)
 
-drop_is_out : (p : Phase) (s : Session) → in_session s.phase ≡ false → in_session (dropped p s).session.phase ≡ false
-drop_is_out Down s e = e
-drop_is_out Calling s e = refl
-drop_is_out Answered s e = refl
-drop_is_out SentI s e = refl
-drop_is_out Up s e = refl
-
-try_is_out : (five : Bool) (reply : Reply) (s : Session) → in_session s.phase ≡ false
-    → in_session (cond five (over s) (with_reply reply (record s { tries = s.tries + 1 }))).session.phase ≡ false
-try_is_out true reply s e = refl
-try_is_out false reply s e = e
-
-inside_is_out : (inside : Bool) (reply : Reply) (s : Session) → in_session s.phase ≡ false
-    → in_session (cond inside (tried reply s) (quiet s)).session.phase ≡ false
-inside_is_out true reply s e = try_is_out (s.tries == 5) reply s e
-inside_is_out false reply s e = e
-
-call_is_out : (calls : Bool) (s : Session) → in_session s.phase ≡ false
-    → in_session (cond calls (with_reply (Control control.Enquiry) (record s { phase = Calling })) (quiet s)).session.phase ≡ false
-call_is_out true s e = refl
-call_is_out false s e = e
-
-waiting_is_out : (ours : Bool) (s : Session) → in_session s.phase ≡ false
-    → in_session (cond ours (with_reply (Next true) s) (tried (Control control.Nak) s)).session.phase ≡ false
-waiting_is_out true s e = e
-waiting_is_out false s e = try_is_out (s.tries == 5) _ s e
-
-tick_is_out : (p : Phase) (line : Config) (s : Session) → in_session s.phase ≡ false
-    → in_session (ticked p line s).session.phase ≡ false
-tick_is_out Down line s e = call_is_out line.calls s e
-tick_is_out Calling line s e = e
-tick_is_out Answered line s e = try_is_out (s.tries == 5) _ s e
-tick_is_out SentI line s e = try_is_out (s.tries == 5) _ s e
-tick_is_out Up line s e = waiting_is_out s.ours s e
-
-block_is_out : (inside : Bool) (k : Counted) (line : Config) (bcb : ℕ) (fcs : ℕ × ℕ) (first : First) (s : Session)
-    → inside ≡ false → in_session s.phase ≡ false
-    → in_session (cond inside (block_came k line bcb fcs first s) (quiet s)).session.phase ≡ false
-block_is_out true k line bcb fcs first s e f = clash true refl e
-block_is_out false k line bcb fcs first s e f = f
+call_afresh : (role : Role) (s : Session) → in_session s.phase ≡ false → IsFresh (call role s)
+call_afresh Call s e = λ f. clash false f refl
+call_afresh Answer s e = λ f. clash _ f e
 
 pub afresh : (line : Config) (s : Session) (input : Input) → in_session s.phase ≡ false
     → in_session (accepted line input s).session.phase ≡ true
-    → ((accepted line input s).session.tries ≡ 0) × ((accepted line input s).session.acted ≡ None)
+    → ((accepted line input s).session.tries ≡ 0) × ((accepted line input s).session.last_bcb ≡ None)
 unfolding accepted
-afresh line s Enquiry e f = enquiry_afresh s.phase line s e f
-afresh line s Ack0 e f = ack_afresh s.phase s e f
-afresh line s Nak e f = clash _ f (inside_is_out (in_session s.phase) _ s e)
-afresh line s Eot e f = clash _ f (drop_is_out s.phase s e)
-afresh line s Lost e f = clash _ f (drop_is_out s.phase s e)
-afresh line s Tick e f = clash _ f (tick_is_out s.phase line s e)
-afresh line s Garbled e f = clash _ f (inside_is_out (in_session s.phase) _ s e)
-afresh line s Spoiled e f = clash _ f (inside_is_out (in_session s.phase) _ s e)
-afresh line s Bad e f = clash _ f (inside_is_out (in_session s.phase) _ s e)
-afresh line s (Block bcb fcs first) e f =
-    clash _ f (block_is_out (in_session s.phase) (counted s.acted bcb) line bcb fcs first s e e)
+afresh line s Enquiry e = outside (λ q x. IsFresh x) s.phase _ _ _ _ _ e (contact_afresh line.role s e) (none_afresh s e)
+afresh line s Ack0 e = outside (λ q x. IsFresh x) s.phase _ _ _ _ _ e (none_afresh s e) (λ f. (refl, refl))
+afresh line s Nak e = outside (λ q x. IsFresh x) s.phase _ _ _ _ _ e (none_afresh s e) (none_afresh s e)
+afresh line s Eot e = outside (λ q x. IsFresh x) s.phase _ _ _ _ _ e (none_afresh s e) (λ f. clash false f refl)
+afresh line s Lost e = outside (λ q x. IsFresh x) s.phase _ _ _ _ _ e (none_afresh s e) (λ f. clash false f refl)
+afresh line s Tick e = outside (λ q x. IsFresh x) s.phase _ _ _ _ _ e (call_afresh line.role s e) (none_afresh s e)
+afresh line s Garbled e = outside (λ q x. IsFresh x) s.phase _ _ _ _ _ e (none_afresh s e) (none_afresh s e)
+afresh line s Spoiled e = outside (λ q x. IsFresh x) s.phase _ _ _ _ _ e (none_afresh s e) (none_afresh s e)
+afresh line s Bad e = outside (λ q x. IsFresh x) s.phase _ _ _ _ _ e (none_afresh s e) (none_afresh s e)
+afresh line s (Block bcb fcs first) e = outside (λ q x. IsFresh x) s.phase _ _ _ _ _ e (none_afresh s e) (none_afresh s e)

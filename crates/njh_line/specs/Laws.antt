@@ -17,15 +17,16 @@ is_disregarded Bad = true
 is_disregarded Garbled = true
 is_disregarded _ = false
 
--- nothing moved but the tries
-pub record Stays (s : Session) (x : Outcome) : Type 0 where
-  pub phase : x.session.phase ≡ s.phase
-  pub acted : x.session.acted ≡ s.acted
+-- Nothing of the session moved but its tries: not its phase, turn, BCB, count, size, nor either FCS. It goes on, and no record acts.
+pub record MovesTriesAlone (s : Session) (x : Outcome) : Type 0 where
+  pub session : x.session ≡ record s { tries = x.session.tries }
   pub ended : x.verdict.ended ≡ false
   pub acts : x.verdict.acts ≡ false
 
--- what waits is the same
-pub record KeepsQueues (line after : LineState) : Type 0 where
+-- The rest of the line is the same.
+pub record KeepsRest (line after : LineState) : Type 0 where
+  pub config : after.config ≡ line.config
+  pub last : after.last ≡ line.last
   pub answers : after.answers ≡ line.answers
   pub messages : after.messages ≡ line.messages
 
@@ -40,14 +41,14 @@ is_acting _ = false
 -- a block that is acted on, and ACK0 where the line is up
 abbrev pub sets_tries : Input → Session → Bool
 sets_tries Ack0 s = is_up s.phase
-sets_tries (Block bcb fcs first) s = is_acting (counted s.acted bcb)
+sets_tries (Block bcb fcs first) s = is_acting (counted s.last_bcb bcb)
 sets_tries _ s = false
 
--- the last BCB acted on, once a block with a checked count acts
-abbrev pub acted_by : Counted → ℕ → Option ℕ → Option ℕ
-acted_by Acts bcb acted = cond (bcb_type bcb == 1) acted (Some bcb)
-acted_by _ bcb acted = acted
+-- the last BCB, once a block with a checked count acts
+abbrev pub last_bcb_by : Counted → ℕ → Option ℕ → Option ℕ
+last_bcb_by Acts bcb last = cond (bcb_type bcb == 1) last (Some bcb)
+last_bcb_by _ bcb last = last
 
-abbrev pub acted_after : Input → Session → Option ℕ
-acted_after (Block bcb fcs first) s = acted_by (counted s.acted bcb) bcb s.acted
-acted_after _ s = s.acted
+abbrev pub last_bcb_after : Input → Session → Option ℕ
+last_bcb_after (Block bcb fcs first) s = last_bcb_by (counted s.last_bcb bcb) bcb s.last_bcb
+last_bcb_after _ s = s.last_bcb

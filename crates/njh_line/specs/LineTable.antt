@@ -5,7 +5,8 @@ use Rattle.njh_header.specs.SignOns.{SignOn}
 use Rattle.njh_line.specs.declared.Phase.{Phase}
 use Rattle.njh_line.specs.declared.Phase.TheVariants.{Down, Calling, Answered, SentI, Up}
 use Rattle.njh_line.specs.declared.config.Config.{Config}
-use Rattle.njh_line.specs.declared.counts.Counted.{Counted}
+use Rattle.njh_line.specs.declared.config.Role.{Role}
+use Rattle.njh_line.specs.declared.config.Role.TheVariants.{Call, Answer}
 use Rattle.njh_line.specs.declared.counts.Counted.TheVariants.{Acts, Repeats, OutOfSequence}
 use Rattle.njh_line.specs.declared.input.Input as declared_input
 use Rattle.njh_line.specs.declared.input.Input.TheVariants as came
@@ -16,7 +17,7 @@ use Rattle.njh_line.specs.declared.verdict.Reply.{Reply}
 use Rattle.njh_line.specs.declared.verdict.Reply.TheVariants.{Nothing, Control, Again, SignOn as SendSignOn, Sequence, Next}
 use Rattle.njh_line.specs.Counts.{counted, expected, after_acting}
 use Rattle.njh_line.specs.Openings.{First, fitting, shown_first}
-use Rattle.njh_line.specs.Sessions.{entered, heard, down, in_session}
+use Rattle.njh_line.specs.Sessions.{entered, acknowledged, down}
 
 -- What comes to a line.
 pub data Input : Type 0 where
@@ -44,98 +45,122 @@ shown came.Spoiled = Spoiled
 shown came.Bad = Bad
 shown (came.Block bcb fcs first) = Block bcb fcs (shown_first first)
 
+-- ---- the cells of the table: for a session, the session after the input, and what the input does
+
 abbrev pub with_reply : Reply → Session → Outcome
 with_reply reply s = record { session = s; verdict = record { ended = false; acts = false; reply = reply } }
 
-abbrev pub quiet : Session → Outcome
-quiet s = with_reply Nothing s
+abbrev pub none : Session → Outcome
+none s = with_reply Nothing s
 
--- a session is over, and something or nothing is sent for it
-abbrev pub over_with : Reply → Session → Outcome
-over_with reply s = record { session = down s; verdict = record { ended = true; acts = false; reply = reply } }
+abbrev pub enquiry : Session → Outcome
+enquiry s = with_reply (Control control.Enquiry) s
 
-abbrev pub over : Session → Outcome
-over s = over_with Nothing s
+abbrev pub ack0 : Session → Outcome
+ack0 s = with_reply (Control control.Ack0) s
+
+-- the line goes down, where it wasn't up
+abbrev pub hang_up : Session → Outcome
+hang_up s = none (down s)
+
+-- the session ends, and something or nothing is sent for it
+abbrev pub end_with : Reply → Session → Outcome
+end_with reply s = record { session = down s; verdict = record { ended = true; acts = false; reply = reply } }
+
+abbrev pub end : Session → Outcome
+end s = end_with Nothing s
 
 -- a try: five at the most
-abbrev pub tried : Reply → Session → Outcome
-tried reply s = cond (s.tries == 5) (over s) (with_reply reply (record s { tries = s.tries + 1 }))
+abbrev pub try_with : Reply → Session → Outcome
+try_with reply s = cond (s.tries == 5) (end s) (with_reply reply (record s { tries = s.tries + 1 }))
 
--- outside a session nothing is tried
-abbrev pub tried_in_session : Reply → Session → Outcome
-tried_in_session reply s = cond (in_session s.phase) (tried reply s) (quiet s)
+abbrev pub try_again : Session → Outcome
+try_again s = try_with Again s
 
--- a peer calls: the end that answers enters a session
-abbrev pub contacted : Config → Session → Outcome
-contacted line s = cond line.calls (quiet s) (with_reply (Control control.Ack0) (entered Answered s))
+abbrev pub try_nak : Session → Outcome
+try_nak s = try_with (Control control.Nak) s
 
--- the session before is over
-abbrev pub ending : Outcome → Outcome
-ending x = record { session = x.session; verdict = record { ended = true; acts = x.verdict.acts; reply = x.verdict.reply } }
+-- the peer calls, and the end that answers does
+abbrev pub contact : Role → Session → Outcome
+contact Call s = none s
+contact Answer s = ack0 (entered Answered s)
 
-abbrev pub enquired : Phase → Config → Session → Outcome
-enquired Down line s = contacted line s
-enquired Calling line s = quiet s
-enquired Answered line s = with_reply (Control control.Ack0) s
-enquired SentI line s = quiet s
-enquired Up line s = ending (contacted line (down s))
+-- the session ends, and the peer calls
+abbrev pub end_and_contact : Role → Session → Outcome
+end_and_contact role s =
+    let x = contact role (down s) in
+    record { session = x.session; verdict = record x.verdict { ended = true } }
 
-abbrev pub acknowledged : Phase → Session → Outcome
-acknowledged Down s = quiet s
-acknowledged Calling s = with_reply (SendSignOn Initial) (entered SentI s)
-acknowledged Answered s = quiet s
-acknowledged SentI s = quiet s
-acknowledged Up s = with_reply (Next false) (heard s)
+-- the end that calls does
+abbrev pub call : Role → Session → Outcome
+call Call s = enquiry (record s { phase = Calling })
+call Answer s = none s
 
-abbrev pub dropped : Phase → Session → Outcome
-dropped Down s = quiet s
-dropped Calling s = quiet (down s)
-dropped Answered s = quiet (down s)
-dropped SentI s = quiet (down s)
-dropped Up s = over s
+-- the I block
+abbrev pub i_block : Session → Outcome
+i_block s = with_reply (SendSignOn Initial) (entered SentI s)
 
--- a call, by the end that calls
-abbrev pub called : Config → Session → Outcome
-called line s = cond line.calls (with_reply (Control control.Enquiry) (record s { phase = Calling })) (quiet s)
+-- the peer acknowledges: the next block, or nothing and the turn is the hub's
+abbrev pub next_or_turn : Session → Outcome
+next_or_turn s = with_reply (Next false) (acknowledged s)
 
-abbrev pub waited : Session → Outcome
-waited s = cond s.ours (with_reply (Next true) s) (tried (Control control.Nak) s)
+-- the next block where the turn is the hub's, else a try
+abbrev pub next_in_turn : Session → Outcome
+next_in_turn s = cond s.has_turn (with_reply (Next true) s) (try_nak s)
 
-abbrev pub ticked : Phase → Config → Session → Outcome
-ticked Down line s = called line s
-ticked Calling line s = with_reply (Control control.Enquiry) s
-ticked Answered line s = tried (Control control.Nak) s
-ticked SentI line s = tried (Control control.Nak) s
-ticked Up line s = waited s
+-- the count rule, before a cell for a block that is acted on
+abbrev pub by_count : ℕ → ℕ × ℕ → (Session → Outcome) → Session → Outcome
+by_count bcb fcs acted s =
+    elim (counted s.last_bcb bcb) [
+      | Acts ↦ acted (after_acting bcb fcs s)
+      | Repeats ↦ try_again s
+      | OutOfSequence ↦ end_with (Sequence (0x80 + expected s.last_bcb)) s
+    ]
 
--- a sign-on came, or none that fits
+-- a sign-on that fits, or none that does
 abbrev pub signed_on : Reply → Config → Option SignOn → Session → Outcome
 signed_on reply line (Some x) s = with_reply reply (record s { phase = Up; size = min line.block x.block })
-signed_on reply line None s = quiet (down s)
+signed_on reply line None s = hang_up s
 
--- a block that is acted on; `next` is the session then
-abbrev pub acting : Phase → Config → First → Session → Session → Outcome
-acting Down line first s next = quiet s
-acting Calling line first s next = quiet s
-acting Answered line first s next = signed_on (SendSignOn Response) line (fitting Initial line first) next
-acting SentI line first s next = signed_on (Next true) line (fitting Response line first) next
-acting Up line first s next = record { session = next; verdict = record { ended = false; acts = true; reply = Next true } }
+-- an I that fits: the J block
+abbrev pub i_sign_on : Config → First → Session → Outcome
+i_sign_on line first s = signed_on (SendSignOn Response) line (fitting Initial line first) s
 
--- a good block, by what it does by its count
-abbrev pub block_came : Counted → Config → ℕ → ℕ × ℕ → First → Session → Outcome
-block_came Acts line bcb fcs first s = acting s.phase line first s (after_acting bcb fcs s)
-block_came Repeats line bcb fcs first s = tried Again s
-block_came OutOfSequence line bcb fcs first s = over_with (Sequence (0x80 + expected s.acted)) s
+-- a J that fits: the next block
+abbrev pub j_sign_on : Config → First → Session → Outcome
+j_sign_on line first s = signed_on (Next true) line (fitting Response line first) s
 
--- the table: a row an input
+-- the records act: the next block
+abbrev pub act : Session → Outcome
+act s = record { session = s; verdict = record { ended = false; acts = true; reply = Next true } }
+
+-- ---- the table
+
+-- the cell of a phase in a row
+abbrev pub cell : Phase → (down calling answered sent_i up : Outcome) → Outcome
+cell Down down calling answered sent_i up = down
+cell Calling down calling answered sent_i up = calling
+cell Answered down calling answered sent_i up = answered
+cell SentI down calling answered sent_i up = sent_i
+cell Up down calling answered sent_i up = up
+
+abbrev pub row : (down calling answered sent_i up : Session → Outcome) → Session → Outcome
+row down calling answered sent_i up s = cell s.phase (down s) (calling s) (answered s) (sent_i s) (up s)
+
+-- what a block that is acted on does: a row of its own
+abbrev pub acting : Config → First → Session → Outcome
+acting line first s = row none none (i_sign_on line first) (j_sign_on line first) act s
+
+-- a row for each input, and in it a cell for each phase: Down, Calling, Answered, SentI, Up
 unfoldable pub accepted : Config → Input → Session → Outcome
-accepted line Enquiry s = enquired s.phase line s
-accepted line Ack0 s = acknowledged s.phase s
-accepted line Nak s = tried_in_session Again s
-accepted line Eot s = dropped s.phase s
-accepted line Lost s = dropped s.phase s
-accepted line Tick s = ticked s.phase line s
-accepted line Garbled s = tried_in_session (Control control.Nak) s
-accepted line Spoiled s = tried_in_session (Control control.Nak) s
-accepted line Bad s = tried_in_session (Control control.Nak) s
-accepted line (Block bcb fcs first) s = cond (in_session s.phase) (block_came (counted s.acted bcb) line bcb fcs first s) (quiet s)
+accepted line Enquiry s = row (contact line.role) none ack0 none (end_and_contact line.role) s
+accepted line Ack0 s = row none i_block none none next_or_turn s
+accepted line Nak s = row none none try_again try_again try_again s
+accepted line Eot s = row none hang_up hang_up hang_up end s
+accepted line Lost s = row none hang_up hang_up hang_up end s
+accepted line (Block bcb fcs first) s =
+    row none none (by_count bcb fcs (i_sign_on line first)) (by_count bcb fcs (j_sign_on line first)) (by_count bcb fcs act) s
+accepted line Spoiled s = row none none try_nak try_nak try_nak s
+accepted line Bad s = row none none try_nak try_nak try_nak s
+accepted line Garbled s = row none none try_nak try_nak try_nak s
+accepted line Tick s = row (call line.role) enquiry try_nak try_nak next_in_turn s

@@ -1,7 +1,9 @@
 -- A line: its session, the last frame that it sent, NAKs aside, and what waits to be sent.
 use Rattle.std.specs.Prelude.{ℕ, ◌+◌, ◌%◌, ◌≤◌, true, false, List, [], ◌∷◌, ◌++◌, length, drop, nat_lt, cond}
+use Rattle.njh_bisync.specs.declared.frame.TheConstants.{LONGEST_FRAME}
 use Rattle.njh_line.specs.declared.config.Config.{Config}
 use Rattle.njh_block.specs.declared.answer.Answer.{Answer}
+use Rattle.njh_line.specs.declared.line.TheConstants.{ANSWERS, MESSAGES}
 use Rattle.njh_line.specs.declared.sent.Sent as declared_sent
 use Rattle.njh_line.specs.declared.sent.Sent.TheVariants as went
 use Rattle.njh_line.specs.declared.session.Session.{Session}
@@ -25,60 +27,59 @@ with_session session line = record line { session = session }
 abbrev pub after_input : Input → LineState → LineState
 after_input input line = with_session (accepted line.config input line.session).session line
 
--- What was sent: nothing, a NAK, the last transmission again, a text of the hub's own count with its function control sequence, or
--- another frame.
+-- What was sent.
 pub data Sent : Type 0 where
   Nothing : Sent
   Nak : Sent
-  Again : Sent
-  Text : (frame : List ℕ) → (fcs : ℕ × ℕ) → Sent
-  Frame : (frame : List ℕ) → Sent
+  Again : Sent  -- the last transmission
+  Block : (frame : List ℕ) → (fcs : ℕ × ℕ) → Sent  -- of the hub's own count
+  Frame : (frame : List ℕ) → Sent  -- any other
 
 -- what was sent, where the bytes are lent
 abbrev pub shown_sent : declared_sent.Sent → Sent
 shown_sent went.Nothing = Nothing
 shown_sent went.Nak = Nak
 shown_sent went.Again = Again
-shown_sent (went.Text frame fcs) = Text frame.now fcs
+shown_sent (went.Block frame fcs) = Block frame.now fcs
 shown_sent (went.Frame frame) = Frame frame.now
 
 abbrev pub IsShort : Sent → Type 0
-IsShort (Text frame fcs) = length frame ≤ 8196
-IsShort (Frame frame) = length frame ≤ 8196
+IsShort (Block frame fcs) = length frame ≤ LONGEST_FRAME
+IsShort (Frame frame) = length frame ≤ LONGEST_FRAME
 IsShort Nothing = Unit {0}
 IsShort Nak = Unit {0}
 IsShort Again = Unit {0}
 
 -- nothing was sent: the turn is the hub's
-abbrev pub turn_ours : Session → Session
-turn_ours s = record s { ours = true }
+abbrev pub with_turn : Session → Session
+with_turn s = record s { has_turn = true }
 
 -- a frame was sent: the turn is the peer's
-abbrev pub turn_theirs : Session → Session
-turn_theirs s = record s { ours = false }
+abbrev pub without_turn : Session → Session
+without_turn s = record s { has_turn = false }
 
--- a text of the hub's own count was sent
-abbrev pub text_sent : ℕ × ℕ → Session → Session
-text_sent fcs s = record s { ours = false; count = (s.count + 1) % 16; own = fcs }
+-- a block of the hub's own count was sent
+abbrev pub with_block_sent : ℕ × ℕ → Session → Session
+with_block_sent fcs s = record s { has_turn = false; next_count = (s.next_count + 1) % 16; own_fcs = fcs }
 
 abbrev pub after_sending : Sent → LineState → LineState
-after_sending Nothing line = with_session (turn_ours line.session) line
-after_sending Nak line = with_session (turn_theirs line.session) line
-after_sending Again line = with_session (turn_theirs line.session) line
-after_sending (Text frame fcs) line = record line { session = text_sent fcs line.session; last = frame }
-after_sending (Frame frame) line = record line { session = turn_theirs line.session; last = frame }
+after_sending Nothing line = with_session (with_turn line.session) line
+after_sending Nak line = with_session (without_turn line.session) line
+after_sending Again line = with_session (without_turn line.session) line
+after_sending (Block frame fcs) line = record line { session = with_block_sent fcs line.session; last = frame }
+after_sending (Frame frame) line = record line { session = without_turn line.session; last = frame }
 
 -- a record ended the session
 abbrev pub after_end : LineState → LineState
 after_end line = with_session (down line.session) line
 
 -- an answer waits, where there is room for it
-abbrev pub answered : Answer → LineState → LineState
-answered a line = record line { answers = cond (nat_lt (length line.answers) 32) (line.answers ++ a ∷ []) line.answers }
+abbrev pub with_answer : Answer → LineState → LineState
+with_answer a line = record line { answers = cond (nat_lt (length line.answers) ANSWERS) (line.answers ++ a ∷ []) line.answers }
 
 -- a nodal message waits, where there is room for it
-abbrev pub waits : List ℕ → LineState → LineState
-waits m line = record line { messages = cond (nat_lt (length line.messages) 64) (line.messages ++ m ∷ []) line.messages }
+abbrev pub with_message : List ℕ → LineState → LineState
+with_message m line = record line { messages = cond (nat_lt (length line.messages) MESSAGES) (line.messages ++ m ∷ []) line.messages }
 
 abbrev pub without_answer : LineState → LineState
 without_answer line = record line { answers = drop 1 line.answers }

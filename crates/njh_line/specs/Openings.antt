@@ -1,10 +1,12 @@
 -- The sign-ons of a session (IBM SC23-0070): I of the end that calls, J of the one that answers.
-use Rattle.std.specs.Prelude.{ℕ, Bool, true, List, [], ◌∷◌, ◌++◌, Option, Some, None, Ok, Err, ◌==◌, nat_le, cond, ◌&&◌, bytes_eq}
+use Rattle.std.specs.Prelude.{ℕ, Bool, true, List, [], ◌∷◌, Option, Some, None, Ok, Err, ◌==◌, nat_le, cond, ◌&&◌, bytes_eq}
 use Rattle.std.specs.Borrow.{Bor}
+use Rattle.njh_block.specs.Blocks.{General, text_of}
 use Rattle.njh_header.specs.SignOns.{SignOn, sign_on, sign_on_bytes}
 use Rattle.njh_line.specs.declared.config.Config.{Config}
 use Rattle.njh_line.specs.declared.opening.Opening.{Opening}
 use Rattle.njh_line.specs.declared.opening.Opening.TheVariants.{Initial, Response}
+use Rattle.njh_line.specs.Sessions.{nothing_suspended}
 
 abbrev pub srcb_of : Opening → ℕ
 srcb_of Initial = 0xc9
@@ -42,6 +44,6 @@ password_field (Some password) = password
 abbrev pub own_sign_on : Config → SignOn
 own_sign_on line = record { node = line.hub; block = line.block; password = password_field line.password }
 
--- the text of the I or the J block: its BCB, a function control sequence that suspends nothing, RCB, SRCB, the sign-on, and the end
+-- the text of the I or the J block: a sign-on alone, which sets the count to 0 and suspends nothing
 abbrev pub opening : Opening → Config → List ℕ
-opening kind line = 0xa0 ∷ 0x8f ∷ 0xcf ∷ 0xf0 ∷ srcb_of kind ∷ sign_on_bytes (own_sign_on line) ++ 0x00 ∷ []
+opening kind line = text_of 0xa0 nothing_suspended (General (srcb_of kind) (sign_on_bytes (own_sign_on line)) ∷ [])

@@ -2,13 +2,26 @@
 
 use njh_ebcdic::Name;
 
-/// The hub's name, the peer's, whether the hub calls or answers, the most bytes of a text, 300 to 4,096, and the password that is sent
-/// and that the peer has to send; none takes any.
+/// Which end of a line the hub is.
+#[derive(Clone, Copy, Debug, PartialEq, Eq)]
+pub enum Role {
+    /// It calls the peer.
+    Call,
+    /// It waits for the peer's call.
+    Answer,
+}
+
+/// A line's two nodes, and what they agree on beforehand.
 #[derive(Clone, Copy, Debug, PartialEq, Eq)]
 pub struct Config {
+    /// The hub's name, the customer's own for it.
     pub hub: Name,
+    /// The peer's name.
     pub node: Name,
-    pub calls: bool,
+    /// Whether the hub calls or answers.
+    pub role: Role,
+    /// The most bytes of a text, 300 to 4,096.
     pub block: u16,
+    /// What both ends send as a password; without one the hub sends blanks and takes any.
     pub password: Option<Name>,
 }

@@ -1,7 +1,7 @@
 //! The count rule (IBM SC23-0070, "Multileaving").
 
-ghost use Rattle.std.specs.Prelude.{◌≡◌, ◌<◌, ◌+◌, ◌%◌};
-ghost use Rattle.njh_line.specs.Counts.{is_taken, is_repeat, expected, counted, after_acting};
+ghost use Rattle.std.specs.Prelude.{◌≡◌, ◌<◌};
+ghost use Rattle.njh_line.specs.Counts.{after_acting, count_after, counted, expected, is_repeat, is_taken};
 
 use crate::session::Session;
 use njh_block::{Bcb, Fcs, Numbering};
@@ -10,46 +10,50 @@ use njh_block::{Bcb, Fcs, Numbering};
 pub(crate) const COUNTS: u8 = 16;
 
 /// What a block does by its BCB.
-#[derive(Clone, Copy, Debug, PartialEq, Eq)]
-pub enum Counted {
+#[derive(Clone, Copy)]
+pub(crate) enum Counted {
+    /// It is acted on.
     Acts,
+    /// It is the last one again.
     Repeats,
+    /// Its count isn't one of those taken.
     OutOfSequence,
 }
 
 impl Session {
     /// The count that the hub expects.
     pub(crate) fn expected(&self) -> u8
-        ensures value { result ≡ expected self.now.acted }
+        ensures value { result ≡ expected self.now.last_bcb }
         ensures bound { result < 16 }
     {
-        match self.acted {
+        match self.last_bcb {
             None => 0,
             Some(last) => match last.numbering() {
                 Numbering::Setting => last.count(),
-                Numbering::Normal | Numbering::Unchecked => next_count(last),
+                Numbering::Normal | Numbering::Unchecked => count_after(last),
             },
         }
     }
 
-    /// Whether a count is one of those taken: before any block 0 and 1; after a block that set the count that one and the next; after
-    /// another the next alone.
+    /// Whether a count is one of those taken: before any block 0 and 1; after a block that set the count that one and the next;
+    /// after another the next alone.
     fn takes(&self, count: u8) -> bool
-        ensures { result ≡ is_taken self.now.acted count }
+        ensures { result ≡ is_taken self.now.last_bcb count }
     {
-        match self.acted {
+        match self.last_bcb {
             None => count == 0 || count == 1,
             Some(last) => match last.numbering() {
-                Numbering::Setting => count == last.count() || count == next_count(last),
-                Numbering::Normal | Numbering::Unchecked => count == next_count(last),
+                Numbering::Setting => count == last.count() || count == count_after(last),
+                Numbering::Normal | Numbering::Unchecked => count == count_after(last),
             },
         }
     }
 
+    /// Whether a block is the last one again.
     fn repeats(&self, bcb: Bcb) -> bool
-        ensures { result ≡ is_repeat self.now.acted bcb }
+        ensures { result ≡ is_repeat self.now.last_bcb bcb }
     {
-        match self.acted {
+        match self.last_bcb {
             None => false,
             Some(last) => last.byte() == bcb.byte(),
         }
@@ -57,7 +61,7 @@ impl Session {
 
     /// Only a block whose count isn't checked acts twice.
     pub(crate) fn counted(&self, bcb: Bcb) -> Counted
-        ensures { result ≡ counted self.now.acted bcb }
+        ensures { result ≡ counted self.now.last_bcb bcb }
     {
         let numbering = bcb.numbering();
         if numbering == Numbering::Unchecked {
@@ -75,21 +79,21 @@ impl Session {
     pub(crate) fn after_acting(&self, bcb: Bcb, fcs: Fcs) -> Session
         ensures { result ≡ after_acting bcb fcs self.now }
     {
-        let acted = match bcb.numbering() {
-            Numbering::Unchecked => self.acted,
+        let last_bcb = match bcb.numbering() {
+            Numbering::Unchecked => self.last_bcb,
             Numbering::Normal | Numbering::Setting => Some(bcb),
         };
         Session {
             tries: 0,
-            acted,
-            peer: fcs,
+            last_bcb,
+            peer_fcs: fcs,
             ..*self
         }
     }
 }
 
-fn next_count(last: Bcb) -> u8
-    ensures value { result ≡ (last % 16 + 1) % 16 }
+fn count_after(last: Bcb) -> u8
+    ensures value { result ≡ count_after last }
     ensures bound { result < 16 }
 {
     (last.count() + 1) % COUNTS

@@ -11,13 +11,11 @@ use crate::session::Session;
 use crate::table::accepted;
 use crate::verdict::Verdict;
 use circular_buffer::HeapCircularBuffer;
+use njh_bisync::LONGEST_FRAME;
 use njh_block::Answer;
 use njh_record::Record;
 use std::alloc::{AllocError, Global};
 use std::marker::Model;
-
-/// The most bytes of a frame: 4,096 bytes of data, each doubled, and four of framing.
-pub const LONGEST_FRAME: usize = 8196;
 
 /// How many answers may wait.
 const ANSWERS: usize = 32;
@@ -37,21 +35,33 @@ pub struct Line {
 
 impl Model for Line {
     ghost use Rattle.std.specs.Prelude.{◌≡◌, ◌≤◌, length, map, vec_capacity};
+    ghost use Rattle.njh_bisync.specs.declared.frame.TheConstants.{LONGEST_FRAME};
     ghost use Rattle.njh_line.specs.Sessions.{IsSession, IsConfig};
     ghost use Rattle.njh_line.specs.Lines.{LineState};
+    ghost use Rattle.njh_line.specs.declared.line.TheConstants.{ANSWERS, MESSAGES};
 
     ghost Value = { LineState };
 
-    ghost view = { λ line. record { config = line.config; session = line.session; last = line.last.items; answers = line.answers.items; messages = map (λ m. m.items) line.messages.items } };
+    ghost view = { λ line. record {
+      config = line.config;
+      session = line.session;
+      last = line.last.items;
+      answers = line.answers.items;
+      messages = map (λ m. m.items) line.messages.items;
+    } };
 
-    ghost invariant = { λ line. (line.answers.capacity ≡ 32) × (line.messages.capacity ≡ 64) × (8196 ≤ vec_capacity line.last) × (length line.last.items ≤ 8196) × IsSession line.session × IsConfig line.config };
+    ghost invariant = { λ line.
+        (line.answers.capacity ≡ ANSWERS) × (line.messages.capacity ≡ MESSAGES)
+        × (LONGEST_FRAME ≤ vec_capacity line.last) × (length line.last.items ≤ LONGEST_FRAME)
+        × IsSession line.session × IsConfig line.config };
 }
 
 impl Line {
     ghost use Rattle.std.specs.Prelude.{◌≡◌, ◌≤◌, IfOk, length, nat_lt, option_map, slice_get};
     ghost use Rattle.njh_line.specs.Sessions.{IsConfig, IsSession};
     ghost use Rattle.njh_line.specs.LineTable.{accepted, shown};
-    ghost use Rattle.njh_line.specs.Lines.{IsShort, after_end, after_input, after_sending, answered, fresh_line, shown_sent, waits, without_answer, without_answers, without_message};
+    ghost use Rattle.njh_line.specs.Lines.{IsShort, after_end, after_input, after_sending, fresh_line, shown_sent};
+    ghost use Rattle.njh_line.specs.Lines.{with_answer, with_message, without_answer, without_answers, without_message};
 
     /// A line that is down, with room for all that may wait and for the longest frame. Want of memory is the only refusal, and no
     /// other call takes any.
@@ -85,28 +95,29 @@ impl Line {
         self.session.phase = Phase::Down;
     }
 
-    /// Keeps what was sent: the turn, the hub's own count and function control sequence, and a frame byte for byte, which may be sent
-    /// again.
+    /// Keeps what was sent: the turn, the hub's own count and function control sequence, and a frame byte for byte, since it may be
+    /// sent again.
     pub fn sent(&mut self, sent: &Sent<'_>)
         requires { IsShort (shown_sent sent.now) }
         ensures { self.new ≡ after_sending (shown_sent sent.now) self.old }
     {
         match sent {
-            Sent::Nothing => self.session.ours = true,
-            Sent::Nak | Sent::Again => self.session.ours = false,
+            Sent::Nothing => self.session.has_turn = true,
+            Sent::Nak | Sent::Again => self.session.has_turn = false,
             Sent::Frame(frame) => {
                 keep(&mut self.last, frame);
-                self.session.ours = false;
+                self.session.has_turn = false;
             }
-            Sent::Text { frame, fcs } => {
+            Sent::Block { frame, fcs } => {
                 keep(&mut self.last, frame);
-                self.session.ours = false;
-                self.session.own = *fcs;
-                self.session.count = (self.session.count + 1) % COUNTS;
+                self.session.has_turn = false;
+                self.session.own_fcs = *fcs;
+                self.session.next_count = (self.session.next_count + 1) % COUNTS;
             }
         }
     }
 
+    /// What the line was told.
     pub fn config(&self) -> Config
         ensures same { result ≡ self.now.config }
         ensures known { IsConfig result }
@@ -114,6 +125,7 @@ impl Line {
         self.config
     }
 
+    /// Its session.
     pub fn session(&self) -> Session
         ensures same { result ≡ self.now.session }
         ensures known { IsSession result }
@@ -124,25 +136,27 @@ impl Line {
     /// The last transmission: the last frame that was sent and was no NAK; none at first.
     pub fn last(&self) -> &[u8]
         ensures same { result.now ≡ self.now.last }
-        ensures short { length result.now ≤ 8196 }
+        ensures short { length result.now ≤ LONGEST_FRAME }
     {
         &self.last
     }
 
     /// Lets an answer wait behind the others, where fewer than 32 wait. Otherwise it is dropped.
-    pub fn answer(&mut self, answer: Answer) -> bool
-        ensures room { result ≡ nat_lt (length self.old.answers) 32 }
-        ensures line { self.new ≡ answered answer self.old }
+    pub fn push_answer(&mut self, answer: Answer) -> bool
+        ensures room { result ≡ nat_lt (length self.old.answers) ANSWERS }
+        ensures line { self.new ≡ with_answer answer self.old }
     {
         self.answers.try_push_back(answer).is_ok()
     }
 
+    /// The answer that waits longest.
     pub fn front_answer(&self) -> Option<Answer>
         ensures { result ≡ slice_get self.now.answers 0 }
     {
         self.answers.front().copied()
     }
 
+    /// Takes the answer that waits longest.
     pub fn pop_answer(&mut self) -> Option<Answer>
         ensures front { result ≡ slice_get self.old.answers 0 }
         ensures line { self.new ≡ without_answer self.old }
@@ -150,6 +164,7 @@ impl Line {
         self.answers.pop_front()
     }
 
+    /// Drops all answers.
     pub fn clear_answers(&mut self)
         ensures { self.new ≡ without_answers self.old }
     {
@@ -157,9 +172,9 @@ impl Line {
     }
 
     /// Lets a nodal message wait behind the others, where fewer than 64 wait. Otherwise it is dropped.
-    pub fn message(&mut self, message: &Record) -> bool
-        ensures room { result ≡ nat_lt (length self.old.messages) 64 }
-        ensures line { self.new ≡ waits message.now.items self.old }
+    pub fn push_message(&mut self, message: &Record) -> bool
+        ensures room { result ≡ nat_lt (length self.old.messages) MESSAGES }
+        ensures line { self.new ≡ with_message message.now.items self.old }
     {
         if self.messages.is_full() {
             return false;
@@ -167,12 +182,14 @@ impl Line {
         self.messages.try_push_back(copy(message)).is_ok()
     }
 
+    /// The message that waits longest.
     pub fn front_message(&self) -> Option<&Record>
         ensures { option_map (λ m. m.now.items) result ≡ slice_get self.now.messages 0 }
     {
         self.messages.front()
     }
 
+    /// Takes the message that waits longest.
     pub fn pop_message(&mut self) -> Option<Record>
         ensures front { option_map (λ m. m.items) result ≡ slice_get self.old.messages 0 }
         ensures line { self.new ≡ without_message self.old }

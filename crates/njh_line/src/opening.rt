@@ -6,26 +6,24 @@ ghost use Rattle.njh_line.specs.Openings.{fits, fitting, is_password, opening, o
 use crate::config::Config;
 use crate::session::LEAST_SIZE;
 use arrayvec::ArrayVec;
-use njh_block::{Bcb, Fcs};
+use njh_block::{Bcb, BlockText, BlockWriter, Fcs, Out};
+use njh_ebcdic::BLANK;
 use njh_header::SignOn;
 
-/// The RCB of a general control record.
-const GENERAL: u8 = 0xf0;
-
-/// What ends a block's records.
-const END: u8 = 0x00;
-
 /// The password field of a line without one.
-const BLANKS: [u8; 8] = [0x40; 8];
+const BLANKS: [u8; 8] = [BLANK; 8];
 
-/// The sign-on of the end that calls, I, and of the one that answers, J.
+/// The sign-ons with which a session opens.
 #[derive(Clone, Copy, Debug, PartialEq, Eq)]
 pub enum Opening {
+    /// I, of the end that calls.
     Initial,
+    /// J, of the end that answers.
     Response,
 }
 
 impl Opening {
+    /// The SRCB of its record.
     pub fn srcb(self) -> u8
         ensures { result ≡ srcb_of self }
     {
@@ -56,23 +54,20 @@ impl Config {
             && self.takes_password(&sign_on.password)
     }
 
-    /// The text of the I or the J block: a sign-on alone, under a BCB that sets the count to 0, nothing suspended. A line without a password
-    /// sends blanks.
-    pub fn opening(&self, kind: Opening) -> ArrayVec<u8, 45>
+    /// The text of the I or the J block: a sign-on alone, under a BCB that sets the count to 0, nothing suspended. A line without a
+    /// password sends blanks.
+    pub fn opening(&self, kind: Opening) -> BlockText
         ensures { result.items ≡ opening kind self.now }
     {
-        let (first, second) = Fcs::nothing_suspended().bytes();
-        let mut text = ArrayVec::new();
-        text.push(Bcb::setting(0).byte());
-        text.push(first);
-        text.push(second);
-        text.push(GENERAL);
-        text.push(kind.srcb());
-        let mut record = ArrayVec::new();
-        self.sign_on().write(&mut record);
-        text.try_extend_from_slice(&record).unwrap();
-        text.push(END);
-        text
+        let mut sign_on = ArrayVec::new();
+        self.sign_on().write(&mut sign_on);
+        let size = usize::from(LEAST_SIZE);
+        let mut block = BlockWriter::new(size, Bcb::setting(0), Fcs::nothing_suspended());
+        block.add(Out::General {
+            srcb: kind.srcb(),
+            bytes: &sign_on,
+        });
+        block.finish()
     }
 
     fn sign_on(&self) -> SignOn

@@ -2,13 +2,22 @@
 
 use njh_block::Fcs;
 
-/// Nothing, where the turn is the hub's then; a NAK; the last transmission again; a text of the hub's own count with its function
-/// control sequence; or another frame. Frames have at most 8,196 bytes.
+/// What the hub sent where a line's verdict asked for something. Frames have at most 8,196 bytes.
 #[derive(Clone, Copy, Debug)]
 pub enum Sent<'a> {
+    /// Nothing, and so the turn is the hub's.
     Nothing,
+    /// A NAK, which isn't sent again.
     Nak,
+    /// The last transmission again.
     Again,
-    Text { frame: &'a [u8], fcs: Fcs },
+    /// A block of the hub's own count.
+    Block {
+        /// The frame of its text.
+        frame: &'a [u8],
+        /// Its function control sequence.
+        fcs: Fcs,
+    },
+    /// Another frame: a control frame, or an I or a J block.
     Frame(&'a [u8]),
 }

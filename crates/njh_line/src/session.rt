@@ -1,7 +1,7 @@
 //! A line's session.
 
 ghost use Rattle.std.specs.Prelude.{◌≡◌};
-ghost use Rattle.njh_line.specs.Sessions.{fresh, entered, down, heard};
+ghost use Rattle.njh_line.specs.Sessions.{fresh, entered, down, acknowledged};
 
 use crate::Phase;
 use njh_block::{Bcb, Fcs};
@@ -9,19 +9,25 @@ use njh_block::{Bcb, Fcs};
 /// The least size of a text that two ends may agree on.
 pub(crate) const LEAST_SIZE: u16 = 300;
 
-/// How far a line is and how often in a row it tried again, 5 times at most; whether the turn is the hub's; the BCB of the last block
-/// acted on in this session, those with an unchecked count aside; the count of the hub's next text, modulo 16; the most bytes of a text
-/// that the hub sends; the peer's function control sequence; and the last one that the hub sent in this session.
+/// A line's session.
 #[derive(Clone, Copy, Debug, PartialEq, Eq)]
 pub struct Session {
+    /// How far the line is.
     pub phase: Phase,
+    /// How often in a row it tried again, 5 times at most.
     pub tries: u8,
-    pub ours: bool,
-    pub acted: Option<Bcb>,
-    pub count: u8,
+    /// Whether the turn is the hub's.
+    pub has_turn: bool,
+    /// The BCB of the last block acted on in this session, those with an unchecked count aside.
+    pub last_bcb: Option<Bcb>,
+    /// The count of the hub's next block, modulo 16.
+    pub next_count: u8,
+    /// The most bytes of a text that the hub sends, 300 to 4,096.
     pub size: u16,
-    pub peer: Fcs,
-    pub own: Fcs,
+    /// The function control sequence of the last block of the peer that was acted on.
+    pub peer_fcs: Fcs,
+    /// The last function control sequence that the hub sent in this session.
+    pub own_fcs: Fcs,
 }
 
 impl Session {
@@ -32,12 +38,12 @@ impl Session {
         Session {
             phase: Phase::Down,
             tries: 0,
-            ours: false,
-            acted: None,
-            count: 0,
+            has_turn: false,
+            last_bcb: None,
+            next_count: 0,
             size: LEAST_SIZE,
-            peer: Fcs::nothing_suspended(),
-            own: Fcs::nothing_suspended(),
+            peer_fcs: Fcs::nothing_suspended(),
+            own_fcs: Fcs::nothing_suspended(),
         }
     }
 
@@ -48,14 +54,15 @@ impl Session {
         Session {
             phase,
             tries: 0,
-            ours: false,
-            acted: None,
-            count: 0,
-            own: Fcs::nothing_suspended(),
+            has_turn: false,
+            last_bcb: None,
+            next_count: 0,
+            own_fcs: Fcs::nothing_suspended(),
             ..self
         }
     }
 
+    /// The line goes down.
     pub(crate) fn down(self) -> Session
         ensures { result ≡ down self }
     {
@@ -66,8 +73,8 @@ impl Session {
     }
 
     /// The peer acknowledges.
-    pub(crate) fn heard(self) -> Session
-        ensures { result ≡ heard self }
+    pub(crate) fn acknowledged(self) -> Session
+        ensures { result ≡ acknowledged self }
     {
         Session { tries: 0, ..self }
     }

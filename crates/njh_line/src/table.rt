@@ -1,13 +1,13 @@
 //! The line table (IBM GA27-3004).
 
-ghost use Rattle.std.specs.Prelude.{◌≡◌, ◌≤◌, IfSome};
-ghost use Rattle.njh_line.specs.Sessions.{IsSession, IsConfig};
-ghost use Rattle.njh_line.specs.LineTable.{accepted, acting, block_came, called, contacted, ending, over_with, quiet, shown, signed_on, tried, waited, with_reply};
-ghost use Rattle.njh_line.specs.Counts.{after_acting, counted};
+ghost use Rattle.std.specs.Prelude.{◌≡◌, ◌≤◌, true, IfSome};
+ghost use Rattle.njh_line.specs.Sessions.{IsSession, IsConfig, in_session};
+ghost use Rattle.njh_line.specs.LineTable.{Block as CameBlock, accepted, acting, call, contact, end_and_contact, end_with};
+ghost use Rattle.njh_line.specs.LineTable.{next_in_turn, none, shown, signed_on, try_with, with_reply};
 ghost use Rattle.njh_line.specs.Openings.{shown_first};
 
 use crate::Phase::{Answered, Calling, Down, SentI, Up};
-use crate::config::Config;
+use crate::config::{Config, Role};
 use crate::counts::Counted;
 use crate::input::Input::{
     self, Ack0, Bad, Block, Enquiry, Eot, Garbled, Lost, Nak, Spoiled, Tick,
@@ -37,9 +37,11 @@ const NEXT_BLOCK: Reply = Reply::Next { or_ack0: true };
 const NEXT_BLOCK_OR_TURN: Reply = Reply::Next { or_ack0: false };
 
 /// The session after an input, and what the input does.
-#[derive(Clone, Copy, Debug, PartialEq, Eq)]
-pub struct Outcome {
+#[derive(Clone, Copy)]
+pub(crate) struct Outcome {
+    /// The session then.
     pub session: Session,
+    /// What the input does.
     pub verdict: Verdict,
 }
 
@@ -52,34 +54,34 @@ pub(crate) fn accepted(config: &Config, session: Session, input: &Input<'_>) -> 
     ensures kept { IsSession result.session }
 {
     match (input, session.phase) {
-        (Enquiry, Down) => contacted(config, session),
-        (Enquiry, Calling | SentI) => quiet(session),
+        (Enquiry, Down) => contact(config.role, session),
+        (Enquiry, Calling | SentI) => none(session),
         (Enquiry, Answered) => with_reply(session, ACK_0),
-        (Enquiry, Up) => ending(contacted(config, session.down())),
+        (Enquiry, Up) => end_and_contact(config.role, session),
 
-        (Ack0, Down | Answered | SentI) => quiet(session),
+        (Ack0, Down | Answered | SentI) => none(session),
         (Ack0, Calling) => with_reply(session.entered(SentI), I_BLOCK),
-        (Ack0, Up) => with_reply(session.heard(), NEXT_BLOCK_OR_TURN),
+        (Ack0, Up) => with_reply(session.acknowledged(), NEXT_BLOCK_OR_TURN),
 
-        (Nak, Down | Calling) => quiet(session),
-        (Nak, Answered | SentI | Up) => tried(session, Reply::Again),
+        (Nak, Down | Calling) => none(session),
+        (Nak, Answered | SentI | Up) => try_with(session, Reply::Again),
 
-        (Eot | Lost, Down) => quiet(session),
-        (Eot | Lost, Calling | Answered | SentI) => quiet(session.down()),
-        (Eot | Lost, Up) => over_with(session, Reply::Nothing),
+        (Eot | Lost, Down) => none(session),
+        (Eot | Lost, Calling | Answered | SentI) => none(session.down()),
+        (Eot | Lost, Up) => end_with(session, Reply::Nothing),
 
-        (Block { .. }, Down | Calling) => quiet(session),
+        (Block { .. }, Down | Calling) => none(session),
         (Block { bcb, fcs, first }, Answered | SentI | Up) => {
             block_came(config, session, *bcb, *fcs, *first)
         }
 
-        (Spoiled | Bad | Garbled, Down | Calling) => quiet(session),
-        (Spoiled | Bad | Garbled, Answered | SentI | Up) => tried(session, NAK),
+        (Spoiled | Bad | Garbled, Down | Calling) => none(session),
+        (Spoiled | Bad | Garbled, Answered | SentI | Up) => try_with(session, NAK),
 
-        (Tick, Down) => called(config, session),
+        (Tick, Down) => call(config.role, session),
         (Tick, Calling) => with_reply(session, ENQUIRY),
-        (Tick, Answered | SentI) => tried(session, NAK),
-        (Tick, Up) => waited(session),
+        (Tick, Answered | SentI) => try_with(session, NAK),
+        (Tick, Up) => next_in_turn(session),
     }
 }
 
@@ -96,15 +98,15 @@ fn with_reply(session: Session, reply: Reply) -> Outcome
     }
 }
 
-fn quiet(session: Session) -> Outcome
-    ensures { result ≡ quiet session }
+fn none(session: Session) -> Outcome
+    ensures { result ≡ none session }
 {
     with_reply(session, Reply::Nothing)
 }
 
-/// The session is over.
-fn over_with(session: Session, reply: Reply) -> Outcome
-    ensures { result ≡ over_with reply session }
+/// The session ends.
+fn end_with(session: Session, reply: Reply) -> Outcome
+    ensures { result ≡ end_with reply session }
 {
     Outcome {
         session: session.down(),
@@ -116,14 +118,14 @@ fn over_with(session: Session, reply: Reply) -> Outcome
     }
 }
 
-/// Five tries are the most: then the session is over, and nothing is sent.
-fn tried(session: Session, reply: Reply) -> Outcome
+/// Five tries are the most: then the session ends, and nothing is sent.
+fn try_with(session: Session, reply: Reply) -> Outcome
     requires { IsSession session }
-    ensures outcome { result ≡ tried reply session }
+    ensures outcome { result ≡ try_with reply session }
     ensures kept { IsSession result.session }
 {
     if session.tries == TRIES {
-        return over_with(session, Reply::Nothing);
+        return end_with(session, Reply::Nothing);
     }
     with_reply(
         Session {
@@ -134,55 +136,56 @@ fn tried(session: Session, reply: Reply) -> Outcome
     )
 }
 
-/// A peer calls: the end that answers enters a session.
-fn contacted(config: &Config, session: Session) -> Outcome
-    ensures { result ≡ contacted config.now session }
+/// The peer calls: the end that answers enters a session.
+fn contact(role: Role, session: Session) -> Outcome
+    ensures { result ≡ contact role session }
 {
-    if config.calls {
-        return quiet(session);
+    match role {
+        Role::Call => none(session),
+        Role::Answer => with_reply(session.entered(Answered), ACK_0),
     }
-    with_reply(session.entered(Answered), ACK_0)
 }
 
-/// What ended a session that was up may begin another.
-fn ending(outcome: Outcome) -> Outcome
-    ensures { result ≡ ending outcome }
+/// The peer calls while the line is up: what ends the session may begin another.
+fn end_and_contact(role: Role, session: Session) -> Outcome
+    ensures { result ≡ end_and_contact role session }
 {
+    let next = contact(role, session.down());
     Outcome {
+        session: next.session,
         verdict: Verdict {
             ended: true,
-            ..outcome.verdict
+            ..next.verdict
         },
-        ..outcome
     }
 }
 
 /// Only the end that calls does so.
-fn called(config: &Config, session: Session) -> Outcome
-    ensures { result ≡ called config.now session }
+fn call(role: Role, session: Session) -> Outcome
+    ensures { result ≡ call role session }
 {
-    if !config.calls {
-        return quiet(session);
+    match role {
+        Role::Call => with_reply(
+            Session {
+                phase: Calling,
+                ..session
+            },
+            ENQUIRY,
+        ),
+        Role::Answer => none(session),
     }
-    with_reply(
-        Session {
-            phase: Calling,
-            ..session
-        },
-        ENQUIRY,
-    )
 }
 
 /// A tick while the line is up.
-fn waited(session: Session) -> Outcome
+fn next_in_turn(session: Session) -> Outcome
     requires { IsSession session }
-    ensures outcome { result ≡ waited session }
+    ensures outcome { result ≡ next_in_turn session }
     ensures kept { IsSession result.session }
 {
-    if session.ours {
+    if session.has_turn {
         return with_reply(session, NEXT_BLOCK);
     }
-    tried(session, NAK)
+    try_with(session, NAK)
 }
 
 /// A good block comes in a session: the count rule.
@@ -195,13 +198,14 @@ fn block_came(
 ) -> Outcome
     requires config { IsConfig config.now }
     requires session { IsSession session }
-    ensures outcome { result ≡ block_came (counted session.acted bcb) config.now bcb fcs (shown_first first.entry) session }
+    requires inside { in_session session.phase ≡ true }
+    ensures outcome { result ≡ accepted config.now (CameBlock bcb fcs (shown_first first.entry)) session }
     ensures kept { IsSession result.session }
 {
     match session.counted(bcb) {
-        Counted::Acts => acting(config, session, bcb, fcs, first),
-        Counted::Repeats => tried(session, Reply::Again),
-        Counted::OutOfSequence => over_with(
+        Counted::Acts => acting(config, session.after_acting(bcb, fcs), first),
+        Counted::Repeats => try_with(session, Reply::Again),
+        Counted::OutOfSequence => end_with(
             session,
             Reply::Sequence {
                 expected: Bcb::normal(session.expected()),
@@ -210,37 +214,25 @@ fn block_came(
     }
 }
 
-/// A block that is acted on.
-fn acting(
-    config: &Config,
-    session: Session,
-    bcb: Bcb,
-    fcs: Fcs,
-    first: Option<(u8, &[u8])>,
-) -> Outcome
+/// What a block that is acted on does; `session` is the one after it.
+fn acting(config: &Config, session: Session, first: Option<(u8, &[u8])>) -> Outcome
     requires config { IsConfig config.now }
     requires session { IsSession session }
-    ensures outcome { result ≡ acting session.phase config.now (shown_first first.entry) session (after_acting bcb fcs session) }
+    ensures outcome { result ≡ acting config.now (shown_first first.entry) session }
     ensures kept { IsSession result.session }
 {
-    let phase = session.phase;
-    let next = session.after_acting(bcb, fcs);
-    match phase {
-        Down | Calling => quiet(session),
-        Answered => signed_on(
-            config,
-            next,
-            config.fitting(Opening::Initial, first),
-            J_BLOCK,
-        ),
-        SentI => signed_on(
-            config,
-            next,
-            config.fitting(Opening::Response, first),
-            NEXT_BLOCK,
-        ),
+    match session.phase {
+        Down | Calling => none(session),
+        Answered => {
+            let sign_on = config.fitting(Opening::Initial, first);
+            signed_on(config, session, sign_on, J_BLOCK)
+        }
+        SentI => {
+            let sign_on = config.fitting(Opening::Response, first);
+            signed_on(config, session, sign_on, NEXT_BLOCK)
+        }
         Up => Outcome {
-            session: next,
+            session,
             verdict: Verdict {
                 ended: false,
                 acts: true,
@@ -259,7 +251,7 @@ fn signed_on(config: &Config, session: Session, sign_on: Option<SignOn>, reply: 
     ensures kept { IsSession result.session }
 {
     match sign_on {
-        None => quiet(session.down()),
+        None => none(session.down()),
         Some(sign_on) => with_reply(
             Session {
                 phase: Up,

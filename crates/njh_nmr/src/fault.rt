@@ -2,14 +2,16 @@
 
 use thiserror::Error;
 
-/// Why a record is no nodal message: it has under 30 bytes; its message is over 148 bytes or past
-/// the record's end; the node that it goes to, or comes from, is no name.
+/// Why a record is no nodal message. The first in this order is told.
 #[derive(Clone, Copy, Debug, PartialEq, Eq, Error)]
 pub enum NmrFault {
+    /// The record has under 30 bytes.
     #[error("N1 TooShort")]
     TooShort,
+    /// The message has over 148 bytes, or reaches past the record's end.
     #[error("N2 BadLength")]
     BadLength,
+    /// The node that it goes to, or the one that it comes from, is no name.
     #[error("N3 BadName")]
     BadName,
 }

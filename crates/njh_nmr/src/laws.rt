@@ -1,15 +1,15 @@
 //! Laws of the definitions that the contracts cite. A caller has one by calling its function.
 
 ghost use Rattle.std.specs.Prelude.{◌≡◌, ◌++◌, ℕ, List, Ok};
-ghost use Rattle.njh_nmr.specs.Nodal.{Nodal, IsMessage, bytes_of, cut_after_message, nodal_of};
+ghost use Rattle.njh_nmr.specs.Nodal.{Nodal, IsMessage, record_of, cut_after_message, nodal_of};
 
 /// What is written reads back as the same message, whatever stands behind it.
 pub fn reading_back()
-    ensures { (n : Nodal) (behind : List ℕ) → IsMessage n → nodal_of (bytes_of n ++ behind) ≡ Ok n }
+    ensures { (n : Nodal) (behind : List ℕ) → IsMessage n → nodal_of (record_of n ++ behind) ≡ Ok n }
 {}
 
 /// What was read is written as it came, without what stood behind the message.
 pub fn sending_on()
-    ensures bytes { (bytes : List ℕ) (n : Nodal) → nodal_of bytes ≡ Ok n → bytes_of n ≡ cut_after_message bytes }
+    ensures bytes { (bytes : List ℕ) (n : Nodal) → nodal_of bytes ≡ Ok n → record_of n ≡ cut_after_message bytes }
     ensures whole { (bytes : List ℕ) (n : Nodal) → nodal_of bytes ≡ Ok n → IsMessage n }
 {}

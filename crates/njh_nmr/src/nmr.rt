@@ -1,14 +1,13 @@
 //! Reading, writing and answering nodal messages.
 
-ghost use Rattle.std.specs.Prelude.{◌≡◌, ◌+◌, ◌≤◌, ◌++◌, IfOk, length};
+ghost use Rattle.std.specs.Prelude.{◌≡◌, ◌+◌, ◌≤◌, IfOk, length};
 ghost use Rattle.njh_nmr.specs.Nodal.{node_of};
-ghost use Rattle.arrayvec.specs.ArrayVec.{array_vec_len};
 ghost use Rattle.njh_record.specs.Bytes.{field};
 
 use crate::fault::NmrFault;
 use arrayvec::ArrayVec;
 use njh_ebcdic::{FIELD, Name};
-use njh_record::Record;
+use njh_record::{Record, field_at, put_bytes};
 use std::marker::Model;
 
 /// The most bytes that a message has.
@@ -68,16 +67,27 @@ impl Model for Nmr {
 
     ghost Value = { Nodal };
 
-    ghost view = { λ n. record { flag = n.flag; level = n.level; kind = n.kind; to = n.to; to_qualifier = n.to_qualifier; user = n.user; origin = n.origin; origin_qualifier = n.origin_qualifier; message = n.message.items } };
+    ghost view = { λ n. record {
+      flag = n.flag;
+      level = n.level;
+      kind = n.kind;
+      to = n.to;
+      to_qualifier = n.to_qualifier;
+      user = n.user;
+      origin = n.origin;
+      origin_qualifier = n.origin_qualifier;
+      message = n.message.items;
+    } };
 }
 
 impl Nmr {
-    ghost use Rattle.njh_nmr.specs.Nodal.{nodal_of, bytes_of, cut_after_message, IsMessage, is_user_command, said_to, said_by};
+    ghost use Rattle.njh_nmr.specs.Nodal.{nodal_of, record_of, cut_after_message, IsMessage};
+    ghost use Rattle.njh_nmr.specs.Nodal.{is_user_command, notice_to, notice_record};
 
     /// The message that a record holds; what stands behind it in the record is not read.
     pub fn read(bytes: &[u8]) -> Result<Nmr, NmrFault>
         ensures read { result ≡ nodal_of bytes.now }
-        ensures sent_on { IfOk result (λ n. bytes_of n ≡ cut_after_message bytes.now) }
+        ensures sent_on { IfOk result (λ n. record_of n ≡ cut_after_message bytes.now) }
     {
         if bytes.len() < MESSAGE {
             return Err(NmrFault::TooShort);
@@ -103,18 +113,18 @@ impl Nmr {
 
     /// Writes the record of the message, in place of what was there.
     pub fn write(&self, out: &mut Record)
-        ensures bytes { out.new.items ≡ bytes_of self.now }
+        ensures bytes { out.new.items ≡ record_of self.now }
         ensures whole { IsMessage self.now }
     {
         out.clear();
         let length = self.message.len() as u8;
-        put(out, &[self.flag, self.level, self.kind, length]);
-        put(out, &self.to.bytes());
+        put_bytes(out, &[self.flag, self.level, self.kind, length]);
+        put_bytes(out, &self.to.bytes());
         out.push(self.to_qualifier);
-        put(out, &self.user);
-        put(out, &self.origin.bytes());
+        put_bytes(out, &self.user);
+        put_bytes(out, &self.origin.bytes());
         out.push(self.origin_qualifier);
-        put(out, &self.message);
+        put_bytes(out, &self.message);
     }
 
     /// The node that the message goes to.
@@ -147,7 +157,7 @@ impl Nmr {
     }
 
     /// Whether this is a command whose user field holds its sender.
-    pub fn command(&self) -> bool
+    pub fn is_user_command(&self) -> bool
         ensures { result ≡ is_user_command self.now }
     {
         self.flag & COMMAND != 0 && self.flag & OF_USER != 0
@@ -156,8 +166,8 @@ impl Nmr {
     /// What the hub answers to the user who sent this.
     pub fn reply(&self, hub: Name, text: &[u8]) -> Nmr
         requires { length text.now ≤ 148 }
-        ensures said { result ≡ said_to (self.now.origin, self.now.user) hub text.now }
-        ensures bytes { bytes_of result ≡ said_by hub (self.now.origin, self.now.user) text.now }
+        ensures said { result ≡ notice_to (self.now.origin, self.now.user) hub text.now }
+        ensures bytes { record_of result ≡ notice_record hub (self.now.origin, self.now.user) text.now }
     {
         Nmr::notice(hub, self.origin, self.user, text)
     }
@@ -165,8 +175,8 @@ impl Nmr {
     /// What the hub says to a user at a node.
     pub fn notice(hub: Name, node: Name, user: [u8; FIELD], text: &[u8]) -> Nmr
         requires { length text.now ≤ 148 }
-        ensures said { result ≡ said_to (node, user) hub text.now }
-        ensures bytes { bytes_of result ≡ said_by hub (node, user) text.now }
+        ensures said { result ≡ notice_to (node, user) hub text.now }
+        ensures bytes { record_of result ≡ notice_record hub (node, user) text.now }
     {
         Nmr {
             flag: OF_USER,
@@ -180,25 +190,6 @@ impl Nmr {
             message: message_of(text),
         }
     }
-}
-
-/// Adds bytes to a record that has room for them.
-fn put(out: &mut Record, bytes: &[u8])
-    requires { array_vec_len out.old + length bytes.now ≤ 256 }
-    ensures items { out.new.items ≡ out.old.items ++ bytes.now }
-    ensures len { array_vec_len out.new ≡ array_vec_len out.old + length bytes.now }
-{
-    out.try_extend_from_slice(bytes).unwrap();
-}
-
-/// The eight bytes of a field.
-fn field_at(bytes: &[u8], place: usize) -> [u8; FIELD]
-    requires { place + 8 ≤ length bytes.now }
-    ensures { result ≡ field place 8 bytes.now }
-{
-    let mut eight = [0; FIELD];
-    eight.copy_from_slice(&bytes[place..place + FIELD]);
-    eight
 }
 
 /// The name that a field holds.

@@ -1,6 +1,7 @@
-pub mod Unspelling
+pub mod Fronts
 pub mod Steps
 pub mod ReadingLaws
+pub mod ReadBack
 pub mod AnswerLaws
 pub mod Runs
 pub mod WritingLaws

@@ -1,6 +1,7 @@
 -- Runs at the front of bytes, and the bytes before them.
-use Rattle.std.proofs.Common.{◌≡◌, ℕ, ◌+◌, ◌<◌, ◌≤◌, min, Bool, true, false, cond, eqb, leb, List, [], ◌∷◌, ◌++◌, length, take, drop, replicate, get_or, refl, sym, ◌∙◌, ap, subst, append_assoc, one-add, arith, ◌⊎◌, inl, inr, length-take}
-use Rattle.std.proofs.lemmas.Bool.{cases_lt, cases_Bool, eqb-true, leb-true}
+use Rattle.std.proofs.Common.{◌≡◌, ℕ, ◌+◌, ◌<◌, ◌≤◌, min, Bool, true, false, eqb, leb, List, [], ◌∷◌, ◌++◌, length, take, drop, replicate}
+use Rattle.std.proofs.Common.{get_or, refl, sym, ◌∙◌, ap, subst, append_assoc, one-add, arith, ◌⊎◌, inl, inr, length-take}
+use Rattle.std.proofs.lemmas.Bool.{cases_lt, cases_Bool, cond_both, cond-true, cond-false, eqb-true, leb-true}
 use Rattle.std.proofs.lemmas.List.{take-take, take_all, append-nil, take_more, drop_more, drop_all, take-append-le}
 use Rattle.std.proofs.lemmas.List.Sums.{prefix_len-le-length}
 use Rattle.std.specs.List.{prefix_len}
@@ -9,26 +10,20 @@ use Rattle.njh_record.specs.Writing.{first_of, run_of, is_run, begins_run, befor
 -- ---- runs
 
 pub is_run-two : (byte n : ℕ) → is_run byte n ≡ true → 2 ≤ n
-is_run-two byte n is = go (eqb byte 0x40) n is
-  where
-    go : (blank : Bool) (n : ℕ) → cond blank (leb 2 n) (leb 3 n) ≡ true → 2 ≤ n
-    go true n is = leb-true 2 n is
-    go false n is = omega (arith, leb-true 3 n is)
+is_run-two byte n = cond_both (eqb byte 0x40) (leb 2 n) (leb 3 n) (λ t. t ≡ true → 2 ≤ n) (λ blank is. leb-true 2 n is)
+    (λ other is. omega (arith, leb-true 3 n is))
 
 pub is_run-three : (byte n : ℕ) → eqb byte 0x40 ≡ false → is_run byte n ≡ true → 3 ≤ n
-is_run-three byte n other is = go (eqb byte 0x40) n other is
-  where
-    go : (blank : Bool) (n : ℕ) → blank ≡ false → cond blank (leb 2 n) (leb 3 n) ≡ true → 3 ≤ n
-    go true n other is = absurd cc
-    go false n other is = leb-true 3 n is
+is_run-three byte n other is = leb-true 3 n (sym (cond-false (eqb byte 0x40) (leb 2 n) (leb 3 n) other) ∙ is)
 
-front_is : (byte : ℕ) (bytes : List ℕ) → take (prefix_len (λ x. eqb x byte) bytes) bytes ≡ replicate (prefix_len (λ x. eqb x byte) bytes) byte
+front_is : (byte : ℕ) (bytes : List ℕ)
+    → take (prefix_len (λ x. eqb x byte) bytes) bytes ≡ replicate (prefix_len (λ x. eqb x byte) bytes) byte
 front_is byte [] = refl
-front_is byte (x ∷ bytes) = go (eqb x byte) (λ is. eqb-true x byte is) (front_is byte bytes)
-  where
-    go : (same : Bool) → (same ≡ true → x ≡ byte) → take (prefix_len (λ x. eqb x byte) bytes) bytes ≡ replicate (prefix_len (λ x. eqb x byte) bytes) byte → take (cond same (1 + prefix_len (λ x. eqb x byte) bytes) 0) (x ∷ bytes) ≡ replicate (cond same (1 + prefix_len (λ x. eqb x byte) bytes) 0) byte
-    go true equal rest = rw one-add (ap (λ (y : ℕ). y ∷ take (prefix_len (λ x. eqb x byte) bytes) bytes) (equal refl) ∙ ap (λ (ys : List ℕ). byte ∷ ys) rest)
-    go false equal rest = refl
+front_is byte (x ∷ bytes) =
+    let n = prefix_len (λ x. eqb x byte) bytes in
+    cond_both (eqb x byte) (1 + n) 0 (λ m. take m (x ∷ bytes) ≡ replicate m byte)
+    (λ same. rw one-add (ap (λ (y : ℕ). y ∷ take n bytes) (eqb-true x byte same) ∙ ap (λ (ys : List ℕ). byte ∷ ys) (front_is byte bytes)))
+    (λ other. refl)
 
 pub run_of-short : (bytes : List ℕ) → run_of bytes ≤ 31
 run_of-short bytes = omega (arith, prefix_len-le-length (λ x. eqb x (first_of bytes)) (take 31 bytes), length-take 31 bytes)
@@ -44,19 +39,11 @@ take-run_of bytes = sym (take-take (run_of bytes) 31 bytes (run_of-short bytes))
 pub before_run-at : (bytes : List ℕ) → begins_run bytes ≡ true → before_run bytes ≡ []
 unfolding before_run
 before_run-at [] is = refl
-before_run-at (byte ∷ bytes) is = go (begins_run (byte ∷ bytes)) is
-  where
-    go : (runs : Bool) → runs ≡ true → cond runs [] (byte ∷ before_run bytes) ≡ []
-    go true is = refl
-    go false is = absurd cc
+before_run-at (byte ∷ bytes) is = cond-true (begins_run (byte ∷ bytes)) [] (byte ∷ before_run bytes) is
 
 pub before_run-past : (byte : ℕ) (bytes : List ℕ) → begins_run (byte ∷ bytes) ≡ false → before_run (byte ∷ bytes) ≡ byte ∷ before_run bytes
 unfolding before_run
-before_run-past byte bytes is = go (begins_run (byte ∷ bytes)) is
-  where
-    go : (runs : Bool) → runs ≡ false → cond runs [] (byte ∷ before_run bytes) ≡ byte ∷ before_run bytes
-    go true is = absurd cc
-    go false is = refl
+before_run-past byte bytes is = cond-false (begins_run (byte ∷ bytes)) [] (byte ∷ before_run bytes) is
 
 pub before_run-nil : before_run [] ≡ []
 unfolding before_run
@@ -68,7 +55,8 @@ before_run-nil = refl
 abbrev pub NoRunBefore : List ℕ → ℕ → Type 0
 NoRunBefore bytes place = before_run bytes ≡ take place bytes ++ before_run (drop place bytes)
 
-pub NoRunBefore-more : (bytes : List ℕ) (place : ℕ) → place < length bytes → begins_run (drop place bytes) ≡ false → NoRunBefore bytes place → NoRunBefore bytes (place + 1)
+pub NoRunBefore-more : (bytes : List ℕ) (place : ℕ) → place < length bytes → begins_run (drop place bytes) ≡ false
+    → NoRunBefore bytes place → NoRunBefore bytes (place + 1)
 NoRunBefore-more bytes place within past so_far =
     let byte = get_or bytes place 0 in
     let rest = drop (place + 1) bytes in
@@ -78,31 +66,39 @@ NoRunBefore-more bytes place within past so_far =
     so_far ∙ (ap (λ (b : List ℕ). take place bytes ++ b) (ap before_run at ∙ before_run-past byte rest past_byte)
     ∙ (sym (append_assoc (take place bytes) (byte ∷ []) (before_run rest)) ∙ ap (λ (b : List ℕ). b ++ before_run rest) (sym more)))
 
-NoRunBefore-stops : (bytes : List ℕ) (place : ℕ) → place ≤ 63 → before_run (drop place bytes) ≡ [] → NoRunBefore bytes place → take place bytes ≡ take 63 (before_run bytes)
+NoRunBefore-stops : (bytes : List ℕ) (place : ℕ) → place ≤ 63 → before_run (drop place bytes) ≡ [] → NoRunBefore bytes place
+    → take place bytes ≡ take 63 (before_run bytes)
 NoRunBefore-stops bytes place short stops so_far =
-    let all : before_run bytes ≡ take place bytes = so_far ∙ (ap (λ (b : List ℕ). take place bytes ++ b) stops ∙ append-nil (take place bytes)) in
+    let all : before_run bytes ≡ take place bytes =
+    so_far ∙ (ap (λ (b : List ℕ). take place bytes ++ b) stops ∙ append-nil (take place bytes)) in
     sym (ap (take 63) all ∙ take_all 63 (take place bytes) (omega (arith, length-take place bytes)))
 
-pub NoRunBefore-at : (bytes : List ℕ) (place : ℕ) → place ≤ 63 → begins_run (drop place bytes) ≡ true → NoRunBefore bytes place → take place bytes ≡ take 63 (before_run bytes)
+pub NoRunBefore-at : (bytes : List ℕ) (place : ℕ) → place ≤ 63 → begins_run (drop place bytes) ≡ true
+    → NoRunBefore bytes place → take place bytes ≡ take 63 (before_run bytes)
 NoRunBefore-at bytes place short at so_far = NoRunBefore-stops bytes place short (before_run-at (drop place bytes) at) so_far
 
-pub NoRunBefore-limit : (bytes : List ℕ) (place : ℕ) → place ≡ min (length bytes) 63 → NoRunBefore bytes place → take place bytes ≡ take 63 (before_run bytes)
+pub NoRunBefore-limit : (bytes : List ℕ) (place : ℕ) → place ≡ min (length bytes) 63 → NoRunBefore bytes place
+    → take place bytes ≡ take 63 (before_run bytes)
 NoRunBefore-limit bytes place is so_far =
     elim (cases_lt 63 (length bytes)) [
       | inl long ↦
           let full : 63 ≤ length (take place bytes) = omega (arith, length-take place bytes) in
           let same : place ≡ 63 = omega arith in
-          sym (ap (take 63) so_far ∙ (take-append-le 63 (take place bytes) (before_run (drop place bytes)) full ∙ (take-take 63 place bytes (omega arith) ∙ ap (λ (n : ℕ). take n bytes) (sym same))))
+          sym (ap (take 63) so_far
+          ∙ (take-append-le 63 (take place bytes) (before_run (drop place bytes)) full
+          ∙ (take-take 63 place bytes (omega arith) ∙ ap (λ (n : ℕ). take n bytes) (sym same))))
       | inr short ↦ NoRunBefore-stops bytes place (omega arith) (ap before_run (drop_all place bytes (omega arith)) ∙ before_run-nil) so_far
     ]
 
 -- a test of a run, as the code makes it
-pub begins_run-tested : (rest tail : List ℕ) (count : ℕ) (answer value : Bool) → tail ≡ rest → count ≡ run_of tail → answer ≡ is_run (first_of tail) count → answer ≡ value → begins_run rest ≡ value
+pub begins_run-tested : (rest tail : List ℕ) (count : ℕ) (answer value : Bool) → tail ≡ rest → count ≡ run_of tail
+    → answer ≡ is_run (first_of tail) count → answer ≡ value → begins_run rest ≡ value
 begins_run-tested rest tail count answer value same counted tests is =
     ap begins_run (sym same) ∙ (ap (is_run (first_of tail)) (sym counted) ∙ (sym tests ∙ is))
 
 -- behind what stands before a run there is one, or nothing
-pub before_run-ends : (bytes : List ℕ) → (drop (length (before_run bytes)) bytes ≡ []) ⊎ (begins_run (drop (length (before_run bytes)) bytes) ≡ true)
+pub before_run-ends : (bytes : List ℕ)
+    → (drop (length (before_run bytes)) bytes ≡ []) ⊎ (begins_run (drop (length (before_run bytes)) bytes) ≡ true)
 before_run-ends [] = inl (ap (λ (b : List ℕ). drop (length b) []) before_run-nil)
 before_run-ends (byte ∷ bytes) =
     let P : List ℕ → Type 0 = λ b. (drop (length b) (byte ∷ bytes) ≡ []) ⊎ (begins_run (drop (length b) (byte ∷ bytes)) ≡ true) in

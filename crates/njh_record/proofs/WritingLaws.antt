@@ -1,70 +1,52 @@
 -- The one spelling is a spelling, and how long it is.
-use Rattle.std.proofs.Common.{◌≡◌, ℕ, zero, suc, ◌+◌, ◌-◌, ◌*◌, ◌<◌, ◌≤◌, ◌⊎◌, inl, inr, min, Bool, true, false, cond, eqb, List, [], ◌∷◌, ◌++◌, length, take, drop, replicate, refl, sym, ◌∙◌, ap, subst, append_assoc, arith, length-append, length-take}
-use Rattle.std.proofs.lemmas.Bool.{cases_lt, cases_Bool, both_ways, eqb-true}
+use Rattle.std.proofs.Common.{◌≡◌, ℕ, zero, suc, ◌+◌, ◌-◌, ◌*◌, ◌<◌, ◌≤◌, ◌⊎◌, inl, inr, min, true, false, eqb, List, [], ◌∷◌, ◌++◌, length}
+use Rattle.std.proofs.Common.{take, drop, replicate, refl, sym, ◌∙◌, ap, subst, append_assoc, arith, length-append, length-take}
+use Rattle.std.proofs.lemmas.Bool.{cases_lt, cases_Bool, cond_both, cond-true, cond-false, both_ways, eqb-true}
 use Rattle.std.proofs.lemmas.List.{take_min, take-take, take_all, length-replicate, take-append-drop}
 use Rattle.std.specs.List.{flat_map, AllByRecursion}
 use Rattle.njh_record.specs.declared.End.TheVariants.{Record}
 use Rattle.njh_record.specs.Spelling.{Item, blanks, repeat, literal, IsItem, item_bytes, added, Spelling}
-use Rattle.njh_record.specs.Writing.{first_of, run_of, is_run, begins_run, before_run, run_item, first_item, after_first, items_past, spell_of}
+use Rattle.njh_record.specs.Writing.{first_of, run_of, is_run, begins_run, before_run, run_item, first_item, after_first, items_past}
+use Rattle.njh_record.specs.Writing.{spelling_of}
 use Rattle.njh_record.specs.Written.{SpellsFront}
-use Rattle.njh_record.proofs.Runs.{is_run-two, is_run-three, run_of-short, run_of-within, take-run_of, before_run-at, before_run-past, before_run-nil, before_run-ends}
+use Rattle.njh_record.proofs.Runs.{is_run-two, is_run-three, run_of-short, run_of-within, take-run_of, before_run-at, before_run-past}
+use Rattle.njh_record.proofs.Runs.{before_run-nil, before_run-ends}
 
 -- ---- the item that spells a run
 
 pub IsItem-run_item : (byte n : ℕ) → n < 32 → IsItem (run_item byte n)
-IsItem-run_item byte n short = go (eqb byte 0x40)
-  where
-    go : (blank : Bool) → IsItem (cond blank (blanks n) (repeat n byte))
-    go true = short
-    go false = short
+IsItem-run_item byte n short = cond_both (eqb byte 0x40) (blanks n) (repeat n byte) IsItem (λ _. short) (λ _. short)
 
 pub added-run_item : (byte n : ℕ) → added (run_item byte n) ≡ replicate n byte
-added-run_item byte n = go (eqb byte 0x40) (λ is. eqb-true byte 0x40 is)
-  where
-    go : (blank : Bool) → (blank ≡ true → byte ≡ 0x40) → added (cond blank (blanks n) (repeat n byte)) ≡ replicate n byte
-    go true is = ap (replicate n) (sym (is refl))
-    go false is = refl
+added-run_item byte n =
+    cond_both (eqb byte 0x40) (blanks n) (repeat n byte) (λ item. added item ≡ replicate n byte)
+    (λ is. ap (replicate n) (sym (eqb-true byte 0x40 is))) (λ _. refl)
 
 -- a run is spelled shorter than it is
 pub length-run_item : (byte n : ℕ) → is_run byte n ≡ true → length (item_bytes (run_item byte n)) < n
-length-run_item byte n is = go (eqb byte 0x40) (is_run-two byte n is) (λ other. is_run-three byte n other is)
-  where
-    go : (blank : Bool) → 2 ≤ n → (blank ≡ false → 3 ≤ n) → length (item_bytes (cond blank (blanks n) (repeat n byte))) < n
-    go true two three = omega arith
-    go false two three = omega (arith, three refl)
-
-pub length-run_item-most : (byte n : ℕ) → length (item_bytes (run_item byte n)) ≤ 2
-length-run_item-most byte n = go (eqb byte 0x40)
-  where
-    go : (blank : Bool) → length (item_bytes (cond blank (blanks n) (repeat n byte))) ≤ 2
-    go true = omega arith
-    go false = omega arith
+length-run_item byte n is =
+    cond_both (eqb byte 0x40) (blanks n) (repeat n byte) (λ item. length (item_bytes item) < n)
+    (λ _. omega (arith, is_run-two byte n is)) (λ other. omega (arith, is_run-three byte n other is))
 
 -- ---- the first item
 
 pub first_item-run : (bytes : List ℕ) → begins_run bytes ≡ true → first_item bytes ≡ run_item (first_of bytes) (run_of bytes)
 unfolding first_item
-first_item-run bytes is = go (begins_run bytes) is
-  where
-    go : (runs : Bool) → runs ≡ true → cond runs (run_item (first_of bytes) (run_of bytes)) (literal (take 63 (before_run bytes))) ≡ run_item (first_of bytes) (run_of bytes)
-    go true is = refl
-    go false is = absurd cc
+first_item-run bytes is = cond-true (begins_run bytes) _ _ is
 
 pub first_item-literal : (bytes : List ℕ) → begins_run bytes ≡ false → first_item bytes ≡ literal (take 63 (before_run bytes))
 unfolding first_item
-first_item-literal bytes is = go (begins_run bytes) is
-  where
-    go : (runs : Bool) → runs ≡ false → cond runs (run_item (first_of bytes) (run_of bytes)) (literal (take 63 (before_run bytes))) ≡ literal (take 63 (before_run bytes))
-    go true is = absurd cc
-    go false is = refl
+first_item-literal bytes is = cond-false (begins_run bytes) _ _ is
 
 -- what is spelled first stands first
 front_before : (bytes : List ℕ) → take (length (before_run bytes)) bytes ≡ before_run bytes
 front_before [] = ap (λ (b : List ℕ). take (length b) []) before_run-nil ∙ sym before_run-nil
 front_before (byte ∷ bytes) =
     elim (cases_Bool (begins_run (byte ∷ bytes))) [
-      | inl at ↦ ap (λ (b : List ℕ). take (length b) (byte ∷ bytes)) (before_run-at (byte ∷ bytes) at) ∙ sym (before_run-at (byte ∷ bytes) at)
-      | inr past ↦ ap (λ (b : List ℕ). take (length b) (byte ∷ bytes)) (before_run-past byte bytes past) ∙ (ap (λ (b : List ℕ). byte ∷ b) (front_before bytes) ∙ sym (before_run-past byte bytes past))
+      | inl at ↦ ap (λ (b : List ℕ). take (length b) (byte ∷ bytes)) (before_run-at (byte ∷ bytes) at)
+          ∙ sym (before_run-at (byte ∷ bytes) at)
+      | inr past ↦ ap (λ (b : List ℕ). take (length b) (byte ∷ bytes)) (before_run-past byte bytes past)
+          ∙ (ap (λ (b : List ℕ). byte ∷ b) (front_before bytes) ∙ sym (before_run-past byte bytes past))
     ]
 
 SpellsFront-run : (bytes : List ℕ) → begins_run bytes ≡ true → SpellsFront bytes (run_item (first_of bytes) (run_of bytes))
@@ -78,10 +60,12 @@ SpellsFront-run bytes at =
       fits = IsItem-run_item byte n (omega (arith, run_of-short bytes));
       some = omega arith;
       within = omega (arith, run_of-within bytes);
-      front = ap (λ (b : List ℕ). b ++ drop (length (added (run_item byte n))) bytes) adds ∙ (ap (λ (m : ℕ). take n bytes ++ drop m bytes) size ∙ take-append-drop n bytes);
+      front = ap (λ (b : List ℕ). b ++ drop (length (added (run_item byte n))) bytes) adds
+          ∙ (ap (λ (m : ℕ). take n bytes ++ drop m bytes) size ∙ take-append-drop n bytes);
     }
 
-SpellsFront-literal : (byte : ℕ) (bytes : List ℕ) → begins_run (byte ∷ bytes) ≡ false → SpellsFront (byte ∷ bytes) (literal (take 63 (before_run (byte ∷ bytes))))
+SpellsFront-literal : (byte : ℕ) (bytes : List ℕ) → begins_run (byte ∷ bytes) ≡ false
+    → SpellsFront (byte ∷ bytes) (literal (take 63 (before_run (byte ∷ bytes))))
 SpellsFront-literal byte bytes past =
     let before = before_run (byte ∷ bytes) in
     let cons : before ≡ byte ∷ before_run bytes = before_run-past byte bytes past in
@@ -108,7 +92,8 @@ SpellsFront-first_item byte bytes =
 
 pub SpellsFront-of : (bytes : List ℕ) (item : Item) → 0 < length bytes → item ≡ first_item bytes → SpellsFront bytes item
 SpellsFront-of [] item some is = absurd (omega arith)
-SpellsFront-of (byte ∷ bytes) item some is = let P : Item → Type 0 = λ i. SpellsFront (byte ∷ bytes) i in subst P (sym is) (SpellsFront-first_item byte bytes)
+SpellsFront-of (byte ∷ bytes) item some is = let P : Item → Type 0 =
+    λ i. SpellsFront (byte ∷ bytes) i in subst P (sym is) (SpellsFront-first_item byte bytes)
 
 -- ---- the items in order
 
@@ -122,26 +107,30 @@ items_past-nil : items_past 0 [] ≡ []
 unfolding items_past
 items_past-nil = refl
 
-items_past-cons : (byte : ℕ) (bytes : List ℕ) → items_past 0 (byte ∷ bytes) ≡ first_item (byte ∷ bytes) ∷ items_past 0 (after_first (byte ∷ bytes))
+items_past-cons : (byte : ℕ) (bytes : List ℕ)
+    → items_past 0 (byte ∷ bytes) ≡ first_item (byte ∷ bytes) ∷ items_past 0 (after_first (byte ∷ bytes))
 unfolding items_past
 items_past-cons byte bytes =
     let n = length (added (first_item (byte ∷ bytes))) in
     let some = (SpellsFront-first_item byte bytes).some in
     let is : suc (n - 1) ≡ n = omega arith in
-    ap (λ (items : List Item). first_item (byte ∷ bytes) ∷ items) (items_past-drop (n - 1) bytes ∙ ap (λ (m : ℕ). items_past 0 (drop m (byte ∷ bytes))) is)
+    ap (λ (items : List Item). first_item (byte ∷ bytes) ∷ items)
+    (items_past-drop (n - 1) bytes ∙ ap (λ (m : ℕ). items_past 0 (drop m (byte ∷ bytes))) is)
 
-pub spell_of-nil : spell_of [] ≡ 0 ∷ []
-unfolding spell_of
-spell_of-nil = ap (λ (items : List Item). flat_map item_bytes items ++ 0 ∷ []) items_past-nil
+pub spelling_of-nil : spelling_of [] ≡ 0 ∷ []
+unfolding spelling_of
+spelling_of-nil = ap (λ (items : List Item). flat_map item_bytes items ++ 0 ∷ []) items_past-nil
 
-pub spell_of-cons : (byte : ℕ) (bytes : List ℕ) → spell_of (byte ∷ bytes) ≡ item_bytes (first_item (byte ∷ bytes)) ++ spell_of (after_first (byte ∷ bytes))
-unfolding spell_of
-spell_of-cons byte bytes =
+pub spelling_of-cons : (byte : ℕ) (bytes : List ℕ)
+    → spelling_of (byte ∷ bytes) ≡ item_bytes (first_item (byte ∷ bytes)) ++ spelling_of (after_first (byte ∷ bytes))
+unfolding spelling_of
+spelling_of-cons byte bytes =
     ap (λ (items : List Item). flat_map item_bytes items ++ 0 ∷ []) (items_past-cons byte bytes)
     ∙ append_assoc (item_bytes (first_item (byte ∷ bytes))) (flat_map item_bytes (items_past 0 (after_first (byte ∷ bytes)))) (0 ∷ [])
 
 -- an item leaves less
-pub length-after_first : (byte : ℕ) (bytes : List ℕ) → length (added (first_item (byte ∷ bytes))) + length (after_first (byte ∷ bytes)) ≡ length (byte ∷ bytes)
+pub length-after_first : (byte : ℕ) (bytes : List ℕ)
+    → length (added (first_item (byte ∷ bytes))) + length (after_first (byte ∷ bytes)) ≡ length (byte ∷ bytes)
 length-after_first byte bytes =
     let item = first_item (byte ∷ bytes) in
     sym (length-append (added item) (after_first (byte ∷ bytes))) ∙ ap length (SpellsFront-first_item byte bytes).front
@@ -151,7 +140,8 @@ record AreItemsOf (bytes : List ℕ) (items : List Item) : Type 0 where
   adds : bytes ≡ flat_map added items
 
 items_within : (k : ℕ) (bytes : List ℕ) → length bytes ≤ k → AreItemsOf bytes (items_past 0 bytes)
-items_within k [] le = let P : List Item → Type 0 = λ items. AreItemsOf [] items in subst P (sym items_past-nil) (record { each = tt; adds = refl })
+items_within k [] le = let P : List Item → Type 0 =
+    λ items. AreItemsOf [] items in subst P (sym items_past-nil) (record { each = tt; adds = refl })
 items_within zero (byte ∷ bytes) le = absurd (omega arith)
 items_within (suc k) (byte ∷ bytes) le =
     let P : List Item → Type 0 = λ items. AreItemsOf (byte ∷ bytes) items in
@@ -163,18 +153,19 @@ items_within (suc k) (byte ∷ bytes) le =
     })
 
 -- the one spelling spells the record
-pub Spelling-spell_of : (bytes : List ℕ) → Spelling (spell_of bytes) bytes Record
-unfolding spell_of
-Spelling-spell_of bytes =
+pub Spelling-spelling_of : (bytes : List ℕ) → Spelling (spelling_of bytes) bytes Record
+unfolding spelling_of
+Spelling-spelling_of bytes =
     let items = items_within (length bytes) bytes (omega arith) in
-    record { items = items_past 0 bytes; spelled = record { each = items.each; parts = refl }; adds = items.adds }
+    record { items = items_past 0 bytes; whole = record { each = items.each; parts = refl }; adds = items.adds }
 
 -- ---- how long it is
 
 abbrev size_of : List ℕ → ℕ
 size_of bytes = length (flat_map item_bytes (items_past 0 bytes))
 
-size_of-cons : (byte : ℕ) (bytes : List ℕ) → size_of (byte ∷ bytes) ≡ length (item_bytes (first_item (byte ∷ bytes))) + size_of (after_first (byte ∷ bytes))
+size_of-cons : (byte : ℕ) (bytes : List ℕ)
+    → size_of (byte ∷ bytes) ≡ length (item_bytes (first_item (byte ∷ bytes))) + size_of (after_first (byte ∷ bytes))
 size_of-cons byte bytes =
     ap (λ (items : List Item). length (flat_map item_bytes items)) (items_past-cons byte bytes)
     ∙ length-append (item_bytes (first_item (byte ∷ bytes))) (flat_map item_bytes (items_past 0 (after_first (byte ∷ bytes))))
@@ -187,12 +178,14 @@ record IsBounded (bytes : List ℕ) : Type 0 where
   most : 63 * size_of bytes ≤ 64 * length bytes + 62
   at_run : BeginsRunOrEnds bytes → 63 * size_of bytes ≤ 64 * length bytes
 
-bounded-run : (byte : ℕ) (bytes : List ℕ) → begins_run (byte ∷ bytes) ≡ true → IsBounded (after_first (byte ∷ bytes)) → IsBounded (byte ∷ bytes)
+bounded-run : (byte : ℕ) (bytes : List ℕ) → begins_run (byte ∷ bytes) ≡ true → IsBounded (after_first (byte ∷ bytes))
+    → IsBounded (byte ∷ bytes)
 bounded-run byte bytes at rest =
     let n = run_of (byte ∷ bytes) in
     let item : first_item (byte ∷ bytes) ≡ run_item byte n = first_item-run (byte ∷ bytes) at in
     let saves : length (item_bytes (first_item (byte ∷ bytes))) < n = rw item (length-run_item byte n at) in
-    let spells : length (added (first_item (byte ∷ bytes))) ≡ n = ap (λ (i : Item). length (added i)) item ∙ (ap length (added-run_item byte n) ∙ length-replicate n byte) in
+    let spells : length (added (first_item (byte ∷ bytes))) ≡ n =
+    ap (λ (i : Item). length (added i)) item ∙ (ap length (added-run_item byte n) ∙ length-replicate n byte) in
     let size = size_of-cons byte bytes in
     let len = length-after_first byte bytes in
     let most : 63 * size_of (byte ∷ bytes) ≤ 64 * length (byte ∷ bytes) = omega (arith, rest.most) in
@@ -202,7 +195,8 @@ size_of-end : (bytes : List ℕ) → bytes ≡ [] → size_of bytes ≡ 0
 size_of-end bytes is = ap size_of is ∙ ap (λ (items : List Item). length (flat_map item_bytes items)) items_past-nil
 
 -- behind a literal of less than 63 bytes stands a run, or nothing
-behind_literal : (byte : ℕ) (bytes : List ℕ) → begins_run (byte ∷ bytes) ≡ false → length (before_run (byte ∷ bytes)) < 63 → BeginsRunOrEnds (after_first (byte ∷ bytes))
+behind_literal : (byte : ℕ) (bytes : List ℕ) → begins_run (byte ∷ bytes) ≡ false → length (before_run (byte ∷ bytes)) < 63
+    → BeginsRunOrEnds (after_first (byte ∷ bytes))
 behind_literal byte bytes past short =
     let before = before_run (byte ∷ bytes) in
     let whole : take 63 before ≡ before = take_all 63 before (omega arith) in
@@ -210,13 +204,15 @@ behind_literal byte bytes past short =
     let P : List ℕ → Type 0 = λ b. BeginsRunOrEnds (drop (length b) (byte ∷ bytes)) in
     subst P (sym adds) (before_run-ends (byte ∷ bytes))
 
-bounded-literal : (byte : ℕ) (bytes : List ℕ) → begins_run (byte ∷ bytes) ≡ false → IsBounded (after_first (byte ∷ bytes)) → IsBounded (byte ∷ bytes)
+bounded-literal : (byte : ℕ) (bytes : List ℕ) → begins_run (byte ∷ bytes) ≡ false → IsBounded (after_first (byte ∷ bytes))
+    → IsBounded (byte ∷ bytes)
 bounded-literal byte bytes past rest =
     let before = before_run (byte ∷ bytes) in
     let item : first_item (byte ∷ bytes) ≡ literal (take 63 before) = first_item-literal (byte ∷ bytes) past in
     let some : length before ≡ suc (length (before_run bytes)) = ap length (before_run-past byte bytes past) in
     let cut : length (take 63 before) ≡ min 63 (length before) = length-take 63 before in
-    let bytes_of : length (item_bytes (first_item (byte ∷ bytes))) ≡ suc (length (take 63 before)) = ap (λ (i : Item). length (item_bytes i)) item in
+    let bytes_of : length (item_bytes (first_item (byte ∷ bytes))) ≡ suc (length (take 63 before)) =
+    ap (λ (i : Item). length (item_bytes i)) item in
     let spells : length (added (first_item (byte ∷ bytes))) ≡ length (take 63 before) = ap (λ (i : Item). length (added i)) item in
     let size = size_of-cons byte bytes in
     let len = length-after_first byte bytes in
@@ -232,48 +228,67 @@ bounded_within : (k : ℕ) (bytes : List ℕ) → length bytes ≤ k → IsBound
 bounded_within k [] le = let size = size_of-end [] refl in record { most = omega arith; at_run = λ either. omega arith }
 bounded_within zero (byte ∷ bytes) le = absurd (omega arith)
 bounded_within (suc k) (byte ∷ bytes) le =
-    let rest = bounded_within k (after_first (byte ∷ bytes)) (omega (arith, length-after_first byte bytes, (SpellsFront-first_item byte bytes).some)) in
+    let rest = bounded_within k (after_first (byte ∷ bytes))
+    (omega (arith, length-after_first byte bytes, (SpellsFront-first_item byte bytes).some)) in
     elim (cases_Bool (begins_run (byte ∷ bytes))) [
       | inl at ↦ bounded-run byte bytes at rest
       | inr past ↦ bounded-literal byte bytes past rest
     ]
 
 -- at most one byte more for each 63, and the end
-pub length-spell_of : (bytes : List ℕ) → 63 * length (spell_of bytes) ≤ 64 * length bytes + 125
-unfolding spell_of
-length-spell_of bytes =
-    omega (arith, (bounded_within (length bytes) bytes (omega arith)).most, length-append (flat_map item_bytes (items_past 0 bytes)) (0 ∷ []))
+pub length-spelling_of : (bytes : List ℕ) → 63 * length (spelling_of bytes) ≤ 64 * length bytes + 125
+unfolding spelling_of
+length-spelling_of bytes =
+    omega (
+      arith,
+      (bounded_within (length bytes) bytes (omega arith)).most,
+      length-append
+          (flat_map item_bytes (items_past 0 bytes)) (0 ∷ []),
+    )
 
-pub some-spell_of : (bytes : List ℕ) → 0 < length (spell_of bytes)
-unfolding spell_of
-some-spell_of bytes = omega (arith, length-append (flat_map item_bytes (items_past 0 bytes)) (0 ∷ []))
+pub some-spelling_of : (bytes : List ℕ) → 0 < length (spelling_of bytes)
+unfolding spelling_of
+some-spelling_of bytes = omega (arith, length-append (flat_map item_bytes (items_past 0 bytes)) (0 ∷ []))
 
-pub length-spell_of-record : (bytes : List ℕ) → length bytes ≤ 256 → length (spell_of bytes) ≤ 262
-length-spell_of-record bytes le = omega (arith, length-spell_of bytes)
+pub length-spelling_of-record : (bytes : List ℕ) → length bytes ≤ 256 → length (spelling_of bytes) ≤ 262
+length-spelling_of-record bytes le = omega (arith, length-spelling_of bytes)
 
 -- ---- as the code writes it: what is written so far, and then the spelling of the rest
 
-pub spell_of-step : (out rest bytes : List ℕ) (item : Item) (after : List ℕ) → 0 < length rest → item ≡ first_item rest → after ≡ drop (length (added item)) rest → out ++ spell_of rest ≡ spell_of bytes → (out ++ item_bytes item) ++ spell_of after ≡ spell_of bytes
-spell_of-step out [] bytes item after some is left so_far = absurd (omega arith)
-spell_of-step out (byte ∷ rest) bytes item after some is left so_far =
-    let now : item_bytes item ++ spell_of after ≡ spell_of (byte ∷ rest) =
-    ap (λ (b : List ℕ). item_bytes item ++ spell_of b) left ∙ (ap (λ (i : Item). item_bytes i ++ spell_of (drop (length (added i)) (byte ∷ rest))) is ∙ sym (spell_of-cons byte rest)) in
-    append_assoc out (item_bytes item) (spell_of after) ∙ (ap (λ (b : List ℕ). out ++ b) now ∙ so_far)
+pub spelling_of-step : (out rest bytes : List ℕ) (item : Item) (after : List ℕ) → 0 < length rest → item ≡ first_item rest
+    → after ≡ drop (length (added item)) rest → out ++ spelling_of rest ≡ spelling_of bytes →
+    (out ++ item_bytes item) ++ spelling_of after ≡ spelling_of bytes
+spelling_of-step out [] bytes item after some is left so_far = absurd (omega arith)
+spelling_of-step out (byte ∷ rest) bytes item after some is left so_far =
+    let now : item_bytes item ++ spelling_of after ≡ spelling_of (byte ∷ rest) =
+    ap (λ (b : List ℕ). item_bytes item ++ spelling_of b) left
+    ∙ (ap (λ (i : Item). item_bytes i ++ spelling_of (drop (length (added i)) (byte ∷ rest))) is ∙ sym (spelling_of-cons byte rest)) in
+    append_assoc out (item_bytes item) (spelling_of after) ∙ (ap (λ (b : List ℕ). out ++ b) now ∙ so_far)
 
-pub spell_of-room : (out rest bytes : List ℕ) (item : Item) → 0 < length rest → item ≡ first_item rest → length bytes ≤ 256 → out ++ spell_of rest ≡ spell_of bytes → length out + length (item_bytes item) ≤ 262
-spell_of-room out rest bytes item some is short so_far =
-    let next = spell_of-step out rest bytes item (drop (length (added item)) rest) some is refl so_far in
-    omega (arith, length-spell_of-record bytes short, ap length next, length-append (out ++ item_bytes item) (spell_of (drop (length (added item)) rest)), length-append out (item_bytes item))
+pub spelling_of-room : (out rest bytes : List ℕ) (item : Item) → 0 < length rest → item ≡ first_item rest → length bytes ≤ 256
+    → out ++ spelling_of rest ≡ spelling_of bytes → length out + length (item_bytes item) ≤ 262
+spelling_of-room out rest bytes item some is short so_far =
+    let next = spelling_of-step out rest bytes item (drop (length (added item)) rest) some is refl so_far in
+    omega (
+      arith,
+      length-spelling_of-record bytes short,
+      ap length next,
+      length-append (out ++ item_bytes item)
+          (spelling_of (drop (length (added item)) rest)),
+      length-append out (item_bytes item),
+    )
 
-pub spell_of-done : (out rest bytes : List ℕ) → length rest ≡ 0 → out ++ spell_of rest ≡ spell_of bytes → out ++ 0 ∷ [] ≡ spell_of bytes
-spell_of-done out [] bytes done so_far = ap (λ (b : List ℕ). out ++ b) (sym spell_of-nil) ∙ so_far
-spell_of-done out (byte ∷ rest) bytes done so_far = absurd (omega arith)
+pub spelling_of-done : (out rest bytes : List ℕ) → length rest ≡ 0 → out ++ spelling_of rest ≡ spelling_of bytes
+    → out ++ 0 ∷ [] ≡ spelling_of bytes
+spelling_of-done out [] bytes done so_far = ap (λ (b : List ℕ). out ++ b) (sym spelling_of-nil) ∙ so_far
+spelling_of-done out (byte ∷ rest) bytes done so_far = absurd (omega arith)
 
 -- the same, counted
 
-pub length-spell_of-step : (rest : List ℕ) (item : Item) (after : List ℕ) → 0 < length rest → item ≡ first_item rest → after ≡ drop (length (added item)) rest → length (item_bytes item) + length (spell_of after) ≡ length (spell_of rest)
-length-spell_of-step rest item after some is left =
-    sym (length-append (item_bytes item) (spell_of after)) ∙ ap length (spell_of-step [] rest rest item after some is left refl)
+pub length-spelling_of-step : (rest : List ℕ) (item : Item) (after : List ℕ) → 0 < length rest → item ≡ first_item rest
+    → after ≡ drop (length (added item)) rest → length (item_bytes item) + length (spelling_of after) ≡ length (spelling_of rest)
+length-spelling_of-step rest item after some is left =
+    sym (length-append (item_bytes item) (spelling_of after)) ∙ ap length (spelling_of-step [] rest rest item after some is left refl)
 
-pub length-spell_of-done : (rest : List ℕ) → length rest ≡ 0 → length (spell_of rest) ≡ 1
-length-spell_of-done rest done = sym (ap length (spell_of-done [] rest rest done refl))
+pub length-spelling_of-done : (rest : List ℕ) → length rest ≡ 0 → length (spelling_of rest) ≡ 1
+length-spelling_of-done rest done = sym (ap length (spelling_of-done [] rest rest done refl))

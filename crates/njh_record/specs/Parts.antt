@@ -1,19 +1,57 @@
--- What reading knows on its way: the first part of the bytes, and what the parts so far add.
-use Rattle.std.specs.Prelude.{◌≡◌, ℕ, ◌+◌, ◌<◌, ◌≤◌, Bool, true, false, List, [], ◌++◌, length, replicate, Result, Ok, Err}
+-- What reading knows on its way: what stands first in the bytes, and what the items so far add.
+use Rattle.std.specs.Prelude.{◌≡◌, ℕ, ◌<◌, ◌≤◌, Bool, true, false, List, [], ◌∷◌, ◌+◌, ◌++◌, length, Result, Ok, Err}
 use Rattle.std.specs.Borrow.{Bor}
+use Rattle.njh_record.specs.Bytes.{AreBytes}
 use Rattle.njh_record.specs.declared.RecordFault.{RecordFault}
 use Rattle.njh_record.specs.declared.RecordFault.TheVariants as faults
+use Rattle.njh_record.specs.declared.item.Item as own
+use Rattle.njh_record.specs.declared.item.Item.TheVariants as own_items
 use Rattle.njh_record.specs.declared.reading.Part.{Part}
-use Rattle.njh_record.specs.declared.reading.Part.TheVariants.{Run, Literal, Ends}
-use Rattle.njh_record.specs.Unspelled.{BadScb, Truncated, with_front, unspelled}
+use Rattle.njh_record.specs.declared.reading.Part.TheVariants as part
+use Rattle.njh_record.specs.declared.End.{End}
+use Rattle.njh_record.specs.declared.End.TheVariants.{Record, Abort}
+use Rattle.njh_record.specs.Spelling.{Item, blanks, repeat, literal, item_bytes, end_byte}
+use Rattle.njh_record.specs.Reading.{IsBadScb}
+use Rattle.njh_record.specs.Unspelled.{Front, OfItem, OfEnd, Bad, Cut, Fault, Unspelled, with_front, ReadsAs}
 
--- an item adds its bytes, an end ends the reading, and a fault is the fault of all
+-- The items of the code as those of the definition.
+abbrev pub item_of : own.Item → Item
+item_of (own_items.Blanks count) = blanks count
+item_of (own_items.Repeat byte count) = repeat count byte
+item_of (own_items.Literal bytes) = literal bytes.now
+
+-- a run has room for its count in its control byte
+abbrev pub IsCounted : Item → Type 0
+IsCounted (blanks n) = n < 32
+IsCounted (repeat n byte) = n < 32
+IsCounted (literal bytes) = Unit {0}
+
+-- the bytes are the front of an item, and not the whole of it
+pub record IsCutItem (bytes : List ℕ) : Type 0 where
+  pub item : Item
+  pub counted : IsCounted item
+  pub missing : List ℕ
+  pub some : 0 < length missing
+  pub parts : bytes ++ missing ≡ item_bytes item
+
+-- the bytes begin with a byte that is no string control byte
+abbrev pub BeginsBad : List ℕ → Type 0
+BeginsBad [] = ⊥
+BeginsBad (byte ∷ rest) = IsBadScb byte
+
+-- this stands first in the bytes
+abbrev pub StandsFirst : List ℕ → Front → Type 0
+StandsFirst bytes (OfItem item rest) = IsCounted item × (bytes ≡ item_bytes item ++ rest)
+StandsFirst bytes (OfEnd end rest) = bytes ≡ end_byte end ∷ rest
+StandsFirst bytes Bad = BeginsBad bytes
+StandsFirst bytes Cut = IsCutItem bytes
+
+-- what the code finds first stands there
 abbrev pub Leads : List ℕ → Result (Part × Bor (List ℕ)) RecordFault → Type 0
-Leads bytes (Ok (Run byte count, rest)) = (unspelled bytes ≡ with_front (replicate count byte) (unspelled rest.now)) × (count < 32) × (length rest.now < length bytes)
-Leads bytes (Ok (Literal literal, rest)) = (unspelled bytes ≡ with_front literal.now (unspelled rest.now)) × (length rest.now < length bytes)
-Leads bytes (Ok (Ends end, rest)) = (unspelled bytes ≡ Ok (record { contents = []; end = end; rest = rest.now })) × (length rest.now < length bytes)
-Leads bytes (Err faults.BadScb) = unspelled bytes ≡ Err BadScb
-Leads bytes (Err faults.Truncated) = unspelled bytes ≡ Err Truncated
+Leads bytes (Ok (part.Item item, rest)) = StandsFirst bytes (OfItem (item_of item) rest.now)
+Leads bytes (Ok (part.End end, rest)) = StandsFirst bytes (OfEnd end rest.now)
+Leads bytes (Err faults.BadScb) = StandsFirst bytes Bad
+Leads bytes (Err faults.Truncated) = StandsFirst bytes Cut
 Leads bytes (Err (faults.TooLong used)) = ⊥
 
 -- a record takes more bytes where it has the room for all of them
@@ -26,9 +64,16 @@ abbrev pub Holds : Bool → List ℕ → List ℕ → Type 0
 Holds true added contents = (contents ≡ added) × (length added ≤ 256)
 Holds false added contents = 256 < length added
 
--- the bytes up to a rest were read, and a record holds what they add
+-- the bytes up to a rest were read, and a record holds what they add: what the rest reads as, the whole does with that in front
 pub record HasRead (bytes rest contents : List ℕ) (fits : Bool) : Type 0 where
-  pub added : List ℕ
-  pub whole : unspelled bytes ≡ with_front added (unspelled rest)
+  pub adds : List ℕ
+  pub reads : (read : Result Unspelled Fault) → ReadsAs rest read → ReadsAs bytes (with_front adds read)
+  pub left : AreBytes rest
   pub within : length rest ≤ length bytes
-  pub holds : Holds fits added contents
+  pub holds : Holds fits adds contents
+
+-- what of a record is kept: nothing after a fault or an abort
+abbrev pub kept_by : Result (ℕ × End) RecordFault → List ℕ → List ℕ
+kept_by (Ok (n, Record)) contents = contents
+kept_by (Ok (n, Abort)) contents = []
+kept_by (Err fault) contents = []

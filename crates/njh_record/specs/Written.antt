@@ -1,13 +1,6 @@
--- The items of the code as those of the definition.
-use Rattle.std.specs.Prelude.{◌≡◌, ℕ, ◌<◌, ◌≤◌, List, ◌++◌, length, drop}
-use Rattle.njh_record.specs.declared.writing.Item as own
-use Rattle.njh_record.specs.declared.writing.Item.TheVariants as own_items
-use Rattle.njh_record.specs.Spelling.{Item, literal, IsItem, added}
-use Rattle.njh_record.specs.Writing.{run_item}
-
-abbrev pub item_of : own.Item → Item
-item_of (own_items.Run byte count) = run_item byte count
-item_of (own_items.Literal bytes) = literal bytes.now
+-- What an item spells of some bytes.
+use Rattle.std.specs.Prelude.{◌≡◌, ◌<◌, ◌≤◌, ℕ, List, ◌++◌, length, drop}
+use Rattle.njh_record.specs.Spelling.{Item, IsItem, added}
 
 -- an item spells some bytes at the front
 pub record SpellsFront (bytes : List ℕ) (item : Item) : Type 0 where

@@ -6,8 +6,8 @@ ghost use Rattle.njh_record.specs.declared.End.{End};
 ghost use Rattle.njh_record.specs.declared.RecordFault.{RecordFault};
 ghost use Rattle.njh_record.specs.Spelling.{Spelling};
 ghost use Rattle.njh_record.specs.Reading.{Unspells};
-ghost use Rattle.njh_record.specs.Unspelled.{Unspelled, Fault, ReadsAs, unspelled, answer_of, record_left};
-ghost use Rattle.njh_record.specs.Writing.{spell_of};
+ghost use Rattle.njh_record.specs.Unspelled.{Unspelled, Fault, ReadsAs, unspelled};
+ghost use Rattle.njh_record.specs.Writing.{spelling_of};
 
 /// The function that reads gives what stands in the bytes, and nothing else stands there: a spelling at their front, or a
 /// bad string control byte behind whole items, or the front of a spelling alone.
@@ -23,13 +23,13 @@ pub fn rest_behind()
         (used : ℕ) × (0 < used) × (used ≤ length bytes) × (found.rest ≡ drop used bytes) }
 {}
 
-/// What `unspell` answers and the record that it leaves are functions of the bytes, which give what `Unspells` says and
-/// nothing else.
+/// Of any bytes one answer of `unspell` is right, with one record, and no other.
 pub fn one_answer()
-    ensures found { (bytes : List ℕ) → AreBytes bytes →
-        Unspells bytes (answer_of bytes) (record_left bytes) }
-    ensures only { (bytes : List ℕ) (answer : Result (ℕ × End) RecordFault) (contents : List ℕ) →
-        Unspells bytes answer contents → (answer_of bytes ≡ answer) × (record_left bytes ≡ contents) }
+    ensures some { (bytes : List ℕ) → AreBytes bytes → (answer : Result (ℕ × End) RecordFault)
+        × (contents : List ℕ) × Unspells bytes answer contents }
+    ensures only { (bytes : List ℕ) (answer other : Result (ℕ × End) RecordFault) (contents others : List ℕ) →
+        Unspells bytes answer contents → Unspells bytes other others
+        → (answer ≡ other) × (contents ≡ others) }
 {}
 
 /// No spelling is a proper prefix of another.
@@ -46,20 +46,20 @@ pub fn reads_spellings()
 
 /// The one spelling of a record is a spelling of it.
 pub fn one_spelling()
-    ensures { (contents : List ℕ) → Spelling (spell_of contents) contents End.Record }
+    ensures { (contents : List ℕ) → Spelling (spelling_of contents) contents End.Record }
 {}
 
 /// What is written of a record is read back as that record, whatever follows it.
 pub fn reads_back()
-    ensures { (contents rest : List ℕ) → unspelled (spell_of contents ++ rest)
+    ensures { (contents rest : List ℕ) → unspelled (spelling_of contents ++ rest)
         ≡ Ok (record { contents = contents; end = End.Record; rest = rest }) }
 {}
 
 /// A spelling has a byte at least, and at most a byte more for each 63 of the record, and two: 262 for a record of 256.
 pub fn spelling_bounds()
-    ensures some { (contents : List ℕ) → 0 < length (spell_of contents) }
+    ensures some { (contents : List ℕ) → 0 < length (spelling_of contents) }
     ensures growth { (contents : List ℕ) →
-        63 * length (spell_of contents) ≤ 64 * length contents + 125 }
+        63 * length (spelling_of contents) ≤ 64 * length contents + 125 }
     ensures longest { (contents : List ℕ) → length contents ≤ 256 →
-        length (spell_of contents) ≤ 262 }
+        length (spelling_of contents) ≤ 262 }
 {}

@@ -2,17 +2,21 @@
 //! file is made of.
 #![tactic(auto)]
 
+mod bytes;
+mod item;
 mod laws;
 mod reading;
 mod scb;
 mod writing;
 
 use arrayvec::ArrayVec;
+pub use bytes::{field_at, put_bytes};
 pub use laws::{
     no_proper_prefix, one_answer, one_reading, one_spelling, reads_back, reads_spellings,
     rest_behind, spelling_bounds,
 };
 pub use reading::unspell;
+pub use scb::ABORT;
 use thiserror::Error;
 pub use writing::{spell, spelled_len};
 
@@ -22,31 +26,37 @@ pub type Record = ArrayVec<u8, 256>;
 /// Room for the spelling of a record, which takes 262 bytes at most.
 pub type Spelled = ArrayVec<u8, 263>;
 
-/// What ends a spelling: the record is whole, or the sender gives it up.
+/// What ends a spelling.
 #[derive(Clone, Copy, Debug, PartialEq, Eq)]
 pub enum End {
+    /// The record is whole.
     Record,
+    /// The sender gives it up.
     Abort,
 }
 
-/// Why no record was read: a byte stands in the place of a string control byte that is none (01 to 3F and 41 to 7F), the
-/// bytes end before the spelling does, or a good spelling of `used` bytes ends a record of more than 256.
+/// Why no record was read.
 #[derive(Clone, Copy, Debug, PartialEq, Eq, Error)]
 pub enum RecordFault {
+    /// A byte stands in the place of a string control byte that is none: 01 to 3F and 41 to 7F.
     #[error("C1 BadScb")]
     BadScb,
+    /// The bytes end before the spelling does.
     #[error("C2 Truncated")]
     Truncated,
+    /// A good spelling ends a record of more than 256 bytes.
     #[error("C3 TooLong {{ used: {used} }}")]
-    TooLong { used: usize },
+    TooLong {
+        /// How many bytes the spelling takes.
+        used: usize,
+    },
 }
 
-/// What kind of file a stream carries: SYSIN or SYSOUT.
+/// What kind of file a stream carries.
 #[derive(Clone, Copy, Debug, PartialEq, Eq)]
 pub enum Kind {
+    /// SYSIN: a job to be run.
     In,
+    /// SYSOUT: what a job printed or punched.
     Out,
 }
-
-#[cfg(test)]
-mod tests;

@@ -1,19 +1,13 @@
 //! Writing: from a record to the one spelling that is written of it.
 
-ghost use Rattle.std.specs.Prelude.{◌≡◌, ◌+◌, ◌≤◌, ◌<◌, ◌++◌, length, take};
-ghost use Rattle.njh_record.specs.Spelling.{added, item_bytes, IsItem, literal};
-ghost use Rattle.njh_record.specs.Writing.{run_of, is_run, before_run, run_item, first_item, spell_of};
-ghost use Rattle.njh_record.specs.Written.{item_of, SpellsFront};
+ghost use Rattle.std.specs.Prelude.{◌≡◌, ◌≤◌, ◌<◌, length, take};
+ghost use Rattle.njh_record.specs.Parts.{item_of};
+ghost use Rattle.njh_record.specs.Writing.{run_of, is_run, before_run, run_item, first_item, spelling_of};
+ghost use Rattle.njh_record.specs.Written.{SpellsFront};
 
 use crate::Spelled;
-use crate::scb::{BLANK, BLANKS, END_OF_RECORD, LITERAL, LONGEST_LITERAL, LONGEST_RUN, REPEAT};
-
-/// An item of a spelling.
-#[derive(Clone, Copy)]
-enum Item<'a> {
-    Run { byte: u8, count: usize },
-    Literal(&'a [u8]),
-}
+use crate::item::Item;
+use crate::scb::{BLANK, END_OF_RECORD, LONGEST_LITERAL, LONGEST_RUN};
 
 /// How many bytes equal to the first stand at the front, 31 at most.
 fn run_len(bytes: &[u8]) -> usize
@@ -54,6 +48,17 @@ fn literal_len(bytes: &[u8]) -> usize
     limit
 }
 
+/// The item that spells a run.
+fn run_item(byte: u8, count: usize) -> Item<'static>
+    ensures { item_of result ≡ run_item byte count }
+{
+    if byte == BLANK {
+        Item::Blanks(count)
+    } else {
+        Item::Repeat { byte, count }
+    }
+}
+
 /// The item that spells the front of some bytes.
 fn first_item(bytes: &[u8]) -> Item<'_>
     requires { 0 < length bytes.now }
@@ -62,70 +67,10 @@ fn first_item(bytes: &[u8]) -> Item<'_>
 {
     let count = run_len(bytes);
     if is_run(bytes[0], count) {
-        Item::Run {
-            byte: bytes[0],
-            count,
-        }
+        run_item(bytes[0], count)
     } else {
         Item::Literal(&bytes[..literal_len(bytes)])
     }
-}
-
-impl Item<'_> {
-    /// How many bytes of the record it spells.
-    fn len(self) -> usize
-        ensures { result ≡ length (added (item_of self.entry)) }
-    {
-        match self {
-            Item::Run { count, .. } => count,
-            Item::Literal(bytes) => bytes.len(),
-        }
-    }
-
-    /// How many bytes it takes.
-    fn spelled_len(self) -> usize
-        requires { IsItem (item_of self) }
-        ensures { result ≡ length (item_bytes (item_of self.entry)) }
-    {
-        match self {
-            Item::Run { byte, .. } => if byte == BLANK { 1 } else { 2 },
-            Item::Literal(bytes) => 1 + bytes.len(),
-        }
-    }
-
-    /// Adds its bytes.
-    fn put(self, out: &mut Spelled)
-        requires item { IsItem (item_of self) }
-        requires room { length out.old.items + length (item_bytes (item_of self)) ≤ 263 }
-        ensures { out.new.items ≡ out.old.items ++ item_bytes (item_of self.entry) }
-    {
-        match self {
-            Item::Run { byte, count } => put_run(byte, count, out),
-            Item::Literal(bytes) => put_literal(bytes, out),
-        }
-    }
-}
-
-fn put_run(byte: u8, count: usize, out: &mut Spelled)
-    requires item { IsItem (run_item byte count) }
-    requires room { length out.old.items + length (item_bytes (run_item byte count)) ≤ 263 }
-    ensures { out.new.items ≡ out.old.items ++ item_bytes (run_item byte count) }
-{
-    if byte == BLANK {
-        out.push(BLANKS + count as u8);
-    } else {
-        out.push(REPEAT + count as u8);
-        out.push(byte);
-    }
-}
-
-fn put_literal(bytes: &[u8], out: &mut Spelled)
-    requires item { IsItem (literal bytes.now) }
-    requires room { length out.old.items + length (item_bytes (literal bytes.now)) ≤ 263 }
-    ensures { out.new.items ≡ out.old.items ++ item_bytes (literal bytes.now) }
-{
-    out.push(LITERAL + bytes.len() as u8);
-    out.try_extend_from_slice(bytes).unwrap();
 }
 
 /// Writes the one spelling of a record (IBM SC23-0070, "Compression") in place of what `out` held: at each place the run
@@ -133,7 +78,7 @@ fn put_literal(bytes: &[u8], out: &mut Spelled)
 /// that stops where such a run begins. It takes 262 bytes at most.
 pub fn spell(contents: &[u8], out: &mut Spelled)
     requires { length contents.now ≤ 256 }
-    ensures spelling { out.new.items ≡ spell_of contents.now }
+    ensures spelling { out.new.items ≡ spelling_of contents.now }
     ensures len { length out.new.items ≤ 262 }
 {
     out.clear();
@@ -150,7 +95,7 @@ pub fn spell(contents: &[u8], out: &mut Spelled)
 /// How many bytes `spell` writes of a record, without writing them.
 pub fn spelled_len(contents: &[u8]) -> usize
     requires { length contents.now ≤ 256 }
-    ensures { result ≡ length (spell_of contents.now) }
+    ensures { result ≡ length (spelling_of contents.now) }
 {
     let mut len = 1;
     let mut rest = contents;

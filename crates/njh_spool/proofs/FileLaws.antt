@@ -1,111 +1,94 @@
--- What a file of the list is to its own customer, and to every other.
-use Rattle.std.proofs.Common.{◌≡◌, ◌≢◌, ℕ, suc, ◌<◌, Bool, true, false, cond, not, eqb, List, [], ◌∷◌, ◌++◌, length, get_or, take, drop, Option, Some, None, refl, sym, ap, ◌∙◌, add-one}
-use Rattle.std.specs.Prelude.{filter_map}
-use Rattle.std.specs.List.{cons_option}
-use Rattle.std.proofs.lemmas.Bool.{and_parts, eqb-true, eq-eqb, ne_eqb}
-use Rattle.std.proofs.lemmas.List.{take-append-drop, drop_more, append-nil}
-use Rattle.std.proofs.lemmas.List.Elements.{filter_map-append}
-use Rattle.njh_spool.specs.CustomerSpool.{WholeFile, PartialFile}
-use Rattle.njh_spool.specs.declared.State.{State}
-use Rattle.njh_spool.specs.declared.file.Stage.{Stage}
-use Rattle.njh_spool.specs.declared.file.Stage.TheVariants.{Partial, Whole}
-use Rattle.njh_spool.specs.declared.file.File.{File}
-use Rattle.njh_spool.specs.TaggedFiles.{is_partial, is_numbered, is_partial_numbered, is_whole_numbered, whole_in, partial_in, whole_of, partial_of}
-use Rattle.njh_spool.proofs.TaggedLaws.{SameOthers}
+-- A file's records in its chain: what a call on the chain makes of them.
+use Rattle.std.proofs.Common.{◌≡◌, ℕ, zero, suc, ◌+◌, ◌-◌, ◌*◌, ◌<◌, ◌≤◌, Bool, true, false, List, [], ◌∷◌, ◌++◌, length, take, drop, get_or, Some, refl, sym, ap, subst, ◌∙◌, arith, length-append, append_assoc}
+use Rattle.std.specs.Prelude.{All, slice_get, IsSomeAnd}
+use Rattle.std.proofs.lemmas.List.{take-append-le, take_at, drop_at, append-nil}
+use Rattle.std.proofs.lemmas.List.Elements.{All-head, All-tail}
+use Rattle.std.proofs.lemmas.List.Sums.{sum_by-cons}
+use Rattle.njh_record.specs.Bytes.{field, with_field, two_bytes}
+use Rattle.njh_record.specs.Stored.{Stored}
+use Rattle.njh_spool.specs.declared.file_slot.FileSlot.{FileSlot}
+use Rattle.njh_spool.specs.declared.file_slot.RecordPlace.{RecordPlace}
+use Rattle.njh_spool.specs.declared.store.mark.Mark.{Mark}
+use Rattle.njh_spool.specs.Chains.{Chain, IsMark}
+use Rattle.njh_spool.specs.CustomerSpool.{stored_size, at_index, rewritten_record}
+use Rattle.njh_spool.specs.Packing.{packed_record, packed, unpacked, IsShort}
+use Rattle.njh_spool.specs.Slots.{is_free, IsPlace, IsFile}
+use Rattle.njh_spool.proofs.CostLaws.{length-with_field}
+use Rattle.njh_spool.proofs.PackingLaws.{length-packed_record, length-packed, packed-append, length-unpacked, unpacked-packed}
 
-abbrev pub partial_content : File → PartialFile
-partial_content f = record { number = f.number; kind = f.kind; records = f.records }
+-- the records of bytes that are packed
+pub records_are : (records : List Stored) (count : ℕ) (bytes : List ℕ) → All IsShort records → count ≡ length records → bytes ≡ packed records → unpacked count bytes ≡ records
+records_are records count bytes short counted is =
+    ap (λ (n : ℕ). unpacked n bytes) counted ∙ ap (unpacked (length records)) (is ∙ sym (append-nil (packed records))) ∙ unpacked-packed records [] short
 
-abbrev pub whole_content : State → File → WholeFile
-whole_content state f = record { number = f.number; kind = f.kind; records = f.records; state = state }
-
-stage_partial : (stage : Stage) → is_partial stage ≡ true → stage ≡ Partial
-stage_partial Partial is = refl
-stage_partial (Whole state) is = cc
-
-stage_whole : (stage : Stage) → not (is_partial stage) ≡ true → (state : State) × (stage ≡ Whole state)
-stage_whole Partial is = absurd (let h : false ≡ true = is in cc)
-stage_whole (Whole state) is = (state, refl)
-
-pub partial_in-own : (c : ℕ) (f : File) → f.customer ≡ c → f.stage ≡ Partial → partial_in c f ≡ Some (partial_content f)
-partial_in-own c f own is = rw (is, eq-eqb f.customer c own) refl
-
-pub whole_in-partial : (c : ℕ) (f : File) → f.stage ≡ Partial → whole_in c f ≡ None
-whole_in-partial c f is = rw is refl
-
-pub whole_in-own : (c : ℕ) (f : File) (state : State) → f.customer ≡ c → f.stage ≡ Whole state → whole_in c f ≡ Some (whole_content state f)
-whole_in-own c f state own is = rw (is, eq-eqb f.customer c own) refl
-
-pub partial_in-whole : (c : ℕ) (f : File) (state : State) → f.stage ≡ Whole state → partial_in c f ≡ None
-partial_in-whole c f state is = rw is refl
-
-whole_none : (mine : Bool) (stage : Stage) (f : State → WholeFile) → mine ≡ false → ◌≡◌ {A = Option WholeFile} (elim stage [ Partial ↦ None | Whole state ↦ cond mine (Some (f state)) None ]) None
-whole_none mine Partial f other = refl
-whole_none mine (Whole state) f other = rw other refl
-
-partial_none : (mine : Bool) (stage : Stage) (f : PartialFile) → mine ≡ false → ◌≡◌ {A = Option PartialFile} (elim stage [ Partial ↦ cond mine (Some f) None | Whole state ↦ None ]) None
-partial_none mine Partial f other = rw other refl
-partial_none mine (Whole state) f other = refl
-
-pub whole_in-other : (c d : ℕ) (f : File) → f.customer ≡ c → d ≢ c → whole_in d f ≡ None
-whole_in-other c d f own other = whole_none (eqb f.customer d) f.stage (λ state. whole_content state f) (ne_eqb f.customer d (λ e. other (sym e ∙ own)))
-
-pub partial_in-other : (c d : ℕ) (f : File) → f.customer ≡ c → d ≢ c → partial_in d f ≡ None
-partial_in-other c d f own other = partial_none (eqb f.customer d) f.stage (partial_content f) (ne_eqb f.customer d (λ e. other (sym e ∙ own)))
-
--- the file that a search for a partial one, or a whole one, has found
-pub partial_found : (c n : ℕ) (f : File) → is_partial_numbered c n f ≡ true → (f.customer ≡ c) × (f.number ≡ n) × (f.stage ≡ Partial)
-partial_found c n f is =
-    let parts = and_parts (is_numbered c n f) (is_partial f.stage) is in
-    let own = and_parts (eqb f.customer c) (eqb f.number n) parts.0 in
-    (eqb-true f.customer c own.0, eqb-true f.number n own.1, stage_partial f.stage parts.1)
-
-pub whole_found : (c n : ℕ) (f : File) → is_whole_numbered c n f ≡ true → (f.customer ≡ c) × (f.number ≡ n) × ((state : State) × (f.stage ≡ Whole state))
-whole_found c n f is =
-    let parts = and_parts (is_numbered c n f) (not (is_partial f.stage)) is in
-    let own = and_parts (eqb f.customer c) (eqb f.number n) parts.0 in
-    (eqb-true f.customer c own.0, eqb-true f.number n own.1, stage_whole f.stage parts.1)
-
--- a list round one of its elements
-pub around : {X : Type 0} (xs : List X) (i : ℕ) (x : X) → i < length xs → x ≡ get_or xs i x → xs ≡ take i xs ++ x ∷ drop (suc i) xs
-around xs i x within is =
-    let rest : drop i xs ≡ x ∷ drop (suc i) xs = rw add-one at (drop_more xs i x within) ∙ ap (λ y. y ∷ drop (suc i) xs) (sym is) in
-    sym (take-append-drop i xs) ∙ ap (λ ys. take i xs ++ ys) rest
-
-pub filter_map-gone : {X Y : Type 0} (h : X → Option Y) (xs ys : List X) (x : X) → h x ≡ None → filter_map h (xs ++ x ∷ ys) ≡ filter_map h (xs ++ ys)
-filter_map-gone h xs ys x none = rw (filter_map-append h xs (x ∷ ys), filter_map-append h xs ys, none) refl
-
-pub filter_map-here : {X Y : Type 0} (h : X → Option Y) (xs ys : List X) (x : X) (y : Y) → h x ≡ Some y → filter_map h (xs ++ x ∷ ys) ≡ filter_map h xs ++ y ∷ filter_map h ys
-filter_map-here h xs ys x y some = rw (filter_map-append h xs (x ∷ ys), some) refl
-
--- a customer's file goes, is another, or comes
-pub SameOthers-removed : (c : ℕ) (before after : List File) (f : File) → f.customer ≡ c → SameOthers c (before ++ f ∷ after) (before ++ after)
-SameOthers-removed c before after f own =
+-- a file of these records
+pub file_of : (records : List Stored) (slot : FileSlot) (chain : Chain) → All IsShort records → slot.count ≡ length records → chain.bytes ≡ packed records → (is_free slot.stage ≡ true → slot.count ≡ 0) → length chain.bytes ≤ 252 * 65535 → IsPlace records chain.keys slot.next → IsFile slot chain
+file_of records slot chain short counted is free small next =
+    let same = records_are records slot.count chain.bytes short counted is in
     record {
-      whole = λ d other. sym (filter_map-gone (whole_in d) before after f (whole_in-other c d f own other));
-      partial = λ d other. sym (filter_map-gone (partial_in d) before after f (partial_in-other c d f own other));
+      bytes = is ∙ ap packed (sym same);
+      short = subst (λ (rs : List Stored). All IsShort rs) (sym same) short;
+      free = free;
+      small = small;
+      next = subst (λ (rs : List Stored). IsPlace rs chain.keys slot.next) (sym same) next;
     }
 
-pub SameOthers-replaced : (c : ℕ) (before after : List File) (f g : File) → f.customer ≡ c → g.customer ≡ c → SameOthers c (before ++ f ∷ after) (before ++ g ∷ after)
-SameOthers-replaced c before after f g own owns =
-    record {
-      whole = λ d other. filter_map-gone (whole_in d) before after g (whole_in-other c d g owns other) ∙ sym (filter_map-gone (whole_in d) before after f (whole_in-other c d f own other));
-      partial = λ d other. filter_map-gone (partial_in d) before after g (partial_in-other c d g owns other) ∙ sym (filter_map-gone (partial_in d) before after f (partial_in-other c d f own other));
-    }
+pub first_place : (records : List Stored) (keys : List ℕ) (at : RecordPlace) → at ≡ record { record_index = 0; place = 0; mark = record { block = 0; key = 0 } } → IsPlace records keys at
+first_place records keys at is =
+    subst (λ (x : RecordPlace). IsPlace records keys x) (sym is) (record { before = omega arith; place = refl; mark = λ above. absurd (omega arith) })
 
-pub filter_map-push : {X Y : Type 0} (h : X → Option Y) (xs : List X) (x : X) → filter_map h (xs ++ x ∷ []) ≡ filter_map h xs ++ cons_option (h x) []
-filter_map-push h xs x = filter_map-append h xs (x ∷ [])
+All-push : (P : Stored → Type 0) (xs : List Stored) (y : Stored) → All P xs → P y → All P (xs ++ y ∷ [])
+All-push P [] y all here = λ k d within. elim k as (λ k'. k' < 1 → P (get_or (y ∷ []) k' d)) [ zero ↦ λ _. here | suc k' ↦ λ w. absurd (omega arith) ] within
+All-push P (x ∷ xs) y all here =
+    let rest = All-push P xs y (All-tail P x xs all) here in
+    λ k d within. elim k as (λ k'. k' < suc (length (xs ++ y ∷ [])) → P (get_or (x ∷ (xs ++ y ∷ [])) k' d)) [ zero ↦ λ _. All-head P x xs all | suc k' ↦ λ w. rest k' d (omega arith) ] within
 
-pub SameOthers-pushed : (c : ℕ) (files : List File) (f : File) → f.customer ≡ c → SameOthers c files (files ++ f ∷ [])
-SameOthers-pushed c files f own =
-    record {
-      whole = λ d other. rw (filter_map-push (whole_in d) files f, whole_in-other c d f own other) (append-nil (whole_of d files));
-      partial = λ d other. rw (filter_map-push (partial_in d) files f, partial_in-other c d f own other) (append-nil (partial_of d files));
-    }
+-- a mark stays one where a chain grows
+slice_get-front : (n i : ℕ) (xs : List ℕ) (key : ℕ) → slice_get (take n xs) i ≡ Some key → slice_get xs i ≡ Some key
+slice_get-front zero i xs key found = cc
+slice_get-front (suc n) i [] key found = found
+slice_get-front (suc n) zero (x ∷ xs) key found = found
+slice_get-front (suc n) (suc i) (x ∷ xs) key found = slice_get-front n i xs key found
 
-pub SameOthers-both : (c : ℕ) (files files' files'' : List File) → SameOthers c files files' → SameOthers c files' files'' → SameOthers c files files''
-SameOthers-both c files files' files'' first second =
-    record {
-      whole = λ d other. second.whole d other ∙ first.whole d other;
-      partial = λ d other. second.partial d other ∙ first.partial d other;
-    }
+pub mark-grown : (keys keys' : List ℕ) (mark : Mark) → take (length keys) keys' ≡ keys → IsMark keys mark → IsMark keys' mark
+mark-grown keys keys' mark front is = λ above. slice_get-front (length keys) mark.block keys' mark.key (ap (λ (ks : List ℕ). slice_get ks mark.block) front ∙ is above)
+
+-- one record more
+module _ (slot : FileSlot) (chain : Chain) (keys : List ℕ) (r : Stored) (file : IsFile slot chain) (short : IsShort r) (front : take (length chain.keys) keys ≡ chain.keys) where
+  abbrev records : List Stored
+  records = unpacked slot.count chain.bytes
+
+  abbrev longer : List Stored
+  longer = records ++ r ∷ []
+
+  abbrev chain' : Chain
+  chain' = record { keys = keys; bytes = chain.bytes ++ packed_record r }
+
+  abbrev slot' : FileSlot
+  slot' = record slot { count = slot.count + 1 }
+
+  bytes_are : chain.bytes ++ packed_record r ≡ packed longer
+  bytes_are = ap (λ (xs : List ℕ). xs ++ packed_record r) file.bytes ∙ ap (λ (xs : List ℕ). packed records ++ xs) (sym (append-nil (packed_record r))) ∙ sym (packed-append records (r ∷ []))
+
+  counted : slot.count + 1 ≡ length longer
+  counted = omega (arith, length-append records (r ∷ []), length-unpacked slot.count chain.bytes)
+
+  all_short : All IsShort longer
+  all_short = All-push IsShort records r file.short short
+
+  pub appended-records : unpacked (slot.count + 1) (chain.bytes ++ packed_record r) ≡ longer
+  appended-records = records_are longer (slot.count + 1) (chain.bytes ++ packed_record r) all_short counted bytes_are
+
+  pub appended-file : is_free slot.stage ≡ false → length (chain.bytes ++ packed_record r) ≤ 252 * 65535 → IsFile slot' chain'
+  appended-file used small =
+      file_of longer slot' chain' all_short counted bytes_are (λ free. absurd (let clash : false ≡ true = sym used ∙ free in cc)) small (record {
+        before = omega (arith, file.next.before, length-append records (r ∷ []));
+        place = file.next.place ∙ ap stored_size (sym (take-append-le slot.next.record_index records (r ∷ []) file.next.before));
+        mark = mark-grown chain.keys keys slot.next.mark front file.next.mark;
+      })
+
+  pub appended-size : length (chain.bytes ++ packed_record r) ≡ length chain.bytes + (3 + length r.bytes)
+  appended-size = omega (arith, length-append chain.bytes (packed_record r), length-packed_record r)
+
+pub size_is : (slot : FileSlot) (chain : Chain) → IsFile slot chain → length chain.bytes ≡ stored_size (unpacked slot.count chain.bytes)
+size_is slot chain file = ap length file.bytes ∙ length-packed (unpacked slot.count chain.bytes)

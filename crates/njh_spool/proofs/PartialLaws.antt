@@ -1,185 +1,210 @@
--- What the calls on a partial file make of the list of all files.
-use Rattle.std.proofs.Common.{◌≡◌, ℕ, suc, ◌+◌, ◌-◌, ◌<◌, ◌≤◌, Bool, true, false, List, [], ◌∷◌, ◌++◌, length, get_or, set, take, drop, Some, None, refl, sym, ap, subst, ◌∙◌, arith}
-use Rattle.std.specs.Prelude.{position}
-use Rattle.std.specs.List.{list_any, cons_option}
-use Rattle.njh_spool.specs.declared.State.TheVariants.{Ready}
-use Rattle.std.proofs.lemmas.List.{set-get_or, append-nil}
-use Rattle.std.proofs.lemmas.List.Elements.{filter_map-append}
-use Rattle.njh_record.specs.Stored.{Stored}
-use Rattle.njh_spool.specs.declared.account.Account.{Account}
-use Rattle.njh_spool.specs.declared.file.File.{File}
-use Rattle.njh_spool.specs.declared.file.Stage.TheVariants.{Partial, Whole}
-use Rattle.njh_spool.specs.CustomerSpool.{CustomerSpool, WholeFile, PartialFile, cost, used, partial_numbered, whole_numbered, abandoned, appended, finished, as_whole, has_room_for}
-use Rattle.njh_spool.specs.Spools.{IsSound, no_spool, part, append_fault, fault_unless}
+-- What the calls on a partial file make of its customer's spool.
+use Rattle.std.proofs.Common.{◌≡◌, ◌≢◌, ℕ, ◌+◌, ◌-◌, ◌<◌, ◌≤◌, Bool, true, false, cond, not, eqb, List, [], ◌∷◌, ◌++◌, length, map, filter, count_by, Some, None, refl, sym, ap, subst, ◌∙◌, inl, inr, arith, eq-eqb, ne_eqb}
+use Rattle.std.specs.List.{list_any}
 use Rattle.std.specs.Option.{option_or, is_some}
+use Rattle.std.proofs.lemmas.Bool.{cases_eq, lt-leb, le-leb}
+use Rattle.std.proofs.lemmas.List.{map-append}
+use Rattle.std.proofs.lemmas.List.Sums.{sum_by_push}
+use Rattle.njh_record.specs.Stored.{Stored}
+use Rattle.njh_spool.specs.declared.State.TheVariants.{Ready}
 use Rattle.njh_spool.specs.declared.SpoolFault.TheVariants.{QuotaFull, NoSuchFile}
-use Rattle.std.proofs.lemmas.Bool.{lt-leb, le-leb}
-use Rattle.njh_spool.specs.TaggedFiles.{is_partial_numbered, whole_in, partial_in, whole_of, partial_of, spool_of, spools_of, IsKept}
-use Rattle.njh_spool.proofs.OnlyOne.{filter_none, find_none}
+use Rattle.njh_spool.specs.declared.file_slot.Stage.TheVariants.{Free, Partial, Whole}
+use Rattle.njh_spool.specs.declared.customer_files.CustomerFiles.{CustomerFiles}
+use Rattle.njh_spool.specs.CustomerSpool.{CustomerSpool, WholeFile, PartialFile, cost, used, partial_numbered, whole_numbered, abandoned, appended, finished, as_whole, has_room_for}
+use Rattle.njh_spool.specs.Spools.{IsSound, append_fault, fault_unless}
+use Rattle.njh_spool.specs.Slots.{Content, is_partial, is_whole, state_of, whole_file, partial_file, spool_of, IsOwn}
+use Rattle.njh_spool.proofs.OnlyOne.{list_any-from_count, filter_none, find_none}
 use Rattle.njh_spool.proofs.SpoolLaws as laws
-use Rattle.njh_spool.proofs.PlaceLaws.{position-some, position-none, partial_files}
-use Rattle.njh_spool.proofs.FileLaws.{partial_content, whole_in-own, filter_map-push, partial_found, partial_in-own, whole_in-partial, around, filter_map-gone, filter_map-here, SameOthers-removed, SameOthers-replaced, SameOthers-pushed, SameOthers-both}
-use Rattle.njh_spool.proofs.AccountLaws.{HasAccount, has_account, moves_files}
-use Rattle.njh_spool.proofs.TaggedLaws.{SameOthers, Moves, moves, part_is, length-spools_from}
+use Rattle.njh_spool.proofs.IndexLaws.{put, put_same, put_other}
+use Rattle.njh_spool.proofs.SlotLaws.{is_at, IsSplit, split_at, whole-put, partial-put, whole-any, partial-any, counted-put, once_some, once_none, whole_from, partial_from, gone, count-gone}
 
--- a customer's partial file at a place of the list
-pub record HasPartial (accounts : List Account) (files : List File) (c n i : ℕ) (f : File) (owner : Account) : Type 0 where
-  pub account : HasAccount accounts files c owner
-  pub within : i < length files
-  pub here : files ≡ take i files ++ f ∷ drop (suc i) files
-  pub own : f.customer ≡ c
-  pub number : f.number ≡ n
-  pub stage : f.stage ≡ Partial
+abbrev spool_with : CustomerFiles → List WholeFile → List PartialFile → CustomerSpool
+spool_with own whole partial = record { quota = own.quota; limit = own.limit; whole = whole; partial = partial }
 
-pub has_partial_at : (accounts : List Account) (files : List File) (c n i : ℕ) (f : File) (owner : Account) → HasAccount accounts files c owner → i < length files → f ≡ get_or files i f → (f.customer ≡ c) × (f.number ≡ n) × (f.stage ≡ Partial) → HasPartial accounts files c n i f owner
-has_partial_at accounts files c n i f owner account within is facts =
-    record { account = account; within = within; here = around files i f within is; own = facts.0; number = facts.1; stage = facts.2 }
+module _ (own : CustomerFiles) (files : ℕ → Content) (n : ℕ) (is : IsOwn own files) (stage : (files n).stage ≡ Partial) where
+  pub once : IsSplit own.partial n
+  once = split_at own.partial n (once_some (is_partial (files n).stage) (count_by (is_at n) own.partial) (is.partial_once n) (ap is_partial stage))
 
-pub has_partial : (accounts : List Account) (files : List File) (c n i : ℕ) (f : File) (owner : Account) → IsKept accounts files → c < length (spools_of accounts files) → owner ≡ get_or accounts c owner → position (is_partial_numbered c n) files ≡ Some i → f ≡ get_or files i f → HasPartial accounts files c n i f owner
-has_partial accounts files c n i f owner kept inside owns found is =
-    let place = position-some (is_partial_numbered c n) files i found in
-    let facts = partial_found c n f (subst (λ (x : File). is_partial_numbered c n x ≡ true) (sym is) (place.1 f)) in
-    has_partial_at accounts files c n i f owner (has_account accounts files c owner kept inside owns) place.0 is facts
+  not_whole : list_any (is_at n) own.whole ≡ false
+  not_whole = list_any-from_count (is_at n) own.whole (once_none (is_whole (files n).stage) (count_by (is_at n) own.whole) (is.whole_once n) (ap is_whole stage))
 
-abbrev spool_with : Account → List WholeFile → List PartialFile → CustomerSpool
-spool_with a whole partial = record { quota = a.quota; limit = a.limit; whole = whole; partial = partial }
+  abbrev file : PartialFile
+  file = partial_file files n
 
-module _ (accounts : List Account) (files : List File) (c n i : ℕ) (f : File) (owner : Account) (has : HasPartial accounts files c n i f owner) where
+  abbrev whole : List WholeFile
+  whole = map (whole_file files) own.whole
+
   abbrev before : List PartialFile
-  before = partial_of c (take i files)
+  before = map (partial_file files) once.before
 
   abbrev after : List PartialFile
-  after = partial_of c (drop (suc i) files)
+  after = map (partial_file files) once.after
 
-  whole_same : whole_of c files ≡ whole_of c (take i files ++ drop (suc i) files)
-  whole_same = ap (whole_of c) has.here ∙ filter_map-gone (whole_in c) (take i files) (drop (suc i) files) f (whole_in-partial c f has.stage)
+  spool_is : spool_of own files ≡ spool_with own whole (before ++ file ∷ after)
+  spool_is = ap (spool_with own whole) (ap (map (partial_file files)) once.here ∙ map-append (partial_file files) once.before (n ∷ once.after))
 
-  spool_is : spool_of c owner files ≡ spool_with owner (whole_of c files) (before ++ partial_content f ∷ after)
-  spool_is = ap (spool_with owner (whole_of c files)) (ap (partial_of c) has.here ∙ filter_map-here (partial_in c) (take i files) (drop (suc i) files) f (partial_content f) (partial_in-own c f has.own has.stage))
+  sound : IsSound (spool_with own whole (before ++ file ∷ after))
+  sound = rw spool_is at is.sound
 
-  sound : IsSound (spool_with owner (whole_of c files) (before ++ partial_content f ∷ after))
-  sound = rw spool_is at has.account.sound
+  pub partial_is : partial_numbered n (spool_of own files) ≡ Some file
+  partial_is = ap (partial_numbered n) spool_is ∙ laws.partial_numbered_is own.quota own.limit whole before after file sound
 
-  pub partial_is : partial_numbered n (part c (spools_of accounts files)) ≡ Some (partial_content f)
-  partial_is =
-      ap (λ (m : ℕ). partial_numbered m (part c (spools_of accounts files))) (sym has.number)
-      ∙ ap (partial_numbered f.number) (has.account.part ∙ spool_is)
-      ∙ laws.partial_numbered_is owner.quota owner.limit (whole_of c files) before after (partial_content f) sound
+  pub no_whole : whole_numbered n (spool_of own files) ≡ None
+  no_whole = find_none (laws.is_whole n) whole (whole-any files n own.whole ∙ not_whole)
 
-  -- no whole file has its number
-  pub no_whole : whole_numbered n (part c (spools_of accounts files)) ≡ None
-  no_whole =
-      ap (λ (m : ℕ). whole_numbered m (part c (spools_of accounts files))) (sym has.number)
-      ∙ ap (whole_numbered f.number) (has.account.part ∙ spool_is)
-      ∙ find_none (laws.is_whole f.number) (whole_of c files) (laws.partial_alone owner.quota owner.limit (whole_of c files) before after (partial_content f) sound).0
+  pub covered : cost (files n).records ≤ own.used
+  covered = omega (arith, laws.used-partial own.quota own.limit whole before after file, is.counted, ap used spool_is)
 
-  pub covered : cost f.records ≤ owner.used
-  covered = omega (arith, laws.used-partial owner.quota owner.limit (whole_of c files) before after (partial_content f), has.account.counts, ap used spool_is)
+  -- the file goes
+  pub abandons : (x : Content) (own' : CustomerFiles) → x.stage ≡ Free → own' ≡ record own { used = own.used - cost (files n).records; partial = filter (λ m. not (eqb m n)) own.partial } → IsOwn own' (put files n x) × (spool_of own' (put files n x) ≡ abandoned n (spool_of own files))
+  abandons x own' free owns =
+      let left = own.used - cost (files n).records in
+      let new : CustomerFiles = record own { used = left; partial = once.before ++ once.after } in
+      let owns_new : own' ≡ new = owns ∙ ap (λ (xs : List ℕ). record own { used = left; partial = xs }) (gone own.partial n once) in
+      let whole_same = whole-put files n x own.whole not_whole in
+      let partial_same : map (partial_file (put files n x)) (once.before ++ once.after) ≡ before ++ after =
+      map-append (partial_file (put files n x)) once.before once.after ∙ ap (λ (fs : List PartialFile). fs ++ map (partial_file (put files n x)) once.after) (partial-put files n x once.before once.not_before) ∙ ap (λ (fs : List PartialFile). before ++ fs) (partial-put files n x once.after once.not_after) in
+      let is_now : spool_of new (put files n x) ≡ spool_with own whole (before ++ after) =
+      ap (λ (fs : List WholeFile). spool_with own fs (map (partial_file (put files n x)) (once.before ++ once.after))) whole_same ∙ ap (spool_with own whole) partial_same in
+      let says : spool_with own whole (before ++ after) ≡ abandoned n (spool_of own files) =
+      sym (laws.abandoned_is own.quota own.limit whole before after file sound) ∙ ap (abandoned n) (sym spool_is) in
+      let blocks : left ≡ used (spool_with own whole (before ++ after)) = omega (arith, laws.used-partial own.quota own.limit whole before after file, is.counted, ap used spool_is) in
+      let kept : IsOwn new (put files n x) = record {
+        counted = blocks ∙ ap used (sym is_now);
+        sound = rw is_now (laws.sound_abandoned own.quota own.limit whole before after file sound);
+        whole_once = λ m. is.whole_once m ∙ sym (counted-put is_whole files n x (ap is_whole free ∙ sym (ap is_whole stage)) m);
+        partial_once = λ m.
+            elim (cases_eq m n) [
+              | inl same ↦
+                  let here : ◌≡◌ {A = ℕ} (cond (is_partial (put files n x m).stage) 1 0) 0 = rw (same, eq-eqb n n refl, free) refl in
+                  let one : ◌≡◌ {A = ℕ} (cond (eqb n m) 1 0) 1 = rw (eq-eqb n m (sym same)) refl in
+                  let was : count_by (is_at m) own.partial ≡ 1 = ap (λ (k : ℕ). count_by (is_at k) own.partial) same ∙ once_some (is_partial (files n).stage) (count_by (is_at n) own.partial) (is.partial_once n) (ap is_partial stage) in
+                  omega (arith, count-gone own.partial n m once)
+              | inr other ↦
+                  let there : ◌≡◌ {A = ℕ} (cond (is_partial (put files n x m).stage) 1 0) (cond (is_partial (files m).stage) 1 0) = rw (ne_eqb m n other) refl in
+                  let none : ◌≡◌ {A = ℕ} (cond (eqb n m) 1 0) 0 = rw (ne_eqb n m (λ e. other (sym e))) refl in
+                  omega (arith, count-gone own.partial n m once, is.partial_once m)
+            ];
+      } in
+      (subst (λ (o : CustomerFiles). IsOwn o (put files n x)) (sym owns_new) kept, ap (λ (o : CustomerFiles). spool_of o (put files n x)) owns_new ∙ is_now ∙ says)
 
-  -- what a call makes of the customer's part, where it is known what it makes of these files
-  on_part : (call : ℕ → CustomerSpool → CustomerSpool) (s : CustomerSpool) → call f.number (spool_with owner (whole_of c files) (before ++ partial_content f ∷ after)) ≡ s → s ≡ call n (part c (spools_of accounts files))
-  on_part call s is =
-      sym is ∙ ap (call f.number) (sym spool_is ∙ sym has.account.part) ∙ ap (λ (m : ℕ). call m (part c (spools_of accounts files))) has.number
+  -- what a call makes of the customer's spool, where it is known what it makes of these files
+  abbrev with_rest : List PartialFile → CustomerSpool
+  with_rest fs = spool_with own whole fs
 
-  others_gone : SameOthers c files (take i files ++ drop (suc i) files)
-  others_gone = subst (λ (xs : List File). SameOthers c xs (take i files ++ drop (suc i) files)) (sym has.here) (SameOthers-removed c (take i files) (drop (suc i) files) f has.own)
+  whole_kept : (x : Content) → map (whole_file (put files n x)) own.whole ≡ whole
+  whole_kept x = whole-put files n x own.whole not_whole
 
-  -- the file goes, and its blocks are given back
-  pub abandons : IsKept accounts files → Moves accounts files (set accounts c (record owner { used = owner.used - cost f.records })) (take i files ++ drop (suc i) files) c (abandoned n (part c (spools_of accounts files)))
-  abandons kept =
-      let spool = spool_with owner (whole_of c files) (before ++ after) in
-      let rest = take i files ++ drop (suc i) files in
-      let is : spool_of c owner rest ≡ spool =
-      ap (λ whole. spool_with owner whole (partial_of c rest)) (sym whole_same) ∙ ap (spool_with owner (whole_of c files)) (filter_map-append (partial_in c) (take i files) (drop (suc i) files)) in
-      let blocks : used spool + cost f.records ≡ owner.used =
-      omega (arith, laws.used-partial owner.quota owner.limit (whole_of c files) before after (partial_content f), has.account.counts, ap used spool_is) in
-      rw (← on_part abandoned spool (laws.abandoned_is owner.quota owner.limit (whole_of c files) before after (partial_content f) sound)) (
-      moves accounts files rest c (record owner { used = owner.used - cost f.records }) spool kept has.account.within others_gone is (omega arith)
-      (laws.sound_abandoned owner.quota owner.limit (whole_of c files) before after (partial_content f) sound)
-      )
+  rest_kept : (x : Content) → map (partial_file (put files n x)) (once.before ++ once.after) ≡ before ++ after
+  rest_kept x =
+      map-append (partial_file (put files n x)) once.before once.after ∙ ap (λ (fs : List PartialFile). fs ++ map (partial_file (put files n x)) once.after) (partial-put files n x once.before once.not_before) ∙ ap (λ (fs : List PartialFile). before ++ fs) (partial-put files n x once.after once.not_after)
 
-  -- the file goes, and comes last as a whole one
-  pub finishes : IsKept accounts files → Moves accounts files accounts ((take i files ++ drop (suc i) files) ++ record f { stage = Whole Ready } ∷ []) c (finished n (part c (spools_of accounts files)))
-  finishes kept =
-      let rest = take i files ++ drop (suc i) files in
-      let g = record f { stage = Whole Ready } in
-      let spool : CustomerSpool = record { quota = owner.quota; limit = owner.limit; whole = whole_of c files ++ as_whole (partial_content f) ∷ []; partial = before ++ after } in
-      let whole : whole_of c (rest ++ g ∷ []) ≡ whole_of c files ++ as_whole (partial_content f) ∷ [] =
-      filter_map-push (whole_in c) rest g ∙ ap (λ o. whole_of c rest ++ cons_option o []) (whole_in-own c g Ready has.own refl) ∙ ap (λ fs. fs ++ as_whole (partial_content f) ∷ []) (sym whole_same) in
-      let partial : partial_of c (rest ++ g ∷ []) ≡ before ++ after =
-      filter_map-push (partial_in c) rest g ∙ append-nil (partial_of c rest) ∙ filter_map-append (partial_in c) (take i files) (drop (suc i) files) in
-      let is : spool_of c owner (rest ++ g ∷ []) ≡ spool = cc in
-      rw (← on_part finished spool (laws.finished_is owner.quota owner.limit (whole_of c files) before after (partial_content f) sound)) (
-      moves_files accounts files (rest ++ g ∷ []) c owner spool kept has.account (SameOthers-both c files rest (rest ++ g ∷ []) others_gone (SameOthers-pushed c rest g has.own)) is
-      (laws.used-finished owner.quota owner.limit (whole_of c files) before after (partial_content f) ∙ sym (ap used spool_is))
-      (laws.sound_finished owner.quota owner.limit (whole_of c files) before after (partial_content f) sound)
-      )
+  -- the file is the last whole one
+  pub finishes : (x : Content) (own' : CustomerFiles) → x ≡ record (files n) { stage = Whole Ready } → own' ≡ record own { whole = own.whole ++ n ∷ []; partial = filter (λ m. not (eqb m n)) own.partial } → IsOwn own' (put files n x) × (spool_of own' (put files n x) ≡ finished n (spool_of own files))
+  finishes x own' same owns =
+      let stays : x.stage ≡ Whole Ready = ap (λ (y : Content). y.stage) same in
+      let new : CustomerFiles = record own { whole = own.whole ++ n ∷ []; partial = once.before ++ once.after } in
+      let owns_new : own' ≡ new = owns ∙ ap (λ (xs : List ℕ). record own { whole = own.whole ++ n ∷ []; partial = xs }) (gone own.partial n once) in
+      let last : whole_file (put files n x) n ≡ as_whole file =
+      ap (whole_from n) (put_same files n x ∙ same) in
+      let whole_now : map (whole_file (put files n x)) (own.whole ++ n ∷ []) ≡ whole ++ as_whole file ∷ [] =
+      map-append (whole_file (put files n x)) own.whole (n ∷ []) ∙ ap (λ (fs : List WholeFile). fs ++ whole_file (put files n x) n ∷ []) (whole_kept x) ∙ ap (λ (f : WholeFile). whole ++ f ∷ []) last in
+      let is_now : spool_of new (put files n x) ≡ spool_with own (whole ++ as_whole file ∷ []) (before ++ after) =
+      ap (λ (fs : List WholeFile). spool_with own fs (map (partial_file (put files n x)) (once.before ++ once.after))) whole_now ∙ ap (spool_with own (whole ++ as_whole file ∷ [])) (rest_kept x) in
+      let says : spool_with own (whole ++ as_whole file ∷ []) (before ++ after) ≡ finished n (spool_of own files) =
+      sym (laws.finished_is own.quota own.limit whole before after file sound) ∙ ap (finished n) (sym spool_is) in
+      let blocks : own.used ≡ used (spool_with own (whole ++ as_whole file ∷ []) (before ++ after)) = omega (arith, laws.used-finished own.quota own.limit whole before after file, is.counted, ap used spool_is) in
+      let kept : IsOwn new (put files n x) = record {
+        counted = blocks ∙ ap used (sym is_now);
+        sound = rw is_now (laws.sound_finished own.quota own.limit whole before after file sound);
+        whole_once = λ m.
+            elim (cases_eq m n) [
+              | inl same_number ↦
+                  let here : ◌≡◌ {A = ℕ} (cond (is_whole (put files n x m).stage) 1 0) 1 = rw (same_number, eq-eqb n n refl, stays) refl in
+                  let one : ◌≡◌ {A = ℕ} (cond (eqb n m) 1 0) 1 = rw (eq-eqb n m (sym same_number)) refl in
+                  let was : count_by (is_at m) own.whole ≡ 0 = ap (λ (k : ℕ). count_by (is_at k) own.whole) same_number ∙ once_none (is_whole (files n).stage) (count_by (is_at n) own.whole) (is.whole_once n) (ap is_whole stage) in
+                  omega (arith, sum_by_push (λ k. cond {A = ℕ} (is_at m k) 1 0) own.whole n)
+              | inr other ↦
+                  let there : ◌≡◌ {A = ℕ} (cond (is_whole (put files n x m).stage) 1 0) (cond (is_whole (files m).stage) 1 0) = rw (ne_eqb m n other) refl in
+                  let none : ◌≡◌ {A = ℕ} (cond (eqb n m) 1 0) 0 = rw (ne_eqb n m (λ e. other (sym e))) refl in
+                  omega (arith, sum_by_push (λ k. cond {A = ℕ} (is_at m k) 1 0) own.whole n, is.whole_once m)
+            ];
+        partial_once = λ m.
+            elim (cases_eq m n) [
+              | inl same_number ↦
+                  let here : ◌≡◌ {A = ℕ} (cond (is_partial (put files n x m).stage) 1 0) 0 = rw (same_number, eq-eqb n n refl, stays) refl in
+                  let one : ◌≡◌ {A = ℕ} (cond (eqb n m) 1 0) 1 = rw (eq-eqb n m (sym same_number)) refl in
+                  let was : count_by (is_at m) own.partial ≡ 1 = ap (λ (k : ℕ). count_by (is_at k) own.partial) same_number ∙ once_some (is_partial (files n).stage) (count_by (is_at n) own.partial) (is.partial_once n) (ap is_partial stage) in
+                  omega (arith, count-gone own.partial n m once)
+              | inr other ↦
+                  let there : ◌≡◌ {A = ℕ} (cond (is_partial (put files n x m).stage) 1 0) (cond (is_partial (files m).stage) 1 0) = rw (ne_eqb m n other) refl in
+                  let none : ◌≡◌ {A = ℕ} (cond (eqb n m) 1 0) 0 = rw (ne_eqb n m (λ e. other (sym e))) refl in
+                  omega (arith, count-gone own.partial n m once, is.partial_once m)
+            ];
+      } in
+      (subst (λ (o : CustomerFiles). IsOwn o (put files n x)) (sym owns_new) kept, ap (λ (o : CustomerFiles). spool_of o (put files n x)) owns_new ∙ is_now ∙ says)
 
   -- the file with one record more
-  abbrev longer : Stored → File
-  longer r = record f { records = f.records ++ r ∷ [] }
+  abbrev longer : Stored → PartialFile
+  longer r = record file { records = (files n).records ++ r ∷ [] }
 
-  longer_is : (r : Stored) → spool_of c owner (take i files ++ longer r ∷ drop (suc i) files) ≡ spool_with owner (whole_of c files) (before ++ partial_content (longer r) ∷ after)
-  longer_is r =
-      let whole = filter_map-gone (whole_in c) (take i files) (drop (suc i) files) (longer r) (whole_in-partial c (longer r) has.stage) ∙ sym whole_same in
-      let partial = filter_map-here (partial_in c) (take i files) (drop (suc i) files) (longer r) (partial_content (longer r)) (partial_in-own c (longer r) has.own has.stage) in
-      ap (λ fs. spool_with owner fs (partial_of c (take i files ++ longer r ∷ drop (suc i) files))) whole ∙ ap (spool_with owner (whole_of c files)) partial
-
-  appended_is : (r : Stored) → spool_with owner (whole_of c files) (before ++ partial_content (longer r) ∷ after) ≡ appended n r (part c (spools_of accounts files))
-  appended_is r =
-      on_part (λ m s. appended m r s) (spool_with owner (whole_of c files) (before ++ partial_content (longer r) ∷ after)) (laws.appended_is owner.quota owner.limit (whole_of c files) before after (partial_content f) r sound)
+  appended_is : (r : Stored) → spool_with own whole (before ++ longer r ∷ after) ≡ appended n r (spool_of own files)
+  appended_is r = sym (laws.appended_is own.quota own.limit whole before after file r sound) ∙ ap (appended n r) (sym spool_is)
 
   -- the blocks that are used with the record, counted from those without it
-  pub used-appended : (r : Stored) → used (appended n r (part c (spools_of accounts files))) ≡ owner.used - cost f.records + cost (f.records ++ r ∷ [])
+  pub used-appended : (r : Stored) → used (appended n r (spool_of own files)) ≡ own.used - cost (files n).records + cost ((files n).records ++ r ∷ [])
   used-appended r =
-      omega (arith, ap used (appended_is r), laws.used-partial owner.quota owner.limit (whole_of c files) before after (partial_content (longer r)), laws.used-partial owner.quota owner.limit (whole_of c files) before after (partial_content f), has.account.counts, ap used spool_is)
+      omega (arith, ap used (appended_is r), laws.used-partial own.quota own.limit whole before after (longer r), laws.used-partial own.quota own.limit whole before after file, is.counted, ap used spool_is)
 
-  quota_is : (part c (spools_of accounts files)).quota ≡ owner.quota
-  quota_is = ap (λ (s : CustomerSpool). s.quota) has.account.part
+  append_fault-room : (r : Stored) (room : Bool) → has_room_for n r (spool_of own files) ≡ room → append_fault n r (spool_of own files) ≡ fault_unless room QuotaFull
+  append_fault-room r room fits =
+      ap (λ found. option_or (fault_unless found NoSuchFile) (fault_unless (has_room_for n r (spool_of own files)) QuotaFull)) (ap is_some partial_is) ∙ ap (λ b. fault_unless b QuotaFull) fits
 
-  append_fault-room : (r : Stored) (room : Bool) → has_room_for n r (part c (spools_of accounts files)) ≡ room → append_fault n r (part c (spools_of accounts files)) ≡ fault_unless room QuotaFull
-  append_fault-room r room is =
-      ap (λ found. option_or (fault_unless found NoSuchFile) (fault_unless (has_room_for n r (part c (spools_of accounts files))) QuotaFull)) (ap is_some partial_is) ∙ ap (λ fits. fault_unless fits QuotaFull) is
-
-  pub append_fault-full : (r : Stored) → owner.quota < owner.used - cost f.records + cost (f.records ++ r ∷ []) → append_fault n r (part c (spools_of accounts files)) ≡ Some QuotaFull
+  pub append_fault-full : (r : Stored) → own.quota < own.used - cost (files n).records + cost ((files n).records ++ r ∷ []) → append_fault n r (spool_of own files) ≡ Some QuotaFull
   append_fault-full r over =
-      append_fault-room r false (lt-leb (used (appended n r (part c (spools_of accounts files)))) (part c (spools_of accounts files)).quota (omega (arith, used-appended r, quota_is)))
+      append_fault-room r false (lt-leb (used (appended n r (spool_of own files))) own.quota (omega (arith, used-appended r)))
 
-  pub append_fault-none : (r : Stored) → owner.used - cost f.records + cost (f.records ++ r ∷ []) ≤ owner.quota → append_fault n r (part c (spools_of accounts files)) ≡ None
+  pub append_fault-none : (r : Stored) → own.used - cost (files n).records + cost ((files n).records ++ r ∷ []) ≤ own.quota → append_fault n r (spool_of own files) ≡ None
   append_fault-none r fits =
-      append_fault-room r true (le-leb (used (appended n r (part c (spools_of accounts files)))) (part c (spools_of accounts files)).quota (omega (arith, used-appended r, quota_is)))
+      append_fault-room r true (le-leb (used (appended n r (spool_of own files))) own.quota (omega (arith, used-appended r)))
 
-  pub appends : (r : Stored) (blocks : ℕ) → IsKept accounts files → blocks ≡ owner.used - cost f.records + cost (f.records ++ r ∷ []) → blocks ≤ owner.quota → Moves accounts files (set accounts c (record owner { used = blocks })) (take i files ++ longer r ∷ drop (suc i) files) c (appended n r (part c (spools_of accounts files)))
-  appends r blocks kept counted fits =
-      let files' = take i files ++ longer r ∷ drop (suc i) files in
-      let spool = spool_with owner (whole_of c files) (before ++ partial_content (longer r) ∷ after) in
-      let same = ap used (appended_is r) in
-      rw (← appended_is r) (
-      moves accounts files files' c (record owner { used = blocks }) spool kept has.account.within
-      (subst (λ (xs : List File). SameOthers c xs files') (sym has.here) (SameOthers-replaced c (take i files) (drop (suc i) files) f (longer r) has.own has.own))
-      (longer_is r) (counted ∙ sym (used-appended r) ∙ sym same)
-      (laws.sound_replaced owner.quota owner.limit (whole_of c files) before after (partial_content f) (partial_content (longer r)) refl (omega (arith, used-appended r)) sound)
-      )
+  pub appends : (r : Stored) (x : Content) (own' : CustomerFiles) (blocks : ℕ) → x ≡ record (files n) { records = (files n).records ++ r ∷ [] } → own' ≡ record own { used = blocks } → blocks ≡ own.used - cost (files n).records + cost ((files n).records ++ r ∷ []) → blocks ≤ own.quota → IsOwn own' (put files n x) × (spool_of own' (put files n x) ≡ appended n r (spool_of own files))
+  appends r x own' blocks same owns counts fits =
+      let stays : x.stage ≡ (files n).stage = ap (λ (y : Content). y.stage) same in
+      let new : CustomerFiles = record own { used = blocks } in
+      let here : partial_file (put files n x) n ≡ longer r = ap (partial_from n) (put_same files n x ∙ same) in
+      let partial_now : map (partial_file (put files n x)) own.partial ≡ before ++ longer r ∷ after =
+      ap (map (partial_file (put files n x))) once.here ∙ map-append (partial_file (put files n x)) once.before (n ∷ once.after)
+      ∙ ap (λ (fs : List PartialFile). fs ++ partial_file (put files n x) n ∷ map (partial_file (put files n x)) once.after) (partial-put files n x once.before once.not_before)
+      ∙ ap (λ (f : PartialFile). before ++ f ∷ map (partial_file (put files n x)) once.after) here
+      ∙ ap (λ (fs : List PartialFile). before ++ longer r ∷ fs) (partial-put files n x once.after once.not_after) in
+      let is_now : spool_of new (put files n x) ≡ spool_with own whole (before ++ longer r ∷ after) =
+      ap (λ (fs : List WholeFile). spool_with own fs (map (partial_file (put files n x)) own.partial)) (whole_kept x) ∙ ap (spool_with own whole) partial_now in
+      let used_now : used (spool_with own whole (before ++ longer r ∷ after)) ≡ blocks = ap used (appended_is r) ∙ used-appended r ∙ sym counts in
+      let kept : IsOwn new (put files n x) = record {
+        counted = sym used_now ∙ ap used (sym is_now);
+        sound = rw is_now (laws.sound_replaced own.quota own.limit whole before after file (longer r) refl (omega (arith, used_now)) sound);
+        whole_once = λ m. is.whole_once m ∙ sym (counted-put is_whole files n x (ap is_whole stays) m);
+        partial_once = λ m. is.partial_once m ∙ sym (counted-put is_partial files n x (ap is_partial stays) m);
+      } in
+      (subst (λ (o : CustomerFiles). IsOwn o (put files n x)) (sym owns) kept, ap (λ (o : CustomerFiles). spool_of o (put files n x)) owns ∙ is_now ∙ appended_is r)
 
 -- where a customer has no partial file of a number
-pub record HasNoPartial (accounts : List Account) (files : List File) (c n : ℕ) : Type 0 where
-  pub none : partial_numbered n (part c (spools_of accounts files)) ≡ None
-  pub appends : (r : Stored) → append_fault n r (part c (spools_of accounts files)) ≡ Some NoSuchFile
-  pub abandons : spools_of accounts files ≡ set (spools_of accounts files) c (abandoned n (part c (spools_of accounts files)))
-  pub finishes : spools_of accounts files ≡ set (spools_of accounts files) c (finished n (part c (spools_of accounts files)))
+pub record HasNoPartial (own : CustomerFiles) (files : ℕ → Content) (n : ℕ) : Type 0 where
+  pub none : partial_numbered n (spool_of own files) ≡ None
+  pub appends : (r : Stored) → append_fault n r (spool_of own files) ≡ Some NoSuchFile
+  pub abandons : abandoned n (spool_of own files) ≡ spool_of own files
+  pub finishes : finished n (spool_of own files) ≡ spool_of own files
 
-pub has_no_partial : (accounts : List Account) (files : List File) (c n : ℕ) → c < length (spools_of accounts files) → position (is_partial_numbered c n) files ≡ None → HasNoPartial accounts files c n
-has_no_partial accounts files c n inside nowhere =
-    let s = part c (spools_of accounts files) in
-    let nobody : Account = record { quota = 0; limit = 0; used = 0 } in
-    let here = part_is c accounts files nobody (omega (arith, length-spools_from 0 accounts files)) in
+pub has_no_partial : (own : CustomerFiles) (files : ℕ → Content) (n : ℕ) → IsOwn own files → is_partial (files n).stage ≡ false → HasNoPartial own files n
+has_no_partial own files n is other =
+    let s = spool_of own files in
     let empty : list_any (laws.is_partial n) s.partial ≡ false =
-    ap (λ (t : CustomerSpool). list_any (laws.is_partial n) t.partial) here ∙ partial_files c n files ∙ position-none (is_partial_numbered c n) files nowhere in
+    partial-any files n own.partial ∙ list_any-from_count (is_at n) own.partial (once_none (is_partial (files n).stage) (count_by (is_at n) own.partial) (is.partial_once n) other) in
     let none : partial_numbered n s ≡ None = find_none (laws.is_partial n) s.partial empty in
-    let stays = sym (set-get_or (spools_of accounts files) c no_spool) in
     record {
       none = none;
       appends = λ r. ap (λ found. option_or (fault_unless found NoSuchFile) (fault_unless (has_room_for n r s) QuotaFull)) (ap is_some none);
-      abandons = stays ∙ ap (set (spools_of accounts files) c) (ap (λ (partial : List PartialFile). record s { partial = partial }) (sym (filter_none (laws.is_partial n) s.partial empty)));
-      finishes = stays ∙ ap (set (spools_of accounts files) c) (rw (none, finished) refl);
+      abandons = ap (λ (partial : List PartialFile). record s { partial = partial }) (filter_none (laws.is_partial n) s.partial empty);
+      finishes = rw (none, finished) refl;
     }

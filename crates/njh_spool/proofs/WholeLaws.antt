@@ -1,138 +1,127 @@
--- What the calls on a whole file make of the list of all files.
-use Rattle.std.proofs.Common.{◌≡◌, ℕ, suc, ◌+◌, ◌-◌, ◌<◌, ◌≤◌, true, false, List, ◌∷◌, ◌++◌, length, get_or, set, take, drop, Some, None, refl, sym, ap, subst, ◌∙◌, arith}
-use Rattle.std.specs.Prelude.{position, slice_get, IsSomeAnd}
+-- What the calls on a whole file make of its customer's spool.
+use Rattle.std.proofs.Common.{◌≡◌, ◌≢◌, ℕ, ◌+◌, ◌-◌, ◌<◌, ◌≤◌, Bool, true, false, cond, not, eqb, List, [], ◌∷◌, ◌++◌, length, map, filter, count_by, Some, None, refl, sym, ap, subst, ◌∙◌, inl, inr, arith, eq-eqb, ne_eqb}
 use Rattle.std.specs.List.{list_any}
-use Rattle.std.proofs.lemmas.List.{set-get_or}
-use Rattle.std.proofs.lemmas.List.Elements.{filter_map-append}
+use Rattle.std.proofs.lemmas.Bool.{cases_eq}
+use Rattle.std.proofs.lemmas.List.{map-append}
 use Rattle.njh_spool.specs.declared.State.{State}
-use Rattle.njh_spool.specs.declared.account.Account.{Account}
-use Rattle.njh_spool.specs.declared.file.File.{File}
-use Rattle.njh_spool.specs.declared.file.Stage.TheVariants.{Whole}
-use Rattle.njh_spool.specs.CustomerSpool.{CustomerSpool, WholeFile, PartialFile, cost, used, whole_numbered, removed, on_file, with_state, rewritten, at_index, rewritten_record}
-use Rattle.njh_spool.proofs.CostLaws.{cost-rewritten}
-use Rattle.njh_spool.specs.Spools.{IsSound, no_spool, part}
-use Rattle.njh_spool.specs.TaggedFiles.{is_whole_numbered, whole_in, partial_in, whole_of, partial_of, spool_of, spools_of, IsKept}
-use Rattle.njh_spool.proofs.OnlyOne.{filter_none, map_none, find_none}
+use Rattle.njh_spool.specs.declared.file_slot.Stage.TheVariants.{Free, Partial, Whole}
+use Rattle.njh_spool.specs.declared.customer_files.CustomerFiles.{CustomerFiles}
+use Rattle.njh_spool.specs.CustomerSpool.{CustomerSpool, WholeFile, PartialFile, cost, used, whole_numbered, removed, on_file}
+use Rattle.njh_spool.specs.Spools.{IsSound}
+use Rattle.njh_spool.specs.Slots.{Content, is_partial, is_whole, whole_file, partial_file, spool_of, IsOwn}
+use Rattle.njh_spool.proofs.OnlyOne.{list_any-from_count, filter_none, map_none, find_none}
 use Rattle.njh_spool.proofs.SpoolLaws as laws
-use Rattle.njh_spool.proofs.PlaceLaws.{position-some, position-none, whole_files}
-use Rattle.njh_spool.proofs.FileLaws.{whole_content, whole_found, whole_in-own, partial_in-whole, around, filter_map-gone, filter_map-here, SameOthers-removed, SameOthers-replaced}
-use Rattle.njh_spool.proofs.AccountLaws.{HasAccount, has_account, moves_files}
-use Rattle.njh_spool.proofs.TaggedLaws.{SameOthers, Moves, moves, part_is, length-spools_from}
+use Rattle.njh_spool.proofs.IndexLaws.{put, put_same}
+use Rattle.njh_spool.proofs.SlotLaws.{is_at, IsSplit, split_at, whole-put, partial-put, whole-any, counted-put, once_some, once_none, whole_from, gone, count-gone}
 
--- a customer's whole file at a place of the list
-pub record HasWhole (accounts : List Account) (files : List File) (c n i : ℕ) (f : File) (owner : Account) : Type 0 where
-  pub account : HasAccount accounts files c owner
-  pub within : i < length files
-  pub here : files ≡ take i files ++ f ∷ drop (suc i) files
-  pub own : f.customer ≡ c
-  pub number : f.number ≡ n
-  pub state : State
-  pub stage : f.stage ≡ Whole state
+abbrev spool_with : CustomerFiles → List PartialFile → List WholeFile → CustomerSpool
+spool_with own partial whole = record { quota = own.quota; limit = own.limit; whole = whole; partial = partial }
 
-pub has_whole_at : (accounts : List Account) (files : List File) (c n i : ℕ) (f : File) (owner : Account) → HasAccount accounts files c owner → i < length files → f ≡ get_or files i f → (f.customer ≡ c) × (f.number ≡ n) × ((state : State) × (f.stage ≡ Whole state)) → HasWhole accounts files c n i f owner
-has_whole_at accounts files c n i f owner account within is facts =
-    record { account = account; within = within; here = around files i f within is; own = facts.0; number = facts.1; state = facts.2.0; stage = facts.2.1 }
+module _ (own : CustomerFiles) (files : ℕ → Content) (n : ℕ) (is : IsOwn own files) (stage : is_whole (files n).stage ≡ true) (other : is_partial (files n).stage ≡ false) where
+  pub once : IsSplit own.whole n
+  once = split_at own.whole n (once_some (is_whole (files n).stage) (count_by (is_at n) own.whole) (is.whole_once n) stage)
 
-pub has_whole : (accounts : List Account) (files : List File) (c n i : ℕ) (f : File) (owner : Account) → IsKept accounts files → c < length (spools_of accounts files) → owner ≡ get_or accounts c owner → position (is_whole_numbered c n) files ≡ Some i → f ≡ get_or files i f → HasWhole accounts files c n i f owner
-has_whole accounts files c n i f owner kept inside owns found is =
-    let place = position-some (is_whole_numbered c n) files i found in
-    let facts = whole_found c n f (subst (λ (x : File). is_whole_numbered c n x ≡ true) (sym is) (place.1 f)) in
-    has_whole_at accounts files c n i f owner (has_account accounts files c owner kept inside owns) place.0 is facts
+  not_partial : list_any (is_at n) own.partial ≡ false
+  not_partial = list_any-from_count (is_at n) own.partial (once_none (is_partial (files n).stage) (count_by (is_at n) own.partial) (is.partial_once n) other)
 
-abbrev spool_with : Account → List PartialFile → List WholeFile → CustomerSpool
-spool_with a partial whole = record { quota = a.quota; limit = a.limit; whole = whole; partial = partial }
+  abbrev file : WholeFile
+  file = whole_file files n
 
-module _ (accounts : List Account) (files : List File) (c n i : ℕ) (f : File) (owner : Account) (has : HasWhole accounts files c n i f owner) where
+  abbrev partial : List PartialFile
+  partial = map (partial_file files) own.partial
+
   abbrev before : List WholeFile
-  before = whole_of c (take i files)
+  before = map (whole_file files) once.before
 
   abbrev after : List WholeFile
-  after = whole_of c (drop (suc i) files)
+  after = map (whole_file files) once.after
 
-  abbrev content : WholeFile
-  content = whole_content has.state f
+  spool_is : spool_of own files ≡ spool_with own partial (before ++ file ∷ after)
+  spool_is = ap (spool_with own partial) (ap (map (whole_file files)) once.here ∙ map-append (whole_file files) once.before (n ∷ once.after))
 
-  partial_same : partial_of c files ≡ partial_of c (take i files ++ drop (suc i) files)
-  partial_same = ap (partial_of c) has.here ∙ filter_map-gone (partial_in c) (take i files) (drop (suc i) files) f (partial_in-whole c f has.state has.stage)
+  sound : IsSound (spool_with own partial (before ++ file ∷ after))
+  sound = rw spool_is at is.sound
 
-  spool_is : spool_of c owner files ≡ spool_with owner (partial_of c files) (before ++ content ∷ after)
-  spool_is =
-      ap (spool_with owner (partial_of c files)) (ap (whole_of c) has.here ∙ filter_map-here (whole_in c) (take i files) (drop (suc i) files) f content (whole_in-own c f has.state has.own has.stage))
+  pub whole_is : whole_numbered n (spool_of own files) ≡ Some file
+  whole_is = ap (whole_numbered n) spool_is ∙ laws.whole_numbered_is own.quota own.limit partial before after file sound
 
-  sound : IsSound (spool_with owner (partial_of c files) (before ++ content ∷ after))
-  sound = rw spool_is at has.account.sound
+  pub covered : cost (files n).records ≤ own.used
+  covered = omega (arith, laws.used-whole own.quota own.limit partial before after file, is.counted, ap used spool_is)
 
-  pub whole_is : whole_numbered n (part c (spools_of accounts files)) ≡ Some content
-  whole_is =
-      ap (λ (m : ℕ). whole_numbered m (part c (spools_of accounts files))) (sym has.number)
-      ∙ ap (whole_numbered f.number) (has.account.part ∙ spool_is)
-      ∙ laws.whole_numbered_is owner.quota owner.limit (partial_of c files) before after content sound
+  partial_kept : (x : Content) → map (partial_file (put files n x)) own.partial ≡ partial
+  partial_kept x = partial-put files n x own.partial not_partial
 
-  pub whole_covered : cost f.records ≤ owner.used
-  whole_covered = omega (arith, laws.used-whole owner.quota owner.limit (partial_of c files) before after content, has.account.counts, ap used spool_is)
+  rest_kept : (x : Content) → map (whole_file (put files n x)) (once.before ++ once.after) ≡ before ++ after
+  rest_kept x =
+      map-append (whole_file (put files n x)) once.before once.after ∙ ap (λ (fs : List WholeFile). fs ++ map (whole_file (put files n x)) once.after) (whole-put files n x once.before once.not_before) ∙ ap (λ (fs : List WholeFile). before ++ fs) (whole-put files n x once.after once.not_after)
 
-  -- what a call makes of the customer's part, where it is known what it makes of these files
-  on_part : (call : ℕ → CustomerSpool → CustomerSpool) (s : CustomerSpool) → call f.number (spool_with owner (partial_of c files) (before ++ content ∷ after)) ≡ s → s ≡ call n (part c (spools_of accounts files))
-  on_part call s is =
-      sym is ∙ ap (call f.number) (sym spool_is ∙ sym has.account.part) ∙ ap (λ (m : ℕ). call m (part c (spools_of accounts files))) has.number
+  -- the file goes
+  pub removes : (x : Content) (own' : CustomerFiles) → x.stage ≡ Free → own' ≡ record own { used = own.used - cost (files n).records; whole = filter (λ m. not (eqb m n)) own.whole } → IsOwn own' (put files n x) × (spool_of own' (put files n x) ≡ removed n (spool_of own files))
+  removes x own' free owns =
+      let left = own.used - cost (files n).records in
+      let new : CustomerFiles = record own { used = left; whole = once.before ++ once.after } in
+      let owns_new : own' ≡ new = owns ∙ ap (λ (xs : List ℕ). record own { used = left; whole = xs }) (gone own.whole n once) in
+      let is_now : spool_of new (put files n x) ≡ spool_with own partial (before ++ after) =
+      ap (λ (fs : List PartialFile). spool_with own fs (map (whole_file (put files n x)) (once.before ++ once.after))) (partial_kept x) ∙ ap (spool_with own partial) (rest_kept x) in
+      let says : spool_with own partial (before ++ after) ≡ removed n (spool_of own files) =
+      sym (laws.removed_is own.quota own.limit partial before after file sound) ∙ ap (removed n) (sym spool_is) in
+      let blocks : left ≡ used (spool_with own partial (before ++ after)) = omega (arith, laws.used-whole own.quota own.limit partial before after file, is.counted, ap used spool_is) in
+      let kept : IsOwn new (put files n x) = record {
+        counted = blocks ∙ ap used (sym is_now);
+        sound = rw is_now (laws.sound_removed own.quota own.limit partial before after file sound);
+        partial_once = λ m. is.partial_once m ∙ sym (counted-put is_partial files n x (ap is_partial free ∙ sym other) m);
+        whole_once = λ m.
+            elim (cases_eq m n) [
+              | inl same ↦
+                  let here : ◌≡◌ {A = ℕ} (cond (is_whole (put files n x m).stage) 1 0) 0 = rw (same, eq-eqb n n refl, free) refl in
+                  let one : ◌≡◌ {A = ℕ} (cond (eqb n m) 1 0) 1 = rw (eq-eqb n m (sym same)) refl in
+                  let was : count_by (is_at m) own.whole ≡ 1 = ap (λ (k : ℕ). count_by (is_at k) own.whole) same ∙ once_some (is_whole (files n).stage) (count_by (is_at n) own.whole) (is.whole_once n) stage in
+                  omega (arith, count-gone own.whole n m once)
+              | inr apart ↦
+                  let there : ◌≡◌ {A = ℕ} (cond (is_whole (put files n x m).stage) 1 0) (cond (is_whole (files m).stage) 1 0) = rw (ne_eqb m n apart) refl in
+                  let none : ◌≡◌ {A = ℕ} (cond (eqb n m) 1 0) 0 = rw (ne_eqb n m (λ e. apart (sym e))) refl in
+                  omega (arith, count-gone own.whole n m once, is.whole_once m)
+            ];
+      } in
+      (subst (λ (o : CustomerFiles). IsOwn o (put files n x)) (sym owns_new) kept, ap (λ (o : CustomerFiles). spool_of o (put files n x)) owns_new ∙ is_now ∙ says)
 
-  -- the file goes, and its blocks are given back
-  pub removes : IsKept accounts files → Moves accounts files (set accounts c (record owner { used = owner.used - cost f.records })) (take i files ++ drop (suc i) files) c (removed n (part c (spools_of accounts files)))
-  removes kept =
-      let spool = spool_with owner (partial_of c files) (before ++ after) in
-      let rest = take i files ++ drop (suc i) files in
-      let is : spool_of c owner rest ≡ spool =
-      ap (λ partial. spool_with owner partial (whole_of c rest)) (sym partial_same) ∙ ap (spool_with owner (partial_of c files)) (filter_map-append (whole_in c) (take i files) (drop (suc i) files)) in
-      let blocks : used spool + cost f.records ≡ owner.used =
-      omega (arith, laws.used-whole owner.quota owner.limit (partial_of c files) before after content, has.account.counts, ap used spool_is) in
-      rw (← on_part removed spool (laws.removed_is owner.quota owner.limit (partial_of c files) before after content sound)) (
-      moves accounts files rest c (record owner { used = owner.used - cost f.records }) spool kept has.account.within
-      (subst (λ (xs : List File). SameOthers c xs rest) (sym has.here) (SameOthers-removed c (take i files) (drop (suc i) files) f has.own))
-      is (omega arith)
-      (laws.sound_removed owner.quota owner.limit (partial_of c files) before after content sound)
-      )
-
-  -- the file is another, of the same number and as many blocks
-  pub changes : (change : WholeFile → WholeFile) (g : File) (state : State) → IsKept accounts files → g.customer ≡ c → g.stage ≡ Whole state → whole_content state g ≡ change content → g.number ≡ f.number → cost g.records ≡ cost f.records → Moves accounts files accounts (take i files ++ g ∷ drop (suc i) files) c (on_file n change (part c (spools_of accounts files)))
-  changes change g state kept own stage same number blocks =
-      let files' = take i files ++ g ∷ drop (suc i) files in
-      let spool = spool_with owner (partial_of c files) (before ++ whole_content state g ∷ after) in
-      let partial = filter_map-gone (partial_in c) (take i files) (drop (suc i) files) g (partial_in-whole c g state stage) ∙ sym partial_same in
-      let whole = filter_map-here (whole_in c) (take i files) (drop (suc i) files) g (whole_content state g) (whole_in-own c g state own stage) in
-      let is : spool_of c owner files' ≡ spool =
-      ap (λ fs. spool_with owner fs (whole_of c files')) partial ∙ ap (spool_with owner (partial_of c files)) whole in
-      let changed = laws.on_file_is owner.quota owner.limit (partial_of c files) before after content change sound ∙ ap (λ x. spool_with owner (partial_of c files) (before ++ x ∷ after)) (sym same) in
-      rw (← on_part (λ m s. on_file m change s) spool changed) (
-      moves_files accounts files files' c owner spool kept has.account
-      (subst (λ (xs : List File). SameOthers c xs files') (sym has.here) (SameOthers-replaced c (take i files) (drop (suc i) files) f g has.own own))
-      is
-      (laws.used-changed owner.quota owner.limit (partial_of c files) before after content (whole_content state g) blocks ∙ sym (ap used spool_is))
-      (laws.sound_changed owner.quota owner.limit (partial_of c files) before after content (whole_content state g) number blocks sound)
-      )
-
-  pub restates : (state : State) → IsKept accounts files → Moves accounts files accounts (take i files ++ record f { stage = Whole state } ∷ drop (suc i) files) c (with_state n state (part c (spools_of accounts files)))
-  restates state kept = changes (λ x. record x { state = state }) (record f { stage = Whole state }) state kept has.own refl refl refl refl
-
-  pub rewrites : (k place : ℕ) (new : List ℕ) → IsKept accounts files → IsSomeAnd (slice_get f.records k) (λ r. place + length new ≤ length r.bytes) → Moves accounts files accounts (take i files ++ record f { records = at_index k (rewritten_record place new) f.records } ∷ drop (suc i) files) c (rewritten n k place new (part c (spools_of accounts files)))
-  rewrites k place new kept within =
-      changes (λ x. record x { records = at_index k (rewritten_record place new) x.records }) (record f { records = at_index k (rewritten_record place new) f.records }) has.state kept has.own has.stage refl refl (cost-rewritten k place new f.records within)
+  -- the file is another, of as many blocks
+  pub changes : (change : WholeFile → WholeFile) (x : Content) → is_whole x.stage ≡ true → is_partial x.stage ≡ false → whole_from n x ≡ change file → cost x.records ≡ cost (files n).records → IsOwn own (put files n x) × (spool_of own (put files n x) ≡ on_file n change (spool_of own files))
+  changes change x stays not_yet same blocks =
+      let g = whole_from n x in
+      let here : whole_file (put files n x) n ≡ g = ap (whole_from n) (put_same files n x) in
+      let whole_now : map (whole_file (put files n x)) own.whole ≡ before ++ g ∷ after =
+      ap (map (whole_file (put files n x))) once.here ∙ map-append (whole_file (put files n x)) once.before (n ∷ once.after)
+      ∙ ap (λ (fs : List WholeFile). fs ++ whole_file (put files n x) n ∷ map (whole_file (put files n x)) once.after) (whole-put files n x once.before once.not_before)
+      ∙ ap (λ (f : WholeFile). before ++ f ∷ map (whole_file (put files n x)) once.after) here
+      ∙ ap (λ (fs : List WholeFile). before ++ g ∷ fs) (whole-put files n x once.after once.not_after) in
+      let is_now : spool_of own (put files n x) ≡ spool_with own partial (before ++ g ∷ after) =
+      ap (λ (fs : List PartialFile). spool_with own fs (map (whole_file (put files n x)) own.whole)) (partial_kept x) ∙ ap (spool_with own partial) whole_now in
+      let says : spool_with own partial (before ++ g ∷ after) ≡ on_file n change (spool_of own files) =
+      ap (λ (f : WholeFile). spool_with own partial (before ++ f ∷ after)) same ∙ sym (laws.on_file_is own.quota own.limit partial before after file change sound) ∙ ap (on_file n change) (sym spool_is) in
+      let used_now : used (spool_with own partial (before ++ g ∷ after)) ≡ own.used =
+      laws.used-changed own.quota own.limit partial before after file g blocks ∙ ap used (sym spool_is) ∙ sym is.counted in
+      let kept : IsOwn own (put files n x) = record {
+        counted = sym used_now ∙ ap used (sym is_now);
+        sound = rw is_now (laws.sound_changed own.quota own.limit partial before after file g refl blocks sound);
+        whole_once = λ m. is.whole_once m ∙ sym (counted-put is_whole files n x (stays ∙ sym stage) m);
+        partial_once = λ m. is.partial_once m ∙ sym (counted-put is_partial files n x (not_yet ∙ sym other) m);
+      } in
+      (kept, is_now ∙ says)
 
 -- where a customer has no whole file of a number
-pub record HasNoWhole (accounts : List Account) (files : List File) (c n : ℕ) : Type 0 where
-  pub none : whole_numbered n (part c (spools_of accounts files)) ≡ None
-  pub removes : spools_of accounts files ≡ set (spools_of accounts files) c (removed n (part c (spools_of accounts files)))
-  pub changes : (change : WholeFile → WholeFile) → spools_of accounts files ≡ set (spools_of accounts files) c (on_file n change (part c (spools_of accounts files)))
+pub record HasNoWhole (own : CustomerFiles) (files : ℕ → Content) (n : ℕ) : Type 0 where
+  pub none : whole_numbered n (spool_of own files) ≡ None
+  pub removes : removed n (spool_of own files) ≡ spool_of own files
+  pub changes : (change : WholeFile → WholeFile) → on_file n change (spool_of own files) ≡ spool_of own files
 
-pub has_no_whole : (accounts : List Account) (files : List File) (c n : ℕ) → c < length (spools_of accounts files) → position (is_whole_numbered c n) files ≡ None → HasNoWhole accounts files c n
-has_no_whole accounts files c n inside nowhere =
-    let s = part c (spools_of accounts files) in
-    let nobody : Account = record { quota = 0; limit = 0; used = 0 } in
-    let here = part_is c accounts files nobody (omega (arith, length-spools_from 0 accounts files)) in
+pub has_no_whole : (own : CustomerFiles) (files : ℕ → Content) (n : ℕ) → IsOwn own files → is_whole (files n).stage ≡ false → HasNoWhole own files n
+has_no_whole own files n is missing =
+    let s = spool_of own files in
     let empty : list_any (laws.is_whole n) s.whole ≡ false =
-    ap (λ (t : CustomerSpool). list_any (laws.is_whole n) t.whole) here ∙ whole_files c n files ∙ position-none (is_whole_numbered c n) files nowhere in
-    let stays = sym (set-get_or (spools_of accounts files) c no_spool) in
+    whole-any files n own.whole ∙ list_any-from_count (is_at n) own.whole (once_none (is_whole (files n).stage) (count_by (is_at n) own.whole) (is.whole_once n) missing) in
     record {
       none = find_none (laws.is_whole n) s.whole empty;
-      removes = stays ∙ ap (set (spools_of accounts files) c) (ap (λ (whole : List WholeFile). record s { whole = whole }) (sym (filter_none (laws.is_whole n) s.whole empty)));
-      changes = λ change. stays ∙ ap (set (spools_of accounts files) c) (ap (λ (whole : List WholeFile). record s { whole = whole }) (sym (map_none (laws.is_whole n) change s.whole empty)));
+      removes = ap (λ (whole : List WholeFile). record s { whole = whole }) (filter_none (laws.is_whole n) s.whole empty);
+      changes = λ change. ap (λ (whole : List WholeFile). record s { whole = whole }) (map_none (laws.is_whole n) change s.whole empty);
     }

@@ -1,82 +1,56 @@
-//! One customer's files in the list of all files.
+//! The slots of the files, by customer and number.
 
-ghost use Rattle.std.specs.Prelude.{◌≡◌, ℕ, ◌<◌, ◌==◌, ◌&&◌, not, true, false, length, count_by, position, slice_get, IsSomeAnd, All};
-ghost use Rattle.std.specs.List.{list_any};
-ghost use Rattle.njh_spool.specs.TaggedFiles.{is_partial, is_numbered, is_partial_numbered, is_whole_numbered, whole_of};
+ghost use Rattle.std.specs.Prelude.{◌≡◌, ℕ, ◌+◌, ◌*◌, ◌<◌, ◌≤◌, true, false, length, replicate, IfOk};
+ghost use Rattle.njh_spool.specs.Slots.{slot_of, place_of, free_slot, is_free};
 
-use crate::file::File;
 use crate::file_id::FileId;
+use crate::file_slot::{FileSlot, Stage};
 use crate::quota::MOST_FILES;
+use njh_record::Kind;
+use std::alloc::{AllocError, Global};
 
-pub fn place(files: &[File], customer: u16, id: FileId) -> Option<usize>
-    ensures { result ≡ position (is_numbered customer id) files.now }
+/// Where a customer's slot is among all.
+pub fn place(customer: u16, id: FileId) -> u32
+    ensures { result ≡ place_of customer id }
 {
-    files.iter().position(|file| file.is_numbered(customer, id))
+    MOST_FILES * u32::from(customer) + u32::from(id.number())
 }
 
-pub fn partial_place(files: &[File], customer: u16, id: FileId) -> Option<usize>
-    ensures { result ≡ position (is_partial_numbered customer id) files.now }
+/// The slot of a customer's file, a free one where the number can be no file's.
+pub fn slot_at(slots: &[FileSlot], customer: u16, id: FileId) -> FileSlot
+    requires { MOST_FILES * customer + MOST_FILES ≤ length slots.now }
+    ensures { result ≡ slot_of slots.now customer id }
 {
-    files
-        .iter()
-        .position(|file| file.is_numbered(customer, id) && file.is_partial())
+    if u32::from(id.number()) >= MOST_FILES {
+        return FileSlot::empty(Stage::Free, Kind::In);
+    }
+    slots[place(customer, id) as usize]
 }
 
-pub fn whole_place(files: &[File], customer: u16, id: FileId) -> Option<usize>
-    ensures { result ≡ position (is_whole_numbered customer id) files.now }
+/// The least number whose slot has no file.
+pub fn free_number(slots: &[FileSlot], customer: u16, limit: u32) -> u16
+    requires all { MOST_FILES * customer + MOST_FILES ≤ length slots.now }
+    requires few { limit ≤ MOST_FILES }
+    requires some { (n : ℕ) × (n < limit) × (is_free (slot_of slots.now customer n).stage ≡ true) }
+    ensures free { is_free (slot_of slots.now customer result).stage ≡ true }
+    ensures least { (n : ℕ) → n < result → is_free (slot_of slots.now customer n).stage ≡ false }
+    ensures below { result < limit }
 {
-    files.iter().position(|file| file.is_numbered(customer, id) && !file.is_partial())
-}
-
-/// How many files a customer has, whole and partial.
-pub fn count(files: &[File], customer: u16) -> usize
-    ensures { result ≡ count_by (λ f. f.customer == customer) files.now }
-{
-    files
-        .iter()
-        .filter(|file| file.customer == customer)
-        .count()
-}
-
-/// How many of them are whole.
-pub fn whole_count(files: &[File], customer: u16) -> usize
-    ensures { result ≡ count_by (λ f. (f.customer == customer) && not (is_partial f.stage)) files.now }
-{
-    files
-        .iter()
-        .filter(|file| file.customer == customer && !file.is_partial())
-        .count()
-}
-
-/// The number of a customer's whole file, by its index among these.
-pub fn whole_at(files: &[File], customer: u16, index: usize) -> FileId
-    requires { index < length (whole_of customer files.now) }
-    ensures { IsSomeAnd (slice_get (whole_of customer files.now) index) (λ f. result ≡ f.number) }
-{
-    let mut before = index;
-    for file in files {
-        if file.customer == customer && !file.is_partial() {
-            if before == 0 {
-                return file.number;
-            }
-            before -= 1;
+    for number in 0..limit as u16 {
+        if slot_at(slots, customer, FileId::of(number)).is_free() {
+            return number;
         }
     }
     unreachable!()
 }
 
-/// The least number that no file of the customer has.
-pub fn free_number(files: &[File], customer: u16) -> FileId
-    requires small { All (λ f. f.customer ≡ customer → f.number < MOST_FILES) files.now }
-    requires room { (n : ℕ) × (n < MOST_FILES) × (list_any (is_numbered customer n) files.now ≡ false) }
-    ensures free { list_any (is_numbered customer result) files.now ≡ false }
-    ensures least { (n : ℕ) → n < result → list_any (is_numbered customer n) files.now ≡ true }
+/// So many slots in which no file is.
+pub fn free_slots(alloc: Global, count: u32) -> Result<Vec<FileSlot>, AllocError>
+    ensures { IfOk result (λ slots. slots.items ≡ replicate count free_slot) }
 {
-    let mut taken = [false; MOST_FILES as usize];
-    for file in files {
-        if file.customer == customer {
-            taken[usize::from(file.number.number())] = true;
-        }
+    let mut slots = Vec::with_capacity(alloc, count as usize)?;
+    for _done in 0..count {
+        slots.push_reserved(FileSlot::empty(Stage::Free, Kind::In));
     }
-    FileId::of(taken.iter().position(|taken| !taken).unwrap() as u16)
+    Ok(slots)
 }

@@ -4,42 +4,57 @@ mod partial;
 mod reads;
 mod whole;
 
-ghost use Rattle.std.specs.Prelude.{◌≡◌, ℕ, ◌+◌, ◌<◌, ◌≤◌, length, map, IfOk, IsOkUnless, IsSomeAnd, All, slice_get};
+ghost use Rattle.std.specs.Prelude.{◌≡◌, ℕ, ◌+◌, ◌*◌, ◌<◌, ◌≤◌, length, map, IfOk, IsOkUnless, IsSomeAnd, All, slice_get, sum_by};
 ghost use Rattle.njh_spool.specs.CustomerSpool.{empty_spool, used};
 ghost use Rattle.njh_spool.specs.Quotas.{IsWithinLimits};
 ghost use Rattle.njh_spool.specs.Spools.{part, files_numbered, IsSound};
 
 use crate::SpoolFault;
-use crate::account::Account;
-use crate::file::File;
+use crate::customer_files::{CustomerFiles, open_all};
 use crate::file_id::FileId;
-use crate::places::{whole_at, whole_count};
-use crate::quota::{MOST_CUSTOMERS, Quota};
+use crate::file_slot::FileSlot;
+use crate::places::free_slots;
+use crate::quota::{MOST_CUSTOMERS, MOST_FILES, Quota};
+use crate::store::{MOST_CAPACITY, Store};
 use std::alloc::Global;
 use std::marker::Model;
 
 /// Each customer's files, under its quota. Customers are told by their number, from 0 on.
 #[derive(Drop)]
 pub struct Spool {
-    alloc: Global,
-    accounts: Vec<Account>,
-    files: Vec<File>,
+    store: Store,
+    slots: Vec<FileSlot>,
+    customers: Vec<CustomerFiles>,
 }
 
 impl Model for Spool {
     ghost use Rattle.std.specs.Prelude.{List};
     ghost use Rattle.njh_spool.specs.CustomerSpool.{CustomerSpool};
-    ghost use Rattle.njh_spool.specs.TaggedFiles.{spools_of, IsKept};
+    ghost use Rattle.njh_spool.specs.Slots.{contents, spools_of, IsKept};
 
     ghost Value = { List CustomerSpool };
 
-    ghost view = { λ s. spools_of s.accounts.items s.files.items };
+    ghost view = { λ s. spools_of s.customers.items (contents s.slots.items s.store.chains) };
 
-    ghost invariant = { λ s. IsKept s.accounts.items s.files.items };
+    ghost invariant = { λ s. IsKept s.store s.slots.items s.customers.items };
+}
+
+/// The blocks that quotas add to.
+fn blocks_of_all(quotas: &[Quota]) -> u32
+    requires few { length quotas.now ≤ MOST_CUSTOMERS }
+    requires limits { All IsWithinLimits quotas.now }
+    ensures sum { result ≡ sum_by (λ q. q.blocks) quotas.now }
+    ensures most { result ≤ MOST_CAPACITY }
+{
+    let mut blocks = 0;
+    for quota in quotas {
+        blocks += quota.blocks;
+    }
+    blocks
 }
 
 impl Spool {
-    /// A spool without files, with these quotas in the customers' order.
+    /// A spool without files, with these quotas in the customers' order. It takes all the memory that it ever has.
     pub fn open(alloc: Global, quotas: &[Quota]) -> Result<Self, SpoolFault>
         requires some { 0 < length quotas.now }
         requires few { length quotas.now ≤ MOST_CUSTOMERS }
@@ -47,14 +62,14 @@ impl Spool {
         ensures ok { IfOk result (λ spool. spool ≡ map (λ q. empty_spool q.blocks q.files) quotas.now) }
         ensures memory { IsOkUnless result SpoolFault.Memory }
     {
-        let mut accounts = Vec::with_capacity(alloc, quotas.len())?;
-        for quota in quotas {
-            accounts.push_reserved(Account::open(quota));
-        }
+        let slot_count = MOST_FILES * quotas.len() as u32;
+        let store = Store::open(alloc, blocks_of_all(quotas), slot_count)?;
+        let slots = free_slots(alloc, slot_count)?;
+        let customers = open_all(alloc, quotas)?;
         Ok(Spool {
-            alloc,
-            accounts,
-            files: Vec::new(alloc),
+            store,
+            slots,
+            customers,
         })
     }
 
@@ -62,7 +77,7 @@ impl Spool {
     pub fn customers(&self) -> u16
         ensures { result ≡ length self.now }
     {
-        self.accounts.len() as u16
+        self.customers.len() as u16
     }
 
     /// How many blocks a customer's files take, partial ones too.
@@ -70,7 +85,7 @@ impl Spool {
         requires { customer < length self.now }
         ensures { result ≡ used (part customer self.now) }
     {
-        self.accounts[usize::from(customer)].used
+        self.customers[usize::from(customer)].used
     }
 
     /// How many whole files a customer has.
@@ -78,7 +93,7 @@ impl Spool {
         requires { customer < length self.now }
         ensures { result ≡ length (part customer self.now).whole }
     {
-        whole_count(&self.files, customer) as u32
+        self.customers[usize::from(customer)].whole.len() as u32
     }
 
     /// A customer's whole file, by its index in order of arrival.
@@ -87,7 +102,11 @@ impl Spool {
         requires index_range { index < length (part customer self.now).whole }
         ensures { IsSomeAnd (slice_get (part customer self.now).whole index) (λ f. result ≡ f.number) }
     {
-        whole_at(&self.files, customer, index as usize)
+        FileId::of(
+            self.customers[usize::from(customer)]
+                .whole
+                .at(index as usize),
+        )
     }
 
     /// What holds of a customer's files after every call: their blocks are within its quota, they are no more than its
@@ -100,6 +119,6 @@ impl Spool {
         ensures numbers { (n : ℕ) → files_numbered n (part customer self.now) ≤ 1 }
         ensures sound { IsSound (part customer self.now) }
     {
-        let _files = &self.files;
+        let _store = &self.store;
     }
 }

@@ -1,13 +1,15 @@
 -- What a part of the walk gives: a value of which something holds, or a fault that is the walk's own.
-use Rattle.std.proofs.Common.{◌≡◌, ℕ, ℤ, pos, negsuc, Bool, true, false, cond, nat_le, List, Option, Some, None, IfSome, option_and_then, ok_or, Ok, Err, MatchResult, refl, subst}
+use Rattle.std.proofs.Common.{◌≡◌, ℕ, ℤ, pos, negsuc, Bool, true, false, cond, nat_le, List, Option, Some, None, IfSome, option_and_then}
+use Rattle.std.proofs.Common.{ok_or, Ok, Err, MatchResult, refl, subst}
 use Rattle.std.specs.Prelude.{⊤}
 use Rattle.std.proofs.lemmas.Bool.{and_parts, leb-true}
-use Rattle.toml.specs.Data.{Data, Members, get_member, as_integer, as_str}
+use Rattle.toml.specs.Data.{Data, Members, get_member, as_integer, as_str, as_table}
 use Rattle.njh_ebcdic.specs.Names.{within}
 use Rattle.njh_table.specs.declared.fault.TableFault.{TableFault}
 use Rattle.njh_table.specs.declared.fault.TableFault.TheVariants.{BadToml, MissingKey, BadValue, Memory}
 use Rattle.njh_table.specs.Accepted.{IsBetween}
-use Rattle.njh_table.specs.Keys.{Walked, ◌>>=◌, ◌>>◌, fault_where, whole_between, number, is_line_name, line_name_of, line_name, at_key, found_or, at_key_or}
+use Rattle.njh_table.specs.Keys.{Walked, ◌>>=◌, ◌>>◌, fault_where, keys_in, at_key, value_or, at_key_or}
+use Rattle.njh_table.specs.Keys.{number_between, number, is_line_name, line_name_of, line_name}
 
 -- the text's own fault and want of memory are none of the walk's
 abbrev pub IsOfWalk : TableFault → Type 0
@@ -22,12 +24,18 @@ pub given : {A : Type 0} (P : A → Type 0) (walked : Walked A) (x : A) → walk
 given P walked x is gives = subst (Gives P) is gives
 
 -- one part after another
-pub and_then : {A B : Type 0} (P : A → Type 0) (Q : B → Type 0) (walked : Walked A) (next : A → Walked B) → Gives P walked → ((x : A) → P x → Gives Q (next x)) → Gives Q (walked >>= next)
+pub and_then : {A B : Type 0} (P : A → Type 0) (Q : B → Type 0) (walked : Walked A) (next : A → Walked B)
+    → Gives P walked → ((x : A) → P x → Gives Q (next x)) → Gives Q (walked >>= next)
 and_then P Q (Ok x) next gives more = more x gives
 and_then P Q (Err fault) next gives more = gives
 
+pub weaker : {A : Type 0} (P Q : A → Type 0) (walked : Walked A) → Gives P walked → ((x : A) → P x → Q x) → Gives Q walked
+weaker P Q (Ok x) gives holds = holds x gives
+weaker P Q (Err fault) gives holds = gives
+
 -- a test that was passed
-pub past : {B : Type 0} (Q : B → Type 0) (test : Bool) (fault : TableFault) (next : Walked B) → IsOfWalk fault → (test ≡ false → Gives Q next) → Gives Q (fault_where test fault >> next)
+pub past : {B : Type 0} (Q : B → Type 0) (test : Bool) (fault : TableFault) (next : Walked B)
+    → IsOfWalk fault → (test ≡ false → Gives Q next) → Gives Q (fault_where test fault >> next)
 past Q true fault next of_walk more = of_walk
 past Q false fault next of_walk more = more refl
 
@@ -35,26 +43,51 @@ pub some_or : {A : Type 0} (P : A → Type 0) (o : Option A) (fault : TableFault
 some_or P None fault of_walk holds = of_walk
 some_or P (Some x) fault of_walk holds = holds
 
-pub any : {A : Type 0} (o : Option A) → IfSome o (λ _. ⊤)
+any : {A : Type 0} (o : Option A) → IfSome o (λ _. ⊤)
 any None = tt
 any (Some x) = tt
 
-pub at_key-gives : {A : Type 0} (P : A → Type 0) (read : Data → Option A) (key : List ℕ) (keys : Members) → ((value : Data) → IfSome (read value) P) → Gives P (at_key read key keys)
-at_key-gives P read key keys holds =
-    and_then (λ _. ⊤) P (ok_or (get_member key keys) MissingKey) (λ value. ok_or (read value) BadValue) (some_or (λ _. ⊤) (get_member key keys) MissingKey tt (any (get_member key keys)))
-    (λ value _. some_or P (read value) BadValue tt (holds value))
+-- ---- the values of keys
 
-found_or-gives : {A : Type 0} (P : A → Type 0) (read : Data → Option A) (other : A) (found : Option Data) → P other → ((value : Data) → IfSome (read value) P) → Gives P (found_or read other found)
-found_or-gives P read other None at_other holds = at_other
-found_or-gives P read other (Some value) at_other holds = some_or P (read value) BadValue tt (holds value)
+-- the keys of an element, and what follows
+pub with_keys : {B : Type 0} (Q : B → Type 0) (value : Data) (next : Members → Walked B)
+    → ((keys : Members) → Gives Q (next keys)) → Gives Q (keys_in value >>= next)
+with_keys Q value next more =
+    and_then (λ _. ⊤) Q (keys_in value) next (some_or (λ _. ⊤) (as_table value) BadValue tt (any (as_table value))) (λ keys _. more keys)
 
-pub at_key_or-gives : {A : Type 0} (P : A → Type 0) (read : Data → Option A) (other : A) (key : List ℕ) (keys : Members) → P other → ((value : Data) → IfSome (read value) P) → Gives P (at_key_or read other key keys)
-at_key_or-gives P read other key keys at_other holds = found_or-gives P read other (get_member key keys) at_other holds
+-- the value of a key that must be there, of which something holds, and what follows
+pub with_value : {A B : Type 0} (P : A → Type 0) (Q : B → Type 0) (read : Data → Option A) (key : List ℕ) (keys : Members)
+    (next : A → Walked B)
+    → ((value : Data) → IfSome (read value) P) → ((x : A) → P x → Gives Q (next x)) → Gives Q (at_key read key keys >>= next)
+with_value P Q read key keys next holds more =
+    and_then P Q (at_key read key keys) next
+    (and_then (λ _. ⊤) P (ok_or (get_member key keys) MissingKey) (λ value. ok_or (read value) BadValue)
+    (some_or (λ _. ⊤) (get_member key keys) MissingKey tt (any (get_member key keys)))
+    (λ value _. some_or P (read value) BadValue tt (holds value))) more
+
+-- the same, where all that matters is that there is one
+pub with_any : {A B : Type 0} (Q : B → Type 0) (read : Data → Option A) (key : List ℕ) (keys : Members) (next : A → Walked B)
+    → ((x : A) → Gives Q (next x)) → Gives Q (at_key read key keys >>= next)
+with_any Q read key keys next more = with_value (λ _. ⊤) Q read key keys next (λ value. any (read value)) (λ x _. more x)
+
+value_or-gives : {A : Type 0} (P : A → Type 0) (read : Data → Option A) (other : A) (found : Option Data)
+    → P other → ((value : Data) → IfSome (read value) P) → Gives P (value_or read other found)
+value_or-gives P read other None at_other holds = at_other
+value_or-gives P read other (Some value) at_other holds = some_or P (read value) BadValue tt (holds value)
+
+-- the value of a key that may be missing
+pub with_value_or : {A B : Type 0} (P : A → Type 0) (Q : B → Type 0) (read : Data → Option A) (other : A) (key : List ℕ) (keys : Members)
+    (next : A → Walked B) → P other → ((value : Data) → IfSome (read value) P) → ((x : A) → P x → Gives Q (next x))
+    → Gives Q (at_key_or read other key keys >>= next)
+with_value_or P Q read other key keys next at_other holds more =
+    and_then P Q (at_key_or read other key keys) next (value_or-gives P read other (get_member key keys) at_other holds) more
+
+pub with_any_or : {A B : Type 0} (Q : B → Type 0) (read : Data → Option A) (other : A) (key : List ℕ) (keys : Members)
+    (next : A → Walked B) → ((x : A) → Gives Q (next x)) → Gives Q (at_key_or read other key keys >>= next)
+with_any_or Q read other key keys next more =
+    with_value_or (λ _. ⊤) Q read other key keys next tt (λ value. any (read value)) (λ x _. more x)
 
 -- ---- what the readers of values give
-
-pub whatever : {A : Type 0} (read : Data → Option A) (value : Data) → IfSome (read value) (λ _. ⊤)
-whatever read value = any (read value)
 
 within-between : (low high n : ℕ) → within low high n ≡ true → IsBetween low high n
 within-between low high n h =
@@ -65,10 +98,10 @@ chosen : {A : Type 0} (P : A → Type 0) (test : Bool) (x : A) → (test ≡ tru
 chosen P true x holds = holds refl
 chosen P false x holds = tt
 
-pub number-between : (low high : ℕ) (value : Data) → IfSome (number low high value) (IsBetween low high)
-number-between low high value = by (as_integer value)
+pub number-is : (low high : ℕ) (value : Data) → IfSome (number low high value) (IsBetween low high)
+number-is low high value = by (as_integer value)
   where
-    by : (z : Option ℤ) → IfSome (option_and_then (whole_between low high) z) (IsBetween low high)
+    by : (z : Option ℤ) → IfSome (option_and_then (number_between low high) z) (IsBetween low high)
     by None = tt
     by (Some (pos n)) = chosen (IsBetween low high) (within low high n) n (within-between low high n)
     by (Some (negsuc n)) = tt

@@ -1,5 +1,7 @@
--- The loops of the walk: one element more, and the exit at the first fault.
-use Rattle.std.proofs.Common.{◌≡◌, ◌≢◌, ℕ, ◌+◌, ◌<◌, List, [], ◌∷◌, length, get_or, drop, Result, Ok, Err, IsErrAnd, refl, ap, sym, ◌∙◌, ◌==◌, arith}
+-- The steps of the walk: one element more, one step more, and the exit at the first fault.
+use Rattle.std.proofs.Common.{◌≡◌, ◌≢◌, ℕ, ◌+◌, ◌<◌, Bool, true, false, List, [], ◌∷◌, length, get_or, drop, Result, Ok, Err, IsErrAnd}
+use Rattle.std.proofs.Common.{refl, ap, sym, ◌∙◌, ◌==◌, arith}
+use Rattle.std.specs.Result.{result_map_both}
 use Rattle.std.proofs.lemmas.Bool.{ne_eqb}
 use Rattle.toml.specs.Data.{item}
 use Rattle.toml.specs.View.{view, items_view}
@@ -7,12 +9,14 @@ use Rattle.toml.specs.declared.value.Value.{Value}
 use Rattle.toml.proofs.Views.{items_view-drop}
 use Rattle.njh_table.specs.declared.fault.TableFault.{TableFault}
 use Rattle.njh_table.specs.declared.fault.TableFault.TheVariants.{Memory}
-use Rattle.njh_table.specs.Keys.{Walked, ◌>>=◌}
+use Rattle.njh_table.specs.Keys.{Walked, ◌>>=◌, ◌>>◌, fault_where}
 use Rattle.njh_table.specs.Walk.{Walks, is_empty}
 
 -- the element at hand, and those after it
-pub turn : (values : List Value) (i : ℕ) (value : Value) → i < length values → value ≡ get_or values i value → items_view (drop i values) ≡ item (view value) (items_view (drop (i + 1) values))
-turn values i value within here = items_view-drop values i value within ∙ ap (λ v. item (view v) (items_view (drop (i + 1) values))) (sym here)
+pub turn : (values : List Value) (i : ℕ) (value : Value) → i < length values → value ≡ get_or values i value
+    → items_view (drop i values) ≡ item (view value) (items_view (drop (i + 1) values))
+turn values i value within here =
+    items_view-drop values i value within ∙ ap (λ v. item (view v) (items_view (drop (i + 1) values))) (sym here)
 
 module _ {A B : Type 0} (next : A → Walked B) where
   -- the walk goes on after what a step gave
@@ -23,10 +27,30 @@ module _ {A B : Type 0} (next : A → Walked B) where
   pub ends : (step : Walked A) (fault : TableFault) → step ≡ Err fault → (step >>= next) ≡ Err fault
   ends step fault gave = ap (λ s. s >>= next) gave
 
--- an exit by `?`
-pub stops : {A B : Type 0} (seen : A → B) (result : Result A TableFault) (walked : Walked B) (fault : TableFault) → IsErrAnd result (λ e. e ≡ fault) → (fault ≢ Memory → walked ≡ Err fault) → Walks seen result walked
+-- a test that was passed, or not
+pub passes : {B : Type 0} (test : Bool) (fault : TableFault) (next : Walked B) → test ≡ false → (fault_where test fault >> next) ≡ next
+passes test fault next passed = ap (λ t. fault_where t fault >> next) passed
+
+pub fails : {B : Type 0} (test : Bool) (fault : TableFault) (next : Walked B) → test ≡ true → (fault_where test fault >> next) ≡ Err fault
+fails test fault next failed = ap (λ t. fault_where t fault >> next) failed
+
+-- ---- an exit by `?`
+
+pub stops : {A B : Type 0} (seen : A → B) (result : Result A TableFault) (walked : Walked B) (fault : TableFault)
+    → IsErrAnd result (λ e. e ≡ fault) → (fault ≢ Memory → walked ≡ Err fault) → Walks seen result walked
 stops seen (Ok x) walked fault is_err told = elim is_err [ ]
 stops seen (Err e) walked fault same told = λ no_memory. told (λ memory. no_memory (same ∙ memory)) ∙ ap Err (sym same)
+
+-- the same, where no memory is asked for
+pub leaves : {A : Type 0} (result walked : Walked A) (fault : TableFault) → IsErrAnd result (λ e. e ≡ fault) → walked
+    ≡ Err fault → result ≡ walked
+leaves (Ok x) walked fault is_err told = elim is_err [ ]
+leaves (Err e) walked fault same told = ap Err same ∙ sym told
+
+pub leaves_seen : {A B : Type 0} (seen : A → B) (result : Result A TableFault) (walked : Walked B) (fault : TableFault)
+    → IsErrAnd result (λ e. e ≡ fault) → walked ≡ Err fault → result_map_both seen (λ f. f) result ≡ walked
+leaves_seen seen (Ok x) walked fault is_err told = elim is_err [ ]
+leaves_seen seen (Err e) walked fault same told = ap Err same ∙ sym told
 
 pub is_empty_view : (values : List Value) → is_empty (items_view values) ≡ (length values == 0)
 is_empty_view [] = refl

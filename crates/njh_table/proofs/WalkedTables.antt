@@ -1,6 +1,7 @@
 -- What the walk accepts is within the limits, and its faults are its own.
-use Rattle.std.proofs.Common.{◌≡◌, ◌≢◌, ℕ, ◌<◌, ◌≤◌, false, nat_le, nat_lt, sum_by, List, [], ◌∷◌, ◌++◌, length, map, Option, Some, None, IfErr, ◌↔◌, codes, bytes_eq, ok_or, Result, Ok, Err, All, refl, sym, ap, subst, ◌∙◌, arith}
-use Rattle.std.specs.Prelude.{⊤}
+use Rattle.std.proofs.Common.{◌≡◌, ◌≢◌, ℕ, ◌<◌, ◌≤◌, false, nat_le, nat_lt, sum_by, List, [], ◌∷◌, ◌++◌, length, map}
+use Rattle.std.proofs.Common.{codes, bytes_eq, All}
+use Rattle.std.proofs.Common.{Option, Some, None, IfErr, ok_or, Result, Ok, Err, ◌↔◌, refl, sym, ap, subst, ◌∙◌, arith}
 use Rattle.std.specs.List.{list_any}
 use Rattle.std.specs.Cmp.Lexicographic.{nat_list_eq_equiv}
 use Rattle.std.proofs.lemmas.Bool.{leb-false, ltb-false, or_parts, or_from, false≢true}
@@ -9,77 +10,111 @@ use Rattle.std.proofs.lemmas.List.Elements.{All-push, All-nil}
 use Rattle.std.proofs.lemmas.List.Concat.{flat_map-append}
 use Rattle.std.proofs.lemmas.Result.{MatchResult-at_err}
 use Rattle.toml.specs.Data.{Data, Items, no_items, item, Members, as_array}
-use Rattle.njh_table.specs.declared.fault.TableFault.TheVariants.{TooMany, MissingKey, BadToml, BadValue, QuotaOver, Memory}
-use Rattle.njh_table.specs.Accepted.{IsBetween, AreDistinct, IsLine, IsRoute, IsCustomer, IsAccepted}
-use Rattle.njh_table.specs.TableFile.{NamedCustomer, TableFile, line_names}
 use Rattle.toml.specs.Parse.{parse_document}
 use Rattle.njh_table.specs.declared.fault.TableFault.{TableFault}
-use Rattle.njh_table.specs.Keys.{◌>>=◌, number, node_name, keys_in, at_key, at_key_or}
-use Rattle.njh_table.specs.Walk.{Walks, lines_onto, line_number, routes_onto, next_customer, customers_onto, is_empty, tables_in, tables_of}
-use Rattle.njh_table.proofs.Gives.{Gives, IsOfWalk, given, any, and_then, past, some_or, at_key-gives, at_key_or-gives, whatever, number-between}
+use Rattle.njh_table.specs.declared.fault.TableFault.TheVariants.{TooMany, MissingKey, BadToml, BadValue, QuotaOver, Memory}
+use Rattle.njh_table.specs.declared.limits.TheConstants.{MAX_CUSTOMERS, MAX_LINES, MAX_CAPACITY, MAX_QUOTA, MAX_FILES}
+use Rattle.njh_table.specs.Accepted.{IsBetween, AreDistinct, IsLine, IsRoute, IsCustomer, IsAccepted}
+use Rattle.njh_table.specs.TableFile.{NamedCustomer, TableFile, line_names}
+use Rattle.njh_table.specs.Keys.{◌>>=◌, number, node_name}
+use Rattle.njh_table.specs.Walk.{Walks, lines_onto, line_number, routes_onto, CustomerKeys, customer_keys, next_customer, customers_onto}
+use Rattle.njh_table.specs.Walk.{is_empty, tables_in, tables_of}
+use Rattle.njh_table.proofs.Gives.{Gives, IsOfWalk, given, and_then, past, with_keys, with_value, with_any, with_any_or, number-is}
 use Rattle.njh_table.proofs.Distinct.{distinct_push}
 use Rattle.njh_table.proofs.WalkedLines.{AreLines, lines_onto-gives}
 use Rattle.njh_table.proofs.WalkedRoutes.{AreRoutes, routes_onto-gives, line_number-finds}
 
 pub record AreCustomers (customers : List NamedCustomer) : Type 0 where
-  pub count : length customers ≤ 64
+  pub count : length customers ≤ MAX_CUSTOMERS
   pub names : AreDistinct (map (λ c. c.name) customers)
   pub each : All IsCustomer customers
-  pub lines : length (line_names customers) ≤ 256
+  pub lines : length (line_names customers) ≤ MAX_LINES
   pub line_names : AreDistinct (line_names customers)
 
 pub record IsNewCustomer (done : List NamedCustomer) (c : NamedCustomer) : Type 0 where
-  pub room : length done < 64
+  pub room : length done < MAX_CUSTOMERS
   pub absent : list_any (λ d. bytes_eq d.name c.name) done ≡ false
   pub is : IsCustomer c
   pub lines : AreLines (line_names done) c.lines
 
-pub next_customer-gives : (done : List NamedCustomer) (value : Data) → AreCustomers done → Gives (IsNewCustomer done) (next_customer done value)
+-- what holds of a customer's own keys
+pub record AreKeys (done : List NamedCustomer) (own : CustomerKeys) : Type 0 where
+  pub absent : list_any (λ d. bytes_eq d.name own.name) done ≡ false
+  pub quota : IsBetween 1 MAX_QUOTA own.quota
+  pub files : IsBetween 1 MAX_FILES own.files
+
+customer_keys-gives : (done : List NamedCustomer) (keys : Members) → Gives (AreKeys done) (customer_keys done keys)
+unfolding customer_keys
+customer_keys-gives done keys =
+    with_any _ node_name (codes "name") keys _ (λ name.
+    past _ (list_any (λ c. bytes_eq c.name name) done) BadValue _ tt (λ absent.
+    with_any _ node_name (codes "hub") keys _ (λ hub.
+    with_value (IsBetween 1 MAX_QUOTA) _ (number 1 MAX_QUOTA) (codes "quota") keys _ (number-is 1 MAX_QUOTA) (λ quota in_quota.
+    with_value (IsBetween 1 MAX_FILES) _ (number 1 MAX_FILES) (codes "files") keys _ (number-is 1 MAX_FILES) (λ files in_files.
+    record { absent = absent; quota = in_quota; files = in_files })))))
+
+next_customer-gives : (done : List NamedCustomer) (value : Data) → AreCustomers done
+    → Gives (IsNewCustomer done) (next_customer done value)
 unfolding next_customer
 next_customer-gives done value customers =
-    past _ (nat_le 64 (length done)) TooMany _ tt (λ room.
-    and_then (λ _. ⊤) _ (keys_in value) _ (some_or (λ _. ⊤) _ BadValue tt (any _)) (λ keys _.
-    and_then (λ _. ⊤) _ (at_key node_name (codes "name") keys) _ (at_key-gives _ node_name (codes "name") keys (whatever node_name)) (λ name _.
-    past _ (list_any (λ c. bytes_eq c.name name) done) BadValue _ tt (λ absent.
-    and_then (λ _. ⊤) _ (at_key node_name (codes "hub") keys) _ (at_key-gives _ node_name (codes "hub") keys (whatever node_name)) (λ hub _.
-    and_then (IsBetween 1 65535) _ (at_key (number 1 65535) (codes "quota") keys) _ (at_key-gives _ (number 1 65535) (codes "quota") keys (number-between 1 65535)) (λ quota in_quota.
-    and_then (IsBetween 1 1024) _ (at_key (number 1 1024) (codes "files") keys) _ (at_key-gives _ (number 1 1024) (codes "files") keys (number-between 1 1024)) (λ files in_files.
-    and_then (λ _. ⊤) _ (at_key_or as_array no_items (codes "line") keys) _ (at_key_or-gives _ as_array no_items (codes "line") keys tt (whatever as_array)) (λ line_values _.
-    and_then (λ _. ⊤) _ (at_key_or as_array no_items (codes "route") keys) _ (at_key_or-gives _ as_array no_items (codes "route") keys tt (whatever as_array)) (λ route_values _.
-    and_then (AreLines (line_names done)) _ (lines_onto (line_names done) [] line_values) _ (lines_onto-gives (line_names done) [] line_values (none_yet done customers)) (λ lines are_lines.
-    and_then (AreRoutes hub (length lines)) _ (routes_onto hub (line_number lines) [] route_values) _ (routes_onto-gives hub (length lines) (line_number lines) [] route_values (line_number-finds lines) (no_routes hub (length lines))) (λ routes are_routes.
+    past _ (nat_le MAX_CUSTOMERS (length done)) TooMany _ tt (λ room.
+    with_keys _ value _ (λ keys.
+    and_then (AreKeys done) _ (customer_keys done keys) _ (customer_keys-gives done keys) (λ own are_keys.
+    with_any_or _ as_array no_items (codes "line") keys _ (λ line_values.
+    with_any_or _ as_array no_items (codes "route") keys _ (λ route_values.
+    and_then (AreLines (line_names done)) _ (lines_onto (line_names done) [] line_values) _
+    (lines_onto-gives (line_names done) [] line_values (none_yet done customers)) (λ lines are_lines.
+    and_then (AreRoutes own.hub (length lines)) _ (routes_onto own.hub (line_number lines) [] route_values) _
+    (routes_onto-gives own.hub (length lines) (line_number lines) [] route_values (line_number-finds lines)
+    (no_routes own.hub (length lines)))
+    (λ routes are_routes.
     record {
-      room = leb-false 64 (length done) room;
-      absent = absent;
+      room = leb-false MAX_CUSTOMERS (length done) room;
+      absent = are_keys.absent;
       lines = are_lines;
-      is = record { quota = in_quota; files = in_files; lines = are_lines.each; routes = are_routes.count; each_route = are_routes.each; nodes = are_routes.nodes };
-    })))))))))))
+      is = record {
+        quota = are_keys.quota;
+        files = are_keys.files;
+        lines = are_lines.each;
+        routes = are_routes.count;
+        each_route = are_routes.each;
+        nodes = are_routes.nodes;
+      };
+    })))))))
   where
     none_yet : (done : List NamedCustomer) → AreCustomers done → AreLines (line_names done) []
-    none_yet done customers =
-        record { each = All-nil IsLine; count = simp append-nil customers.lines; distinct = subst AreDistinct (sym (append-nil (line_names done))) customers.line_names }
+    none_yet done customers = record {
+      each = All-nil IsLine;
+      count = simp append-nil customers.lines;
+      distinct = subst AreDistinct (sym (append-nil (line_names done))) customers.line_names;
+    }
 
     no_routes : (hub : List ℕ) (lines : ℕ) → AreRoutes hub lines []
-    no_routes hub lines = record { count = omega arith; each = All-nil (IsRoute lines); nodes = λ i j d below within. absurd (omega arith) }
+    no_routes hub lines =
+        record { count = omega arith; each = All-nil (IsRoute lines); nodes = λ i j d below within. absurd (omega arith) }
 
-line_names-push : (done : List NamedCustomer) (c : NamedCustomer) → line_names (done ++ c ∷ []) ≡ line_names done ++ map (λ l. l.name) c.lines
+line_names-push : (done : List NamedCustomer) (c : NamedCustomer) → line_names (done ++ c ∷ [])
+    ≡ line_names done ++ map (λ l. l.name) c.lines
 line_names-push done c = flat_map-append _ done (c ∷ []) ∙ ap (λ names. line_names done ++ names) (append-nil (map (λ l. l.name) c.lines))
 
 -- a customer's name that none of those done has
-new_name : (done : List NamedCustomer) (name : List ℕ) → list_any (λ d. bytes_eq d.name name) done ≡ false → list_any (bytes_eq name) (map (λ c. c.name) done) ≡ false
+new_name : (done : List NamedCustomer) (name : List ℕ) → list_any (λ d. bytes_eq d.name name) done ≡ false
+    → list_any (bytes_eq name) (map (λ c. c.name) done) ≡ false
 new_name [] name absent = refl
 new_name (c ∷ done) name absent =
     let (here, rest) = or_parts _ _ absent in
     or_from _ _ (nat_list_eq_equiv.symm name c.name ∙ here) (new_name done name rest)
 
-AreCustomers-push : (done : List NamedCustomer) (c : NamedCustomer) → AreCustomers done → IsNewCustomer done c → AreCustomers (done ++ c ∷ [])
+AreCustomers-push : (done : List NamedCustomer) (c : NamedCustomer) → AreCustomers done → IsNewCustomer done c
+    → AreCustomers (done ++ c ∷ [])
 AreCustomers-push done c customers new =
     let names = line_names-push done c in
     record {
       count = simp length-append (omega (arith, new.room));
-      names = subst AreDistinct (sym (map-append (λ (c : NamedCustomer). c.name) done (c ∷ []))) (distinct_push (map (λ c. c.name) done) c.name customers.names (new_name done c.name new.absent));
+      names = subst AreDistinct (sym (map-append (λ (c : NamedCustomer). c.name) done (c ∷ [])))
+          (distinct_push (map (λ c. c.name) done) c.name customers.names (new_name done c.name new.absent));
       each = All-push IsCustomer done c customers.each new.is;
-      lines = subst (λ ns. length ns ≤ 256) (sym names) new.lines.count;
+      lines = subst (λ ns. length ns ≤ MAX_LINES) (sym names) new.lines.count;
       line_names = subst AreDistinct (sym names) new.lines.distinct;
     }
 
@@ -88,7 +123,8 @@ pub record AreAtLeast (least : ℕ) (customers : List NamedCustomer) : Type 0 wh
   pub are : AreCustomers customers
   pub count : least ≤ length customers
 
-pub customers_onto-gives : (least : ℕ) (done : List NamedCustomer) (values : Items) → AreAtLeast least done → Gives (AreAtLeast least) (customers_onto done values)
+pub customers_onto-gives : (least : ℕ) (done : List NamedCustomer) (values : Items) → AreAtLeast least done
+    → Gives (AreAtLeast least) (customers_onto done values)
 customers_onto-gives least done no_items customers = customers
 customers_onto-gives least done (item value more) customers =
     and_then (IsNewCustomer done) (AreAtLeast least) (next_customer done value) _ (next_customer-gives done value customers.are)
@@ -96,7 +132,13 @@ customers_onto-gives least done (item value more) customers =
     (record { are = AreCustomers-push done c customers.are new; count = simp length-append (omega (arith, customers.count)) }))
 
 no_customers : AreCustomers []
-no_customers = record { count = omega arith; names = λ i j d below within. absurd (omega arith); each = All-nil IsCustomer; lines = omega arith; line_names = λ i j d below within. absurd (omega arith) }
+no_customers = record {
+  count = omega arith;
+  names = λ i j d below within. absurd (omega arith);
+  each = All-nil IsCustomer;
+  lines = omega arith;
+  line_names = λ i j d below within. absurd (omega arith);
+}
 
 some_customers : (values : Items) → is_empty values ≡ false → Gives (AreAtLeast 1) (customers_onto [] values)
 some_customers no_items some = absurd (false≢true (sym some))
@@ -109,8 +151,9 @@ some_customers (item value more) some =
 pub tables_in-gives : (keys : Members) → Gives IsAccepted (tables_in keys)
 unfolding tables_in
 tables_in-gives keys =
-    and_then (IsBetween 1 4194240) _ (at_key (number 1 4194240) (codes "capacity") keys) _ (at_key-gives _ (number 1 4194240) (codes "capacity") keys (number-between 1 4194240)) (λ capacity in_capacity.
-    and_then (λ _. ⊤) _ (at_key as_array (codes "customer") keys) _ (at_key-gives _ as_array (codes "customer") keys (whatever as_array)) (λ values _.
+    with_value (IsBetween 1 MAX_CAPACITY) _ (number 1 MAX_CAPACITY) (codes "capacity") keys _ (number-is 1 MAX_CAPACITY)
+    (λ capacity in_capacity.
+    with_any _ as_array (codes "customer") keys _ (λ values.
     past _ (is_empty values) MissingKey _ tt (λ some.
     and_then (AreAtLeast 1) _ (customers_onto [] values) _ (some_customers values some) (λ customers accepted.
     past _ (nat_lt capacity (sum_by (λ c. c.quota) customers)) QuotaOver _ tt (λ within.
@@ -128,7 +171,8 @@ tables_in-gives keys =
 pub not_toml : (fault : TableFault) → IsOfWalk fault → fault ≢ BadToml
 not_toml fault of_walk same = subst IsOfWalk same of_walk
 
-pub told_of_toml : {A : Type 0} (result : Result A TableFault) (seen : A → TableFile) (text : List ℕ) (keys : Members) → parse_document text ≡ Some keys → Walks seen result (tables_in keys)
+pub told_of_toml : {A : Type 0} (result : Result A TableFault) (seen : A → TableFile) (text : List ℕ) (keys : Members)
+    → parse_document text ≡ Some keys → Walks seen result (tables_in keys)
     → IfErr result (λ fault. fault ≢ Memory → (fault ≡ BadToml) ↔ (parse_document text ≡ None))
 told_of_toml (Ok x) seen text keys is_toml walks = tt
 told_of_toml (Err fault) seen text keys is_toml walks = λ no_memory.

@@ -1,5 +1,7 @@
 -- What holds of every table that is accepted: the limits, names that differ, and quotas that add to at most the capacity.
 use Rattle.std.specs.Prelude.{◌≡◌, ◌≢◌, ℕ, ◌<◌, ◌≤◌, List, ◌∷◌, length, map, sum_by, All, AllPairs, None, IsTrue}
+use Rattle.njh_table.specs.declared.limits.TheConstants.{MAX_CUSTOMERS, MAX_LINES, MAX_ROUTES, MAX_CAPACITY, MAX_QUOTA}
+use Rattle.njh_table.specs.declared.limits.TheConstants.{MAX_FILES, MIN_BLOCK, MAX_BLOCK, MAX_STREAMS, MAX_PORT}
 use Rattle.njh_table.specs.Entries.{RouteEntry}
 use Rattle.njh_table.specs.TableFile.{NamedLine, NamedCustomer, TableFile, line_names}
 use Rattle.njh_table.specs.Keys.{is_line_name}
@@ -12,9 +14,9 @@ AreDistinct names = AllPairs (λ a b. a ≢ b) names
 
 pub record IsLine (l : NamedLine) : Type 0 where
   pub name : IsTrue (is_line_name l.name)
-  pub block : IsBetween 300 4096 l.entry.block
-  pub streams : IsBetween 1 4 l.entry.streams
-  pub port : l.port ≤ 65535
+  pub block : IsBetween MIN_BLOCK MAX_BLOCK l.entry.block
+  pub streams : IsBetween 1 MAX_STREAMS l.entry.streams
+  pub port : l.port ≤ MAX_PORT
 
 -- a route of a customer with so many lines
 pub record IsRoute (lines : ℕ) (r : RouteEntry) : Type 0 where
@@ -22,19 +24,19 @@ pub record IsRoute (lines : ℕ) (r : RouteEntry) : Type 0 where
   pub second : r.second ≡ None
 
 pub record IsCustomer (c : NamedCustomer) : Type 0 where
-  pub quota : IsBetween 1 65535 c.quota
-  pub files : IsBetween 1 1024 c.files
+  pub quota : IsBetween 1 MAX_QUOTA c.quota
+  pub files : IsBetween 1 MAX_FILES c.files
   pub lines : All IsLine c.lines
-  pub routes : length c.routes ≤ 512
+  pub routes : length c.routes ≤ MAX_ROUTES
   pub each_route : All (IsRoute (length c.lines)) c.routes
   -- a node has one route at most, and the hub's own name has none
   pub nodes : AreDistinct (c.hub ∷ map (λ r. r.node) c.routes)
 
 pub record IsAccepted (t : TableFile) : Type 0 where
-  pub capacity : IsBetween 1 4194240 t.capacity
-  pub customers : IsBetween 1 64 (length t.customers)
+  pub capacity : IsBetween 1 MAX_CAPACITY t.capacity
+  pub customers : IsBetween 1 MAX_CUSTOMERS (length t.customers)
   pub names : AreDistinct (map (λ c. c.name) t.customers)
   pub each : All IsCustomer t.customers
-  pub lines : length (line_names t.customers) ≤ 256
+  pub lines : length (line_names t.customers) ≤ MAX_LINES
   pub line_names : AreDistinct (line_names t.customers)
   pub quotas : sum_by (λ c. c.quota) t.customers ≤ t.capacity

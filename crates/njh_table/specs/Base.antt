@@ -5,17 +5,21 @@ use Rattle.njh_table.specs.declared.Role.TheVariants.{Answer}
 use Rattle.njh_table.specs.TableFile.{NamedCustomer, TableFile}
 
 -- a customer with one line, by which it reaches its node LYON
-abbrev pub with_one_line : List ℕ → List ℕ → NamedCustomer
-with_one_line name line =
+abbrev pub customer_with_a_line : List ℕ → List ℕ → NamedCustomer
+customer_with_a_line name line =
     let lyon = padded (ebcdic (codes "LYON")) in
     record {
       name = padded (ebcdic name);
       hub = padded (ebcdic (codes "BUREAU"));
       quota = 100;
       files = 8;
-      lines = record { name = line; port = 0; entry = record { node = lyon; role = Answer; block = 1024; streams = 4; password = [] } } ∷ [];
+      lines =
+          record { name = line; port = 0; entry = record { node = lyon; role = Answer; block = 1024; streams = 4; password = [] } } ∷ [];
       routes = record { node = lyon; line = 0; second = None } ∷ [];
     }
 
 abbrev pub base_tables : TableFile
-base_tables = record { capacity = 200; customers = with_one_line (codes "ACME") (codes "a1") ∷ with_one_line (codes "BOLT") (codes "b1") ∷ [] }
+base_tables = record {
+  capacity = 200;
+  customers = customer_with_a_line (codes "ACME") (codes "a1") ∷ customer_with_a_line (codes "BOLT") (codes "b1") ∷ [];
+}

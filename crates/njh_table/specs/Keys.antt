@@ -1,5 +1,6 @@
 -- The keys of a table file, which is written in TOML: what a key's value must be, and the fault where it isn't.
-use Rattle.std.specs.Prelude.{ℕ, ℤ, pos, negsuc, Bool, true, false, ◌&&◌, ◌||◌, if◌then◌else◌, List, [], ◌∷◌, length, codes, Option, Some, None, option_and_then, ok_or, Result, Ok, Err, bytes_eq}
+use Rattle.std.specs.Prelude.{ℕ, ℤ, pos, negsuc, Bool, true, false, ◌&&◌, ◌||◌, if◌then◌else◌, List, [], ◌∷◌, length, codes, bytes_eq}
+use Rattle.std.specs.Prelude.{Option, Some, None, option_and_then, ok_or, Result, Ok, Err}
 use Rattle.std.specs.List.{list_all}
 use Rattle.std.specs.Result.{result_ok}
 use Rattle.toml.specs.Data.{Data, Members, get_member, as_str, as_integer, as_table}
@@ -9,6 +10,7 @@ use Rattle.njh_table.specs.declared.Role.{Role}
 use Rattle.njh_table.specs.declared.Role.TheVariants.{Call, Answer}
 use Rattle.njh_table.specs.declared.fault.TableFault.{TableFault}
 use Rattle.njh_table.specs.declared.fault.TableFault.TheVariants.{MissingKey, BadValue}
+use Rattle.njh_table.specs.declared.limits.TheConstants.{MAX_LINE_NAME}
 
 -- what a part of the walk gives, or the first fault in it
 abbrev pub Walked : Type 0 → Type 0
@@ -31,12 +33,12 @@ fault_where false fault = Ok tt
 -- ---- the values of keys
 
 -- a whole number between two, both among them
-abbrev pub whole_between : ℕ → ℕ → ℤ → Option ℕ
-whole_between low high (pos n) = if within low high n then Some n else None
-whole_between low high (negsuc n) = None
+abbrev pub number_between : ℕ → ℕ → ℤ → Option ℕ
+number_between low high (pos n) = if within low high n then Some n else None
+number_between low high (negsuc n) = None
 
 abbrev pub number : ℕ → ℕ → Data → Option ℕ
-number low high value = option_and_then (whole_between low high) (as_integer value)
+number low high value = option_and_then (number_between low high) (as_integer value)
 
 -- the name that a text is
 abbrev pub node_name : Data → Option (List ℕ)
@@ -55,7 +57,7 @@ abbrev pub is_letter_or_digit : ℕ → Bool
 is_letter_or_digit c = within 48 57 c || within 65 90 c || within 97 122 c
 
 abbrev pub is_line_name : List ℕ → Bool
-is_line_name text = within 1 8 (length text) && list_all is_letter_or_digit text
+is_line_name text = within 1 MAX_LINE_NAME (length text) && list_all is_letter_or_digit text
 
 abbrev pub line_name_of : List ℕ → Option (List ℕ)
 line_name_of text = if is_line_name text then Some text else None
@@ -64,7 +66,8 @@ abbrev pub line_name : Data → Option (List ℕ)
 line_name value = option_and_then line_name_of (as_str value)
 
 abbrev pub role_of : List ℕ → Option Role
-role_of text = if bytes_eq text (codes "call") then Some Call else if bytes_eq text (codes "answer") then Some Answer else None
+role_of text =
+    if bytes_eq text (codes "call") then Some Call else if bytes_eq text (codes "answer") then Some Answer else None
 
 abbrev pub role : Data → Option Role
 role value = option_and_then role_of (as_str value)
@@ -82,9 +85,9 @@ at_key read key keys = do
   ok_or (read value) BadValue
 
 -- the value of a key that may be missing, and is then another
-abbrev pub found_or : {A : Type 0} → (Data → Option A) → A → Option Data → Walked A
-found_or read other None = Ok other
-found_or read other (Some value) = ok_or (read value) BadValue
+abbrev pub value_or : {A : Type 0} → (Data → Option A) → A → Option Data → Walked A
+value_or read other None = Ok other
+value_or read other (Some value) = ok_or (read value) BadValue
 
 abbrev pub at_key_or : {A : Type 0} → (Data → Option A) → A → List ℕ → Members → Walked A
-at_key_or read other key keys = found_or read other (get_member key keys)
+at_key_or read other key keys = value_or read other (get_member key keys)

@@ -1,5 +1,6 @@
 -- What a table file holds: the hub's capacity, and its customers with their lines and routes.
-use Rattle.std.specs.Prelude.{ℕ, ◌+◌, ◌<◌, List, [], ◌∷◌, ◌++◌, length, map, slice_index_or, Option, Some, None, option_and_then, bytes_eq, ◌==◌, if◌then◌else◌}
+use Rattle.std.specs.Prelude.{ℕ, ◌+◌, ◌<◌, ◌==◌, if◌then◌else◌, List, [], ◌∷◌, ◌++◌, length, map, slice_index_or, bytes_eq}
+use Rattle.std.specs.Prelude.{Option, Some, None, option_and_then}
 use Rattle.std.specs.List.{flat_map}
 use Rattle.std.specs.Map.{lookup}
 use Rattle.njh_table.specs.declared.LineId.{LineId}
@@ -34,14 +35,9 @@ abbrev pub password_bytes : Option (List ℕ) → List ℕ
 password_bytes None = []
 password_bytes (Some name) = name
 
--- the number of the line that a node has a route by
-abbrev pub routed_line : List RouteEntry → List ℕ → Option ℕ
-routed_line [] node = None
-routed_line (r ∷ routes) node = if bytes_eq r.node node then Some r.line else routed_line routes node
-
--- the entry of a node and the number of its line
-abbrev pub routed : List ℕ × ℕ → RouteEntry
-routed r = record { node = r.0; line = r.1; second = None }
+-- the route for a node by the line of a number
+abbrev pub route_entry : List ℕ × ℕ → RouteEntry
+route_entry r = record { node = r.0; line = r.1; second = None }
 
 -- ---- the customers and lines of a table by their numbers
 
@@ -75,11 +71,13 @@ names_in owners = map (λ o. o.0) owners
 -- the lines of a customer, from the one of a number on
 abbrev pub line_owners : ℕ → ℕ → List NamedLine → Owners
 line_owners customer line [] = []
-line_owners customer line (l ∷ lines) = (l.name, record { customer = customer; line = line }) ∷ line_owners customer (line + 1) lines
+line_owners customer line (l ∷ lines) =
+    (l.name, record { customer = customer; line = line }) ∷ line_owners customer (line + 1) lines
 
 -- the number of the line of a name, where it is of this customer
 abbrev pub own_line : Owners → ℕ → List ℕ → Option ℕ
-own_line owners customer name = option_and_then (λ o. if o.customer == customer then Some o.line else None) (lookup (bytes_eq name) owners)
+own_line owners customer name =
+    option_and_then (λ o. if o.customer == customer then Some o.line else None) (lookup (bytes_eq name) owners)
 
 -- the lines of all customers, from the one of a number on
 abbrev pub owners_from : ℕ → List NamedCustomer → Owners

@@ -1,88 +1,132 @@
--- The walk over a table file: the tables that it gives, or its first fault. Each element of a list is walked after those before it: a list past its
--- limit is refused before the element's keys, and keys that aren't named here are ignored.
-use Rattle.std.specs.Prelude.{◌≡◌, ◌≢◌, ℕ, Bool, true, false, ◌||◌, List, [], ◌∷◌, ◌++◌, length, map, codes, nat_le, nat_lt, sum_by, Option, None, ok_or, is_some, Result, Ok, Err, MatchResult, bytes_eq}
+-- The walk over a table file: the tables that it gives, or its first fault. Each element of a list is walked after those before it: a list
+-- past its limit is refused before the element's keys, and keys that aren't named here are ignored.
+use Rattle.std.specs.Prelude.{◌≡◌, ◌≢◌, ℕ, Bool, true, false, ◌||◌, List, [], ◌∷◌, ◌++◌, length, map, codes, nat_le}
+use Rattle.std.specs.Prelude.{nat_lt, sum_by, bytes_eq}
+use Rattle.std.specs.Prelude.{Option, None, ok_or, is_some, Result, Ok, Err, MatchResult}
 use Rattle.std.specs.List.{list_any, position_from}
 use Rattle.toml.specs.Data.{Data, Items, no_items, item, Members, as_str, as_array}
 use Rattle.toml.specs.Parse.{parse_document}
 use Rattle.njh_table.specs.declared.fault.TableFault.{TableFault}
-use Rattle.njh_table.specs.declared.fault.TableFault.TheVariants.{BadToml, MissingKey, BadValue, DoubleLine, DoubleNode, UnknownLine, QuotaOver, TooMany, Memory}
-use Rattle.njh_table.specs.Entries.{RouteEntry}
-use Rattle.njh_table.specs.Keys.{Walked, ◌>>=◌, ◌>>◌, fault_where, keys_in, at_key, at_key_or, number, node_name, line_name, role, password}
-use Rattle.njh_table.specs.TableFile.{NamedLine, NamedCustomer, TableFile, routed_line, line_names}
+use Rattle.njh_table.specs.declared.fault.TableFault.TheVariants.{BadToml, MissingKey, BadValue, DoubleLine}
+use Rattle.njh_table.specs.declared.fault.TableFault.TheVariants.{DoubleNode, UnknownLine, QuotaOver, TooMany, Memory}
+use Rattle.njh_table.specs.declared.limits.TheConstants.{MAX_CUSTOMERS, MAX_LINES, MAX_ROUTES, MAX_CAPACITY, MAX_QUOTA}
+use Rattle.njh_table.specs.declared.limits.TheConstants.{MAX_FILES, MIN_BLOCK, MAX_BLOCK, MAX_STREAMS, MAX_PORT}
+use Rattle.njh_table.specs.Entries.{RouteEntry, line_to}
+use Rattle.njh_table.specs.Keys.{Walked, ◌>>=◌, ◌>>◌, fault_where, keys_in, at_key, at_key_or, number, node_name}
+use Rattle.njh_table.specs.Keys.{line_name, role, password}
+use Rattle.njh_table.specs.TableFile.{NamedLine, NamedCustomer, TableFile, line_names}
 
--- the next line, after the lines of the hub that have these names
+-- ---- lines
+
+-- the line of a name, by its other keys
+unfoldable pub line_of : List ℕ → Members → Walked NamedLine
+line_of name keys = do
+  node ← at_key node_name (codes "node") keys
+  role ← at_key role (codes "role") keys
+  block ← at_key (number MIN_BLOCK MAX_BLOCK) (codes "block") keys
+  streams ← at_key (number 1 MAX_STREAMS) (codes "streams") keys
+  password ← at_key_or password [] (codes "password") keys
+  port ← at_key_or (number 0 MAX_PORT) 0 (codes "port") keys
+  Ok (record {
+    name = name;
+    port = port;
+    entry = record { node = node; role = role; block = block; streams = streams; password = password };
+  })
+
+-- the next line, after the lines of the hub that have these names: no two lines of the hub have one name
 unfoldable pub next_line : List (List ℕ) → Data → Walked NamedLine
 next_line taken value = do
-  fault_where (nat_le 256 (length taken)) TooMany
+  fault_where (nat_le MAX_LINES (length taken)) TooMany
   keys ← keys_in value
   name ← at_key line_name (codes "name") keys
   fault_where (list_any (bytes_eq name) taken) DoubleLine
-  node ← at_key node_name (codes "node") keys
-  role ← at_key role (codes "role") keys
-  block ← at_key (number 300 4096) (codes "block") keys
-  streams ← at_key (number 1 4) (codes "streams") keys
-  password ← at_key_or password [] (codes "password") keys
-  port ← at_key_or (number 0 65535) 0 (codes "port") keys
-  Ok (record { name = name; port = port; entry = record { node = node; role = role; block = block; streams = streams; password = password } })
-
--- whether the customer's hub and its routes so far say where a node goes
-abbrev pub is_routed : List ℕ → List RouteEntry → List ℕ → Bool
-is_routed hub routes node = bytes_eq hub node || is_some (routed_line routes node)
-
--- the next route of a customer, by its hub's name and what gives the number of a line of its own by name
-unfoldable pub next_route : List ℕ → (List ℕ → Option ℕ) → List RouteEntry → Data → Walked RouteEntry
-next_route hub line_number done value = do
-  fault_where (nat_le 512 (length done)) TooMany
-  keys ← keys_in value
-  node ← at_key node_name (codes "node") keys
-  line ← at_key as_str (codes "line") keys
-  fault_where (is_routed hub done node) DoubleNode
-  number ← ok_or (line_number line) UnknownLine
-  Ok (record { node = node; line = number; second = None })
+  line_of name keys
 
 -- the lines of a customer, after those done, where those of earlier customers have the names taken
 abbrev pub lines_onto : List (List ℕ) → List NamedLine → Items → Walked (List NamedLine)
 lines_onto taken done no_items = Ok done
-lines_onto taken done (item value more) = next_line (taken ++ map (λ l. l.name) done) value >>= (λ line. lines_onto taken (done ++ line ∷ []) more)
-
--- the routes of a customer, after those done
-abbrev pub routes_onto : List ℕ → (List ℕ → Option ℕ) → List RouteEntry → Items → Walked (List RouteEntry)
-routes_onto hub line_number done no_items = Ok done
-routes_onto hub line_number done (item value more) = next_route hub line_number done value >>= (λ route. routes_onto hub line_number (done ++ route ∷ []) more)
+lines_onto taken done (item value more) =
+    next_line (taken ++ map (λ l. l.name) done) value >>= (λ line. lines_onto taken (done ++ line ∷ []) more)
 
 -- the number of the line of a name among a customer's lines
 abbrev pub line_number : List NamedLine → List ℕ → Option ℕ
 line_number lines name = position_from (λ l. bytes_eq l.name name) 0 lines
 
--- the next customer, after those done
-unfoldable pub next_customer : List NamedCustomer → Data → Walked NamedCustomer
-next_customer done value = do
-  fault_where (nat_le 64 (length done)) TooMany
+-- ---- routes
+
+-- whether the customer's hub and its routes so far say where a node goes
+abbrev pub is_routed : List ℕ → List RouteEntry → List ℕ → Bool
+is_routed hub routes node = bytes_eq hub node || is_some (line_to routes node)
+
+-- a customer's route for a node by the line of a name, with its hub's name and what gives the number of a line of its own by name: the
+-- hub's own name has no route, and another node one at most
+unfoldable pub route_by : List ℕ → (List ℕ → Option ℕ) → List RouteEntry → List ℕ → List ℕ → Walked RouteEntry
+route_by hub line_number done node line = do
+  fault_where (is_routed hub done node) DoubleNode
+  number ← ok_or (line_number line) UnknownLine
+  Ok (record { node = node; line = number; second = None })
+
+-- the next route of a customer, after those done
+unfoldable pub next_route : List ℕ → (List ℕ → Option ℕ) → List RouteEntry → Data → Walked RouteEntry
+next_route hub line_number done value = do
+  fault_where (nat_le MAX_ROUTES (length done)) TooMany
   keys ← keys_in value
+  node ← at_key node_name (codes "node") keys
+  line ← at_key as_str (codes "line") keys
+  route_by hub line_number done node line
+
+-- the routes of a customer, after those done
+abbrev pub routes_onto : List ℕ → (List ℕ → Option ℕ) → List RouteEntry → Items → Walked (List RouteEntry)
+routes_onto hub line_number done no_items = Ok done
+routes_onto hub line_number done (item value more) =
+    next_route hub line_number done value >>= (λ route. routes_onto hub line_number (done ++ route ∷ []) more)
+
+-- ---- customers
+
+-- the keys of a customer, its lists aside
+pub record CustomerKeys : Type 0 where
+  pub name : List ℕ
+  pub hub : List ℕ
+  pub quota : ℕ
+  pub files : ℕ
+
+-- no two customers have one name
+unfoldable pub customer_keys : List NamedCustomer → Members → Walked CustomerKeys
+customer_keys done keys = do
   name ← at_key node_name (codes "name") keys
   fault_where (list_any (λ c. bytes_eq c.name name) done) BadValue
   hub ← at_key node_name (codes "hub") keys
-  quota ← at_key (number 1 65535) (codes "quota") keys
-  files ← at_key (number 1 1024) (codes "files") keys
+  quota ← at_key (number 1 MAX_QUOTA) (codes "quota") keys
+  files ← at_key (number 1 MAX_FILES) (codes "files") keys
+  Ok (record { name = name; hub = hub; quota = quota; files = files })
+
+-- the next customer, after those done: both its lists are lists before an element of them is looked at
+unfoldable pub next_customer : List NamedCustomer → Data → Walked NamedCustomer
+next_customer done value = do
+  fault_where (nat_le MAX_CUSTOMERS (length done)) TooMany
+  keys ← keys_in value
+  own ← customer_keys done keys
   line_values ← at_key_or as_array no_items (codes "line") keys
   route_values ← at_key_or as_array no_items (codes "route") keys
   lines ← lines_onto (line_names done) [] line_values
-  routes ← routes_onto hub (line_number lines) [] route_values
-  Ok (record { name = name; hub = hub; quota = quota; files = files; lines = lines; routes = routes })
+  routes ← routes_onto own.hub (line_number lines) [] route_values
+  Ok (record { name = own.name; hub = own.hub; quota = own.quota; files = own.files; lines = lines; routes = routes })
 
 -- the customers, after those done
 abbrev pub customers_onto : List NamedCustomer → Items → Walked (List NamedCustomer)
 customers_onto done no_items = Ok done
 customers_onto done (item value more) = next_customer done value >>= (λ customer. customers_onto (done ++ customer ∷ []) more)
 
+-- ---- the file
+
 abbrev pub is_empty : Items → Bool
 is_empty no_items = true
 is_empty (item value more) = false
 
--- the tables that a document gives
+-- the tables that a document gives: it has a customer, and the quotas add to at most the capacity
 unfoldable pub tables_in : Members → Walked TableFile
 tables_in keys = do
-  capacity ← at_key (number 1 4194240) (codes "capacity") keys
+  capacity ← at_key (number 1 MAX_CAPACITY) (codes "capacity") keys
   customer_values ← at_key as_array (codes "customer") keys
   fault_where (is_empty customer_values) MissingKey
   customers ← customers_onto [] customer_values

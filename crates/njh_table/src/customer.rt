@@ -2,7 +2,7 @@
 
 ghost use Rattle.std.specs.Prelude.{◌≡◌, ◌<◌, length, slice_get, Some};
 ghost use Rattle.njh_table.specs.Entries.{route_of};
-ghost use Rattle.njh_table.specs.TableFile.{entry_of, routed};
+ghost use Rattle.njh_table.specs.TableFile.{entry_of, route_entry};
 
 use crate::Route;
 use crate::line::Line;
@@ -26,7 +26,14 @@ impl Model for Customer {
 
     ghost Value = { NamedCustomer };
 
-    ghost view = { λ c. record { name = c.name; hub = c.hub; quota = c.quota; files = c.files; lines = c.lines.items; routes = c.routes } };
+    ghost view = { λ c. record {
+      name = c.name;
+      hub = c.hub;
+      quota = c.quota;
+      files = c.files;
+      lines = c.lines.items;
+      routes = c.routes;
+    } };
 }
 
 impl Customer {
@@ -75,13 +82,12 @@ impl Customer {
     /// The node of a route and the number of its line, by the route's place in the file.
     pub fn route_at(&self, index: usize) -> (Name, u16)
         requires { index < length self.now.routes }
-        ensures { slice_get self.now.routes index ≡ Some (routed result) }
+        ensures { slice_get self.now.routes index ≡ Some (route_entry result) }
     {
         self.routes.at(index)
     }
 
     /// Where a node's files and messages go.
-    #[tactic(auto, using(crate::proofs::RouteLaws::route_in_routed))]
     pub fn route(&self, node: Name) -> Route
         ensures { result ≡ route_of (entry_of self.now) node }
     {

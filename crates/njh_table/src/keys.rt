@@ -5,7 +5,8 @@ ghost use Rattle.std.specs.List.{list_all};
 ghost use Rattle.std.specs.Result.{result_map_both};
 ghost use Rattle.toml.specs.Data.{get_member, as_str, as_array, as_table, no_items};
 ghost use Rattle.toml.specs.View.{view, table_view, items_view};
-ghost use Rattle.njh_table.specs.Keys.{number, node_name, line_name, is_line_name, is_letter_or_digit, role, password, at_key, at_key_or, keys_in};
+ghost use Rattle.njh_table.specs.Keys.{keys_in, at_key, at_key_or, number, node_name, role, password};
+ghost use Rattle.njh_table.specs.Keys.{line_name, is_line_name, is_letter_or_digit};
 ghost use Rattle.njh_table.specs.TableFile.{password_bytes};
 
 use crate::Role;
@@ -32,7 +33,8 @@ fn find<'a>(keys: &'a Table, key: &str) -> Option<&'a Value>
 
 /// The value of a key that must be there.
 fn value_at<'a>(keys: &'a Table, key: &str) -> Result<&'a Value, TableFault>
-    ensures { result_map_both (λ v. view v.now) (λ f. f) result ≡ ok_or (get_member key.now (table_view keys.now)) TableFault.MissingKey }
+    ensures { result_map_both (λ v. view v.now) (λ f. f) result
+        ≡ ok_or (get_member key.now (table_view keys.now)) TableFault.MissingKey }
 {
     match find(keys, key) {
         Some(value) => Ok(value),

@@ -15,7 +15,8 @@ use crate::fault::TableFault;
 /// the file's contents.
 pub fn walk_keeps_limits()
     ensures accepted { (text : List ℕ) (t : TableFile) → tables_of text ≡ Ok t → IsAccepted t }
-    ensures refused { (keys : Members) (fault : Fault) → tables_in keys ≡ Err fault → (fault ≢ TableFault.BadToml) × (fault ≢ TableFault.Memory) }
+    ensures refused { (keys : Members) (fault : Fault) → tables_in keys ≡ Err fault
+        → (fault ≢ TableFault.BadToml) × (fault ≢ TableFault.Memory) }
 {}
 
 /// Customers with the same entry route alike, wherever each stands in its table; and where their tables are accepted, what

@@ -25,7 +25,17 @@ impl Model for Line {
 
     ghost Value = { NamedLine };
 
-    ghost view = { λ l. record { name = string_bytes l.name; port = l.port; entry = record { node = l.node; role = l.role; block = l.block; streams = l.streams; password = password_bytes l.password } } };
+    ghost view = { λ l. record {
+      name = string_bytes l.name;
+      port = l.port;
+      entry = record {
+        node = l.node;
+        role = l.role;
+        block = l.block;
+        streams = l.streams;
+        password = password_bytes l.password;
+      };
+    } };
 }
 
 impl Line {

@@ -56,7 +56,8 @@ impl Tables {
     pub fn read(alloc: Global, text: &str) -> Result<Tables, TableFault>
         ensures read { IfOk result (λ t. tables_of text.now ≡ Ok t) }
         ensures fault { IfErr result (λ fault. fault ≢ TableFault.Memory → tables_of text.now ≡ Err fault) }
-        ensures no_toml { IfErr result (λ fault. fault ≢ TableFault.Memory → (fault ≡ TableFault.BadToml) ↔ (parse_document text.now ≡ None)) }
+        ensures no_toml { IfErr result (λ fault.
+            fault ≢ TableFault.Memory → (fault ≡ TableFault.BadToml) ↔ (parse_document text.now ≡ None)) }
         ensures accepted { IfOk result IsAccepted }
     {
         match toml::table_from_str(alloc, text) {

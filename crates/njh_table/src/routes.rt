@@ -1,7 +1,8 @@
 //! A customer's routes.
 
 ghost use Rattle.std.specs.Prelude.{◌≡◌, ◌<◌, ◌++◌, [], ◌∷◌, length, slice_get, None, Some, OnOk};
-ghost use Rattle.njh_table.specs.TableFile.{routed, routed_line};
+ghost use Rattle.njh_table.specs.Entries.{line_to};
+ghost use Rattle.njh_table.specs.TableFile.{route_entry};
 
 use indexmap::IndexMap;
 use njh_ebcdic::Name;
@@ -17,11 +18,11 @@ pub(crate) struct Routes {
 impl Model for Routes {
     ghost use Rattle.std.specs.Prelude.{List, map};
     ghost use Rattle.njh_table.specs.Entries.{RouteEntry};
-    ghost use Rattle.njh_table.specs.TableFile.{routed};
+    ghost use Rattle.njh_table.specs.TableFile.{route_entry};
 
     ghost Value = { List RouteEntry };
 
-    ghost view = { λ r. map routed r.lines.entries };
+    ghost view = { λ r. map route_entry r.lines.entries };
 }
 
 impl Routes {
@@ -42,7 +43,7 @@ impl Routes {
     /// The node and the number of its line, by their place in the file.
     pub(crate) fn at(&self, index: usize) -> (Name, u16)
         requires { index < length self.now }
-        ensures { slice_get self.now index ≡ Some (routed result) }
+        ensures { slice_get self.now index ≡ Some (route_entry result) }
     {
         let (node, line) = self.lines.get_index(index).unwrap();
         (*node, *line)
@@ -50,15 +51,15 @@ impl Routes {
 
     /// The number of a node's line.
     pub(crate) fn get(&self, node: Name) -> Option<u16>
-        ensures { result ≡ routed_line self.now node }
+        ensures { result ≡ line_to self.now node }
     {
         self.lines.get(&node).copied()
     }
 
     /// Adds a route for a node that has none.
     pub(crate) fn insert(&mut self, node: Name, line: u16) -> Result<(), AllocError>
-        requires { routed_line self.old node ≡ None }
-        ensures { OnOk result (self.new ≡ self.old ++ routed (node, line) ∷ []) }
+        requires { line_to self.old node ≡ None }
+        ensures { OnOk result (self.new ≡ self.old ++ route_entry (node, line) ∷ []) }
     {
         self.lines.insert(node, line)?;
         Ok(())

@@ -24,7 +24,8 @@ impl Model for Tables {
 
     ghost view = { λ t. record { capacity = t.capacity; customers = t.customers.items } };
 
-    ghost invariant = { λ t. IsAccepted (record { capacity = t.capacity; customers = t.customers.items }) × (t.owners ≡ owners_from 0 t.customers.items) };
+    ghost invariant = { λ t. IsAccepted (record { capacity = t.capacity; customers = t.customers.items })
+        × (t.owners ≡ owners_from 0 t.customers.items) };
 }
 
 impl Tables {

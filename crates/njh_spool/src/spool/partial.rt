@@ -1,54 +1,60 @@
 //! Files that come in: a file begins, takes records, and is finished or given up.
 
-ghost use Rattle.std.specs.Prelude.{◌≡◌, ◌<◌, ◌≤◌, length, MatchOption, IfOk, OnOk, OnErr, IsOkUnless, slice_set};
+ghost use Rattle.std.specs.Prelude.{◌≡◌, ◌<◌, ◌≤◌, ◌^◌, length, MatchOption, IfOk, OnOk, OnErr, IsOk, slice_set};
 ghost use Rattle.std.specs.Option.{option_map};
 ghost use Rattle.njh_spool.specs.CustomerSpool.{next_number, begun, appended, finished, abandoned, partial_numbered};
+ghost use Rattle.njh_spool.specs.Chains.{blocks_for};
 ghost use Rattle.njh_spool.specs.Spools.{part, begin_fault, append_fault, or_no_file};
 
-use crate::file::{File, Stage};
 use crate::file_id::FileId;
-use crate::places::{count, free_number, partial_place};
-use crate::records::Records;
+use crate::file_slot::{FileSlot, Stage};
+use crate::laws::quotas_leave_room;
+use crate::places::{free_number, place, slot_at};
+use crate::reading::{RECORD_HEAD, pack_record};
 use crate::spool::Spool;
+use crate::store::block::BLOCK_DATA;
 use crate::{SpoolFault, State};
 use njh_record::Kind;
+
+/// How many blocks so many bytes take.
+pub(super) fn blocks_for(size: u32) -> u32
+    requires { size < 2 ^ 31 }
+    ensures { result ≡ blocks_for size }
+{
+    size.div_ceil(BLOCK_DATA as u32)
+}
 
 impl Spool {
     /// A new partial file without records, of the least number that no file of the customer has.
     ///
     /// S2 where the customer's files, whole and partial, are as many as it may have; else S1 where it has no block
-    /// left; else S4 where memory is refused.
+    /// left.
     pub fn begin(&mut self, customer: u16, kind: Kind) -> Result<FileId, SpoolFault>
         requires { customer < length self.old }
         ensures fault { MatchOption (begin_fault (part customer self.old))
-            (IsOkUnless result SpoolFault.Memory) (λ fault. result ≡ Err fault) }
+            (IsOk result) (λ fault. result ≡ Err fault) }
         ensures number { IfOk result (λ id. id ≡ next_number (part customer self.old)) }
         ensures ok { OnOk result (self.new ≡ slice_set self.old customer (begun kind (part customer self.old))) }
         ensures err { OnErr result (self.new ≡ self.old) }
     {
-        let account = self.accounts[usize::from(customer)];
-        if count(&self.files, customer) >= account.limit as usize {
+        let own = &mut self.customers[usize::from(customer)];
+        if own.whole.len() + own.partial.len() >= own.limit as usize {
             return Err(SpoolFault::TooManyFiles);
         }
-        if account.used >= account.quota {
+        if own.used >= own.quota {
             return Err(SpoolFault::QuotaFull);
         }
-        self.files.reserve(1)?;
-        let number = free_number(&self.files, customer);
-        self.files.push_reserved(File {
-            customer,
-            number,
-            kind,
-            stage: Stage::Partial,
-            records: Records::new(self.alloc),
-        });
-        Ok(number)
+        let number = free_number(&self.slots, customer, own.limit);
+        own.partial.push(number);
+        let id = FileId::of(number);
+        self.slots[place(customer, id) as usize] = FileSlot::empty(Stage::Partial, kind);
+        Ok(id)
     }
 
     /// Puts a record last in a partial file.
     ///
     /// S3 where the number is no partial file's; else S1 where the customer's files would take more blocks than its
-    /// quota; else S4 where memory is refused.
+    /// quota.
     pub fn append(
         &mut self,
         customer: u16,
@@ -59,22 +65,28 @@ impl Spool {
         requires range { customer < length self.old }
         requires short { length bytes.now ≤ 256 }
         ensures fault { MatchOption (append_fault id (record { srcb = srcb; bytes = bytes.now }) (part customer self.old))
-            (IsOkUnless result SpoolFault.Memory) (λ fault. result ≡ Err fault) }
+            (IsOk result) (λ fault. result ≡ Err fault) }
         ensures ok { OnOk result (self.new
             ≡ slice_set self.old customer (appended id (record { srcb = srcb; bytes = bytes.now }) (part customer self.old))) }
         ensures err { OnErr result (self.new ≡ self.old) }
     {
-        let Some(place) = partial_place(&self.files, customer, id) else {
+        let mut slot = slot_at(&self.slots, customer, id);
+        if !slot.is_partial() {
             return Err(SpoolFault::NoSuchFile);
-        };
-        let account = &mut self.accounts[usize::from(customer)];
-        let records = &mut self.files[place].records;
-        let used = account.used - records.cost() + records.cost_with(bytes.len());
-        if used > account.quota {
+        }
+        let at = place(customer, id);
+        let own = &mut self.customers[usize::from(customer)];
+        let size = self.store.len(at);
+        let longer = size + (RECORD_HEAD + bytes.len()) as u32;
+        let used = own.used - blocks_for(size) + blocks_for(longer);
+        if used > own.quota {
             return Err(SpoolFault::QuotaFull);
         }
-        records.push(srcb, bytes)?;
-        account.used = used;
+        own.used = used;
+        quotas_leave_room();
+        self.store.append(at, &pack_record(srcb, bytes));
+        slot.count += 1;
+        self.slots[at as usize] = slot;
         Ok(())
     }
 
@@ -87,12 +99,15 @@ impl Spool {
         ensures after { self.new ≡ slice_set self.old customer (finished id (part customer self.old)) }
         ensures err { OnErr result (self.new ≡ self.old) }
     {
-        let Some(place) = partial_place(&self.files, customer, id) else {
+        let mut slot = slot_at(&self.slots, customer, id);
+        if !slot.is_partial() {
             return Err(SpoolFault::NoSuchFile);
-        };
-        let mut file = self.files.remove(place);
-        file.stage = Stage::Whole(State::Ready);
-        self.files.push_reserved(file);
+        }
+        let own = &mut self.customers[usize::from(customer)];
+        own.partial.remove(id.number());
+        own.whole.push(id.number());
+        slot.stage = Stage::Whole(State::Ready);
+        self.slots[place(customer, id) as usize] = slot;
         Ok(())
     }
 
@@ -105,11 +120,16 @@ impl Spool {
         ensures after { self.new ≡ slice_set self.old customer (abandoned id (part customer self.old)) }
         ensures err { OnErr result (self.new ≡ self.old) }
     {
-        let Some(place) = partial_place(&self.files, customer, id) else {
+        if !slot_at(&self.slots, customer, id).is_partial() {
             return Err(SpoolFault::NoSuchFile);
-        };
-        let file = self.files.remove(place);
-        self.accounts[usize::from(customer)].used -= file.records.cost();
+        }
+        let at = place(customer, id);
+        let own = &mut self.customers[usize::from(customer)];
+        let left = own.used - blocks_for(self.store.len(at));
+        own.used = left;
+        own.partial.remove(id.number());
+        self.store.clear(at);
+        self.slots[at as usize] = FileSlot::empty(Stage::Free, Kind::In);
         Ok(())
     }
 }

@@ -6,7 +6,8 @@ ghost use Rattle.njh_spool.specs.Spools.{part, or_no_file, kind_numbered, record
 
 use crate::SpoolFault;
 use crate::file_id::FileId;
-use crate::places::place;
+use crate::places::{place, slot_at};
+use crate::reading::{place_of_record, read_record};
 use crate::spool::Spool;
 use njh_record::{Kind, Record};
 
@@ -16,10 +17,11 @@ impl Spool {
         requires { customer < length self.now }
         ensures { result ≡ or_no_file (kind_numbered id (part customer self.now)) }
     {
-        let Some(place) = place(&self.files, customer, id) else {
+        let slot = slot_at(&self.slots, customer, id);
+        if slot.is_free() {
             return Err(SpoolFault::NoSuchFile);
-        };
-        Ok(self.files[place].kind)
+        }
+        Ok(slot.kind)
     }
 
     /// How many records a file has. S3 where the number is no file's.
@@ -27,10 +29,11 @@ impl Spool {
         requires { customer < length self.now }
         ensures { result ≡ or_no_file (option_map (λ records. length records) (records_numbered id (part customer self.now))) }
     {
-        let Some(place) = place(&self.files, customer, id) else {
+        let slot = slot_at(&self.slots, customer, id);
+        if slot.is_free() {
             return Err(SpoolFault::NoSuchFile);
-        };
-        Ok(self.files[place].records.len())
+        }
+        Ok(slot.count)
     }
 
     /// Puts the n-th record's bytes into `into` and gives its SRCB. S3 where the number is no file's.
@@ -49,9 +52,43 @@ impl Spool {
             ≡ Some (record { srcb = srcb; bytes = into.new.items })) }
         ensures err { OnErr result (into.new ≡ into.old) }
     {
-        let Some(place) = place(&self.files, customer, id) else {
+        let slot = slot_at(&self.slots, customer, id);
+        if slot.is_free() {
             return Err(SpoolFault::NoSuchFile);
-        };
-        Ok(self.files[place].records.copy_to(n, into))
+        }
+        let at = place(customer, id);
+        let begins = place_of_record(&self.store, at, &slot, n);
+        let (srcb, _) = read_record(&self.store, at, &slot, begins, into);
+        Ok(srcb)
+    }
+
+    /// As `record_at`, and keeps in the file's slot where the next record begins: reading on from there costs the record's
+    /// bytes, so reading a file from its first record to its last costs the file's bytes. S3 where the number is no file's.
+    pub fn read_on(
+        &mut self,
+        customer: u16,
+        id: FileId,
+        n: u32,
+        into: &mut Record,
+    ) -> Result<u8, SpoolFault>
+        requires range { customer < length self.old }
+        requires within { ForSome (records_numbered id (part customer self.old)) (λ records. n < length records) }
+        ensures fault { MatchOption (records_numbered id (part customer self.old))
+            (result ≡ Err SpoolFault.NoSuchFile) (λ _. IsOk result) }
+        ensures ok { IfOk result (λ srcb. record_numbered id n (part customer self.old)
+            ≡ Some (record { srcb = srcb; bytes = into.new.items })) }
+        ensures same { self.new ≡ self.old }
+        ensures err { OnErr result (into.new ≡ into.old) }
+    {
+        let mut slot = slot_at(&self.slots, customer, id);
+        if slot.is_free() {
+            return Err(SpoolFault::NoSuchFile);
+        }
+        let at = place(customer, id);
+        let begins = place_of_record(&self.store, at, &slot, n);
+        let (srcb, next) = read_record(&self.store, at, &slot, begins, into);
+        slot.next = next;
+        self.slots[at as usize] = slot;
+        Ok(srcb)
     }
 }

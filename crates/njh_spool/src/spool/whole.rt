@@ -5,11 +5,14 @@ ghost use Rattle.std.specs.Option.{option_map, ForSome};
 ghost use Rattle.njh_spool.specs.CustomerSpool.{whole_numbered, with_state, removed, rewritten};
 ghost use Rattle.njh_spool.specs.Spools.{part, or_no_file};
 
-use crate::file::Stage;
 use crate::file_id::FileId;
-use crate::places::{place, whole_place};
+use crate::file_slot::{FileSlot, Stage};
+use crate::places::{place, slot_at};
+use crate::reading::{RECORD_HEAD, place_of_record};
 use crate::spool::Spool;
+use crate::spool::partial::blocks_for;
 use crate::{SpoolFault, State};
+use njh_record::Kind;
 
 impl Spool {
     /// S3 where the number is no whole file's.
@@ -19,10 +22,12 @@ impl Spool {
         ensures after { self.new ≡ slice_set self.old customer (with_state id state (part customer self.old)) }
         ensures err { OnErr result (self.new ≡ self.old) }
     {
-        let Some(place) = whole_place(&self.files, customer, id) else {
+        let mut slot = slot_at(&self.slots, customer, id);
+        if !slot.is_whole() {
             return Err(SpoolFault::NoSuchFile);
-        };
-        self.files[place].stage = Stage::Whole(state);
+        }
+        slot.stage = Stage::Whole(state);
+        self.slots[place(customer, id) as usize] = slot;
         Ok(())
     }
 
@@ -31,12 +36,10 @@ impl Spool {
         requires { customer < length self.now }
         ensures { result ≡ or_no_file (option_map (λ f. f.state) (whole_numbered id (part customer self.now))) }
     {
-        let Some(place) = place(&self.files, customer, id) else {
-            return Err(SpoolFault::NoSuchFile);
-        };
-        match self.files[place].stage {
+        match slot_at(&self.slots, customer, id).stage {
             Stage::Whole(state) => Ok(state),
             Stage::Partial => Err(SpoolFault::NoSuchFile),
+            Stage::Free => Err(SpoolFault::NoSuchFile),
         }
     }
 
@@ -47,11 +50,16 @@ impl Spool {
         ensures after { self.new ≡ slice_set self.old customer (removed id (part customer self.old)) }
         ensures err { OnErr result (self.new ≡ self.old) }
     {
-        let Some(place) = whole_place(&self.files, customer, id) else {
+        if !slot_at(&self.slots, customer, id).is_whole() {
             return Err(SpoolFault::NoSuchFile);
-        };
-        let file = self.files.remove(place);
-        self.accounts[usize::from(customer)].used -= file.records.cost();
+        }
+        let at = place(customer, id);
+        let own = &mut self.customers[usize::from(customer)];
+        let left = own.used - blocks_for(self.store.len(at));
+        own.used = left;
+        own.whole.remove(id.number());
+        self.store.clear(at);
+        self.slots[at as usize] = FileSlot::empty(Stage::Free, Kind::In);
         Ok(())
     }
 
@@ -73,10 +81,14 @@ impl Spool {
         ensures after { self.new ≡ slice_set self.old customer (rewritten id n place bytes (part customer self.old)) }
         ensures err { OnErr result (self.new ≡ self.old) }
     {
-        let Some(at) = whole_place(&self.files, customer, id) else {
+        let slot = slot_at(&self.slots, customer, id);
+        if !slot.is_whole() {
             return Err(SpoolFault::NoSuchFile);
-        };
-        self.files[at].records.overwrite(n, place, bytes);
+        }
+        let at = crate::places::place(customer, id);
+        let begins = place_of_record(&self.store, at, &slot, n);
+        let from = begins.place + (RECORD_HEAD + place) as u32;
+        self.store.overwrite(at, begins.mark, from, bytes);
         Ok(())
     }
 }

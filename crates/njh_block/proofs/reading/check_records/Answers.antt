@@ -6,12 +6,14 @@ use Rattle.njh_block.proofs.reading.check_records.Goals as goal
 
 pub loop-after-smaller : goal.loop-after-smaller
 loop-after-smaller c =
-    let first : first_record c.loop-after.rest.now ≡ Ok (Some (record { item = shown c.first_record.new.contents.items c.in-Some.field-0-0; rest = c.in-Some.after.now }))
-    = sym (rw (c.in_ok-after.was, c.in-Some.is) at c.first_record.ensures.first) in
+    let first : first_record c.loop-after.rest.now
+    ≡ Ok (Some (record { item = shown c.read_first.new.contents.items c.in-Some.field-0-0; rest = c.in-Some.after.now }))
+    = sym (rw (c.in_ok-after.was, c.in-Some.is) at c.read_first.ensures.first) in
     first_leaves_less c.loop-after.rest.now c.in-Some.after.now _ first
 
 pub loop-after-preserved : goal.loop-after-preserved
 loop-after-preserved c =
-    let first : first_record c.loop-after.rest.now ≡ Ok (Some (record { item = shown c.first_record.new.contents.items c.in-Some.field-0-0; rest = c.in-Some.after.now }))
-    = sym (rw (c.in_ok-after.was, c.in-Some.is) at c.first_record.ensures.first) in
+    let first : first_record c.loop-after.rest.now
+    ≡ Ok (Some (record { item = shown c.read_first.new.contents.items c.in-Some.field-0-0; rest = c.in-Some.after.now }))
+    = sym (rw (c.in_ok-after.was, c.in-Some.is) at c.read_first.ensures.first) in
     fault_in-first c.loop-after.rest.now c.in-Some.after.now _ first ∙ c.loop-after.invariant

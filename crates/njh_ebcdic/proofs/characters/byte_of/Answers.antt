@@ -9,7 +9,8 @@ returns-then-character-eq-NONE c =
 
 pub returns-in_err-place : goal.returns-in_err-place
 returns-in_err-place c =
-    c.from_residual.ensures ∙ (sym c.in_err-place.was ∙ (c.place_of.ensures.place ∙ sym (place-chart c.args.character c.if-character-eq-NONE.false)))
+    c.from_residual.ensures
+    ∙ (sym c.in_err-place.was ∙ (c.place_of.ensures.place ∙ sym (place-chart c.args.character c.if-character-eq-NONE.false)))
 
 pub returns : goal.returns
 returns c =

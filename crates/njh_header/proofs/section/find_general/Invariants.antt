@@ -1,5 +1,5 @@
 use Rattle.std.proofs.Common.{◌≡◌, ◌+◌, ◌-◌, ◌≤◌, length}
-use Rattle.njh_header.specs.Headers.{general_section, walk}
+use Rattle.njh_header.specs.Walk.{general_section, walk}
 use Rattle.njh_header.proofs.section.find_general.Given as goal
 
 abbrev pub invariant-loop-rest : goal.invariant-loop-rest

@@ -1,4 +1,4 @@
-use Rattle.njh_record.proofs.ReadingLaws.{prefix_free}
+use Rattle.njh_record.proofs.ReadBack.{prefix_free}
 use Rattle.njh_record.proofs.laws.no_proper_prefix.Goals as goal
 
 pub returns : goal.returns

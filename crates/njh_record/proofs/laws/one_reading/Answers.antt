@@ -1,4 +1,5 @@
-use Rattle.njh_record.proofs.ReadingLaws.{found, only}
+use Rattle.njh_record.proofs.ReadingLaws.{found}
+use Rattle.njh_record.proofs.ReadBack.{only}
 use Rattle.njh_record.proofs.laws.one_reading.Goals as goal
 
 pub returns-clause-found : goal.returns-clause-found

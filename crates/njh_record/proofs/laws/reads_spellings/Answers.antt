@@ -1,4 +1,4 @@
-use Rattle.njh_record.proofs.ReadingLaws.{unspelled-spelling}
+use Rattle.njh_record.proofs.ReadBack.{unspelled-spelling}
 use Rattle.njh_record.proofs.laws.reads_spellings.Goals as goal
 
 pub returns : goal.returns

@@ -1,4 +1,4 @@
-use Rattle.njh_record.proofs.ReadingLaws.{rest_behind}
+use Rattle.njh_record.proofs.ReadBack.{rest_behind}
 use Rattle.njh_record.proofs.laws.rest_behind.Goals as goal
 
 pub returns : goal.returns

@@ -1,13 +1,15 @@
-use Rattle.std.proofs.Common.{ℕ, arith, rules, length-drop, length-take}
-use Rattle.std.proofs.lemmas.List.{take_rest}
-use Rattle.njh_record.proofs.Unspelling.{leads_repeat, leads_literal}
+use Rattle.std.proofs.Common.{ℕ, arith, length-drop, length-take}
+use Rattle.njh_record.proofs.Fronts.{cut_none, cut_repeat, cut_literal}
 use Rattle.njh_record.proofs.reading.next_part.Goals as goal
 
-pub returns-in-len1-up-rest : goal.returns-in-len1-up-rest
-returns-in-len1-up-rest c =
-    (leads_repeat c.args.bytes.now _ c.from-count-in-160-to-191.result (take_rest c.args.bytes.now 1) (omega arith) (omega arith) (omega arith) (omega arith), omega arith, search rules)
+pub returns-in_default : goal.returns-in_default
+returns-in_default c = cut_none _ c.in_default.len_below
 
-pub returns-in-Some : goal.returns-in-Some
-returns-in-Some c =
-    let parts = c.in-Some.ensures.cases in
-    (leads_literal c.args.bytes.now _ _ _ _ (take_rest c.args.bytes.now 1) (omega arith) (omega arith) parts.0 parts.1 parts.2, omega (arith, parts.4, length-take {A = ℕ}, length-drop {A = ℕ}))
+pub returns-in_default-rest : goal.returns-in_default-rest
+returns-in_default-rest c = cut_repeat _ (omega (arith, length-take {A = ℕ}, length-drop {A = ℕ})) (omega arith) (omega arith)
+
+pub returns-in_default-split_at_checked : goal.returns-in_default-split_at_checked
+returns-in_default-split_at_checked c =
+    let lacks = c.in_default-split_at_checked.ensures.cases in
+    cut_literal _ c.from-count-in-192-to-255.result (omega arith) (omega arith)
+    (omega (arith, lacks, length-take {A = ℕ}, length-drop {A = ℕ}))

@@ -5,12 +5,14 @@ use Rattle.njh_record.proofs.writing.literal_len.Goals as goal
 
 pub returns-then-is_run-clause-front : goal.returns-then-is_run-clause-front
 returns-then-is_run-clause-front c =
-    let at = begins_run-tested _ _ _ _ _ (take_rest c.args.bytes.now c.loop-place.place) c.run_len.ensures c.is_run.ensures c.if-is_run.true in
+    let at = begins_run-tested _ _ _ _ _
+    (take_rest c.args.bytes.now c.loop-place.place) c.run_len.ensures c.is_run.ensures c.if-is_run.true in
     NoRunBefore-at _ _ (omega arith) at c.loop-place.invariant
 
 pub loop-place-preserved : goal.loop-place-preserved
 loop-place-preserved c =
-    let past = begins_run-tested _ _ _ _ _ (take_rest c.args.bytes.now c.loop-place.place) c.run_len.ensures c.is_run.ensures c.if-is_run.false in
+    let past = begins_run-tested _ _ _ _ _
+    (take_rest c.args.bytes.now c.loop-place.place) c.run_len.ensures c.is_run.ensures c.if-is_run.false in
     NoRunBefore-more _ _ (omega arith) past c.loop-place.invariant
 
 pub returns-clause-front : goal.returns-clause-front

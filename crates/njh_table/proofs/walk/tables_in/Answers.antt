@@ -11,6 +11,7 @@ use Rattle.njh_table.proofs.walk.tables_in.Goals as goal
 pub invariant_of-result : goal.invariant_of-result
 unfolding tables_in
 invariant_of-result c =
-    let walked : tables_in (table_view c.args.keys.now) ≡ Ok (record { capacity = c.in_ok-capacity.capacity; customers = c.in_ok-customers.customers.items }) =
+    let walked : tables_in (table_view c.args.keys.now)
+    ≡ Ok (record { capacity = c.in_ok-capacity.capacity; customers = c.in_ok-customers.customers.items }) =
     grind (arith, common_steps, is_empty_view) in
     (given IsAccepted _ _ walked (tables_in-gives (table_view c.args.keys.now)), c.in_ok-customers.ensures.owners)

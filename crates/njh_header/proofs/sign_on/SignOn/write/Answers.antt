@@ -6,6 +6,6 @@ use Rattle.njh_header.proofs.sign_on.SignOn.write.Goals as goal
 
 pub returns-clause-reads_back : goal.returns-clause-reads_back
 returns-clause-reads_back c rest =
-    let written : c.put-6.new.out.items ≡ sign_on_bytes c.args.self.now = grind (arith, common_steps) in
+    let written : c.put_bytes-6.new.out.items ≡ sign_on_bytes c.args.self.now = grind (arith, common_steps) in
     ap (λ (bytes : List ℕ). sign_on (bytes ++ rest)) written
     ∙ read_back c.args.self.now rest (search rules) (search rules) (search rules) (search rules)

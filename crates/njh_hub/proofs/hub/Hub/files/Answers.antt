@@ -1,6 +1,6 @@
 use Rattle.std.proofs.Common.{List, length, ap, refl, arith}
 use Rattle.std.proofs.lemmas.Bool.{false≢true}
-use Rattle.njh_hub.specs.Runs.{Part}
+use Rattle.njh_hub.specs.Whole.{Part}
 use Rattle.njh_hub.specs.Parts.{entries_of}
 use Rattle.njh_hub.proofs.PartsLaws.{length-parts_of}
 use Rattle.njh_hub.proofs.hub.Hub.files.Goals as goal
@@ -12,5 +12,8 @@ returns-then-from-len-clause-known c =
 
 pub returns-else-from-len-clause-known : goal.returns-else-from-len-clause-known
 returns-else-from-len-clause-known c =
-    let count = length-parts_of (entries_of c.self.inside.tables) c.self.inside.lines.items c.self.invariant in
-    (λ e. absurd (false≢true e), λ there. absurd (omega (arith, there, count, ap (λ (ps : List Part). length ps) c.self.view_is, c.self.inside.lines.ok.0)))
+    let count = length-parts_of (entries_of c.self.inside.tables) c.self.inside.lines.items c.self.invariant in (
+      λ e. absurd (false≢true e),
+      λ there. absurd
+          (omega (arith, there, count, ap (λ (ps : List Part). length ps) c.self.view_is, c.self.inside.lines.ok.0)),
+    )

@@ -1,89 +1,71 @@
-use Rattle.std.proofs.Common.{◌≡◌, ℕ, ◌∙◌, sym, refl, List, ap, length, slice_index_or, slice_set, rules, arith}
-use Rattle.std.proofs.lemmas.List.{get_or-map, length-map}
-use Rattle.njh_table.specs.Entries.{CustomerEntry}
-use Rattle.njh_table.specs.TableFile.{no_customer, entry_of}
-use Rattle.njh_hub.specs.Runs.{Part, part_takes}
-use Rattle.njh_hub.specs.Parts.{entries_of, parts_of, part_with}
-use Rattle.njh_hub.specs.Whole.{part, no_entry, HasLine}
-use Rattle.njh_hub.proofs.PartsLaws.{Stands, customer-there, lines-there, part-there, part-moved, same_lines}
+use Rattle.std.proofs.Common.{◌≡◌, ℕ, ◌∙◌, List, length, slice_index_or, slice_set, ap, rules, arith}
+use Rattle.njh_table.specs.TableFile.{entry_of}
+use Rattle.njh_customer.specs.Part.{part_with, bytes_taken}
+use Rattle.njh_hub.specs.Parts.{entries_of, parts_of}
+use Rattle.njh_hub.specs.Whole.{Part, part}
+use Rattle.njh_hub.proofs.PartsLaws.{Stands, found-there, found, found-line, found-moved, found-lines}
 use Rattle.njh_hub.proofs.hub.Hub.take.Goals as goal
 
 pub customer-customer-requires : goal.customer-customer-requires
 customer-customer-requires c =
-    let stands : Stands (entries_of c.self.inside.tables) c.self.inside.lines.items c.args.self.now = record { each = c.self.invariant; are = c.self.view_is } in
-    let known : HasLine c.args.self.now c.args.line = search rules in
-    let there = customer-there c.args.line.customer c.args.line.line stands known in
-    omega (arith, there, stands.each, length-map c.self.inside.tables.customers entry_of)
+    let stands : Stands (entries_of c.self.inside.tables) c.self.inside.lines.items c.args.self.now =
+    record { each = c.self.invariant; are = c.self.view_is } in
+    (found-there c.self.inside.tables.customers c.args.line stands c.in_ok-frame.ensures.known).1
 
 pub index_mut-lines-requires : goal.index_mut-lines-requires
 index_mut-lines-requires c =
-    let stands : Stands (entries_of c.self.inside.tables) c.self.inside.lines.items c.args.self.now = record { each = c.self.invariant; are = c.self.view_is } in
-    let known : HasLine c.args.self.now c.args.line = search rules in
-    let there = customer-there c.args.line.customer c.args.line.line stands known in
+    let stands : Stands (entries_of c.self.inside.tables) c.self.inside.lines.items c.args.self.now =
+    record { each = c.self.invariant; are = c.self.view_is } in
+    let there = (found-there c.self.inside.tables.customers c.args.line stands c.in_ok-frame.ensures.known).0 in
     omega (arith, there, c.self.inside.lines.ok.0)
 
-pub take-requires-clause-within : goal.take-requires-clause-within
-take-requires-clause-within c =
-    let stands : Stands (entries_of c.self.inside.tables) c.self.inside.lines.items c.args.self.now = record { each = c.self.invariant; are = c.self.view_is } in
-    let known : HasLine c.args.self.now c.args.line = search rules in
-    let there = customer-there c.args.line.customer c.args.line.line stands known in
-    let found : c.index_mut-lines.result.now ≡ slice_index_or c.self.inside.lines.items c.args.line.customer c.index_mut-lines.result.now = search rules in
-    omega (arith, lines-there c.args.line.customer c.index_mut-lines.result.now stands there found, known)
+pub take_bytes-taken-requires : goal.take_bytes-taken-requires
+take_bytes-taken-requires c =
+    let stands : Stands (entries_of c.self.inside.tables) c.self.inside.lines.items c.args.self.now =
+    record { each = c.self.invariant; are = c.self.view_is } in
+    let here : c.index_mut-lines.result.now
+    ≡ slice_index_or c.self.inside.lines.items c.args.line.customer c.index_mut-lines.result.now = search rules in
+    let f = found c.self.inside.tables.customers c.args.line c.customer-customer.result.now c.index_mut-lines.result.now stands
+    c.in_ok-frame.ensures.known c.customer-customer.ensures here in
+    found-line f c.in_ok-frame.ensures.known
 
 pub returns-clause-taken : goal.returns-clause-taken
 returns-clause-taken c =
-    let stands : Stands (entries_of c.self.inside.tables) c.self.inside.lines.items c.args.self.now = record { each = c.self.invariant; are = c.self.view_is } in
-    let known : HasLine c.args.self.now c.args.line = search rules in
-    let there = customer-there c.args.line.customer c.args.line.line stands known in
-    let found : c.index_mut-lines.result.now ≡ slice_index_or c.self.inside.lines.items c.args.line.customer c.index_mut-lines.result.now = search rules in
-    let entry : entry_of c.customer-customer.result.now ≡ slice_index_or (entries_of c.self.inside.tables) c.args.line.customer no_entry =
-    ap entry_of c.customer-customer.ensures ∙ sym (get_or-map entry_of c.self.inside.tables.customers c.args.line.customer no_customer no_entry (omega (arith, there, stands.each, length-map c.self.inside.tables.customers entry_of))) in
-    let before : part_with (entry_of c.customer-customer.result.now) c.index_mut-lines.result.now ≡ part c.args.line.customer c.args.self.now =
-    ap (λ (e : CustomerEntry). part_with e c.index_mut-lines.result.now) entry ∙ part-there c.args.line.customer c.index_mut-lines.result.now stands there found in
-    c.take.ensures.taken ∙ ap (λ (p : Part). (part_takes p c.args.line.line c.args.piece.now).taken) before
+    let line = c.args.line in
+    let known = c.in_ok-frame.ensures.known in
+    let stands : Stands (entries_of c.self.inside.tables) c.self.inside.lines.items c.args.self.now =
+    record { each = c.self.invariant; are = c.self.view_is } in
+    let here : c.index_mut-lines.result.now
+    ≡ slice_index_or c.self.inside.lines.items line.customer c.index_mut-lines.result.now = search rules in
+    let f = found c.self.inside.tables.customers line c.customer-customer.result.now c.index_mut-lines.result.now stands
+    known c.customer-customer.ensures here in
+    c.take_bytes-taken.ensures.taken ∙ ap (λ (p : Part). (bytes_taken p line.line c.args.piece.now).taken) f.part_is
 
-pub returns-clause-hub : goal.returns-clause-hub
-returns-clause-hub c =
-    let stands : Stands (entries_of c.self.inside.tables) c.self.inside.lines.items c.args.self.now = record { each = c.self.invariant; are = c.self.view_is } in
-    let known : HasLine c.args.self.now c.args.line = search rules in
-    let there = customer-there c.args.line.customer c.args.line.line stands known in
-    let found : c.index_mut-lines.result.now ≡ slice_index_or c.self.inside.lines.items c.args.line.customer c.index_mut-lines.result.now = search rules in
-    let entry : entry_of c.customer-customer.result.now ≡ slice_index_or (entries_of c.self.inside.tables) c.args.line.customer no_entry =
-    ap entry_of c.customer-customer.ensures ∙ sym (get_or-map entry_of c.self.inside.tables.customers c.args.line.customer no_customer no_entry (omega (arith, there, stands.each, length-map c.self.inside.tables.customers entry_of))) in
-    let before : part_with (entry_of c.customer-customer.result.now) c.index_mut-lines.result.now ≡ part c.args.line.customer c.args.self.now =
-    ap (λ (e : CustomerEntry). part_with e c.index_mut-lines.result.now) entry ∙ part-there c.args.line.customer c.index_mut-lines.result.now stands there found in
-    ap (λ (n : ℕ). parts_of (entries_of c.self.inside.tables) (slice_set c.self.inside.lines.items n c.take.new.self)) c.from.ensures
-    ∙ part-moved c.args.line.customer c.take.new.self _ stands
-    (ap (λ (e : CustomerEntry). part_with e c.take.new.self) (sym entry) ∙ c.take.ensures.part ∙ ap (λ (p : Part). (part_takes p c.args.line.line c.args.piece.now).after) before)
-
-pub returns-clause-frame : goal.returns-clause-frame
-returns-clause-frame c =
-    let stands : Stands (entries_of c.self.inside.tables) c.self.inside.lines.items c.args.self.now = record { each = c.self.invariant; are = c.self.view_is } in
-    let known : HasLine c.args.self.now c.args.line = search rules in
-    let there = customer-there c.args.line.customer c.args.line.line stands known in
-    let found : c.index_mut-lines.result.now ≡ slice_index_or c.self.inside.lines.items c.args.line.customer c.index_mut-lines.result.now = search rules in
-    let entry : entry_of c.customer-customer.result.now ≡ slice_index_or (entries_of c.self.inside.tables) c.args.line.customer no_entry =
-    ap entry_of c.customer-customer.ensures ∙ sym (get_or-map entry_of c.self.inside.tables.customers c.args.line.customer no_customer no_entry (omega (arith, there, stands.each, length-map c.self.inside.tables.customers entry_of))) in
-    let before : part_with (entry_of c.customer-customer.result.now) c.index_mut-lines.result.now ≡ part c.args.line.customer c.args.self.now =
-    ap (λ (e : CustomerEntry). part_with e c.index_mut-lines.result.now) entry ∙ part-there c.args.line.customer c.index_mut-lines.result.now stands there found in
-    c.take.ensures.frame ∙ ap (λ (p : Part). (part_takes p c.args.line.line c.args.piece.now).frame) before
-
-pub returns-clause-lines : goal.returns-clause-lines
-returns-clause-lines c =
-    let stands : Stands (entries_of c.self.inside.tables) c.self.inside.lines.items c.args.self.now = record { each = c.self.invariant; are = c.self.view_is } in
-    let known : HasLine c.args.self.now c.args.line = search rules in
-    let there = customer-there c.args.line.customer c.args.line.line stands known in
-    let found : c.index_mut-lines.result.now ≡ slice_index_or c.self.inside.lines.items c.args.line.customer c.index_mut-lines.result.now = search rules in
-    let moved =
-    ap (λ (n : ℕ). parts_of (entries_of c.self.inside.tables) (slice_set c.self.inside.lines.items n c.take.new.self)) c.from.ensures
-    ∙ part-moved c.args.line.customer c.take.new.self (part_with (slice_index_or (entries_of c.self.inside.tables) c.args.line.customer no_entry) c.take.new.self) stands refl in
-    λ d. ap (λ (ps : List Part). length (part d ps).customer.lines) moved ∙ same_lines c.args.line.customer c.index_mut-lines.result.now c.take.new.self stands there found c.take.ensures.count d
-
-pub returns-clause-rests : goal.returns-clause-rests
-returns-clause-rests c =
-    let stands : Stands (entries_of c.self.inside.tables) c.self.inside.lines.items c.args.self.now = record { each = c.self.invariant; are = c.self.view_is } in
-    let known : HasLine c.args.self.now c.args.line = search rules in
-    let there = customer-there c.args.line.customer c.args.line.line stands known in
-    let found : c.index_mut-lines.result.now ≡ slice_index_or c.self.inside.lines.items c.args.line.customer c.index_mut-lines.result.now = search rules in
-    let before = part-there c.args.line.customer c.index_mut-lines.result.now stands there found in
-    omega (arith, c.take.ensures.rests, ap (λ (p : Part). length p.rests) before)
+pub returns-clause-step : goal.returns-clause-step
+returns-clause-step c =
+    let line = c.args.line in
+    let known = c.in_ok-frame.ensures.known in
+    let stands : Stands (entries_of c.self.inside.tables) c.self.inside.lines.items c.args.self.now =
+    record { each = c.self.invariant; are = c.self.view_is } in
+    let here : c.index_mut-lines.result.now
+    ≡ slice_index_or c.self.inside.lines.items line.customer c.index_mut-lines.result.now = search rules in
+    let f = found c.self.inside.tables.customers line c.customer-customer.result.now c.index_mut-lines.result.now stands
+    known c.customer-customer.ensures here in
+    let t = bytes_taken (part line.customer c.args.self.now) line.line c.args.piece.now in
+    let moved : part_with (entry_of c.customer-customer.result.now) c.take_bytes-taken.new.self ≡ t.after =
+    c.take_bytes-taken.ensures.part ∙ ap (λ (p : Part). (bytes_taken p line.line c.args.piece.now).after) f.part_is in
+    let view = λ (n : ℕ). parts_of (entries_of c.self.inside.tables)
+    (slice_set c.self.inside.lines.items n c.take_bytes-taken.new.self) in
+    let at = ap view c.from.ensures in
+    record {
+      hub = at ∙ found-moved f c.take_bytes-taken.new.self t.after moved;
+      frame = c.into_bytes.ensures.bytes ∙ c.take_bytes-taken.ensures.frame
+          ∙ ap (λ (p : Part). (bytes_taken p line.line c.args.piece.now).frame) f.part_is;
+      lines = λ d. ap (λ (ps : List Part). length (part d ps).customer.lines) at
+          ∙ found-lines f c.take_bytes-taken.new.self c.take_bytes-taken.ensures.count d;
+      room = c.into_bytes.ensures.room;
+      known = known;
+      unknown = λ nowhere. absurd (nowhere known);
+      memory = λ _. search rules;
+      err = search rules;
+    }

@@ -1,75 +1,149 @@
-use Rattle.std.proofs.Common.{◌≡◌, ◌+◌, ◌-◌, [], ◌∷◌, ◌++◌, length, refl, sym, ◌∙◌, arith}
-use Rattle.std.proofs.lemmas.List.{set_split}
-use Rattle.std.proofs.lemmas.Result.{err_from_is_err_and}
-use Rattle.njh_record.specs.Stored.{Stored}
-use Rattle.njh_spool.specs.CustomerSpool.{stored_size, cost}
-use Rattle.njh_spool.proofs.AccountLaws.{used_small}
-use Rattle.njh_spool.proofs.CostLaws.{cost_push, cost_push-small, size_in_blocks}
-use Rattle.njh_spool.proofs.PartialLaws.{HasPartial, has_partial, HasNoPartial, has_no_partial, covered, append_fault-full, append_fault-none, appends}
+use Rattle.std.proofs.Common.{◌≡◌, ℕ, ◌+◌, ◌-◌, ◌*◌, ◌<◌, ◌≤◌, Bool, true, false, not, eqb, List, [], ◌∷◌, ◌++◌, length, get_or, set, filter, Option, Some, None, Ok, Err, refl, sym, ap, subst, ◌∙◌, arith}
+use Rattle.njh_spool.specs.declared.file_slot.FileSlot.{FileSlot}
+use Rattle.njh_spool.specs.declared.file_slot.RecordPlace.{RecordPlace}
+use Rattle.njh_spool.specs.declared.file_slot.Stage.{Stage}
+use Rattle.njh_spool.specs.declared.file_slot.Stage.TheVariants.{Free, Partial, Whole}
+use Rattle.njh_spool.specs.declared.customer_files.CustomerFiles.{CustomerFiles}
+use Rattle.njh_spool.specs.Chains.{Chain, StoreValue, chain_at, empty_chain}
+use Rattle.njh_spool.specs.CustomerSpool.{CustomerSpool, WholeFile, with_state, removed, finished, abandoned, appended, begun, rewritten, on_file}
+use Rattle.njh_spool.specs.Spools.{part, records_numbered, record_numbered}
+use Rattle.njh_spool.specs.Slots.{contents, slot_of, chain_of, is_free, is_partial, is_whole, spools_of, IsFile, IsPlace}
+use Rattle.njh_spool.proofs.IndexLaws.{small_used}
+use Rattle.njh_spool.proofs.KeptLaws.{HasOwn, has_own, own_of, own_is, Moves}
+use Rattle.njh_spool.proofs.CallLaws as call
+use Rattle.std.proofs.Common.{◌/◌, take, length-append}
+use Rattle.njh_spool.specs.Chains.{with_chain, blocks_of}
+use Rattle.njh_spool.specs.Packing.{packed_record}
+use Rattle.njh_spool.proofs.PackingLaws.{length-packed_record}
+use Rattle.njh_spool.proofs.KeptLaws.{within_all, quotas_fit}
 use Rattle.njh_spool.proofs.spool.Spool.append.Goals as goal
-use Rattle.njh_spool.proofs.spool.Spool.append.Goals.{After-cost, After-cost_with, In_default}
+use Rattle.njh_spool.proofs.spool.Spool.append.Goals.{After-is_partial, After-blocks_for, After-blocks_for-2, After-append}
 
-has : (c : After-cost) → HasPartial c.self.inside.accounts.items c.self.inside.files.items c.args.customer c.args.id c.in-Some.place c.index_mut.result.now c.index_mut-account.result.now
-has c =
-    has_partial _ _ _ _ _ _ _ c.self.invariant (rw c.self.view_is c.requires.range)
-    (rw c.from.ensures at c.index_mut-account.ensures.value)
-    (rw c.deref.ensures.value at (sym c.partial_place.ensures ∙ c.in-Some.is))
-    c.index_mut.ensures.value
+pub slot_at-slot-requires : goal.slot_at-slot-requires
+slot_at-slot-requires c =
+    let has = call.has c.self.inside.store c.self.inside.slots.items c.self.inside.customers.items c.args.customer c.args.id c.self.invariant (rw c.self.view_is c.requires.range) in
+    omega (arith, has.slot_within 1023 (omega arith), ap length c.deref.ensures.value)
 
-new_record : (c : After-cost) → Stored
-new_record c = record { srcb = c.args.srcb; bytes = c.args.bytes.now }
+stage_is : (c : After-is_partial) → is_partial (slot_of c.self.inside.slots.items c.args.customer c.args.id).stage ≡ c.is_partial.result
+stage_is c = ap (λ (x : FileSlot). is_partial x.stage) (sym (c.slot_at-slot.ensures ∙ ap (λ (xs : List FileSlot). slot_of xs c.args.customer c.args.id) c.deref.ensures.value)) ∙ sym c.is_partial.ensures
 
-none : (c : In_default) → HasNoPartial c.self.inside.accounts.items c.self.inside.files.items c.args.customer c.args.id
-none c = has_no_partial _ _ _ _ (rw c.self.view_is c.requires.range) (rw c.deref.ensures.value at (sym c.partial_place.ensures ∙ c.in_default.is))
+pub returns-then-not-is_partial-clause-fault : goal.returns-then-not-is_partial-clause-fault
+returns-then-not-is_partial-clause-fault c =
+    let none = call.finds_no_partial c.self.inside.store c.self.inside.slots.items c.self.inside.customers.items c.args.customer c.args.id c.self.invariant (rw c.self.view_is c.requires.range) (stage_is (goal.at.returns-then-not-is_partial-clause-fault c).After-is_partial ∙ c.if-not-is_partial.true) in
+    rw (← c.self.view_is, none.appends (record { srcb = c.args.srcb; bytes = c.args.bytes.now })) refl
 
-pub returns-in_default-clause-fault : goal.returns-in_default-clause-fault
-returns-in_default-clause-fault c = rw (← c.self.view_is, (none c).appends (record { srcb = c.args.srcb; bytes = c.args.bytes.now })) refl
+-- what the code counts
+record Counts (used blocks own_used own_blocks : ℕ) : Type 0 where
+  used_is : used ≡ own_used
+  blocks_is : blocks ≡ own_blocks
+  enough : own_blocks ≤ own_used
+  few : own_used ≤ 65535
+
+there_is : (c : After-blocks_for) → is_partial (slot_of c.self.inside.slots.items c.args.customer c.args.id).stage ≡ true
+there_is c = ap (λ (x : FileSlot). is_partial x.stage) (sym (c.slot_at-slot.ensures ∙ ap (λ (xs : List FileSlot). slot_of xs c.args.customer c.args.id) c.deref.ensures.value)) ∙ sym c.is_partial.ensures ∙ c.if-not-is_partial.false
+
+own_same : (c : After-blocks_for) → c.index_mut-own.result.now ≡ (own_of c.self.inside.customers.items c.args.customer)
+own_same c =
+    let has = call.has c.self.inside.store c.self.inside.slots.items c.self.inside.customers.items c.args.customer c.args.id c.self.invariant (rw c.self.view_is c.requires.range) in
+    own_is c.self.inside.customers.items c.args.customer c.from.result c.index_mut-own.result.now has.within c.from.ensures c.index_mut-own.ensures.value
+
+chain_same : (c : After-blocks_for) → chain_at c.place-at.result c.self.inside.store ≡ (chain_of c.self.inside.store.chains c.args.customer c.args.id)
+chain_same c = ap (λ (i : ℕ). chain_at i c.self.inside.store) c.place-at.ensures ∙ call.chain_is c.self.inside.store c.self.inside.slots.items c.self.inside.customers.items c.args.customer c.args.id c.self.invariant (rw c.self.view_is c.requires.range) (call.small_partial c.self.inside.store c.self.inside.slots.items c.self.inside.customers.items c.args.customer c.args.id c.self.invariant (rw c.self.view_is c.requires.range) (there_is c))
+
+size_same : (c : After-blocks_for) → c.len-size.result ≡ length (chain_of c.self.inside.store.chains c.args.customer c.args.id).bytes
+size_same c = c.len-size.ensures.bytes ∙ ap (λ (x : Chain). length x.bytes) (chain_same c)
+
+counts : (c : After-blocks_for) → Counts c.index_mut-own.result.now.used c.blocks_for.result (own_of c.self.inside.customers.items c.args.customer).used (blocks_of (chain_of c.self.inside.store.chains c.args.customer c.args.id).bytes)
+counts c =
+    let has = call.has c.self.inside.store c.self.inside.slots.items c.self.inside.customers.items c.args.customer c.args.id c.self.invariant (rw c.self.view_is c.requires.range) in
+    record {
+      used_is = ap (λ (o : CustomerFiles). o.used) (own_same c);
+      blocks_is = c.blocks_for.ensures ∙ ap (λ (k : ℕ). (k + 251) / 252) (size_same c);
+      enough = omega (arith, call.blocks_are c.self.inside.store c.self.inside.slots.items c.self.inside.customers.items c.args.customer c.args.id c.self.invariant (rw c.self.view_is c.requires.range), call.enough_partial c.self.inside.store c.self.inside.slots.items c.self.inside.customers.items c.args.customer c.args.id c.self.invariant (rw c.self.view_is c.requires.range) (there_is c));
+      few = omega (arith, has.own.counted, has.own.sound.within_quota, has.own.sound.quota_limit);
+    }
+
+longer_same : (c : After-blocks_for-2) → c.blocks_for-2.result ≡ blocks_of ((chain_of c.self.inside.store.chains c.args.customer c.args.id).bytes ++ packed_record (record { srcb = c.args.srcb; bytes = c.args.bytes.now }))
+longer_same c =
+    let at = (goal.at.overflow_add-used c).After-blocks_for in
+    let size : c.len-size.result + (3 + length c.args.bytes.now) ≡ length ((chain_of c.self.inside.store.chains c.args.customer c.args.id).bytes ++ packed_record (record { srcb = c.args.srcb; bytes = c.args.bytes.now })) = omega (arith, size_same at, length-append (chain_of c.self.inside.store.chains c.args.customer c.args.id).bytes (packed_record (record { srcb = c.args.srcb; bytes = c.args.bytes.now })), length-packed_record (record { srcb = c.args.srcb; bytes = c.args.bytes.now })) in
+    c.blocks_for-2.ensures ∙ ap (λ (k : ℕ). (k + 251) / 252) size
 
 pub overflow_sub-used : goal.overflow_sub-used
-overflow_sub-used c = rw c.cost.ensures (covered _ _ _ _ _ _ _ (has c))
+overflow_sub-used c =
+    let count = counts c in
+    omega (arith, count.used_is, count.blocks_is, count.enough)
 
 pub overflow_add-used : goal.overflow_add-used
 overflow_add-used c =
-    let small = used_small _ _ _ _ (has (goal.at.overflow_add-used c).After-cost).account in
-    let more = cost_push-small (stored_size c.index_mut.result.now.records) (length c.args.bytes.now) c.requires.short in
-    omega (arith, small, more)
+    let at = (goal.at.overflow_add-used c).After-blocks_for in
+    let count = counts at in
+    let longer = longer_same c in
+    let fits = (call.has c.self.inside.store c.self.inside.slots.items c.self.inside.customers.items c.args.customer c.args.id c.self.invariant (rw c.self.view_is c.requires.range)).own.sound in
+    let small = length-append (chain_of c.self.inside.store.chains c.args.customer c.args.id).bytes (packed_record (record { srcb = c.args.srcb; bytes = c.args.bytes.now })) in
+    omega (arith, count.used_is, count.blocks_is, count.enough, count.few, longer, small, length-packed_record (record { srcb = c.args.srcb; bytes = c.args.bytes.now }), c.requires.short)
 
--- the blocks that are counted are those with the record
-counted : (c : After-cost_with) → c.index_mut-account.result.now.used - c.cost.result + c.cost_with.result ≡ c.index_mut-account.result.now.used - cost c.index_mut.result.now.records + cost (c.index_mut.result.now.records ++ record { srcb = c.args.srcb; bytes = c.args.bytes.now } ∷ [])
-counted c =
-    let longer = cost_push c.index_mut.result.now.records (record { srcb = c.args.srcb; bytes = c.args.bytes.now }) in
-    omega (arith, c.cost.ensures, c.cost_with.ensures)
+now_used : (c : After-blocks_for-2) → c.index_mut-own.result.now.used - c.blocks_for.result + c.blocks_for-2.result ≡ (own_of c.self.inside.customers.items c.args.customer).used - blocks_of (chain_of c.self.inside.store.chains c.args.customer c.args.id).bytes + blocks_of ((chain_of c.self.inside.store.chains c.args.customer c.args.id).bytes ++ packed_record (record { srcb = c.args.srcb; bytes = c.args.bytes.now }))
+now_used c =
+    let count = counts (goal.at.overflow_add-used c).After-blocks_for in
+    omega (arith, count.used_is, count.blocks_is, longer_same c)
 
-pub returns-then-used-account-clause-fault : goal.returns-then-used-account-clause-fault
-returns-then-used-account-clause-fault c =
-    let at = (goal.at.returns-then-used-account-clause-fault c).After-cost_with in
-    let over = counted at in
-    rw (← c.self.view_is, append_fault-full _ _ _ _ _ _ _ (has (goal.at.returns-then-used-account-clause-fault c).After-cost) (record { srcb = c.args.srcb; bytes = c.args.bytes.now }) (omega arith)) refl
+pub returns-then-used-own-clause-fault : goal.returns-then-used-own-clause-fault
+returns-then-used-own-clause-fault c =
+    let at = (goal.at.returns-then-used-own-clause-fault c).After-blocks_for-2 in
+    let first = (goal.at.returns-then-used-own-clause-fault c).After-blocks_for in
+    let quota = ap (λ (o : CustomerFiles). o.quota) (own_same first) in
+    rw (← c.self.view_is, call.append_full c.self.inside.store c.self.inside.slots.items c.self.inside.customers.items c.args.customer c.args.id c.self.invariant (rw c.self.view_is c.requires.range) (record { srcb = c.args.srcb; bytes = c.args.bytes.now }) (there_is first) (omega (arith, now_used at, quota, c.if-used-own.true))) refl
 
-pub push-requires-clause-room : goal.push-requires-clause-room
-push-requires-clause-room c =
-    let account = (has (goal.at.push-requires-clause-room c).After-cost).account in
-    size_in_blocks (stored_size c.index_mut.result.now.records + (3 + length c.args.bytes.now)) 65535 (omega (arith, account.sound.quota_limit, c.cost_with.ensures))
+pub append-requires-clause-room : goal.append-requires-clause-room
+append-requires-clause-room c =
+    let at = (goal.at.append-requires-clause-room c).After-blocks_for-2 in
+    let first = (goal.at.append-requires-clause-room c).After-blocks_for in
+    let has = call.has c.self.inside.store c.self.inside.slots.items c.self.inside.customers.items c.args.customer c.args.id c.self.invariant (rw c.self.view_is c.requires.range) in
+    let quota = ap (λ (o : CustomerFiles). o.quota) (own_same first) in
+    let small = call.small_partial c.self.inside.store c.self.inside.slots.items c.self.inside.customers.items c.args.customer c.args.id c.self.invariant (rw c.self.view_is c.requires.range) (there_is first) in
+    let bytes : c.deref-2.result.now ≡ packed_record (record { srcb = c.args.srcb; bytes = c.args.bytes.now }) = c.deref-2.ensures.0 ∙ c.pack_record.ensures in
+    let room = call.room c.self.inside.store c.self.inside.slots.items c.self.inside.customers.items c.args.customer c.args.id c.self.invariant (rw c.self.view_is c.requires.range) (record { srcb = c.args.srcb; bytes = c.args.bytes.now }) (chain_of c.self.inside.store.chains c.args.customer c.args.id).keys (there_is first) small (omega (arith, now_used at, quota, c.if-used-own.false)) (λ more. c.quotas_leave_room.ensures (spools_of c.self.inside.customers.items (contents c.self.inside.slots.items c.self.inside.store.chains)) c.self.inside.store.capacity c.args.customer more (within_all c.self.inside.store c.self.inside.slots.items c.self.inside.customers.items c.self.invariant) (quotas_fit c.self.inside.store c.self.inside.slots.items c.self.inside.customers.items c.self.invariant) (rw c.self.view_is c.requires.range)) in
+    rw (bytes, c.place-at.ensures, call.chain_is c.self.inside.store c.self.inside.slots.items c.self.inside.customers.items c.args.customer c.args.id c.self.invariant (rw c.self.view_is c.requires.range) small) room
 
-pub returns-in_err-push-clause-fault : goal.returns-in_err-push-clause-fault
-returns-in_err-push-clause-fault c =
-    let counts = counted (goal.at.returns-in_err-push-clause-fault c).After-cost_with in
-    let memory = err_from_is_err_and c.from_residual.result c.from_residual.ensures.1 in
-    rw (← c.self.view_is, append_fault-none _ _ _ _ _ _ _ (has (goal.at.returns-in_err-push-clause-fault c).After-cost) (record { srcb = c.args.srcb; bytes = c.args.bytes.now }) (omega (arith, c.if-used-account.false)), memory.1, memory.2) refl
+pub overflow_add-slot : goal.overflow_add-slot
+overflow_add-slot c =
+    let count = ap (λ (x : FileSlot). x.count) (c.slot_at-slot.ensures ∙ ap (λ (xs : List FileSlot). slot_of xs c.args.customer c.args.id) c.deref.ensures.value) in
+    omega (arith, count, call.count_small c.self.inside.store c.self.inside.slots.items c.self.inside.customers.items c.args.customer c.args.id c.self.invariant (rw c.self.view_is c.requires.range))
+
+moved : (c : After-append) → Moves c.self.inside.store c.self.inside.slots.items c.self.inside.customers.items c.append.new.self (set c.self.inside.slots.items c.place-at.result (record c.slot_at-slot.result { count = c.slot_at-slot.result.count + 1 })) (set c.self.inside.customers.items c.from.result (record c.index_mut-own.result.now { used = c.index_mut-own.result.now.used - c.blocks_for.result + c.blocks_for-2.result })) c.args.customer (appended c.args.id (record { srcb = c.args.srcb; bytes = c.args.bytes.now }) (part c.args.customer (spools_of c.self.inside.customers.items (contents c.self.inside.slots.items c.self.inside.store.chains))))
+moved c =
+    let at = (goal.at.overflow_add-slot c).After-blocks_for-2 in
+    let first = (goal.at.overflow_add-slot c).After-blocks_for in
+    let there = there_is first in
+    let small = call.small_partial c.self.inside.store c.self.inside.slots.items c.self.inside.customers.items c.args.customer c.args.id c.self.invariant (rw c.self.view_is c.requires.range) there in
+    let chain = chain_same first in
+    let same = c.slot_at-slot.ensures ∙ ap (λ (xs : List FileSlot). slot_of xs c.args.customer c.args.id) c.deref.ensures.value in
+    let bytes : c.deref-2.result.now ≡ packed_record (record { srcb = c.args.srcb; bytes = c.args.bytes.now }) = c.deref-2.ensures.0 ∙ c.pack_record.ensures in
+    let quota = ap (λ (o : CustomerFiles). o.quota) (own_same first) in
+    let keys = (chain_at c.place-at.result c.append.new.self).keys in
+    let blocks = c.index_mut-own.result.now.used - c.blocks_for.result + c.blocks_for-2.result in
+    let front : take (length (chain_of c.self.inside.store.chains c.args.customer c.args.id).keys) keys ≡ (chain_of c.self.inside.store.chains c.args.customer c.args.id).keys = subst (λ (x : Chain). take (length x.keys) keys ≡ x.keys) chain c.append.ensures.keys in
+    let store : c.append.new.self ≡ with_chain (1024 * c.args.customer + c.args.id) (record { keys = keys; bytes = ((chain_of c.self.inside.store.chains c.args.customer c.args.id).bytes ++ packed_record (record { srcb = c.args.srcb; bytes = c.args.bytes.now })) }) c.self.inside.store =
+    c.append.ensures.after
+    ∙ ap (λ (xs : List ℕ). with_chain c.place-at.result (record { keys = keys; bytes = (chain_at c.place-at.result c.self.inside.store).bytes ++ xs }) c.self.inside.store) bytes
+    ∙ ap (λ (x : Chain). with_chain c.place-at.result (record { keys = keys; bytes = x.bytes ++ packed_record (record { srcb = c.args.srcb; bytes = c.args.bytes.now }) }) c.self.inside.store) chain
+    ∙ ap (λ (i : ℕ). with_chain i (record { keys = keys; bytes = ((chain_of c.self.inside.store.chains c.args.customer c.args.id).bytes ++ packed_record (record { srcb = c.args.srcb; bytes = c.args.bytes.now })) }) c.self.inside.store) c.place-at.ensures in
+    call.arrives c.self.inside.store c.self.inside.slots.items c.self.inside.customers.items c.args.customer c.args.id c.self.invariant (rw c.self.view_is c.requires.range) (with_chain (1024 * c.args.customer + c.args.id) (record { keys = keys; bytes = ((chain_of c.self.inside.store.chains c.args.customer c.args.id).bytes ++ packed_record (record { srcb = c.args.srcb; bytes = c.args.bytes.now })) }) c.self.inside.store) c.append.new.self (record c.slot_at-slot.result { count = c.slot_at-slot.result.count + 1 }) (record c.index_mut-own.result.now { used = blocks }) c.place-at.result c.from.result (appended c.args.id (record { srcb = c.args.srcb; bytes = c.args.bytes.now }) (part c.args.customer (spools_of c.self.inside.customers.items (contents c.self.inside.slots.items c.self.inside.store.chains)))) store c.place-at.ensures c.from.ensures
+    (subst (λ (x : FileSlot). Moves c.self.inside.store c.self.inside.slots.items c.self.inside.customers.items (with_chain (1024 * c.args.customer + c.args.id) (record { keys = keys; bytes = ((chain_of c.self.inside.store.chains c.args.customer c.args.id).bytes ++ packed_record (record { srcb = c.args.srcb; bytes = c.args.bytes.now })) }) c.self.inside.store) (set c.self.inside.slots.items (1024 * c.args.customer + c.args.id) (record x { count = x.count + 1 })) (set c.self.inside.customers.items c.args.customer (record c.index_mut-own.result.now { used = blocks })) c.args.customer (appended c.args.id (record { srcb = c.args.srcb; bytes = c.args.bytes.now }) (part c.args.customer (spools_of c.self.inside.customers.items (contents c.self.inside.slots.items c.self.inside.store.chains))))) (sym same)
+    (subst (λ (o : CustomerFiles). Moves c.self.inside.store c.self.inside.slots.items c.self.inside.customers.items (with_chain (1024 * c.args.customer + c.args.id) (record { keys = keys; bytes = ((chain_of c.self.inside.store.chains c.args.customer c.args.id).bytes ++ packed_record (record { srcb = c.args.srcb; bytes = c.args.bytes.now })) }) c.self.inside.store) (set c.self.inside.slots.items (1024 * c.args.customer + c.args.id) (record (slot_of c.self.inside.slots.items c.args.customer c.args.id) { count = (slot_of c.self.inside.slots.items c.args.customer c.args.id).count + 1 })) (set c.self.inside.customers.items c.args.customer (record o { used = blocks })) c.args.customer (appended c.args.id (record { srcb = c.args.srcb; bytes = c.args.bytes.now }) (part c.args.customer (spools_of c.self.inside.customers.items (contents c.self.inside.slots.items c.self.inside.store.chains))))) (sym (own_same first))
+    (call.appends c.self.inside.store c.self.inside.slots.items c.self.inside.customers.items c.args.customer c.args.id c.self.invariant (rw c.self.view_is c.requires.range) (record { srcb = c.args.srcb; bytes = c.args.bytes.now }) keys blocks there c.requires.short front (now_used at) (omega (arith, quota, c.if-used-own.false)) small)))
 
 pub invariant_of-self-2 : goal.invariant_of-self-2
-invariant_of-self-2 c =
-    let partial = has (goal.at.invariant_of-self-2 c).After-cost in
-    rw (c.from.ensures, c.in_ok-push.ensures.ok, set_split c.self.inside.files.items c.in-Some.place _ partial.within)
-    (appends _ _ _ _ _ _ _ partial (record { srcb = c.args.srcb; bytes = c.args.bytes.now }) _ c.self.invariant (counted (goal.at.invariant_of-self-2 c).After-cost_with) c.if-used-account.false).kept
+invariant_of-self-2 c = (moved (goal.at.invariant_of-self-2 c).After-append).kept
 
 pub returns-clause-fault : goal.returns-clause-fault
 returns-clause-fault c =
-    let counts = counted (goal.at.returns-clause-fault c).After-cost_with in
-    rw (← c.self.view_is, append_fault-none _ _ _ _ _ _ _ (has (goal.at.returns-clause-fault c).After-cost) (record { srcb = c.args.srcb; bytes = c.args.bytes.now }) (omega (arith, c.if-used-account.false))) tt
+    let at = (goal.at.returns-clause-fault c).After-blocks_for-2 in
+    let first = (goal.at.returns-clause-fault c).After-blocks_for in
+    let quota = ap (λ (o : CustomerFiles). o.quota) (own_same first) in
+    rw (← c.self.view_is, call.append_fits c.self.inside.store c.self.inside.slots.items c.self.inside.customers.items c.args.customer c.args.id c.self.invariant (rw c.self.view_is c.requires.range) (record { srcb = c.args.srcb; bytes = c.args.bytes.now }) (there_is first) (omega (arith, now_used at, quota, c.if-used-own.false))) refl
 
 pub returns-clause-ok : goal.returns-clause-ok
 returns-clause-ok c =
-    let partial = has (goal.at.returns-clause-ok c).After-cost in
-    rw (← c.self.view_is, c.from.ensures, c.in_ok-push.ensures.ok, set_split c.self.inside.files.items c.in-Some.place _ partial.within)
-    (appends _ _ _ _ _ _ _ partial (record { srcb = c.args.srcb; bytes = c.args.bytes.now }) _ c.self.invariant (counted (goal.at.returns-clause-ok c).After-cost_with) c.if-used-account.false).spools
+    (moved (goal.at.returns-clause-ok c).After-append).spools ∙ ap (λ (old : List CustomerSpool). set old c.args.customer (appended c.args.id (record { srcb = c.args.srcb; bytes = c.args.bytes.now }) (part c.args.customer old))) c.self.view_is

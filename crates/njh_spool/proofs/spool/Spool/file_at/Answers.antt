@@ -1,19 +1,35 @@
-use Rattle.std.proofs.Common.{◌≡◌, List, sym, ap, ◌∙◌}
+use Rattle.std.proofs.Common.{◌≡◌, ℕ, ◌+◌, ◌*◌, ◌<◌, ◌≤◌, Bool, true, false, not, List, length, get_or, set, Option, Some, None, Ok, Err, refl, sym, ap, subst, ◌∙◌, arith}
+use Rattle.njh_spool.specs.declared.file_slot.FileSlot.{FileSlot}
+use Rattle.njh_spool.specs.declared.file_slot.Stage.{Stage}
+use Rattle.njh_spool.specs.declared.customer_files.CustomerFiles.{CustomerFiles}
 use Rattle.njh_spool.specs.CustomerSpool.{CustomerSpool}
 use Rattle.njh_spool.specs.Spools.{part}
-use Rattle.njh_spool.specs.TaggedFiles.{whole_of}
-use Rattle.njh_spool.proofs.AccountLaws.{own_account}
+use Rattle.njh_spool.specs.Slots.{contents, slot_of, chain_of, is_free, is_partial, is_whole, state_of, spools_of}
+use Rattle.njh_spool.proofs.KeptLaws.{HasOwn, has_own, own_of, own_is, length-spools_from}
+use Rattle.std.proofs.lemmas.List.{length-map}
+use Rattle.njh_spool.specs.Slots.{whole_file}
+use Rattle.njh_spool.proofs.PlaceLaws.{slice_get-map}
 use Rattle.njh_spool.proofs.spool.Spool.file_at.Goals as goal
-use Rattle.njh_spool.proofs.spool.Spool.file_at.Goals.{After-deref}
 
-whole : (c : After-deref) → whole_of c.args.customer c.deref.result.now ≡ (part c.args.customer c.args.self.now).whole
-whole c =
-    ap (whole_of c.args.customer) c.deref.ensures.value
-    ∙ ap (λ (s : CustomerSpool). s.whole) (sym (own_account _ _ _ c.self.invariant (rw c.self.view_is c.requires.range)).part)
-    ∙ ap (λ (old : List CustomerSpool). (part c.args.customer old).whole) c.self.view_is
+pub index-requires : goal.index-requires
+index-requires c =
+    let has = has_own c.self.inside.store c.self.inside.slots.items c.self.inside.customers.items c.args.customer c.self.invariant (rw c.self.view_is c.requires.range) in
+    omega (arith, has.within, c.from.ensures, c.self.inside.customers.ok.0)
 
-pub whole_at-requires : goal.whole_at-requires
-whole_at-requires c = rw (whole (goal.at.whole_at-requires c).After-deref) c.requires.index_range
+pub at-requires : goal.at-requires
+at-requires c =
+    let has = has_own c.self.inside.store c.self.inside.slots.items c.self.inside.customers.items c.args.customer c.self.invariant (rw c.self.view_is c.requires.range) in
+    let own = own_is c.self.inside.customers.items c.args.customer c.from.result c.index.result.now has.within c.from.ensures c.index.ensures in
+    let lists = ap (λ (o : CustomerFiles). length o.whole) own in
+    let here = ap (λ (s : CustomerSpool). length s.whole) (ap (part c.args.customer) (sym c.self.view_is) ∙ has.part) in
+    omega (arith, lists, here, c.requires.index_range, length-map (own_of c.self.inside.customers.items c.args.customer).whole (whole_file (contents c.self.inside.slots.items c.self.inside.store.chains c.args.customer)))
 
 pub returns : goal.returns
-returns c = rw (whole (goal.at.returns c).After-deref) at c.whole_at.ensures
+returns c =
+    let has = has_own c.self.inside.store c.self.inside.slots.items c.self.inside.customers.items c.args.customer c.self.invariant (rw c.self.view_is c.requires.range) in
+    let own = own_is c.self.inside.customers.items c.args.customer c.from.result c.index.result.now has.within c.from.ensures c.index.ensures in
+    let here = ap (λ (s : CustomerSpool). length s.whole) (ap (part c.args.customer) (sym c.self.view_is) ∙ has.part) in
+    let numbers = (own_of c.self.inside.customers.items c.args.customer).whole in
+    let within : c.args.index < length numbers = omega (arith, here, c.requires.index_range, length-map numbers (whole_file (contents c.self.inside.slots.items c.self.inside.store.chains c.args.customer))) in
+    let number = c.of.ensures ∙ c.at.ensures ∙ ap (λ (o : CustomerFiles). get_or o.whole c.args.index 0) own in
+    rw (← c.self.view_is, has.part, slice_get-map (whole_file (contents c.self.inside.slots.items c.self.inside.store.chains c.args.customer)) numbers c.args.index within) number

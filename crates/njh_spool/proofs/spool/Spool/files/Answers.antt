@@ -1,24 +1,29 @@
-use Rattle.std.proofs.Common.{◌≡◌, List, length, sym, ap, ◌∙◌, arith}
+use Rattle.std.proofs.Common.{◌≡◌, ℕ, ◌+◌, ◌*◌, ◌<◌, ◌≤◌, Bool, true, false, not, List, length, get_or, set, Option, Some, None, Ok, Err, refl, sym, ap, subst, ◌∙◌, arith}
+use Rattle.njh_spool.specs.declared.file_slot.FileSlot.{FileSlot}
+use Rattle.njh_spool.specs.declared.file_slot.Stage.{Stage}
+use Rattle.njh_spool.specs.declared.customer_files.CustomerFiles.{CustomerFiles}
 use Rattle.njh_spool.specs.CustomerSpool.{CustomerSpool}
 use Rattle.njh_spool.specs.Spools.{part}
-use Rattle.njh_spool.specs.TaggedFiles.{whole_of}
-use Rattle.njh_spool.proofs.AccountLaws.{HasAccount, own_account, account_of}
-use Rattle.njh_spool.proofs.CountLaws.{count_by-whole}
+use Rattle.njh_spool.specs.Slots.{contents, slot_of, chain_of, is_free, is_partial, is_whole, state_of, spools_of}
+use Rattle.njh_spool.proofs.KeptLaws.{HasOwn, has_own, own_of, own_is, length-spools_from}
+use Rattle.std.proofs.lemmas.List.{length-map}
+use Rattle.njh_spool.specs.Slots.{whole_file}
 use Rattle.njh_spool.proofs.spool.Spool.files.Goals as goal
-use Rattle.njh_spool.proofs.spool.Spool.files.Goals.{After-whole_count}
 
-account : (c : After-whole_count) → HasAccount c.self.inside.accounts.items c.self.inside.files.items c.args.customer (account_of c.self.inside.accounts.items c.args.customer)
-account c = own_account _ _ _ c.self.invariant (rw c.self.view_is c.requires)
-
-counted : (c : After-whole_count) → c.whole_count.result ≡ length (whole_of c.args.customer c.self.inside.files.items)
-counted c = rw c.deref.ensures.value at c.whole_count.ensures ∙ sym (count_by-whole c.args.customer c.self.inside.files.items)
+pub index-requires : goal.index-requires
+index-requires c =
+    let has = has_own c.self.inside.store c.self.inside.slots.items c.self.inside.customers.items c.args.customer c.self.invariant (rw c.self.view_is c.requires) in
+    omega (arith, has.within, c.from.ensures, c.self.inside.customers.ok.0)
 
 pub overflow_cast-result : goal.overflow_cast-result
 overflow_cast-result c =
-    let own = account c in
-    omega (arith, counted c, own.sound.within_limit, own.sound.files_limit)
+    let has = has_own c.self.inside.store c.self.inside.slots.items c.self.inside.customers.items c.args.customer c.self.invariant (rw c.self.view_is c.requires) in
+    let own = own_is c.self.inside.customers.items c.args.customer c.from.result c.index.result.now has.within c.from.ensures c.index.ensures in
+    let lists = ap (λ (o : CustomerFiles). length o.whole) own in
+    omega (arith, c.len.ensures, lists, has.own.sound.within_limit, has.own.sound.files_limit, length-map (own_of c.self.inside.customers.items c.args.customer).whole (whole_file (contents c.self.inside.slots.items c.self.inside.store.chains c.args.customer)))
 
 pub returns : goal.returns
 returns c =
-    let at = (goal.at.returns c).After-whole_count in
-    counted at ∙ ap (λ (s : CustomerSpool). length s.whole) (sym (account at).part) ∙ ap (λ (old : List CustomerSpool). length (part c.args.customer old).whole) c.self.view_is
+    let has = has_own c.self.inside.store c.self.inside.slots.items c.self.inside.customers.items c.args.customer c.self.invariant (rw c.self.view_is c.requires) in
+    let own = own_is c.self.inside.customers.items c.args.customer c.from.result c.index.result.now has.within c.from.ensures c.index.ensures in
+    rw (← c.self.view_is, has.part) (c.len.ensures ∙ ap (λ (o : CustomerFiles). length o.whole) own ∙ sym (length-map (own_of c.self.inside.customers.items c.args.customer).whole (whole_file (contents c.self.inside.slots.items c.self.inside.store.chains c.args.customer))))

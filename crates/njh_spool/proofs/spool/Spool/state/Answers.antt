@@ -1,27 +1,36 @@
-use Rattle.std.proofs.Common.{sym, ◌∙◌, ap, List}
-use Rattle.std.specs.Option.{option_map}
-use Rattle.njh_spool.specs.CustomerSpool.{CustomerSpool, whole_numbered}
-use Rattle.njh_spool.specs.Spools.{part, or_no_file}
-use Rattle.njh_spool.proofs.ReadLaws.{HasFile, has_file, HasNoFile, has_no_file}
+use Rattle.std.proofs.Common.{◌≡◌, ℕ, ◌+◌, ◌*◌, ◌<◌, ◌≤◌, Bool, true, false, not, List, length, get_or, set, Option, Some, None, Ok, Err, refl, sym, ap, subst, ◌∙◌, arith}
+use Rattle.njh_spool.specs.declared.file_slot.FileSlot.{FileSlot}
+use Rattle.njh_spool.specs.declared.file_slot.Stage.{Stage}
+use Rattle.njh_spool.specs.declared.customer_files.CustomerFiles.{CustomerFiles}
+use Rattle.njh_spool.specs.CustomerSpool.{CustomerSpool}
+use Rattle.njh_spool.specs.Spools.{part}
+use Rattle.njh_spool.specs.Slots.{contents, slot_of, chain_of, is_free, is_partial, is_whole, state_of, spools_of}
+use Rattle.njh_spool.proofs.KeptLaws.{HasOwn, has_own, own_of, own_is, length-spools_from}
+use Rattle.njh_spool.proofs.WholeLaws.{whole_is, has_no_whole}
 use Rattle.njh_spool.proofs.spool.Spool.state.Goals as goal
-use Rattle.njh_spool.proofs.spool.Spool.state.Goals.{In_default, After-index}
 
-none : (c : In_default) → HasNoFile c.self.inside.accounts.items c.self.inside.files.items c.args.customer c.args.id
-none c = has_no_file _ _ _ _ (rw c.self.view_is c.requires) (rw c.deref.ensures.value at (sym c.place.ensures ∙ c.in_default.is))
-
-has : (c : After-index) → HasFile c.self.inside.accounts.items c.self.inside.files.items c.args.customer c.args.id c.index.result.now
-has c = has_file _ _ _ _ c.in-Some.place _ c.self.invariant (rw c.self.view_is c.requires) (rw c.deref.ensures.value at (sym c.place.ensures ∙ c.in-Some.is)) c.index.ensures
-
-pub returns-in_default : goal.returns-in_default
-returns-in_default c =
-    ap (λ o. or_no_file (option_map (λ f. f.state) o)) (sym (none c).whole ∙ ap (λ (old : List CustomerSpool). whole_numbered c.args.id (part c.args.customer old)) c.self.view_is)
+pub slot_at-requires : goal.slot_at-requires
+slot_at-requires c =
+    let has = has_own c.self.inside.store c.self.inside.slots.items c.self.inside.customers.items c.args.customer c.self.invariant (rw c.self.view_is c.requires) in
+    omega (arith, has.slot_within 1023 (omega arith), ap length c.deref.ensures.value)
 
 pub returns-in-Whole : goal.returns-in-Whole
 returns-in-Whole c =
-    let found = (has (goal.at.returns-in-Whole c).After-index).whole c.in-Whole.state c.in-Whole.is in
-    ap (λ o. or_no_file (option_map (λ f. f.state) o)) (sym found ∙ ap (λ (old : List CustomerSpool). whole_numbered c.args.id (part c.args.customer old)) c.self.view_is)
+    let has = has_own c.self.inside.store c.self.inside.slots.items c.self.inside.customers.items c.args.customer c.self.invariant (rw c.self.view_is c.requires) in
+    let same = c.slot_at.ensures ∙ ap (λ (xs : List FileSlot). slot_of xs c.args.customer c.args.id) c.deref.ensures.value in
+    let stage = ap (λ (x : FileSlot). x.stage) (sym same) ∙ c.in-Whole.is in
+    rw (← c.self.view_is, has.part, whole_is (own_of c.self.inside.customers.items c.args.customer) (contents c.self.inside.slots.items c.self.inside.store.chains c.args.customer) c.args.id has.own (ap is_whole stage) (ap is_partial stage)) (ap (λ (x : Stage). Ok (state_of x)) (sym stage))
 
 pub returns-in-Partial : goal.returns-in-Partial
 returns-in-Partial c =
-    let gone = (has (goal.at.returns-in-Partial c).After-index).partial c.in-Partial.is in
-    ap (λ o. or_no_file (option_map (λ f. f.state) o)) (sym gone ∙ ap (λ (old : List CustomerSpool). whole_numbered c.args.id (part c.args.customer old)) c.self.view_is)
+    let has = has_own c.self.inside.store c.self.inside.slots.items c.self.inside.customers.items c.args.customer c.self.invariant (rw c.self.view_is c.requires) in
+    let same = c.slot_at.ensures ∙ ap (λ (xs : List FileSlot). slot_of xs c.args.customer c.args.id) c.deref.ensures.value in
+    let stage = ap (λ (x : FileSlot). x.stage) (sym same) ∙ c.in-Partial.is in
+    rw (← c.self.view_is, has.part, (has_no_whole (own_of c.self.inside.customers.items c.args.customer) (contents c.self.inside.slots.items c.self.inside.store.chains c.args.customer) c.args.id has.own (ap is_whole stage)).none) refl
+
+pub returns-in-Free : goal.returns-in-Free
+returns-in-Free c =
+    let has = has_own c.self.inside.store c.self.inside.slots.items c.self.inside.customers.items c.args.customer c.self.invariant (rw c.self.view_is c.requires) in
+    let same = c.slot_at.ensures ∙ ap (λ (xs : List FileSlot). slot_of xs c.args.customer c.args.id) c.deref.ensures.value in
+    let stage = ap (λ (x : FileSlot). x.stage) (sym same) ∙ c.in-Free.is in
+    rw (← c.self.view_is, has.part, (has_no_whole (own_of c.self.inside.customers.items c.args.customer) (contents c.self.inside.slots.items c.self.inside.store.chains c.args.customer) c.args.id has.own (ap is_whole stage)).none) refl

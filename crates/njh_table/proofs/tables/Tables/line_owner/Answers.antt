@@ -11,7 +11,8 @@ owner c = c.get.ensures ∙ ap (lookup (bytes_eq c.args.name.now)) c.self.invari
 
 pub returns-clause-found : goal.returns-clause-found
 returns-clause-found c =
-    subst (λ r. IfSome r (λ line. HasLine c.args.self.now line × ((line_at c.args.self.now line).name ≡ c.args.name.now))) (sym (owner c)) (owner_found c.args.self.now c.args.name.now)
+    subst (λ r. IfSome r (λ line. HasLine c.args.self.now line × ((line_at c.args.self.now line).name ≡ c.args.name.now)))
+    (sym (owner c)) (owner_found c.args.self.now c.args.name.now)
 
 pub returns-clause-only : goal.returns-clause-only
 returns-clause-only c = λ line has same.

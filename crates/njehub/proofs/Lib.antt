@@ -1,5 +1,0 @@
-mod Asked
-mod LineForms
-mod Lines
-mod Printing
-mod Replaying

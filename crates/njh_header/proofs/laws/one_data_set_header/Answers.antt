@@ -1,0 +1,9 @@
+use Rattle.njh_header.specs.Headers.{data_set_fields}
+use Rattle.njh_header.proofs.HeadersLaw.{header_law, fault_law}
+use Rattle.njh_header.proofs.laws.one_data_set_header.Goals as goal
+
+pub returns-clause-header : goal.returns-clause-header
+returns-clause-header c = header_law 20 4 data_set_fields
+
+pub returns-clause-fault : goal.returns-clause-fault
+returns-clause-fault c = fault_law 20 4 data_set_fields

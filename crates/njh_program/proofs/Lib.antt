@@ -1,0 +1,6 @@
+mod ArgumentLaws
+mod LineForms
+mod Lines
+mod PrintedParts
+mod Printing
+mod ReplayLaws

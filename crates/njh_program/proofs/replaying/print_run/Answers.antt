@@ -1,0 +1,49 @@
+use Rattle.std.proofs.Common.{◌≡◌, ℕ, List, ap, ◌∙◌, rules}
+use Rattle.std.proofs.KnownBytes.{Keeps-trans}
+use Rattle.njh_hub.specs.declared.fault.HubFault.TheVariants.{Memory}
+use Rattle.njh_hub.specs.Own.{first_of}
+use Rattle.njh_hub.specs.Whole.{hub_run}
+use Rattle.njh_program.specs.declared.fault.ReplayFault.TheVariants.{Hub}
+use Rattle.njh_program.specs.Replayed.{fault_after}
+use Rattle.njh_program.specs.Printed.{text_of, AppendsBeginning}
+use Rattle.njh_program.proofs.PrintedParts.{beginning-kept, beginning-part}
+use Rattle.njh_program.proofs.ReplayLaws.{MayEnd-stopped, never_unknown, printed_begins, stopped_begun, stopped_empty, Keeps-none}
+use Rattle.njh_program.proofs.replaying.print_run.Goals as goal
+
+pub returns-in-Err-clause-faults : goal.returns-in-Err-clause-faults
+returns-in-Err-clause-faults g c =
+    let fault = c.in-Err.fault in
+    rw c.fault_after.ensures (MayEnd-stopped fault.cause c.in-Err.ensures.causes
+    (λ unknown. never_unknown c.args.hub.now c.args.events.now fault.events c.requires (c.in-Err.ensures.unknown unknown)))
+
+pub returns-in-Err-clause-begun : goal.returns-in-Err-clause-begun
+returns-in-Err-clause-begun g c =
+    let fault = c.in-Err.fault in
+    let contents = g.W.Write.contents in
+    let names = c.args.names.now in
+    let events = c.args.events.now in
+    let sent = (hub_run c.args.hub.now (first_of events fault.events fault.bytes)).sent in
+    let whole = (hub_run c.args.hub.now events).sent in
+    let begins = c.sent_in_order.ensures c.args.hub.now events fault.events fault.bytes in
+    let begun : AppendsBeginning (contents c.args.out.now) (contents c.run.new.sink.out.now) (text_of names whole) =
+    stopped_begun _ _ fault.cause _ _ sent whole _ c.in-Err.ensures.handed begins
+    (λ front more printed all. printed_begins names _ _ _ front more whole printed.1 all)
+    (λ front last between more printed part all. beginning-part names _ _ _ _ front last more whole printed.1 _ part.1 all) in
+    let same = stopped_begun _ _ fault.cause _ _ sent whole (c.run.new.sink.out.ghost_name ≡ _) c.in-Err.ensures.handed begins
+    (λ front more printed all. printed.0)
+    (λ front last between more printed part all. part.0 ∙ printed.0) in
+    beginning-kept _ _ _ (text_of names whole) begun (search (rules, same))
+
+pub returns-in-Err-clause-memory : goal.returns-in-Err-clause-memory
+returns-in-Err-clause-memory g c = λ memory.
+    let fault = c.in-Err.fault in
+    let start = c.args.hub.now in
+    let events = c.args.events.now in
+    let stop : fault_after fault.cause ≡ Hub Memory = cc (c.fault_after.ensures, memory) in
+    let printed = stopped_empty _ _ fault.cause _ _
+    (hub_run start (first_of events fault.events fault.bytes)).sent c.in-Err.ensures.handed stop
+    (λ why. let at = c.in-Err.ensures.memory why in
+    ap (λ (n : ℕ). (hub_run start (first_of events n fault.bytes)).sent) at.0
+    ∙ ap (λ (n : ℕ). (hub_run start (first_of events 0 n)).sent) at.1) in
+    let same = printed.0 in
+    Keeps-trans _ _ _ (Keeps-none _ _ printed.1.1) (search (rules, same))

@@ -1,0 +1,9 @@
+pub mod Arguments
+pub mod Names
+pub mod Outcome
+pub mod Printed
+pub mod PrintedLaws
+pub mod Replayed
+pub mod Script
+pub mod Status
+pub mod TableBytes

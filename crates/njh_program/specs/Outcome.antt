@@ -1,0 +1,37 @@
+-- What the program did, and why it failed.
+use Rattle.std.specs.Prelude.{◌≡◌, ◌∷◌, ℕ, List, codes, Option, Some, ⊤}
+use Rattle.clap.specs.Words.{Text, HasKind, fault_of}
+use Rattle.clap.specs.declared.error.kind.ErrorKind.TheVariants.{MissingSubcommand}
+use Rattle.njh_table.specs.TableFile.{TableFile, owner_of}
+use Rattle.njh_hub.specs.declared.fault.HubFault.TheVariants.{Memory}
+use Rattle.njh_program.specs.declared.failure.Failure.{Failure}
+use Rattle.njh_program.specs.declared.failure.Failure.TheVariants.{Arguments, Tables, Replay}
+use Rattle.njh_program.specs.declared.fault.ReplayFault.TheVariants.{TooLong, Script, Device, Hub}
+use Rattle.njh_program.specs.Arguments.{choice_by, program_app}
+use Rattle.njh_program.specs.Replayed.{HasTooLong, HasBadLine, IsBegun, IsReplayed}
+use Rattle.njh_program.specs.TableBytes.{AreGiven, AreRefused}
+
+-- the arguments ask for a replay by these tables, or by some that are refused so
+abbrev pub Chooses : List Text → TableFile → Type 0
+Chooses arguments tables = (file : Option Text) × (choice_by arguments ≡ Some (codes "replay", file)) × AreGiven file tables
+
+abbrev pub ChoosesRefused : List Text → Failure → Type 0
+ChoosesRefused arguments failure = (file : Option Text) × (choice_by arguments ≡ Some (codes "replay", file)) × AreRefused file failure
+
+-- What the arguments ask for was done: the script that a reader had left was replayed.
+abbrev pub IsDone : (arguments : List Text) (left old new : Option (List ℕ)) → Type 0
+IsDone arguments left old new = (tables : TableFile) × Chooses arguments tables × IsReplayed tables left old new
+
+-- It was done in part.
+abbrev pub IsBegunFor : (arguments : List Text) (left old new : Option (List ℕ)) → Type 0
+IsBegunFor arguments left old new = (tables : TableFile) × Chooses arguments tables × IsBegun tables left old new
+
+-- Why it failed: by the arguments, which are asked first, by the tables, or by the script; or a device failed, or memory ran out.
+abbrev pub IsFailed : (arguments : List Text) (left : Option (List ℕ)) → Failure → Type 0
+IsFailed arguments left (Arguments error) = HasKind (MissingSubcommand ∷ fault_of program_app arguments) error
+IsFailed arguments left (Tables fault) = ChoosesRefused arguments (Tables fault)
+IsFailed arguments left (Replay TooLong) = (tables : TableFile) × Chooses arguments tables × HasTooLong left
+IsFailed arguments left (Replay (Script number)) = (tables : TableFile) × Chooses arguments tables
+    × HasBadLine (owner_of tables) left number
+IsFailed arguments left (Replay Device) = ⊤
+IsFailed arguments left (Replay (Hub fault)) = fault ≡ Memory

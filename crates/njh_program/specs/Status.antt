@@ -1,0 +1,35 @@
+-- Why the program ends, and the status that it ends with.
+use Rattle.std.specs.Prelude.{◌≡◌, ◌≢◌, ◌⊎◌, ℕ, Result, Ok, Err}
+use Rattle.njh_program.specs.declared.failure.Failure.{Failure}
+use Rattle.njh_program.specs.declared.failure.Failure.TheVariants.{Arguments, Tables, Replay}
+use Rattle.njh_program.specs.declared.fault.ReplayFault.TheVariants.{TooLong, Script, Device, Hub}
+use Rattle.njh_hub.specs.declared.fault.HubFault.TheVariants as hub
+use Rattle.njh_table.specs.declared.fault.TableFault.{TableFault}
+use Rattle.njh_table.specs.declared.fault.TableFault.TheVariants.{Memory}
+
+-- 1 where the tables are refused, 2 where there was no memory for them
+abbrev pub table_status : TableFault → ℕ
+table_status Memory = 2
+table_status fault = 1
+
+-- 1 where arguments, tables or the script are refused, 2 where a device or memory fails
+abbrev pub status_of : Failure → ℕ
+status_of (Arguments error) = 1
+status_of (Tables fault) = table_status fault
+status_of (Replay TooLong) = 1
+status_of (Replay (Script number)) = 1
+status_of (Replay Device) = 2
+status_of (Replay (Hub fault)) = 2
+
+-- the status to end with: 0 where nothing failed
+abbrev pub status_after : {A : Type 0} → Result A Failure → ℕ
+status_after (Ok x) = 0
+status_after (Err failure) = status_of failure
+
+-- out of memory, outside a replay
+abbrev pub no_memory : Failure
+no_memory = Replay (Hub hub.Memory)
+
+-- an error becomes this failure, but out of memory where its kind says that
+abbrev pub Becomes : {Kind : Type 0} → (kind memory : Kind) → Failure → Failure → Type 0
+Becomes kind memory other failure = ((kind ≡ memory) × (failure ≡ no_memory)) ⊎ ((kind ≢ memory) × (failure ≡ other))

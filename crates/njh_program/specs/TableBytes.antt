@@ -1,0 +1,27 @@
+-- The tables that a file's bytes give, and those that the program goes by.
+use Rattle.std.specs.Prelude.{◌≡◌, ◌≢◌, ◌⊎◌, ℕ, List, Option, Some, None, Result, Ok, Err, if◌then◌else◌}
+use Rattle.std.specs.Str.{is_utf8}
+use Rattle.njh_table.specs.declared.fault.TableFault.{TableFault}
+use Rattle.njh_table.specs.declared.fault.TableFault.TheVariants.{BadToml, Memory}
+use Rattle.njh_table.specs.Base.{base_tables}
+use Rattle.njh_table.specs.TableFile.{TableFile}
+use Rattle.njh_table.specs.Walk.{tables_of}
+use Rattle.njh_program.specs.declared.failure.Failure.{Failure}
+use Rattle.njh_program.specs.declared.failure.Failure.TheVariants.{Tables, Replay}
+use Rattle.njh_program.specs.declared.fault.ReplayFault.TheVariants.{Device}
+use Rattle.njh_program.specs.Status.{no_memory}
+
+-- what the text gives, where the bytes are one; a file that is no UTF-8 is no TOML
+unfoldable pub tables_in : List ℕ → Result TableFile TableFault
+tables_in bytes = if is_utf8 bytes then tables_of bytes else Err BadToml
+
+-- the tables where a file is named or none is: those that the bytes of some file give, or the base tables
+abbrev pub AreGiven : {Path : Type 0} → Option Path → TableFile → Type 0
+AreGiven None tables = tables ≡ base_tables
+AreGiven (Some path) tables = (bytes : List ℕ) × (tables_in bytes ≡ Ok tables)
+
+-- why there are none: out of memory, or a file that can't be read, or one whose bytes give this fault
+abbrev pub AreRefused : {Path : Type 0} → Option Path → Failure → Type 0
+AreRefused None failure = failure ≡ Tables Memory
+AreRefused (Some path) failure = (failure ≡ Replay Device) ⊎ (failure ≡ no_memory)
+    ⊎ ((fault : TableFault) × (bytes : List ℕ) × (failure ≡ Tables fault) × (fault ≢ Memory → tables_in bytes ≡ Err fault))

@@ -1,0 +1,111 @@
+//! The arguments of the command line.
+
+ghost use Rattle.std.specs.Prelude.{◌≡◌, [], ◌∷◌, false, map, IfOk, IfErr, IfSome, OnOk};
+ghost use Rattle.clap.specs.Words.{app_of, fault_of, kind_of, rule_of, HasKind};
+ghost use Rattle.clap.specs.declared.builder.command.Command.TheViews.{out-Command};
+ghost use Rattle.njh_program.specs.Arguments.{bare_app, choice_by, choice_in, choice_of, program_app, replay_app, tables_rule};
+
+use clap::error::ErrorKind;
+use clap::{Arg, ArgAction, ArgMatches, Command, Error};
+use std::alloc::{AllocError, Global};
+use std::convert::AsStr;
+
+/// What the arguments ask for.
+#[derive(Clone, Copy)]
+pub enum Request<'a> {
+    /// To replay a script.
+    Replay {
+        /// The table file; the built-in tables where none is named.
+        tables: Option<&'a str>,
+    },
+}
+
+/// What the arguments ask for, of which the first is the program's name. A refusal has the text for the user, and
+/// `--help` is one. Both are as `clap`'s definitions say of this program.
+pub fn request_of<'a, S: AsStr>(alloc: Global, arguments: &'a [S]) -> Result<Request<'a>, Error>
+    ensures asked { IfOk result (λ request. choice_by (map S.text arguments.entry.now) ≡ Some (choice_of request)) }
+    ensures taken { OnOk result (fault_of program_app (map S.text arguments.entry.now) ≡ []) }
+    // Out of memory, or of a kind that these arguments give.
+    ensures refused { IfErr result (HasKind (ErrorKind.MissingSubcommand ∷ fault_of program_app (map S.text arguments.entry.now))) }
+{
+    let mut program = program_command(alloc)?;
+    let found = matches_of(&mut program, arguments)?;
+    match request_in(&found) {
+        Some(request) => Ok(request),
+        None => Err(program.error(ErrorKind::MissingSubcommand, "no subcommand")?),
+    }
+}
+
+/// The refusal of arguments that are no UTF-8.
+pub fn not_utf8(alloc: Global) -> Result<Error, AllocError>
+    ensures { IfOk result (λ error. kind_of error ≡ ErrorKind.InvalidValue) }
+{
+    program_command(alloc)?.error(ErrorKind::InvalidValue, "an argument is not UTF-8")
+}
+
+/// What `clap` reads in the arguments.
+fn matches_of<'a, S: AsStr>(
+    program: &mut Command<'a>,
+    arguments: &'a [S],
+) -> Result<ArgMatches<'a>, Error>
+    requires { app_of program.old ≡ program_app }
+    ensures asked { IfOk result (λ found. choice_in found ≡ choice_by (map S.text arguments.entry.now)) }
+    ensures taken { OnOk result (fault_of program_app (map S.text arguments.entry.now) ≡ []) }
+    ensures refused { IfErr result (HasKind (fault_of program_app (map S.text arguments.entry.now))) }
+{
+    program.try_get_matches_from_mut(arguments)
+}
+
+/// What a parse asks for, if it found a subcommand.
+fn request_in<'a>(found: &ArgMatches<'a>) -> Option<Request<'a>>
+    ensures { IfSome result (λ request. choice_in found.now ≡ Some (choice_of request)) }
+{
+    match found.subcommand() {
+        Some(("replay", options)) => Some(Request::Replay {
+            tables: options.get_str("tables"),
+        }),
+        _ => None,
+    }
+}
+
+/// The program and its subcommands.
+fn program_command<'a>(alloc: Global) -> Result<Command<'a>, AllocError>
+    ensures { IfOk result (λ command. app_of command ≡ program_app) }
+{
+    let replay = replay_command(alloc)?;
+    bare_command(alloc).subcommand(replay)
+}
+
+/// The program without its subcommands, one of which is to be named.
+fn bare_command<'a>(alloc: Global) -> Command<'a>
+    ensures { app_of result ≡ bare_app }
+{
+    Command::new(alloc, "njehub")
+        .about("A store-and-forward hub for NJE networks over bisync lines")
+        .subcommand_required(true)
+        .disable_help_subcommand(true)
+}
+
+/// `replay`, with its one option.
+fn replay_command<'a>(alloc: Global) -> Result<Command<'a>, AllocError>
+    ensures app { IfOk result (λ command. app_of command ≡ replay_app) }
+    ensures local { IfOk result (λ command. (out-Command command).has_globals ≡ false) }
+{
+    Command::new(alloc, "replay")
+        .about(
+            "Runs a script of events from standard input, and prints the frames that the hub sends",
+        )
+        .arg(tables_option(alloc))
+}
+
+/// `--tables F`.
+fn tables_option<'a>(alloc: Global) -> Arg<'a>
+    ensures rule { rule_of result ≡ tables_rule }
+    ensures local { result.global ≡ false }
+{
+    Arg::new(alloc, "tables")
+        .long("tables")
+        .value_name("F")
+        .help("The table file; the built-in tables where none is named")
+        .action(ArgAction::Set)
+}

@@ -1,0 +1,110 @@
+//! Why the program ends with another status than 0.
+
+ghost use Rattle.std.specs.Prelude.{◌≡◌};
+ghost use Rattle.std.specs.IoError.{error_kind};
+ghost use Rattle.clap.specs.Words.{kind_of};
+ghost use Rattle.njh_program.specs.Status.{status_of, no_memory, Becomes};
+
+use crate::fault::ReplayFault;
+use clap::error::ErrorKind;
+use njh_hub::HubFault;
+use njh_table::TableFault;
+use std::alloc::AllocError;
+use std::{fmt, io};
+
+/// What ended the program. A device that fails, or memory that runs out, outside a replay counts as that of one.
+#[derive(Debug, Drop)]
+pub enum Failure {
+    /// The arguments are refused, or ask for help.
+    Arguments(clap::Error),
+    /// The table file is refused.
+    Tables(TableFault),
+    /// The replay ended early.
+    Replay(ReplayFault),
+}
+
+impl Failure {
+    /// The status to end with: 1 where the arguments, the tables or the script are refused, 2 where a file, a
+    /// stream or memory fails.
+    pub fn status(&self) -> u8
+        ensures { result ≡ status_of self.now }
+    {
+        match self {
+            Failure::Arguments(_) => 1,
+            Failure::Tables(TableFault::Memory) => 2,
+            Failure::Tables(_) => 1,
+            Failure::Replay(ReplayFault::TooLong) => 1,
+            Failure::Replay(ReplayFault::Script { .. }) => 1,
+            Failure::Replay(ReplayFault::Device) => 2,
+            Failure::Replay(ReplayFault::Hub(_)) => 2,
+        }
+    }
+}
+
+impl fmt::Display for Failure {
+    /// One line, but for the text of arguments that are refused.
+    fn fmt<W: fmt::Write>(&self, f: &mut fmt::Formatter<W>) -> fmt::Result {
+        match self {
+            Failure::Arguments(error) => write!(f, "{error}"),
+            Failure::Tables(fault) => writeln!(f, "njehub: {fault}"),
+            Failure::Replay(fault) => writeln!(f, "njehub: {fault}"),
+        }
+    }
+}
+
+impl From<clap::Error> for Failure {
+    ghost use Rattle.clap.specs.declared.error.ErrorKind.TheVariants.{OutOfMemory};
+    ghost use Rattle.njh_program.specs.declared.failure.Failure.TheVariants.{Arguments};
+
+    ghost from_gives = { λ error failure. Becomes (kind_of error) OutOfMemory (Arguments error) failure };
+
+    fn from(error: clap::Error) -> Failure {
+        match error.kind() {
+            ErrorKind::OutOfMemory => Failure::from(AllocError),
+            _ => Failure::Arguments(error),
+        }
+    }
+}
+
+impl From<TableFault> for Failure {
+    ghost use Rattle.njh_program.specs.declared.failure.Failure.TheVariants.{Tables};
+
+    ghost from_gives = { λ fault failure. failure ≡ Tables fault };
+
+    fn from(fault: TableFault) -> Failure {
+        Failure::Tables(fault)
+    }
+}
+
+impl From<ReplayFault> for Failure {
+    ghost use Rattle.njh_program.specs.declared.failure.Failure.TheVariants.{Replay};
+
+    ghost from_gives = { λ fault failure. failure ≡ Replay fault };
+
+    fn from(fault: ReplayFault) -> Failure {
+        Failure::Replay(fault)
+    }
+}
+
+impl From<AllocError> for Failure {
+    ghost from_gives = { λ _ failure. failure ≡ no_memory };
+
+    fn from(_error: AllocError) -> Failure {
+        Failure::Replay(ReplayFault::Hub(HubFault::Memory))
+    }
+}
+
+impl From<io::Error> for Failure {
+    ghost use Rattle.std.specs.declared.io.ErrorKind.TheVariants.{OutOfMemory};
+    ghost use Rattle.njh_program.specs.declared.failure.Failure.TheVariants.{Replay};
+    ghost use Rattle.njh_program.specs.declared.fault.ReplayFault.TheVariants.{Device};
+
+    ghost from_gives = { λ error failure. Becomes (error_kind error) OutOfMemory (Replay Device) failure };
+
+    fn from(error: io::Error) -> Failure {
+        match error.kind() {
+            io::ErrorKind::OutOfMemory => Failure::from(AllocError),
+            _ => Failure::Replay(ReplayFault::Device),
+        }
+    }
+}

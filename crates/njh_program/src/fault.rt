@@ -1,0 +1,56 @@
+//! Why a replay ends early.
+
+ghost use Rattle.std.specs.Prelude.{◌≡◌};
+ghost use Rattle.njh_program.specs.declared.fault.ReplayFault.TheVariants.{Hub};
+ghost use Rattle.njh_hub.specs.declared.fault.HubFault.TheVariants.{Memory};
+
+use njh_hub::HubFault;
+use std::alloc::{AllocError, AllocFailed};
+use thiserror::Error;
+
+/// Why a script wasn't replayed to its end.
+///
+/// `TooLong` comes before `Script`; nothing was written then, nor with out of memory. After `Device` a beginning of the
+/// whole output was written, or nothing.
+#[derive(Clone, Copy, Debug, PartialEq, Eq, Error)]
+pub enum ReplayFault {
+    /// The script has more bytes than its limit.
+    #[error("script too long")]
+    TooLong,
+    /// A line of the script is bad.
+    #[error("script line {line}")]
+    Script {
+        /// The number of the first bad line, counted from 1.
+        line: u32,
+    },
+    /// A read or a write failed.
+    #[error("device")]
+    Device,
+    /// The hub's fault; memory that runs out before the hub was asked is its `Memory`.
+    #[error("{0}")]
+    Hub(HubFault),
+}
+
+impl From<HubFault> for ReplayFault {
+    ghost from_gives = { λ hub fault. fault ≡ Hub hub };
+
+    fn from(fault: HubFault) -> ReplayFault {
+        ReplayFault::Hub(fault)
+    }
+}
+
+impl From<AllocError> for ReplayFault {
+    ghost from_gives = { λ _ fault. fault ≡ Hub Memory };
+
+    fn from(_error: AllocError) -> ReplayFault {
+        ReplayFault::Hub(HubFault::Memory)
+    }
+}
+
+impl<T: Drop> From<AllocFailed<T>> for ReplayFault {
+    ghost from_gives = { λ _ fault. fault ≡ Hub Memory };
+
+    fn from(_error: AllocFailed<T>) -> ReplayFault {
+        ReplayFault::Hub(HubFault::Memory)
+    }
+}

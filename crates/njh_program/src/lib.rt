@@ -1,0 +1,23 @@
+//! All of the program: replays a script of events through the hub, and prints the frames that the hub sends.
+#![tactic(auto)]
+
+mod arguments;
+mod failure;
+mod fault;
+mod input;
+mod line;
+mod names;
+mod print;
+mod printer;
+mod program;
+mod replaying;
+mod script;
+mod table_file;
+
+pub use arguments::{Request, request_of};
+pub use failure::Failure;
+pub use fault::ReplayFault;
+pub use program::{carry_out, end, run};
+pub use replaying::replay;
+pub use script::LIMIT;
+pub use table_file::tables_of;

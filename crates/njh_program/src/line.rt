@@ -1,0 +1,88 @@
+//! The event of one line of a script.
+
+ghost use Rattle.std.specs.Prelude.{◌≡◌, IfOk, IfSome};
+ghost use Rattle.njh_table.specs.TableFile.{owner_of, HasLine};
+ghost use Rattle.njh_hub.specs.Own.{line_of};
+ghost use Rattle.njh_program.specs.Script.{bytes_on, event_of, event_of_words, piece_of, signal_of, words_of};
+
+use hex::FromHexError;
+use njh_hub::{Event, Piece};
+use njh_table::{LineId, Tables};
+use std::alloc::{AllocError, Global};
+
+/// The event of a line, if it has one; it comes on a line of the tables. Out of memory is the only refusal.
+#[tactic(auto, unfolding(crate::specs::Script::event_of))]
+pub fn event_of(alloc: Global, tables: &Tables, line: &[u8]) -> Result<Option<Event>, AllocError>
+    ensures event { IfOk result (λ event. event ≡ event_of (owner_of tables.now) line.now) }
+    ensures line { IfOk result (λ event. IfSome event (λ e. HasLine tables.now (line_of e))) }
+{
+    match str::from_utf8(line) {
+        Ok(line) => event_of_text(alloc, tables, line),
+        Err(_) => Ok(None),
+    }
+}
+
+/// The event of a line that is text.
+fn event_of_text(alloc: Global, tables: &Tables, line: &str) -> Result<Option<Event>, AllocError>
+    ensures event { IfOk result (λ event. event ≡ event_of_words (owner_of tables.now) (words_of line.now)) }
+    ensures line { IfOk result (λ event. IfSome event (λ e. HasLine tables.now (line_of e))) }
+{
+    let Some((word, rest)) = line.split_once(' ') else {
+        return Ok(None);
+    };
+    match rest.split_once(' ') {
+        None => Ok(
+            tables
+                .line_owner(rest)
+                .and_then(|line| signal_of(word, line)),
+        ),
+        Some((name, digits)) => match tables.line_owner(name) {
+            None => Ok(None),
+            Some(line) => bytes_on(alloc, word, digits, line),
+        },
+    }
+}
+
+/// The event of a word alone on a line of the hub.
+fn signal_of(word: &str, line: LineId) -> Option<Event>
+    ensures event { result ≡ signal_of word.now line }
+    ensures line { IfSome result (λ e. line_of e ≡ line) }
+{
+    match word {
+        "TICK" => Some(Event::Tick(line)),
+        "GARBLED" => Some(Event::Garbled(line)),
+        "LOST" => Some(Event::Lost(line)),
+        _ => None,
+    }
+}
+
+/// The event of `BYTES` with hex digits on a line of the hub.
+fn bytes_on(
+    alloc: Global,
+    word: &str,
+    digits: &str,
+    line: LineId,
+) -> Result<Option<Event>, AllocError>
+    ensures event { IfOk result (λ event. event ≡ bytes_on word.now digits.now line) }
+    ensures line { IfOk result (λ event. IfSome event (λ e. line_of e ≡ line)) }
+{
+    if word != "BYTES" {
+        return Ok(None);
+    }
+    match piece_of(alloc, digits)? {
+        Some(piece) => Ok(Some(Event::Bytes(line, piece))),
+        None => Ok(None),
+    }
+}
+
+/// The bytes that hex digits spell, if they spell any.
+fn piece_of(alloc: Global, digits: &str) -> Result<Option<Piece>, AllocError>
+    ensures { IfOk result (λ piece. piece ≡ piece_of digits.now) }
+{
+    match hex::decode(alloc, digits) {
+        Ok(bytes) if bytes.is_empty() => Ok(None),
+        Ok(bytes) => Ok(Some(Piece::of(alloc, &bytes)?)),
+        Err(FromHexError::OutOfMemory) => Err(AllocError),
+        Err(_) => Ok(None),
+    }
+}

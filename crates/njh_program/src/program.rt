@@ -1,0 +1,78 @@
+//! The whole of the program, over any files and streams.
+
+ghost use Rattle.std.specs.Prelude.{◌≡◌, ◌≤◌, ◌⊎◌, map, IfErr, OnOk, OnErr};
+ghost use Rattle.std.specs.Io.KnownBytes.{Keeps};
+ghost use Rattle.std.specs.Process.{exit_status};
+ghost use Rattle.njh_program.specs.Outcome.{IsBegunFor, IsDone, IsFailed};
+ghost use Rattle.njh_program.specs.Status.{status_after, status_of};
+
+use crate::arguments::{Request, not_utf8, request_of};
+use crate::failure::Failure;
+use crate::replaying::replay;
+use crate::table_file::tables_of;
+use std::convert::AsStr;
+use std::io::{BufWriter, ErrorKind, Read, Write};
+use std::process::ExitCode;
+use std::rt::{Env, Files};
+use std::{env, io};
+
+/// Runs the program, and answers the status to end with. Why it failed, if it did, goes to `errors`.
+pub fn run<R: Env + Files + Input + Print + AllocGlobal, E: Print>(rt: &R, errors: &E) -> ExitCode
+    ensures { exit_status result ≤ 2 }
+{
+    end(outcome_of(rt), errors)
+}
+
+/// Says why the program failed, if it did, and answers the status to end with.
+pub fn end<E: Print>(outcome: Result<(), Failure>, errors: &E) -> ExitCode
+    ensures { exit_status result ≡ status_after outcome }
+{
+    match outcome {
+        Ok(()) => ExitCode::SUCCESS,
+        Err(failure) => {
+            let status = failure.status();
+            let _ = errors.print(failure);
+            ExitCode::from(status)
+        }
+    }
+}
+
+/// Does what the program's own arguments ask for, over its own streams.
+fn outcome_of<R: Env + Files + Input + Print + AllocGlobal>(rt: &R) -> Result<(), Failure> {
+    let arguments = arguments_of(rt)?;
+    let mut out = BufWriter::new(rt.alloc(), io::writer(rt))?;
+    carry_out(rt, &arguments, &mut rt.reader(), &mut out)
+}
+
+/// The program's arguments.
+fn arguments_of<R: Env + AllocGlobal>(rt: &R) -> Result<Vec<String>, Failure> {
+    match env::args(rt) {
+        Ok(arguments) => Ok(arguments.collect(rt.alloc())?),
+        Err(error) if error.kind() == ErrorKind::InvalidData => {
+            Err(Failure::Arguments(not_utf8(rt.alloc())?))
+        }
+        Err(error) => Err(Failure::from(error)),
+    }
+}
+
+/// Does what the arguments ask for: the arguments are checked first, then the tables, then the script.
+pub fn carry_out<F: Files + AllocGlobal, S: AsStr, R: Read, W: Write>(
+    rt: &F,
+    arguments: &[S],
+    script: &mut R,
+    out: &mut W,
+) -> Result<(), Failure>
+    ensures done { OnOk result (IsDone (map S.text arguments.now) (R.remaining script.old) (W.contents out.old) (W.contents out.new)) }
+    ensures failed { IfErr result (IsFailed (map S.text arguments.now) (R.remaining script.old)) }
+    ensures begun { OnErr result (Keeps (W.contents out.old) (W.contents out.new)
+        ⊎ IsBegunFor (map S.text arguments.now) (R.remaining script.old) (W.contents out.old) (W.contents out.new)) }
+    ensures silent { IfErr result (λ failure. status_of failure ≡ 1 → Keeps (W.contents out.old) (W.contents out.new)) }
+{
+    match request_of(rt.alloc(), arguments)? {
+        Request::Replay { tables } => {
+            let tables = tables_of(rt, tables)?;
+            replay(rt.alloc(), tables, script, out)?;
+            Ok(())
+        }
+    }
+}

@@ -1,0 +1,127 @@
+//! Replays a script through a hub.
+
+ghost use Rattle.std.specs.Prelude.{◌≡◌, ◌⊎◌, ℕ, All, IfOk, IfErr, OnOk, OnErr};
+ghost use Rattle.std.specs.Io.KnownBytes.{Appends, Keeps};
+ghost use Rattle.njh_program.specs.Printed.{text_of, AppendsBeginning};
+ghost use Rattle.njh_program.specs.Replayed.{fault_after, text_of_run, HasScript, HasTooLong, HasBadLine};
+ghost use Rattle.njh_program.specs.Replayed.{IsBegun, IsReplayed, IsRefusal, MayEnd};
+ghost use Rattle.njh_table.specs.TableFile.{owner_of, HasLine};
+ghost use Rattle.njh_hub.specs.Own.{line_of};
+ghost use Rattle.njh_hub.specs.Whole.{hub_run, HasLine as HubHasLine};
+
+use crate::fault::ReplayFault;
+use crate::input::read_text;
+use crate::names::LineNames;
+use crate::printer::Printer;
+use crate::script::events_of;
+use njh_hub::{Cause, Event, Hub, HubFault, sent_in_order};
+use njh_table::Tables;
+use std::alloc::Global;
+use std::io::{Read, Write};
+
+/// Reads a whole script and checks it, then runs its events through a hub of these tables and prints what the hub sends.
+pub fn replay<R: Read, W: Write>(
+    alloc: Global,
+    tables: Tables,
+    script: &mut R,
+    out: &mut W,
+) -> Result<(), ReplayFault>
+    // What is written is the text of the frames that a hub of these tables sends over the events of the script, which is good
+    // from its first line to its last.
+    ensures replayed { OnOk result (IsReplayed tables (R.remaining script.old) (W.contents out.old) (W.contents out.new)) }
+
+    // It is refused where it is too long, or else at its first bad line, and then nothing is written.
+    ensures long { result ≡ Err ReplayFault.TooLong → HasTooLong (R.remaining script.old) }
+    ensures bad { (number : ℕ) → result ≡ Err (ReplayFault.Script number) →
+        HasBadLine (owner_of tables) (R.remaining script.old) number }
+    ensures silent { IfErr result (λ fault. IsRefusal fault → out.new ≡ out.old) }
+
+    // Else a device failed, and a beginning of that text is written, or nothing; or memory ran out, and nothing is written.
+    ensures faults { IfErr result MayEnd }
+    ensures begun { OnErr result (Keeps (W.contents out.old) (W.contents out.new)
+        ⊎ IsBegun tables (R.remaining script.old) (W.contents out.old) (W.contents out.new)) }
+    ensures memory { result ≡ Err (ReplayFault.Hub HubFault.Memory) → Keeps (W.contents out.old) (W.contents out.new) }
+{
+    let events = read_events(alloc, &tables, script)?;
+    print_events(alloc, tables, &events, out)
+}
+
+/// Runs events through a hub of these tables, and prints each frame that it sends.
+fn print_events<W: Write>(
+    alloc: Global,
+    tables: Tables,
+    events: &[Event],
+    out: &mut W,
+) -> Result<(), ReplayFault>
+    requires { All (λ event. HasLine tables (line_of event)) events.now }
+    ensures printed { OnOk result (Appends (W.contents out.old) (W.contents out.new) (text_of_run tables events.now)) }
+    ensures begun { OnErr result (AppendsBeginning (W.contents out.old) (W.contents out.new) (text_of_run tables events.now)) }
+    ensures memory { result ≡ Err (ReplayFault.Hub HubFault.Memory) → Keeps (W.contents out.old) (W.contents out.new) }
+    ensures faults { IfErr result MayEnd }
+    ensures refuses_no_script { IfErr result (λ fault. ¬ IsRefusal fault) }
+{
+    let names = LineNames::of(alloc, &tables)?;
+    let mut hub = Hub::open(alloc, tables)?;
+    print_run(&mut hub, events, &names, out)
+}
+
+/// Runs events through a hub, and prints each frame that it sends.
+fn print_run<W: Write>(
+    hub: &mut Hub,
+    events: &[Event],
+    names: &LineNames,
+    out: &mut W,
+) -> Result<(), ReplayFault>
+    requires { All (λ event. HubHasLine hub.old (line_of event)) events.now }
+    ensures printed { OnOk result (Appends (W.contents out.old) (W.contents out.new)
+        (text_of names.now (hub_run hub.old events.now).sent)) }
+    ensures begun { OnErr result (AppendsBeginning (W.contents out.old) (W.contents out.new)
+        (text_of names.now (hub_run hub.old events.now).sent)) }
+    ensures memory { result ≡ Err (ReplayFault.Hub HubFault.Memory) → Keeps (W.contents out.old) (W.contents out.new) }
+    ensures faults { IfErr result MayEnd }
+    ensures refuses_no_script { IfErr result (λ fault. ¬ IsRefusal fault) }
+{
+    let mut printer = Printer {
+        out,
+        names,
+        failures: 0,
+    };
+    match hub.run(events, &mut printer) {
+        Ok(()) => {}
+        Err(fault) => {
+            sent_in_order();
+            return Err(fault_after(fault.cause));
+        }
+    }
+    match out.flush() {
+        Ok(()) => Ok(()),
+        Err(_) => Err(ReplayFault::Device),
+    }
+}
+
+/// The events of a script that comes from a reader.
+fn read_events<R: Read>(
+    alloc: Global,
+    tables: &Tables,
+    script: &mut R,
+) -> Result<Vec<Event>, ReplayFault>
+    ensures good { IfOk result (λ events. HasScript (owner_of tables.now) (R.remaining script.old) events.items) }
+    ensures lines { IfOk result (λ events. All (λ event. HasLine tables.now (line_of event)) events.items) }
+    ensures long { result ≡ Err ReplayFault.TooLong → HasTooLong (R.remaining script.old) }
+    ensures bad { (number : ℕ) → result ≡ Err (ReplayFault.Script number) →
+        HasBadLine (owner_of tables.now) (R.remaining script.old) number }
+    ensures faults { IfErr result MayEnd }
+{
+    let text = read_text(alloc, script)?;
+    events_of(alloc, tables, &text)
+}
+
+/// The fault of a replay whose run was stopped by this cause.
+fn fault_after(cause: Cause) -> ReplayFault
+    ensures { result ≡ fault_after cause }
+{
+    match cause {
+        Cause::Hub(fault) => ReplayFault::Hub(fault),
+        Cause::Sink => ReplayFault::Device,
+    }
+}

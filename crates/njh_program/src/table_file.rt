@@ -1,0 +1,34 @@
+//! The tables that the program goes by.
+
+ghost use Rattle.std.specs.Prelude.{◌≡◌, ◌≢◌, option_map, IfOk, IfErr};
+ghost use Rattle.njh_program.specs.TableBytes.{tables_in, AreGiven, AreRefused};
+
+use crate::failure::Failure;
+use njh_table::{TableFault, Tables};
+use std::alloc::Global;
+use std::fs;
+use std::rt::Files;
+
+/// The tables of a file, or the base tables where none is named.
+///
+/// No clause says which bytes a file holds, so of a file no more is known than that its tables are those of some bytes.
+pub fn tables_of<R: Files + AllocGlobal>(rt: &R, file: Option<&str>) -> Result<Tables, Failure>
+    ensures given { IfOk result (AreGiven (option_map (λ path. path.now) file.entry)) }
+    ensures refused { IfErr result (AreRefused (option_map (λ path. path.now) file.entry)) }
+{
+    match file {
+        Some(path) => Ok(tables_in(rt.alloc(), &fs::read(rt, path)?)?),
+        None => Ok(Tables::base(rt.alloc())?),
+    }
+}
+
+/// The tables of a file's bytes. A file that is no UTF-8 is no TOML.
+fn tables_in(alloc: Global, bytes: &[u8]) -> Result<Tables, TableFault>
+    ensures read { IfOk result (λ tables. tables_in bytes.now ≡ Ok tables) }
+    ensures fault { IfErr result (λ fault. fault ≢ TableFault.Memory → tables_in bytes.now ≡ Err fault) }
+{
+    match str::from_utf8(bytes) {
+        Ok(text) => Tables::read(alloc, text),
+        Err(_) => Err(TableFault::BadToml),
+    }
+}

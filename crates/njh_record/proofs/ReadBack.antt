@@ -1,0 +1,144 @@
+-- What stands in the bytes is what the reading function gives.
+use Rattle.std.proofs.Common.{◌≡◌, ℕ, ◌+◌, ◌<◌, ◌≤◌, inl, inr, List, [], ◌∷◌, ◌++◌, length, take, drop, Result, Ok, Err}
+use Rattle.std.proofs.Common.{refl, sym, ◌∙◌, ap, subst, append_assoc, arith, length-append, length-drop}
+use Rattle.std.proofs.lemmas.Bool.{cases_lt}
+use Rattle.std.proofs.lemmas.List.{append-nil, take-append-le, take-append-drop, take_at, drop_at, drop-drop, drop-append-le}
+use Rattle.std.specs.List.{flat_map, AllByRecursion}
+use Rattle.njh_record.specs.declared.End.{End}
+use Rattle.njh_record.specs.Spelling.{Item, IsItem, item_bytes, added, end_byte, Spelling}
+use Rattle.njh_record.specs.Unspelled.{Front, OfItem, OfEnd, Bad, Cut, Fault, BadScb, Truncated, Unspelled, with_front}
+use Rattle.njh_record.specs.Unspelled.{unspelled, ReadsAs}
+use Rattle.njh_record.specs.Parts.{StandsFirst}
+use Rattle.njh_record.proofs.Fronts.{cut_item, front_leaves_less, IsCounted-item}
+use Rattle.njh_record.proofs.ReadingLaws.{read_on, by_steps, unspelled-first}
+
+-- ---- what stands there is found
+
+pub with_front-with_front : (a b : List ℕ) (read : Result Unspelled Fault) → with_front a (with_front b read) ≡ with_front (a ++ b) read
+with_front-with_front a b (Ok found) =
+    ap (λ (bytes : List ℕ). Ok (record found { contents = bytes })) (sym (append_assoc a b found.contents))
+with_front-with_front a b (Err fault) = refl
+
+pub with_front-nil : (read : Result Unspelled Fault) → read ≡ with_front [] read
+with_front-nil (Ok found) = refl
+with_front-nil (Err fault) = refl
+
+unspelled-item : (item : Item) (rest : List ℕ) → IsItem item
+    → unspelled (item_bytes item ++ rest) ≡ with_front (added item) (unspelled rest)
+unspelled-item item rest is = unspelled-first (item_bytes item ++ rest) (OfItem item rest) (IsCounted-item item is, refl)
+
+unspelled-items : (items : List Item) (rest : List ℕ) → AllByRecursion IsItem items
+    → unspelled (flat_map item_bytes items ++ rest) ≡ with_front (flat_map added items) (unspelled rest)
+unspelled-items [] rest each = with_front-nil (unspelled rest)
+unspelled-items (item ∷ items) rest each =
+    ap unspelled (append_assoc (item_bytes item) (flat_map item_bytes items) rest)
+    ∙ (unspelled-item item (flat_map item_bytes items ++ rest) each.0
+    ∙ (ap (with_front (added item)) (unspelled-items items rest each.1)
+    ∙ with_front-with_front (added item) (flat_map added items) (unspelled rest)))
+
+pub unspelled-spelling : (bytes contents : List ℕ) (end : End) (rest : List ℕ) → Spelling bytes contents end
+    → unspelled (bytes ++ rest) ≡ Ok (record { contents = contents; end = end; rest = rest })
+unspelled-spelling bytes contents end rest spells =
+    let items = spells.items in
+    let parts : bytes ++ rest ≡ flat_map item_bytes items ++ (end_byte end ∷ rest) =
+    ap (λ (b : List ℕ). b ++ rest) spells.whole.parts ∙ append_assoc (flat_map item_bytes items) (end_byte end ∷ []) rest in
+    let adds : flat_map added items ++ [] ≡ contents = append-nil (flat_map added items) ∙ sym spells.adds in
+    ap unspelled parts ∙ (unspelled-items items (end_byte end ∷ rest) spells.whole.each
+    ∙ (ap (with_front (flat_map added items)) (unspelled-first (end_byte end ∷ rest) (OfEnd end rest) refl)
+    ∙ ap (λ (b : List ℕ). Ok (record { contents = b; end = end; rest = rest })) adds))
+
+-- what is cut off lies within an item, or behind whole ones
+unspelled-cut : (items : List Item) (end : End) (bytes missing : List ℕ) → AllByRecursion IsItem items → 0 < length missing
+    → bytes ++ missing ≡ flat_map item_bytes items ++ end_byte end ∷ [] → unspelled bytes ≡ Err Truncated
+unspelled-cut [] end [] missing each some parts = refl
+unspelled-cut [] end (b ∷ bytes) missing each some parts = absurd (omega (arith, ap length parts, length-append bytes missing))
+unspelled-cut (item ∷ items) end bytes missing each some parts =
+    let n = length (item_bytes item) in
+    let after = flat_map item_bytes items ++ end_byte end ∷ [] in
+    let joined : bytes ++ missing ≡ item_bytes item ++ after =
+    parts ∙ append_assoc (item_bytes item) (flat_map item_bytes items) (end_byte end ∷ []) in
+    elim (cases_lt (length bytes) n) [
+      | inl short ↦
+          let front : take (length bytes) (item_bytes item) ≡ bytes =
+          sym (take-append-le (length bytes) (item_bytes item) after (omega arith))
+          ∙ (ap (take (length bytes)) (sym joined) ∙ take_at bytes missing (length bytes) refl) in
+          let whole : bytes ++ drop (length bytes) (item_bytes item) ≡ item_bytes item =
+          ap (λ (b : List ℕ). b ++ drop (length bytes) (item_bytes item)) (sym front)
+          ∙ take-append-drop (length bytes) (item_bytes item) in
+          unspelled-first bytes Cut
+          (cut_item bytes (drop (length bytes) (item_bytes item)) item (IsCounted-item item each.0)
+          (omega (arith, length-drop (length bytes) (item_bytes item))) whole)
+      | inr long ↦
+          let front : take n bytes ≡ item_bytes item =
+          sym (take-append-le n bytes missing long) ∙ (ap (take n) joined ∙ take_at (item_bytes item) after n refl) in
+          let back : drop n bytes ++ missing ≡ after =
+          sym (drop-append-le n bytes missing long) ∙ (ap (drop n) joined ∙ drop_at (item_bytes item) after n refl) in
+          let whole : bytes ≡ item_bytes item ++ drop n bytes =
+          sym (take-append-drop n bytes) ∙ ap (λ (b : List ℕ). b ++ drop n bytes) front in
+          ap unspelled whole ∙ (unspelled-item item (drop n bytes) each.0
+          ∙ ap (with_front (added item)) (unspelled-cut items end (drop n bytes) missing each.1 some back))
+    ]
+
+pub only : (bytes : List ℕ) (read : Result Unspelled Fault) → ReadsAs bytes read → unspelled bytes ≡ read
+only bytes (Ok found) (spelling, spells, parts) =
+    ap unspelled parts ∙ unspelled-spelling spelling found.contents found.end found.rest spells
+only bytes (Err BadScb) bad =
+    ap unspelled bad.front.parts
+    ∙ (unspelled-items bad.items (bad.byte ∷ bad.rest) bad.front.each
+    ∙ ap (with_front (flat_map added bad.items)) (unspelled-first (bad.byte ∷ bad.rest) Bad bad.bad))
+only bytes (Err Truncated) cut =
+    unspelled-cut cut.spelling.items cut.end bytes cut.missing cut.spelling.whole.each cut.some_missing cut.spelling.whole.parts
+
+-- ---- the rest stands behind what is read
+
+-- the rest of what was read stands behind so many bytes
+pub record StandsBehind (bytes rest : List ℕ) : Type 0 where
+  pub used : ℕ
+  pub some : 0 < used
+  pub within : used ≤ length bytes
+  pub is : rest ≡ drop used bytes
+
+abbrev RestBehind : List ℕ → Result Unspelled Fault → Type 0
+RestBehind bytes (Ok found) = StandsBehind bytes found.rest
+RestBehind bytes (Err fault) = Unit {0}
+
+RestBehind-item : (item : Item) (rest : List ℕ) (read : Result Unspelled Fault) → RestBehind rest read
+    → RestBehind (item_bytes item ++ rest) (with_front (added item) read)
+RestBehind-item item rest (Ok found) behind =
+    let n = length (item_bytes item) in
+    record {
+      used = n + behind.used;
+      some = omega (arith, behind.some);
+      within = omega (arith, behind.within, length-append (item_bytes item) rest);
+      is = behind.is ∙ (ap (drop behind.used) (sym (drop_at (item_bytes item) rest n refl))
+          ∙ drop-drop behind.used n (item_bytes item ++ rest));
+    }
+RestBehind-item item rest (Err fault) behind = tt
+
+behind_at : (bytes : List ℕ) (front : Front) → StandsFirst bytes front
+    → ((rest : List ℕ) → length rest < length bytes → RestBehind rest (unspelled rest)) → RestBehind bytes (read_on unspelled front)
+behind_at bytes (OfItem item rest) (counted, parts) again =
+    let P : List ℕ → Type 0 = λ b. RestBehind b (with_front (added item) (unspelled rest)) in
+    subst P (sym parts) (RestBehind-item item rest (unspelled rest) (again rest (front_leaves_less bytes rest item parts)))
+behind_at bytes (OfEnd end rest) parts again =
+    record { used = 1; some = omega arith; within = omega (arith, ap length parts); is = sym (ap (drop 1) parts) }
+behind_at bytes Bad bad again = tt
+behind_at bytes Cut cut again = tt
+
+pub rest_behind : (bytes : List ℕ) (read : Unspelled) → unspelled bytes ≡ Ok read
+    → (used : ℕ) × (0 < used) × (used ≤ length bytes) × (read.rest ≡ drop used bytes)
+rest_behind bytes read is =
+    let P : Result Unspelled Fault → Type 0 = λ read. RestBehind bytes read in
+    let behind = subst P is (by_steps RestBehind behind_at bytes) in
+    (behind.used, behind.some, behind.within, behind.is)
+
+abbrev rest_of : Result Unspelled Fault → List ℕ
+rest_of (Ok found) = found.rest
+rest_of (Err fault) = []
+
+-- no spelling is a proper prefix of another
+pub prefix_free : (spelling more contents others : List ℕ) (end other : End) → Spelling spelling contents end
+    → Spelling (spelling ++ more) others other → more ≡ []
+prefix_free spelling more contents others end other spells longer =
+    ap rest_of (sym (unspelled-spelling spelling contents end more spells)
+    ∙ (ap unspelled (sym (append-nil (spelling ++ more))) ∙ unspelled-spelling (spelling ++ more) others other [] longer))

@@ -1,0 +1,123 @@
+-- A chain loses its first block.
+use Rattle.std.proofs.Common.{◌≡◌, ◌≢◌, ℕ, zero, suc, ◌+◌, ◌-◌, ◌<◌, List, ◌∷◌, ◌++◌, length, get_or, take, drop, cond, eqb, Option, Some, None, refl, sym, ap, ◌∙◌, inl, inr, arith, length-take}
+use Rattle.std.proofs.lemmas.Bool.{cases_eq, cases_lt}
+use Rattle.std.proofs.lemmas.List.{drop_all, drop_at}
+use Rattle.std.proofs.lemmas.List.Concat.{flat_map-cons}
+use Rattle.slab.specs.Slab.{Slab, get, slab_len, ContainsKey, Updates}
+use Rattle.njh_spool.specs.declared.store.block.Block.{Block}
+use Rattle.njh_spool.specs.declared.store.slot.Slot.{Slot}
+use Rattle.njh_spool.specs.Chains.{blocks_for}
+use Rattle.njh_spool.specs.ChainedBlocks.{link_in, data_in, blocks_in, next_at, data_at, blocks_at, keys_from, keys_of, data_of, chain_of, times_in, IsChained}
+use Rattle.njh_spool.proofs.ChainLists.{take-right}
+use Rattle.njh_spool.proofs.ChainKeys.{times-cons, one_itself, one_other, keys_from-same, data_of-same}
+use Rattle.njh_spool.proofs.ChainMoves.{Moves}
+use Rattle.njh_spool.proofs.ChainLaws.{blocks_for_is, once_here, has_here, full_here, last_here, head_here, key_lies}
+
+get_or-rest : (k : ℕ) (rest : List ℕ) (m : ℕ) → 0 < m → get_or (k ∷ rest) m 0 ≡ get_or rest (m - 1) 0
+get_or-rest k rest zero some = absurd (omega arith)
+get_or-rest k rest (suc m) some =
+    let one : suc m - 1 ≡ m = omega arith in
+    rw one refl
+
+-- the bytes behind the first block's
+rest_of : (size : ℕ) (xs ys : List ℕ) → length xs ≡ 252 → drop 252 (take size (xs ++ ys)) ≡ take (size - 252) ys
+rest_of size xs ys long =
+    elim (cases_lt 252 size) [
+      | inl more ↦
+          let sum : size ≡ 252 + (size - 252) = omega arith in
+          ap (λ n. drop 252 (take n (xs ++ ys))) sum ∙ ap (drop 252) (take-right 252 (size - 252) xs ys long) ∙ drop_at xs (take (size - 252) ys) 252 long
+      | inr few ↦
+          let none : size - 252 ≡ 0 = omega arith in
+          drop_all 252 (take size (xs ++ ys)) (omega (arith, length-take size (xs ++ ys))) ∙ sym (ap (λ n. take n ys) none)
+    ]
+
+module _ (s t : Slab Block) (slots : List Slot) (i capacity : ℕ) (slot : Slot) (chained : IsChained s slots capacity) (within : i < length slots) (is : get_or slots i slot ≡ slot) (any : 0 < slot.len) where
+  pub head_lies : 0 < times_in slot.head (keys_of s slot)
+  head_lies = key_lies s slots i capacity slot chained within is 0 slot.head (omega arith) (head_here s slots i capacity slot chained within is any)
+
+  pub has_head : ContainsKey s slot.head
+  has_head = has_here s slots i capacity slot chained within is slot.head head_lies
+
+  module _ (first : Block) (found : get s slot.head ≡ Some first) (updates : Updates s t slot.head None) (fewer : slab_len t + 1 ≡ slab_len s) (room : t.capacity ≡ s.capacity) where
+    abbrev shorter : Slot
+    shorter = record { head = first.next; last = slot.last; len = slot.len - 252 }
+
+    abbrev rest : List ℕ
+    rest = keys_from s (blocks_for (slot.len - 252)) (next_at s slot.head)
+
+    keys_first : keys_of s slot ≡ slot.head ∷ rest
+    keys_first =
+        let one : blocks_for slot.len ≡ suc (blocks_for (slot.len - 252)) = blocks_for_is slot.len (suc (blocks_for (slot.len - 252))) (omega arith) (omega arith) in
+        ap (λ n. keys_from s n slot.head) one
+
+    times_first : (key : ℕ) → times_in key (keys_of s slot) ≡ cond {A = ℕ} (eqb slot.head key) 1 0 + times_in key rest
+    times_first key = ap (times_in key) keys_first ∙ times-cons key slot.head rest
+
+    head_one : blocks_at s slot.head ≡ 1
+    head_one = ap blocks_in found
+
+    in_rest : (key : ℕ) → 0 < times_in key rest → key ≢ slot.head
+    in_rest key h same =
+        omega (
+          arith,
+          times_first slot.head,
+          one_itself slot.head,
+          once_here s slots i capacity slot chained within is slot.head,
+          ap (λ x. times_in x rest) same,
+        )
+
+    keys_shorter : keys_of t shorter ≡ rest
+    keys_shorter =
+        ap (λ x. keys_from t (blocks_for (slot.len - 252)) x) (sym (ap link_in found))
+        ∙ keys_from-same s t (blocks_for (slot.len - 252)) (next_at s slot.head) (λ k h. ap link_in (updates.others k (in_rest k h)))
+
+    pub moves_rest : Moves s t slot shorter
+    moves_rest =
+        record {
+          same = λ key h. updates.others key (λ here. omega (arith, head_one, ap (blocks_at s) here, ap (λ x. times_in x (keys_of s slot)) here, head_lies));
+          once = λ key.
+              let new = ap (times_in key) keys_shorter in
+              elim (cases_eq key slot.head) [
+                | inl here ↦
+                    let now = ap (λ x. blocks_at t x) here ∙ ap blocks_in updates.changed in
+                    let was = ap (blocks_at s) here ∙ head_one in
+                    let itself = ap (λ x. cond {A = ℕ} (eqb slot.head x) 1 0) here ∙ one_itself slot.head in
+                    omega (arith, times_first key)
+                | inr differ ↦
+                    let same = ap blocks_in (updates.others key differ) in
+                    let other = one_other slot.head key (λ e. differ (sym e)) in
+                    omega (arith, times_first key)
+              ];
+          counted = omega (arith, blocks_for_is slot.len (suc (blocks_for (slot.len - 252))) (omega arith) (omega arith));
+          full = λ key.
+              elim (cases_eq key slot.head) [
+                | inl here ↦
+                    let gone = ap (get t) here ∙ updates.changed in
+                    let one = ap blocks_in gone in
+                    let size = ap (λ (o : Option Block). length (data_in o)) gone in
+                    omega arith
+                | inr differ ↦
+                    let kept = updates.others key differ in
+                    let one = ap blocks_in kept in
+                    let size = ap (λ (o : Option Block). length (data_in o)) kept in
+                    omega (arith, chained.full key)
+              ];
+          last = λ some.
+              let more : blocks_for slot.len - 1 ≡ blocks_for (slot.len - 252) = omega (arith, blocks_for_is slot.len (suc (blocks_for (slot.len - 252))) (omega arith) (omega arith)) in
+              ap (λ ks. get_or ks (blocks_for (slot.len - 252) - 1) 0) keys_shorter
+              ∙ sym (get_or-rest slot.head rest (blocks_for (slot.len - 252)) (omega arith))
+              ∙ ap (λ n. get_or (slot.head ∷ rest) n 0) (sym more)
+              ∙ ap (λ ks. get_or ks (blocks_for slot.len - 1) 0) (sym keys_first)
+              ∙ last_here s slots i capacity slot chained within is any;
+          capacity = room;
+        }
+
+    pub chain_rest : chain_of t shorter ≡ record { keys = drop 1 (keys_of s slot); bytes = drop 252 (chain_of s slot).bytes }
+    chain_rest =
+        let long = full_here s slots i capacity slot chained within is slot.head head_lies in
+        let kept = data_of-same s t rest (λ k h. ap data_in (updates.others k (in_rest k h))) in
+        let all = ap (data_of s) keys_first ∙ flat_map-cons (data_at s) slot.head rest in
+        let back = ap (λ xs. drop 252 (take slot.len xs)) all ∙ rest_of slot.len (data_at s slot.head) (data_of s rest) long in
+        ap (λ (ks : List ℕ). record { keys = ks; bytes = take (slot.len - 252) (data_of t ks) }) keys_shorter
+        ∙ ap (λ (bs : List ℕ). record { keys = rest; bytes = bs }) (ap (take (slot.len - 252)) kept ∙ sym back)
+        ∙ ap (λ (ks : List ℕ). record { keys = drop 1 ks; bytes = drop 252 (chain_of s slot).bytes }) (sym keys_first)

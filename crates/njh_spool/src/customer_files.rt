@@ -1,0 +1,45 @@
+//! What a customer may use of the spool, and uses, and which of its slots have a file.
+
+ghost use Rattle.std.specs.Prelude.{◌≡◌, [], map, IfOk};
+
+use crate::numbers::Numbers;
+use crate::quota::Quota;
+use std::alloc::{AllocError, Global};
+
+/// In whole blocks, and in files.
+#[derive(Drop)]
+pub struct CustomerFiles {
+    pub quota: u32,
+    pub limit: u32,
+    pub used: u32,
+    /// In order of arrival.
+    pub whole: Numbers,
+    /// In the order in which they began.
+    pub partial: Numbers,
+}
+
+impl CustomerFiles {
+    pub fn open(quota: &Quota) -> Self
+        ensures { result ≡ record { quota = quota.now.blocks; limit = quota.now.files; used = 0; whole = []; partial = [] } }
+    {
+        CustomerFiles {
+            quota: quota.blocks,
+            limit: quota.files,
+            used: 0,
+            whole: Numbers::new(),
+            partial: Numbers::new(),
+        }
+    }
+}
+
+/// Customers without files, in the order of their quotas.
+pub fn open_all(alloc: Global, quotas: &[Quota]) -> Result<Vec<CustomerFiles>, AllocError>
+    ensures { IfOk result (λ customers. customers.items
+        ≡ map (λ q. record { quota = q.blocks; limit = q.files; used = 0; whole = []; partial = [] }) quotas.now) }
+{
+    let mut customers = Vec::with_capacity(alloc, quotas.len())?;
+    for quota in quotas {
+        customers.push_reserved(CustomerFiles::open(quota));
+    }
+    Ok(customers)
+}

@@ -1,0 +1,76 @@
+//! The slot of a customer's file.
+
+ghost use Rattle.std.specs.Prelude.{◌≡◌};
+
+use crate::State;
+use crate::store::mark::{FIRST_BLOCK, Mark};
+use njh_record::Kind;
+
+/// Whether a file is in a slot, and whether it is whole yet.
+#[derive(Clone, Copy)]
+pub enum Stage {
+    Free,
+    Partial,
+    Whole(State),
+}
+
+/// Where a record begins in its file's bytes.
+#[derive(Clone, Copy)]
+pub struct RecordPlace {
+    pub record_index: u32,
+    pub place: u32,
+    /// A block of the file's chain, to start from.
+    pub mark: Mark,
+}
+
+/// A file's kind and stage, how many records it has, and where the next that is read on begins.
+#[derive(Clone, Copy)]
+pub struct FileSlot {
+    pub stage: Stage,
+    pub kind: Kind,
+    pub count: u32,
+    pub next: RecordPlace,
+}
+
+impl RecordPlace {
+    /// The first record's.
+    pub const FIRST: RecordPlace = RecordPlace {
+        record_index: 0,
+        place: 0,
+        mark: FIRST_BLOCK,
+    };
+}
+
+impl FileSlot {
+    ghost use Rattle.njh_spool.specs.Slots.{free_slot, is_free, is_partial, is_whole};
+
+    /// A slot in which a file begins, or none is.
+    pub fn empty(stage: Stage, kind: Kind) -> Self
+        ensures { result ≡ record free_slot { stage = stage; kind = kind } }
+    {
+        FileSlot {
+            stage,
+            kind,
+            count: 0,
+            next: RecordPlace::FIRST,
+        }
+    }
+
+    pub fn is_free(&self) -> bool
+        ensures { result ≡ is_free self.now.stage }
+    {
+        matches!(self.stage, Stage::Free)
+    }
+
+    pub fn is_partial(&self) -> bool
+        ensures { result ≡ is_partial self.now.stage }
+    {
+        matches!(self.stage, Stage::Partial)
+    }
+
+    pub fn is_whole(&self) -> bool
+        ensures { result ≡ is_whole self.now.stage }
+    {
+        matches!(self.stage, Stage::Whole(_))
+    }
+}

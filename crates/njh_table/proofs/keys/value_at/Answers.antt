@@ -1,0 +1,9 @@
+use Rattle.std.proofs.Common.{ok_or, ap}
+use Rattle.njh_table.specs.declared.fault.TableFault.TheVariants.{MissingKey}
+use Rattle.njh_table.proofs.keys.value_at.Goals as goal
+
+pub returns-in-Some : goal.returns-in-Some
+returns-in-Some c = ap (λ o. ok_or o MissingKey) c.in-Some.ensures
+
+pub returns-in-None : goal.returns-in-None
+returns-in-None c = ap (λ o. ok_or o MissingKey) c.in-None.ensures

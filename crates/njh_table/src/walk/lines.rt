@@ -1,0 +1,87 @@
+//! The walk over a customer's lines.
+
+ghost use Rattle.std.specs.Prelude.{◌≡◌, ◌≤◌, ◌++◌, [], ◌∷◌, length, IfOk};
+ghost use Rattle.toml.specs.View.{view, items_view, table_view};
+ghost use Rattle.njh_table.specs.TableFile.{names_in, line_owners};
+ghost use Rattle.njh_table.specs.Walk.{Walks, line_of, next_line, lines_onto};
+
+use crate::LineId;
+use crate::fault::TableFault;
+use crate::keys::{
+    keys_in, line_name_at, name_at, number_at, number_or_zero_at, password_at, role_at,
+};
+use crate::limits::{MAX_BLOCK, MAX_LINES, MAX_PORT, MAX_STREAMS, MIN_BLOCK};
+use crate::line::Line;
+use crate::owners::Owners;
+use std::alloc::Global;
+use toml::{Table, Value};
+
+/// The line of a name, by its other keys.
+#[tactic(auto, unfolding(crate::specs::Walk::line_of))]
+fn line_of(alloc: Global, name: &str, keys: &Table) -> Result<Line, TableFault>
+    ensures walk { Walks (λ l. l) result (line_of name.now (table_view keys.now)) }
+    ensures name { IfOk result (λ l. l.name ≡ name.now) }
+{
+    let node = name_at(keys, "node")?;
+    let role = role_at(keys, "role")?;
+    let block = number_at(keys, "block", MIN_BLOCK, MAX_BLOCK)? as u16;
+    let streams = number_at(keys, "streams", 1, MAX_STREAMS)? as u8;
+    let password = password_at(keys, "password")?;
+    let port = number_or_zero_at(keys, "port", MAX_PORT)? as u16;
+    Ok(Line {
+        name: String::from_str(alloc, name)?,
+        node,
+        role,
+        block,
+        streams,
+        password,
+        port,
+    })
+}
+
+/// The next line of a customer, by its number, whose name becomes one of the hub's.
+#[tactic(auto, unfolding(crate::specs::Walk::next_line))]
+fn next_line(
+    alloc: Global,
+    value: &Value,
+    customer: u16,
+    number: usize,
+    owners: &mut Owners,
+) -> Result<Line, TableFault>
+    requires { number ≤ length (names_in owners.old) }
+    ensures walk { Walks (λ l. l) result (next_line (names_in owners.old) (view value.now)) }
+    ensures owners { IfOk result (λ l. owners.new ≡ owners.old ++ (l.name, record { customer = customer; line = number }) ∷ []) }
+{
+    if owners.len() >= MAX_LINES {
+        return Err(TableFault::TooMany);
+    }
+    let keys = keys_in(value)?;
+    let name = line_name_at(keys, "name")?;
+    if owners.contains(name) {
+        return Err(TableFault::DoubleLine);
+    }
+    let line = line_of(alloc, name, keys)?;
+    let id = LineId {
+        customer,
+        line: number as u16,
+    };
+    owners.insert(alloc, name, id)?;
+    Ok(line)
+}
+
+pub(super) fn lines_in(
+    alloc: Global,
+    values: &[Value],
+    customer: u16,
+    owners: &mut Owners,
+) -> Result<Vec<Line>, TableFault>
+    ensures walk { Walks (λ v. v.items) result (lines_onto (names_in owners.old) [] (items_view values.now)) }
+    ensures owners { IfOk result (λ v. owners.new ≡ owners.old ++ line_owners customer 0 v.items) }
+{
+    let mut lines = Vec::new(alloc);
+    for value in values {
+        let line = next_line(alloc, value, customer, lines.len(), owners)?;
+        lines.push(line)?;
+    }
+    Ok(lines)
+}

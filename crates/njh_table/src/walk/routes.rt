@@ -1,0 +1,86 @@
+//! The walk over a customer's routes.
+
+ghost use Rattle.std.specs.Prelude.{◌≡◌, [], None, IfOk};
+ghost use Rattle.std.specs.Result.{result_map_both};
+ghost use Rattle.toml.specs.View.{view, items_view};
+ghost use Rattle.njh_table.specs.Entries.{line_to};
+ghost use Rattle.njh_table.specs.TableFile.{own_line, route_entry};
+ghost use Rattle.njh_table.specs.Walk.{Walks, is_routed, route_by, next_route, routes_onto};
+
+use crate::fault::TableFault;
+use crate::keys::{keys_in, name_at, text_at};
+use crate::limits::MAX_ROUTES;
+use crate::owners::Owners;
+use crate::routes::Routes;
+use njh_ebcdic::Name;
+use std::alloc::Global;
+use toml::Value;
+
+/// Whether the customer's hub and its routes so far say where a node goes.
+fn is_routed(hub: Name, routes: &Routes, node: Name) -> bool
+    ensures { result ≡ is_routed hub routes.now node }
+{
+    hub == node || routes.get(node).is_some()
+}
+
+/// A route for a node by a line of its customer: the node and the line's number.
+#[tactic(auto, unfolding(crate::specs::Walk::route_by))]
+fn route_by(
+    node: Name,
+    line: &str,
+    customer: u16,
+    hub: Name,
+    owners: &Owners,
+    routes: &Routes,
+) -> Result<(Name, u16), TableFault>
+    ensures walk { result_map_both route_entry (λ f. f) result
+        ≡ route_by hub (own_line owners.now customer) routes.now node line.now }
+    ensures new { IfOk result (λ r. line_to routes.now r.0 ≡ None) }
+{
+    if is_routed(hub, routes, node) {
+        return Err(TableFault::DoubleNode);
+    }
+    match owners.own_line(customer, line) {
+        Some(number) => Ok((node, number)),
+        None => Err(TableFault::UnknownLine),
+    }
+}
+
+/// The node of the next route and the number of its line.
+#[tactic(auto, unfolding(crate::specs::Walk::next_route))]
+fn next_route(
+    value: &Value,
+    customer: u16,
+    hub: Name,
+    owners: &Owners,
+    routes: &Routes,
+) -> Result<(Name, u16), TableFault>
+    ensures walk { result_map_both route_entry (λ f. f) result
+        ≡ next_route hub (own_line owners.now customer) routes.now (view value.now) }
+    ensures new { IfOk result (λ r. line_to routes.now r.0 ≡ None) }
+{
+    if routes.len() >= MAX_ROUTES {
+        return Err(TableFault::TooMany);
+    }
+    let keys = keys_in(value)?;
+    let node = name_at(keys, "node")?;
+    let line = text_at(keys, "line")?;
+    route_by(node, line, customer, hub, owners, routes)
+}
+
+pub(super) fn routes_in(
+    alloc: Global,
+    values: &[Value],
+    customer: u16,
+    hub: Name,
+    owners: &Owners,
+) -> Result<Routes, TableFault>
+    ensures { Walks (λ r. r) result (routes_onto hub (own_line owners.now customer) [] (items_view values.now)) }
+{
+    let mut routes = Routes::new(alloc);
+    for value in values {
+        let (node, line) = next_route(value, customer, hub, owners, &routes)?;
+        routes.insert(node, line)?;
+    }
+    Ok(routes)
+}

@@ -1,0 +1,135 @@
+//! Each fault, by a change of the base tables; and files with two faults, of which the walk's first is told.
+
+use super::*;
+use std::test::Fail;
+
+/// What comes of the base tables after changes. `A > B` puts B where A stands first; `/` is the end of a line, and `#` begins a comment.
+const ONE: &str = r#"
+K1 BadToml: capacity = 200 > capacity =
+K1 BadToml: capacity = 200 > capacity = 200/capacity = 200
+K1 BadToml: capacity = 200 > capacity = 9223372036854775808
+K1 BadToml: [[customer.route]] > [[customer.route]
+K2 MissingKey: capacity = 200 > #
+K2 MissingKey: [[customer]] > [[customers]] | [[customer]] > [[customers]] | [[customer. > [[customers. | [[customer. > [[customers. | [[customer. > [[customers. | [[customer. > [[customers.
+K2 MissingKey: name = "ACME" > #
+K2 MissingKey: hub = "BUREAU" > #
+K2 MissingKey: quota = 100 > #
+K2 MissingKey: files = 8 > #
+K2 MissingKey: name = "a1" > #
+K2 MissingKey: node = "LYON" > #
+K2 MissingKey: role = "answer" > #
+K2 MissingKey: block = 1024 > #
+K2 MissingKey: streams = 4 > #
+K2 MissingKey: node = "LYON"/line > line
+K2 MissingKey: line = "a1" > #
+K3 BadValue: files = 8 > files = 0
+K3 BadValue: files = 8 > files = 1025
+K3 BadValue: files = 8 > files = 8.0
+K3 BadValue: capacity = 200 > capacity = 0
+K3 BadValue: capacity = 200 > capacity = 4194241
+K3 BadValue: quota = 100 > quota = 0
+K3 BadValue: quota = 100 > quota = 65536
+K3 BadValue: block = 1024 > block = 299
+K3 BadValue: block = 1024 > block = 4097
+K3 BadValue: streams = 4 > streams = 0
+K3 BadValue: streams = 4 > streams = 5
+K3 BadValue: streams = 4 > streams = 4/port = 65536
+K3 BadValue: streams = 4 > streams = 4/port = -1
+K3 BadValue: streams = 4 > streams = 4/password = "secret"
+K3 BadValue: role = "answer" > role = "Answer"
+K3 BadValue: name = "ACME" > name = "ACMEACMEA"
+K3 BadValue: name = "BOLT" > name = "ACME"
+K3 BadValue: hub = "BUREAU" > hub = "bureau"
+K3 BadValue: node = "LYON" > node = "LYON "
+K3 BadValue: name = "a1" > name = "a1a1a1a1a"
+K3 BadValue: name = "a1" > name = "a-1"
+K3 BadValue: name = "a1" > name = ""
+K3 BadValue: line = "a1" > line = 1
+K3 BadValue: files = 8/[[customer.line]] > files = 8/[customer.line]
+K3 BadValue: files = 8/[[customer.line]] > files = 8/line = [3]/[[customer.other]]
+K4 DoubleLine: name = "b1" > name = "a1"
+K4 DoubleLine: line = "b1" > line = "b1"/[[customer.line]]/name = "a1"
+K5 DoubleNode: node = "LYON"/line > node = "BUREAU"/line
+K5 DoubleNode: line = "a1" > line = "a1"/[[customer.route]]/node = "LYON"/line = "a1"
+K6 UnknownLine: line = "a1" > line = "b1"
+K6 UnknownLine: line = "a1" > line = "A1"
+K6 UnknownLine: line = "a1" > line = "no such!"
+K7 QuotaOver: capacity = 200 > capacity = 199
+K7 QuotaOver: quota = 100 > quota = 3 | quota = 100 > quota = 2 | capacity = 200 > capacity = 4
+taken: quota = 100 > quota = 3 | quota = 100 > quota = 2 | capacity = 200 > capacity = 5
+taken: quota = 100/files = 8 > files = 1024/quota = 1
+taken: capacity = 200 > capacity = 4194240 | quota = 100 > quota = 65535
+taken: block = 1024/streams = 4 > block = 300/streams = 1
+taken: block = 1024 > block = 4096/port = 65535
+taken: streams = 4 > streams = 4/password = "SECRET"
+taken: streams = 4 > streams = 4/password = ""/port = 0
+taken: role = "answer" > role = "call" | hub = "BUREAU" > hub = "PARIS"
+taken: line = "a1" > line = "a1"/second = 3
+taken: capacity = 200 > capacity = 200/colour = "red"
+taken: node = "LYON" > node = "METZ" | files = 8 > files = 8/route = [] | [[customer.route]]/node = "LYON"/line = "a1" > #
+"#;
+
+/// Two changes, of which each alone has a fault: the first is told.
+const TWO: &str = r#"
+K1 BadToml: line = "b1" > line = | capacity = 200 > #
+K1 BadToml: line = "b1" > line = | capacity = 200 > capacity = 199
+K3 BadValue: capacity = 200 > capacity = 0 | name = "ACME" > #
+K2 MissingKey: name = "ACME" > # | hub = "BUREAU" > hub = 1
+K3 BadValue: name = "ACME" > name = 1 | name = "BOLT" > #
+K2 MissingKey: hub = "BUREAU" > # | quota = 100 > quota = 0
+K3 BadValue: quota = 100 > quota = 0 | files = 8 > #
+K2 MissingKey: quota = 100 > # | files = 8 > files = 0
+K3 BadValue: files = 8 > files = 0 | name = "a1" > #
+K3 BadValue: files = 8/[[customer.line]] > files = 8/line = 3/[[customer.other]] | line = "a1" > #
+K2 MissingKey: name = "a1" > # | node = "LYON" > node = 1
+K2 MissingKey: node = "LYON" > # | role = "answer" > role = 1
+K3 BadValue: role = "answer" > role = 1 | block = 1024 > #
+K2 MissingKey: block = 1024 > # | streams = 4 > streams = 5
+K3 BadValue: streams = 4 > streams = 5 | line = "a1" > line = "b1"
+K2 MissingKey: node = "LYON"/line > line | line = "a1" > line = 1
+K3 BadValue: line = "a1" > line = 1 | node = "LYON"/line > node = "BUREAU"/line
+K5 DoubleNode: node = "LYON"/line > node = "BUREAU"/line | line = "a1" > line = "b1"
+K5 DoubleNode: node = "LYON"/line > node = "BUREAU"/line | name = "b1" > name = "a1"
+K6 UnknownLine: line = "a1" > line = "b1" | name = "b1" > name = "a1"
+K4 DoubleLine: name = "b1" > name = "a1" | node = "LYON" > node = "METZ" | capacity = 200 > capacity = 199
+"#;
+
+/// The base tables after changes.
+fn changed(alloc: Global, changes: &str) -> Result<String, Fail> {
+    let mut text = String::from_str(alloc, BASE)?;
+    for change in changes.split(" | ") {
+        let (from, to) = change.split_once(" > ").ok_or("a change without >")?;
+        let from = from.replace(alloc, "/", "\n")?;
+        let to = to.replace(alloc, "/", "\n")?;
+        if !text.contains(from.as_str()) {
+            return Err("a change of nothing".into());
+        }
+        text = text.replacen(alloc, from.as_str(), to.as_str(), 1)?;
+    }
+    Ok(text)
+}
+
+#[test]
+fn what_comes_of_changes(rt: HostRuntime) -> Result<(), Fail> {
+    for cases in [ONE, TWO] {
+        for case in cases.trim().lines() {
+            let (want, changes) = case.split_once(": ").ok_or("a case without :")?;
+            let text = changed(rt.alloc(), changes)?;
+            assert_eq!(rt;
+                outcome(rt.alloc(), text.as_str())?.as_str(),
+                want,
+                "{case}"
+            );
+        }
+    }
+    Ok(())
+}
+
+#[test]
+fn want_of_memory_is_printed(rt: HostRuntime) -> Result<(), Fail> {
+    assert_eq!(rt;
+        TableFault::Memory.to_string(rt.alloc())?.as_str(),
+        "K9 Memory"
+    );
+    Ok(())
+}

@@ -1,0 +1,208 @@
+//! Texts of the protocol's worked examples, read and written, and the texts of the faults.
+
+ghost use Rattle.njh_block.specs.Shown.{IsWritable};
+
+use njh_block::{
+    Answer, Bcb, Block, BlockFault, BlockWriter, ControlRcb, Fcs, Item, Out, Rcb, Stream,
+};
+use njh_header::srcb;
+use njh_record::Record;
+use std::process::Abort;
+use std::test::Fail;
+
+// Three records of streams, and the ends of their files.
+const THREE_STREAMS: &[u8] = b"\x83\x8F\xCF\
+    \xA9\xD0\xC4\x00\x04\x00\x00\x00\xB9\xD0\xC4\x00\x04\x00\x00\x00\xC9\xD0\xC4\x00\x04\x00\x00\x00\
+    \xA9\x80\x00\xB9\x80\x00\xC9\x80\x00\x00";
+
+// The answer to a sign-on.
+const SIGNED_ON: &[u8] = b"\xA0\x8F\xCF\
+    \xF0\xD1\x29\xC2\xE4\xD9\xC5\xC1\xE4\x40\x40\x01\x00\x00\x00\x00\x00\x00\x04\x00\
+    \x40\x40\x40\x40\x40\x40\x40\x40\x40\x40\x40\x40\x40\x40\x40\x40\x00\x00\x00\x00\x00\x00";
+
+const TRAILER: &[u8] = b"\x00\x04\x00\x00";
+
+#[test]
+fn texts_that_are_no_block(rt: HostRuntime) -> Result<(), Fail> {
+    let table: [(&[u8], &str); 6] = [
+        (b"\x80\x8F", "B1 TooShort"),
+        (b"\xB0\x8F\xCF\x00", "B2 BadBcb"),
+        (b"\x80\x0F\xCF\x00", "B3 BadFcs"),
+        (b"\x80\x8F\xCF\x05\x00", "B4 BadRcb"),
+        (b"\x80\x8F\xCF\x99", "B5 BadRecord"),
+        (b"\x80\x8F\xCF\x99\x80\xC3\xC1\x00", "B5 BadRecord"),
+    ];
+    for (text, printed) in table {
+        match Block::read(text) {
+            Ok(_) => assert_eq!(rt; "read", printed, "{text:?}"),
+            Err(fault) => assert_eq!(rt; format!(in rt.alloc(); "{fault}")?.as_str(), printed),
+        }
+    }
+    Ok(())
+}
+
+// What a record is, its RCB and its SRCB.
+fn described(item: Option<Item<'_>>) -> (&'static str, u8, u8) {
+    match item {
+        Some(Item::Data { rcb, srcb }) => ("data", rcb.byte, srcb),
+        Some(Item::Abort { rcb, srcb }) => ("abort", rcb.byte, srcb),
+        Some(Item::Long { rcb, srcb }) => ("long", rcb.byte, srcb),
+        Some(Item::Control { rcb, srcb }) => ("control", rcb.byte(), srcb),
+        Some(Item::General { srcb, .. }) => ("general", 0xF0, srcb),
+        None => ("end", 0, 0),
+    }
+}
+
+#[test]
+fn records_of_texts(rt: HostRuntime) {
+    let none: &[u8] = b"";
+    let end = ("end", 0, 0, none);
+    let table: [(&[u8], [(&str, u8, u8, &[u8]); 3]); 8] = [
+        (
+            THREE_STREAMS,
+            [
+                ("data", 0xA9, 0xD0, TRAILER),
+                ("data", 0xB9, 0xD0, TRAILER),
+                ("data", 0xC9, 0xD0, TRAILER),
+            ],
+        ),
+        (
+            b"\x80\x8F\xCF\x99\x80\xBF\xC1\xBF\xC1\xBF\xC1\xBF\xC1\xBF\xC1\xBF\xC1\xBF\xC1\xBF\xC1\xA9\xC1\x00\x99\x80\x00\x00",
+            [("long", 0x99, 0x80, none), ("data", 0x99, 0x80, none), end],
+        ),
+        (
+            b"\x81\x8F\xCF\x99\x80\x40\x00",
+            [("abort", 0x99, 0x80, none), end, end],
+        ),
+        (
+            b"\x80\x8F\xCF\x90\x99\x00\xA0\x99\x00\x00",
+            [
+                ("control", 0x90, 0x99, none),
+                ("control", 0xA0, 0x99, none),
+                end,
+            ],
+        ),
+        (
+            b"\x80\x8F\xCF\xE0\x81\x00\x00",
+            [("control", 0xE0, 0x81, none), end, end],
+        ),
+        (SIGNED_ON, [("general", 0xF0, 0xD1, none), end, end]),
+        (b"\x80\x8F\xCF", [end, end, end]),
+        (b"\x80\x8F\xCF\x00\x05", [end, end, end]),
+    ];
+    let mut record = Record::new();
+    for (text, expected) in table {
+        let mut block = match Block::read(text) {
+            Ok(block) => block,
+            Err(fault) => return assert_eq!(rt; Some(fault), None::<BlockFault>, "{text:?}"),
+        };
+        for (kind, rcb, srcb, bytes) in expected {
+            let item = block.next(&mut record);
+            assert_eq!(rt; described(item), (kind, rcb, srcb), "{text:?}");
+            assert_eq!(rt; record.as_slice(), bytes, "{text:?}");
+        }
+    }
+}
+
+/// Adds a record of SYSOUT 2 to 4.
+fn add(rt: &impl Abort, writer: &mut BlockWriter, place: u8, srcb: u8, bytes: &[u8]) {
+    assert!(rt; place < Stream::COUNT && bytes.len() <= 256);
+    let record = Out::Data {
+        rcb: Stream::at(place).rcb(),
+        srcb,
+        bytes,
+    };
+    assert!(rt; writer.fits(&record));
+    writer.add(record);
+}
+
+#[test]
+fn text_of_three_streams(rt: HostRuntime) {
+    let mut writer = BlockWriter::new(1024, Bcb::normal(3), Fcs::nothing_suspended());
+    assert!(rt; writer.is_empty());
+    for place in 5..Stream::COUNT {
+        add(&rt, &mut writer, place, srcb::JOB_TRAILER, TRAILER);
+    }
+    for place in 5..Stream::COUNT {
+        add(&rt, &mut writer, place, 0x80, b"");
+    }
+    assert!(rt; !writer.is_empty());
+    assert_eq!(rt; writer.text(), THREE_STREAMS);
+    assert_eq!(rt; writer.finish().as_slice(), THREE_STREAMS);
+}
+
+/// The text of one record, by a writer that was used before.
+fn check_alone(rt: &impl Abort, bcb: Bcb, out: Out<'_>, text: &[u8])
+    requires { IsWritable out }
+{
+    let mut writer = BlockWriter::new(4096, Bcb::normal(9), Fcs::streams_suspended());
+    add(rt, &mut writer, 0, 0x80, b"\xC1\xC2\xC3");
+    writer.restart(300, bcb, Fcs::nothing_suspended());
+    assert!(rt; writer.is_empty() && writer.fits(&out));
+    writer.add(out);
+    assert_eq!(rt; writer.text(), text);
+}
+
+#[test]
+fn text_of_each_form(rt: HostRuntime) {
+    let permission = Answer {
+        rcb: ControlRcb::Permission,
+        stream: Rcb { byte: 0x99 },
+    };
+    let abort = Out::Abort {
+        rcb: Rcb { byte: 0x99 },
+        srcb: 0x80,
+    };
+    let message = Out::Data {
+        rcb: Rcb::MESSAGE,
+        srcb: 0x80,
+        bytes: b"\xC1\xC2",
+    };
+    let sign_on = Out::General {
+        srcb: 0xD1,
+        bytes: &SIGNED_ON[5..SIGNED_ON.len() - 1],
+    };
+    check_alone(
+        &rt,
+        Bcb::normal(0),
+        permission.record(),
+        b"\x80\x8F\xCF\xA0\x99\x00\x00",
+    );
+    check_alone(&rt, Bcb::normal(1), abort, b"\x81\x8F\xCF\x99\x80\x40\x00");
+    check_alone(
+        &rt,
+        Bcb::normal(2),
+        message,
+        b"\x82\x8F\xCF\x9A\x80\xC2\xC1\xC2\x00\x00",
+    );
+    check_alone(&rt, Bcb::setting(0), sign_on, SIGNED_ON);
+}
+
+#[test]
+fn streams_that_go_on(rt: HostRuntime) {
+    let table: [(u8, u8, bool, [bool; 8]); 4] = [
+        (0x8F, 0xCF, false, [true; 8]),
+        (0x80, 0xC0, false, [false; 8]),
+        (
+            0x8F,
+            0xC7,
+            false,
+            [true, true, true, true, false, true, true, true],
+        ),
+        (0xCF, 0xCF, true, [true; 8]),
+    ];
+    for (first, second, suspended, streams) in table {
+        let Some(fcs) = Fcs::read(first, second) else {
+            return assert!(rt; false, "{first} {second}");
+        };
+        assert_eq!(rt; fcs.all_suspended(), suspended);
+        assert!(rt; fcs.messages_on());
+        for place in 0..Stream::COUNT {
+            assert_eq!(rt;
+                fcs.is_on(Stream::at(place)),
+                streams[usize::from(place)],
+                "{place}"
+            );
+        }
+    }
+}

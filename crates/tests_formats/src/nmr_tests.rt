@@ -1,0 +1,72 @@
+//! Nodal messages, byte by byte, and the texts of the faults.
+
+use njh_ebcdic::Name;
+use njh_nmr::{Nmr, NmrFault};
+use njh_record::Record;
+use std::test::Fail;
+
+/// ANNA at LYON asks BUREAU for LIST.
+const COMMAND: &[u8] = b"\xa0\x77\x00\x04\
+    \xc2\xe4\xd9\xc5\xc1\xe4\x40\x40\x00\
+    \xc1\xd5\xd5\xc1\x40\x40\x40\x40\
+    \xd3\xe8\xd6\xd5\x40\x40\x40\x40\x00\
+    \xd3\xc9\xe2\xe3";
+
+/// NJH002 0 FILES
+const NO_FILES: &[u8] = b"\xd5\xd1\xc8\xf0\xf0\xf2\x40\xf0\x40\xc6\xc9\xd3\xc5\xe2";
+
+/// BUREAU answers it.
+const REPLY: &[u8] = b"\x20\x77\x00\x0e\
+    \xd3\xe8\xd6\xd5\x40\x40\x40\x40\x00\
+    \xc1\xd5\xd5\xc1\x40\x40\x40\x40\
+    \xc2\xe4\xd9\xc5\xc1\xe4\x40\x40\x00\
+    \xd5\xd1\xc8\xf0\xf0\xf2\x40\xf0\x40\xc6\xc9\xd3\xc5\xe2";
+
+/// HI from LYON to PAUL at METZ, with two bytes behind.
+const MESSAGE: &[u8] = b"\x20\x77\x00\x02\
+    \xd4\xc5\xe3\xe9\x40\x40\x40\x40\x00\
+    \xd7\xc1\xe4\xd3\x40\x40\x40\x40\
+    \xd3\xe8\xd6\xd5\x40\x40\x40\x40\x00\
+    \xc8\xc9\xff\xff";
+
+#[test]
+fn a_command_and_its_reply(rt: HostRuntime) -> Result<(), Fail> {
+    let command = Nmr::read(COMMAND)?;
+    assert!(rt; command.is_user_command());
+    assert_eq!(rt; command.to(), Name::of_text("BUREAU")?);
+    assert_eq!(rt; command.origin(), Name::of_text("LYON")?);
+    assert_eq!(rt; command.user(), *b"\xc1\xd5\xd5\xc1\x40\x40\x40\x40");
+    assert_eq!(rt; command.message(), b"\xd3\xc9\xe2\xe3".as_slice());
+    let reply = command.reply(command.to(), NO_FILES);
+    assert!(rt; !reply.is_user_command());
+    let mut record = Record::new();
+    reply.write(&mut record);
+    assert_eq!(rt; record.as_slice(), REPLY);
+    Ok(())
+}
+
+#[test]
+fn a_message_sent_on(rt: HostRuntime) -> Result<(), Fail> {
+    let message = Nmr::read(MESSAGE)?;
+    assert!(rt; !message.is_user_command());
+    let mut record = Record::new();
+    message.write(&mut record);
+    assert_eq!(rt; record.as_slice(), &MESSAGE[..32]);
+    Ok(())
+}
+
+#[test]
+fn faults(rt: HostRuntime) -> Result<(), Fail> {
+    let table: [(&[u8], &str); 3] = [
+        (&[0xc1; 29], "N1 TooShort"),
+        (&[0xc1; 200], "N2 BadLength"),
+        (&[0x00; 30], "N3 BadName"),
+    ];
+    for (bytes, text) in table {
+        match Nmr::read(bytes) {
+            Ok(_) => assert!(rt; false, "{text}"),
+            Err(fault) => assert_eq!(rt; format!(in rt.alloc(); "{fault}")?.as_str(), text),
+        }
+    }
+    Ok(())
+}
