@@ -11,8 +11,8 @@ use crate::receiver::Progress;
 use crate::spool_file::SpoolFile;
 use njh_ebcdic::{FIELD, Name};
 use njh_header::{
-    DataSetHeader, FileName, JobHeader, Text, name_of, no_files_for, node_unknown, routed_back,
-    srcb,
+    DataSetHeader, FileName, JobHeader, MessageText, name_of, no_files_for, node_unknown,
+    routed_back, srcb,
 };
 use njh_record::Kind;
 use njh_table::{Customer, Route};
@@ -20,7 +20,7 @@ use njh_table::{Customer, Route};
 /// A record is taken, and then the file has come so far; or it cancels its file, and this is for the owner.
 pub(crate) enum Verdict {
     Taken(Progress),
-    Cancelled(Option<Text>),
+    Cancelled(Option<MessageText>),
 }
 
 /// Judges a record by the records of its file so far.

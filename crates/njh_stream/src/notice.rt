@@ -1,7 +1,7 @@
 //! What the owner of a file is told.
 
 use njh_ebcdic::{FIELD, Name};
-use njh_header::Text;
+use njh_header::MessageText;
 use std::marker::Model;
 
 /// A message of the hub for the owner of a file.
@@ -12,7 +12,7 @@ pub struct Notice {
     /// The owner there, by the eight bytes of the field.
     pub user: [u8; FIELD],
     /// The message, in EBCDIC.
-    pub text: Text,
+    pub text: MessageText,
 }
 
 impl Model for Notice {

@@ -16,7 +16,7 @@ use crate::notice::Notice;
 use crate::receiver::{After, Progress, Receiver};
 use crate::spool_file::SpoolFile;
 use njh_block::ControlRcb;
-use njh_header::{FileRecords, JobHeader, Text, job_header_of, spool_full, srcb};
+use njh_header::{FileRecords, JobHeader, MessageText, job_header_of, spool_full, srcb};
 use njh_record::Kind;
 use njh_spool::{FileId, Spool};
 use njh_table::Customer;
@@ -79,7 +79,7 @@ fn append(
 }
 
 /// NJH021 for a file with this job header.
-fn full_text(header: &Option<JobHeader>) -> Option<Text>
+fn full_text(header: &Option<JobHeader>) -> Option<MessageText>
     ensures { option_map (λ t. t.items) result ≡ transmissions.full_text (option_map (λ h. (h.origin.0, h.number)) header.now) }
 {
     match header {
@@ -107,7 +107,7 @@ pub(crate) fn cancel(
     customer: u16,
     file: FileId,
     header: Option<JobHeader>,
-    text: Option<Text>,
+    text: Option<MessageText>,
     spool: &mut Spool,
 ) -> After
     requires { customer < length spool.old }
@@ -123,7 +123,7 @@ pub(crate) fn cancel(
 }
 
 /// A text for the owner of a file.
-fn notice(header: Option<JobHeader>, text: Option<Text>) -> Option<Notice>
+fn notice(header: Option<JobHeader>, text: Option<MessageText>) -> Option<Notice>
     ensures { result ≡ notice_of (option_map (λ h. h.origin) header) (option_map (λ t. t.items) text) }
 {
     let owner = header?.owner();
