@@ -5,3 +5,5 @@ pub mod AgreesLaws
 pub mod EndingLaws
 pub mod RoutingLaws
 pub mod OnlyOneLaws
+pub mod OutcomeLaws
+pub mod FollowingLaws

@@ -5,3 +5,5 @@ pub mod SpoolFiles
 pub mod Judging
 pub mod Arrivals
 pub mod Routing
+pub mod Outcomes
+pub mod Following
