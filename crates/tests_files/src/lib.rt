@@ -2,4 +2,6 @@
 #![tactic(auto)]
 
 #[cfg(test)]
+mod stream_tests;
+#[cfg(test)]
 mod table_tests;

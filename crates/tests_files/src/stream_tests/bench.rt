@@ -1,0 +1,124 @@
+//! A stream of a line with its customer's spool and the tables.
+
+ghost use Rattle.std.specs.Prelude.{◌<◌, length, IsTrue};
+ghost use Rattle.njh_stream.specs.Arrivals.{arrival_of, IsShort};
+
+use njh_block::Stream;
+use njh_spool::{Quota, Spool};
+use njh_stream::{Arrival, Receiver, Step};
+use njh_table::{LineId, Tables};
+use std::alloc::Global;
+use std::marker::Model;
+use std::process::Abort;
+use std::test::Fail;
+
+/// Line a1 leads to LYON and a2 to METZ, and nobody has a node PARIS.
+const TABLES: &str = r#"
+capacity = 200
+[[customer]]
+name = "ACME"
+hub = "BUREAU"
+quota = 100
+files = 2
+[[customer.line]]
+name = "a1"
+node = "LYON"
+role = "answer"
+block = 1024
+streams = 4
+[[customer.line]]
+name = "a2"
+node = "METZ"
+role = "answer"
+block = 1024
+streams = 4
+[[customer.route]]
+node = "LYON"
+line = "a1"
+[[customer.route]]
+node = "METZ"
+line = "a2"
+"#;
+
+/// A stream of line a1 to the hub.
+#[derive(Drop)]
+pub struct Bench {
+    tables: Tables,
+    spool: Spool,
+    stream: Stream,
+    receiver: Receiver,
+}
+
+impl Model for Bench {
+    ghost use Rattle.std.specs.Prelude.{◌<◌, length};
+    ghost use Rattle.njh_block.specs.Codes.{kind_of};
+    ghost use Rattle.njh_spool.specs.Spools.{part};
+    ghost use Rattle.njh_stream.specs.Receiving.{Agrees};
+    ghost use Rattle.njh_stream.specs.declared.receiver.Receiver.{Receiver};
+
+    ghost Value = { Receiver };
+
+    ghost view = { λ b. b.receiver };
+
+    ghost invariant = { λ b. (0 < length b.tables.customers) × (0 < length b.spool)
+        × Agrees (kind_of b.stream) b.receiver (part 0 b.spool) };
+}
+
+fn is_short(arrival: Arrival<'_>) -> bool
+    ensures { IsTrue result → IsShort (arrival_of arrival.entry) }
+{
+    match arrival {
+        Arrival::Record { bytes, .. } => bytes.len() <= 256,
+        Arrival::Request | Arrival::TooLong | Arrival::Abort => true,
+    }
+}
+
+impl Bench {
+    /// With a quota of so many blocks and two files.
+    pub fn open<R: Abort>(
+        rt: &R,
+        alloc: Global,
+        blocks: u32,
+        stream: Stream,
+    ) -> Result<Self, Fail> {
+        let tables = Tables::read(alloc, TABLES)?;
+        assert!(rt; !tables.customers().is_empty());
+        let quota = Quota { blocks, files: 2 };
+        assert!(rt; quota.is_within_limits());
+        let spool = Spool::open(alloc, &[quota])?;
+        Ok(Bench {
+            tables,
+            spool,
+            stream,
+            receiver: Receiver::Idle,
+        })
+    }
+
+    pub fn come<R: Abort>(&mut self, rt: &R, arrival: Arrival<'_>) -> Step {
+        assert!(rt; is_short(arrival));
+        let line = LineId {
+            customer: 0,
+            line: 0,
+        };
+        self.receiver
+            .step(arrival, self.stream, line, &self.tables, &mut self.spool)
+    }
+
+    pub fn used(&self) -> u32 {
+        self.spool.used(0)
+    }
+
+    pub fn files(&self) -> u32 {
+        self.spool.files(0)
+    }
+
+    pub fn receiver(&self) -> Receiver {
+        self.receiver
+    }
+
+    pub fn into_spool(self) -> Spool
+        ensures { 0 < length result }
+    {
+        self.spool
+    }
+}
