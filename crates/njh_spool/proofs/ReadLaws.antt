@@ -30,7 +30,8 @@ kind_of w p = option_or (option_map (λ f. f.kind) w) (option_map (λ f. f.kind)
 records_of : Option WholeFile → Option PartialFile → Option (List Stored)
 records_of w p = option_or (option_map (λ f. f.records) w) (option_map (λ f. f.records) p)
 
-file_by_stage : (own : CustomerFiles) (files : ℕ → Content) (n : ℕ) (stage : Stage) → IsOwn own files → (files n).stage ≡ stage → is_free stage ≡ false → HasFile own files n
+file_by_stage : (own : CustomerFiles) (files : ℕ → Content) (n : ℕ) (stage : Stage) → IsOwn own files → (files n).stage ≡ stage
+    → is_free stage ≡ false → HasFile own files n
 unfolding kind_of records_of
 file_by_stage own files n Free is same there = absurd (let clash : true ≡ false = there in cc)
 file_by_stage own files n Partial is same there =
@@ -72,7 +73,8 @@ whole_not_partial Free e = refl
 whole_not_partial Partial e = cc
 whole_not_partial (Whole state) e = refl
 
-pub has_no_file : (own : CustomerFiles) (files : ℕ → Content) (n : ℕ) → IsOwn own files → is_free (files n).stage ≡ true → HasNoFile own files n
+pub has_no_file : (own : CustomerFiles) (files : ℕ → Content) (n : ℕ) → IsOwn own files → is_free (files n).stage ≡ true →
+    HasNoFile own files n
 unfolding kind_of records_of
 has_no_file own files n is free =
     let s = spool_of own files in
