@@ -1,9 +1,9 @@
 -- What a new file makes of its customer's spool.
-use Rattle.std.proofs.Common.{◌≡◌, ◌≢◌, ℕ, ◌+◌, ◌<◌, ◌≤◌, Bool, true, false, cond, not, eqb, ◌||◌, List, [], ◌∷◌, ◌++◌, length, map}
+use Rattle.std.proofs.Common.{◌≡◌, ℕ, ◌+◌, ◌<◌, ◌≤◌, Bool, true, false, cond, not, eqb, ◌||◌, List, [], ◌∷◌, ◌++◌, length, map}
 use Rattle.std.proofs.Common.{count_by, Some, None, refl, sym, ap, subst, ◌∙◌, inl, inr, arith, eq-eqb, ne_eqb}
 use Rattle.std.specs.List.{list_any}
 use Rattle.std.specs.Option.{option_or}
-use Rattle.std.proofs.lemmas.Bool.{cases_Bool, cases_eq, cases_order, both_ways, or_from, lt-ltb, le-ltb}
+use Rattle.std.proofs.lemmas.Bool.{cases_Bool, cases_eq, cases_order, both_ways, lt-ltb, le-ltb}
 use Rattle.std.proofs.lemmas.List.{map-append, length-map}
 use Rattle.std.proofs.lemmas.List.Sums.{sum_by_push}
 use Rattle.njh_record.specs.declared.Kind.{Kind}
@@ -13,14 +13,14 @@ use Rattle.njh_spool.specs.declared.file_slot.Stage.TheVariants.{Free, Partial, 
 use Rattle.njh_spool.specs.declared.customer_files.CustomerFiles.{CustomerFiles}
 use Rattle.njh_spool.specs.CustomerSpool.{CustomerSpool, WholeFile, PartialFile, used, has_file_room, has_block, is_number, next_number}
 use Rattle.njh_spool.specs.CustomerSpool.{begun}
-use Rattle.njh_spool.specs.Spools.{IsSound, begin_fault, fault_unless}
+use Rattle.njh_spool.specs.Spools.{begin_fault, fault_unless}
 use Rattle.njh_spool.specs.Slots.{Content, is_partial, is_whole, is_free, whole_file, partial_file, spool_of, IsOwn}
 use Rattle.njh_spool.proofs.OnlyOne.{list_any-from_count, count_by_none}
 use Rattle.njh_spool.proofs.NumberLaws.{least_from_is, next_number-below, next_number-free}
 use Rattle.njh_spool.proofs.BegunLaws.{used-begun, sound_begun}
 use Rattle.njh_spool.proofs.SpoolLaws as laws
 use Rattle.njh_spool.proofs.IndexLaws.{put, put_same}
-use Rattle.njh_spool.proofs.SlotLaws.{is_at, whole-put, partial-put, whole-any, partial-any, counted-put, once_some, once_none}
+use Rattle.njh_spool.proofs.SlotLaws.{is_at, whole-put, partial-put, whole-any, partial-any, counted-put, once_none}
 use Rattle.njh_spool.proofs.SlotLaws.{partial_from}
 
 list_any-once : (xs : List ℕ) (n : ℕ) → count_by (is_at n) xs ≡ 1 → list_any (is_at n) xs ≡ true

@@ -1,7 +1,7 @@
 -- What each call on a customer's file makes of the spool.
-use Rattle.std.proofs.Common.{◌≡◌, ℕ, zero, suc, ◌+◌, ◌-◌, ◌*◌, ◌/◌, ◌<◌, ◌≤◌, Bool, true, false, not, eqb, List, [], ◌∷◌, ◌++◌, length}
-use Rattle.std.proofs.Common.{length-append, get_or, set, take, filter, sum_by, Option, Some, None, refl, sym, ap, subst, ◌∙◌, arith}
-use Rattle.std.specs.Prelude.{All, slice_get, IsSomeAnd}
+use Rattle.std.proofs.Common.{◌≡◌, ℕ, ◌+◌, ◌-◌, ◌*◌, ◌/◌, ◌<◌, ◌≤◌, true, false, not, eqb, List, [], ◌∷◌, ◌++◌, length}
+use Rattle.std.proofs.Common.{length-append, set, take, filter, sum_by, Some, None, refl, sym, ap, subst, ◌∙◌, arith}
+use Rattle.std.specs.Prelude.{slice_get, IsSomeAnd}
 use Rattle.std.proofs.lemmas.List.{set-get_or}
 use Rattle.std.proofs.lemmas.List.Sums.{sum_by-set, sum_by-cons}
 use Rattle.njh_record.specs.Stored.{Stored}
@@ -19,7 +19,7 @@ use Rattle.njh_spool.specs.Chains.{Chain, StoreValue, empty_chain, chain_at, wit
 use Rattle.njh_spool.specs.CustomerSpool.{CustomerSpool, WholeFile, cost, used, stored_size, next_number, partial_numbered}
 use Rattle.njh_spool.specs.CustomerSpool.{whole_numbered, begun, appended, abandoned, finished, removed, on_file, with_state, rewritten}
 use Rattle.njh_spool.specs.CustomerSpool.{at_index, rewritten_record}
-use Rattle.njh_spool.specs.Spools.{part, no_spool, append_fault, kind_numbered, records_numbered}
+use Rattle.njh_spool.specs.Spools.{part, append_fault, records_numbered}
 use Rattle.njh_spool.specs.Packing.{packed_record, packed, unpacked, IsShort}
 use Rattle.njh_spool.specs.Slots.{Content, content, contents, slot_of, chain_of, free_slot, no_files, is_free, is_partial, is_whole}
 use Rattle.njh_spool.specs.Slots.{whole_file, partial_file, spool_of, spools_of, IsPlace, IsOwn, IsFile, IsKept}

@@ -1,20 +1,17 @@
 -- A file's records in its chain: what a call on the chain makes of them.
-use Rattle.std.proofs.Common.{◌≡◌, ℕ, zero, suc, ◌+◌, ◌-◌, ◌*◌, ◌<◌, ◌≤◌, Bool, true, false, List, [], ◌∷◌, ◌++◌, length, take, drop}
-use Rattle.std.proofs.Common.{get_or, Some, refl, sym, ap, subst, ◌∙◌, arith, length-append, append_assoc}
-use Rattle.std.specs.Prelude.{All, slice_get, IsSomeAnd}
-use Rattle.std.proofs.lemmas.List.{take-append-le, take_at, drop_at, append-nil}
+use Rattle.std.proofs.Common.{◌≡◌, ℕ, zero, suc, ◌+◌, ◌*◌, ◌<◌, ◌≤◌, true, false, List, [], ◌∷◌, ◌++◌, length, take}
+use Rattle.std.proofs.Common.{get_or, Some, refl, sym, ap, subst, ◌∙◌, arith, length-append}
+use Rattle.std.specs.Prelude.{All, slice_get}
+use Rattle.std.proofs.lemmas.List.{take-append-le, append-nil}
 use Rattle.std.proofs.lemmas.List.Elements.{All-head, All-tail}
-use Rattle.std.proofs.lemmas.List.Sums.{sum_by-cons}
-use Rattle.njh_record.specs.Bytes.{field, with_field, two_bytes}
 use Rattle.njh_record.specs.Stored.{Stored}
 use Rattle.njh_spool.specs.declared.file_slot.FileSlot.{FileSlot}
 use Rattle.njh_spool.specs.declared.file_slot.RecordPlace.{RecordPlace}
 use Rattle.njh_spool.specs.declared.store.mark.Mark.{Mark}
 use Rattle.njh_spool.specs.Chains.{Chain, IsMark}
-use Rattle.njh_spool.specs.CustomerSpool.{stored_size, at_index, rewritten_record}
+use Rattle.njh_spool.specs.CustomerSpool.{stored_size}
 use Rattle.njh_spool.specs.Packing.{packed_record, packed, unpacked, IsShort}
 use Rattle.njh_spool.specs.Slots.{is_free, IsPlace, IsFile}
-use Rattle.njh_spool.proofs.CostLaws.{length-with_field}
 use Rattle.njh_spool.proofs.PackingLaws.{length-packed_record, length-packed, packed-append, length-unpacked, unpacked-packed}
 
 -- the records of bytes that are packed

@@ -1,5 +1,5 @@
 -- One customer's files move, and no other's.
-use Rattle.std.proofs.Common.{◌≡◌, ◌≢◌, ℕ, zero, suc, ◌+◌, ◌*◌, ◌<◌, ◌≤◌, cond, eqb, List, [], ◌∷◌, length, get_or, set, map, sum_by}
+use Rattle.std.proofs.Common.{◌≡◌, ◌≢◌, ℕ, zero, suc, ◌+◌, ◌*◌, ◌<◌, ◌≤◌, List, [], ◌∷◌, length, get_or, set, sum_by}
 use Rattle.std.proofs.Common.{refl, sym, ap, subst, ◌∙◌, inl, inr, arith, length-set, zero-add}
 use Rattle.std.specs.Prelude.{All}
 use Rattle.std.proofs.lemmas.Bool.{cases_eq}
@@ -9,7 +9,7 @@ use Rattle.njh_spool.specs.declared.file_slot.FileSlot.{FileSlot}
 use Rattle.njh_spool.specs.declared.customer_files.CustomerFiles.{CustomerFiles}
 use Rattle.njh_spool.specs.Chains.{Chain, StoreValue, empty_chain, with_chain, blocks_of, blocks_used}
 use Rattle.njh_spool.specs.CustomerSpool.{CustomerSpool, used}
-use Rattle.njh_spool.specs.Spools.{IsSound, no_spool, part}
+use Rattle.njh_spool.specs.Spools.{no_spool, part}
 use Rattle.njh_spool.specs.Slots.{Content, content, contents, slot_of, chain_of, no_files, spool_of, spools_from, spools_of, IsOwn}
 use Rattle.njh_spool.specs.Slots.{IsFile, IsKept}
 use Rattle.njh_spool.proofs.IndexLaws.{put, at_is, slot-same, chain-same, slot-other, chain-other, contents-same, contents-other}

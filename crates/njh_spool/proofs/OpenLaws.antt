@@ -9,12 +9,12 @@ use Rattle.njh_spool.specs.declared.quota.Quota.{Quota}
 use Rattle.njh_spool.specs.declared.file_slot.FileSlot.{FileSlot}
 use Rattle.njh_spool.specs.declared.file_slot.Stage.TheVariants.{Free}
 use Rattle.njh_spool.specs.declared.customer_files.CustomerFiles.{CustomerFiles}
-use Rattle.njh_spool.specs.Chains.{Chain, StoreValue, empty_chain, blocks_of, blocks_used}
-use Rattle.njh_spool.specs.CustomerSpool.{CustomerSpool, empty_spool, used}
+use Rattle.njh_spool.specs.Chains.{Chain, StoreValue, empty_chain, blocks_of}
+use Rattle.njh_spool.specs.CustomerSpool.{CustomerSpool, empty_spool}
 use Rattle.njh_spool.specs.Quotas.{IsWithinLimits}
 use Rattle.njh_spool.specs.Spools.{IsSound}
-use Rattle.njh_spool.specs.Slots.{Content, contents, slot_of, chain_of, free_slot, is_whole, is_partial, no_files, spool_of}
-use Rattle.njh_spool.specs.Slots.{spools_from, spools_of, IsOwn, IsFile, IsKept}
+use Rattle.njh_spool.specs.Slots.{Content, contents, slot_of, chain_of, free_slot, no_files}
+use Rattle.njh_spool.specs.Slots.{spools_from, IsOwn, IsFile, IsKept}
 use Rattle.njh_spool.proofs.KeptLaws.{own_of}
 use Rattle.njh_spool.proofs.FileLaws.{file_of, first_place}
 

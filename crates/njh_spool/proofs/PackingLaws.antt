@@ -1,11 +1,11 @@
 -- What the records are that lie in a run of bytes.
-use Rattle.std.proofs.Common.{◌≡◌, ℕ, zero, suc, ◌+◌, ◌*◌, ◌/◌, ◌%◌, ◌<◌, ◌≤◌, List, [], ◌∷◌, ◌++◌, length, take, drop, get_or, refl}
-use Rattle.std.proofs.Common.{sym, ap, ◌∙◌, arith, length-append, append_assoc}
+use Rattle.std.proofs.Common.{◌≡◌, ℕ, zero, suc, ◌+◌, ◌*◌, ◌/◌, ◌%◌, ◌≤◌, List, [], ◌∷◌, ◌++◌, length, take, drop, refl}
+use Rattle.std.proofs.Common.{ap, ◌∙◌, arith, length-append, append_assoc}
 use Rattle.std.specs.Prelude.{All}
-use Rattle.std.proofs.lemmas.List.{take-append-le, drop-append-le, take_at, drop_at, take_all, append-nil}
+use Rattle.std.proofs.lemmas.List.{take_at, drop_at}
 use Rattle.std.proofs.lemmas.List.Elements.{All-head, All-tail}
 use Rattle.std.proofs.lemmas.List.Sums.{sum_by-cons}
-use Rattle.njh_record.specs.Bytes.{field, number_at, two_bytes}
+use Rattle.njh_record.specs.Bytes.{field, number_at}
 use Rattle.njh_record.specs.Stored.{Stored}
 use Rattle.njh_spool.specs.CustomerSpool.{stored_size}
 use Rattle.njh_spool.specs.Packing.{packed_record, packed, first_record, unpacked, IsShort}

@@ -1,5 +1,5 @@
 -- What the calls on a partial file make of its customer's spool.
-use Rattle.std.proofs.Common.{◌≡◌, ◌≢◌, ℕ, ◌+◌, ◌-◌, ◌<◌, ◌≤◌, Bool, true, false, cond, not, eqb, List, [], ◌∷◌, ◌++◌, length, map}
+use Rattle.std.proofs.Common.{◌≡◌, ℕ, ◌+◌, ◌-◌, ◌<◌, ◌≤◌, Bool, true, false, cond, not, eqb, List, [], ◌∷◌, ◌++◌, map}
 use Rattle.std.proofs.Common.{filter, count_by, Some, None, refl, sym, ap, subst, ◌∙◌, inl, inr, arith, eq-eqb, ne_eqb}
 use Rattle.std.specs.List.{list_any}
 use Rattle.std.specs.Option.{option_or, is_some}
@@ -14,10 +14,10 @@ use Rattle.njh_spool.specs.declared.customer_files.CustomerFiles.{CustomerFiles}
 use Rattle.njh_spool.specs.CustomerSpool.{CustomerSpool, WholeFile, PartialFile, cost, used, partial_numbered, whole_numbered}
 use Rattle.njh_spool.specs.CustomerSpool.{abandoned, appended, finished, as_whole, has_room_for}
 use Rattle.njh_spool.specs.Spools.{IsSound, append_fault, fault_unless}
-use Rattle.njh_spool.specs.Slots.{Content, is_partial, is_whole, state_of, whole_file, partial_file, spool_of, IsOwn}
+use Rattle.njh_spool.specs.Slots.{Content, is_partial, is_whole, whole_file, partial_file, spool_of, IsOwn}
 use Rattle.njh_spool.proofs.OnlyOne.{list_any-from_count, filter_none, find_none}
 use Rattle.njh_spool.proofs.SpoolLaws as laws
-use Rattle.njh_spool.proofs.IndexLaws.{put, put_same, put_other}
+use Rattle.njh_spool.proofs.IndexLaws.{put, put_same}
 use Rattle.njh_spool.proofs.SlotLaws.{is_at, IsSplit, split_at, whole-put, partial-put, whole-any, partial-any, counted-put, once_some}
 use Rattle.njh_spool.proofs.SlotLaws.{once_none, whole_from, partial_from, gone, count-gone}
 

@@ -1,15 +1,14 @@
 -- What is read of a customer's file.
-use Rattle.std.proofs.Common.{◌≡◌, ℕ, Bool, true, false, Option, Some, None, List, refl, sym, ap, ◌∙◌, inl, inr}
+use Rattle.std.proofs.Common.{◌≡◌, ℕ, true, false, Option, Some, None, List, refl, ap, ◌∙◌}
 use Rattle.std.specs.Option.{option_map, option_or}
 use Rattle.njh_record.specs.Stored.{Stored}
 use Rattle.njh_record.specs.declared.Kind.{Kind}
-use Rattle.njh_spool.specs.declared.State.{State}
 use Rattle.njh_spool.specs.declared.file_slot.Stage.{Stage}
 use Rattle.njh_spool.specs.declared.file_slot.Stage.TheVariants.{Free, Partial, Whole}
 use Rattle.njh_spool.specs.declared.customer_files.CustomerFiles.{CustomerFiles}
-use Rattle.njh_spool.specs.CustomerSpool.{CustomerSpool, WholeFile, PartialFile, whole_numbered, partial_numbered}
+use Rattle.njh_spool.specs.CustomerSpool.{WholeFile, PartialFile, partial_numbered}
 use Rattle.njh_spool.specs.Spools.{kind_numbered, records_numbered}
-use Rattle.njh_spool.specs.Slots.{Content, is_free, is_partial, is_whole, state_of, spool_of, IsOwn}
+use Rattle.njh_spool.specs.Slots.{Content, is_free, is_partial, is_whole, spool_of, IsOwn}
 use Rattle.njh_spool.proofs.PartialLaws as partial
 use Rattle.njh_spool.proofs.WholeLaws as whole
 

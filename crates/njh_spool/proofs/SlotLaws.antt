@@ -1,18 +1,16 @@
 -- What a customer's spool is by its lists of numbers and its files.
-use Rattle.std.proofs.Common.{◌≡◌, ◌≢◌, ℕ, zero, suc, ◌+◌, ◌-◌, ◌<◌, ◌≤◌, Bool, true, false, cond, not, eqb, List, [], ◌∷◌, ◌++◌}
-use Rattle.std.proofs.Common.{length, map, filter, find, count_by, sum_by, Option, Some, None, refl, sym, ap, subst, ◌∙◌, ◌⊎◌, inl, inr}
+use Rattle.std.proofs.Common.{◌≡◌, ℕ, ◌+◌, ◌≤◌, Bool, true, false, cond, not, eqb, List, [], ◌∷◌, ◌++◌}
+use Rattle.std.proofs.Common.{map, filter, count_by, refl, ap, ◌∙◌, inl, inr}
 use Rattle.std.proofs.Common.{arith, eq-eqb, ne_eqb}
 use Rattle.std.specs.List.{list_any}
 use Rattle.std.proofs.lemmas.Bool.{cases_Bool, cases_eq, or_parts, or_from, eqb-true}
-use Rattle.std.proofs.lemmas.List.{map-append}
 use Rattle.std.proofs.lemmas.List.Sums.{sum_by-cons}
 use Rattle.njh_spool.specs.declared.file_slot.Stage.{Stage}
-use Rattle.njh_spool.specs.declared.customer_files.CustomerFiles.{CustomerFiles}
-use Rattle.njh_spool.specs.CustomerSpool.{CustomerSpool, WholeFile, PartialFile}
-use Rattle.njh_spool.specs.Slots.{Content, is_partial, is_whole, state_of, whole_file, partial_file, spool_of, IsOwn}
+use Rattle.njh_spool.specs.CustomerSpool.{WholeFile, PartialFile}
+use Rattle.njh_spool.specs.Slots.{Content, state_of, whole_file, partial_file}
 use Rattle.njh_spool.proofs.OnlyOne.{list_any-from_count, filter_one}
 use Rattle.njh_spool.proofs.SpoolLaws as laws
-use Rattle.njh_spool.proofs.IndexLaws.{put, put_same, put_other}
+use Rattle.njh_spool.proofs.IndexLaws.{put}
 
 abbrev pub is_at : ℕ → ℕ → Bool
 is_at n m = eqb m n

@@ -1,5 +1,5 @@
 -- What the slots of the files and the chains of the store are to each customer, and what always holds of them.
-use Rattle.std.specs.Prelude.{◌≡◌, ℕ, zero, ◌+◌, ◌*◌, ◌<◌, ◌≤◌, Bool, true, false, List, [], ◌∷◌, length, take, map, cond, nat_lt}
+use Rattle.std.specs.Prelude.{◌≡◌, ℕ, ◌+◌, ◌*◌, ◌<◌, ◌≤◌, Bool, true, false, List, [], ◌∷◌, length, take, map, cond, nat_lt}
 use Rattle.std.specs.Prelude.{sum_by, count_by, slice_index_or, ◌==◌}
 use Rattle.std.specs.List.{All}
 use Rattle.njh_record.specs.Stored.{Stored}

@@ -1,4 +1,4 @@
-use Rattle.std.proofs.Common.{◌≡◌, ℕ, ◌+◌, ◌<◌, ◌≤◌, length, sym, ◌∙◌, arith}
+use Rattle.std.proofs.Common.{sym, ◌∙◌, arith}
 use Rattle.njh_spool.specs.Chains.{chain_at}
 use Rattle.njh_spool.proofs.RecordLaws.{in_file, next_place}
 use Rattle.njh_spool.proofs.reading.place_behind.Goals as goal

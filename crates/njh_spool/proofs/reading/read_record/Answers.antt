@@ -1,6 +1,5 @@
-use Rattle.std.proofs.Common.{◌≡◌, ℕ, ◌+◌, ◌<◌, ◌≤◌, List, length, sym, ap, ◌∙◌, arith, Some}
+use Rattle.std.proofs.Common.{◌≡◌, ℕ, ◌+◌, List, length, sym, ap, ◌∙◌, arith, Some}
 use Rattle.njh_record.specs.Bytes.{field}
-use Rattle.njh_record.specs.Stored.{Stored}
 use Rattle.njh_spool.specs.Chains.{chain_at}
 use Rattle.njh_spool.proofs.RecordLaws.{in_file, next_place}
 use Rattle.njh_spool.proofs.reading.read_record.Goals as goal

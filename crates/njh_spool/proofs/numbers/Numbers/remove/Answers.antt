@@ -1,4 +1,4 @@
-use Rattle.std.proofs.Common.{◌≡◌, ℕ, eqb, not, refl, sym, ap, ◌∙◌, List, filter, arith, position, Some, None, suc, take, drop, ◌++◌}
+use Rattle.std.proofs.Common.{◌≡◌, eqb, not, sym, ap, ◌∙◌, filter, position, Some, None}
 use Rattle.njh_spool.proofs.OnlyOne.{filter_none}
 use Rattle.njh_spool.proofs.PlaceLaws.{position-some, position-nowhere, removed_is}
 use Rattle.njh_spool.proofs.numbers.Numbers.remove.Goals as goal

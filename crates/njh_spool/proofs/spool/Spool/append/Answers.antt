@@ -1,17 +1,12 @@
-use Rattle.std.proofs.Common.{◌≡◌, ℕ, ◌+◌, ◌-◌, ◌*◌, ◌<◌, ◌≤◌, Bool, true, false, not, eqb, List, [], ◌∷◌, ◌++◌, length, get_or, set}
-use Rattle.std.proofs.Common.{filter, Option, Some, None, Ok, Err, refl, sym, ap, subst, ◌∙◌, arith}
+use Rattle.std.proofs.Common.{◌≡◌, ℕ, ◌+◌, ◌-◌, ◌*◌, ◌≤◌, true, List, ◌++◌, length, set}
+use Rattle.std.proofs.Common.{refl, sym, ap, subst, ◌∙◌, arith}
 use Rattle.njh_spool.specs.declared.file_slot.FileSlot.{FileSlot}
-use Rattle.njh_spool.specs.declared.file_slot.RecordPlace.{RecordPlace}
-use Rattle.njh_spool.specs.declared.file_slot.Stage.{Stage}
-use Rattle.njh_spool.specs.declared.file_slot.Stage.TheVariants.{Free, Partial, Whole}
 use Rattle.njh_spool.specs.declared.customer_files.CustomerFiles.{CustomerFiles}
-use Rattle.njh_spool.specs.Chains.{Chain, StoreValue, chain_at, empty_chain}
-use Rattle.njh_spool.specs.CustomerSpool.{CustomerSpool, WholeFile, with_state, removed, finished, abandoned, appended, begun}
-use Rattle.njh_spool.specs.CustomerSpool.{rewritten, on_file}
-use Rattle.njh_spool.specs.Spools.{part, records_numbered, record_numbered}
-use Rattle.njh_spool.specs.Slots.{contents, slot_of, chain_of, is_free, is_partial, is_whole, spools_of, IsFile, IsPlace}
-use Rattle.njh_spool.proofs.IndexLaws.{small_used}
-use Rattle.njh_spool.proofs.KeptLaws.{HasOwn, has_own, own_of, own_is, Moves}
+use Rattle.njh_spool.specs.Chains.{Chain, chain_at}
+use Rattle.njh_spool.specs.CustomerSpool.{CustomerSpool, appended}
+use Rattle.njh_spool.specs.Spools.{part}
+use Rattle.njh_spool.specs.Slots.{contents, slot_of, chain_of, is_partial, spools_of}
+use Rattle.njh_spool.proofs.KeptLaws.{own_of, own_is, Moves}
 use Rattle.njh_spool.proofs.CallLaws as call
 use Rattle.std.proofs.Common.{◌/◌, take, length-append}
 use Rattle.njh_spool.specs.Chains.{with_chain, blocks_of}

@@ -1,12 +1,10 @@
-use Rattle.std.proofs.Common.{◌≡◌, ℕ, ◌+◌, ◌*◌, ◌<◌, ◌≤◌, Bool, true, false, not, List, length, get_or, set, Option, Some, None, Ok}
-use Rattle.std.proofs.Common.{Err, refl, sym, ap, subst, ◌∙◌, arith}
-use Rattle.njh_spool.specs.declared.file_slot.FileSlot.{FileSlot}
-use Rattle.njh_spool.specs.declared.file_slot.Stage.{Stage}
+use Rattle.std.proofs.Common.{◌<◌, length, get_or}
+use Rattle.std.proofs.Common.{sym, ap, ◌∙◌, arith}
 use Rattle.njh_spool.specs.declared.customer_files.CustomerFiles.{CustomerFiles}
 use Rattle.njh_spool.specs.CustomerSpool.{CustomerSpool}
 use Rattle.njh_spool.specs.Spools.{part}
-use Rattle.njh_spool.specs.Slots.{contents, slot_of, chain_of, is_free, is_partial, is_whole, state_of, spools_of}
-use Rattle.njh_spool.proofs.KeptLaws.{HasOwn, has_own, own_of, own_is, length-spools_from}
+use Rattle.njh_spool.specs.Slots.{contents}
+use Rattle.njh_spool.proofs.KeptLaws.{has_own, own_of, own_is}
 use Rattle.std.proofs.lemmas.List.{length-map}
 use Rattle.njh_spool.specs.Slots.{whole_file}
 use Rattle.njh_spool.proofs.PlaceLaws.{slice_get-map}

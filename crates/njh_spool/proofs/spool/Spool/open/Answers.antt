@@ -1,8 +1,7 @@
-use Rattle.std.proofs.Common.{◌≡◌, ℕ, ◌*◌, ◌≤◌, List, length, map, replicate, refl, sym, ap, ◌∙◌, arith}
-use Rattle.njh_spool.specs.declared.customer_files.CustomerFiles.{CustomerFiles}
-use Rattle.njh_spool.specs.Chains.{StoreValue, empty_chain}
-use Rattle.njh_spool.specs.Slots.{contents, IsKept, spools_from}
-use Rattle.njh_spool.proofs.OpenLaws.{opened, kept_opened, spools_from-opened}
+use Rattle.std.proofs.Common.{ℕ, ◌*◌, length, replicate, refl, ap, ◌∙◌}
+use Rattle.njh_spool.specs.Chains.{empty_chain}
+use Rattle.njh_spool.specs.Slots.{contents}
+use Rattle.njh_spool.proofs.OpenLaws.{kept_opened, spools_from-opened}
 use Rattle.njh_spool.proofs.spool.Spool.open.Goals as goal
 
 pub invariant_of-result : goal.invariant_of-result

@@ -1,4 +1,3 @@
-use Rattle.njh_spool.proofs.CallLaws.{appends}
 use Rattle.njh_spool.proofs.KeptLaws.{has_own}
 use Rattle.njh_spool.proofs.spool.Spool.quota_holds.Goals as goal
 
