@@ -7,6 +7,7 @@ use Rattle.njh_spool.specs.CustomerSpool.{CustomerSpool, appended}
 use Rattle.njh_spool.specs.Spools.{part}
 use Rattle.njh_spool.specs.Slots.{contents, slot_of, chain_of, is_partial, spools_of}
 use Rattle.njh_spool.proofs.KeptLaws.{own_of, own_is, Moves}
+use Rattle.njh_spool.proofs.CallFinds as finds
 use Rattle.njh_spool.proofs.CallLaws as call
 use Rattle.std.proofs.Common.{◌/◌, take, length-append}
 use Rattle.njh_spool.specs.Chains.{with_chain, blocks_of}
@@ -18,7 +19,7 @@ use Rattle.njh_spool.proofs.spool.Spool.append.Goals.{After-is_partial, After-bl
 
 pub slot_at-slot-requires : goal.slot_at-slot-requires
 slot_at-slot-requires c =
-    let has = call.has c.self.inside.store c.self.inside.slots.items c.self.inside.customers.items c.args.customer c.args.id
+    let has = finds.has c.self.inside.store c.self.inside.slots.items c.self.inside.customers.items c.args.customer c.args.id
     c.self.invariant (rw c.self.view_is c.requires.range) in
     omega (arith, has.slot_within 1023 (omega arith), ap length c.deref.ensures.value)
 
@@ -29,7 +30,7 @@ stage_is c = ap (λ (x : FileSlot). is_partial x.stage)
 
 pub returns-then-not-is_partial-clause-fault : goal.returns-then-not-is_partial-clause-fault
 returns-then-not-is_partial-clause-fault c =
-    let none = call.finds_no_partial c.self.inside.store c.self.inside.slots.items c.self.inside.customers.items c.args.customer
+    let none = finds.finds_no_partial c.self.inside.store c.self.inside.slots.items c.self.inside.customers.items c.args.customer
     c.args.id c.self.invariant (rw c.self.view_is c.requires.range)
     (stage_is (goal.at.returns-then-not-is_partial-clause-fault c).After-is_partial ∙ c.if-not-is_partial.true) in
     rw (← c.self.view_is, none.appends (record { srcb = c.args.srcb; bytes = c.args.bytes.now })) refl
@@ -48,16 +49,16 @@ there_is c = ap (λ (x : FileSlot). is_partial x.stage)
 
 own_same : (c : After-blocks_for) → c.index_mut-own.result.now ≡ (own_of c.self.inside.customers.items c.args.customer)
 own_same c =
-    let has = call.has c.self.inside.store c.self.inside.slots.items c.self.inside.customers.items c.args.customer c.args.id
+    let has = finds.has c.self.inside.store c.self.inside.slots.items c.self.inside.customers.items c.args.customer c.args.id
     c.self.invariant (rw c.self.view_is c.requires.range) in
     own_is c.self.inside.customers.items c.args.customer c.from.result c.index_mut-own.result.now has.within c.from.ensures
     c.index_mut-own.ensures.value
 
 chain_same : (c : After-blocks_for) → chain_at c.place-at.result c.self.inside.store ≡
     (chain_of c.self.inside.store.chains c.args.customer c.args.id)
-chain_same c = ap (λ (i : ℕ). chain_at i c.self.inside.store) c.place-at.ensures ∙ call.chain_is c.self.inside.store
+chain_same c = ap (λ (i : ℕ). chain_at i c.self.inside.store) c.place-at.ensures ∙ finds.chain_is c.self.inside.store
     c.self.inside.slots.items c.self.inside.customers.items c.args.customer c.args.id c.self.invariant
-    (rw c.self.view_is c.requires.range) (call.small_partial c.self.inside.store c.self.inside.slots.items
+    (rw c.self.view_is c.requires.range) (finds.small_partial c.self.inside.store c.self.inside.slots.items
     c.self.inside.customers.items c.args.customer c.args.id c.self.invariant (rw c.self.view_is c.requires.range) (there_is c))
 
 size_same : (c : After-blocks_for) → c.len-size.result ≡ length (chain_of c.self.inside.store.chains c.args.customer c.args.id).bytes
@@ -67,16 +68,16 @@ counts : (c : After-blocks_for) → Counts c.index_mut-own.result.now.used c.blo
     (own_of c.self.inside.customers.items c.args.customer).used
     (blocks_of (chain_of c.self.inside.store.chains c.args.customer c.args.id).bytes)
 counts c =
-    let has = call.has c.self.inside.store c.self.inside.slots.items c.self.inside.customers.items c.args.customer c.args.id
+    let has = finds.has c.self.inside.store c.self.inside.slots.items c.self.inside.customers.items c.args.customer c.args.id
     c.self.invariant (rw c.self.view_is c.requires.range) in
     record {
       used_is = ap (λ (o : CustomerFiles). o.used) (own_same c);
       blocks_is = c.blocks_for.ensures ∙ ap (λ (k : ℕ). (k + 251) / 252) (size_same c);
       enough = omega (
         arith,
-        call.blocks_are c.self.inside.store c.self.inside.slots.items c.self.inside.customers.items
+        finds.blocks_are c.self.inside.store c.self.inside.slots.items c.self.inside.customers.items
             c.args.customer c.args.id c.self.invariant (rw c.self.view_is c.requires.range),
-        call.enough_partial
+        finds.enough_partial
             c.self.inside.store c.self.inside.slots.items c.self.inside.customers.items c.args.customer c.args.id c.self.invariant
             (rw c.self.view_is c.requires.range) (there_is c),
       );
@@ -111,7 +112,7 @@ overflow_add-used c =
     let at = (goal.at.overflow_add-used c).After-blocks_for in
     let count = counts at in
     let longer = longer_same c in
-    let fits = (call.has c.self.inside.store c.self.inside.slots.items c.self.inside.customers.items c.args.customer c.args.id
+    let fits = (finds.has c.self.inside.store c.self.inside.slots.items c.self.inside.customers.items c.args.customer c.args.id
     c.self.invariant (rw c.self.view_is c.requires.range)).own.sound in
     let small = length-append (chain_of c.self.inside.store.chains c.args.customer c.args.id).bytes
     (packed_record (record { srcb = c.args.srcb; bytes = c.args.bytes.now })) in
@@ -143,7 +144,7 @@ returns-then-used-own-clause-fault c =
     let quota = ap (λ (o : CustomerFiles). o.quota) (own_same first) in
     rw (
       ← c.self.view_is,
-      call.append_full c.self.inside.store c.self.inside.slots.items c.self.inside.customers.items
+      finds.append_full c.self.inside.store c.self.inside.slots.items c.self.inside.customers.items
           c.args.customer c.args.id c.self.invariant (rw c.self.view_is c.requires.range)
           (record { srcb = c.args.srcb; bytes = c.args.bytes.now }) (there_is first)
           (omega (arith, now_used at, quota, c.if-used-own.true)),
@@ -153,14 +154,14 @@ pub append-requires-clause-room : goal.append-requires-clause-room
 append-requires-clause-room c =
     let at = (goal.at.append-requires-clause-room c).After-blocks_for-2 in
     let first = (goal.at.append-requires-clause-room c).After-blocks_for in
-    let has = call.has c.self.inside.store c.self.inside.slots.items c.self.inside.customers.items c.args.customer c.args.id
+    let has = finds.has c.self.inside.store c.self.inside.slots.items c.self.inside.customers.items c.args.customer c.args.id
     c.self.invariant (rw c.self.view_is c.requires.range) in
     let quota = ap (λ (o : CustomerFiles). o.quota) (own_same first) in
-    let small = call.small_partial c.self.inside.store c.self.inside.slots.items c.self.inside.customers.items c.args.customer
+    let small = finds.small_partial c.self.inside.store c.self.inside.slots.items c.self.inside.customers.items c.args.customer
     c.args.id c.self.invariant (rw c.self.view_is c.requires.range) (there_is first) in
     let bytes : c.deref-2.result.now ≡ packed_record (record { srcb = c.args.srcb; bytes = c.args.bytes.now }) =
     c.deref-2.ensures.0 ∙ c.pack_record.ensures in
-    let room = call.room c.self.inside.store c.self.inside.slots.items c.self.inside.customers.items c.args.customer c.args.id
+    let room = finds.room c.self.inside.store c.self.inside.slots.items c.self.inside.customers.items c.args.customer c.args.id
     c.self.invariant (rw c.self.view_is c.requires.range) (record { srcb = c.args.srcb; bytes = c.args.bytes.now })
     (chain_of c.self.inside.store.chains c.args.customer c.args.id).keys (there_is first) small
     (omega (arith, now_used at, quota, c.if-used-own.false))
@@ -172,7 +173,7 @@ append-requires-clause-room c =
     rw (
       bytes,
       c.place-at.ensures,
-      call.chain_is c.self.inside.store c.self.inside.slots.items c.self.inside.customers.items
+      finds.chain_is c.self.inside.store c.self.inside.slots.items c.self.inside.customers.items
           c.args.customer c.args.id c.self.invariant (rw c.self.view_is c.requires.range) small,
     ) room
 
@@ -183,7 +184,7 @@ overflow_add-slot c =
     omega (
       arith,
       count,
-      call.count_small c.self.inside.store c.self.inside.slots.items c.self.inside.customers.items
+      finds.count_small c.self.inside.store c.self.inside.slots.items c.self.inside.customers.items
           c.args.customer c.args.id c.self.invariant (rw c.self.view_is c.requires.range),
     )
 
@@ -197,7 +198,7 @@ moved c =
     let at = (goal.at.overflow_add-slot c).After-blocks_for-2 in
     let first = (goal.at.overflow_add-slot c).After-blocks_for in
     let there = there_is first in
-    let small = call.small_partial c.self.inside.store c.self.inside.slots.items c.self.inside.customers.items c.args.customer
+    let small = finds.small_partial c.self.inside.store c.self.inside.slots.items c.self.inside.customers.items c.args.customer
     c.args.id c.self.invariant (rw c.self.view_is c.requires.range) there in
     let chain = chain_same first in
     let same = c.slot_at-slot.ensures ∙ ap (λ (xs : List FileSlot). slot_of xs c.args.customer c.args.id) c.deref.ensures.value in
@@ -281,7 +282,7 @@ returns-clause-fault c =
     let quota = ap (λ (o : CustomerFiles). o.quota) (own_same first) in
     rw (
       ← c.self.view_is,
-      call.append_fits c.self.inside.store c.self.inside.slots.items c.self.inside.customers.items
+      finds.append_fits c.self.inside.store c.self.inside.slots.items c.self.inside.customers.items
           c.args.customer c.args.id c.self.invariant (rw c.self.view_is c.requires.range)
           (record { srcb = c.args.srcb; bytes = c.args.bytes.now }) (there_is first)
           (omega (arith, now_used at, quota, c.if-used-own.false)),

@@ -5,6 +5,7 @@ use Rattle.njh_spool.specs.CustomerSpool.{CustomerSpool, begun}
 use Rattle.njh_spool.specs.Spools.{part}
 use Rattle.njh_spool.specs.Slots.{contents, spools_of}
 use Rattle.njh_spool.proofs.KeptLaws.{own_of, own_is, Moves}
+use Rattle.njh_spool.proofs.CallFinds as finds
 use Rattle.njh_spool.proofs.CallLaws as call
 use Rattle.std.proofs.lemmas.List.{length-map}
 use Rattle.njh_spool.specs.CustomerSpool.{next_number}
@@ -15,13 +16,13 @@ use Rattle.njh_spool.proofs.spool.Spool.begin.Goals.{After-index_mut-own, After-
 
 pub index_mut-own-requires : goal.index_mut-own-requires
 index_mut-own-requires c =
-    let has = call.has c.self.inside.store c.self.inside.slots.items c.self.inside.customers.items c.args.customer 0
+    let has = finds.has c.self.inside.store c.self.inside.slots.items c.self.inside.customers.items c.args.customer 0
     c.self.invariant (rw c.self.view_is c.requires) in
     omega (arith, has.within, c.from.ensures, c.self.inside.customers.ok.0)
 
 own_same : (c : After-index_mut-own) → c.index_mut-own.result.now ≡ (own_of c.self.inside.customers.items c.args.customer)
 own_same c =
-    let has = call.has c.self.inside.store c.self.inside.slots.items c.self.inside.customers.items c.args.customer 0
+    let has = finds.has c.self.inside.store c.self.inside.slots.items c.self.inside.customers.items c.args.customer 0
     c.self.invariant (rw c.self.view_is c.requires) in
     own_is c.self.inside.customers.items c.args.customer c.from.result c.index_mut-own.result.now has.within c.from.ensures
     c.index_mut-own.ensures.value
@@ -37,7 +38,7 @@ record Few (c : After-index_mut-own) : Type 0 where
 
 few : (c : After-index_mut-own) → Few c
 few c =
-    let has = call.has c.self.inside.store c.self.inside.slots.items c.self.inside.customers.items c.args.customer 0
+    let has = finds.has c.self.inside.store c.self.inside.slots.items c.self.inside.customers.items c.args.customer 0
     c.self.invariant (rw c.self.view_is c.requires) in
     record {
       whole = ap (λ (o : CustomerFiles). length o.whole) (own_same c);
@@ -64,7 +65,7 @@ overflow_add-len c =
 
 pub returns-then-len-own-clause-fault : goal.returns-then-len-own-clause-fault
 returns-then-len-own-clause-fault c =
-    let has = call.has c.self.inside.store c.self.inside.slots.items c.self.inside.customers.items c.args.customer 0
+    let has = finds.has c.self.inside.store c.self.inside.slots.items c.self.inside.customers.items c.args.customer 0
     c.self.invariant (rw c.self.view_is c.requires) in
     let n = few (goal.at.returns-then-len-own-clause-fault c).After-index_mut-own in
     rw (
@@ -77,7 +78,7 @@ returns-then-len-own-clause-fault c =
 
 pub returns-then-own-clause-fault : goal.returns-then-own-clause-fault
 returns-then-own-clause-fault c =
-    let has = call.has c.self.inside.store c.self.inside.slots.items c.self.inside.customers.items c.args.customer 0
+    let has = finds.has c.self.inside.store c.self.inside.slots.items c.self.inside.customers.items c.args.customer 0
     c.self.invariant (rw c.self.view_is c.requires) in
     let first = (goal.at.returns-then-own-clause-fault c).After-index_mut-own in
     let n = few first in
@@ -94,7 +95,7 @@ returns-then-own-clause-fault c =
 
 pub free_number-number-requires-clause-all : goal.free_number-number-requires-clause-all
 free_number-number-requires-clause-all c =
-    let has = call.has c.self.inside.store c.self.inside.slots.items c.self.inside.customers.items c.args.customer 0
+    let has = finds.has c.self.inside.store c.self.inside.slots.items c.self.inside.customers.items c.args.customer 0
     c.self.invariant (rw c.self.view_is c.requires) in
     omega (arith, has.slot_within 1023 (omega arith), ap length c.deref.ensures.value)
 
@@ -105,7 +106,7 @@ free_number-number-requires-clause-few c =
 
 pub free_number-number-requires-clause-some : goal.free_number-number-requires-clause-some
 free_number-number-requires-clause-some c =
-    let has = call.has c.self.inside.store c.self.inside.slots.items c.self.inside.customers.items c.args.customer 0
+    let has = finds.has c.self.inside.store c.self.inside.slots.items c.self.inside.customers.items c.args.customer 0
     c.self.invariant (rw c.self.view_is c.requires) in
     let n = few (goal.at.free_number-number-requires-clause-some c).After-index_mut-own in
     let free = some_free (own_of c.self.inside.customers.items c.args.customer)
@@ -124,7 +125,7 @@ push-requires c =
 
 pub index_mut-requires : goal.index_mut-requires
 index_mut-requires c =
-    let has = call.has c.self.inside.store c.self.inside.slots.items c.self.inside.customers.items c.args.customer 0
+    let has = finds.has c.self.inside.store c.self.inside.slots.items c.self.inside.customers.items c.args.customer 0
     c.self.invariant (rw c.self.view_is c.requires) in
     let n = few (goal.at.index_mut-requires c).After-index_mut-own in
     let small : c.free_number-number.result < 1024 = omega (arith, c.free_number-number.ensures.below, n.limit, n.limit_bound) in
@@ -135,7 +136,7 @@ next_is : (c : After-free_number-number) → length (own_of c.self.inside.custom
     → c.free_number-number.result ≡ next_number (spool_of (own_of c.self.inside.customers.items c.args.customer)
     (contents c.self.inside.slots.items c.self.inside.store.chains c.args.customer))
 next_is c room =
-    let has = call.has c.self.inside.store c.self.inside.slots.items c.self.inside.customers.items c.args.customer 0
+    let has = finds.has c.self.inside.store c.self.inside.slots.items c.self.inside.customers.items c.args.customer 0
     c.self.invariant (rw c.self.view_is c.requires) in
     number_is-next (own_of c.self.inside.customers.items c.args.customer)
     (contents c.self.inside.slots.items c.self.inside.store.chains c.args.customer) has.own c.free_number-number.result room
@@ -150,7 +151,7 @@ moved : (c : After-index_mut) → length (own_of c.self.inside.customers.items c
     (begun c.args.kind (part c.args.customer (spools_of c.self.inside.customers.items
     (contents c.self.inside.slots.items c.self.inside.store.chains))))
 moved c room =
-    let has = call.has c.self.inside.store c.self.inside.slots.items c.self.inside.customers.items c.args.customer 0
+    let has = finds.has c.self.inside.store c.self.inside.slots.items c.self.inside.customers.items c.args.customer 0
     c.self.invariant (rw c.self.view_is c.requires) in
     let own = own_is c.self.inside.customers.items c.args.customer c.from.result c.index_mut-own.result.now has.within
     c.from.ensures c.index_mut-own.ensures.value in
@@ -187,7 +188,7 @@ invariant_of-self-2 c =
 
 pub returns-clause-fault : goal.returns-clause-fault
 returns-clause-fault c =
-    let has = call.has c.self.inside.store c.self.inside.slots.items c.self.inside.customers.items c.args.customer 0
+    let has = finds.has c.self.inside.store c.self.inside.slots.items c.self.inside.customers.items c.args.customer 0
     c.self.invariant (rw c.self.view_is c.requires) in
     let first = (goal.at.returns-clause-fault c).After-index_mut-own in
     let n = few first in
@@ -204,7 +205,7 @@ returns-clause-fault c =
 
 pub returns-clause-number : goal.returns-clause-number
 returns-clause-number c =
-    let has = call.has c.self.inside.store c.self.inside.slots.items c.self.inside.customers.items c.args.customer 0
+    let has = finds.has c.self.inside.store c.self.inside.slots.items c.self.inside.customers.items c.args.customer 0
     c.self.invariant (rw c.self.view_is c.requires) in
     let n = few (goal.at.returns-clause-number c).After-index_mut-own in
     let next = next_is (goal.at.returns-clause-number c).After-free_number-number

@@ -7,6 +7,7 @@ use Rattle.njh_spool.specs.CustomerSpool.{CustomerSpool, finished}
 use Rattle.njh_spool.specs.Spools.{part}
 use Rattle.njh_spool.specs.Slots.{contents, slot_of, is_partial, spools_of}
 use Rattle.njh_spool.proofs.KeptLaws.{own_of, own_is, Moves}
+use Rattle.njh_spool.proofs.CallFinds as finds
 use Rattle.njh_spool.proofs.CallLaws as call
 use Rattle.std.proofs.Common.{count_by}
 use Rattle.std.proofs.lemmas.List.{length-map}
@@ -19,7 +20,7 @@ use Rattle.njh_spool.proofs.spool.Spool.finish.Goals.{After-index_mut, After-is_
 
 pub slot_at-slot-requires : goal.slot_at-slot-requires
 slot_at-slot-requires c =
-    let has = call.has c.self.inside.store c.self.inside.slots.items c.self.inside.customers.items c.args.customer c.args.id
+    let has = finds.has c.self.inside.store c.self.inside.slots.items c.self.inside.customers.items c.args.customer c.args.id
     c.self.invariant (rw c.self.view_is c.requires) in
     omega (arith, has.slot_within 1023 (omega arith), ap length c.deref.ensures.value)
 
@@ -30,14 +31,14 @@ stage_is c = ap (λ (x : FileSlot). is_partial x.stage)
 
 pub returns-then-not-is_partial-clause-answer : goal.returns-then-not-is_partial-clause-answer
 returns-then-not-is_partial-clause-answer c =
-    let none = call.finds_no_partial c.self.inside.store c.self.inside.slots.items c.self.inside.customers.items c.args.customer
+    let none = finds.finds_no_partial c.self.inside.store c.self.inside.slots.items c.self.inside.customers.items c.args.customer
     c.args.id c.self.invariant (rw c.self.view_is c.requires)
     (stage_is (goal.at.returns-then-not-is_partial-clause-answer c).After-is_partial ∙ c.if-not-is_partial.true) in
     rw (← c.self.view_is, none.none) refl
 
 pub returns-then-not-is_partial-clause-after : goal.returns-then-not-is_partial-clause-after
 returns-then-not-is_partial-clause-after c =
-    let none = call.finds_no_partial c.self.inside.store c.self.inside.slots.items c.self.inside.customers.items c.args.customer
+    let none = finds.finds_no_partial c.self.inside.store c.self.inside.slots.items c.self.inside.customers.items c.args.customer
     c.args.id c.self.invariant (rw c.self.view_is c.requires)
     (stage_is (goal.at.returns-then-not-is_partial-clause-after c).After-is_partial ∙ c.if-not-is_partial.true) in
     subst (λ (old : List CustomerSpool). old ≡ set old c.args.customer (finished c.args.id (part c.args.customer old)))
@@ -45,14 +46,14 @@ returns-then-not-is_partial-clause-after c =
 
 own_same : (c : After-index_mut-own) → c.index_mut-own.result.now ≡ (own_of c.self.inside.customers.items c.args.customer)
 own_same c =
-    let has = call.has c.self.inside.store c.self.inside.slots.items c.self.inside.customers.items c.args.customer c.args.id
+    let has = finds.has c.self.inside.store c.self.inside.slots.items c.self.inside.customers.items c.args.customer c.args.id
     c.self.invariant (rw c.self.view_is c.requires) in
     own_is c.self.inside.customers.items c.args.customer c.from.result c.index_mut-own.result.now has.within c.from.ensures
     c.index_mut-own.ensures.value
 
 pub remove-requires : goal.remove-requires
 remove-requires c =
-    let has = call.has c.self.inside.store c.self.inside.slots.items c.self.inside.customers.items c.args.customer c.args.id
+    let has = finds.has c.self.inside.store c.self.inside.slots.items c.self.inside.customers.items c.args.customer c.args.id
     c.self.invariant (rw c.self.view_is c.requires) in
     let most = at_most_once (is_partial ((contents c.self.inside.slots.items c.self.inside.store.chains c.args.customer)
     c.args.id).stage) (count_by (λ m. eqb m c.args.id) (own_of c.self.inside.customers.items c.args.customer).partial)
@@ -63,7 +64,7 @@ remove-requires c =
 
 pub push-requires : goal.push-requires
 push-requires c =
-    let has = call.has c.self.inside.store c.self.inside.slots.items c.self.inside.customers.items c.args.customer c.args.id
+    let has = finds.has c.self.inside.store c.self.inside.slots.items c.self.inside.customers.items c.args.customer c.args.id
     c.self.invariant (rw c.self.view_is c.requires) in
     let there = stage_is (goal.at.push-requires c).After-is_partial ∙ c.if-not-is_partial.false in
     let one = once_some (is_partial ((contents c.self.inside.slots.items c.self.inside.store.chains c.args.customer)
@@ -94,11 +95,11 @@ moved : (c : After-index_mut) → Moves c.self.inside.store c.self.inside.slots.
     })) c.args.customer (finished c.args.id
     (part c.args.customer (spools_of c.self.inside.customers.items (contents c.self.inside.slots.items c.self.inside.store.chains))))
 moved c =
-    let has = call.has c.self.inside.store c.self.inside.slots.items c.self.inside.customers.items c.args.customer c.args.id
+    let has = finds.has c.self.inside.store c.self.inside.slots.items c.self.inside.customers.items c.args.customer c.args.id
     c.self.invariant (rw c.self.view_is c.requires) in
     let same = c.slot_at-slot.ensures ∙ ap (λ (xs : List FileSlot). slot_of xs c.args.customer c.args.id) c.deref.ensures.value in
     let there = ap (λ (x : FileSlot). is_partial x.stage) (sym same) ∙ sym c.is_partial.ensures ∙ c.if-not-is_partial.false in
-    let small = call.small_partial c.self.inside.store c.self.inside.slots.items c.self.inside.customers.items c.args.customer
+    let small = finds.small_partial c.self.inside.store c.self.inside.slots.items c.self.inside.customers.items c.args.customer
     c.args.id c.self.invariant (rw c.self.view_is c.requires) there in
     let own = own_is c.self.inside.customers.items c.args.customer c.from.result c.index_mut-own.result.now has.within
     c.from.ensures c.index_mut-own.ensures.value in
@@ -143,7 +144,7 @@ returns-clause-answer c =
     let there = stage_is (goal.at.returns-clause-answer c).After-is_partial ∙ c.if-not-is_partial.false in
     rw (
       ← c.self.view_is,
-      call.finds_partial c.self.inside.store c.self.inside.slots.items c.self.inside.customers.items
+      finds.finds_partial c.self.inside.store c.self.inside.slots.items c.self.inside.customers.items
           c.args.customer c.args.id c.self.invariant (rw c.self.view_is c.requires) there,
     ) refl
 

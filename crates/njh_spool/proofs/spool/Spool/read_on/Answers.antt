@@ -7,6 +7,7 @@ use Rattle.njh_spool.specs.Spools.{part, records_numbered}
 use Rattle.njh_spool.specs.Slots.{contents, slot_of, chain_of, is_free, spools_of, IsPlace}
 use Rattle.njh_spool.proofs.IndexLaws.{small_used}
 use Rattle.njh_spool.proofs.KeptLaws.{Moves}
+use Rattle.njh_spool.proofs.CallFinds as finds
 use Rattle.njh_spool.proofs.CallLaws as call
 use Rattle.njh_spool.proofs.spool.Spool.read_on.Goals as goal
 use Rattle.njh_spool.proofs.spool.Spool.read_on.Goals.{After-is_free, After-place_of_record-begins, After-read_record-srcb}
@@ -20,7 +21,7 @@ use Rattle.njh_spool.proofs.PackingLaws.{length-unpacked}
 
 pub slot_at-slot-requires : goal.slot_at-slot-requires
 slot_at-slot-requires c =
-    let has = call.has c.self.inside.store c.self.inside.slots.items c.self.inside.customers.items c.args.customer c.args.id
+    let has = finds.has c.self.inside.store c.self.inside.slots.items c.self.inside.customers.items c.args.customer c.args.id
     c.self.invariant (rw c.self.view_is c.requires.range) in
     omega (arith, has.slot_within 1023 (omega arith), ap length c.deref.ensures.value)
 
@@ -35,12 +36,12 @@ records_now : (c : After-is_free) → c.is_free.result ≡ false → records_num
     (chain_of c.self.inside.store.chains c.args.customer c.args.id).bytes)
 records_now c used' =
     ap (λ (old : List CustomerSpool). records_numbered c.args.id (part c.args.customer old)) (sym c.self.view_is)
-    ∙ call.finds_records c.self.inside.store c.self.inside.slots.items c.self.inside.customers.items c.args.customer
+    ∙ finds.finds_records c.self.inside.store c.self.inside.slots.items c.self.inside.customers.items c.args.customer
     c.args.id c.self.invariant (rw c.self.view_is c.requires.range) (stage_is c ∙ used')
 
 pub returns-then-is_free-clause-fault : goal.returns-then-is_free-clause-fault
 returns-then-is_free-clause-fault c =
-    let none = call.finds_no_records c.self.inside.store c.self.inside.slots.items c.self.inside.customers.items c.args.customer
+    let none = finds.finds_no_records c.self.inside.store c.self.inside.slots.items c.self.inside.customers.items c.args.customer
     c.args.id c.self.invariant (rw c.self.view_is c.requires.range)
     (stage_is (goal.at.returns-then-is_free-clause-fault c).After-is_free ∙ c.if-is_free.true) in
     rw (← c.self.view_is, none) refl
@@ -84,7 +85,7 @@ chain_is c =
     let used' = ap (λ (x : FileSlot). is_free x.stage)
     (sym (c.slot_at-slot.ensures ∙ ap (λ (xs : List FileSlot). slot_of xs c.args.customer c.args.id) c.deref.ensures.value))
     ∙ sym c.is_free.ensures ∙ c.if-is_free.false in
-    ap (λ (i : ℕ). chain_at i c.self.inside.store) c.place-at.ensures ∙ call.chain_is c.self.inside.store
+    ap (λ (i : ℕ). chain_at i c.self.inside.store) c.place-at.ensures ∙ finds.chain_is c.self.inside.store
     c.self.inside.slots.items c.self.inside.customers.items c.args.customer c.args.id c.self.invariant
     (rw c.self.view_is c.requires.range) (small_used c.self.inside.slots.items c.args.customer c.args.id used')
 
@@ -109,7 +110,7 @@ moved c =
     let same = c.slot_at-slot.ensures ∙ ap (λ (xs : List FileSlot). slot_of xs c.args.customer c.args.id) c.deref.ensures.value in
     let used' = ap (λ (x : FileSlot). is_free x.stage) (sym same) ∙ sym c.is_free.ensures ∙ c.if-is_free.false in
     let small = small_used c.self.inside.slots.items c.args.customer c.args.id used' in
-    let chain = ap (λ (i : ℕ). chain_at i c.self.inside.store) c.place-at.ensures ∙ call.chain_is c.self.inside.store
+    let chain = ap (λ (i : ℕ). chain_at i c.self.inside.store) c.place-at.ensures ∙ finds.chain_is c.self.inside.store
     c.self.inside.slots.items c.self.inside.customers.items c.args.customer c.args.id c.self.invariant
     (rw c.self.view_is c.requires.range) small in
     let place : IsPlace (unpacked (slot_of c.self.inside.slots.items c.args.customer c.args.id).count

@@ -7,6 +7,7 @@ use Rattle.njh_spool.specs.CustomerSpool.{CustomerSpool, removed}
 use Rattle.njh_spool.specs.Spools.{part}
 use Rattle.njh_spool.specs.Slots.{contents, slot_of, chain_of, is_whole, spools_of}
 use Rattle.njh_spool.proofs.KeptLaws.{own_of, own_is, Moves}
+use Rattle.njh_spool.proofs.CallFinds as finds
 use Rattle.njh_spool.proofs.CallLaws as call
 use Rattle.std.proofs.Common.{◌/◌, count_by}
 use Rattle.njh_spool.specs.Chains.{with_chain, blocks_of}
@@ -16,7 +17,7 @@ use Rattle.njh_spool.proofs.spool.Spool.remove.Goals.{After-index_mut, After-is_
 
 pub slot_at-requires : goal.slot_at-requires
 slot_at-requires c =
-    let has = call.has c.self.inside.store c.self.inside.slots.items c.self.inside.customers.items c.args.customer c.args.id
+    let has = finds.has c.self.inside.store c.self.inside.slots.items c.self.inside.customers.items c.args.customer c.args.id
     c.self.invariant (rw c.self.view_is c.requires) in
     omega (arith, has.slot_within 1023 (omega arith), ap length c.deref.ensures.value)
 
@@ -27,34 +28,34 @@ stage_is c = ap (λ (x : FileSlot). is_whole x.stage)
 
 pub returns-then-not-is_whole-clause-answer : goal.returns-then-not-is_whole-clause-answer
 returns-then-not-is_whole-clause-answer c =
-    let none = call.finds_no_whole c.self.inside.store c.self.inside.slots.items c.self.inside.customers.items c.args.customer
+    let none = finds.finds_no_whole c.self.inside.store c.self.inside.slots.items c.self.inside.customers.items c.args.customer
     c.args.id c.self.invariant (rw c.self.view_is c.requires)
     (stage_is (goal.at.returns-then-not-is_whole-clause-answer c).After-is_whole ∙ c.if-not-is_whole.true) in
     rw (← c.self.view_is, none.none) refl
 
 pub returns-then-not-is_whole-clause-after : goal.returns-then-not-is_whole-clause-after
 returns-then-not-is_whole-clause-after c =
-    let none = call.finds_no_whole c.self.inside.store c.self.inside.slots.items c.self.inside.customers.items c.args.customer
+    let none = finds.finds_no_whole c.self.inside.store c.self.inside.slots.items c.self.inside.customers.items c.args.customer
     c.args.id c.self.invariant (rw c.self.view_is c.requires)
     (stage_is (goal.at.returns-then-not-is_whole-clause-after c).After-is_whole ∙ c.if-not-is_whole.true) in
     rw (← c.self.view_is) none.removes
 
 own_same : (c : After-index_mut-own) → c.index_mut-own.result.now ≡ (own_of c.self.inside.customers.items c.args.customer)
 own_same c =
-    let has = call.has c.self.inside.store c.self.inside.slots.items c.self.inside.customers.items c.args.customer c.args.id
+    let has = finds.has c.self.inside.store c.self.inside.slots.items c.self.inside.customers.items c.args.customer c.args.id
     c.self.invariant (rw c.self.view_is c.requires) in
     own_is c.self.inside.customers.items c.args.customer c.from.result c.index_mut-own.result.now has.within c.from.ensures
     c.index_mut-own.ensures.value
 
 pub overflow_sub-left : goal.overflow_sub-left
 overflow_sub-left c =
-    let has = call.has c.self.inside.store c.self.inside.slots.items c.self.inside.customers.items c.args.customer c.args.id
+    let has = finds.has c.self.inside.store c.self.inside.slots.items c.self.inside.customers.items c.args.customer c.args.id
     c.self.invariant (rw c.self.view_is c.requires) in
     let there = stage_is (goal.at.overflow_sub-left c).After-is_whole ∙ c.if-not-is_whole.false in
     let own = ap (λ (o : CustomerFiles). o.used) (own_same (goal.at.overflow_sub-left c).After-index_mut-own) in
-    let chain = ap (λ (i : ℕ). chain_at i c.self.inside.store) c.place-at.ensures ∙ call.chain_is c.self.inside.store
+    let chain = ap (λ (i : ℕ). chain_at i c.self.inside.store) c.place-at.ensures ∙ finds.chain_is c.self.inside.store
     c.self.inside.slots.items c.self.inside.customers.items c.args.customer c.args.id c.self.invariant
-    (rw c.self.view_is c.requires) (call.small_whole c.self.inside.store c.self.inside.slots.items
+    (rw c.self.view_is c.requires) (finds.small_whole c.self.inside.store c.self.inside.slots.items
     c.self.inside.customers.items c.args.customer c.args.id c.self.invariant (rw c.self.view_is c.requires) there) in
     let size = c.len.ensures.bytes ∙ ap (λ (x : Chain). length x.bytes) chain in
     omega (
@@ -62,15 +63,15 @@ overflow_sub-left c =
       own,
       size,
       c.blocks_for.ensures,
-      call.blocks_are c.self.inside.store c.self.inside.slots.items
+      finds.blocks_are c.self.inside.store c.self.inside.slots.items
           c.self.inside.customers.items c.args.customer c.args.id c.self.invariant (rw c.self.view_is c.requires),
-      call.enough_whole c.self.inside.store c.self.inside.slots.items c.self.inside.customers.items c.args.customer c.args.id
+      finds.enough_whole c.self.inside.store c.self.inside.slots.items c.self.inside.customers.items c.args.customer c.args.id
           c.self.invariant (rw c.self.view_is c.requires) there,
     )
 
 pub remove-requires : goal.remove-requires
 remove-requires c =
-    let has = call.has c.self.inside.store c.self.inside.slots.items c.self.inside.customers.items c.args.customer c.args.id
+    let has = finds.has c.self.inside.store c.self.inside.slots.items c.self.inside.customers.items c.args.customer c.args.id
     c.self.invariant (rw c.self.view_is c.requires) in
     let most = at_most_once (is_whole ((contents c.self.inside.slots.items c.self.inside.store.chains c.args.customer)
     c.args.id).stage) (count_by (λ m. eqb m c.args.id) (own_of c.self.inside.customers.items c.args.customer).whole)
@@ -89,16 +90,16 @@ moved : (c : After-index_mut) → Moves c.self.inside.store c.self.inside.slots.
     })) c.args.customer (removed c.args.id
     (part c.args.customer (spools_of c.self.inside.customers.items (contents c.self.inside.slots.items c.self.inside.store.chains))))
 moved c =
-    let has = call.has c.self.inside.store c.self.inside.slots.items c.self.inside.customers.items c.args.customer c.args.id
+    let has = finds.has c.self.inside.store c.self.inside.slots.items c.self.inside.customers.items c.args.customer c.args.id
     c.self.invariant (rw c.self.view_is c.requires) in
     let there = ap (λ (x : FileSlot). is_whole x.stage)
     (sym (c.slot_at.ensures ∙ ap (λ (xs : List FileSlot). slot_of xs c.args.customer c.args.id) c.deref.ensures.value))
     ∙ sym c.is_whole.ensures ∙ c.if-not-is_whole.false in
-    let small = call.small_whole c.self.inside.store c.self.inside.slots.items c.self.inside.customers.items c.args.customer
+    let small = finds.small_whole c.self.inside.store c.self.inside.slots.items c.self.inside.customers.items c.args.customer
     c.args.id c.self.invariant (rw c.self.view_is c.requires) there in
     let own = own_is c.self.inside.customers.items c.args.customer c.from.result c.index_mut-own.result.now has.within
     c.from.ensures c.index_mut-own.ensures.value in
-    let chain = ap (λ (i : ℕ). chain_at i c.self.inside.store) c.place-at.ensures ∙ call.chain_is c.self.inside.store
+    let chain = ap (λ (i : ℕ). chain_at i c.self.inside.store) c.place-at.ensures ∙ finds.chain_is c.self.inside.store
     c.self.inside.slots.items c.self.inside.customers.items c.args.customer c.args.id c.self.invariant
     (rw c.self.view_is c.requires) small in
     let size : c.blocks_for.result ≡ blocks_of (chain_of c.self.inside.store.chains c.args.customer c.args.id).bytes =
@@ -146,7 +147,7 @@ returns-clause-answer c =
     let there = stage_is (goal.at.returns-clause-answer c).After-is_whole ∙ c.if-not-is_whole.false in
     rw (
       ← c.self.view_is,
-      call.finds_whole c.self.inside.store c.self.inside.slots.items c.self.inside.customers.items
+      finds.finds_whole c.self.inside.store c.self.inside.slots.items c.self.inside.customers.items
           c.args.customer c.args.id c.self.invariant (rw c.self.view_is c.requires) there,
     ) refl
 

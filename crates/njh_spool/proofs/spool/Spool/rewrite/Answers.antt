@@ -7,6 +7,7 @@ use Rattle.njh_spool.specs.CustomerSpool.{rewritten}
 use Rattle.njh_spool.specs.Spools.{part}
 use Rattle.njh_spool.specs.Slots.{contents, slot_of, chain_of, is_whole, spools_of, IsPlace}
 use Rattle.njh_spool.proofs.KeptLaws.{Moves}
+use Rattle.njh_spool.proofs.CallFinds as finds
 use Rattle.njh_spool.proofs.CallLaws as call
 use Rattle.std.proofs.Common.{take}
 use Rattle.std.specs.Prelude.{slice_get, IsSomeAnd}
@@ -23,7 +24,7 @@ use Rattle.njh_spool.proofs.spool.Spool.rewrite.Goals.{After-is_whole, After-pla
 
 pub slot_at-slot-requires : goal.slot_at-slot-requires
 slot_at-slot-requires c =
-    let has = call.has c.self.inside.store c.self.inside.slots.items c.self.inside.customers.items c.args.customer c.args.id
+    let has = finds.has c.self.inside.store c.self.inside.slots.items c.self.inside.customers.items c.args.customer c.args.id
     c.self.invariant (rw c.self.view_is c.requires.range) in
     omega (arith, has.slot_within 1023 (omega arith), ap length c.deref.ensures.value)
 
@@ -34,14 +35,14 @@ stage_is c = ap (λ (x : FileSlot). is_whole x.stage)
 
 pub returns-then-not-is_whole-clause-answer : goal.returns-then-not-is_whole-clause-answer
 returns-then-not-is_whole-clause-answer c =
-    let none = call.finds_no_whole c.self.inside.store c.self.inside.slots.items c.self.inside.customers.items c.args.customer
+    let none = finds.finds_no_whole c.self.inside.store c.self.inside.slots.items c.self.inside.customers.items c.args.customer
     c.args.id c.self.invariant (rw c.self.view_is c.requires.range)
     (stage_is (goal.at.returns-then-not-is_whole-clause-answer c).After-is_whole ∙ c.if-not-is_whole.true) in
     rw (← c.self.view_is, none.none) refl
 
 pub returns-then-not-is_whole-clause-after : goal.returns-then-not-is_whole-clause-after
 returns-then-not-is_whole-clause-after c =
-    let none = call.finds_no_whole c.self.inside.store c.self.inside.slots.items c.self.inside.customers.items c.args.customer
+    let none = finds.finds_no_whole c.self.inside.store c.self.inside.slots.items c.self.inside.customers.items c.args.customer
     c.args.id c.self.invariant (rw c.self.view_is c.requires.range)
     (stage_is (goal.at.returns-then-not-is_whole-clause-after c).After-is_whole ∙ c.if-not-is_whole.true) in
     rw (← c.self.view_is) (none.changes (λ x. record
@@ -56,7 +57,7 @@ place_of_record-begins-requires-clause-within c =
     c.requires.within (whole_file (contents c.self.inside.slots.items c.self.inside.store.chains c.args.customer) c.args.id)
     (subst (λ (old : List CustomerSpool). whole_numbered c.args.id (part c.args.customer old) ≡ Some
     (whole_file (contents c.self.inside.slots.items c.self.inside.store.chains c.args.customer) c.args.id)) c.self.view_is
-    (call.finds_whole c.self.inside.store c.self.inside.slots.items c.self.inside.customers.items c.args.customer c.args.id
+    (finds.finds_whole c.self.inside.store c.self.inside.slots.items c.self.inside.customers.items c.args.customer c.args.id
     c.self.invariant (rw c.self.view_is c.requires.range) there)) in
     let counted : c.args.n < (slot_of c.self.inside.slots.items c.args.customer c.args.id).count =
     omega (
@@ -86,7 +87,7 @@ goes c =
     c.requires.within (whole_file (contents c.self.inside.slots.items c.self.inside.store.chains c.args.customer) c.args.id)
     (subst (λ (old : List CustomerSpool). whole_numbered c.args.id (part c.args.customer old) ≡ Some
     (whole_file (contents c.self.inside.slots.items c.self.inside.store.chains c.args.customer) c.args.id)) c.self.view_is
-    (call.finds_whole c.self.inside.store c.self.inside.slots.items c.self.inside.customers.items c.args.customer c.args.id
+    (finds.finds_whole c.self.inside.store c.self.inside.slots.items c.self.inside.customers.items c.args.customer c.args.id
     c.self.invariant (rw c.self.view_is c.requires.range) there)) in
     let counted : c.args.n < (slot_of c.self.inside.slots.items c.args.customer c.args.id).count =
     omega (
@@ -97,9 +98,9 @@ goes c =
       length-unpacked (slot_of c.self.inside.slots.items c.args.customer c.args.id).count
           (chain_of c.self.inside.store.chains c.args.customer c.args.id).bytes,
     ) in
-    let small = call.small_whole c.self.inside.store c.self.inside.slots.items c.self.inside.customers.items c.args.customer
+    let small = finds.small_whole c.self.inside.store c.self.inside.slots.items c.self.inside.customers.items c.args.customer
     c.args.id c.self.invariant (rw c.self.view_is c.requires.range) there in
-    let chain = ap (λ (i : ℕ). chain_at i c.self.inside.store) c.place-at.ensures ∙ call.chain_is c.self.inside.store
+    let chain = ap (λ (i : ℕ). chain_at i c.self.inside.store) c.place-at.ensures ∙ finds.chain_is c.self.inside.store
     c.self.inside.slots.items c.self.inside.customers.items c.args.customer c.args.id c.self.invariant
     (rw c.self.view_is c.requires.range) small in
     let place : IsPlace (unpacked (slot_of c.self.inside.slots.items c.args.customer c.args.id).count
@@ -151,7 +152,7 @@ moved c =
     c.requires.within (whole_file (contents c.self.inside.slots.items c.self.inside.store.chains c.args.customer) c.args.id)
     (subst (λ (old : List CustomerSpool). whole_numbered c.args.id (part c.args.customer old) ≡ Some
     (whole_file (contents c.self.inside.slots.items c.self.inside.store.chains c.args.customer) c.args.id)) c.self.view_is
-    (call.finds_whole c.self.inside.store c.self.inside.slots.items c.self.inside.customers.items c.args.customer c.args.id
+    (finds.finds_whole c.self.inside.store c.self.inside.slots.items c.self.inside.customers.items c.args.customer c.args.id
     c.self.invariant (rw c.self.view_is c.requires.range) there)) in
     let counted : c.args.n < (slot_of c.self.inside.slots.items c.args.customer c.args.id).count =
     omega (
@@ -162,9 +163,9 @@ moved c =
       length-unpacked (slot_of c.self.inside.slots.items c.args.customer c.args.id).count
           (chain_of c.self.inside.store.chains c.args.customer c.args.id).bytes,
     ) in
-    let small = call.small_whole c.self.inside.store c.self.inside.slots.items c.self.inside.customers.items c.args.customer
+    let small = finds.small_whole c.self.inside.store c.self.inside.slots.items c.self.inside.customers.items c.args.customer
     c.args.id c.self.invariant (rw c.self.view_is c.requires.range) there in
-    let chain = ap (λ (i : ℕ). chain_at i c.self.inside.store) c.place-at.ensures ∙ call.chain_is c.self.inside.store
+    let chain = ap (λ (i : ℕ). chain_at i c.self.inside.store) c.place-at.ensures ∙ finds.chain_is c.self.inside.store
     c.self.inside.slots.items c.self.inside.customers.items c.args.customer c.args.id c.self.invariant
     (rw c.self.view_is c.requires.range) small in
     let place : IsPlace (unpacked (slot_of c.self.inside.slots.items c.args.customer c.args.id).count
@@ -217,7 +218,7 @@ returns-clause-answer c =
     let there = stage_is (goal.at.returns-clause-answer c).After-is_whole ∙ c.if-not-is_whole.false in
     rw (
       ← c.self.view_is,
-      call.finds_whole c.self.inside.store c.self.inside.slots.items c.self.inside.customers.items
+      finds.finds_whole c.self.inside.store c.self.inside.slots.items c.self.inside.customers.items
           c.args.customer c.args.id c.self.invariant (rw c.self.view_is c.requires.range) there,
     ) refl
 

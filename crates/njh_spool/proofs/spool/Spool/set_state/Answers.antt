@@ -6,13 +6,14 @@ use Rattle.njh_spool.specs.CustomerSpool.{CustomerSpool, with_state}
 use Rattle.njh_spool.specs.Spools.{part}
 use Rattle.njh_spool.specs.Slots.{contents, slot_of, is_whole, spools_of}
 use Rattle.njh_spool.proofs.KeptLaws.{Moves}
+use Rattle.njh_spool.proofs.CallFinds as finds
 use Rattle.njh_spool.proofs.CallLaws as call
 use Rattle.njh_spool.proofs.spool.Spool.set_state.Goals as goal
 use Rattle.njh_spool.proofs.spool.Spool.set_state.Goals.{After-index_mut, After-is_whole}
 
 pub slot_at-slot-requires : goal.slot_at-slot-requires
 slot_at-slot-requires c =
-    let has = call.has c.self.inside.store c.self.inside.slots.items c.self.inside.customers.items c.args.customer c.args.id
+    let has = finds.has c.self.inside.store c.self.inside.slots.items c.self.inside.customers.items c.args.customer c.args.id
     c.self.invariant (rw c.self.view_is c.requires) in
     omega (arith, has.slot_within 1023 (omega arith), ap length c.deref.ensures.value)
 
@@ -23,14 +24,14 @@ stage_is c = ap (λ (x : FileSlot). is_whole x.stage)
 
 pub returns-then-not-is_whole-clause-answer : goal.returns-then-not-is_whole-clause-answer
 returns-then-not-is_whole-clause-answer c =
-    let none = call.finds_no_whole c.self.inside.store c.self.inside.slots.items c.self.inside.customers.items c.args.customer
+    let none = finds.finds_no_whole c.self.inside.store c.self.inside.slots.items c.self.inside.customers.items c.args.customer
     c.args.id c.self.invariant (rw c.self.view_is c.requires)
     (stage_is (goal.at.returns-then-not-is_whole-clause-answer c).After-is_whole ∙ c.if-not-is_whole.true) in
     rw (← c.self.view_is, none.none) refl
 
 pub returns-then-not-is_whole-clause-after : goal.returns-then-not-is_whole-clause-after
 returns-then-not-is_whole-clause-after c =
-    let none = call.finds_no_whole c.self.inside.store c.self.inside.slots.items c.self.inside.customers.items c.args.customer
+    let none = finds.finds_no_whole c.self.inside.store c.self.inside.slots.items c.self.inside.customers.items c.args.customer
     c.args.id c.self.invariant (rw c.self.view_is c.requires)
     (stage_is (goal.at.returns-then-not-is_whole-clause-after c).After-is_whole ∙ c.if-not-is_whole.true) in
     rw (← c.self.view_is) (none.changes (λ x. record x { state = c.args.state }))
@@ -57,7 +58,7 @@ moved c =
     (sym (c.slot_at-slot.ensures ∙ ap (λ (xs : List FileSlot). slot_of xs c.args.customer c.args.id) c.deref.ensures.value))
     (call.restates c.self.inside.store c.self.inside.slots.items c.self.inside.customers.items c.args.customer c.args.id
     c.self.invariant (rw c.self.view_is c.requires) c.args.state there
-    (call.small_whole c.self.inside.store c.self.inside.slots.items c.self.inside.customers.items c.args.customer c.args.id
+    (finds.small_whole c.self.inside.store c.self.inside.slots.items c.self.inside.customers.items c.args.customer c.args.id
     c.self.invariant (rw c.self.view_is c.requires) there)))
 
 pub invariant_of-self : goal.invariant_of-self
@@ -68,7 +69,7 @@ returns-clause-answer c =
     let there = stage_is (goal.at.returns-clause-answer c).After-is_whole ∙ c.if-not-is_whole.false in
     rw (
       ← c.self.view_is,
-      call.finds_whole c.self.inside.store c.self.inside.slots.items c.self.inside.customers.items
+      finds.finds_whole c.self.inside.store c.self.inside.slots.items c.self.inside.customers.items
           c.args.customer c.args.id c.self.invariant (rw c.self.view_is c.requires) there,
     ) refl
 
