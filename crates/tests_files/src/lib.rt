@@ -1,2 +1,5 @@
 //! Tests of tables and of the spool, over the public items of their crates.
 #![tactic(auto)]
+
+#[cfg(test)]
+mod spool_tests;
