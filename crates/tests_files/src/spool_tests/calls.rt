@@ -1,19 +1,39 @@
 //! Calls with their conditions tested first.
 
 use arrayvec::ArrayVec;
-use njh_record::{Kind, Record};
-use njh_spool::{FileId, Quota, Spool, SpoolFault, State};
+use njh_record::Kind;
+use njh_spool::{FileId, Quota, Spool, SpoolFault};
 use std::alloc::Global;
 use std::process::Abort;
+
+/// A call with what goes into it, or with what it is to give.
+#[derive(Clone, Copy)]
+pub enum Call {
+    Begin,
+    /// A record of so many bytes, each the same.
+    Append(usize, u8),
+    Finish,
+    Remove,
+    Used(u32),
+    /// The record's index, and how many bytes it has, each the same.
+    Read(u32, usize, u8),
+}
 
 /// A spool of two customers with so many blocks each, and so many files.
 pub fn opened<R: Abort>(
     rt: &R,
     alloc: Global,
-    blocks: [u32; 2],
+    [first, second]: [u32; 2],
     files: u32,
 ) -> Result<Spool, SpoolFault> {
-    let [first, second] = blocks.map(|blocks| Quota { blocks, files });
+    let first = Quota {
+        blocks: first,
+        files,
+    };
+    let second = Quota {
+        blocks: second,
+        files,
+    };
     assert!(rt; first.is_within_limits());
     assert!(rt; second.is_within_limits());
     Spool::open(alloc, &[first, second])
@@ -30,8 +50,7 @@ pub fn append<R: Abort>(
     spool: &mut Spool,
     customer: u16,
     id: FileId,
-    size: usize,
-    byte: u8,
+    (size, byte): (usize, u8),
 ) -> Result<(), SpoolFault> {
     assert!(rt; customer < spool.customers());
     assert!(rt; size <= 256);
@@ -48,16 +67,6 @@ pub fn finish<R: Abort>(
     spool.finish(customer, id)
 }
 
-pub fn abandon<R: Abort>(
-    rt: &R,
-    spool: &mut Spool,
-    customer: u16,
-    id: FileId,
-) -> Result<(), SpoolFault> {
-    assert!(rt; customer < spool.customers());
-    spool.abandon(customer, id)
-}
-
 pub fn remove<R: Abort>(
     rt: &R,
     spool: &mut Spool,
@@ -68,99 +77,13 @@ pub fn remove<R: Abort>(
     spool.remove(customer, id)
 }
 
-pub fn hold<R: Abort>(
-    rt: &R,
-    spool: &mut Spool,
-    customer: u16,
-    id: FileId,
-) -> Result<(), SpoolFault> {
-    assert!(rt; customer < spool.customers());
-    spool.set_state(customer, id, State::Held)
-}
-
-pub fn state<R: Abort>(
-    rt: &R,
-    spool: &Spool,
-    customer: u16,
-    id: FileId,
-) -> Result<State, SpoolFault> {
-    assert!(rt; customer < spool.customers());
-    spool.state(customer, id)
-}
-
-pub fn kind<R: Abort>(
-    rt: &R,
-    spool: &Spool,
-    customer: u16,
-    id: FileId,
-) -> Result<Kind, SpoolFault> {
-    assert!(rt; customer < spool.customers());
-    spool.kind(customer, id)
-}
-
-pub fn records<R: Abort>(
-    rt: &R,
-    spool: &Spool,
-    customer: u16,
-    id: FileId,
-) -> Result<u32, SpoolFault> {
-    assert!(rt; customer < spool.customers());
-    spool.records(customer, id)
-}
-
 pub fn used<R: Abort>(rt: &R, spool: &Spool, customer: u16) -> u32 {
     assert!(rt; customer < spool.customers());
     spool.used(customer)
 }
 
-pub fn files<R: Abort>(rt: &R, spool: &Spool, customer: u16) -> u32 {
-    assert!(rt; customer < spool.customers());
-    spool.files(customer)
-}
-
-pub fn file_at<R: Abort>(rt: &R, spool: &Spool, customer: u16, index: u32) -> FileId {
-    assert!(rt; customer < spool.customers());
-    assert!(rt; index < spool.files(customer));
-    spool.file_at(customer, index)
-}
-
-pub fn record_at<R: Abort>(
-    rt: &R,
-    spool: &Spool,
-    customer: u16,
-    id: FileId,
-    n: u32,
-) -> Result<Record, SpoolFault> {
-    assert!(rt; customer < spool.customers());
-    if let Ok(count) = spool.records(customer, id) {
-        assert!(rt; n < count);
-    }
-    let mut record = ArrayVec::new();
-    spool.record_at(customer, id, n, &mut record)?;
-    Ok(record)
-}
-
-/// Writes eight bytes over a whole file's first record.
-pub fn rewrite<R: Abort>(
-    rt: &R,
-    spool: &mut Spool,
-    customer: u16,
-    id: FileId,
-    place: usize,
-) -> Result<(), SpoolFault> {
-    assert!(rt; customer < spool.customers());
-    if spool.state(customer, id).is_ok() {
-        assert!(rt; 0 < spool.records(customer, id)?);
-        let mut record = ArrayVec::new();
-        spool.record_at(customer, id, 0, &mut record)?;
-        assert!(rt; 8 <= record.len());
-        assert!(rt; place <= record.len() - 8);
-    }
-    spool.rewrite(customer, id, 0, place, [0xE9; 8])
-}
-
 /// Reads a record on, and tells whether it is of so many bytes, each the same.
-pub fn reads_on<R: Abort>(
+pub fn reads<R: Abort>(
     rt: &R,
     spool: &mut Spool,
     customer: u16,
@@ -176,4 +99,25 @@ pub fn reads_on<R: Abort>(
     let mut record = ArrayVec::new();
     spool.read_on(customer, id, n, &mut record)?;
     Ok(record.as_slice() == &[byte; 256][..size])
+}
+
+/// Does a call with the file, or begins it, and stops where it gives something else.
+pub fn do_call<R: Abort>(
+    rt: &R,
+    spool: &mut Spool,
+    customer: u16,
+    id: FileId,
+    call: Call,
+) -> Result<(), SpoolFault> {
+    match call {
+        Call::Begin => assert_eq!(rt; begin(rt, spool, customer)?, id),
+        Call::Append(size, byte) => append(rt, spool, customer, id, (size, byte))?,
+        Call::Finish => finish(rt, spool, customer, id)?,
+        Call::Remove => remove(rt, spool, customer, id)?,
+        Call::Used(blocks) => assert_eq!(rt; used(rt, spool, customer), blocks),
+        Call::Read(n, size, byte) => {
+            assert!(rt; reads(rt, spool, customer, id, n, (size, byte))?, "{n}")
+        }
+    }
+    Ok(())
 }
