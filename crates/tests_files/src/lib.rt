@@ -2,4 +2,6 @@
 #![tactic(auto)]
 
 #[cfg(test)]
+mod spool_tests;
+#[cfg(test)]
 mod table_tests;
