@@ -1,0 +1,60 @@
+-- What the code's verdict on a record says.
+use Rattle.std.specs.Prelude.{◌≡◌, ℕ, Bool, true, false, List, Option, None, Result, Ok, Err, ◌==◌, not, ◌&&◌, slice_set}
+use Rattle.std.specs.Option.{option_map}
+use Rattle.njh_header.specs.Headers.{DataSetHeader, JobHeader}
+use Rattle.njh_header.specs.declared.fault.HeaderFault.{HeaderFault}
+use Rattle.njh_record.specs.Stored.{Stored}
+use Rattle.njh_record.specs.declared.Kind.{Kind}
+use Rattle.njh_record.specs.declared.Kind.TheVariants.{In, Out}
+use Rattle.njh_stream.specs.declared.receiver.After.{After}
+use Rattle.njh_stream.specs.declared.judging.Verdict.{Verdict}
+use Rattle.njh_stream.specs.declared.judging.Verdict.TheVariants.{Taken, Cancelled}
+use Rattle.njh_stream.specs.declared.receiver.Progress.{Progress}
+use Rattle.njh_stream.specs.declared.receiver.Progress.TheVariants.{Placed}
+use Rattle.njh_stream.specs.Transmissions as transmissions
+use Rattle.njh_spool.specs.CustomerSpool.{CustomerSpool, appended}
+use Rattle.njh_stream.specs.declared.receiver.Receiver.TheVariants.{Open}
+use Rattle.njh_stream.specs.Receiving.{Received, progress_of, cancelled, notice_of}
+
+abbrev pub said : Verdict → transmissions.Verdict
+said (Taken progress) = transmissions.Taken
+said (Cancelled text) = transmissions.Cancelled (option_map (λ t. t.items) text)
+
+-- a record of a placed file, by the file's node and the SRCB of the last record
+abbrev pub judged_placed : Kind → List ℕ → ℕ → ℕ → List ℕ → transmissions.Verdict
+judged_placed In node last srcb bytes = transmissions.Taken
+judged_placed Out node last srcb bytes =
+    elim ((srcb == 0xe0) && not (last == 0xe0)) [ true ↦ transmissions.judged_against node bytes | false ↦ transmissions.Taken ]
+
+-- where the record is taken, the file has come so far
+abbrev pub IsTakenAt : Verdict → Progress → Type 0
+IsTakenAt (Taken progress) expected = progress ≡ expected
+IsTakenAt (Cancelled text) expected = Unit {0}
+
+abbrev pub IsPlaced : Verdict → List ℕ → ℕ → Type 0
+IsPlaced verdict node last = IsTakenAt verdict (Placed node last)
+
+-- where a data set header is taken it reads, and says where the file goes
+abbrev pub IsHeaderPlaced : Verdict → Result DataSetHeader HeaderFault → ℕ → Type 0
+IsHeaderPlaced (Taken progress) (Ok h) srcb = (progress ≡ Placed h.destination.0 srcb) × (srcb ≡ 0xe0)
+IsHeaderPlaced (Taken progress) (Err fault) srcb = ⊥
+IsHeaderPlaced (Cancelled text) header srcb = Unit {0}
+
+-- where the record is taken, the file has come as far as its records with this one say
+abbrev pub IsProgress : Verdict → Kind → List Stored → Type 0
+IsProgress (Taken progress) kind records = progress ≡ progress_of kind records
+IsProgress (Cancelled text) kind records = Unit {0}
+
+-- a record that is taken, of a file with this job header, where the quota has room for it or not
+abbrev pub appended_where : Bool → ℕ → Progress → Option JobHeader → Stored → CustomerSpool → Received
+appended_where true n progress header r s =
+    record { receiver = Open n progress; spool = appended n r s; answer = None; notice = None }
+appended_where false n progress header r s =
+    cancelled n (notice_of (option_map (λ h. h.origin) header) (transmissions.full_text (option_map (λ h. (h.origin.0, h.number)) header))) s
+
+-- a step's outcome is as said: the stream, the answer, the notice, and the spool of customer c
+pub record IsAfter (after : After) (new old : List CustomerSpool) (c : ℕ) (done : Received) : Type 0 where
+  pub receiver : after.receiver ≡ done.receiver
+  pub answer : after.answer ≡ done.answer
+  pub notice : after.notice ≡ done.notice
+  pub spool : new ≡ slice_set old c done.spool

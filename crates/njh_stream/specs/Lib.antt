@@ -1,0 +1,9 @@
+pub mod Transmissions
+pub mod Receiving
+pub mod Sending
+pub mod SpoolFiles
+pub mod Judging
+pub mod Arrivals
+pub mod Routing
+pub mod Outcomes
+pub mod Following

@@ -1,0 +1,152 @@
+-- One arrival on a stream to the hub: the stream, the spool and the answer after it, and what the owner of the file is told.
+use Rattle.std.specs.Prelude.{◌≡◌, ℕ, Bool, true, false, List, [], ◌∷◌, ◌++◌, Option, Some, None, ◌==◌, ◌&&◌}
+use Rattle.std.specs.List.{list_all}
+use Rattle.njh_record.specs.Stored.{Stored, has_srcb}
+use Rattle.njh_record.specs.declared.Kind.{Kind}
+use Rattle.njh_record.specs.declared.Kind.TheVariants.{In, Out}
+use Rattle.njh_block.specs.declared.rcb.ControlRcb.{ControlRcb}
+use Rattle.njh_block.specs.declared.rcb.ControlRcb.TheVariants.{Permission, Refusal, Completion}
+use Rattle.njh_header.specs.FileHeaders.{owner_of, destination_of}
+use Rattle.njh_table.specs.Entries.{CustomerEntry}
+use Rattle.njh_spool.specs.CustomerSpool.{CustomerSpool, PartialFile, has_file_room, has_block, next_number, begun}
+use Rattle.njh_spool.specs.CustomerSpool.{partial_numbered, partial_records, appended, has_room_for, abandoned, finished}
+use Rattle.njh_stream.specs.declared.receiver.Progress.{Progress}
+use Rattle.njh_stream.specs.declared.receiver.Progress.TheVariants.{Beginning, JobHeader, Placed}
+use Rattle.njh_stream.specs.declared.receiver.Receiver.{Receiver}
+use Rattle.njh_stream.specs.declared.receiver.Receiver.TheVariants.{Idle, Open, Draining}
+use Rattle.njh_stream.specs.Transmissions.{Verdict, Taken, Cancelled, Fitting, judged_coming, is_whole}
+
+-- ---- what a stream keeps of a file that comes in
+
+abbrev pub last_srcb : List Stored → ℕ
+last_srcb [] = 0
+last_srcb (r ∷ []) = r.srcb
+last_srcb (r ∷ s ∷ rs) = last_srcb (s ∷ rs)
+
+abbrev pub placed : Kind → List Stored → Progress
+placed kind records =
+    Placed (elim (destination_of kind records) [ Some d ↦ d.0 | None ↦ [] ]) (last_srcb records)
+
+-- how far the file has come
+abbrev pub progress_of : Kind → List Stored → Progress
+progress_of kind [] = Beginning
+progress_of In (r ∷ rs) = placed In (r ∷ rs)
+progress_of Out (r ∷ rs) = elim (list_all (has_srcb 0xc0) (r ∷ rs)) [ true ↦ JobHeader | false ↦ placed Out (r ∷ rs) ]
+
+-- there is a partial file of this kind, and what is kept is what its records say
+abbrev pub AgreesWith : Kind → Progress → Option PartialFile → Type 0
+AgreesWith kind progress None = ⊥
+AgreesWith kind progress (Some f) = (f.kind ≡ kind) × (progress ≡ progress_of kind f.records)
+
+-- whether the last record that came is a trailer
+abbrev pub ends_whole : Progress → Bool
+ends_whole Beginning = false
+ends_whole JobHeader = false
+ends_whole (Placed node last) = last == 0xd0
+
+-- a stream that is open has a partial file of its kind, and keeps what that says
+abbrev pub Agrees : Kind → Receiver → CustomerSpool → Type 0
+Agrees kind Idle s = Unit {0}
+Agrees kind (Open n progress) s = AgreesWith kind progress (partial_numbered n s)
+Agrees kind Draining s = Unit {0}
+
+-- ---- one arrival
+
+-- What comes on a stream.
+pub data Arrival : Type 0 where
+  Request : Arrival
+  Data : (srcb : ℕ) → (bytes : List ℕ) → Arrival
+  Long : Arrival
+  Abort : Arrival
+
+-- What the owner of a file is told.
+pub record Notice : Type 0 where
+  pub whom : List ℕ × List ℕ  -- node and user
+  pub text : List ℕ
+
+-- After an arrival: the stream, the spool, the answer to the peer, and the notice.
+pub record Received : Type 0 where
+  pub receiver : Receiver
+  pub spool : CustomerSpool
+  pub answer : Option ControlRcb
+  pub notice : Option Notice
+
+-- SYSIN 1 to 4, then SYSOUT 1 to 4: the streams by their places
+abbrev pub without_open : Receiver → CustomerSpool → CustomerSpool
+without_open Idle s = s
+without_open (Open n progress) s = abandoned n s
+without_open Draining s = s
+
+-- a file is asked for, and the quota has room for one or not
+abbrev pub requested_where : Bool → Kind → CustomerSpool → Received
+requested_where true kind s =
+    record { receiver = Open (next_number s) Beginning; spool = begun kind s; answer = Some Permission; notice = None }
+requested_where false kind s = record { receiver = Idle; spool = s; answer = Some Refusal; notice = None }
+
+abbrev pub requested : Kind → CustomerSpool → Received
+requested kind s = requested_where (has_file_room s && has_block s) kind s
+
+-- a notice for the owner, where there is an owner and something to say
+abbrev pub notice_of : Option (List ℕ × List ℕ) → Option (List ℕ) → Option Notice
+notice_of None text = None
+notice_of (Some whom) None = None
+notice_of (Some whom) (Some text) = Some (record { whom = whom; text = text })
+
+-- the file is cancelled
+abbrev pub cancelled : ℕ → Option Notice → CustomerSpool → Received
+cancelled n notice s = record { receiver = Draining; spool = abandoned n s; answer = Some Refusal; notice = notice }
+
+-- a record for an open file, with which its records are these, by the verdict on it
+abbrev pub stored_by : Verdict → Kind → ℕ → Stored → List Stored → CustomerSpool → Received
+stored_by Taken kind n r more s =
+    record { receiver = Open n (progress_of kind more); spool = appended n r s; answer = None; notice = None }
+stored_by (Cancelled text) kind n r more s = cancelled n (notice_of (owner_of more) text) s
+
+abbrev pub stored : CustomerEntry → ℕ → Kind → ℕ → Stored → CustomerSpool → Received
+stored entry l kind n r s =
+    let earlier = partial_records n s in
+    stored_by (judged_coming entry l kind earlier (Fitting r (has_room_for n r s))) kind n r (earlier ++ r ∷ []) s
+
+-- the end of file, of a whole file or not
+abbrev pub closed_by : Bool → ℕ → CustomerSpool → Received
+closed_by true n s = record { receiver = Idle; spool = finished n s; answer = Some Completion; notice = None }
+closed_by false n s = record { receiver = Idle; spool = abandoned n s; answer = Some Refusal; notice = None }
+
+abbrev pub closed : ℕ → CustomerSpool → Received
+closed n s = closed_by (is_whole (partial_records n s)) n s
+
+abbrev pub unmoved : Receiver → CustomerSpool → Received
+unmoved receiver s = record { receiver = receiver; spool = s; answer = None; notice = None }
+
+abbrev pub received_open : CustomerEntry → ℕ → Kind → ℕ → Arrival → CustomerSpool → Received
+received_open entry l kind n Request s = requested kind (abandoned n s)
+received_open entry l kind n (Data srcb []) s = closed n s
+received_open entry l kind n (Data srcb (b ∷ bytes)) s = stored entry l kind n (record { srcb = srcb; bytes = b ∷ bytes }) s
+received_open entry l kind n Long s = cancelled n None s
+received_open entry l kind n Abort s = unmoved Idle (abandoned n s)
+
+-- nothing comes: all but requests is ignored
+abbrev pub received_idle : Kind → Arrival → CustomerSpool → Received
+received_idle kind Request s = requested kind s
+received_idle kind (Data srcb bytes) s = unmoved Idle s
+received_idle kind Long s = unmoved Idle s
+received_idle kind Abort s = unmoved Idle s
+
+-- the rest of a file that was given up goes by, up to its end
+abbrev pub received_draining : Kind → Arrival → CustomerSpool → Received
+received_draining kind Request s = requested kind s
+received_draining kind (Data srcb []) s = unmoved Idle s
+received_draining kind (Data srcb (b ∷ bytes)) s = unmoved Draining s
+received_draining kind Long s = unmoved Draining s
+received_draining kind Abort s = unmoved Idle s
+
+-- what an arrival on a line's stream does, of the stream's kind
+abbrev pub received : CustomerEntry → ℕ → Kind → Receiver → Arrival → CustomerSpool → Received
+received entry l kind Idle a s = received_idle kind a s
+received entry l kind (Open n progress) a s = received_open entry l kind n a s
+received entry l kind Draining a s = received_draining kind a s
+
+-- the open files of a line's streams are gone
+abbrev pub without_all_open : List Receiver → CustomerSpool → CustomerSpool
+without_all_open [] s = s
+without_all_open (r ∷ rs) s = without_all_open rs (without_open r s)

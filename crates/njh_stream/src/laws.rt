@@ -1,0 +1,39 @@
+//! Laws of the definitions. Each function does nothing: its contract is the law.
+
+ghost use Rattle.std.specs.Prelude.{◌≡◌, ℕ, true, ◌&&◌, List, map};
+ghost use Rattle.njh_record.specs.declared.Kind.{Kind};
+ghost use Rattle.njh_table.specs.Entries.{CustomerEntry};
+ghost use Rattle.njh_spool.specs.CustomerSpool.{CustomerSpool, abandoned, has_block, has_file_room, next_number};
+ghost use Rattle.njh_stream.specs.Following.{Moment, coming_at, followed, following_from, IsUntouched};
+ghost use Rattle.njh_stream.specs.Outcomes.{Becomes, Ending, Outcome, records_of};
+ghost use Rattle.njh_stream.specs.Receiving.{Arrival, Request, received, requested, without_open};
+ghost use Rattle.njh_stream.specs.Transmissions.{Coming};
+
+use crate::receiver::{Progress, Receiver};
+use njh_spool::next_number_is_least;
+
+/// Of the records that came and how it ended, a transmission becomes one thing and no other.
+pub fn one_outcome()
+    ensures some { (entry : CustomerEntry) (l : ℕ) (kind : Kind) (cs : List Coming) (ending : Ending)
+        → (outcome : Outcome) × Becomes entry l kind cs ending outcome }
+    ensures one { (entry : CustomerEntry) (l : ℕ) (kind : Kind) (cs : List Coming) (ending : Ending) (a b : Outcome)
+        → Becomes entry l kind cs ending a → Becomes entry l kind cs ending b → a ≡ b }
+{}
+
+/// A stream that is followed from a permitted request on, arrival by arrival, answers, tells and leaves what the whole
+/// list of its records becomes, however they are spread over blocks and whatever the customer's other streams do between.
+pub fn streams_end_so()
+    ensures ends { (entry : CustomerEntry) (l : ℕ) (kind : Kind) (s last : CustomerSpool) (ms : List Moment) (ending : Ending) (srcb : ℕ)
+        (outcome : Outcome) → (has_file_room s && has_block s) ≡ true
+        → IsUntouched entry l kind last (requested kind s).receiver (requested kind s).spool ms
+        → Becomes entry l kind (map (coming_at (next_number s)) ms) ending outcome
+        → followed entry l kind ending srcb last (requested kind s).receiver ms
+        ≡ following_from outcome (next_number s) kind (records_of (map (coming_at (next_number s)) ms)) last }
+    ensures dropped { (entry : CustomerEntry) (l : ℕ) (kind : Kind) (n : ℕ) (progress : Progress) (a : Arrival) (s : CustomerSpool)
+        → (received entry l kind (Receiver.Open n progress) a s).receiver ≡ Receiver.Draining
+        → (received entry l kind (Receiver.Open n progress) a s).spool ≡ abandoned n s }
+    ensures cut { (entry : CustomerEntry) (l : ℕ) (kind : Kind) (receiver : Receiver) (s : CustomerSpool)
+        → received entry l kind receiver Request s ≡ requested kind (without_open receiver s) }
+{
+    next_number_is_least();
+}

@@ -1,0 +1,23 @@
+//! Transmissions to the hub and from it (IBM SC23-0070, "Multileaving"): what comes on a stream becomes a file, and a
+//! file goes out record by record.
+#![tactic(auto)]
+
+mod arrival;
+mod ending;
+mod judging;
+mod laws;
+mod notice;
+mod receiver;
+mod routing;
+mod sender;
+mod spool_file;
+mod storing;
+
+pub use arrival::Arrival;
+pub use ending::{end_receivers, end_senders};
+pub use laws::{one_outcome, streams_end_so};
+pub use notice::Notice;
+pub use receiver::{Progress, Receiver, Step};
+pub use routing::{goes_by, retry_refused};
+pub use sender::Sender;
+pub use spool_file::SpoolFile;

@@ -1,0 +1,82 @@
+//! Which files go by a line.
+
+ghost use Rattle.std.specs.Prelude.{◌≡◌, ◌<◌, length, slice_set, Some, List};
+ghost use Rattle.njh_spool.specs.CustomerSpool.{WholeFile, whole_numbered};
+ghost use Rattle.njh_spool.specs.Spools.{part};
+ghost use Rattle.njh_table.specs.TableFile.{entry_of};
+ghost use Rattle.njh_stream.specs.Routing.{retried};
+ghost use Rattle.njh_stream.specs.Sending as sending;
+
+use crate::spool_file::SpoolFile;
+use njh_ebcdic::{FIELD, Name};
+use njh_header::destination_of;
+use njh_spool::{FileId, Spool, State};
+use njh_table::{Customer, Route};
+
+/// Whether a customer's whole file goes by a line: by the route of its destination's node.
+pub fn goes_by(entry: &Customer, line: u16, customer: u16, file: FileId, spool: &Spool) -> bool
+    requires { customer < length spool.now }
+    ensures { (f : WholeFile) → whole_numbered file (part customer spool.now) ≡ Some f → result
+        ≡ sending.goes_by (entry_of entry.now) line f }
+{
+    let Ok(kind) = spool.kind(customer, file) else {
+        return false;
+    };
+    let records = SpoolFile::of(spool, customer, file);
+    match destination_of(&records, kind) {
+        Some(destination) => node_goes_by(entry, line, &destination.node),
+        None => false,
+    }
+}
+
+/// Whether a node's route is a line.
+fn node_goes_by(entry: &Customer, line: u16, node: &[u8; FIELD]) -> bool
+    ensures { result ≡ sending.node_goes_by (entry_of entry.now) line node.now }
+{
+    match Name::of_field(node) {
+        Ok(node) => is_line(entry.route(node), line),
+        Err(_) => false,
+    }
+}
+
+fn is_line(route: Route, line: u16) -> bool
+    ensures { result ≡ sending.is_line line route }
+{
+    match route {
+        Route::Line(number) => number == line,
+        Route::Here | Route::Unknown => false,
+    }
+}
+
+/// Whether a whole file was refused and goes by a line.
+fn may_go_again(entry: &Customer, line: u16, customer: u16, file: FileId, spool: &Spool) -> bool
+    requires { customer < length spool.now }
+    ensures { result ≡ sending.holds_of (sending.may_go_again (entry_of entry.now) line) (whole_numbered file (part customer spool.now)) }
+{
+    match spool.state(customer, file) {
+        Ok(State::Refused) => goes_by(entry, line, customer, file, spool),
+        Ok(State::Ready | State::Held | State::Sending) | Err(_) => false,
+    }
+}
+
+/// The files that were refused and go by a line are Ready again.
+pub fn retry_refused(entry: &Customer, line: u16, customer: u16, spool: &mut Spool)
+    requires { customer < length spool.old }
+    ensures { spool.new ≡ slice_set spool.old customer (sending.tried_again (entry_of entry.now) line (part customer spool.old)) }
+{
+    for index in 0..spool.files(customer) {
+        spool.quota_holds(customer);
+        let file = spool.file_at(customer, index);
+        retry_file(entry, line, customer, file, spool);
+    }
+}
+
+/// A file that was refused and goes by a line is Ready again.
+fn retry_file(entry: &Customer, line: u16, customer: u16, file: FileId, spool: &mut Spool)
+    requires { customer < length spool.old }
+    ensures { spool.new ≡ slice_set spool.old customer (retried (entry_of entry.now) line file (part customer spool.old)) }
+{
+    if may_go_again(entry, line, customer, file, spool) {
+        spool.set_state(customer, file, State::Ready).ok();
+    }
+}

@@ -1,0 +1,135 @@
+//! A record comes for a file that is open.
+
+ghost use Rattle.std.specs.Prelude.{◌≡◌, ◌<◌, ◌≤◌, ◌++◌, ◌∷◌, [], length, slice_set, IsSome, Some};
+ghost use Rattle.std.specs.Option.{option_map};
+ghost use Rattle.njh_header.specs.FileHeaders as headers;
+ghost use Rattle.njh_record.specs.Stored.{Stored};
+ghost use Rattle.njh_spool.specs.CustomerSpool.{has_room_for, partial_numbered};
+ghost use Rattle.njh_spool.specs.Spools.{part};
+ghost use Rattle.njh_table.specs.TableFile.{entry_of};
+ghost use Rattle.njh_stream.specs.Judging.{appended_where, IsAfter};
+ghost use Rattle.njh_stream.specs.Receiving.{AgreesWith, cancelled, notice_of, stored};
+ghost use Rattle.njh_stream.specs.Transmissions as transmissions;
+
+use crate::judging::{Verdict, judge};
+use crate::notice::Notice;
+use crate::receiver::{After, Progress, Receiver};
+use crate::spool_file::SpoolFile;
+use njh_block::ControlRcb;
+use njh_header::{FileRecords, JobHeader, MessageText, job_header_of, spool_full, srcb};
+use njh_record::Kind;
+use njh_spool::{FileId, Spool};
+use njh_table::Customer;
+
+/// A record with bytes for an open file is judged first and stored last.
+pub(crate) fn store(
+    customer: u16,
+    entry: &Customer,
+    line: u16,
+    kind: Kind,
+    file: FileId,
+    progress: Progress,
+    srcb: u8,
+    bytes: &[u8],
+    spool: &mut Spool,
+) -> After
+    requires range { customer < length spool.old }
+    requires short { length bytes.now ≤ 256 }
+    requires agrees { AgreesWith kind progress (partial_numbered file (part customer spool.old)) }
+    ensures { IsAfter result spool.new spool.old customer
+        (stored (entry_of entry.now) line kind file (record { srcb = srcb; bytes = bytes.now }) (part customer spool.old)) }
+{
+    spool.quota_holds(customer);
+    let records = SpoolFile::of(spool, customer, file);
+    let verdict = judge(entry, line, kind, &records, progress, srcb, bytes);
+    let header = header_with(&records, srcb, bytes);
+    match verdict {
+        Verdict::Cancelled(text) => cancel(customer, file, header, text, spool),
+        Verdict::Taken(progress) => { append(customer, file, progress, header, srcb, bytes, spool) }
+    }
+}
+
+/// A record that is taken goes to its file, where the quota has room for it.
+fn append(
+    customer: u16,
+    file: FileId,
+    progress: Progress,
+    header: Option<JobHeader>,
+    srcb: u8,
+    bytes: &[u8],
+    spool: &mut Spool,
+) -> After
+    requires range { customer < length spool.old }
+    requires short { length bytes.now ≤ 256 }
+    requires there { IsSome (partial_numbered file (part customer spool.old)) }
+    ensures { let r : Stored = record { srcb = srcb; bytes = bytes.now } in IsAfter result spool.new spool.old customer
+        (appended_where (has_room_for file r (part customer spool.old)) file progress header r (part customer spool.old)) }
+{
+    match spool.append(customer, file, srcb, bytes) {
+        Ok(()) => After {
+            receiver: Receiver::Open { file, progress },
+            answer: None,
+            notice: None,
+        },
+        Err(_) => {
+            let text = full_text(&header);
+            cancel(customer, file, header, text, spool)
+        }
+    }
+}
+
+/// NJH021 for a file with this job header.
+fn full_text(header: &Option<JobHeader>) -> Option<MessageText>
+    ensures { option_map (λ t. t.items) result ≡ transmissions.full_text (option_map (λ h. (h.origin.0, h.number)) header.now) }
+{
+    match header {
+        Some(header) => Some(spool_full(header.file_name())),
+        None => None,
+    }
+}
+
+/// The job header of a file with a record more.
+fn header_with(file: &SpoolFile<'_>, srcb: u8, bytes: &[u8]) -> Option<JobHeader>
+    ensures { result ≡ headers.job_header_of (file.now ++ record { srcb = srcb; bytes = bytes.now } ∷ []) }
+{
+    if file.count() > 0 {
+        return job_header_of(file);
+    }
+    if srcb == srcb::JOB_HEADER {
+        JobHeader::read(bytes).ok()
+    } else {
+        None
+    }
+}
+
+/// The file is given up, and its owner is told this, where there is an owner and something to say.
+pub(crate) fn cancel(
+    customer: u16,
+    file: FileId,
+    header: Option<JobHeader>,
+    text: Option<MessageText>,
+    spool: &mut Spool,
+) -> After
+    requires { customer < length spool.old }
+    ensures { IsAfter result spool.new spool.old customer
+        (cancelled file (notice_of (option_map (λ h. h.origin) header) (option_map (λ t. t.items) text)) (part customer spool.old)) }
+{
+    spool.abandon(customer, file).ok();
+    After {
+        receiver: Receiver::Draining,
+        answer: Some(ControlRcb::Refusal),
+        notice: notice(header, text),
+    }
+}
+
+/// A text for the owner of a file.
+fn notice(header: Option<JobHeader>, text: Option<MessageText>) -> Option<Notice>
+    ensures { result ≡ notice_of (option_map (λ h. h.origin) header) (option_map (λ t. t.items) text) }
+{
+    let owner = header?.owner();
+    Some(Notice {
+        node: owner.node,
+        user: owner.user,
+        text: text?,
+    })
+}
