@@ -1,9 +1,8 @@
 -- A script read line by line.
-use Rattle.std.proofs.Common.{◌≡◌, ℕ, ◌+◌, ◌<◌, ◌≤◌, Bool, true, false, not, cond, eqb, ltb, List, [], ◌∷◌, ◌++◌}
+use Rattle.std.proofs.Common.{◌≡◌, ℕ, ◌+◌, ◌<◌, ◌≤◌, true, false, not, eqb, List, [], ◌∷◌, ◌++◌}
 use Rattle.std.proofs.Common.{length, get_or, take, Option, Some, None, Ok, Err, refl, sym, ap, ◌∙◌, subst, arith, inl}
-use Rattle.std.proofs.Common.{inr, ◌⊎◌}
-use Rattle.std.specs.List.{position, position_or_len, filter_map, cons_option}
-use Rattle.std.specs.Option.{option_map}
+use Rattle.std.proofs.Common.{inr}
+use Rattle.std.specs.List.{position_or_len, filter_map, cons_option}
 use Rattle.std.proofs.lemmas.Bool.{cases_eq, lt-ltb, le-ltb}
 use Rattle.std.proofs.lemmas.List.{take_more, take_all, get_or_read, append-nil}
 use Rattle.std.proofs.lemmas.List.Elements.{filter_map-append}
@@ -11,8 +10,8 @@ use Rattle.std.proofs.lemmas.List.Splits.{length-slice_split}
 use Rattle.std.proofs.lemmas.List.Sums.{position_or_len_is, count_by-le-length}
 use Rattle.njh_table.specs.declared.LineId.{LineId}
 use Rattle.njh_hub.specs.declared.event.Event.{Event}
-use Rattle.njh_program.specs.Script.{lines_of, is_skipped, event_of, can_stand, event_in, events_of, first_bad}
-use Rattle.njh_program.specs.Script.{events_or_bad, script_of_lines}
+use Rattle.njh_program.specs.Script.{lines_of, is_skipped, event_of, can_stand, event_in, events_of}
+use Rattle.njh_program.specs.Script.{script_of_lines}
 
 -- there is at most one line more than the text has bytes
 pub length-lines_of : (text : List ℕ) → length (lines_of text) ≤ length text + 1

@@ -19,7 +19,8 @@ no_file-numbered n s free =
 abbrev new_file : Kind → CustomerSpool → PartialFile
 new_file kind s = record { number = next_number s; kind = kind; records = [] }
 
-numbered-begun : (n : ℕ) (kind : Kind) (s : CustomerSpool) → files_numbered n (begun kind s) ≡ files_numbered n s + cond (eqb (next_number s) n) 1 0
+numbered-begun : (n : ℕ) (kind : Kind) (s : CustomerSpool) → files_numbered n (begun kind s) ≡ files_numbered n s + cond
+    (eqb (next_number s) n) 1 0
 numbered-begun n kind s = omega (arith, sum_by_push (λ f. cond (is_partial n f) 1 0) s.partial (new_file kind s))
 
 pub used-begun : (kind : Kind) (s : CustomerSpool) → used (begun kind s) ≡ used s

@@ -1,66 +1,44 @@
 -- What each call on a customer's file makes of the spool.
-use Rattle.std.proofs.Common.{◌≡◌, ℕ, zero, suc, ◌+◌, ◌-◌, ◌*◌, ◌/◌, ◌<◌, ◌≤◌, Bool, true, false, not, eqb, List, [], ◌∷◌, ◌++◌, length, length-append, get_or, set, take, filter, sum_by, Option, Some, None, refl, sym, ap, subst, ◌∙◌, arith}
-use Rattle.std.specs.Prelude.{All, slice_get, IsSomeAnd}
+use Rattle.std.proofs.Common.{◌≡◌, ℕ, ◌+◌, ◌-◌, ◌*◌, ◌/◌, ◌<◌, ◌≤◌, true, false, not, eqb, List, [], ◌∷◌, ◌++◌, length}
+use Rattle.std.proofs.Common.{set, take, filter, refl, sym, ap, subst, ◌∙◌, arith}
+use Rattle.std.specs.Prelude.{slice_get, IsSomeAnd}
 use Rattle.std.proofs.lemmas.List.{set-get_or}
-use Rattle.std.proofs.lemmas.List.Sums.{sum_by-set, sum_by-cons}
 use Rattle.njh_record.specs.Stored.{Stored}
 use Rattle.njh_record.specs.Bytes.{with_field}
 use Rattle.njh_record.specs.declared.Kind.{Kind}
 use Rattle.njh_spool.specs.declared.State.{State}
 use Rattle.njh_spool.specs.declared.State.TheVariants.{Ready}
-use Rattle.njh_spool.specs.declared.SpoolFault.TheVariants.{QuotaFull, NoSuchFile}
 use Rattle.njh_spool.specs.declared.file_slot.Stage.{Stage}
-use Rattle.njh_spool.specs.declared.file_slot.Stage.TheVariants.{Free, Partial, Whole}
+use Rattle.njh_spool.specs.declared.file_slot.Stage.TheVariants.{Partial, Whole}
 use Rattle.njh_spool.specs.declared.file_slot.FileSlot.{FileSlot}
 use Rattle.njh_spool.specs.declared.file_slot.RecordPlace.{RecordPlace}
 use Rattle.njh_spool.specs.declared.customer_files.CustomerFiles.{CustomerFiles}
-use Rattle.njh_spool.specs.Chains.{Chain, StoreValue, empty_chain, chain_at, with_chain, blocks_of, blocks_used}
-use Rattle.njh_spool.specs.CustomerSpool.{CustomerSpool, WholeFile, cost, used, stored_size, next_number, partial_numbered, whole_numbered, begun, appended, abandoned, finished, removed, on_file, with_state, rewritten, at_index, rewritten_record}
-use Rattle.njh_spool.specs.Spools.{part, no_spool, append_fault, kind_numbered, records_numbered}
+use Rattle.njh_spool.specs.Chains.{Chain, StoreValue, empty_chain, with_chain, blocks_of}
+use Rattle.njh_spool.specs.CustomerSpool.{CustomerSpool, cost, stored_size, next_number}
+use Rattle.njh_spool.specs.CustomerSpool.{begun, appended, abandoned, finished, removed, with_state, rewritten}
+use Rattle.njh_spool.specs.CustomerSpool.{at_index, rewritten_record}
+use Rattle.njh_spool.specs.Spools.{part}
 use Rattle.njh_spool.specs.Packing.{packed_record, packed, unpacked, IsShort}
-use Rattle.njh_spool.specs.Slots.{Content, content, contents, slot_of, chain_of, free_slot, no_files, is_free, is_partial, is_whole, whole_file, partial_file, spool_of, spools_of, IsPlace, IsOwn, IsFile, IsKept}
-use Rattle.njh_spool.proofs.CostLaws.{cost_push, cost-rewritten, stored_size-rewritten}
-use Rattle.njh_spool.proofs.IndexLaws.{put, put_again, at_is, small_used}
-use Rattle.njh_spool.proofs.KeptLaws.{own_of, HasOwn, has_own, Moves, moves, stays, used_all}
+use Rattle.njh_spool.specs.Slots.{Content, content, contents, slot_of, chain_of, free_slot, no_files, is_free, is_partial, is_whole}
+use Rattle.njh_spool.specs.Slots.{whole_file, spool_of, spools_of, IsPlace, IsOwn, IsFile, IsKept}
+use Rattle.njh_spool.proofs.CostLaws.{cost-rewritten, stored_size-rewritten}
+use Rattle.njh_spool.proofs.IndexLaws.{put, put_again, at_is}
+use Rattle.njh_spool.proofs.KeptLaws.{own_of, HasOwn, Moves, moves}
 use Rattle.njh_spool.proofs.FileLaws.{records_are, file_of, first_place, appended-records, appended-file, size_is}
-use Rattle.njh_spool.proofs.ReadLaws.{has_file, has_no_file, partial_stage as stage_of, whole_not_partial as not_partial_of}
-use Rattle.njh_spool.proofs.PackingLaws.{length-packed_record, length-packed, length-unpacked}
+use Rattle.njh_spool.proofs.ReadLaws.{partial_stage as stage_of, whole_not_partial as not_partial_of}
+use Rattle.njh_spool.proofs.PackingLaws.{length-packed, length-unpacked}
 use Rattle.njh_spool.proofs.RewriteLaws.{packed-at_index, short-at_index, length-at_index, places-at_index}
 use Rattle.njh_spool.proofs.SlotLaws.{whole_from}
 use Rattle.njh_spool.proofs.PartialLaws as partial
 use Rattle.njh_spool.proofs.WholeLaws as whole
 use Rattle.njh_spool.proofs.BeginLaws as begin
+use Rattle.njh_spool.proofs.CallFinds as finds
+use Rattle.njh_spool.proofs.CallFinds.{not_free-partial}
 
--- where a call finds no partial file
-pub record FindsNoPartial (spools : List CustomerSpool) (c n : ℕ) : Type 0 where
-  pub none : partial_numbered n (part c spools) ≡ None
-  pub appends : (r : Stored) → append_fault n r (part c spools) ≡ Some NoSuchFile
-  pub abandons : spools ≡ set spools c (abandoned n (part c spools))
-  pub finishes : spools ≡ set spools c (finished n (part c spools))
-
--- where it finds no whole one
-pub record FindsNoWhole (spools : List CustomerSpool) (c n : ℕ) : Type 0 where
-  pub none : whole_numbered n (part c spools) ≡ None
-  pub removes : spools ≡ set spools c (removed n (part c spools))
-  pub changes : (change : WholeFile → WholeFile) → spools ≡ set spools c (on_file n change (part c spools))
-
-not_free-partial : (stage : Stage) → is_partial stage ≡ true → is_free stage ≡ false
-not_free-partial Free e = cc
-not_free-partial Partial e = refl
-not_free-partial (Whole state) e = refl
-
-not_free-whole : (stage : Stage) → is_whole stage ≡ true → is_free stage ≡ false
-not_free-whole Free e = cc
-not_free-whole Partial e = refl
-not_free-whole (Whole state) e = refl
-
-few_records : (records : List Stored) → length records ≤ stored_size records
-few_records [] = omega arith
-few_records (r ∷ records) = omega (arith, few_records records, sum_by-cons (λ (x : Stored). 3 + length x.bytes) r records)
-
-module _ (store : StoreValue) (slots : List FileSlot) (customers : List CustomerFiles) (c n : ℕ) (kept : IsKept store slots customers) (inside : c < length (spools_of customers (contents slots store.chains))) where
-  pub has : HasOwn store slots customers c
-  has = has_own store slots customers c kept inside
+module _ (store : StoreValue) (slots : List FileSlot) (customers : List CustomerFiles) (c n : ℕ)
+    (kept : IsKept store slots customers) (inside : c < length (spools_of customers (contents slots store.chains))) where
+  has : HasOwn store slots customers c
+  has = finds.has store slots customers c n kept inside
 
   abbrev spools : List CustomerSpool
   spools = spools_of customers (contents slots store.chains)
@@ -77,31 +55,14 @@ module _ (store : StoreValue) (slots : List FileSlot) (customers : List Customer
   abbrev chain : Chain
   chain = chain_of store.chains c n
 
-  pub blocks_are : blocks_of chain.bytes ≡ cost (files n).records
-  blocks_are = ap (λ (size : ℕ). (size + 251) / 252) (size_is slot chain (kept.files c n))
-
-  pub finds_no_partial : is_partial slot.stage ≡ false → FindsNoPartial spools c n
-  finds_no_partial other =
-      let no = partial.has_no_partial own files n has.own other in
-      record {
-        none = ap (partial_numbered n) has.part ∙ no.none;
-        appends = λ r. ap (append_fault n r) has.part ∙ no.appends r;
-        abandons = stays customers (contents slots store.chains) c (abandoned n (part c spools)) (has.part ∙ sym no.abandons ∙ ap (abandoned n) (sym has.part));
-        finishes = stays customers (contents slots store.chains) c (finished n (part c spools)) (has.part ∙ sym no.finishes ∙ ap (finished n) (sym has.part));
-      }
-
-  pub finds_no_whole : is_whole slot.stage ≡ false → FindsNoWhole spools c n
-  finds_no_whole other =
-      let no = whole.has_no_whole own files n has.own other in
-      record {
-        none = ap (whole_numbered n) has.part ∙ no.none;
-        removes = stays customers (contents slots store.chains) c (removed n (part c spools)) (has.part ∙ sym no.removes ∙ ap (removed n) (sym has.part));
-        changes = λ change. stays customers (contents slots store.chains) c (on_file n change (part c spools)) (has.part ∙ sym (no.changes change) ∙ ap (on_file n change) (sym has.part));
-      }
+  blocks_are : blocks_of chain.bytes ≡ cost (files n).records
+  blocks_are = finds.blocks_are store slots customers c n kept inside
 
   store_same : n < 1024 → with_chain (1024 * c + n) chain store ≡ store
   store_same small =
-      ap (λ (chains : List Chain). record store { chains = chains }) (ap (set store.chains (1024 * c + n)) (at_is store.chains empty_chain c n small) ∙ set-get_or store.chains (1024 * c + n) empty_chain)
+      ap (λ (chains : List Chain). record store { chains = chains })
+      (ap (set store.chains (1024 * c + n)) (at_is store.chains empty_chain c n small) ∙ set-get_or store.chains
+      (1024 * c + n) empty_chain)
 
   customers_same : set customers c own ≡ customers
   customers_same = set-get_or customers c no_files
@@ -109,85 +70,133 @@ module _ (store : StoreValue) (slots : List FileSlot) (customers : List Customer
   slots_same : n < 1024 → set slots (1024 * c + n) slot ≡ slots
   slots_same small = ap (set slots (1024 * c + n)) (at_is slots free_slot c n small) ∙ set-get_or slots (1024 * c + n) free_slot
 
-  pub chain_is : n < 1024 → chain_at (1024 * c + n) store ≡ chain
-  chain_is small = sym (at_is store.chains empty_chain c n small)
-
   -- a call that leaves the customer's file with this slot and this chain, and the customer with these lists
-  goes : (call : CustomerSpool → CustomerSpool) (slot' : FileSlot) (chain' : Chain) (own' : CustomerFiles) → n < 1024 → own'.quota ≡ own.quota → blocks_of chain'.bytes + own.used ≡ blocks_of chain.bytes + own'.used → IsFile slot' chain' → IsOwn own' (put files n (content slot' chain')) × (spool_of own' (put files n (content slot' chain')) ≡ call (spool_of own files)) → Moves store slots customers (with_chain (1024 * c + n) chain' store) (set slots (1024 * c + n) slot') (set customers c own') c (call (part c spools))
+  goes : (call : CustomerSpool → CustomerSpool) (slot' : FileSlot) (chain' : Chain) (own' : CustomerFiles) → n < 1024 →
+      own'.quota ≡ own.quota → blocks_of chain'.bytes + own.used ≡ blocks_of chain.bytes + own'.used → IsFile slot' chain' →
+      IsOwn own' (put files n (content slot' chain')) × (spool_of own' (put files n (content slot' chain')) ≡ call
+      (spool_of own files)) → Moves store slots customers (with_chain (1024 * c + n) chain' store)
+      (set slots (1024 * c + n) slot') (set customers c own') c (call (part c spools))
   goes call slot' chain' own' small quota blocks file owns =
-      moves store slots customers c n slot' chain' own' kept has small (call (part c spools)) quota blocks file (owns.0, owns.1 ∙ ap call (sym has.part))
+      moves store slots customers c n slot' chain' own' kept has small (call (part c spools)) quota blocks file
+      (owns.0, owns.1 ∙ ap call (sym has.part))
 
-  empty_file : (slot' : FileSlot) (keys : List ℕ) → slot'.count ≡ 0 → slot'.next ≡ record { record_index = 0; place = 0; mark = record { block = 0; key = 0 } } → IsFile slot' (record { keys = keys; bytes = [] })
+  empty_file : (slot' : FileSlot) (keys : List ℕ) → slot'.count ≡ 0 → slot'.next ≡ record {
+    record_index = 0;
+    place = 0;
+    mark =
+        record { block = 0; key = 0 };
+  } → IsFile slot' (record { keys = keys; bytes = [] })
   empty_file slot' keys none first =
-      file_of [] slot' (record { keys = keys; bytes = [] }) (λ k d within. absurd (omega arith)) none refl (λ _. none) (omega arith) (first_place [] keys slot'.next first)
+      file_of [] slot' (record { keys = keys; bytes = [] }) (λ k d within. absurd (omega arith)) none refl (λ _. none)
+      (omega arith) (first_place [] keys slot'.next first)
 
-  pub abandons : (slot' : FileSlot) (own' : CustomerFiles) → is_partial slot.stage ≡ true → slot' ≡ free_slot → own' ≡ record own { used = own.used - blocks_of chain.bytes; partial = filter (λ m. not (eqb m n)) own.partial } → n < 1024 → Moves store slots customers (with_chain (1024 * c + n) empty_chain store) (set slots (1024 * c + n) slot') (set customers c own') c (abandoned n (part c spools))
+  pub abandons : (slot' : FileSlot) (own' : CustomerFiles) → is_partial slot.stage ≡ true → slot' ≡ free_slot →
+      own' ≡ record own { used = own.used - blocks_of chain.bytes; partial = filter (λ m. not (eqb m n)) own.partial } →
+      n < 1024 → Moves store slots customers (with_chain (1024 * c + n) empty_chain store) (set slots (1024 * c + n) slot')
+      (set customers c own') c (abandoned n (part c spools))
   abandons slot' own' there free owns small =
       let stage = stage_of slot.stage there in
       let enough = partial.covered own files n has.own stage in
       let now = owns ∙ ap (λ (b : ℕ). record own { used = own.used - b; partial = filter (λ m. not (eqb m n)) own.partial }) blocks_are in
       let left : own'.used ≡ own.used - cost (files n).records = ap (λ (o : CustomerFiles). o.used) now in
-      goes (abandoned n) slot' empty_chain own' small (ap (λ (o : CustomerFiles). o.quota) owns) (omega (arith, left, enough, blocks_are)) (empty_file slot' [] (ap (λ (x : FileSlot). x.count) free) (ap (λ (x : FileSlot). x.next) free))
+      goes (abandoned n) slot' empty_chain own' small (ap (λ (o : CustomerFiles). o.quota) owns)
+      (omega (arith, left, enough, blocks_are)) (empty_file slot' [] (ap (λ (x : FileSlot). x.count) free)
+      (ap (λ (x : FileSlot). x.next) free))
       (partial.abandons own files n has.own stage (content slot' empty_chain) own' (ap (λ (x : FileSlot). x.stage) free) now)
 
-  pub removes : (slot' : FileSlot) (own' : CustomerFiles) → is_whole slot.stage ≡ true → slot' ≡ free_slot → own' ≡ record own { used = own.used - blocks_of chain.bytes; whole = filter (λ m. not (eqb m n)) own.whole } → n < 1024 → Moves store slots customers (with_chain (1024 * c + n) empty_chain store) (set slots (1024 * c + n) slot') (set customers c own') c (removed n (part c spools))
+  pub removes : (slot' : FileSlot) (own' : CustomerFiles) → is_whole slot.stage ≡ true → slot' ≡ free_slot →
+      own' ≡ record own { used = own.used - blocks_of chain.bytes; whole = filter (λ m. not (eqb m n)) own.whole } → n < 1024 →
+      Moves store slots customers (with_chain (1024 * c + n) empty_chain store) (set slots (1024 * c + n) slot')
+      (set customers c own') c (removed n (part c spools))
   removes slot' own' there free owns small =
       let other = not_partial_of slot.stage there in
       let enough = whole.covered own files n has.own there other in
       let now = owns ∙ ap (λ (b : ℕ). record own { used = own.used - b; whole = filter (λ m. not (eqb m n)) own.whole }) blocks_are in
       let left : own'.used ≡ own.used - cost (files n).records = ap (λ (o : CustomerFiles). o.used) now in
-      goes (removed n) slot' empty_chain own' small (ap (λ (o : CustomerFiles). o.quota) owns) (omega (arith, left, enough, blocks_are)) (empty_file slot' [] (ap (λ (x : FileSlot). x.count) free) (ap (λ (x : FileSlot). x.next) free))
+      goes (removed n) slot' empty_chain own' small (ap (λ (o : CustomerFiles). o.quota) owns)
+      (omega (arith, left, enough, blocks_are)) (empty_file slot' [] (ap (λ (x : FileSlot). x.count) free)
+      (ap (λ (x : FileSlot). x.next) free))
       (whole.removes own files n has.own there other (content slot' empty_chain) own' (ap (λ (x : FileSlot). x.stage) free) now)
 
   -- the file has another stage, and is not free
   restaged : (stage : Stage) → is_free stage ≡ false → IsFile (record slot { stage = stage }) chain
   restaged stage used' =
       let file = kept.files c n in
-      record { bytes = file.bytes; short = file.short; free = λ free. absurd (let clash : false ≡ true = sym used' ∙ free in cc); small = file.small; next = file.next }
+      record {
+        bytes = file.bytes;
+        short = file.short;
+        free = λ free. absurd (let clash : false ≡ true = sym used'
+            ∙ free in cc);
+        small = file.small;
+        next = file.next;
+      }
 
-  pub finishes : (own' : CustomerFiles) → is_partial slot.stage ≡ true → own' ≡ record own { whole = own.whole ++ n ∷ []; partial = filter (λ m. not (eqb m n)) own.partial } → n < 1024 → Moves store slots customers store (set slots (1024 * c + n) (record slot { stage = Whole Ready })) (set customers c own') c (finished n (part c spools))
+  pub finishes : (own' : CustomerFiles) → is_partial slot.stage ≡ true →
+      own' ≡ record own { whole = own.whole ++ n ∷ []; partial = filter (λ m. not (eqb m n)) own.partial } → n < 1024 →
+      Moves store slots customers store (set slots (1024 * c + n) (record slot { stage = Whole Ready })) (set customers c own')
+      c (finished n (part c spools))
   finishes own' there owns small =
       let stage = stage_of slot.stage there in
       let slot' : FileSlot = record slot { stage = Whole Ready } in
       let blocks = ap (λ (o : CustomerFiles). o.used) owns in
-      subst (λ (t : StoreValue). Moves store slots customers t (set slots (1024 * c + n) slot') (set customers c own') c (finished n (part c spools))) (store_same small)
+      subst (λ (t : StoreValue). Moves store slots customers t (set slots (1024 * c + n) slot') (set customers c own') c
+      (finished n (part c spools))) (store_same small)
       (goes (finished n) slot' chain own' small (ap (λ (o : CustomerFiles). o.quota) owns) (omega arith) (restaged (Whole Ready) refl)
       (partial.finishes own files n has.own stage (content slot' chain) own' refl owns))
 
-  pub restates : (state : State) → is_whole slot.stage ≡ true → n < 1024 → Moves store slots customers store (set slots (1024 * c + n) (record slot { stage = Whole state })) customers c (with_state n state (part c spools))
+  pub restates : (state : State) → is_whole slot.stage ≡ true → n < 1024 → Moves store slots customers store
+      (set slots (1024 * c + n) (record slot { stage = Whole state })) customers c (with_state n state (part c spools))
   restates state there small =
       let slot' : FileSlot = record slot { stage = Whole state } in
       let other = not_partial_of slot.stage there in
-      subst (λ (os : List CustomerFiles). Moves store slots customers store (set slots (1024 * c + n) slot') os c (with_state n state (part c spools))) customers_same
-      (subst (λ (t : StoreValue). Moves store slots customers t (set slots (1024 * c + n) slot') (set customers c own) c (with_state n state (part c spools))) (store_same small)
+      subst (λ (os : List CustomerFiles). Moves store slots customers store (set slots (1024 * c + n) slot') os c
+      (with_state n state (part c spools))) customers_same
+      (subst (λ (t : StoreValue). Moves store slots customers t (set slots (1024 * c + n) slot') (set customers c own) c
+      (with_state n state (part c spools))) (store_same small)
       (goes (with_state n state) slot' chain own small refl refl (restaged (Whole state) refl)
       (whole.changes own files n has.own there other (λ x. record x { state = state }) (content slot' chain) refl refl refl refl)))
 
   -- another record is read on next
-  pub reads_on : (next : RecordPlace) → is_free slot.stage ≡ false → IsPlace (files n).records chain.keys next → n < 1024 → Moves store slots customers store (set slots (1024 * c + n) (record slot { next = next })) customers c (part c spools)
+  pub reads_on : (next : RecordPlace) → is_free slot.stage ≡ false → IsPlace (files n).records chain.keys next → n < 1024 →
+      Moves store slots customers store (set slots (1024 * c + n) (record slot { next = next })) customers c (part c spools)
   reads_on next used' place small =
       let slot' : FileSlot = record slot { next = next } in
       let file = kept.files c n in
-      subst (λ (os : List CustomerFiles). Moves store slots customers store (set slots (1024 * c + n) slot') os c (part c spools)) customers_same
-      (subst (λ (t : StoreValue). Moves store slots customers t (set slots (1024 * c + n) slot') (set customers c own) c (part c spools)) (store_same small)
+      subst (λ (os : List CustomerFiles). Moves store slots customers store (set slots (1024 * c + n) slot') os c
+      (part c spools)) customers_same
+      (subst (λ (t : StoreValue). Moves store slots customers t (set slots (1024 * c + n) slot') (set customers c own) c
+      (part c spools)) (store_same small)
       (goes (λ (s : CustomerSpool). s) slot' chain own small refl refl
       (record { bytes = file.bytes; short = file.short; free = file.free; small = file.small; next = place })
       (subst (λ (fs : ℕ → Content). IsOwn own fs) (sym (put_again files n)) has.own, ap (spool_of own) (put_again files n))))
 
-  pub begins : (kind : Kind) (slot' : FileSlot) (own' : CustomerFiles) → length own.whole + length own.partial < own.limit → n ≡ next_number (spool_of own files) → is_free slot.stage ≡ true → slot' ≡ record free_slot { stage = Partial; kind = kind } → own' ≡ record own { partial = own.partial ++ n ∷ [] } → n < 1024 → Moves store slots customers store (set slots (1024 * c + n) slot') (set customers c own') c (begun kind (part c spools))
+  pub begins : (kind : Kind) (slot' : FileSlot) (own' : CustomerFiles) → length own.whole + length own.partial < own.limit →
+      n ≡ next_number (spool_of own files) → is_free slot.stage ≡ true → slot' ≡ record free_slot {
+        stage = Partial;
+        kind =
+            kind;
+      } → own' ≡ record own { partial = own.partial ++ n ∷ [] } → n < 1024 → Moves store slots customers store
+      (set slots (1024 * c + n) slot') (set customers c own') c (begun kind (part c spools))
   begins kind slot' own' room next free is owns small =
       let file = kept.files c n in
       let empty : chain.bytes ≡ [] = file.bytes ∙ ap (λ (count : ℕ). packed (unpacked count chain.bytes)) (file.free free) in
       let none : slot'.count ≡ 0 = ap (λ (x : FileSlot). x.count) is in
       let blocks = ap (λ (o : CustomerFiles). o.used) owns in
-      let made : IsFile slot' chain = file_of [] slot' chain (λ k d within. absurd (omega arith)) none empty (λ _. none) file.small (first_place [] chain.keys slot'.next (ap (λ (x : FileSlot). x.next) is)) in
+      let made : IsFile slot' chain = file_of [] slot' chain (λ k d within. absurd (omega arith)) none empty (λ _. none)
+      file.small (first_place [] chain.keys slot'.next (ap (λ (x : FileSlot). x.next) is)) in
       let same : content slot' chain ≡ record { stage = Partial; kind = kind; records = [] } = ap (λ (x : FileSlot). content x chain) is in
-      subst (λ (t : StoreValue). Moves store slots customers t (set slots (1024 * c + n) slot') (set customers c own') c (begun kind (part c spools))) (store_same small)
+      subst (λ (t : StoreValue). Moves store slots customers t (set slots (1024 * c + n) slot') (set customers c own') c
+      (begun kind (part c spools))) (store_same small)
       (goes (begun kind) slot' chain own' small (ap (λ (o : CustomerFiles). o.quota) owns) (omega arith) made
       (begin.begins own files has.own n kind (content slot' chain) own' room next free same owns))
 
   -- one record more
-  pub appends : (r : Stored) (keys : List ℕ) (blocks : ℕ) → is_partial slot.stage ≡ true → IsShort r → take (length chain.keys) keys ≡ chain.keys → blocks ≡ own.used - blocks_of chain.bytes + blocks_of (chain.bytes ++ packed_record r) → blocks ≤ own.quota → n < 1024 → Moves store slots customers (with_chain (1024 * c + n) (record { keys = keys; bytes = chain.bytes ++ packed_record r }) store) (set slots (1024 * c + n) (record slot { count = slot.count + 1 })) (set customers c (record own { used = blocks })) c (appended n r (part c spools))
+  pub appends : (r : Stored) (keys : List ℕ) (blocks : ℕ) → is_partial slot.stage ≡ true → IsShort r → take (length chain.keys)
+      keys ≡ chain.keys → blocks ≡ own.used - blocks_of chain.bytes + blocks_of (chain.bytes ++ packed_record r) →
+      blocks ≤ own.quota → n < 1024 → Moves store slots customers
+      (with_chain (1024 * c + n) (record { keys = keys; bytes = chain.bytes ++ packed_record r }) store)
+      (set slots (1024 * c + n) (record slot { count = slot.count + 1 })) (set customers c (record own { used = blocks })) c
+      (appended n r (part c spools))
   appends r keys blocks there short front counts fits small =
       let stage = stage_of slot.stage there in
       let file = kept.files c n in
@@ -197,94 +206,63 @@ module _ (store : StoreValue) (slots : List FileSlot) (customers : List Customer
       let limit : own.quota ≤ 65535 = has.own.sound.quota_limit in
       let made = appended-file slot chain keys r file short front (not_free-partial slot.stage there) (omega (arith, enough, blocks_are)) in
       let records = appended-records slot chain keys r file short front in
-      let longer : blocks_of (chain.bytes ++ packed_record r) ≡ cost ((files n).records ++ r ∷ []) = ap (λ (size : ℕ). (size + 251) / 252) (size_is slot' chain' made ∙ ap stored_size records) in
+      let longer : blocks_of (chain.bytes ++ packed_record r) ≡ cost ((files n).records ++ r ∷ []) =
+      ap (λ (size : ℕ). (size + 251) / 252) (size_is slot' chain' made ∙ ap stored_size records) in
       goes (appended n r) slot' chain' (record own { used = blocks }) small refl (omega (arith, enough, blocks_are)) made
-      (partial.appends own files n has.own stage r (content slot' chain') (record own { used = blocks }) blocks (ap (λ (rs : List Stored). record { stage = slot.stage; kind = slot.kind; records = rs }) records) refl (omega (arith, blocks_are, longer)) fits)
-
-  -- what a call finds
-  pub finds_partial : is_partial slot.stage ≡ true → partial_numbered n (part c spools) ≡ Some (partial_file files n)
-  finds_partial there = ap (partial_numbered n) has.part ∙ partial.partial_is own files n has.own (stage_of slot.stage there)
-
-  pub finds_whole : is_whole slot.stage ≡ true → whole_numbered n (part c spools) ≡ Some (whole_file files n)
-  finds_whole there = ap (whole_numbered n) has.part ∙ whole.whole_is own files n has.own there (not_partial_of slot.stage there)
-
-  pub finds_records : is_free slot.stage ≡ false → records_numbered n (part c spools) ≡ Some (files n).records
-  finds_records used' = ap (records_numbered n) has.part ∙ (has_file own files n has.own used').records
-
-  pub finds_no_records : is_free slot.stage ≡ true → records_numbered n (part c spools) ≡ None
-  finds_no_records free = ap (records_numbered n) has.part ∙ (has_no_file own files n has.own free).records
-
-  pub small_partial : is_partial slot.stage ≡ true → n < 1024
-  small_partial there = small_used slots c n (not_free-partial slot.stage there)
-
-  pub small_whole : is_whole slot.stage ≡ true → n < 1024
-  small_whole there = small_used slots c n (not_free-whole slot.stage there)
+      (partial.appends own files n has.own stage r (content slot' chain') (record own { used = blocks }) blocks
+      (ap (λ (rs : List Stored). record { stage = slot.stage; kind = slot.kind; records = rs }) records) refl
+      (omega (arith, blocks_are, longer)) fits)
 
   -- the same, where the code's places and its store are these
-  pub arrives : (t store' : StoreValue) (slot' : FileSlot) (own' : CustomerFiles) (i j : ℕ) (s : CustomerSpool) → store' ≡ t → i ≡ 1024 * c + n → j ≡ c → Moves store slots customers t (set slots (1024 * c + n) slot') (set customers c own') c s → Moves store slots customers store' (set slots i slot') (set customers j own') c s
+  pub arrives : (t store' : StoreValue) (slot' : FileSlot) (own' : CustomerFiles) (i j : ℕ) (s : CustomerSpool) → store' ≡ t →
+      i ≡ 1024 * c + n → j ≡ c → Moves store slots customers t (set slots (1024 * c + n) slot') (set customers c own') c s →
+      Moves store slots customers store' (set slots i slot') (set customers j own') c s
   arrives t store' slot' own' i j s same_store same_place same_customer moved =
       subst (λ (x : StoreValue). Moves store slots customers x (set slots i slot') (set customers j own') c s) (sym same_store)
       (subst (λ (k : ℕ). Moves store slots customers t (set slots k slot') (set customers j own') c s) (sym same_place)
-      (subst (λ (k : ℕ). Moves store slots customers t (set slots (1024 * c + n) slot') (set customers k own') c s) (sym same_customer) moved))
+      (subst (λ (k : ℕ). Moves store slots customers t (set slots (1024 * c + n) slot') (set customers k own') c s)
+      (sym same_customer) moved))
 
-  pub enough_partial : is_partial slot.stage ≡ true → cost (files n).records ≤ own.used
-  enough_partial there = partial.covered own files n has.own (stage_of slot.stage there)
-
-  pub enough_whole : is_whole slot.stage ≡ true → cost (files n).records ≤ own.used
-  enough_whole there = whole.covered own files n has.own there (not_partial_of slot.stage there)
-
-  longer_is : (r : Stored) → blocks_of (chain.bytes ++ packed_record r) ≡ cost ((files n).records ++ r ∷ [])
-  longer_is r =
-      let size : length (chain.bytes ++ packed_record r) ≡ stored_size (files n).records + (3 + length r.bytes) = omega (arith, length-append chain.bytes (packed_record r), length-packed_record r, size_is slot chain (kept.files c n)) in
-      ap (λ (k : ℕ). (k + 251) / 252) size ∙ sym (cost_push (files n).records r)
-
-  pub append_full : (r : Stored) → is_partial slot.stage ≡ true → own.quota < own.used - blocks_of chain.bytes + blocks_of (chain.bytes ++ packed_record r) → append_fault n r (part c spools) ≡ Some QuotaFull
-  append_full r there over =
-      ap (append_fault n r) has.part ∙ partial.append_fault-full own files n has.own (stage_of slot.stage there) r (omega (arith, blocks_are, longer_is r))
-
-  pub append_fits : (r : Stored) → is_partial slot.stage ≡ true → own.used - blocks_of chain.bytes + blocks_of (chain.bytes ++ packed_record r) ≤ own.quota → append_fault n r (part c spools) ≡ None
-  append_fits r there fits =
-      ap (append_fault n r) has.part ∙ partial.append_fault-none own files n has.own (stage_of slot.stage there) r (omega (arith, blocks_are, longer_is r))
-
-  -- the store has room for what the quota leaves
-  pub room : (r : Stored) (keys : List ℕ) → is_partial slot.stage ≡ true → n < 1024 → own.used - blocks_of chain.bytes + blocks_of (chain.bytes ++ packed_record r) ≤ own.quota → ((blocks : ℕ) → used (part c spools) + blocks ≤ (part c spools).quota → sum_by used spools + blocks ≤ store.capacity) → blocks_used (with_chain (1024 * c + n) (record { keys = keys; bytes = chain.bytes ++ packed_record r }) store) ≤ store.capacity
-  room r keys there small fits leaves =
-      let more = blocks_of (chain.bytes ++ packed_record r) - blocks_of chain.bytes in
-      let enough = partial.covered own files n has.own (stage_of slot.stage there) in
-      let used_is = ap used has.part in
-      let quota_is = ap (λ (s : CustomerSpool). s.quota) has.part in
-      let grows : blocks_of chain.bytes ≤ blocks_of (chain.bytes ++ packed_record r) = omega (arith, length-append chain.bytes (packed_record r)) in
-      let left = leaves more (omega (arith, grows, fits, used_is, quota_is, has.own.counted, enough, blocks_are)) in
-      let sums = sum_by-set (λ (x : Chain). blocks_of x.bytes) store.chains (1024 * c + n) (record { keys = keys; bytes = chain.bytes ++ packed_record r }) empty_chain (has.chain_within n small) in
-      let here = ap (λ (x : Chain). blocks_of x.bytes) (chain_is small) in
-      omega (arith, grows, sums, here, left, used_all store slots customers kept)
-
-  pub count_small : slot.count ≤ 252 * 65535
-  count_small =
-      omega (arith, length-unpacked slot.count chain.bytes, few_records (files n).records, size_is slot chain (kept.files c n), (kept.files c n).small)
-
-  pub rewrites : (k at place : ℕ) (new : List ℕ) → is_whole slot.stage ≡ true → n < 1024 → at ≡ stored_size (take k (files n).records) + 3 + place → k < slot.count → IsSomeAnd (slice_get (files n).records k) (λ r. place + length new ≤ length r.bytes) → Moves store slots customers (with_chain (1024 * c + n) (record { keys = chain.keys; bytes = with_field at new chain.bytes }) store) slots customers c (rewritten n k place new (part c spools))
+  pub rewrites : (k at place : ℕ) (new : List ℕ) → is_whole slot.stage ≡ true → n < 1024 →
+      at ≡ stored_size (take k (files n).records) + 3 + place → k < slot.count → IsSomeAnd (slice_get (files n).records k)
+      (λ r. place + length new ≤ length r.bytes) → Moves store slots customers
+      (with_chain (1024 * c + n) (record { keys = chain.keys; bytes = with_field at new chain.bytes }) store) slots customers c
+      (rewritten n k place new (part c spools))
   rewrites k at place new there small is within fits =
       let file = kept.files c n in
       let records = (files n).records in
       let changed = at_index k (rewritten_record place new) records in
       let chain' : Chain = record { keys = chain.keys; bytes = with_field at new chain.bytes } in
       let bytes : with_field at new chain.bytes ≡ packed changed =
-      ap (λ (i : ℕ). with_field i new chain.bytes) is ∙ ap (with_field (stored_size (take k records) + 3 + place) new) file.bytes ∙ packed-at_index k place new records (omega (arith, length-unpacked slot.count chain.bytes)) fits in
-      let counted : slot.count ≡ length changed = omega (arith, length-unpacked slot.count chain.bytes, length-at_index k (rewritten_record place new) records) in
+      ap (λ (i : ℕ). with_field i new chain.bytes) is ∙ ap (with_field (stored_size (take k records) + 3 + place) new)
+      file.bytes ∙ packed-at_index k place new records (omega (arith, length-unpacked slot.count chain.bytes)) fits in
+      let counted : slot.count ≡ length changed = omega (
+        arith,
+        length-unpacked slot.count chain.bytes,
+        length-at_index k
+            (rewritten_record place new) records,
+      ) in
       let short = short-at_index k place new records fits file.short in
-      let size : length (with_field at new chain.bytes) ≡ length chain.bytes = ap length bytes ∙ length-packed changed ∙ stored_size-rewritten k place new records fits ∙ sym (size_is slot chain file) in
+      let size : length (with_field at new chain.bytes) ≡ length chain.bytes = ap length bytes ∙ length-packed changed
+      ∙ stored_size-rewritten k place new records fits ∙ sym (size_is slot chain file) in
       let made : IsFile slot chain' = file_of changed slot chain' short counted bytes file.free (omega (arith, size, file.small)) (record {
         before = omega (arith, file.next.before, length-at_index k (rewritten_record place new) records);
         place = file.next.place ∙ sym (places-at_index slot.next.record_index k place new records fits);
         mark = file.next.mark;
       }) in
-      let same : content slot chain' ≡ record { stage = slot.stage; kind = slot.kind; records = changed } = ap (λ (rs : List Stored). record { stage = slot.stage; kind = slot.kind; records = rs }) (records_are changed slot.count (with_field at new chain.bytes) short counted bytes) in
+      let same : content slot chain' ≡ record { stage = slot.stage; kind = slot.kind; records = changed } =
+      ap (λ (rs : List Stored). record { stage = slot.stage; kind = slot.kind; records = rs })
+      (records_are changed slot.count (with_field at new chain.bytes) short counted bytes) in
       let other = not_partial_of slot.stage there in
       let blocks : blocks_of (with_field at new chain.bytes) ≡ blocks_of chain.bytes = ap (λ (k' : ℕ). (k' + 251) / 252) size in
-      let costs : cost (content slot chain').records ≡ cost records = ap (λ (x : Content). cost x.records) same ∙ cost-rewritten k place new records fits in
+      let costs : cost (content slot chain').records ≡ cost records = ap (λ (x : Content). cost x.records) same
+      ∙ cost-rewritten k place new records fits in
       let file_same : whole_from n (content slot chain') ≡ record (whole_file files n) { records = changed } = ap (whole_from n) same in
-      subst (λ (ss : List FileSlot). Moves store slots customers (with_chain (1024 * c + n) chain' store) ss customers c (rewritten n k place new (part c spools))) (slots_same small)
-      (subst (λ (os : List CustomerFiles). Moves store slots customers (with_chain (1024 * c + n) chain' store) (set slots (1024 * c + n) slot) os c (rewritten n k place new (part c spools))) customers_same
+      subst (λ (ss : List FileSlot). Moves store slots customers (with_chain (1024 * c + n) chain' store) ss customers c
+      (rewritten n k place new (part c spools))) (slots_same small)
+      (subst (λ (os : List CustomerFiles). Moves store slots customers (with_chain (1024 * c + n) chain' store)
+      (set slots (1024 * c + n) slot) os c (rewritten n k place new (part c spools))) customers_same
       (goes (rewritten n k place new) slot chain' own small refl (omega (arith, blocks)) made
-      (whole.changes own files n has.own there other (λ x. record x { records = at_index k (rewritten_record place new) x.records }) (content slot chain') there other file_same costs)))
+      (whole.changes own files n has.own there other
+      (λ x. record x { records = at_index k (rewritten_record place new) x.records }) (content slot chain') there other
+      file_same costs)))

@@ -1,5 +1,6 @@
 -- A block is added at the end of a chain.
-use Rattle.std.proofs.Common.{◌≡◌, ◌≢◌, ℕ, zero, suc, ◌+◌, ◌-◌, ◌*◌, ◌<◌, ◌≤◌, List, [], ◌∷◌, ◌++◌, length, get_or, take, replicate, cond, eqb, Option, Some, None, refl, sym, ap, ◌∙◌, inl, inr, arith, length-append}
+use Rattle.std.proofs.Common.{◌≡◌, ◌≢◌, ℕ, zero, suc, ◌+◌, ◌-◌, ◌*◌, ◌<◌, ◌≤◌, List, [], ◌∷◌, ◌++◌, length, get_or, take, replicate}
+use Rattle.std.proofs.Common.{cond, eqb, Option, Some, None, refl, sym, ap, ◌∙◌, inl, inr, arith, length-append}
 use Rattle.std.proofs.lemmas.Bool.{cases_eq}
 use Rattle.std.proofs.lemmas.List.{append-nil, take_at, take_all, get_or_push, length-replicate}
 use Rattle.std.proofs.lemmas.List.Concat.{flat_map-append, flat_map-cons}
@@ -9,7 +10,8 @@ use Rattle.slab.proofs.SlabLemmas.{Updates-with_value}
 use Rattle.njh_spool.specs.declared.store.block.Block.{Block}
 use Rattle.njh_spool.specs.declared.store.slot.Slot.{Slot}
 use Rattle.njh_spool.specs.Chains.{blocks_for}
-use Rattle.njh_spool.specs.ChainedBlocks.{link_in, data_in, blocks_in, data_at, blocks_at, keys_from, keys_of, data_of, chain_of, times_in, IsChained}
+use Rattle.njh_spool.specs.ChainedBlocks.{link_in, data_in, blocks_in, data_at, blocks_at, keys_from, keys_of, data_of, chain_of}
+use Rattle.njh_spool.specs.ChainedBlocks.{times_in, IsChained}
 use Rattle.njh_spool.proofs.ChainLists.{take-right}
 use Rattle.njh_spool.proofs.ChainKeys.{times-cons, one_itself, one_other, keys_from-linked, data_of-same, length-keys_from}
 use Rattle.njh_spool.proofs.ChainMoves.{Moves}
@@ -21,10 +23,17 @@ abbrev pub block_with : List ℕ → ℕ → Block
 block_with bytes next = record { bytes = bytes ++ replicate (252 - length bytes) 0; next = next }
 
 length-block_with : (bytes : List ℕ) → length bytes ≤ 252 → length (bytes ++ replicate {A = ℕ} (252 - length bytes) 0) ≡ 252
-length-block_with bytes short = omega (arith, length-append bytes (replicate {A = ℕ} (252 - length bytes) 0), length-replicate {A = ℕ} (252 - length bytes) 0)
+length-block_with bytes short = omega (
+  arith,
+  length-append bytes (replicate {A = ℕ} (252 - length bytes) 0),
+  length-replicate {A = ℕ} (252 - length bytes) 0,
+)
 
 -- a block is put in a vacant place
-module _ (s t1 : Slab Block) (k : ℕ) (bytes : List ℕ) (short : length bytes ≤ 252) (vacant : get s k ≡ None) (updates : Updates s t1 k (Some (block_with bytes 0))) (more : slab_len t1 ≡ slab_len s + 1) (room : t1.capacity ≡ s.capacity) (slots : List Slot) (i capacity : ℕ) (slot : Slot) (chained : IsChained s slots capacity) (within : i < length slots) (is : get_or slots i slot ≡ slot) (some : 0 < length bytes) where
+module _ (s t1 : Slab Block) (k : ℕ) (bytes : List ℕ) (short : length bytes ≤ 252) (vacant : get s k ≡ None)
+    (updates : Updates s t1 k (Some (block_with bytes 0))) (more : slab_len t1 ≡ slab_len s + 1) (room : t1.capacity ≡ s.capacity)
+    (slots : List Slot) (i capacity : ℕ) (slot : Slot) (chained : IsChained s slots capacity) (within : i < length slots)
+    (is : get_or slots i slot ≡ slot) (some : 0 < length bytes) where
   none_before : blocks_at s k ≡ 0
   none_before = ap blocks_in vacant
 
@@ -82,7 +91,8 @@ module _ (s t1 : Slab Block) (k : ℕ) (bytes : List ℕ) (short : length bytes 
     pub chain_first : chain_of t1 first ≡ record { keys = k ∷ []; bytes = bytes }
     chain_first =
         let pad = replicate {A = ℕ} (252 - length bytes) 0 in
-        let held : data_of t1 (k ∷ []) ≡ bytes ++ pad = flat_map-cons (data_at t1) k [] ∙ append-nil (data_at t1 k) ∙ ap data_in updates.changed in
+        let held : data_of t1 (k ∷ []) ≡ bytes ++ pad = flat_map-cons (data_at t1) k [] ∙ append-nil (data_at t1 k)
+        ∙ ap data_in updates.changed in
         ap (λ (ks : List ℕ). record { keys = ks; bytes = take (length bytes) (data_of t1 ks) }) one_key
         ∙ ap (λ (bs : List ℕ). record { keys = k ∷ []; bytes = bs }) (ap (take (length bytes)) held ∙ take_at bytes pad (length bytes) refl)
 
@@ -139,7 +149,8 @@ module _ (s t1 : Slab Block) (k : ℕ) (bytes : List ℕ) (short : length bytes 
     keys_longer =
         let m = blocks_for slot.len - 1 in
         let one : blocks_for slot.len ≡ suc m = omega arith in
-        let two : blocks_for (slot.len + length bytes) ≡ suc (suc m) = blocks_for_is (slot.len + length bytes) (suc (suc m)) (omega arith) (omega arith) in
+        let two : blocks_for (slot.len + length bytes) ≡ suc (suc m) = blocks_for_is (slot.len + length bytes) (suc (suc m))
+        (omega arith) (omega arith) in
         let last = ap (λ n. get_or (keys_from s n slot.head) m 0) (sym one) ∙ last_here s slots i capacity slot chained within is any in
         let times = λ (j : ℕ). ap (λ n. times_in j (keys_from s n slot.head)) one in
         ap (λ n. keys_from t n slot.head) two
@@ -158,7 +169,14 @@ module _ (s t1 : Slab Block) (k : ℕ) (bytes : List ℕ) (short : length bytes 
           same = λ key h.
               at_other key
               (λ here. omega (arith, ap (blocks_at s) here, none_before))
-              (λ here. omega (arith, ap (blocks_at s) here, last_one, ap (λ x. times_in x (keys_of s slot)) here, last_lies s slots i capacity slot chained within is any));
+              (λ here. omega (
+                arith,
+                ap (blocks_at s) here,
+                last_one,
+                ap (λ x. times_in x (keys_of s slot)) here,
+                last_lies s
+                    slots i capacity slot chained within is any,
+              ));
           once = λ key.
               elim (cases_eq key k) [
                 | inl here ↦
@@ -185,7 +203,8 @@ module _ (s t1 : Slab Block) (k : ℕ) (bytes : List ℕ) (short : length bytes 
                     omega (arith, chained.full key, blocks_same key differ)
               ];
           last = λ h.
-              let count : blocks_for (slot.len + length bytes) - 1 ≡ blocks_for slot.len = omega (arith, blocks_for_is (slot.len + length bytes) (blocks_for slot.len + 1) (omega arith) (omega arith)) in
+              let count : blocks_for (slot.len + length bytes) - 1 ≡ blocks_for slot.len =
+              omega (arith, blocks_for_is (slot.len + length bytes) (blocks_for slot.len + 1) (omega arith) (omega arith)) in
               ap (λ n. get_or (keys_of t longer) n 0) count
               ∙ ap (λ ks. get_or ks (blocks_for slot.len) 0) keys_longer
               ∙ get_or_push (keys_of s slot) k 0 (blocks_for slot.len) (length-keys_from s (blocks_for slot.len) slot.head);

@@ -1,5 +1,6 @@
 -- What the invariant says of one slot's chain.
-use Rattle.std.proofs.Common.{◌≡◌, ℕ, zero, suc, ◌+◌, ◌-◌, ◌*◌, ◌<◌, ◌≤◌, List, [], ◌∷◌, length, get_or, take, map, replicate, sum_by, count_by, eqb, Option, Some, None, IsSome, refl, sym, ap, subst, ◌∙◌, inl, inr, arith, rules, length-take}
+use Rattle.std.proofs.Common.{◌≡◌, ℕ, zero, suc, ◌+◌, ◌-◌, ◌*◌, ◌<◌, ◌≤◌, List, [], ◌∷◌, length, get_or, take, map, replicate, sum_by}
+use Rattle.std.proofs.Common.{count_by, eqb, Option, Some, None, IsSome, refl, sym, ap, subst, ◌∙◌, inl, inr, arith, rules, length-take}
 use Rattle.std.specs.List.{All}
 use Rattle.std.proofs.lemmas.Bool.{cases_lt}
 use Rattle.std.proofs.lemmas.List.{get_or-map, length-map, get_or_default}
@@ -8,7 +9,8 @@ use Rattle.slab.specs.Slab.{Slab, get, slab_len, ContainsKey}
 use Rattle.njh_spool.specs.declared.store.block.Block.{Block}
 use Rattle.njh_spool.specs.declared.store.slot.Slot.{Slot}
 use Rattle.njh_spool.specs.Chains.{Chain, StoreValue, empty_chain, chain_at, blocks_for, blocks_of, blocks_used}
-use Rattle.njh_spool.specs.ChainedBlocks.{blocks_in, data_at, blocks_at, keys_from, keys_of, data_of, chain_of, chains_of, times_in, no_slot, KnowsLast, LiesInOne, IsChained}
+use Rattle.njh_spool.specs.ChainedBlocks.{blocks_in, data_at, blocks_at, keys_from, keys_of, data_of, chain_of, chains_of, times_in}
+use Rattle.njh_spool.specs.ChainedBlocks.{no_slot, KnowsLast, LiesInOne, IsChained}
 use Rattle.njh_spool.proofs.ChainLists.{sum_by-same, sum_by-two}
 use Rattle.njh_spool.proofs.ChainKeys.{length-keys_from, length-data_of, times_at}
 
@@ -31,7 +33,8 @@ blocks_for_is size blocks fits least = omega arith
 pub blocks_for-bounds : (size : ℕ) → (size ≤ 252 * blocks_for size) × (252 * blocks_for size < size + 252)
 blocks_for-bounds size = (omega arith, omega arith)
 
-module _ (s : Slab Block) (slots : List Slot) (i capacity : ℕ) (slot : Slot) (chained : IsChained s slots capacity) (within : i < length slots) (is : get_or slots i slot ≡ slot) where
+module _ (s : Slab Block) (slots : List Slot) (i capacity : ℕ) (slot : Slot) (chained : IsChained s slots capacity)
+    (within : i < length slots) (is : get_or slots i slot ≡ slot) where
   lies : (key : ℕ) → times_in key (keys_of s slot) ≤ blocks_at s key
   lies key =
       let one = get_or-le-sum_by (λ x. times_in key (keys_of s x)) slots i slot within in
@@ -56,7 +59,8 @@ module _ (s : Slab Block) (slots : List Slot) (i capacity : ℕ) (slot : Slot) (
   pub length_bytes : length (chain_of s slot).bytes ≡ slot.len
   length_bytes = omega (arith, length-take slot.len (data_of s (keys_of s slot)), length_data, (blocks_for-bounds slot.len).0)
 
-  pub chain_is : (store : StoreValue) → record { capacity = capacity; chains = chains_of s slots } ≡ store → chain_at i store ≡ chain_of s slot
+  pub chain_is : (store : StoreValue) → record { capacity = capacity; chains = chains_of s slots } ≡ store →
+      chain_at i store ≡ chain_of s slot
   chain_is store view = ap (chain_at i) (sym view) ∙ get_or-map (chain_of s) slots i slot empty_chain within ∙ ap (chain_of s) is
 
   -- seen in the store's value
@@ -99,11 +103,18 @@ module _ (s : Slab Block) (slots : List Slot) (i capacity : ℕ) (slot : Slot) (
       rw at at h
 
 -- a slot of the store's value
-pub slot_within : (s : Slab Block) (slots : List Slot) (capacity i : ℕ) (store : StoreValue) → record { capacity = capacity; chains = chains_of s slots } ≡ store → i < length store.chains → i < length slots
-slot_within s slots capacity i store view within = omega (arith, ap (λ (x : StoreValue). length x.chains) view, length-map slots (chain_of s))
+pub slot_within : (s : Slab Block) (slots : List Slot) (capacity i : ℕ) (store : StoreValue) →
+    record { capacity = capacity; chains = chains_of s slots } ≡ store → i < length store.chains → i < length slots
+slot_within s slots capacity i store view within = omega (
+  arith,
+  ap (λ (x : StoreValue). length x.chains) view,
+  length-map slots
+      (chain_of s),
+)
 
 -- each chain has as many blocks as its bytes need
-pub sized : (s : Slab Block) (slots : List Slot) (capacity : ℕ) → IsChained s slots capacity → All (λ chain. length chain.keys ≡ blocks_of chain.bytes) (chains_of s slots)
+pub sized : (s : Slab Block) (slots : List Slot) (capacity : ℕ) → IsChained s slots capacity →
+    All (λ chain. length chain.keys ≡ blocks_of chain.bytes) (chains_of s slots)
 sized s slots capacity chained = λ k d within.
     let inside : k < length slots = omega (arith, length-map slots (chain_of s)) in
     let slot = get_or slots k no_slot in
@@ -111,22 +122,27 @@ sized s slots capacity chained = λ k d within.
     let bytes = length_bytes s slots k capacity slot chained inside is in
     let keys = length-keys_from s (blocks_for slot.len) slot.head in
     let found : get_or (chains_of s slots) k d ≡ chain_of s slot = get_or-map (chain_of s) slots k no_slot d inside in
-    ap (λ (chain : Chain). length chain.keys) found ∙ keys ∙ ap blocks_for (sym bytes) ∙ ap (λ (chain : Chain). blocks_of chain.bytes) (sym found)
+    ap (λ (chain : Chain). length chain.keys) found ∙ keys ∙ ap blocks_for (sym bytes)
+    ∙ ap (λ (chain : Chain). blocks_of chain.bytes) (sym found)
 
 sum_by-map : {X Y : Type 0} (f : Y → ℕ) (g : X → Y) (xs : List X) → sum_by f (map g xs) ≡ sum_by (λ x. f (g x)) xs
 sum_by-map f g [] = refl
 sum_by-map f g (x ∷ xs) = omega (arith, sum_by-cons f (g x) (map g xs), sum_by-cons (λ y. f (g y)) x xs, sum_by-map f g xs)
 
 -- the strings take as many blocks as the slab has
-pub used_is : (s : Slab Block) (slots : List Slot) (capacity : ℕ) (store : StoreValue) → IsChained s slots capacity → record { capacity = capacity; chains = chains_of s slots } ≡ store → (blocks_used store ≡ slab_len s) × (store.capacity ≡ capacity)
+pub used_is : (s : Slab Block) (slots : List Slot) (capacity : ℕ) (store : StoreValue) → IsChained s slots capacity →
+    record { capacity = capacity; chains = chains_of s slots } ≡ store → (blocks_used store ≡ slab_len s) × (store.capacity ≡ capacity)
 used_is s slots capacity store chained view =
     let sum = sum_by-map (λ (chain : Chain). blocks_of chain.bytes) (chain_of s) slots in
-    let same = sum_by-same (λ slot. blocks_of (chain_of s slot).bytes) (λ slot. blocks_for slot.len) slots no_slot (λ j within. ap blocks_for (length_bytes s slots j capacity (get_or slots j no_slot) chained within (get_or_default slots j (get_or slots j no_slot) no_slot within))) in
+    let same = sum_by-same (λ slot. blocks_of (chain_of s slot).bytes) (λ slot. blocks_for slot.len) slots no_slot
+    (λ j within. ap blocks_for (length_bytes s slots j capacity (get_or slots j no_slot) chained within
+    (get_or_default slots j (get_or slots j no_slot) no_slot within))) in
     let used = ap blocks_used view in
     (omega (arith, chained.counted), sym (ap (λ (x : StoreValue). x.capacity) view))
 
 -- no key stands twice
-pub apart : (s : Slab Block) (slots : List Slot) (capacity : ℕ) → IsChained s slots capacity → (key : ℕ) → sum_by (λ (chain : Chain). count_by (λ k. eqb k key) chain.keys) (chains_of s slots) ≤ 1
+pub apart : (s : Slab Block) (slots : List Slot) (capacity : ℕ) → IsChained s slots capacity → (key : ℕ) →
+    sum_by (λ (chain : Chain). count_by (λ k. eqb k key) chain.keys) (chains_of s slots) ≤ 1
 apart s slots capacity chained key =
     omega (arith, sum_by-map (λ (chain : Chain). times_in key chain.keys) (chain_of s) slots, chained.once key, blocks_in-le (get s key))
 
@@ -135,7 +151,8 @@ pub chains_of-empty : (s : Slab Block) (count : ℕ) → chains_of s (replicate 
 chains_of-empty s zero = refl
 chains_of-empty s (suc count) = ap (λ chains. empty_chain ∷ chains) (chains_of-empty s count)
 
-pub sized_slots : (s : Slab Block) (slots : List Slot) (capacity : ℕ) → IsChained s slots capacity → All (λ slot. length (keys_of s slot) ≡ blocks_for slot.len) slots
+pub sized_slots : (s : Slab Block) (slots : List Slot) (capacity : ℕ) → IsChained s slots capacity →
+    All (λ slot. length (keys_of s slot) ≡ blocks_for slot.len) slots
 sized_slots s slots capacity chained = λ k d within. length-keys_from s (blocks_for (get_or slots k d).len) (get_or slots k d).head
 
 one_of : {X : Type 0} (f : X → ℕ) (xs : List X) (d : X) → sum_by f xs ≡ 1 → (i : ℕ) × (i < length xs) × (f (get_or xs i d) ≡ 1)
@@ -148,7 +165,8 @@ one_of f (x ∷ xs) d one =
           (suc later.0, omega (arith, later.1), later.2)
     ]
 
-pub lies_in_one : (s : Slab Block) (slots : List Slot) (capacity : ℕ) → IsChained s slots capacity → (key : ℕ) → ContainsKey s key → LiesInOne s slots key
+pub lies_in_one : (s : Slab Block) (slots : List Slot) (capacity : ℕ) → IsChained s slots capacity → (key : ℕ) →
+    ContainsKey s key → LiesInOne s slots key
 lies_in_one s slots capacity chained key has =
     let count = λ (slot : Slot). times_in key (keys_of s slot) in
     let one = chained.once key ∙ from_block (get s key) has in

@@ -1,11 +1,13 @@
 -- Lists of which one element is replaced, and fields of lists that are put together.
-use Rattle.std.proofs.Common.{◌≡◌, ◌≢◌, ℕ, zero, suc, ◌+◌, ◌<◌, ◌≤◌, List, [], ◌∷◌, ◌++◌, length, get_or, set, take, drop, map, sum_by, refl, sym, ap, ◌∙◌, arith, rules, append_assoc, length-drop}
+use Rattle.std.proofs.Common.{◌≡◌, ◌≢◌, ℕ, zero, suc, ◌+◌, ◌<◌, ◌≤◌, List, [], ◌∷◌, ◌++◌, length, get_or, set, take, drop, map, sum_by}
+use Rattle.std.proofs.Common.{refl, sym, ap, ◌∙◌, arith, rules, append_assoc, length-drop}
 use Rattle.std.proofs.lemmas.List.{same_lists, places, take-append-le, drop-append-le, drop_at, drop-drop}
 use Rattle.std.proofs.lemmas.List.Sums.{sum_by-cons, get_or-le-sum_by}
 use Rattle.njh_record.specs.Bytes.{field, with_field}
 
 -- two elements together are within the sum
-pub sum_by-two : {X : Type 0} (f : X → ℕ) (xs : List X) (i j : ℕ) (d : X) → i < length xs → j < length xs → j ≢ i → f (get_or xs i d) + f (get_or xs j d) ≤ sum_by f xs
+pub sum_by-two : {X : Type 0} (f : X → ℕ) (xs : List X) (i j : ℕ) (d : X) → i < length xs → j < length xs → j ≢ i →
+    f (get_or xs i d) + f (get_or xs j d) ≤ sum_by f xs
 sum_by-two f [] i j d at_i at_j differ = absurd (omega arith)
 sum_by-two f (x ∷ xs) zero zero d at_i at_j differ = absurd (differ refl)
 sum_by-two f (x ∷ xs) zero (suc j) d at_i at_j differ =
@@ -18,7 +20,8 @@ sum_by-two f (x ∷ xs) (suc i) (suc j) d at_i at_j differ =
     let rest = sum_by-two f xs i j d (omega arith) (omega arith) (λ same. differ (ap suc same)) in
     omega (arith, sum_by-cons f x xs)
 
-pub sum_by-same : {X : Type 0} (f g : X → ℕ) (xs : List X) (d : X) → ((j : ℕ) → j < length xs → f (get_or xs j d) ≡ g (get_or xs j d)) → sum_by f xs ≡ sum_by g xs
+pub sum_by-same : {X : Type 0} (f g : X → ℕ) (xs : List X) (d : X) →
+    ((j : ℕ) → j < length xs → f (get_or xs j d) ≡ g (get_or xs j d)) → sum_by f xs ≡ sum_by g xs
 sum_by-same f g [] d same = refl
 sum_by-same f g (x ∷ xs) d same =
     let first : f x ≡ g x = same 0 (omega arith) in
@@ -26,7 +29,9 @@ sum_by-same f g (x ∷ xs) d same =
     omega (arith, sum_by-cons f x xs, sum_by-cons g x xs)
 
 -- one element is another, and the others count for as much as before
-pub sum_by-but : {X : Type 0} (f g : X → ℕ) (xs : List X) (i : ℕ) (y d : X) → i < length xs → ((j : ℕ) → j < length xs → j ≢ i → f (get_or xs j d) ≡ g (get_or xs j d)) → sum_by f (set xs i y) + g (get_or xs i d) ≡ sum_by g xs + f y
+pub sum_by-but : {X : Type 0} (f g : X → ℕ) (xs : List X) (i : ℕ) (y d : X) → i < length xs →
+    ((j : ℕ) → j < length xs → j ≢ i → f (get_or xs j d) ≡ g (get_or xs j d)) → sum_by f (set xs i y) + g (get_or xs i d) ≡
+    sum_by g xs + f y
 sum_by-but f g [] i y d within same = absurd (omega arith)
 sum_by-but f g (x ∷ xs) zero y d within same =
     let rest = sum_by-same f g xs d (λ j h. same (suc j) (omega arith) (omega arith)) in
@@ -36,14 +41,16 @@ sum_by-but f g (x ∷ xs) (suc i) y d within same =
     let rest = sum_by-but f g xs i y d (omega arith) (λ j h differ. same (suc j) (omega arith) (omega arith)) in
     omega (arith, sum_by-cons f x (set xs i y), sum_by-cons g x xs)
 
-map-same : {X Y : Type 0} (f g : X → Y) (xs : List X) (d : X) → ((j : ℕ) → j < length xs → f (get_or xs j d) ≡ g (get_or xs j d)) → map f xs ≡ map g xs
+map-same : {X Y : Type 0} (f g : X → Y) (xs : List X) (d : X) →
+    ((j : ℕ) → j < length xs → f (get_or xs j d) ≡ g (get_or xs j d)) → map f xs ≡ map g xs
 map-same f g [] d same = refl
 map-same f g (x ∷ xs) d same =
     let first : f x ≡ g x = same 0 (omega arith) in
     let rest = map-same f g xs d (λ j h. same (suc j) (omega arith)) in
     cc
 
-pub map-but : {X Y : Type 0} (f g : X → Y) (xs : List X) (i : ℕ) (y d : X) → ((j : ℕ) → j < length xs → j ≢ i → f (get_or xs j d) ≡ g (get_or xs j d)) → map f (set xs i y) ≡ set (map g xs) i (f y)
+pub map-but : {X Y : Type 0} (f g : X → Y) (xs : List X) (i : ℕ) (y d : X) →
+    ((j : ℕ) → j < length xs → j ≢ i → f (get_or xs j d) ≡ g (get_or xs j d)) → map f (set xs i y) ≡ set (map g xs) i (f y)
 map-but f g [] i y d same = refl
 map-but f g (x ∷ xs) zero y d same =
     let rest = map-same f g xs d (λ j h. same (suc j) (omega arith) (omega arith)) in
@@ -72,7 +79,8 @@ with_field-right n p new xs ys long =
     let front = take-right n p xs ys long in
     let sum : n + p + length new ≡ n + (p + length new) = omega arith in
     let back = ap (λ k. drop k (xs ++ ys)) sum ∙ drop-right n (p + length new) xs ys long in
-    rw (front, back) (ap (λ zs. zs ++ drop (p + length new) ys) (append_assoc xs (take p ys) new) ∙ append_assoc xs (take p ys ++ new) (drop (p + length new) ys))
+    rw (front, back) (ap (λ zs. zs ++ drop (p + length new) ys) (append_assoc xs (take p ys) new)
+    ∙ append_assoc xs (take p ys ++ new) (drop (p + length new) ys))
 
 pub field-left : (p n : ℕ) (xs ys : List ℕ) → p + n ≤ length xs → field p n (xs ++ ys) ≡ field p n xs
 field-left p n xs ys fits =

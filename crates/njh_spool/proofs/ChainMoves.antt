@@ -1,5 +1,6 @@
 -- One slot's chain changes, and every other chain is as it was.
-use Rattle.std.proofs.Common.{◌≡◌, ◌≢◌, ℕ, ◌+◌, ◌-◌, ◌*◌, ◌<◌, ◌≤◌, List, ◌++◌, length, get_or, set, take, sym, ap, subst, ◌∙◌, inl, inr, arith}
+use Rattle.std.proofs.Common.{◌≡◌, ◌≢◌, ℕ, ◌+◌, ◌-◌, ◌*◌, ◌<◌, ◌≤◌, List, ◌++◌, length, get_or, set, take, sym, ap, subst, ◌∙◌, inl}
+use Rattle.std.proofs.Common.{inr, arith}
 use Rattle.std.specs.List.{All}
 use Rattle.std.proofs.lemmas.Bool.{cases_eq}
 use Rattle.std.proofs.lemmas.List.{get_or-set_same, get_or-set_other, length-set, get_or_default}
@@ -8,7 +9,8 @@ use Rattle.slab.specs.Slab.{Slab, get, slab_len}
 use Rattle.njh_spool.specs.declared.store.block.Block.{Block}
 use Rattle.njh_spool.specs.declared.store.slot.Slot.{Slot}
 use Rattle.njh_spool.specs.Chains.{Chain, StoreValue, Grows, empty_chain, chain_at, blocks_for, with_chain}
-use Rattle.njh_spool.specs.ChainedBlocks.{link_in, data_in, data_at, blocks_at, keys_of, data_of, chain_of, chains_of, times_in, KnowsLast, IsChained}
+use Rattle.njh_spool.specs.ChainedBlocks.{link_in, data_in, data_at, blocks_at, keys_of, data_of, chain_of, chains_of, times_in}
+use Rattle.njh_spool.specs.ChainedBlocks.{KnowsLast, IsChained}
 use Rattle.njh_spool.proofs.ChainLists.{sum_by-two, sum_by-but, map-but}
 use Rattle.njh_spool.proofs.ChainKeys.{keys_from-same, data_of-same}
 
@@ -21,13 +23,16 @@ pub record Moves (s t : Slab Block) (old new : Slot) : Type 0 where
   pub last : KnowsLast t new
   pub capacity : t.capacity ≡ s.capacity
 
-pub chain_of-same : (s t : Slab Block) (slot : Slot) → ((k : ℕ) → 0 < times_in k (keys_of s slot) → get t k ≡ get s k) → chain_of t slot ≡ chain_of s slot
+pub chain_of-same : (s t : Slab Block) (slot : Slot) → ((k : ℕ) → 0 < times_in k (keys_of s slot) → get t k ≡ get s k) →
+    chain_of t slot ≡ chain_of s slot
 chain_of-same s t slot same =
     let keys = keys_from-same s t (blocks_for slot.len) slot.head (λ k h. ap link_in (same k h)) in
     let bytes = ap (λ (ks : List ℕ). data_of t ks) keys ∙ data_of-same s t (keys_of s slot) (λ k h. ap data_in (same k h)) in
-    ap (λ (ks : List ℕ). record { keys = ks; bytes = take slot.len (data_of t (keys_of t slot)) }) keys ∙ ap (λ (bs : List ℕ). record { keys = keys_of s slot; bytes = take slot.len bs }) bytes
+    ap (λ (ks : List ℕ). record { keys = ks; bytes = take slot.len (data_of t (keys_of t slot)) }) keys
+    ∙ ap (λ (bs : List ℕ). record { keys = keys_of s slot; bytes = take slot.len bs }) bytes
 
-module _ (s t : Slab Block) (slots : List Slot) (i capacity : ℕ) (old new : Slot) (chained : IsChained s slots capacity) (within : i < length slots) (is : get_or slots i old ≡ old) (moves : Moves s t old new) where
+module _ (s t : Slab Block) (slots : List Slot) (i capacity : ℕ) (old new : Slot) (chained : IsChained s slots capacity)
+    (within : i < length slots) (is : get_or slots i old ≡ old) (moves : Moves s t old new) where
   others : (j : ℕ) → j < length slots → j ≢ i → (k : ℕ) → 0 < times_in k (keys_of s (get_or slots j old)) → get t k ≡ get s k
   others j inside differ k lies =
       let both = sum_by-two (λ slot. times_in k (keys_of s slot)) slots i j old within inside differ in
@@ -39,20 +44,24 @@ module _ (s t : Slab Block) (slots : List Slot) (i capacity : ℕ) (old new : Sl
       keys_from-same s t (blocks_for (get_or slots j old).len) (get_or slots j old).head (λ k h. ap link_in (others j inside differ k h))
 
   pub chains_of-moved : chains_of t (set slots i new) ≡ set (chains_of s slots) i (chain_of t new)
-  chains_of-moved = map-but (chain_of t) (chain_of s) slots i new old (λ j inside differ. chain_of-same s t (get_or slots j old) (others j inside differ))
+  chains_of-moved = map-but (chain_of t) (chain_of s) slots i new old (λ j inside differ. chain_of-same s t (get_or slots j old)
+      (others j inside differ))
 
   last_moved : All (KnowsLast t) (set slots i new)
   last_moved = λ j e inside.
       let long : j < length slots = omega (arith, length-set slots i new) in
       elim (cases_eq j i) [
         | inl here ↦
-            let found : get_or (set slots i new) j e ≡ new = ap (λ x. get_or (set slots i new) x e) here ∙ get_or-set_same slots i new e within in
+            let found : get_or (set slots i new) j e ≡ new = ap (λ x. get_or (set slots i new) x e) here ∙ get_or-set_same slots
+            i new e within in
             subst (KnowsLast t) (sym found) moves.last
         | inr differ ↦
-            let found : get_or (set slots i new) j e ≡ get_or slots j old = get_or-set_other slots i j new e differ ∙ get_or_default slots j e old long in
+            let found : get_or (set slots i new) j e ≡ get_or slots j old = get_or-set_other slots i j new e differ
+            ∙ get_or_default slots j e old long in
             let keys = keys_others j long differ in
             let was = chained.last j old long in
-            let now : KnowsLast t (get_or slots j old) = λ some. ap (λ ks. get_or ks (blocks_for (get_or slots j old).len - 1) 0) keys ∙ was some in
+            let now : KnowsLast t (get_or slots j old) = λ some. ap (λ ks. get_or ks (blocks_for (get_or slots j old).len - 1)
+            0) keys ∙ was some in
             subst (KnowsLast t) (sym found) now
       ]
 
@@ -60,7 +69,8 @@ module _ (s t : Slab Block) (slots : List Slot) (i capacity : ℕ) (old new : Sl
   chained_moved fits =
       record {
         once = λ key.
-            let sum = sum_by-but (λ slot. times_in key (keys_of t slot)) (λ slot. times_in key (keys_of s slot)) slots i new old within (λ j inside differ. ap (times_in key) (keys_others j inside differ)) in
+            let sum = sum_by-but (λ slot. times_in key (keys_of t slot)) (λ slot. times_in key (keys_of s slot)) slots i new old
+            within (λ j inside differ. ap (times_in key) (keys_others j inside differ)) in
             let own = ap (λ slot. times_in key (keys_of s slot)) is in
             omega (arith, chained.once key, moves.once key);
         counted =
@@ -76,12 +86,15 @@ module _ (s t : Slab Block) (slots : List Slot) (i capacity : ℕ) (old new : Sl
       }
 
   -- the value with the other chain
-  pub view_moved : (store : StoreValue) → record { capacity = capacity; chains = chains_of s slots } ≡ store → record { capacity = capacity; chains = chains_of t (set slots i new) } ≡ with_chain i (chain_of t new) store
+  pub view_moved : (store : StoreValue) → record { capacity = capacity; chains = chains_of s slots } ≡ store →
+      record { capacity = capacity; chains = chains_of t (set slots i new) } ≡ with_chain i (chain_of t new) store
   view_moved store view =
       ap (λ (cs : List Chain). record { capacity = capacity; chains = cs }) chains_of-moved ∙ ap (with_chain i (chain_of t new)) view
 
 -- what has grown, by its chain
-pub grows_from : (i : ℕ) (bytes : List ℕ) (store now : StoreValue) (chain : Chain) → i < length store.chains → now ≡ with_chain i chain store → chain.bytes ≡ (chain_at i store).bytes ++ bytes → take (length (chain_at i store).keys) chain.keys ≡ (chain_at i store).keys → Grows i bytes store now
+pub grows_from : (i : ℕ) (bytes : List ℕ) (store now : StoreValue) (chain : Chain) → i < length store.chains →
+    now ≡ with_chain i chain store → chain.bytes ≡ (chain_at i store).bytes ++ bytes → take (length (chain_at i store).keys)
+    chain.keys ≡ (chain_at i store).keys → Grows i bytes store now
 grows_from i bytes store now chain within is grown front =
     let here : chain_at i now ≡ chain = ap (chain_at i) is ∙ get_or-set_same store.chains i chain empty_chain within in
     record {

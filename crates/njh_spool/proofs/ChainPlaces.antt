@@ -13,7 +13,8 @@ use Rattle.njh_spool.proofs.ChainKeys.{length-keys_from, field-data_of}
 use Rattle.njh_spool.proofs.ChainLaws.{len_is, keys_is, bytes_is, head_here, has_here, full_here, key_lies}
 
 -- the key after one of a chain's
-keys_from-next : (s : Slab Block) (n key b : ℕ) → b + 1 < n → get_or (keys_from s n key) (b + 1) 0 ≡ next_at s (get_or (keys_from s n key) b 0)
+keys_from-next : (s : Slab Block) (n key b : ℕ) → b + 1 < n → get_or (keys_from s n key) (b + 1) 0 ≡ next_at s
+    (get_or (keys_from s n key) b 0)
 keys_from-next s zero key b within = absurd (omega arith)
 keys_from-next s (suc zero) key b within = absurd (omega arith)
 keys_from-next s (suc (suc n)) key zero within = refl
@@ -21,7 +22,9 @@ keys_from-next s (suc (suc n)) key (suc b) within =
     let sum : suc b + 1 ≡ suc (b + 1) = omega arith in
     rw sum (keys_from-next s (suc n) (next_at s key) b (omega arith))
 
-module _ (s : Slab Block) (slots : List Slot) (i capacity : ℕ) (slot : Slot) (chained : IsChained s slots capacity) (within : i < length slots) (is : get_or slots i slot ≡ slot) (store : StoreValue) (view : record { capacity = capacity; chains = chains_of s slots } ≡ store) where
+module _ (s : Slab Block) (slots : List Slot) (i capacity : ℕ) (slot : Slot) (chained : IsChained s slots capacity)
+    (within : i < length slots) (is : get_or slots i slot ≡ slot) (store : StoreValue)
+    (view : record { capacity = capacity; chains = chains_of s slots } ≡ store) where
   -- the key of a block is that of the chain's value
   module _ (b : ℕ) (inside : 252 * b < length (chain_at i store).bytes) where
     pub few : b < blocks_for slot.len
@@ -34,17 +37,20 @@ module _ (s : Slab Block) (slots : List Slot) (i capacity : ℕ) (slot : Slot) (
     first_key none =
         ap (λ (keys : List ℕ). slice_get keys b) (keys_is s slots i capacity slot chained within is store view)
         ∙ slice_get-get_or (keys_of s slot) b 0 long
-        ∙ ap Some (ap (λ n. get_or (keys_of s slot) n 0) none ∙ head_here s slots i capacity slot chained within is (omega (arith, len_is s slots i capacity slot chained within is store view)))
+        ∙ ap Some (ap (λ n. get_or (keys_of s slot) n 0) none ∙ head_here s slots i capacity slot chained within is
+        (omega (arith, len_is s slots i capacity slot chained within is store view)))
 
     module _ (key : ℕ) (found : slice_get (chain_at i store).keys b ≡ Some key) where
       pub key_at : get_or (keys_of s slot) b 0 ≡ key
-      key_at = get_or_from_slice_get (keys_of s slot) b key 0 (sym (ap (λ (keys : List ℕ). slice_get keys b) (keys_is s slots i capacity slot chained within is store view)) ∙ found)
+      key_at = get_or_from_slice_get (keys_of s slot) b key 0
+          (sym (ap (λ (keys : List ℕ). slice_get keys b) (keys_is s slots i capacity slot chained within is store view)) ∙ found)
 
       pub key_has : ContainsKey s key
       key_has = has_here s slots i capacity slot chained within is key (key_lies s slots i capacity slot chained within is b key few key_at)
 
       -- bytes of the string that lie in the block
-      pub part_is : (at place n : ℕ) (block : Block) → get s key ≡ Some block → 252 * b + at ≡ place → at + n ≤ 252 → place + n ≤ length (chain_at i store).bytes → field at n block.bytes ≡ field place n (chain_at i store).bytes
+      pub part_is : (at place n : ℕ) (block : Block) → get s key ≡ Some block → 252 * b + at ≡ place → at + n ≤ 252 →
+          place + n ≤ length (chain_at i store).bytes → field at n block.bytes ≡ field place n (chain_at i store).bytes
       part_is at place n block held begins ends inside_too =
           let size = len_is s slots i capacity slot chained within is store view in
           ap (λ (o : Option Block). field at n (data_in o)) (sym held)
@@ -54,7 +60,8 @@ module _ (s : Slab Block) (slots : List Slot) (i capacity : ℕ) (slot : Slot) (
           ∙ ap (field place n) (sym (bytes_is s slots i capacity slot chained within is store view))
 
       -- the key of the block after it
-      pub next_key : (block : Block) → get s key ≡ Some block → 252 * b + 252 < length (chain_at i store).bytes → slice_get (chain_at i store).keys (b + 1) ≡ Some block.next
+      pub next_key : (block : Block) → get s key ≡ Some block → 252 * b + 252 < length (chain_at i store).bytes →
+          slice_get (chain_at i store).keys (b + 1) ≡ Some block.next
       next_key block at more =
           let size = len_is s slots i capacity slot chained within is store view in
           let after : b + 1 < blocks_for slot.len = omega arith in

@@ -1,5 +1,7 @@
 -- Bytes are written in one block of a chain.
-use Rattle.std.proofs.Common.{◌≡◌, ◌≢◌, ℕ, ◌+◌, ◌-◌, ◌*◌, ◌%◌, ◌<◌, ◌≤◌, List, ◌++◌, length, get_or, take, drop, cond, Option, Some, None, is_some, IsSome, refl, sym, ap, ◌∙◌, inl, inr, arith, rules, length-append, length-take, length-drop}
+use Rattle.std.proofs.Common.{◌≡◌, ◌≢◌, ℕ, ◌+◌, ◌-◌, ◌*◌, ◌%◌, ◌<◌, ◌≤◌, List, ◌++◌, length, get_or, take, drop, cond, Option, Some}
+use Rattle.std.proofs.Common.{None, is_some, IsSome, refl, sym, ap, ◌∙◌, inl, inr, arith, rules, length-append, length-take}
+use Rattle.std.proofs.Common.{length-drop}
 use Rattle.std.proofs.lemmas.Bool.{cases_eq}
 use Rattle.std.proofs.lemmas.List.{same_lists, places, take_at}
 use Rattle.std.proofs.lemmas.List.Sums.{sum_by-set}
@@ -9,10 +11,12 @@ use Rattle.njh_record.specs.Bytes.{with_field}
 use Rattle.njh_spool.specs.declared.store.block.Block.{Block}
 use Rattle.njh_spool.specs.declared.store.slot.Slot.{Slot}
 use Rattle.njh_spool.specs.Chains.{blocks_for}
-use Rattle.njh_spool.specs.ChainedBlocks.{link_in, data_in, blocks_in, next_at, data_at, blocks_at, keys_of, keys_from, data_of, chain_of, times_in, IsChained}
+use Rattle.njh_spool.specs.ChainedBlocks.{link_in, data_in, blocks_in, next_at, data_at, blocks_at, keys_of, keys_from, data_of}
+use Rattle.njh_spool.specs.ChainedBlocks.{chain_of, times_in, IsChained}
 use Rattle.njh_spool.proofs.ChainKeys.{keys_from-same, data_of-put, length-keys_from}
 use Rattle.njh_spool.proofs.ChainMoves.{Moves}
-use Rattle.njh_spool.proofs.ChainLaws.{once_here, block_here, has_here, full_here, last_here, key_lies, length_data, blocks_for_is, blocks_for-bounds}
+use Rattle.njh_spool.proofs.ChainLaws.{once_here, block_here, has_here, full_here, last_here, key_lies, length_data, blocks_for_is}
+use Rattle.njh_spool.proofs.ChainLaws.{blocks_for-bounds}
 
 counts_one : (o : Option Block) → IsSome o → cond {A = ℕ} (is_some o) 1 0 ≡ 1
 counts_one (Some block) has = refl
@@ -20,11 +24,13 @@ counts_one None has = search rules
 
 pub slab_len-with_value : (s : Slab Block) (key : ℕ) (block : Block) → ContainsKey s key → slab_len (with_value s key block) ≡ slab_len s
 slab_len-with_value s key block has =
-    let sum = sum_by-set (λ (o : Option Block). cond {A = ℕ} (is_some o) 1 0) s.slots key (Some block) None (ContainsKey-within s key has) in
+    let sum = sum_by-set (λ (o : Option Block). cond {A = ℕ} (is_some o) 1 0) s.slots key (Some block) None
+    (ContainsKey-within s key has) in
     let was = counts_one (get s key) has in
     omega arith
 
-pub length-with_field : (place : ℕ) (new bytes : List ℕ) → place + length new ≤ length bytes → length (with_field place new bytes) ≡ length bytes
+pub length-with_field : (place : ℕ) (new bytes : List ℕ) → place + length new ≤ length bytes →
+    length (with_field place new bytes) ≡ length bytes
 length-with_field place new bytes fits =
     omega (
       arith,
@@ -35,14 +41,20 @@ length-with_field place new bytes fits =
     )
 
 -- bytes written within a string, or at its end
-pub take-with_field : (size place : ℕ) (new bytes : List ℕ) → place + length new ≤ size → size ≤ length bytes → take size (with_field place new bytes) ≡ with_field place new (take size bytes)
+pub take-with_field : (size place : ℕ) (new bytes : List ℕ) → place + length new ≤ size → size ≤ length bytes →
+    take size (with_field place new bytes) ≡ with_field place new (take size bytes)
 take-with_field size place new bytes fits within = same_lists _ _ (search (rules, places)) (λ i d h. grind (arith, places))
 
-pub take-with_field_end : (size : ℕ) (new bytes : List ℕ) → size ≤ length bytes → take (size + length new) (with_field size new bytes) ≡ take size bytes ++ new
+pub take-with_field_end : (size : ℕ) (new bytes : List ℕ) → size ≤ length bytes → take (size + length new)
+    (with_field size new bytes) ≡ take size bytes ++ new
 take-with_field_end size new bytes within =
-    take_at (take size bytes ++ new) (drop (size + length new) bytes) (size + length new) (omega (arith, length-append (take size bytes) new, length-take size bytes))
+    take_at (take size bytes ++ new) (drop (size + length new) bytes) (size + length new)
+    (omega (arith, length-append (take size bytes) new, length-take size bytes))
 
-module _ (s : Slab Block) (slots : List Slot) (i capacity : ℕ) (slot : Slot) (chained : IsChained s slots capacity) (within : i < length slots) (is : get_or slots i slot ≡ slot) (key b place len : ℕ) (bytes : List ℕ) (inside : b < blocks_for slot.len) (at : get_or (keys_of s slot) b 0 ≡ key) (fits : place + length bytes ≤ 252) (count : blocks_for len ≡ blocks_for slot.len) where
+module _ (s : Slab Block) (slots : List Slot) (i capacity : ℕ) (slot : Slot) (chained : IsChained s slots capacity)
+    (within : i < length slots) (is : get_or slots i slot ≡ slot) (key b place len : ℕ) (bytes : List ℕ)
+    (inside : b < blocks_for slot.len) (at : get_or (keys_of s slot) b 0 ≡ key) (fits : place + length bytes ≤ 252)
+    (count : blocks_for len ≡ blocks_for slot.len) where
   abbrev written : Block
   written = record { bytes = with_field place bytes (data_at s key); next = next_at s key }
 
@@ -101,38 +113,59 @@ module _ (s : Slab Block) (slots : List Slot) (i capacity : ℕ) (slot : Slot) (
   moves_put =
       record {
         same = λ k more.
-            others k (λ here. omega (arith, one_block, ap (λ x. times_in x (keys_of s slot)) here, ap (blocks_at s) here, key_lies s slots i capacity slot chained within is b key inside at));
+            others k (λ here. omega (
+              arith,
+              one_block,
+              ap (λ x. times_in x (keys_of s slot)) here,
+              ap (blocks_at s) here,
+              key_lies s slots i capacity slot chained within is b key inside at,
+            ));
         once = λ k. omega (arith, blocks_same k, ap (times_in k) keys_same);
         counted = omega (arith, slab_len-with_value s key written has_key);
         full = full;
-        last = λ some. ap (λ n. get_or (keys_of t new) (n - 1) 0) count ∙ ap (λ ks. get_or ks (blocks_for slot.len - 1) 0) keys_same ∙ last_here s slots i capacity slot chained within is (omega arith);
+        last = λ some. ap (λ n. get_or (keys_of t new) (n - 1) 0) count ∙ ap (λ ks. get_or ks (blocks_for slot.len - 1) 0)
+            keys_same ∙ last_here s slots i capacity slot chained within is (omega arith);
         capacity = refl;
       }
 
-  pub chain_put : chain_of t new ≡ record { keys = keys_of s slot; bytes = take len (with_field (252 * b + place) bytes (data_of s (keys_of s slot))) }
+  pub chain_put : chain_of t new ≡ record {
+    keys = keys_of s slot;
+    bytes =
+        take len (with_field (252 * b + place) bytes (data_of s (keys_of s slot)));
+  }
   chain_put =
-      let held = data_of-put s t (keys_of s slot) b key place bytes (omega (arith, length-keys_from s (blocks_for slot.len) slot.head)) at (once_here s slots i capacity slot chained within is key) (full_here s slots i capacity slot chained within is) fits (ap data_in found) (λ k differ. ap data_in (others k differ)) in
-      ap (λ (ks : List ℕ). record { keys = ks; bytes = take len (data_of t ks) }) keys_same ∙ ap (λ (bs : List ℕ). record { keys = keys_of s slot; bytes = take len bs }) held
+      let held = data_of-put s t (keys_of s slot) b key place bytes
+      (omega (arith, length-keys_from s (blocks_for slot.len) slot.head)) at (once_here s slots i capacity slot chained
+      within is key) (full_here s slots i capacity slot chained within is) fits (ap data_in found)
+      (λ k differ. ap data_in (others k differ)) in
+      ap (λ (ks : List ℕ). record { keys = ks; bytes = take len (data_of t ks) }) keys_same
+      ∙ ap (λ (bs : List ℕ). record { keys = keys_of s slot; bytes = take len bs }) held
 
   -- at the string's end
-  pub chain_extended : 252 * b + place ≡ slot.len → len ≡ slot.len + length bytes → chain_of t new ≡ record { keys = (chain_of s slot).keys; bytes = (chain_of s slot).bytes ++ bytes }
+  pub chain_extended : 252 * b + place ≡ slot.len → len ≡ slot.len + length bytes →
+      chain_of t new ≡ record { keys = (chain_of s slot).keys; bytes = (chain_of s slot).bytes ++ bytes }
   chain_extended end longer =
       let old = data_of s (keys_of s slot) in
       let size = length_data s slots i capacity slot chained within is in
       chain_put
       ∙ ap (λ (n : ℕ). record { keys = keys_of s slot; bytes = take n (with_field (252 * b + place) bytes old) }) longer
       ∙ ap (λ (p : ℕ). record { keys = keys_of s slot; bytes = take (slot.len + length bytes) (with_field p bytes old) }) end
-      ∙ ap (λ (bs : List ℕ). record { keys = keys_of s slot; bytes = bs }) (take-with_field_end slot.len bytes old (omega (arith, blocks_for-bounds slot.len)))
+      ∙ ap (λ (bs : List ℕ). record { keys = keys_of s slot; bytes = bs })
+      (take-with_field_end slot.len bytes old (omega (arith, blocks_for-bounds slot.len)))
 
   -- within the string
-  pub chain_overwritten : 252 * b + place + length bytes ≤ slot.len → len ≡ slot.len → chain_of t new ≡ record { keys = (chain_of s slot).keys; bytes = with_field (252 * b + place) bytes (chain_of s slot).bytes }
+  pub chain_overwritten : 252 * b + place + length bytes ≤ slot.len → len ≡ slot.len →
+      chain_of t new ≡ record { keys = (chain_of s slot).keys; bytes = with_field (252 * b + place) bytes (chain_of s slot).bytes }
   chain_overwritten fits_string same =
       let old = data_of s (keys_of s slot) in
       let size = length_data s slots i capacity slot chained within is in
       chain_put
       ∙ ap (λ (n : ℕ). record { keys = keys_of s slot; bytes = take n (with_field (252 * b + place) bytes old) }) same
-      ∙ ap (λ (bs : List ℕ). record { keys = keys_of s slot; bytes = bs }) (take-with_field slot.len (252 * b + place) bytes old fits_string (omega (arith, blocks_for-bounds slot.len)))
+      ∙ ap (λ (bs : List ℕ). record { keys = keys_of s slot; bytes = bs }) (take-with_field slot.len (252 * b + place) bytes old
+      fits_string (omega (arith, blocks_for-bounds slot.len)))
 
 -- where bytes go that the last block has room for
-pub end_in_last : (size more : ℕ) → 0 < more → size + more ≤ 252 * blocks_for size → (252 * (blocks_for size - 1) + size % 252 ≡ size) × (size % 252 + more ≤ 252) × (0 < size) × (blocks_for (size + more) ≡ blocks_for size)
+pub end_in_last : (size more : ℕ) → 0 < more → size + more ≤ 252 * blocks_for size →
+    (252 * (blocks_for size - 1) + size % 252 ≡ size) × (size % 252 + more ≤ 252) × (0 < size) ×
+    (blocks_for (size + more) ≡ blocks_for size)
 end_in_last size more some room = (omega arith, omega arith, omega arith, blocks_for_is (size + more) (blocks_for size) room (omega arith))

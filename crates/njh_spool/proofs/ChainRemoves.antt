@@ -1,5 +1,6 @@
 -- A chain loses its first block.
-use Rattle.std.proofs.Common.{◌≡◌, ◌≢◌, ℕ, zero, suc, ◌+◌, ◌-◌, ◌<◌, List, ◌∷◌, ◌++◌, length, get_or, take, drop, cond, eqb, Option, Some, None, refl, sym, ap, ◌∙◌, inl, inr, arith, length-take}
+use Rattle.std.proofs.Common.{◌≡◌, ◌≢◌, ℕ, zero, suc, ◌+◌, ◌-◌, ◌<◌, List, ◌∷◌, ◌++◌, length, get_or, take, drop, cond, eqb, Option}
+use Rattle.std.proofs.Common.{Some, None, refl, sym, ap, ◌∙◌, inl, inr, arith, length-take}
 use Rattle.std.proofs.lemmas.Bool.{cases_eq, cases_lt}
 use Rattle.std.proofs.lemmas.List.{drop_all, drop_at}
 use Rattle.std.proofs.lemmas.List.Concat.{flat_map-cons}
@@ -7,7 +8,8 @@ use Rattle.slab.specs.Slab.{Slab, get, slab_len, ContainsKey, Updates}
 use Rattle.njh_spool.specs.declared.store.block.Block.{Block}
 use Rattle.njh_spool.specs.declared.store.slot.Slot.{Slot}
 use Rattle.njh_spool.specs.Chains.{blocks_for}
-use Rattle.njh_spool.specs.ChainedBlocks.{link_in, data_in, blocks_in, next_at, data_at, blocks_at, keys_from, keys_of, data_of, chain_of, times_in, IsChained}
+use Rattle.njh_spool.specs.ChainedBlocks.{link_in, data_in, blocks_in, next_at, data_at, blocks_at, keys_from, keys_of, data_of}
+use Rattle.njh_spool.specs.ChainedBlocks.{chain_of, times_in, IsChained}
 use Rattle.njh_spool.proofs.ChainLists.{take-right}
 use Rattle.njh_spool.proofs.ChainKeys.{times-cons, one_itself, one_other, keys_from-same, data_of-same}
 use Rattle.njh_spool.proofs.ChainMoves.{Moves}
@@ -25,20 +27,24 @@ rest_of size xs ys long =
     elim (cases_lt 252 size) [
       | inl more ↦
           let sum : size ≡ 252 + (size - 252) = omega arith in
-          ap (λ n. drop 252 (take n (xs ++ ys))) sum ∙ ap (drop 252) (take-right 252 (size - 252) xs ys long) ∙ drop_at xs (take (size - 252) ys) 252 long
+          ap (λ n. drop 252 (take n (xs ++ ys))) sum ∙ ap (drop 252) (take-right 252 (size - 252) xs ys long)
+          ∙ drop_at xs (take (size - 252) ys) 252 long
       | inr few ↦
           let none : size - 252 ≡ 0 = omega arith in
           drop_all 252 (take size (xs ++ ys)) (omega (arith, length-take size (xs ++ ys))) ∙ sym (ap (λ n. take n ys) none)
     ]
 
-module _ (s t : Slab Block) (slots : List Slot) (i capacity : ℕ) (slot : Slot) (chained : IsChained s slots capacity) (within : i < length slots) (is : get_or slots i slot ≡ slot) (any : 0 < slot.len) where
+module _ (s t : Slab Block) (slots : List Slot) (i capacity : ℕ) (slot : Slot) (chained : IsChained s slots capacity)
+    (within : i < length slots) (is : get_or slots i slot ≡ slot) (any : 0 < slot.len) where
   pub head_lies : 0 < times_in slot.head (keys_of s slot)
-  head_lies = key_lies s slots i capacity slot chained within is 0 slot.head (omega arith) (head_here s slots i capacity slot chained within is any)
+  head_lies = key_lies s slots i capacity slot chained within is 0 slot.head (omega arith)
+      (head_here s slots i capacity slot chained within is any)
 
   pub has_head : ContainsKey s slot.head
   has_head = has_here s slots i capacity slot chained within is slot.head head_lies
 
-  module _ (first : Block) (found : get s slot.head ≡ Some first) (updates : Updates s t slot.head None) (fewer : slab_len t + 1 ≡ slab_len s) (room : t.capacity ≡ s.capacity) where
+  module _ (first : Block) (found : get s slot.head ≡ Some first) (updates : Updates s t slot.head None)
+      (fewer : slab_len t + 1 ≡ slab_len s) (room : t.capacity ≡ s.capacity) where
     abbrev shorter : Slot
     shorter = record { head = first.next; last = slot.last; len = slot.len - 252 }
 
@@ -47,7 +53,8 @@ module _ (s t : Slab Block) (slots : List Slot) (i capacity : ℕ) (slot : Slot)
 
     keys_first : keys_of s slot ≡ slot.head ∷ rest
     keys_first =
-        let one : blocks_for slot.len ≡ suc (blocks_for (slot.len - 252)) = blocks_for_is slot.len (suc (blocks_for (slot.len - 252))) (omega arith) (omega arith) in
+        let one : blocks_for slot.len ≡ suc (blocks_for (slot.len - 252)) = blocks_for_is slot.len
+        (suc (blocks_for (slot.len - 252))) (omega arith) (omega arith) in
         ap (λ n. keys_from s n slot.head) one
 
     times_first : (key : ℕ) → times_in key (keys_of s slot) ≡ cond {A = ℕ} (eqb slot.head key) 1 0 + times_in key rest
@@ -74,7 +81,14 @@ module _ (s t : Slab Block) (slots : List Slot) (i capacity : ℕ) (slot : Slot)
     pub moves_rest : Moves s t slot shorter
     moves_rest =
         record {
-          same = λ key h. updates.others key (λ here. omega (arith, head_one, ap (blocks_at s) here, ap (λ x. times_in x (keys_of s slot)) here, head_lies));
+          same = λ key h. updates.others key (λ here. omega (
+            arith,
+            head_one,
+            ap (blocks_at s) here,
+            ap
+                (λ x. times_in x (keys_of s slot)) here,
+            head_lies,
+          ));
           once = λ key.
               let new = ap (times_in key) keys_shorter in
               elim (cases_eq key slot.head) [
@@ -103,7 +117,8 @@ module _ (s t : Slab Block) (slots : List Slot) (i capacity : ℕ) (slot : Slot)
                     omega (arith, chained.full key)
               ];
           last = λ some.
-              let more : blocks_for slot.len - 1 ≡ blocks_for (slot.len - 252) = omega (arith, blocks_for_is slot.len (suc (blocks_for (slot.len - 252))) (omega arith) (omega arith)) in
+              let more : blocks_for slot.len - 1 ≡ blocks_for (slot.len - 252) =
+              omega (arith, blocks_for_is slot.len (suc (blocks_for (slot.len - 252))) (omega arith) (omega arith)) in
               ap (λ ks. get_or ks (blocks_for (slot.len - 252) - 1) 0) keys_shorter
               ∙ sym (get_or-rest slot.head rest (blocks_for (slot.len - 252)) (omega arith))
               ∙ ap (λ n. get_or (slot.head ∷ rest) n 0) (sym more)

@@ -1,15 +1,19 @@
 -- The store's value with another chain in a slot.
-use Rattle.std.proofs.Common.{◌≡◌, ℕ, ◌+◌, ◌*◌, ◌<◌, ◌≤◌, List, ◌++◌, length, take, sym, ap, ◌∙◌, arith, rules, append_assoc, length-append, length-take}
+use Rattle.std.proofs.Common.{◌≡◌, ℕ, ◌+◌, ◌*◌, ◌<◌, ◌≤◌, List, ◌++◌, length, take, sym, ap, ◌∙◌, arith, rules, append_assoc}
+use Rattle.std.proofs.Common.{length-append, length-take}
 use Rattle.std.proofs.lemmas.List.{same_lists, places, get_or-set_same, set-set, set-get_or, length-set, take-take}
 use Rattle.std.proofs.lemmas.List.Sums.{sum_by-set}
 use Rattle.njh_record.specs.Bytes.{with_field}
 use Rattle.njh_spool.specs.Chains.{Chain, StoreValue, Grows, empty_chain, chain_at, with_chain, with_bytes, blocks_of, blocks_used}
 
-pub chain_at-with_chain : (slot : ℕ) (chain : Chain) (store : StoreValue) → slot < length store.chains → chain_at slot (with_chain slot chain store) ≡ chain
+pub chain_at-with_chain : (slot : ℕ) (chain : Chain) (store : StoreValue) → slot < length store.chains →
+    chain_at slot (with_chain slot chain store) ≡ chain
 chain_at-with_chain slot chain store within = get_or-set_same store.chains slot chain empty_chain within
 
-pub with_chain-twice : (slot : ℕ) (first second : Chain) (store : StoreValue) → with_chain slot second (with_chain slot first store) ≡ with_chain slot second store
-with_chain-twice slot first second store = ap (λ (chains : List Chain). record store { chains = chains }) (set-set store.chains slot first second)
+pub with_chain-twice : (slot : ℕ) (first second : Chain) (store : StoreValue) → with_chain slot second
+    (with_chain slot first store) ≡ with_chain slot second store
+with_chain-twice slot first second store = ap (λ (chains : List Chain). record store { chains = chains })
+    (set-set store.chains slot first second)
 
 pub with_chain-same : (slot : ℕ) (store : StoreValue) → with_chain slot (chain_at slot store) store ≡ store
 with_chain-same slot store = ap (λ (chains : List Chain). record store { chains = chains }) (set-get_or store.chains slot empty_chain)
@@ -28,9 +32,11 @@ Only-within slot old now only within =
 pub Only-capacity : (slot : ℕ) (old now : StoreValue) → Only slot old now → now.capacity ≡ old.capacity
 Only-capacity slot old now only = ap (λ (x : StoreValue). x.capacity) only.is
 
-pub Only-then : (slot : ℕ) (old now later : StoreValue) (chain : Chain) → Only slot old now → slot < length old.chains → later ≡ with_chain slot chain now → Only slot old later
+pub Only-then : (slot : ℕ) (old now later : StoreValue) (chain : Chain) → Only slot old now → slot < length old.chains →
+    later ≡ with_chain slot chain now → Only slot old later
 Only-then slot old now later chain only within is =
-    let here : chain_at slot later ≡ chain = ap (chain_at slot) is ∙ chain_at-with_chain slot chain now (Only-within slot old now only within) in
+    let here : chain_at slot later ≡ chain = ap (chain_at slot) is ∙ chain_at-with_chain slot chain now
+    (Only-within slot old now only within) in
     record {
       is =
           is
@@ -39,25 +45,34 @@ Only-then slot old now later chain only within is =
           ∙ ap (λ (x : Chain). with_chain slot x old) (sym here);
     }
 
-pub Only-chain : (slot : ℕ) (now later : StoreValue) (chain : Chain) → slot < length now.chains → later ≡ with_chain slot chain now → chain_at slot later ≡ chain
+pub Only-chain : (slot : ℕ) (now later : StoreValue) (chain : Chain) → slot < length now.chains → later ≡ with_chain slot chain
+    now → chain_at slot later ≡ chain
 Only-chain slot now later chain within is = ap (chain_at slot) is ∙ chain_at-with_chain slot chain now within
 
-pub with_field-two : (place : ℕ) (first second bytes : List ℕ) → place + length first + length second ≤ length bytes → with_field (place + length first) second (with_field place first bytes) ≡ with_field place (first ++ second) bytes
+pub with_field-two : (place : ℕ) (first second bytes : List ℕ) → place + length first + length second ≤ length bytes →
+    with_field (place + length first) second (with_field place first bytes) ≡ with_field place (first ++ second) bytes
 with_field-two place first second bytes within = same_lists _ _ (search (rules, places)) (λ i d h. grind (arith, places))
 
 -- a string that is written over twice
-pub with_bytes-two : (slot place : ℕ) (first second all : List ℕ) (store mid : StoreValue) → slot < length store.chains → mid ≡ with_bytes slot (with_field place first (chain_at slot store).bytes) store → first ++ second ≡ all → place + length first + length second ≤ length (chain_at slot store).bytes → with_bytes slot (with_field (place + length first) second (chain_at slot mid).bytes) mid ≡ with_bytes slot (with_field place all (chain_at slot store).bytes) store
+pub with_bytes-two : (slot place : ℕ) (first second all : List ℕ) (store mid : StoreValue) → slot < length store.chains →
+    mid ≡ with_bytes slot (with_field place first (chain_at slot store).bytes) store → first ++ second ≡ all →
+    place + length first + length second ≤ length (chain_at slot store).bytes →
+    with_bytes slot (with_field (place + length first) second (chain_at slot mid).bytes) mid ≡ with_bytes slot
+    (with_field place all (chain_at slot store).bytes) store
 with_bytes-two slot place first second all store mid within is both fits =
     let bytes = (chain_at slot store).bytes in
     let keys = (chain_at slot store).keys in
     let chain = Only-chain slot store mid (record { keys = keys; bytes = with_field place first bytes }) within is in
     ap (λ (c : Chain). with_chain slot (record { keys = c.keys; bytes = with_field (place + length first) second c.bytes }) mid) chain
     ∙ ap (with_chain slot (record { keys = keys; bytes = with_field (place + length first) second (with_field place first bytes) })) is
-    ∙ with_chain-twice slot (record { keys = keys; bytes = with_field place first bytes }) (record { keys = keys; bytes = with_field (place + length first) second (with_field place first bytes) }) store
-    ∙ ap (λ (bs : List ℕ). with_bytes slot bs store) (with_field-two place first second bytes fits ∙ ap (λ (new : List ℕ). with_field place new bytes) both)
+    ∙ with_chain-twice slot (record { keys = keys; bytes = with_field place first bytes })
+    (record { keys = keys; bytes = with_field (place + length first) second (with_field place first bytes) }) store
+    ∙ ap (λ (bs : List ℕ). with_bytes slot bs store) (with_field-two place first second bytes fits
+    ∙ ap (λ (new : List ℕ). with_field place new bytes) both)
 
 -- the blocks in use with another string
-pub blocks_used-with_chain : (slot : ℕ) (chain : Chain) (store : StoreValue) → slot < length store.chains → blocks_used (with_chain slot chain store) + blocks_of (chain_at slot store).bytes ≡ blocks_used store + blocks_of chain.bytes
+pub blocks_used-with_chain : (slot : ℕ) (chain : Chain) (store : StoreValue) → slot < length store.chains →
+    blocks_used (with_chain slot chain store) + blocks_of (chain_at slot store).bytes ≡ blocks_used store + blocks_of chain.bytes
 blocks_used-with_chain slot chain store within = sum_by-set (λ (x : Chain). blocks_of x.bytes) store.chains slot chain empty_chain within
 
 -- a string grows by these bytes, of which the last are still to come
@@ -67,7 +82,9 @@ pub record Appends (slot : ℕ) (bytes left : List ℕ) (old now : StoreValue) :
   pub keys : take (length (chain_at slot old).keys) (chain_at slot now).keys ≡ (chain_at slot old).keys
   pub filled : 0 < length left → length (chain_at slot now).bytes ≡ 252 * blocks_of (chain_at slot now).bytes
 
-pub Appends-then : (slot : ℕ) (bytes left part after : List ℕ) (old now later : StoreValue) → Appends slot bytes left old now → slot < length old.chains → Grows slot part now later → part ++ after ≡ left → (0 < length after → length part ≡ 252) → Appends slot bytes after old later
+pub Appends-then : (slot : ℕ) (bytes left part after : List ℕ) (old now later : StoreValue) → Appends slot bytes left old now →
+    slot < length old.chains → Grows slot part now later → part ++ after ≡ left → (0 < length after → length part ≡ 252) →
+    Appends slot bytes after old later
 Appends-then slot bytes left part after old now later appends within grows split whole =
     let chain : Chain = record { keys = (chain_at slot later).keys; bytes = (chain_at slot now).bytes ++ part } in
     let inside = Only-within slot old now appends.only within in

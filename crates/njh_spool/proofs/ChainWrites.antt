@@ -1,5 +1,6 @@
 -- What the store is after bytes were written in a block, or a block was added.
-use Rattle.std.proofs.Common.{◌≡◌, ℕ, ◌+◌, ◌-◌, ◌*◌, ◌%◌, ◌^◌, ◌<◌, ◌≤◌, List, ◌∷◌, [], ◌++◌, length, get_or, set, take, Some, None, refl, sym, ap, subst, ◌∙◌, arith}
+use Rattle.std.proofs.Common.{◌≡◌, ℕ, ◌+◌, ◌-◌, ◌*◌, ◌%◌, ◌^◌, ◌<◌, ◌≤◌, List, ◌∷◌, [], ◌++◌, length, get_or, set, take, Some, None}
+use Rattle.std.proofs.Common.{refl, sym, ap, subst, ◌∙◌, arith}
 use Rattle.std.specs.Prelude.{slice_get}
 use Rattle.std.proofs.lemmas.List.{set-get_or, take_at, nil_from_length}
 use Rattle.slab.specs.Slab.{Slab, get, slab_len, ContainsKey, with_value, Updates}
@@ -19,7 +20,9 @@ use Rattle.njh_spool.proofs.ChainPlaces.{few, key_at}
 abbrev pub put_in : Slab Block → ℕ → ℕ → List ℕ → Slab Block
 put_in s key place bytes = with_value s key (record { bytes = with_field place bytes (data_at s key); next = next_at s key })
 
-module _ (s : Slab Block) (slots : List Slot) (i capacity : ℕ) (slot : Slot) (chained : IsChained s slots capacity) (within : i < length slots) (is : get_or slots i slot ≡ slot) (store : StoreValue) (view : record { capacity = capacity; chains = chains_of s slots } ≡ store) where
+module _ (s : Slab Block) (slots : List Slot) (i capacity : ℕ) (slot : Slot) (chained : IsChained s slots capacity)
+    (within : i < length slots) (is : get_or slots i slot ≡ slot) (store : StoreValue)
+    (view : record { capacity = capacity; chains = chains_of s slots } ≡ store) where
   size : length (chain_at i store).bytes ≡ slot.len
   size = len_is s slots i capacity slot chained within is store view
 
@@ -27,8 +30,10 @@ module _ (s : Slab Block) (slots : List Slot) (i capacity : ℕ) (slot : Slot) (
   old = chain_is s slots i capacity slot chained within is store view
 
   -- bytes in what the last block has left
-  module _ (bytes : List ℕ) (some : 0 < length bytes) (room : length (chain_at i store).bytes + length bytes ≤ 252 * blocks_of (chain_at i store).bytes) where
-    places : (252 * (blocks_for slot.len - 1) + slot.len % 252 ≡ slot.len) × (slot.len % 252 + length bytes ≤ 252) × (0 < slot.len) × (blocks_for (slot.len + length bytes) ≡ blocks_for slot.len)
+  module _ (bytes : List ℕ) (some : 0 < length bytes) (room : length (chain_at i store).bytes + length bytes ≤ 252 * blocks_of
+      (chain_at i store).bytes) where
+    places : (252 * (blocks_for slot.len - 1) + slot.len % 252 ≡ slot.len) × (slot.len % 252 + length bytes ≤ 252) ×
+        (0 < slot.len) × (blocks_for (slot.len + length bytes) ≡ blocks_for slot.len)
     places = end_in_last slot.len (length bytes) some (omega (arith, size))
 
     at_last : get_or (keys_of s slot) (blocks_for slot.len - 1) 0 ≡ slot.last
@@ -38,7 +43,8 @@ module _ (s : Slab Block) (slots : List Slot) (i capacity : ℕ) (slot : Slot) (
     inside = omega (arith, places.2)
 
     pub last_has : ContainsKey s slot.last
-    last_has = has_key s slots i capacity slot chained within is slot.last (blocks_for slot.len - 1) (slot.len % 252) (slot.len + length bytes) bytes inside at_last places.1 places.3
+    last_has = has_key s slots i capacity slot chained within is slot.last (blocks_for slot.len - 1) (slot.len % 252)
+        (slot.len + length bytes) bytes inside at_last places.1 places.3
 
     pub fits_last : slot.len % 252 + length bytes ≤ 252
     fits_last = places.1
@@ -46,24 +52,35 @@ module _ (s : Slab Block) (slots : List Slot) (i capacity : ℕ) (slot : Slot) (
     pub fits_len : slot.len + length bytes < 2 ^ 32
     fits_len = omega (arith, size, count_within s slots i capacity slot chained within is, chained.small)
 
-    pub extended : IsChained (put_in s slot.last (slot.len % 252) bytes) (set slots i (record { head = slot.head; last = slot.last; len = slot.len + length bytes })) capacity
+    pub extended : IsChained (put_in s slot.last (slot.len % 252) bytes)
+        (set slots i (record { head = slot.head; last = slot.last; len = slot.len + length bytes })) capacity
     extended =
         let block : Block = record { bytes = with_field (slot.len % 252) bytes (data_at s slot.last); next = next_at s slot.last } in
         chained_moved s _ slots i capacity slot _ chained within is
-        (moves_put s slots i capacity slot chained within is slot.last (blocks_for slot.len - 1) (slot.len % 252) (slot.len + length bytes) bytes inside at_last places.1 places.3)
+        (moves_put s slots i capacity slot chained within is slot.last (blocks_for slot.len - 1) (slot.len % 252)
+        (slot.len + length bytes) bytes inside at_last places.1 places.3)
         (omega (arith, slab_len-with_value s slot.last block last_has, chained.within))
 
-    pub view_extended : record { capacity = capacity; chains = chains_of (put_in s slot.last (slot.len % 252) bytes) (set slots i (record { head = slot.head; last = slot.last; len = slot.len + length bytes })) } ≡ with_bytes i ((chain_at i store).bytes ++ bytes) store
+    pub view_extended : record {
+      capacity = capacity;
+      chains = chains_of (put_in s slot.last (slot.len % 252) bytes)
+          (set slots i (record { head = slot.head; last = slot.last; len = slot.len + length bytes }));
+    } ≡ with_bytes i
+        ((chain_at i store).bytes ++ bytes) store
     view_extended =
         view_moved s _ slots i capacity slot _ chained within is
-        (moves_put s slots i capacity slot chained within is slot.last (blocks_for slot.len - 1) (slot.len % 252) (slot.len + length bytes) bytes inside at_last places.1 places.3)
+        (moves_put s slots i capacity slot chained within is slot.last (blocks_for slot.len - 1) (slot.len % 252)
+        (slot.len + length bytes) bytes inside at_last places.1 places.3)
         store view
         ∙ ap (λ (x : Chain). with_chain i x store)
-        (chain_extended s slots i capacity slot chained within is slot.last (blocks_for slot.len - 1) (slot.len % 252) (slot.len + length bytes) bytes inside at_last places.1 places.3 places.0 refl
+        (chain_extended s slots i capacity slot chained within is slot.last (blocks_for slot.len - 1) (slot.len % 252)
+        (slot.len + length bytes) bytes inside at_last places.1 places.3 places.0 refl
         ∙ ap (λ (x : Chain). record { keys = x.keys; bytes = x.bytes ++ bytes }) (sym old))
 
   -- bytes over others in one block
-  module _ (b key at place : ℕ) (bytes : List ℕ) (marked : slice_get (chain_at i store).keys b ≡ Some key) (sum : 252 * b + at ≡ place) (fits : at + length bytes ≤ 252) (some : 0 < length bytes) (ends : place + length bytes ≤ length (chain_at i store).bytes) where
+  module _ (b key at place : ℕ) (bytes : List ℕ) (marked : slice_get (chain_at i store).keys b ≡ Some key)
+      (sum : 252 * b + at ≡ place) (fits : at + length bytes ≤ 252) (some : 0 < length bytes)
+      (ends : place + length bytes ≤ length (chain_at i store).bytes) where
     inside_string : 252 * b < length (chain_at i store).bytes
     inside_string = omega arith
 
@@ -83,7 +100,8 @@ module _ (s : Slab Block) (slots : List Slot) (i capacity : ℕ) (slot : Slot) (
         (moves_put s slots i capacity slot chained within is key b at slot.len bytes near here fits refl)
         (omega (arith, slab_len-with_value s key block has, chained.within)))
 
-    pub view_overwritten : record { capacity = capacity; chains = chains_of (put_in s key at bytes) slots } ≡ with_bytes i (with_field place bytes (chain_at i store).bytes) store
+    pub view_overwritten : record { capacity = capacity; chains = chains_of (put_in s key at bytes) slots } ≡ with_bytes i
+        (with_field place bytes (chain_at i store).bytes) store
     view_overwritten =
         let same : set slots i slot ≡ slots = ap (set slots i) (sym is) ∙ set-get_or slots i slot in
         ap (λ (xs : List Slot). record { capacity = capacity; chains = chains_of (put_in s key at bytes) xs }) (sym same)
@@ -96,7 +114,9 @@ module _ (s : Slab Block) (slots : List Slot) (i capacity : ℕ) (slot : Slot) (
         ∙ ap (λ (x : Chain). record { keys = x.keys; bytes = with_field place bytes x.bytes }) (sym old))
 
   -- a block's bytes behind the others
-  module _ (t1 : Slab Block) (k : ℕ) (bytes : List ℕ) (some : 0 < length bytes) (short : length bytes ≤ 252) (vacant : get s k ≡ None) (updates : Updates s t1 k (Some (block_with bytes 0))) (more : slab_len t1 ≡ slab_len s + 1) (room : t1.capacity ≡ s.capacity) (free : slab_len s < capacity) where
+  module _ (t1 : Slab Block) (k : ℕ) (bytes : List ℕ) (some : 0 < length bytes) (short : length bytes ≤ 252)
+      (vacant : get s k ≡ None) (updates : Updates s t1 k (Some (block_with bytes 0))) (more : slab_len t1 ≡ slab_len s + 1)
+      (room : t1.capacity ≡ s.capacity) (free : slab_len s < capacity) where
     module _ (empty : slot.len ≡ 0) where
       pub begun : IsChained t1 (set slots i (record { head = k; last = k; len = length bytes })) capacity
       begun =
@@ -104,13 +124,20 @@ module _ (s : Slab Block) (slots : List Slot) (i capacity : ℕ) (slot : Slot) (
           (moves_first s t1 k bytes short vacant updates more room slots i capacity slot chained within is some empty)
           (omega arith)
 
-      pub grows_begun : i < length store.chains → Grows i bytes store (record { capacity = capacity; chains = chains_of t1 (set slots i (record { head = k; last = k; len = length bytes })) })
+      pub grows_begun : i < length store.chains →
+          Grows i bytes store (record {
+            capacity = capacity;
+            chains =
+                chains_of t1 (set slots i (record { head = k; last = k; len = length bytes }));
+          })
       grows_begun held =
-          let now = view_moved s t1 slots i capacity slot _ chained within is (moves_first s t1 k bytes short vacant updates more room slots i capacity slot chained within is some empty) store view in
+          let now = view_moved s t1 slots i capacity slot _ chained within is (moves_first s t1 k bytes short vacant updates
+          more room slots i capacity slot chained within is some empty) store view in
           let chain = chain_first s t1 k bytes short vacant updates more room slots i capacity slot chained within is some empty in
           let no_bytes = nil_from_length (chain_at i store).bytes (omega (arith, size)) in
           let keys = keys_is s slots i capacity slot chained within is store view in
-          let no_keys = nil_from_length (chain_at i store).keys (omega (arith, ap length keys, length-keys_from s (blocks_for slot.len) slot.head)) in
+          let no_keys = nil_from_length (chain_at i store).keys
+          (omega (arith, ap length keys, length-keys_from s (blocks_for slot.len) slot.head)) in
           grows_from i bytes store _ (record { keys = k ∷ []; bytes = bytes }) held (now ∙ ap (λ (x : Chain). with_chain i x store) chain)
           (ap (λ (xs : List ℕ). xs ++ bytes) (sym no_bytes))
           (ap (λ (ks : List ℕ). take (length ks) (k ∷ [])) no_keys ∙ sym no_keys)
@@ -132,11 +159,19 @@ module _ (s : Slab Block) (slots : List Slot) (i capacity : ℕ) (slot : Slot) (
           (moves_next s t1 k bytes short vacant updates more room slots i capacity slot chained within is some filled any)
           (omega (arith, slab_len-with_value t1 slot.last block has_last_block))
 
-      pub grows_linked : i < length store.chains → Grows i bytes store (record { capacity = capacity; chains = chains_of linked_to (set slots i (record { head = slot.head; last = k; len = slot.len + length bytes })) })
+      pub grows_linked : i < length store.chains →
+          Grows i bytes store (record {
+            capacity = capacity;
+            chains =
+                chains_of linked_to (set slots i (record { head = slot.head; last = k; len = slot.len + length bytes }));
+          })
       grows_linked held =
-          let now = view_moved s _ slots i capacity slot _ chained within is (moves_next s t1 k bytes short vacant updates more room slots i capacity slot chained within is some filled any) store view in
+          let now = view_moved s _ slots i capacity slot _ chained within is (moves_next s t1 k bytes short vacant updates more
+          room slots i capacity slot chained within is some filled any) store view in
           let chain = chain_next s t1 k bytes short vacant updates more room slots i capacity slot chained within is some filled any in
           let keys = keys_is s slots i capacity slot chained within is store view in
-          grows_from i bytes store _ (record { keys = keys_of s slot ++ k ∷ []; bytes = (chain_of s slot).bytes ++ bytes }) held (now ∙ ap (λ (x : Chain). with_chain i x store) chain)
+          grows_from i bytes store _ (record { keys = keys_of s slot ++ k ∷ []; bytes = (chain_of s slot).bytes ++ bytes }) held
+          (now ∙ ap (λ (x : Chain). with_chain i x store) chain)
           (ap (λ (x : Chain). x.bytes ++ bytes) (sym old))
-          (ap (λ (ks : List ℕ). take (length ks) (keys_of s slot ++ k ∷ [])) keys ∙ take_at (keys_of s slot) (k ∷ []) (length (keys_of s slot)) refl ∙ sym keys)
+          (ap (λ (ks : List ℕ). take (length ks) (keys_of s slot ++ k ∷ [])) keys ∙ take_at (keys_of s slot) (k ∷ [])
+          (length (keys_of s slot)) refl ∙ sym keys)

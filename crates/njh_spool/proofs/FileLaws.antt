@@ -1,28 +1,30 @@
 -- A file's records in its chain: what a call on the chain makes of them.
-use Rattle.std.proofs.Common.{◌≡◌, ℕ, zero, suc, ◌+◌, ◌-◌, ◌*◌, ◌<◌, ◌≤◌, Bool, true, false, List, [], ◌∷◌, ◌++◌, length, take, drop, get_or, Some, refl, sym, ap, subst, ◌∙◌, arith, length-append, append_assoc}
-use Rattle.std.specs.Prelude.{All, slice_get, IsSomeAnd}
-use Rattle.std.proofs.lemmas.List.{take-append-le, take_at, drop_at, append-nil}
+use Rattle.std.proofs.Common.{◌≡◌, ℕ, zero, suc, ◌+◌, ◌*◌, ◌<◌, ◌≤◌, true, false, List, [], ◌∷◌, ◌++◌, length, take}
+use Rattle.std.proofs.Common.{get_or, Some, refl, sym, ap, subst, ◌∙◌, arith, length-append}
+use Rattle.std.specs.Prelude.{All, slice_get}
+use Rattle.std.proofs.lemmas.List.{take-append-le, append-nil}
 use Rattle.std.proofs.lemmas.List.Elements.{All-head, All-tail}
-use Rattle.std.proofs.lemmas.List.Sums.{sum_by-cons}
-use Rattle.njh_record.specs.Bytes.{field, with_field, two_bytes}
 use Rattle.njh_record.specs.Stored.{Stored}
 use Rattle.njh_spool.specs.declared.file_slot.FileSlot.{FileSlot}
 use Rattle.njh_spool.specs.declared.file_slot.RecordPlace.{RecordPlace}
 use Rattle.njh_spool.specs.declared.store.mark.Mark.{Mark}
 use Rattle.njh_spool.specs.Chains.{Chain, IsMark}
-use Rattle.njh_spool.specs.CustomerSpool.{stored_size, at_index, rewritten_record}
+use Rattle.njh_spool.specs.CustomerSpool.{stored_size}
 use Rattle.njh_spool.specs.Packing.{packed_record, packed, unpacked, IsShort}
 use Rattle.njh_spool.specs.Slots.{is_free, IsPlace, IsFile}
-use Rattle.njh_spool.proofs.CostLaws.{length-with_field}
 use Rattle.njh_spool.proofs.PackingLaws.{length-packed_record, length-packed, packed-append, length-unpacked, unpacked-packed}
 
 -- the records of bytes that are packed
-pub records_are : (records : List Stored) (count : ℕ) (bytes : List ℕ) → All IsShort records → count ≡ length records → bytes ≡ packed records → unpacked count bytes ≡ records
+pub records_are : (records : List Stored) (count : ℕ) (bytes : List ℕ) → All IsShort records → count ≡ length records →
+    bytes ≡ packed records → unpacked count bytes ≡ records
 records_are records count bytes short counted is =
-    ap (λ (n : ℕ). unpacked n bytes) counted ∙ ap (unpacked (length records)) (is ∙ sym (append-nil (packed records))) ∙ unpacked-packed records [] short
+    ap (λ (n : ℕ). unpacked n bytes) counted ∙ ap (unpacked (length records)) (is ∙ sym (append-nil (packed records)))
+    ∙ unpacked-packed records [] short
 
 -- a file of these records
-pub file_of : (records : List Stored) (slot : FileSlot) (chain : Chain) → All IsShort records → slot.count ≡ length records → chain.bytes ≡ packed records → (is_free slot.stage ≡ true → slot.count ≡ 0) → length chain.bytes ≤ 252 * 65535 → IsPlace records chain.keys slot.next → IsFile slot chain
+pub file_of : (records : List Stored) (slot : FileSlot) (chain : Chain) → All IsShort records → slot.count ≡ length records →
+    chain.bytes ≡ packed records → (is_free slot.stage ≡ true → slot.count ≡ 0) → length chain.bytes ≤ 252 * 65535 →
+    IsPlace records chain.keys slot.next → IsFile slot chain
 file_of records slot chain short counted is free small next =
     let same = records_are records slot.count chain.bytes short counted is in
     record {
@@ -33,15 +35,25 @@ file_of records slot chain short counted is free small next =
       next = subst (λ (rs : List Stored). IsPlace rs chain.keys slot.next) (sym same) next;
     }
 
-pub first_place : (records : List Stored) (keys : List ℕ) (at : RecordPlace) → at ≡ record { record_index = 0; place = 0; mark = record { block = 0; key = 0 } } → IsPlace records keys at
+pub first_place : (records : List Stored) (keys : List ℕ) (at : RecordPlace) → at ≡ record {
+  record_index = 0;
+  place = 0;
+  mark =
+      record { block = 0; key = 0 };
+} → IsPlace records keys at
 first_place records keys at is =
-    subst (λ (x : RecordPlace). IsPlace records keys x) (sym is) (record { before = omega arith; place = refl; mark = λ above. absurd (omega arith) })
+    subst (λ (x : RecordPlace). IsPlace records keys x) (sym is)
+    (record { before = omega arith; place = refl; mark = λ above. absurd (omega arith) })
 
 All-push : (P : Stored → Type 0) (xs : List Stored) (y : Stored) → All P xs → P y → All P (xs ++ y ∷ [])
-All-push P [] y all here = λ k d within. elim k as (λ k'. k' < 1 → P (get_or (y ∷ []) k' d)) [ zero ↦ λ _. here | suc k' ↦ λ w. absurd (omega arith) ] within
+All-push P [] y all here = λ k d within. elim k as (λ k'. k' < 1 → P (get_or (y ∷ []) k' d)) [
+  | zero ↦ λ _. here
+  | suc k' ↦ λ w. absurd (omega arith)
+] within
 All-push P (x ∷ xs) y all here =
     let rest = All-push P xs y (All-tail P x xs all) here in
-    λ k d within. elim k as (λ k'. k' < suc (length (xs ++ y ∷ [])) → P (get_or (x ∷ (xs ++ y ∷ [])) k' d)) [ zero ↦ λ _. All-head P x xs all | suc k' ↦ λ w. rest k' d (omega arith) ] within
+    λ k d within. elim k as (λ k'. k' < suc (length (xs ++ y ∷ [])) → P (get_or (x ∷ (xs ++ y ∷ [])) k' d))
+    [ zero ↦ λ _. All-head P x xs all | suc k' ↦ λ w. rest k' d (omega arith) ] within
 
 -- a mark stays one where a chain grows
 slice_get-front : (n i : ℕ) (xs : List ℕ) (key : ℕ) → slice_get (take n xs) i ≡ Some key → slice_get xs i ≡ Some key
@@ -51,10 +63,12 @@ slice_get-front (suc n) zero (x ∷ xs) key found = found
 slice_get-front (suc n) (suc i) (x ∷ xs) key found = slice_get-front n i xs key found
 
 pub mark-grown : (keys keys' : List ℕ) (mark : Mark) → take (length keys) keys' ≡ keys → IsMark keys mark → IsMark keys' mark
-mark-grown keys keys' mark front is = λ above. slice_get-front (length keys) mark.block keys' mark.key (ap (λ (ks : List ℕ). slice_get ks mark.block) front ∙ is above)
+mark-grown keys keys' mark front is = λ above. slice_get-front (length keys) mark.block keys' mark.key
+    (ap (λ (ks : List ℕ). slice_get ks mark.block) front ∙ is above)
 
 -- one record more
-module _ (slot : FileSlot) (chain : Chain) (keys : List ℕ) (r : Stored) (file : IsFile slot chain) (short : IsShort r) (front : take (length chain.keys) keys ≡ chain.keys) where
+module _ (slot : FileSlot) (chain : Chain) (keys : List ℕ) (r : Stored) (file : IsFile slot chain) (short : IsShort r)
+    (front : take (length chain.keys) keys ≡ chain.keys) where
   abbrev records : List Stored
   records = unpacked slot.count chain.bytes
 
@@ -68,7 +82,8 @@ module _ (slot : FileSlot) (chain : Chain) (keys : List ℕ) (r : Stored) (file 
   slot' = record slot { count = slot.count + 1 }
 
   bytes_are : chain.bytes ++ packed_record r ≡ packed longer
-  bytes_are = ap (λ (xs : List ℕ). xs ++ packed_record r) file.bytes ∙ ap (λ (xs : List ℕ). packed records ++ xs) (sym (append-nil (packed_record r))) ∙ sym (packed-append records (r ∷ []))
+  bytes_are = ap (λ (xs : List ℕ). xs ++ packed_record r) file.bytes ∙ ap (λ (xs : List ℕ). packed records ++ xs)
+      (sym (append-nil (packed_record r))) ∙ sym (packed-append records (r ∷ []))
 
   counted : slot.count + 1 ≡ length longer
   counted = omega (arith, length-append records (r ∷ []), length-unpacked slot.count chain.bytes)
@@ -81,7 +96,8 @@ module _ (slot : FileSlot) (chain : Chain) (keys : List ℕ) (r : Stored) (file 
 
   pub appended-file : is_free slot.stage ≡ false → length (chain.bytes ++ packed_record r) ≤ 252 * 65535 → IsFile slot' chain'
   appended-file used small =
-      file_of longer slot' chain' all_short counted bytes_are (λ free. absurd (let clash : false ≡ true = sym used ∙ free in cc)) small (record {
+      file_of longer slot' chain' all_short counted bytes_are
+      (λ free. absurd (let clash : false ≡ true = sym used ∙ free in cc)) small (record {
         before = omega (arith, file.next.before, length-append records (r ∷ []));
         place = file.next.place ∙ ap stored_size (sym (take-append-le slot.next.record_index records (r ∷ []) file.next.before));
         mark = mark-grown chain.keys keys slot.next.mark front file.next.mark;

@@ -1,8 +1,9 @@
 -- Slots and chains by a customer and a file's number.
-use Rattle.std.proofs.Common.{◌≡◌, ◌≢◌, ℕ, ◌+◌, ◌*◌, ◌<◌, ◌≤◌, Bool, true, false, cond, eqb, ltb, List, length, get_or, set, refl, sym, ap, ◌∙◌, ◌⊎◌, inl, inr, arith, eq-eqb, ne_eqb}
+use Rattle.std.proofs.Common.{◌≡◌, ◌≢◌, ℕ, ◌+◌, ◌*◌, ◌<◌, true, false, cond, eqb, ltb, List, length, get_or, set, refl}
+use Rattle.std.proofs.Common.{ap, ◌∙◌, ◌⊎◌, inl, inr, arith, eq-eqb, ne_eqb}
 use Rattle.std.proofs.Math.Path.{fun_ext}
 use Rattle.std.proofs.lemmas.Bool.{cases_eq, cases_lt, lt-ltb, le-ltb, both_ways}
-use Rattle.std.proofs.lemmas.List.{get_or-set_same, get_or-set_other, get_or_past}
+use Rattle.std.proofs.lemmas.List.{get_or-set_same, get_or-set_other}
 use Rattle.njh_spool.specs.declared.file_slot.FileSlot.{FileSlot}
 use Rattle.njh_spool.specs.Chains.{Chain, empty_chain}
 use Rattle.njh_spool.specs.Slots.{Content, content, contents, slot_of, chain_of, free_slot, is_free}
@@ -17,7 +18,8 @@ at_is xs d c n small = rw (lt-ltb n 1024 small) refl
 at_same : {X : Type 0} (xs : List X) (x d : X) (c n : ℕ) → n < 1024 → 1024 * c + n < length xs → at (set xs (1024 * c + n) x) d c n ≡ x
 at_same xs x d c n small within = rw (lt-ltb n 1024 small) (get_or-set_same xs (1024 * c + n) x d within)
 
-at_other : {X : Type 0} (xs : List X) (x d : X) (c n e m : ℕ) → n < 1024 → (e ≢ c) ⊎ (m ≢ n) → at (set xs (1024 * c + n) x) d e m ≡ at xs d e m
+at_other : {X : Type 0} (xs : List X) (x d : X) (c n e m : ℕ) → n < 1024 → (e ≢ c) ⊎ (m ≢ n) → at (set xs (1024 * c + n) x) d e
+    m ≡ at xs d e m
 at_other xs x d c n e m small apart =
     elim (cases_lt m 1024) [
       | inl below ↦
@@ -59,7 +61,8 @@ put_again files n =
       | inr other ↦ rw (ne_eqb m n other) refl
     ])
 
-module _ (slots : List FileSlot) (chains : List Chain) (c n : ℕ) (slot : FileSlot) (chain : Chain) (small : n < 1024) (has_slot : 1024 * c + n < length slots) (has_chain : 1024 * c + n < length chains) where
+module _ (slots : List FileSlot) (chains : List Chain) (c n : ℕ) (slot : FileSlot) (chain : Chain) (small : n < 1024)
+    (has_slot : 1024 * c + n < length slots) (has_chain : 1024 * c + n < length chains) where
   abbrev slots' : List FileSlot
   slots' = set slots (1024 * c + n) slot
 
@@ -83,13 +86,17 @@ module _ (slots : List FileSlot) (chains : List Chain) (c n : ℕ) (slot : FileS
       fun_ext (λ m.
       elim (cases_eq m n) [
         | inl same ↦
-            let here : contents slots' chains' c n ≡ content slot chain = ap (λ (s : FileSlot). content s (chain_of chains' c n)) slot-same ∙ ap (content slot) chain-same in
+            let here : contents slots' chains' c n ≡ content slot chain =
+            ap (λ (s : FileSlot). content s (chain_of chains' c n)) slot-same ∙ ap (content slot) chain-same in
             rw (same, eq-eqb n n refl) here
         | inr other ↦
-            let there : contents slots' chains' c m ≡ contents slots chains c m = ap (λ (s : FileSlot). content s (chain_of chains' c m)) (slot-other c m (inr other)) ∙ ap (content (slot_of slots c m)) (chain-other c m (inr other)) in
+            let there : contents slots' chains' c m ≡ contents slots chains c m =
+            ap (λ (s : FileSlot). content s (chain_of chains' c m)) (slot-other c m (inr other))
+            ∙ ap (content (slot_of slots c m)) (chain-other c m (inr other)) in
             rw (ne_eqb m n other) there
       ])
 
   pub contents-other : (e : ℕ) → e ≢ c → contents slots' chains' e ≡ contents slots chains e
   contents-other e apart =
-      fun_ext (λ m. ap (λ (s : FileSlot). content s (chain_of chains' e m)) (slot-other e m (inl apart)) ∙ ap (content (slot_of slots e m)) (chain-other e m (inl apart)))
+      fun_ext (λ m. ap (λ (s : FileSlot). content s (chain_of chains' e m)) (slot-other e m (inl apart))
+      ∙ ap (content (slot_of slots e m)) (chain-other e m (inl apart)))

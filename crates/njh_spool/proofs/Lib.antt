@@ -1,5 +1,6 @@
 pub mod BeginLaws
 pub mod BegunLaws
+pub mod CallFinds
 pub mod CallLaws
 pub mod ChainAdds
 pub mod ChainKeys

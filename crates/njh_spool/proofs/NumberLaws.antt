@@ -1,5 +1,6 @@
 -- The number of the next file is the least that no file has.
-use Rattle.std.proofs.Common.{◌≡◌, ℕ, zero, suc, ◌+◌, ◌<◌, ◌≤◌, Bool, true, false, eqb, List, [], ◌∷◌, ◌++◌, length, map, refl, sym, ap, ◌∙◌, inl, inr, arith, length-append}
+use Rattle.std.proofs.Common.{◌≡◌, ℕ, zero, suc, ◌+◌, ◌<◌, ◌≤◌, Bool, true, false, eqb, List, [], ◌∷◌, ◌++◌, length, map, refl, sym, ap}
+use Rattle.std.proofs.Common.{◌∙◌, inl, inr, arith, length-append}
 use Rattle.std.specs.List.{list_any}
 use Rattle.std.proofs.lemmas.Bool.{both_ways, cases_eq, cases_order, cases_lt}
 use Rattle.std.proofs.lemmas.Bool.Decides.{nat_tests}
@@ -15,7 +16,8 @@ pub record IsLeastFrom (k n least : ℕ) (s : CustomerSpool) : Type 0 where
   pub taken : (m : ℕ) → n ≤ m → m < least → is_number m s ≡ true
   pub free : least < n + k → is_number least s ≡ false
 
-step : (k n : ℕ) (s : CustomerSpool) (found : Bool) → is_number n s ≡ found → IsLeastFrom k (n + 1) (least_from k (n + 1) s) s → IsLeastFrom (suc k) n (elim found [ true ↦ least_from k (n + 1) s | false ↦ n ]) s
+step : (k n : ℕ) (s : CustomerSpool) (found : Bool) → is_number n s ≡ found → IsLeastFrom k (n + 1) (least_from k (n + 1) s) s →
+    IsLeastFrom (suc k) n (elim found [ true ↦ least_from k (n + 1) s | false ↦ n ]) s
 step k n s true is rest =
     record {
       from = omega (arith, rest.from);
@@ -36,7 +38,12 @@ step k n s false is rest =
     }
 
 pub least_from_is : (k n : ℕ) (s : CustomerSpool) → IsLeastFrom k n (least_from k n s) s
-least_from_is zero n s = record { from = omega arith; within = omega arith; taken = λ m above below. absurd (omega arith); free = λ below. absurd (omega arith) }
+least_from_is zero n s = record {
+  from = omega arith;
+  within = omega arith;
+  taken = λ m above below. absurd (omega arith);
+  free = λ below. absurd (omega arith);
+}
 least_from_is (suc k) n s = step k n s (is_number n s) refl (least_from_is k (n + 1) s)
 
 -- a search that ends at a number ends there alone
@@ -45,7 +52,8 @@ least_from-unique k n m s least =
     let found = least_from_is k n s in
     elim (cases_order (least_from k n s) m) [
       | inl same ↦ same
-      | inr (inl below) ↦ absurd (both_ways (is_number (least_from k n s) s) (found.free (omega (arith, least.within))) (least.taken (least_from k n s) found.from below))
+      | inr (inl below) ↦ absurd (both_ways (is_number (least_from k n s) s) (found.free (omega (arith, least.within)))
+          (least.taken (least_from k n s) found.from below))
       | inr (inr above) ↦ absurd (both_ways (is_number m s) (least.free (omega (arith, found.within))) (found.taken m least.from above))
     ]
 
@@ -62,7 +70,12 @@ same_partial n (f ∷ fs) = let flipped : eqb f.number n ≡ eqb n f.number = gr
 
 is_number-numbers : (n : ℕ) (s : CustomerSpool) → is_number n s ≡ list_any (eqb n) (numbers s)
 unfolding numbers
-is_number-numbers n s = rw (same_whole n s.whole, same_partial n s.partial, list_any-append (eqb n) (map (λ f. f.number) s.whole) (map (λ f. f.number) s.partial)) refl
+is_number-numbers n s = rw (
+  same_whole n s.whole,
+  same_partial n s.partial,
+  list_any-append (eqb n)
+      (map (λ f. f.number) s.whole) (map (λ f. f.number) s.partial),
+) refl
 
 -- there is a number below the limit while there is room for a file
 pub next_number-below : (s : CustomerSpool) → length s.whole + length s.partial < s.limit → next_number s < s.limit
@@ -72,8 +85,16 @@ next_number-below s room =
     elim (cases_lt (next_number s) s.limit) [
       | inl below ↦ below
       | inr above ↦
-          let long = le-length_from_below (numbers s) s.limit (λ q below. sym (is_number-numbers q s) ∙ found.taken q (omega arith) (omega arith)) in
-          absurd (omega (arith, long, length-append (map (λ (f : WholeFile). f.number) s.whole) (map (λ (f : PartialFile). f.number) s.partial), length-map s.whole (λ f. f.number), length-map s.partial (λ f. f.number)))
+          let long = le-length_from_below (numbers s) s.limit (λ q below. sym (is_number-numbers q s)
+          ∙ found.taken q (omega arith) (omega arith)) in
+          absurd (omega (
+            arith,
+            long,
+            length-append (map (λ (f : WholeFile). f.number) s.whole)
+                (map (λ (f : PartialFile). f.number) s.partial),
+            length-map s.whole (λ f. f.number),
+            length-map s.partial (λ f. f.number),
+          ))
     ]
 
 pub next_number-free : (s : CustomerSpool) → length s.whole + length s.partial < s.limit → is_number (next_number s) s ≡ false

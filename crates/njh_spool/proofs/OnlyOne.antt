@@ -1,5 +1,6 @@
 -- Lists in which a test finds nothing, or one element.
-use Rattle.std.proofs.Common.{◌≡◌, ℕ, ◌+◌, Bool, true, false, cond, not, List, [], ◌∷◌, ◌++◌, map, filter, find, count_by, Some, None, refl, ap, inl, inr, arith}
+use Rattle.std.proofs.Common.{◌≡◌, ℕ, ◌+◌, Bool, true, false, cond, not, List, [], ◌∷◌, ◌++◌, map, filter, find, count_by, Some, None}
+use Rattle.std.proofs.Common.{refl, ap, inl, inr, arith}
 use Rattle.std.specs.List.{list_any}
 use Rattle.std.proofs.lemmas.Bool.{cases_Bool, or_parts}
 use Rattle.std.proofs.lemmas.List.Elements.{filter-append}
@@ -48,11 +49,13 @@ module _ {X : Type 0} (p : X → Bool) where
       let here : ◌≡◌ {A = ℕ} (cond (p x) 1 0) 1 = rw passes refl in
       omega (arith, sum_by-append (λ y. cond (p y) 1 0) xs (x ∷ ys), sum_by-cons (λ y. cond (p y) 1 0) x ys)
 
-  pub filter_one : (xs ys : List X) (x : X) → p x ≡ true → list_any p xs ≡ false → list_any p ys ≡ false → filter (λ y. not (p y)) (xs ++ x ∷ ys) ≡ xs ++ ys
+  pub filter_one : (xs ys : List X) (x : X) → p x ≡ true → list_any p xs ≡ false → list_any p ys ≡ false →
+      filter (λ y. not (p y)) (xs ++ x ∷ ys) ≡ xs ++ ys
   filter_one xs ys x passes before after =
       rw (filter-append (λ y. not (p y)) xs (x ∷ ys), filter_none xs before, passes, filter_none ys after) refl
 
-  pub map_one : (f : X → X) (xs ys : List X) (x : X) → p x ≡ true → list_any p xs ≡ false → list_any p ys ≡ false → map (λ y. cond (p y) (f y) y) (xs ++ x ∷ ys) ≡ xs ++ f x ∷ ys
+  pub map_one : (f : X → X) (xs ys : List X) (x : X) → p x ≡ true → list_any p xs ≡ false → list_any p ys ≡ false →
+      map (λ y. cond (p y) (f y) y) (xs ++ x ∷ ys) ≡ xs ++ f x ∷ ys
   map_one f xs ys x passes before after =
       rw (map-append (λ y. cond (p y) (f y) y) xs (x ∷ ys), map_none f xs before, passes, map_none f ys after) refl
 

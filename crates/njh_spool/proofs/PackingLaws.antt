@@ -1,10 +1,11 @@
 -- What the records are that lie in a run of bytes.
-use Rattle.std.proofs.Common.{◌≡◌, ℕ, zero, suc, ◌+◌, ◌*◌, ◌/◌, ◌%◌, ◌<◌, ◌≤◌, List, [], ◌∷◌, ◌++◌, length, take, drop, get_or, refl, sym, ap, ◌∙◌, arith, length-append, append_assoc}
+use Rattle.std.proofs.Common.{◌≡◌, ℕ, zero, suc, ◌+◌, ◌*◌, ◌/◌, ◌%◌, ◌≤◌, List, [], ◌∷◌, ◌++◌, length, take, drop, refl}
+use Rattle.std.proofs.Common.{ap, ◌∙◌, arith, length-append, append_assoc}
 use Rattle.std.specs.Prelude.{All}
-use Rattle.std.proofs.lemmas.List.{take-append-le, drop-append-le, take_at, drop_at, take_all, append-nil}
+use Rattle.std.proofs.lemmas.List.{take_at, drop_at}
 use Rattle.std.proofs.lemmas.List.Elements.{All-head, All-tail}
 use Rattle.std.proofs.lemmas.List.Sums.{sum_by-cons}
-use Rattle.njh_record.specs.Bytes.{field, number_at, two_bytes}
+use Rattle.njh_record.specs.Bytes.{field, number_at}
 use Rattle.njh_record.specs.Stored.{Stored}
 use Rattle.njh_spool.specs.CustomerSpool.{stored_size}
 use Rattle.njh_spool.specs.Packing.{packed_record, packed, first_record, unpacked, IsShort}
@@ -15,7 +16,13 @@ length-packed_record r = omega arith
 pub length-packed : (records : List Stored) → length (packed records) ≡ stored_size records
 length-packed [] = refl
 length-packed (r ∷ records) =
-    omega (arith, length-append (packed_record r) (packed records), length-packed records, sum_by-cons (λ (x : Stored). 3 + length x.bytes) r records)
+    omega (
+      arith,
+      length-append (packed_record r) (packed records),
+      length-packed records,
+      sum_by-cons
+          (λ (x : Stored). 3 + length x.bytes) r records,
+    )
 
 pub packed-append : (records others : List Stored) → packed (records ++ others) ≡ packed records ++ packed others
 packed-append [] others = refl
@@ -45,7 +52,8 @@ rest_is r rest short =
     ap (λ (n : ℕ). drop n (packed_record r ++ rest)) size ∙ drop_at (packed_record r) rest (length (packed_record r)) refl
 
 -- what is packed is unpacked again, whatever follows
-pub unpacked-packed : (records : List Stored) (rest : List ℕ) → All IsShort records → unpacked (length records) (packed records ++ rest) ≡ records
+pub unpacked-packed : (records : List Stored) (rest : List ℕ) → All IsShort records → unpacked (length records)
+    (packed records ++ rest) ≡ records
 unpacked-packed [] rest short = refl
 unpacked-packed (r ∷ records) rest short =
     let head = All-head IsShort r records short in
@@ -54,6 +62,7 @@ unpacked-packed (r ∷ records) rest short =
     let after = rest_is r (packed records ++ rest) head in
     let others = unpacked-packed records rest (All-tail IsShort r records short) in
     ap (λ (xs : List ℕ). unpacked (suc (length records)) xs) whole
-    ∙ ap (λ (x : Stored). x ∷ unpacked (length records) (drop (3 + number_at 1 (packed_record r ++ (packed records ++ rest))) (packed_record r ++ (packed records ++ rest)))) first
+    ∙ ap (λ (x : Stored). x ∷ unpacked (length records) (drop (3 + number_at 1 (packed_record r ++ (packed records ++ rest)))
+    (packed_record r ++ (packed records ++ rest)))) first
     ∙ ap (λ (xs : List ℕ). r ∷ unpacked (length records) xs) after
     ∙ ap (λ (xs : List Stored). r ∷ xs) others

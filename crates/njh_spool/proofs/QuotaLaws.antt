@@ -12,12 +12,34 @@ IsWithin s = used s ≤ s.quota
 sum_by-used : (spools : List CustomerSpool) → All IsWithin spools → sum_by used spools ≤ sum_by (λ (s : CustomerSpool). s.quota) spools
 sum_by-used [] within_all = omega arith
 sum_by-used (s ∷ spools) within_all =
-    omega (arith, sum_by-cons used s spools, sum_by-cons (λ (t : CustomerSpool). t.quota) s spools, All-head IsWithin s spools within_all, sum_by-used spools (All-tail IsWithin s spools within_all))
+    omega (
+      arith,
+      sum_by-cons used s spools,
+      sum_by-cons (λ (t : CustomerSpool). t.quota) s spools,
+      All-head IsWithin s spools
+          within_all,
+      sum_by-used spools (All-tail IsWithin s spools within_all),
+    )
 
 -- what a customer's quota leaves it, all quotas together leave
-pub room_left : (spools : List CustomerSpool) (c blocks : ℕ) → All IsWithin spools → c < length spools → used (get_or spools c no_spool) + blocks ≤ (get_or spools c no_spool).quota → sum_by used spools + blocks ≤ sum_by (λ (s : CustomerSpool). s.quota) spools
+pub room_left : (spools : List CustomerSpool) (c blocks : ℕ) → All IsWithin spools → c < length spools →
+    used (get_or spools c no_spool) + blocks ≤ (get_or spools c no_spool).quota → sum_by used spools + blocks ≤ sum_by
+    (λ (s : CustomerSpool). s.quota) spools
 room_left [] c blocks within_all within room = absurd (omega arith)
 room_left (s ∷ spools) zero blocks within_all within room =
-    omega (arith, sum_by-cons used s spools, sum_by-cons (λ (t : CustomerSpool). t.quota) s spools, sum_by-used spools (All-tail IsWithin s spools within_all))
+    omega (
+      arith,
+      sum_by-cons used s spools,
+      sum_by-cons (λ (t : CustomerSpool). t.quota) s spools,
+      sum_by-used spools
+          (All-tail IsWithin s spools within_all),
+    )
 room_left (s ∷ spools) (suc c) blocks within_all within room =
-    omega (arith, sum_by-cons used s spools, sum_by-cons (λ (t : CustomerSpool). t.quota) s spools, All-head IsWithin s spools within_all, room_left spools c blocks (All-tail IsWithin s spools within_all) (omega arith) room)
+    omega (
+      arith,
+      sum_by-cons used s spools,
+      sum_by-cons (λ (t : CustomerSpool). t.quota) s spools,
+      All-head IsWithin s spools
+          within_all,
+      room_left spools c blocks (All-tail IsWithin s spools within_all) (omega arith) room,
+    )

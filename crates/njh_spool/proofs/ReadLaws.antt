@@ -1,15 +1,14 @@
 -- What is read of a customer's file.
-use Rattle.std.proofs.Common.{◌≡◌, ℕ, Bool, true, false, Option, Some, None, List, refl, sym, ap, ◌∙◌, inl, inr}
+use Rattle.std.proofs.Common.{◌≡◌, ℕ, true, false, Option, Some, None, List, refl, ap, ◌∙◌}
 use Rattle.std.specs.Option.{option_map, option_or}
 use Rattle.njh_record.specs.Stored.{Stored}
 use Rattle.njh_record.specs.declared.Kind.{Kind}
-use Rattle.njh_spool.specs.declared.State.{State}
 use Rattle.njh_spool.specs.declared.file_slot.Stage.{Stage}
 use Rattle.njh_spool.specs.declared.file_slot.Stage.TheVariants.{Free, Partial, Whole}
 use Rattle.njh_spool.specs.declared.customer_files.CustomerFiles.{CustomerFiles}
-use Rattle.njh_spool.specs.CustomerSpool.{CustomerSpool, WholeFile, PartialFile, whole_numbered, partial_numbered}
+use Rattle.njh_spool.specs.CustomerSpool.{WholeFile, PartialFile, partial_numbered}
 use Rattle.njh_spool.specs.Spools.{kind_numbered, records_numbered}
-use Rattle.njh_spool.specs.Slots.{Content, is_free, is_partial, is_whole, state_of, spool_of, IsOwn}
+use Rattle.njh_spool.specs.Slots.{Content, is_free, is_partial, is_whole, spool_of, IsOwn}
 use Rattle.njh_spool.proofs.PartialLaws as partial
 use Rattle.njh_spool.proofs.WholeLaws as whole
 
@@ -30,7 +29,8 @@ kind_of w p = option_or (option_map (λ f. f.kind) w) (option_map (λ f. f.kind)
 records_of : Option WholeFile → Option PartialFile → Option (List Stored)
 records_of w p = option_or (option_map (λ f. f.records) w) (option_map (λ f. f.records) p)
 
-file_by_stage : (own : CustomerFiles) (files : ℕ → Content) (n : ℕ) (stage : Stage) → IsOwn own files → (files n).stage ≡ stage → is_free stage ≡ false → HasFile own files n
+file_by_stage : (own : CustomerFiles) (files : ℕ → Content) (n : ℕ) (stage : Stage) → IsOwn own files → (files n).stage ≡ stage
+    → is_free stage ≡ false → HasFile own files n
 unfolding kind_of records_of
 file_by_stage own files n Free is same there = absurd (let clash : true ≡ false = there in cc)
 file_by_stage own files n Partial is same there =
@@ -72,7 +72,8 @@ whole_not_partial Free e = refl
 whole_not_partial Partial e = cc
 whole_not_partial (Whole state) e = refl
 
-pub has_no_file : (own : CustomerFiles) (files : ℕ → Content) (n : ℕ) → IsOwn own files → is_free (files n).stage ≡ true → HasNoFile own files n
+pub has_no_file : (own : CustomerFiles) (files : ℕ → Content) (n : ℕ) → IsOwn own files → is_free (files n).stage ≡ true →
+    HasNoFile own files n
 unfolding kind_of records_of
 has_no_file own files n is free =
     let s = spool_of own files in

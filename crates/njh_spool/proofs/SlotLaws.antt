@@ -1,16 +1,16 @@
 -- What a customer's spool is by its lists of numbers and its files.
-use Rattle.std.proofs.Common.{◌≡◌, ◌≢◌, ℕ, zero, suc, ◌+◌, ◌-◌, ◌<◌, ◌≤◌, Bool, true, false, cond, not, eqb, List, [], ◌∷◌, ◌++◌, length, map, filter, find, count_by, sum_by, Option, Some, None, refl, sym, ap, subst, ◌∙◌, ◌⊎◌, inl, inr, arith, eq-eqb, ne_eqb}
+use Rattle.std.proofs.Common.{◌≡◌, ℕ, ◌+◌, ◌≤◌, Bool, true, false, cond, not, eqb, List, [], ◌∷◌, ◌++◌}
+use Rattle.std.proofs.Common.{map, filter, count_by, refl, ap, ◌∙◌, inl, inr}
+use Rattle.std.proofs.Common.{arith, eq-eqb, ne_eqb}
 use Rattle.std.specs.List.{list_any}
 use Rattle.std.proofs.lemmas.Bool.{cases_Bool, cases_eq, or_parts, or_from, eqb-true}
-use Rattle.std.proofs.lemmas.List.{map-append}
 use Rattle.std.proofs.lemmas.List.Sums.{sum_by-cons}
 use Rattle.njh_spool.specs.declared.file_slot.Stage.{Stage}
-use Rattle.njh_spool.specs.declared.customer_files.CustomerFiles.{CustomerFiles}
-use Rattle.njh_spool.specs.CustomerSpool.{CustomerSpool, WholeFile, PartialFile}
-use Rattle.njh_spool.specs.Slots.{Content, is_partial, is_whole, state_of, whole_file, partial_file, spool_of, IsOwn}
+use Rattle.njh_spool.specs.CustomerSpool.{WholeFile, PartialFile}
+use Rattle.njh_spool.specs.Slots.{Content, state_of, whole_file, partial_file}
 use Rattle.njh_spool.proofs.OnlyOne.{list_any-from_count, filter_one}
 use Rattle.njh_spool.proofs.SpoolLaws as laws
-use Rattle.njh_spool.proofs.IndexLaws.{put, put_same, put_other}
+use Rattle.njh_spool.proofs.IndexLaws.{put}
 
 abbrev pub is_at : ℕ → ℕ → Bool
 is_at n m = eqb m n
@@ -50,14 +50,16 @@ split_at (x ∷ xs) n once =
     ]
 
 -- a change of one file leaves the others
-pub whole-put : (files : ℕ → Content) (n : ℕ) (x : Content) (xs : List ℕ) → list_any (is_at n) xs ≡ false → map (whole_file (put files n x)) xs ≡ map (whole_file files) xs
+pub whole-put : (files : ℕ → Content) (n : ℕ) (x : Content) (xs : List ℕ) → list_any (is_at n) xs ≡ false →
+    map (whole_file (put files n x)) xs ≡ map (whole_file files) xs
 whole-put files n x [] none = refl
 whole-put files n x (m ∷ xs) none =
     let parts = or_parts (is_at n m) (list_any (is_at n) xs) none in
     let rest = whole-put files n x xs parts.1 in
     rw (parts.0, rest) refl
 
-pub partial-put : (files : ℕ → Content) (n : ℕ) (x : Content) (xs : List ℕ) → list_any (is_at n) xs ≡ false → map (partial_file (put files n x)) xs ≡ map (partial_file files) xs
+pub partial-put : (files : ℕ → Content) (n : ℕ) (x : Content) (xs : List ℕ) → list_any (is_at n) xs ≡ false →
+    map (partial_file (put files n x)) xs ≡ map (partial_file files) xs
 partial-put files n x [] none = refl
 partial-put files n x (m ∷ xs) none =
     let parts = or_parts (is_at n m) (list_any (is_at n) xs) none in
@@ -68,12 +70,14 @@ pub whole-any : (files : ℕ → Content) (n : ℕ) (xs : List ℕ) → list_any
 whole-any files n [] = refl
 whole-any files n (m ∷ xs) = rw (whole-any files n xs) refl
 
-pub partial-any : (files : ℕ → Content) (n : ℕ) (xs : List ℕ) → list_any (laws.is_partial n) (map (partial_file files) xs) ≡ list_any (is_at n) xs
+pub partial-any : (files : ℕ → Content) (n : ℕ) (xs : List ℕ) → list_any (laws.is_partial n) (map (partial_file files) xs) ≡
+    list_any (is_at n) xs
 partial-any files n [] = refl
 partial-any files n (m ∷ xs) = rw (partial-any files n xs) refl
 
 -- a file's part in a count
-pub counted-put : (test : Stage → Bool) (files : ℕ → Content) (n : ℕ) (x : Content) → test x.stage ≡ test (files n).stage → (m : ℕ) → ◌≡◌ {A = ℕ} (cond (test (put files n x m).stage) 1 0) (cond (test (files m).stage) 1 0)
+pub counted-put : (test : Stage → Bool) (files : ℕ → Content) (n : ℕ) (x : Content) → test x.stage ≡ test (files n).stage →
+    (m : ℕ) → ◌≡◌ {A = ℕ} (cond (test (put files n x m).stage) 1 0) (cond (test (files m).stage) 1 0)
 counted-put test files n x same m =
     elim (cases_eq m n) [
       | inl here ↦ rw (here, eq-eqb n n refl, same) refl
@@ -95,9 +99,11 @@ partial_from n x = record { number = n; kind = x.kind; records = x.records }
 -- a number that is once in a list is gone from it when it is taken away
 pub gone : (xs : List ℕ) (n : ℕ) (split : IsSplit xs n) → filter (λ m. not (eqb m n)) xs ≡ split.before ++ split.after
 gone xs n split =
-    ap (filter (λ m. not (eqb m n))) split.here ∙ filter_one (is_at n) split.before split.after n (eq-eqb n n refl) split.not_before split.not_after
+    ap (filter (λ m. not (eqb m n))) split.here ∙ filter_one (is_at n) split.before split.after n (eq-eqb n n refl)
+    split.not_before split.not_after
 
-pub count-gone : (xs : List ℕ) (n m : ℕ) (split : IsSplit xs n) → count_by (is_at m) (split.before ++ split.after) + cond (eqb n m) 1 0 ≡ count_by (is_at m) xs
+pub count-gone : (xs : List ℕ) (n m : ℕ) (split : IsSplit xs n) → count_by (is_at m) (split.before ++ split.after) + cond
+    (eqb n m) 1 0 ≡ count_by (is_at m) xs
 count-gone xs n m split =
     let all = ap (count_by (is_at m)) split.here in
     omega (arith, laws.sum_by_one (λ k. cond {A = ℕ} (is_at m k) 1 0) split.before split.after n)

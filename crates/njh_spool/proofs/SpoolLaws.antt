@@ -1,9 +1,11 @@
 -- What the calls make of a sound spool of one customer, where the file that they name stands between others.
-use Rattle.std.proofs.Common.{◌≡◌, ℕ, ◌+◌, ◌≤◌, Bool, false, cond, eqb, List, [], ◌∷◌, ◌++◌, length, sum_by, Some, refl, ap, arith, length-append, eq-eqb}
+use Rattle.std.proofs.Common.{◌≡◌, ℕ, ◌+◌, ◌≤◌, Bool, false, cond, eqb, List, [], ◌∷◌, ◌++◌, length, sum_by, Some, refl, ap, arith}
+use Rattle.std.proofs.Common.{length-append, eq-eqb}
 use Rattle.std.specs.List.{list_any}
 use Rattle.std.proofs.lemmas.List.Sums.{sum_by-cons, sum_by-append}
 use Rattle.njh_record.specs.Stored.{Stored}
-use Rattle.njh_spool.specs.CustomerSpool.{CustomerSpool, WholeFile, PartialFile, cost, used, partial_numbered, whole_numbered, appended, abandoned, finished, as_whole, removed, on_file}
+use Rattle.njh_spool.specs.CustomerSpool.{CustomerSpool, WholeFile, PartialFile, cost, used, partial_numbered, whole_numbered, appended}
+use Rattle.njh_spool.specs.CustomerSpool.{abandoned, finished, as_whole, removed, on_file}
 use Rattle.njh_spool.specs.Spools.{IsSound, files_numbered}
 use Rattle.njh_spool.proofs.OnlyOne.{list_any-from_count, count_by_one, filter_one, map_one, find_one}
 
@@ -14,7 +16,8 @@ abbrev pub is_partial : ℕ → PartialFile → Bool
 is_partial n f = eqb f.number n
 
 -- a spool that needs no more than a sound one is sound
-pub sound_within : (s t : CustomerSpool) → IsSound s → t.quota ≡ s.quota → t.limit ≡ s.limit → used t ≤ s.quota → length t.whole + length t.partial ≤ s.limit → ((n : ℕ) → files_numbered n t ≤ files_numbered n s) → IsSound t
+pub sound_within : (s t : CustomerSpool) → IsSound s → t.quota ≡ s.quota → t.limit ≡ s.limit → used t ≤ s.quota →
+    length t.whole + length t.partial ≤ s.limit → ((n : ℕ) → files_numbered n t ≤ files_numbered n s) → IsSound t
 sound_within s t sound quota limit blocks files numbers =
     record {
       within_quota = omega arith;
@@ -36,28 +39,39 @@ module _ (quota limit : ℕ) (whole : List WholeFile) (before after : List Parti
   abbrev spool_with : List PartialFile → CustomerSpool
   spool_with partial = record { quota = quota; limit = limit; whole = whole; partial = partial }
 
-  pub partial_alone : IsSound (spool_with (before ++ f ∷ after)) → (list_any (is_whole f.number) whole ≡ false) × (list_any (is_partial f.number) before ≡ false) × (list_any (is_partial f.number) after ≡ false)
+  pub partial_alone : IsSound (spool_with (before ++ f ∷ after)) → (list_any (is_whole f.number) whole ≡ false) ×
+      (list_any (is_partial f.number) before ≡ false) × (list_any (is_partial f.number) after ≡ false)
   partial_alone sound =
       let once = sound.apart f.number in
-      let here = count_by_one (is_partial f.number) before after f (eq-eqb f.number f.number refl) in
-      (list_any-from_count (is_whole f.number) whole (omega arith), list_any-from_count (is_partial f.number) before (omega arith), list_any-from_count (is_partial f.number) after (omega arith))
+      let here = count_by_one (is_partial f.number) before after f (eq-eqb f.number f.number refl) in (
+        list_any-from_count (is_whole f.number) whole (omega arith),
+        list_any-from_count (is_partial f.number) before
+            (omega arith),
+        list_any-from_count (is_partial f.number) after (omega arith),
+      )
 
-  pub partial_numbered_is : IsSound (spool_with (before ++ f ∷ after)) → partial_numbered f.number (spool_with (before ++ f ∷ after)) ≡ Some f
+  pub partial_numbered_is : IsSound (spool_with (before ++ f ∷ after)) → partial_numbered f.number
+      (spool_with (before ++ f ∷ after)) ≡ Some f
   partial_numbered_is sound = find_one (is_partial f.number) before after f (eq-eqb f.number f.number refl) (partial_alone sound).1
 
-  pub abandoned_is : IsSound (spool_with (before ++ f ∷ after)) → abandoned f.number (spool_with (before ++ f ∷ after)) ≡ spool_with (before ++ after)
+  pub abandoned_is : IsSound (spool_with (before ++ f ∷ after)) → abandoned f.number (spool_with (before ++ f ∷ after)) ≡
+      spool_with (before ++ after)
   abandoned_is sound =
       let alone = partial_alone sound in
       ap spool_with (filter_one (is_partial f.number) before after f (eq-eqb f.number f.number refl) alone.1 alone.2)
 
-  pub appended_is : (r : Stored) → IsSound (spool_with (before ++ f ∷ after)) → appended f.number r (spool_with (before ++ f ∷ after)) ≡ spool_with (before ++ record f { records = f.records ++ r ∷ [] } ∷ after)
+  pub appended_is : (r : Stored) → IsSound (spool_with (before ++ f ∷ after)) →
+      appended f.number r (spool_with (before ++ f ∷ after)) ≡ spool_with (before ++ record f { records = f.records ++ r ∷ [] } ∷ after)
   appended_is r sound =
       let alone = partial_alone sound in
-      ap spool_with (map_one (is_partial f.number) (λ g. record g { records = g.records ++ r ∷ [] }) before after f (eq-eqb f.number f.number refl) alone.1 alone.2)
+      ap spool_with (map_one (is_partial f.number) (λ g. record g { records = g.records ++ r ∷ [] }) before after f
+      (eq-eqb f.number f.number refl) alone.1 alone.2)
 
-  pub finished_is : IsSound (spool_with (before ++ f ∷ after)) → finished f.number (spool_with (before ++ f ∷ after)) ≡ record { quota = quota; limit = limit; whole = whole ++ as_whole f ∷ []; partial = before ++ after }
+  pub finished_is : IsSound (spool_with (before ++ f ∷ after)) → finished f.number (spool_with (before ++ f ∷ after)) ≡
+      record { quota = quota; limit = limit; whole = whole ++ as_whole f ∷ []; partial = before ++ after }
   finished_is sound =
-      rw (partial_numbered_is sound, finished) (ap (λ (s : CustomerSpool). record s { whole = whole ++ as_whole f ∷ [] }) (abandoned_is sound))
+      rw (partial_numbered_is sound, finished) (ap (λ (s : CustomerSpool). record s { whole = whole ++ as_whole f ∷ [] })
+      (abandoned_is sound))
 
   pub used-partial : used (spool_with (before ++ f ∷ after)) ≡ used (spool_with (before ++ after)) + cost f.records
   used-partial = omega (arith, sum_by_one (λ (g : PartialFile). cost g.records) before after f)
@@ -69,7 +83,8 @@ module _ (quota limit : ℕ) (whole : List WholeFile) (before after : List Parti
       (omega (arith, length_one before after f, sound.within_limit))
       (λ n. omega (arith, sum_by_one (λ g. cond (is_partial n g) 1 0) before after f))
 
-  pub sound_replaced : (g : PartialFile) → g.number ≡ f.number → used (spool_with (before ++ g ∷ after)) ≤ quota → IsSound (spool_with (before ++ f ∷ after)) → IsSound (spool_with (before ++ g ∷ after))
+  pub sound_replaced : (g : PartialFile) → g.number ≡ f.number → used (spool_with (before ++ g ∷ after)) ≤ quota →
+      IsSound (spool_with (before ++ f ∷ after)) → IsSound (spool_with (before ++ g ∷ after))
   sound_replaced g same fits sound =
       sound_within (spool_with (before ++ f ∷ after)) (spool_with (before ++ g ∷ after)) sound refl refl fits
       (omega (arith, length_one before after f, length_one before after g, sound.within_limit))
@@ -77,36 +92,57 @@ module _ (quota limit : ℕ) (whole : List WholeFile) (before after : List Parti
       let number = ap (λ (m : ℕ). cond {A = ℕ} (eqb m n) 1 0) same in
       omega (arith, sum_by_one (λ h. cond (is_partial n h) 1 0) before after f, sum_by_one (λ h. cond (is_partial n h) 1 0) before after g))
 
-  pub used-finished : used (record { quota = quota; limit = limit; whole = whole ++ as_whole f ∷ []; partial = before ++ after }) ≡ used (spool_with (before ++ f ∷ after))
+  pub used-finished : used (record {
+    quota = quota;
+    limit = limit;
+    whole = whole ++ as_whole f ∷ [];
+    partial = before
+        ++ after;
+  }) ≡ used (spool_with (before ++ f ∷ after))
   used-finished = omega (arith, used-partial, sum_by-append (λ (g : WholeFile). cost g.records) whole (as_whole f ∷ []))
 
-  pub sound_finished : IsSound (spool_with (before ++ f ∷ after)) → IsSound (record { quota = quota; limit = limit; whole = whole ++ as_whole f ∷ []; partial = before ++ after })
+  pub sound_finished : IsSound (spool_with (before ++ f ∷ after)) →
+      IsSound (record { quota = quota; limit = limit; whole = whole ++ as_whole f ∷ []; partial = before ++ after })
   sound_finished sound =
-      sound_within (spool_with (before ++ f ∷ after)) (record { quota = quota; limit = limit; whole = whole ++ as_whole f ∷ []; partial = before ++ after }) sound refl refl
+      sound_within (spool_with (before ++ f ∷ after))
+      (record { quota = quota; limit = limit; whole = whole ++ as_whole f ∷ []; partial = before ++ after }) sound refl refl
       (omega (arith, used-finished, sound.within_quota))
       (omega (arith, length_one before after f, length-append whole (as_whole f ∷ []), sound.within_limit))
-      (λ n. omega (arith, sum_by_one (λ h. cond (is_partial n h) 1 0) before after f, sum_by-append (λ h. cond (is_whole n h) 1 0) whole (as_whole f ∷ [])))
+      (λ n. omega (
+        arith,
+        sum_by_one (λ h. cond (is_partial n h) 1 0) before after f,
+        sum_by-append
+            (λ h. cond (is_whole n h) 1 0) whole (as_whole f ∷ []),
+      ))
 
 -- a whole file among the others
 module _ (quota limit : ℕ) (partial : List PartialFile) (before after : List WholeFile) (f : WholeFile) where
   abbrev spool_of_whole : List WholeFile → CustomerSpool
   spool_of_whole whole = record { quota = quota; limit = limit; whole = whole; partial = partial }
 
-  whole_alone : IsSound (spool_of_whole (before ++ f ∷ after)) → (list_any (is_partial f.number) partial ≡ false) × (list_any (is_whole f.number) before ≡ false) × (list_any (is_whole f.number) after ≡ false)
+  whole_alone : IsSound (spool_of_whole (before ++ f ∷ after)) → (list_any (is_partial f.number) partial ≡ false) ×
+      (list_any (is_whole f.number) before ≡ false) × (list_any (is_whole f.number) after ≡ false)
   whole_alone sound =
       let once = sound.apart f.number in
-      let here = count_by_one (is_whole f.number) before after f (eq-eqb f.number f.number refl) in
-      (list_any-from_count (is_partial f.number) partial (omega arith), list_any-from_count (is_whole f.number) before (omega arith), list_any-from_count (is_whole f.number) after (omega arith))
+      let here = count_by_one (is_whole f.number) before after f (eq-eqb f.number f.number refl) in (
+        list_any-from_count (is_partial f.number) partial (omega arith),
+        list_any-from_count (is_whole f.number) before
+            (omega arith),
+        list_any-from_count (is_whole f.number) after (omega arith),
+      )
 
-  pub whole_numbered_is : IsSound (spool_of_whole (before ++ f ∷ after)) → whole_numbered f.number (spool_of_whole (before ++ f ∷ after)) ≡ Some f
+  pub whole_numbered_is : IsSound (spool_of_whole (before ++ f ∷ after)) → whole_numbered f.number
+      (spool_of_whole (before ++ f ∷ after)) ≡ Some f
   whole_numbered_is sound = find_one (is_whole f.number) before after f (eq-eqb f.number f.number refl) (whole_alone sound).1
 
-  pub removed_is : IsSound (spool_of_whole (before ++ f ∷ after)) → removed f.number (spool_of_whole (before ++ f ∷ after)) ≡ spool_of_whole (before ++ after)
+  pub removed_is : IsSound (spool_of_whole (before ++ f ∷ after)) → removed f.number (spool_of_whole (before ++ f ∷ after)) ≡
+      spool_of_whole (before ++ after)
   removed_is sound =
       let alone = whole_alone sound in
       ap spool_of_whole (filter_one (is_whole f.number) before after f (eq-eqb f.number f.number refl) alone.1 alone.2)
 
-  pub on_file_is : (change : WholeFile → WholeFile) → IsSound (spool_of_whole (before ++ f ∷ after)) → on_file f.number change (spool_of_whole (before ++ f ∷ after)) ≡ spool_of_whole (before ++ change f ∷ after)
+  pub on_file_is : (change : WholeFile → WholeFile) → IsSound (spool_of_whole (before ++ f ∷ after)) → on_file f.number change
+      (spool_of_whole (before ++ f ∷ after)) ≡ spool_of_whole (before ++ change f ∷ after)
   on_file_is change sound =
       let alone = whole_alone sound in
       ap spool_of_whole (map_one (is_whole f.number) change before after f (eq-eqb f.number f.number refl) alone.1 alone.2)
@@ -121,10 +157,17 @@ module _ (quota limit : ℕ) (partial : List PartialFile) (before after : List W
       (omega (arith, length_one before after f, sound.within_limit))
       (λ n. omega (arith, sum_by_one (λ g. cond (is_whole n g) 1 0) before after f))
 
-  pub used-changed : (g : WholeFile) → cost g.records ≡ cost f.records → used (spool_of_whole (before ++ g ∷ after)) ≡ used (spool_of_whole (before ++ f ∷ after))
-  used-changed g same = omega (arith, sum_by_one (λ (h : WholeFile). cost h.records) before after f, sum_by_one (λ (h : WholeFile). cost h.records) before after g)
+  pub used-changed : (g : WholeFile) → cost g.records ≡ cost f.records → used (spool_of_whole (before ++ g ∷ after)) ≡ used
+      (spool_of_whole (before ++ f ∷ after))
+  used-changed g same = omega (
+    arith,
+    sum_by_one (λ (h : WholeFile). cost h.records) before after f,
+    sum_by_one
+        (λ (h : WholeFile). cost h.records) before after g,
+  )
 
-  pub sound_changed : (g : WholeFile) → g.number ≡ f.number → cost g.records ≡ cost f.records → IsSound (spool_of_whole (before ++ f ∷ after)) → IsSound (spool_of_whole (before ++ g ∷ after))
+  pub sound_changed : (g : WholeFile) → g.number ≡ f.number → cost g.records ≡ cost f.records →
+      IsSound (spool_of_whole (before ++ f ∷ after)) → IsSound (spool_of_whole (before ++ g ∷ after))
   sound_changed g number blocks sound =
       sound_within (spool_of_whole (before ++ f ∷ after)) (spool_of_whole (before ++ g ∷ after)) sound refl refl
       (omega (arith, used-changed g blocks, sound.within_quota))

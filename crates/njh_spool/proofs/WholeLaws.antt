@@ -1,10 +1,10 @@
 -- What the calls on a whole file make of its customer's spool.
-use Rattle.std.proofs.Common.{◌≡◌, ◌≢◌, ℕ, ◌+◌, ◌-◌, ◌<◌, ◌≤◌, Bool, true, false, cond, not, eqb, List, [], ◌∷◌, ◌++◌, length, map, filter, count_by, Some, None, refl, sym, ap, subst, ◌∙◌, inl, inr, arith, eq-eqb, ne_eqb}
+use Rattle.std.proofs.Common.{◌≡◌, ℕ, ◌-◌, ◌≤◌, true, false, cond, not, eqb, List, ◌∷◌, ◌++◌, map}
+use Rattle.std.proofs.Common.{filter, count_by, Some, None, refl, sym, ap, subst, ◌∙◌, inl, inr, arith, eq-eqb, ne_eqb}
 use Rattle.std.specs.List.{list_any}
 use Rattle.std.proofs.lemmas.Bool.{cases_eq}
 use Rattle.std.proofs.lemmas.List.{map-append}
-use Rattle.njh_spool.specs.declared.State.{State}
-use Rattle.njh_spool.specs.declared.file_slot.Stage.TheVariants.{Free, Partial, Whole}
+use Rattle.njh_spool.specs.declared.file_slot.Stage.TheVariants.{Free}
 use Rattle.njh_spool.specs.declared.customer_files.CustomerFiles.{CustomerFiles}
 use Rattle.njh_spool.specs.CustomerSpool.{CustomerSpool, WholeFile, PartialFile, cost, used, whole_numbered, removed, on_file}
 use Rattle.njh_spool.specs.Spools.{IsSound}
@@ -12,17 +12,20 @@ use Rattle.njh_spool.specs.Slots.{Content, is_partial, is_whole, whole_file, par
 use Rattle.njh_spool.proofs.OnlyOne.{list_any-from_count, filter_none, map_none, find_none}
 use Rattle.njh_spool.proofs.SpoolLaws as laws
 use Rattle.njh_spool.proofs.IndexLaws.{put, put_same}
-use Rattle.njh_spool.proofs.SlotLaws.{is_at, IsSplit, split_at, whole-put, partial-put, whole-any, counted-put, once_some, once_none, whole_from, gone, count-gone}
+use Rattle.njh_spool.proofs.SlotLaws.{is_at, IsSplit, split_at, whole-put, partial-put, whole-any, counted-put, once_some, once_none}
+use Rattle.njh_spool.proofs.SlotLaws.{whole_from, gone, count-gone}
 
 abbrev spool_with : CustomerFiles → List PartialFile → List WholeFile → CustomerSpool
 spool_with own partial whole = record { quota = own.quota; limit = own.limit; whole = whole; partial = partial }
 
-module _ (own : CustomerFiles) (files : ℕ → Content) (n : ℕ) (is : IsOwn own files) (stage : is_whole (files n).stage ≡ true) (other : is_partial (files n).stage ≡ false) where
+module _ (own : CustomerFiles) (files : ℕ → Content) (n : ℕ) (is : IsOwn own files) (stage : is_whole (files n).stage ≡ true)
+    (other : is_partial (files n).stage ≡ false) where
   pub once : IsSplit own.whole n
   once = split_at own.whole n (once_some (is_whole (files n).stage) (count_by (is_at n) own.whole) (is.whole_once n) stage)
 
   not_partial : list_any (is_at n) own.partial ≡ false
-  not_partial = list_any-from_count (is_at n) own.partial (once_none (is_partial (files n).stage) (count_by (is_at n) own.partial) (is.partial_once n) other)
+  not_partial = list_any-from_count (is_at n) own.partial
+      (once_none (is_partial (files n).stage) (count_by (is_at n) own.partial) (is.partial_once n) other)
 
   abbrev file : WholeFile
   file = whole_file files n
@@ -37,7 +40,8 @@ module _ (own : CustomerFiles) (files : ℕ → Content) (n : ℕ) (is : IsOwn o
   after = map (whole_file files) once.after
 
   spool_is : spool_of own files ≡ spool_with own partial (before ++ file ∷ after)
-  spool_is = ap (spool_with own partial) (ap (map (whole_file files)) once.here ∙ map-append (whole_file files) once.before (n ∷ once.after))
+  spool_is = ap (spool_with own partial) (ap (map (whole_file files)) once.here ∙ map-append (whole_file files) once.before
+      (n ∷ once.after))
 
   sound : IsSound (spool_with own partial (before ++ file ∷ after))
   sound = rw spool_is at is.sound
@@ -53,19 +57,26 @@ module _ (own : CustomerFiles) (files : ℕ → Content) (n : ℕ) (is : IsOwn o
 
   rest_kept : (x : Content) → map (whole_file (put files n x)) (once.before ++ once.after) ≡ before ++ after
   rest_kept x =
-      map-append (whole_file (put files n x)) once.before once.after ∙ ap (λ (fs : List WholeFile). fs ++ map (whole_file (put files n x)) once.after) (whole-put files n x once.before once.not_before) ∙ ap (λ (fs : List WholeFile). before ++ fs) (whole-put files n x once.after once.not_after)
+      map-append (whole_file (put files n x)) once.before once.after
+      ∙ ap (λ (fs : List WholeFile). fs ++ map (whole_file (put files n x)) once.after)
+      (whole-put files n x once.before once.not_before) ∙ ap (λ (fs : List WholeFile). before ++ fs)
+      (whole-put files n x once.after once.not_after)
 
   -- the file goes
-  pub removes : (x : Content) (own' : CustomerFiles) → x.stage ≡ Free → own' ≡ record own { used = own.used - cost (files n).records; whole = filter (λ m. not (eqb m n)) own.whole } → IsOwn own' (put files n x) × (spool_of own' (put files n x) ≡ removed n (spool_of own files))
+  pub removes : (x : Content) (own' : CustomerFiles) → x.stage ≡ Free →
+      own' ≡ record own { used = own.used - cost (files n).records; whole = filter (λ m. not (eqb m n)) own.whole } →
+      IsOwn own' (put files n x) × (spool_of own' (put files n x) ≡ removed n (spool_of own files))
   removes x own' free owns =
       let left = own.used - cost (files n).records in
       let new : CustomerFiles = record own { used = left; whole = once.before ++ once.after } in
       let owns_new : own' ≡ new = owns ∙ ap (λ (xs : List ℕ). record own { used = left; whole = xs }) (gone own.whole n once) in
       let is_now : spool_of new (put files n x) ≡ spool_with own partial (before ++ after) =
-      ap (λ (fs : List PartialFile). spool_with own fs (map (whole_file (put files n x)) (once.before ++ once.after))) (partial_kept x) ∙ ap (spool_with own partial) (rest_kept x) in
+      ap (λ (fs : List PartialFile). spool_with own fs (map (whole_file (put files n x)) (once.before ++ once.after)))
+      (partial_kept x) ∙ ap (spool_with own partial) (rest_kept x) in
       let says : spool_with own partial (before ++ after) ≡ removed n (spool_of own files) =
       sym (laws.removed_is own.quota own.limit partial before after file sound) ∙ ap (removed n) (sym spool_is) in
-      let blocks : left ≡ used (spool_with own partial (before ++ after)) = omega (arith, laws.used-whole own.quota own.limit partial before after file, is.counted, ap used spool_is) in
+      let blocks : left ≡ used (spool_with own partial (before ++ after)) =
+      omega (arith, laws.used-whole own.quota own.limit partial before after file, is.counted, ap used spool_is) in
       let kept : IsOwn new (put files n x) = record {
         counted = blocks ∙ ap used (sym is_now);
         sound = rw is_now (laws.sound_removed own.quota own.limit partial before after file sound);
@@ -75,30 +86,40 @@ module _ (own : CustomerFiles) (files : ℕ → Content) (n : ℕ) (is : IsOwn o
               | inl same ↦
                   let here : ◌≡◌ {A = ℕ} (cond (is_whole (put files n x m).stage) 1 0) 0 = rw (same, eq-eqb n n refl, free) refl in
                   let one : ◌≡◌ {A = ℕ} (cond (eqb n m) 1 0) 1 = rw (eq-eqb n m (sym same)) refl in
-                  let was : count_by (is_at m) own.whole ≡ 1 = ap (λ (k : ℕ). count_by (is_at k) own.whole) same ∙ once_some (is_whole (files n).stage) (count_by (is_at n) own.whole) (is.whole_once n) stage in
+                  let was : count_by (is_at m) own.whole ≡ 1 = ap (λ (k : ℕ). count_by (is_at k) own.whole) same
+                  ∙ once_some (is_whole (files n).stage) (count_by (is_at n) own.whole) (is.whole_once n) stage in
                   omega (arith, count-gone own.whole n m once)
               | inr apart ↦
-                  let there : ◌≡◌ {A = ℕ} (cond (is_whole (put files n x m).stage) 1 0) (cond (is_whole (files m).stage) 1 0) = rw (ne_eqb m n apart) refl in
+                  let there : ◌≡◌ {A = ℕ} (cond (is_whole (put files n x m).stage) 1 0) (cond (is_whole (files m).stage) 1 0) =
+                  rw (ne_eqb m n apart) refl in
                   let none : ◌≡◌ {A = ℕ} (cond (eqb n m) 1 0) 0 = rw (ne_eqb n m (λ e. apart (sym e))) refl in
                   omega (arith, count-gone own.whole n m once, is.whole_once m)
             ];
-      } in
-      (subst (λ (o : CustomerFiles). IsOwn o (put files n x)) (sym owns_new) kept, ap (λ (o : CustomerFiles). spool_of o (put files n x)) owns_new ∙ is_now ∙ says)
+      } in (
+        subst (λ (o : CustomerFiles). IsOwn o (put files n x)) (sym owns_new) kept,
+        ap
+            (λ (o : CustomerFiles). spool_of o (put files n x)) owns_new ∙ is_now ∙ says,
+      )
 
   -- the file is another, of as many blocks
-  pub changes : (change : WholeFile → WholeFile) (x : Content) → is_whole x.stage ≡ true → is_partial x.stage ≡ false → whole_from n x ≡ change file → cost x.records ≡ cost (files n).records → IsOwn own (put files n x) × (spool_of own (put files n x) ≡ on_file n change (spool_of own files))
+  pub changes : (change : WholeFile → WholeFile) (x : Content) → is_whole x.stage ≡ true → is_partial x.stage ≡ false →
+      whole_from n x ≡ change file → cost x.records ≡ cost (files n).records → IsOwn own (put files n x) ×
+      (spool_of own (put files n x) ≡ on_file n change (spool_of own files))
   changes change x stays not_yet same blocks =
       let g = whole_from n x in
       let here : whole_file (put files n x) n ≡ g = ap (whole_from n) (put_same files n x) in
       let whole_now : map (whole_file (put files n x)) own.whole ≡ before ++ g ∷ after =
       ap (map (whole_file (put files n x))) once.here ∙ map-append (whole_file (put files n x)) once.before (n ∷ once.after)
-      ∙ ap (λ (fs : List WholeFile). fs ++ whole_file (put files n x) n ∷ map (whole_file (put files n x)) once.after) (whole-put files n x once.before once.not_before)
+      ∙ ap (λ (fs : List WholeFile). fs ++ whole_file (put files n x) n ∷ map (whole_file (put files n x)) once.after)
+      (whole-put files n x once.before once.not_before)
       ∙ ap (λ (f : WholeFile). before ++ f ∷ map (whole_file (put files n x)) once.after) here
       ∙ ap (λ (fs : List WholeFile). before ++ g ∷ fs) (whole-put files n x once.after once.not_after) in
       let is_now : spool_of own (put files n x) ≡ spool_with own partial (before ++ g ∷ after) =
-      ap (λ (fs : List PartialFile). spool_with own fs (map (whole_file (put files n x)) own.whole)) (partial_kept x) ∙ ap (spool_with own partial) whole_now in
+      ap (λ (fs : List PartialFile). spool_with own fs (map (whole_file (put files n x)) own.whole)) (partial_kept x)
+      ∙ ap (spool_with own partial) whole_now in
       let says : spool_with own partial (before ++ g ∷ after) ≡ on_file n change (spool_of own files) =
-      ap (λ (f : WholeFile). spool_with own partial (before ++ f ∷ after)) same ∙ sym (laws.on_file_is own.quota own.limit partial before after file change sound) ∙ ap (on_file n change) (sym spool_is) in
+      ap (λ (f : WholeFile). spool_with own partial (before ++ f ∷ after)) same
+      ∙ sym (laws.on_file_is own.quota own.limit partial before after file change sound) ∙ ap (on_file n change) (sym spool_is) in
       let used_now : used (spool_with own partial (before ++ g ∷ after)) ≡ own.used =
       laws.used-changed own.quota own.limit partial before after file g blocks ∙ ap used (sym spool_is) ∙ sym is.counted in
       let kept : IsOwn own (put files n x) = record {
@@ -115,11 +136,13 @@ pub record HasNoWhole (own : CustomerFiles) (files : ℕ → Content) (n : ℕ) 
   pub removes : removed n (spool_of own files) ≡ spool_of own files
   pub changes : (change : WholeFile → WholeFile) → on_file n change (spool_of own files) ≡ spool_of own files
 
-pub has_no_whole : (own : CustomerFiles) (files : ℕ → Content) (n : ℕ) → IsOwn own files → is_whole (files n).stage ≡ false → HasNoWhole own files n
+pub has_no_whole : (own : CustomerFiles) (files : ℕ → Content) (n : ℕ) → IsOwn own files → is_whole (files n).stage ≡ false →
+    HasNoWhole own files n
 has_no_whole own files n is missing =
     let s = spool_of own files in
     let empty : list_any (laws.is_whole n) s.whole ≡ false =
-    whole-any files n own.whole ∙ list_any-from_count (is_at n) own.whole (once_none (is_whole (files n).stage) (count_by (is_at n) own.whole) (is.whole_once n) missing) in
+    whole-any files n own.whole ∙ list_any-from_count (is_at n) own.whole
+    (once_none (is_whole (files n).stage) (count_by (is_at n) own.whole) (is.whole_once n) missing) in
     record {
       none = find_none (laws.is_whole n) s.whole empty;
       removes = ap (λ (whole : List WholeFile). record s { whole = whole }) (filter_none (laws.is_whole n) s.whole empty);

@@ -1,5 +1,6 @@
 -- What a store of byte strings is to its callers: a string and the keys of its blocks for each slot.
-use Rattle.std.specs.Prelude.{◌≡◌, ℕ, ◌+◌, ◌*◌, ◌/◌, ◌<◌, ◌≤◌, List, [], ◌++◌, length, take, sum_by, slice_get, slice_set, slice_index_or, Some}
+use Rattle.std.specs.Prelude.{◌≡◌, ℕ, ◌+◌, ◌*◌, ◌/◌, ◌<◌, ◌≤◌, List, [], ◌++◌, length, take, sum_by, slice_get, slice_set}
+use Rattle.std.specs.Prelude.{slice_index_or, Some}
 use Rattle.njh_spool.specs.declared.store.mark.Mark.{Mark}
 
 -- a string, and the keys of the blocks that it lies in, in order

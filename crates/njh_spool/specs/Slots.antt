@@ -1,5 +1,6 @@
 -- What the slots of the files and the chains of the store are to each customer, and what always holds of them.
-use Rattle.std.specs.Prelude.{◌≡◌, ℕ, zero, ◌+◌, ◌*◌, ◌<◌, ◌≤◌, Bool, true, false, List, [], ◌∷◌, length, take, map, cond, nat_lt, sum_by, count_by, slice_index_or, ◌==◌}
+use Rattle.std.specs.Prelude.{◌≡◌, ℕ, ◌+◌, ◌*◌, ◌<◌, ◌≤◌, Bool, true, false, List, [], ◌∷◌, length, take, map, cond, nat_lt}
+use Rattle.std.specs.Prelude.{sum_by, count_by, slice_index_or, ◌==◌}
 use Rattle.std.specs.List.{All}
 use Rattle.njh_record.specs.Stored.{Stored}
 use Rattle.njh_record.specs.declared.Kind.{Kind}
@@ -19,7 +20,12 @@ use Rattle.njh_spool.specs.Packing.{packed, unpacked, IsShort}
 
 -- a slot in which no file is
 abbrev pub free_slot : FileSlot
-free_slot = record { stage = Free; kind = In; count = 0; next = record { record_index = 0; place = 0; mark = record { block = 0; key = 0 } } }
+free_slot = record {
+  stage = Free;
+  kind = In;
+  count = 0;
+  next = record { record_index = 0; place = 0; mark = record { block = 0; key = 0 } };
+}
 
 -- a customer that the spool does not have
 abbrev pub no_files : CustomerFiles
@@ -76,7 +82,12 @@ abbrev pub partial_file : (ℕ → Content) → ℕ → PartialFile
 partial_file files n = record { number = n; kind = (files n).kind; records = (files n).records }
 
 abbrev pub spool_of : CustomerFiles → (ℕ → Content) → CustomerSpool
-spool_of own files = record { quota = own.quota; limit = own.limit; whole = map (whole_file files) own.whole; partial = map (partial_file files) own.partial }
+spool_of own files = record {
+  quota = own.quota;
+  limit = own.limit;
+  whole = map (whole_file files) own.whole;
+  partial = map (partial_file files) own.partial;
+}
 
 abbrev pub spools_from : ℕ → List CustomerFiles → (ℕ → ℕ → Content) → List CustomerSpool
 spools_from c [] files = []

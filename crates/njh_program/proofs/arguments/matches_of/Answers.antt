@@ -1,8 +1,8 @@
-use Rattle.std.proofs.Common.{◌≡◌, ◌∙◌, map, sym, ap, subst}
+use Rattle.std.proofs.Common.{◌∙◌, map, ap, subst}
 use Rattle.std.proofs.lemmas.Result.{IfOk-weaker}
 use Rattle.clap.specs.Faults.{fault_of, is_simple_and_free}
 use Rattle.clap.specs.Kinds.{FailsBy}
-use Rattle.clap.specs.Simple.{App, is_simple, subcommand_of, subcommand_rows_of}
+use Rattle.clap.specs.Simple.{App, is_simple, subcommand_of}
 use Rattle.njh_program.specs.Arguments.{choice_of_rows}
 use Rattle.njh_program.proofs.ArgumentLaws.{is_simple_program, is_free_program, FailsBy-ok, FailsBy-err}
 use Rattle.njh_program.proofs.arguments.matches_of.Goals as goal

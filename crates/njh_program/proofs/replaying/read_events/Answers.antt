@@ -1,4 +1,4 @@
-use Rattle.std.proofs.Common.{◌≡◌, ℕ, length, Ok, IfSome, ap, rules, arith}
+use Rattle.std.proofs.Common.{◌≡◌, ℕ, length, Ok, ap, rules, arith}
 use Rattle.std.proofs.lemmas.Option.{IfSome_then}
 use Rattle.std.proofs.lemmas.Result.{IfOk-weaker}
 use Rattle.njh_program.specs.Replayed.{HasScript}

@@ -1,4 +1,4 @@
-use Rattle.std.proofs.Common.{ℕ, List, inl, inr, subst}
+use Rattle.std.proofs.Common.{List, inr, subst}
 use Rattle.std.specs.Io.KnownBytes.{Appends}
 use Rattle.njh_hub.specs.declared.event.Event.{Event}
 use Rattle.njh_program.specs.Printed.{AppendsBeginning}

@@ -1,15 +1,13 @@
-use Rattle.std.proofs.Common.{◌≡◌, ℕ, ◌+◌, ◌-◌, ◌*◌, ◌<◌, ◌≤◌, Bool, true, false, not, eqb, List, [], ◌∷◌, ◌++◌, length, get_or, set, filter, Option, Some, None, Ok, Err, refl, sym, ap, subst, ◌∙◌, arith}
+use Rattle.std.proofs.Common.{◌≡◌, ℕ, ◌+◌, ◌-◌, ◌*◌, ◌≤◌, not, eqb, List, length, set}
+use Rattle.std.proofs.Common.{filter, refl, sym, ap, subst, ◌∙◌, arith}
 use Rattle.njh_spool.specs.declared.file_slot.FileSlot.{FileSlot}
-use Rattle.njh_spool.specs.declared.file_slot.RecordPlace.{RecordPlace}
-use Rattle.njh_spool.specs.declared.file_slot.Stage.{Stage}
-use Rattle.njh_spool.specs.declared.file_slot.Stage.TheVariants.{Free, Partial, Whole}
 use Rattle.njh_spool.specs.declared.customer_files.CustomerFiles.{CustomerFiles}
-use Rattle.njh_spool.specs.Chains.{Chain, StoreValue, chain_at, empty_chain}
-use Rattle.njh_spool.specs.CustomerSpool.{CustomerSpool, WholeFile, with_state, removed, finished, abandoned, appended, begun, rewritten, on_file}
-use Rattle.njh_spool.specs.Spools.{part, records_numbered, record_numbered}
-use Rattle.njh_spool.specs.Slots.{contents, slot_of, chain_of, is_free, is_partial, is_whole, spools_of, IsFile, IsPlace}
-use Rattle.njh_spool.proofs.IndexLaws.{small_used}
-use Rattle.njh_spool.proofs.KeptLaws.{HasOwn, has_own, own_of, own_is, Moves}
+use Rattle.njh_spool.specs.Chains.{Chain, chain_at, empty_chain}
+use Rattle.njh_spool.specs.CustomerSpool.{CustomerSpool, abandoned}
+use Rattle.njh_spool.specs.Spools.{part}
+use Rattle.njh_spool.specs.Slots.{contents, slot_of, chain_of, is_partial, spools_of}
+use Rattle.njh_spool.proofs.KeptLaws.{own_of, own_is, Moves}
+use Rattle.njh_spool.proofs.CallFinds as finds
 use Rattle.njh_spool.proofs.CallLaws as call
 use Rattle.std.proofs.Common.{◌/◌, count_by}
 use Rattle.njh_spool.specs.Chains.{with_chain, blocks_of}
@@ -19,59 +17,127 @@ use Rattle.njh_spool.proofs.spool.Spool.abandon.Goals.{After-index_mut, After-is
 
 pub slot_at-requires : goal.slot_at-requires
 slot_at-requires c =
-    let has = call.has c.self.inside.store c.self.inside.slots.items c.self.inside.customers.items c.args.customer c.args.id c.self.invariant (rw c.self.view_is c.requires) in
+    let has = finds.has c.self.inside.store c.self.inside.slots.items c.self.inside.customers.items c.args.customer c.args.id
+    c.self.invariant (rw c.self.view_is c.requires) in
     omega (arith, has.slot_within 1023 (omega arith), ap length c.deref.ensures.value)
 
 stage_is : (c : After-is_partial) → is_partial (slot_of c.self.inside.slots.items c.args.customer c.args.id).stage ≡ c.is_partial.result
-stage_is c = ap (λ (x : FileSlot). is_partial x.stage) (sym (c.slot_at.ensures ∙ ap (λ (xs : List FileSlot). slot_of xs c.args.customer c.args.id) c.deref.ensures.value)) ∙ sym c.is_partial.ensures
+stage_is c = ap (λ (x : FileSlot). is_partial x.stage)
+    (sym (c.slot_at.ensures ∙ ap (λ (xs : List FileSlot). slot_of xs c.args.customer c.args.id) c.deref.ensures.value))
+    ∙ sym c.is_partial.ensures
 
 pub returns-then-not-is_partial-clause-answer : goal.returns-then-not-is_partial-clause-answer
 returns-then-not-is_partial-clause-answer c =
-    let none = call.finds_no_partial c.self.inside.store c.self.inside.slots.items c.self.inside.customers.items c.args.customer c.args.id c.self.invariant (rw c.self.view_is c.requires) (stage_is (goal.at.returns-then-not-is_partial-clause-answer c).After-is_partial ∙ c.if-not-is_partial.true) in
+    let none = finds.finds_no_partial c.self.inside.store c.self.inside.slots.items c.self.inside.customers.items c.args.customer
+    c.args.id c.self.invariant (rw c.self.view_is c.requires)
+    (stage_is (goal.at.returns-then-not-is_partial-clause-answer c).After-is_partial ∙ c.if-not-is_partial.true) in
     rw (← c.self.view_is, none.none) refl
 
 pub returns-then-not-is_partial-clause-after : goal.returns-then-not-is_partial-clause-after
 returns-then-not-is_partial-clause-after c =
-    let none = call.finds_no_partial c.self.inside.store c.self.inside.slots.items c.self.inside.customers.items c.args.customer c.args.id c.self.invariant (rw c.self.view_is c.requires) (stage_is (goal.at.returns-then-not-is_partial-clause-after c).After-is_partial ∙ c.if-not-is_partial.true) in
+    let none = finds.finds_no_partial c.self.inside.store c.self.inside.slots.items c.self.inside.customers.items c.args.customer
+    c.args.id c.self.invariant (rw c.self.view_is c.requires)
+    (stage_is (goal.at.returns-then-not-is_partial-clause-after c).After-is_partial ∙ c.if-not-is_partial.true) in
     rw (← c.self.view_is) none.abandons
 
 own_same : (c : After-index_mut-own) → c.index_mut-own.result.now ≡ (own_of c.self.inside.customers.items c.args.customer)
 own_same c =
-    let has = call.has c.self.inside.store c.self.inside.slots.items c.self.inside.customers.items c.args.customer c.args.id c.self.invariant (rw c.self.view_is c.requires) in
-    own_is c.self.inside.customers.items c.args.customer c.from.result c.index_mut-own.result.now has.within c.from.ensures c.index_mut-own.ensures.value
+    let has = finds.has c.self.inside.store c.self.inside.slots.items c.self.inside.customers.items c.args.customer c.args.id
+    c.self.invariant (rw c.self.view_is c.requires) in
+    own_is c.self.inside.customers.items c.args.customer c.from.result c.index_mut-own.result.now has.within c.from.ensures
+    c.index_mut-own.ensures.value
 
 pub overflow_sub-left : goal.overflow_sub-left
 overflow_sub-left c =
-    let has = call.has c.self.inside.store c.self.inside.slots.items c.self.inside.customers.items c.args.customer c.args.id c.self.invariant (rw c.self.view_is c.requires) in
+    let has = finds.has c.self.inside.store c.self.inside.slots.items c.self.inside.customers.items c.args.customer c.args.id
+    c.self.invariant (rw c.self.view_is c.requires) in
     let there = stage_is (goal.at.overflow_sub-left c).After-is_partial ∙ c.if-not-is_partial.false in
     let own = ap (λ (o : CustomerFiles). o.used) (own_same (goal.at.overflow_sub-left c).After-index_mut-own) in
-    let chain = ap (λ (i : ℕ). chain_at i c.self.inside.store) c.place-at.ensures ∙ call.chain_is c.self.inside.store c.self.inside.slots.items c.self.inside.customers.items c.args.customer c.args.id c.self.invariant (rw c.self.view_is c.requires) (call.small_partial c.self.inside.store c.self.inside.slots.items c.self.inside.customers.items c.args.customer c.args.id c.self.invariant (rw c.self.view_is c.requires) there) in
+    let chain = ap (λ (i : ℕ). chain_at i c.self.inside.store) c.place-at.ensures ∙ finds.chain_is c.self.inside.store
+    c.self.inside.slots.items c.self.inside.customers.items c.args.customer c.args.id c.self.invariant
+    (rw c.self.view_is c.requires) (finds.small_partial c.self.inside.store c.self.inside.slots.items
+    c.self.inside.customers.items c.args.customer c.args.id c.self.invariant (rw c.self.view_is c.requires) there) in
     let size = c.len.ensures.bytes ∙ ap (λ (x : Chain). length x.bytes) chain in
-    omega (arith, own, size, c.blocks_for.ensures, call.blocks_are c.self.inside.store c.self.inside.slots.items c.self.inside.customers.items c.args.customer c.args.id c.self.invariant (rw c.self.view_is c.requires), call.enough_partial c.self.inside.store c.self.inside.slots.items c.self.inside.customers.items c.args.customer c.args.id c.self.invariant (rw c.self.view_is c.requires) there)
+    omega (
+      arith,
+      own,
+      size,
+      c.blocks_for.ensures,
+      finds.blocks_are c.self.inside.store c.self.inside.slots.items
+          c.self.inside.customers.items c.args.customer c.args.id c.self.invariant (rw c.self.view_is c.requires),
+      finds.enough_partial c.self.inside.store c.self.inside.slots.items c.self.inside.customers.items c.args.customer
+          c.args.id c.self.invariant (rw c.self.view_is c.requires) there,
+    )
 
 pub remove-requires : goal.remove-requires
 remove-requires c =
-    let has = call.has c.self.inside.store c.self.inside.slots.items c.self.inside.customers.items c.args.customer c.args.id c.self.invariant (rw c.self.view_is c.requires) in
-    let most = at_most_once (is_partial ((contents c.self.inside.slots.items c.self.inside.store.chains c.args.customer) c.args.id).stage) (count_by (λ m. eqb m c.args.id) (own_of c.self.inside.customers.items c.args.customer).partial) (has.own.partial_once c.args.id) in
+    let has = finds.has c.self.inside.store c.self.inside.slots.items c.self.inside.customers.items c.args.customer c.args.id
+    c.self.invariant (rw c.self.view_is c.requires) in
+    let most = at_most_once (is_partial ((contents c.self.inside.slots.items c.self.inside.store.chains c.args.customer)
+    c.args.id).stage) (count_by (λ m. eqb m c.args.id) (own_of c.self.inside.customers.items c.args.customer).partial)
+    (has.own.partial_once c.args.id) in
     subst (λ (k : ℕ). count_by (λ m. eqb m k) c.index_mut-own.result.now.partial ≤ 1) (sym c.number.ensures)
-    (subst (λ (o : CustomerFiles). count_by (λ m. eqb m c.args.id) o.partial ≤ 1) (sym (own_same (goal.at.remove-requires c).After-index_mut-own)) most)
+    (subst (λ (o : CustomerFiles). count_by (λ m. eqb m c.args.id) o.partial ≤ 1)
+    (sym (own_same (goal.at.remove-requires c).After-index_mut-own)) most)
 
-moved : (c : After-index_mut) → Moves c.self.inside.store c.self.inside.slots.items c.self.inside.customers.items c.clear.new.self (set c.self.inside.slots.items c.place-at.result c.empty.result) (set c.self.inside.customers.items c.from.result (record c.index_mut-own.result.now { used = c.index_mut-own.result.now.used - c.blocks_for.result; partial = c.remove.new.self })) c.args.customer (abandoned c.args.id (part c.args.customer (spools_of c.self.inside.customers.items (contents c.self.inside.slots.items c.self.inside.store.chains))))
+moved : (c : After-index_mut) → Moves c.self.inside.store c.self.inside.slots.items c.self.inside.customers.items
+    c.clear.new.self (set c.self.inside.slots.items c.place-at.result c.empty.result)
+    (set c.self.inside.customers.items c.from.result
+    (record c.index_mut-own.result.now {
+      used = c.index_mut-own.result.now.used - c.blocks_for.result;
+      partial =
+          c.remove.new.self;
+    })) c.args.customer (abandoned c.args.id
+    (part c.args.customer (spools_of c.self.inside.customers.items (contents c.self.inside.slots.items c.self.inside.store.chains))))
 moved c =
-    let has = call.has c.self.inside.store c.self.inside.slots.items c.self.inside.customers.items c.args.customer c.args.id c.self.invariant (rw c.self.view_is c.requires) in
-    let there = ap (λ (x : FileSlot). is_partial x.stage) (sym (c.slot_at.ensures ∙ ap (λ (xs : List FileSlot). slot_of xs c.args.customer c.args.id) c.deref.ensures.value)) ∙ sym c.is_partial.ensures ∙ c.if-not-is_partial.false in
-    let small = call.small_partial c.self.inside.store c.self.inside.slots.items c.self.inside.customers.items c.args.customer c.args.id c.self.invariant (rw c.self.view_is c.requires) there in
-    let own = own_is c.self.inside.customers.items c.args.customer c.from.result c.index_mut-own.result.now has.within c.from.ensures c.index_mut-own.ensures.value in
-    let chain = ap (λ (i : ℕ). chain_at i c.self.inside.store) c.place-at.ensures ∙ call.chain_is c.self.inside.store c.self.inside.slots.items c.self.inside.customers.items c.args.customer c.args.id c.self.invariant (rw c.self.view_is c.requires) small in
-    let size : c.blocks_for.result ≡ blocks_of (chain_of c.self.inside.store.chains c.args.customer c.args.id).bytes = c.blocks_for.ensures ∙ ap (λ (k : ℕ). (k + 251) / 252) (c.len.ensures.bytes ∙ ap (λ (x : Chain). length x.bytes) chain) in
+    let has = finds.has c.self.inside.store c.self.inside.slots.items c.self.inside.customers.items c.args.customer c.args.id
+    c.self.invariant (rw c.self.view_is c.requires) in
+    let there = ap (λ (x : FileSlot). is_partial x.stage)
+    (sym (c.slot_at.ensures ∙ ap (λ (xs : List FileSlot). slot_of xs c.args.customer c.args.id) c.deref.ensures.value))
+    ∙ sym c.is_partial.ensures ∙ c.if-not-is_partial.false in
+    let small = finds.small_partial c.self.inside.store c.self.inside.slots.items c.self.inside.customers.items c.args.customer
+    c.args.id c.self.invariant (rw c.self.view_is c.requires) there in
+    let own = own_is c.self.inside.customers.items c.args.customer c.from.result c.index_mut-own.result.now has.within
+    c.from.ensures c.index_mut-own.ensures.value in
+    let chain = ap (λ (i : ℕ). chain_at i c.self.inside.store) c.place-at.ensures ∙ finds.chain_is c.self.inside.store
+    c.self.inside.slots.items c.self.inside.customers.items c.args.customer c.args.id c.self.invariant
+    (rw c.self.view_is c.requires) small in
+    let size : c.blocks_for.result ≡ blocks_of (chain_of c.self.inside.store.chains c.args.customer c.args.id).bytes =
+    c.blocks_for.ensures ∙ ap (λ (k : ℕ). (k + 251) / 252) (c.len.ensures.bytes ∙ ap (λ (x : Chain). length x.bytes) chain) in
     let list = c.remove.ensures ∙ ap (λ (k : ℕ). filter (λ m. not (eqb m k)) c.index_mut-own.result.now.partial) c.number.ensures in
     let owns =
-    ap (λ (xs : List ℕ). record c.index_mut-own.result.now { used = c.index_mut-own.result.now.used - c.blocks_for.result; partial = xs }) list
-    ∙ ap (λ (b : ℕ). record c.index_mut-own.result.now { used = c.index_mut-own.result.now.used - b; partial = filter (λ m. not (eqb m c.args.id)) c.index_mut-own.result.now.partial }) size
-    ∙ ap (λ (o : CustomerFiles). record o { used = o.used - blocks_of (chain_of c.self.inside.store.chains c.args.customer c.args.id).bytes; partial = filter (λ m. not (eqb m c.args.id)) o.partial }) own in
+    ap (λ (xs : List ℕ). record c.index_mut-own.result.now {
+      used = c.index_mut-own.result.now.used - c.blocks_for.result;
+      partial = xs;
+    }) list
+    ∙ ap (λ (b : ℕ). record c.index_mut-own.result.now {
+      used = c.index_mut-own.result.now.used - b;
+      partial =
+          filter (λ m. not (eqb m c.args.id)) c.index_mut-own.result.now.partial;
+    }) size
+    ∙ ap (λ (o : CustomerFiles). record o {
+      used = o.used - blocks_of (chain_of c.self.inside.store.chains c.args.customer
+          c.args.id).bytes;
+      partial = filter (λ m. not (eqb m c.args.id)) o.partial;
+    }) own in
     let store = c.clear.ensures ∙ ap (λ (i : ℕ). with_chain i empty_chain c.self.inside.store) c.place-at.ensures in
-    call.arrives c.self.inside.store c.self.inside.slots.items c.self.inside.customers.items c.args.customer c.args.id c.self.invariant (rw c.self.view_is c.requires) (with_chain (1024 * c.args.customer + c.args.id) empty_chain c.self.inside.store) c.clear.new.self c.empty.result (record c.index_mut-own.result.now { used = c.index_mut-own.result.now.used - c.blocks_for.result; partial = c.remove.new.self }) c.place-at.result c.from.result (abandoned c.args.id (part c.args.customer (spools_of c.self.inside.customers.items (contents c.self.inside.slots.items c.self.inside.store.chains)))) store c.place-at.ensures c.from.ensures
-    (call.abandons c.self.inside.store c.self.inside.slots.items c.self.inside.customers.items c.args.customer c.args.id c.self.invariant (rw c.self.view_is c.requires) c.empty.result (record c.index_mut-own.result.now { used = c.index_mut-own.result.now.used - c.blocks_for.result; partial = c.remove.new.self }) there c.empty.ensures owns small)
+    call.arrives c.self.inside.store c.self.inside.slots.items c.self.inside.customers.items c.args.customer c.args.id
+    c.self.invariant (rw c.self.view_is c.requires) (with_chain (1024 * c.args.customer + c.args.id) empty_chain
+    c.self.inside.store) c.clear.new.self c.empty.result
+    (record c.index_mut-own.result.now {
+      used = c.index_mut-own.result.now.used - c.blocks_for.result;
+      partial =
+          c.remove.new.self;
+    }) c.place-at.result c.from.result
+    (abandoned c.args.id (part c.args.customer (spools_of c.self.inside.customers.items
+    (contents c.self.inside.slots.items c.self.inside.store.chains)))) store c.place-at.ensures c.from.ensures
+    (call.abandons c.self.inside.store c.self.inside.slots.items c.self.inside.customers.items c.args.customer c.args.id
+    c.self.invariant (rw c.self.view_is c.requires) c.empty.result
+    (record c.index_mut-own.result.now {
+      used = c.index_mut-own.result.now.used - c.blocks_for.result;
+      partial =
+          c.remove.new.self;
+    }) there c.empty.ensures owns small)
 
 pub invariant_of-self : goal.invariant_of-self
 invariant_of-self c = (moved (goal.at.invariant_of-self c).After-index_mut).kept
@@ -79,8 +145,13 @@ invariant_of-self c = (moved (goal.at.invariant_of-self c).After-index_mut).kept
 pub returns-clause-answer : goal.returns-clause-answer
 returns-clause-answer c =
     let there = stage_is (goal.at.returns-clause-answer c).After-is_partial ∙ c.if-not-is_partial.false in
-    rw (← c.self.view_is, call.finds_partial c.self.inside.store c.self.inside.slots.items c.self.inside.customers.items c.args.customer c.args.id c.self.invariant (rw c.self.view_is c.requires) there) refl
+    rw (
+      ← c.self.view_is,
+      finds.finds_partial c.self.inside.store c.self.inside.slots.items c.self.inside.customers.items
+          c.args.customer c.args.id c.self.invariant (rw c.self.view_is c.requires) there,
+    ) refl
 
 pub returns-clause-after : goal.returns-clause-after
 returns-clause-after c =
-    (moved (goal.at.returns-clause-after c).After-index_mut).spools ∙ ap (λ (old : List CustomerSpool). set old c.args.customer (abandoned c.args.id (part c.args.customer old))) c.self.view_is
+    (moved (goal.at.returns-clause-after c).After-index_mut).spools
+    ∙ ap (λ (old : List CustomerSpool). set old c.args.customer (abandoned c.args.id (part c.args.customer old))) c.self.view_is

@@ -1,15 +1,13 @@
-use Rattle.std.proofs.Common.{◌≡◌, ℕ, ◌+◌, ◌-◌, ◌*◌, ◌<◌, ◌≤◌, Bool, true, false, not, eqb, List, [], ◌∷◌, ◌++◌, length, get_or, set, filter, Option, Some, None, Ok, Err, refl, sym, ap, subst, ◌∙◌, arith}
+use Rattle.std.proofs.Common.{◌≡◌, ℕ, ◌+◌, ◌-◌, ◌*◌, ◌≤◌, true, List, ◌++◌, length, set}
+use Rattle.std.proofs.Common.{refl, sym, ap, subst, ◌∙◌, arith}
 use Rattle.njh_spool.specs.declared.file_slot.FileSlot.{FileSlot}
-use Rattle.njh_spool.specs.declared.file_slot.RecordPlace.{RecordPlace}
-use Rattle.njh_spool.specs.declared.file_slot.Stage.{Stage}
-use Rattle.njh_spool.specs.declared.file_slot.Stage.TheVariants.{Free, Partial, Whole}
 use Rattle.njh_spool.specs.declared.customer_files.CustomerFiles.{CustomerFiles}
-use Rattle.njh_spool.specs.Chains.{Chain, StoreValue, chain_at, empty_chain}
-use Rattle.njh_spool.specs.CustomerSpool.{CustomerSpool, WholeFile, with_state, removed, finished, abandoned, appended, begun, rewritten, on_file}
-use Rattle.njh_spool.specs.Spools.{part, records_numbered, record_numbered}
-use Rattle.njh_spool.specs.Slots.{contents, slot_of, chain_of, is_free, is_partial, is_whole, spools_of, IsFile, IsPlace}
-use Rattle.njh_spool.proofs.IndexLaws.{small_used}
-use Rattle.njh_spool.proofs.KeptLaws.{HasOwn, has_own, own_of, own_is, Moves}
+use Rattle.njh_spool.specs.Chains.{Chain, chain_at}
+use Rattle.njh_spool.specs.CustomerSpool.{CustomerSpool, appended}
+use Rattle.njh_spool.specs.Spools.{part}
+use Rattle.njh_spool.specs.Slots.{contents, slot_of, chain_of, is_partial, spools_of}
+use Rattle.njh_spool.proofs.KeptLaws.{own_of, own_is, Moves}
+use Rattle.njh_spool.proofs.CallFinds as finds
 use Rattle.njh_spool.proofs.CallLaws as call
 use Rattle.std.proofs.Common.{◌/◌, take, length-append}
 use Rattle.njh_spool.specs.Chains.{with_chain, blocks_of}
@@ -21,15 +19,20 @@ use Rattle.njh_spool.proofs.spool.Spool.append.Goals.{After-is_partial, After-bl
 
 pub slot_at-slot-requires : goal.slot_at-slot-requires
 slot_at-slot-requires c =
-    let has = call.has c.self.inside.store c.self.inside.slots.items c.self.inside.customers.items c.args.customer c.args.id c.self.invariant (rw c.self.view_is c.requires.range) in
+    let has = finds.has c.self.inside.store c.self.inside.slots.items c.self.inside.customers.items c.args.customer c.args.id
+    c.self.invariant (rw c.self.view_is c.requires.range) in
     omega (arith, has.slot_within 1023 (omega arith), ap length c.deref.ensures.value)
 
 stage_is : (c : After-is_partial) → is_partial (slot_of c.self.inside.slots.items c.args.customer c.args.id).stage ≡ c.is_partial.result
-stage_is c = ap (λ (x : FileSlot). is_partial x.stage) (sym (c.slot_at-slot.ensures ∙ ap (λ (xs : List FileSlot). slot_of xs c.args.customer c.args.id) c.deref.ensures.value)) ∙ sym c.is_partial.ensures
+stage_is c = ap (λ (x : FileSlot). is_partial x.stage)
+    (sym (c.slot_at-slot.ensures ∙ ap (λ (xs : List FileSlot). slot_of xs c.args.customer c.args.id) c.deref.ensures.value))
+    ∙ sym c.is_partial.ensures
 
 pub returns-then-not-is_partial-clause-fault : goal.returns-then-not-is_partial-clause-fault
 returns-then-not-is_partial-clause-fault c =
-    let none = call.finds_no_partial c.self.inside.store c.self.inside.slots.items c.self.inside.customers.items c.args.customer c.args.id c.self.invariant (rw c.self.view_is c.requires.range) (stage_is (goal.at.returns-then-not-is_partial-clause-fault c).After-is_partial ∙ c.if-not-is_partial.true) in
+    let none = finds.finds_no_partial c.self.inside.store c.self.inside.slots.items c.self.inside.customers.items c.args.customer
+    c.args.id c.self.invariant (rw c.self.view_is c.requires.range)
+    (stage_is (goal.at.returns-then-not-is_partial-clause-fault c).After-is_partial ∙ c.if-not-is_partial.true) in
     rw (← c.self.view_is, none.appends (record { srcb = c.args.srcb; bytes = c.args.bytes.now })) refl
 
 -- what the code counts
@@ -40,33 +43,63 @@ record Counts (used blocks own_used own_blocks : ℕ) : Type 0 where
   few : own_used ≤ 65535
 
 there_is : (c : After-blocks_for) → is_partial (slot_of c.self.inside.slots.items c.args.customer c.args.id).stage ≡ true
-there_is c = ap (λ (x : FileSlot). is_partial x.stage) (sym (c.slot_at-slot.ensures ∙ ap (λ (xs : List FileSlot). slot_of xs c.args.customer c.args.id) c.deref.ensures.value)) ∙ sym c.is_partial.ensures ∙ c.if-not-is_partial.false
+there_is c = ap (λ (x : FileSlot). is_partial x.stage)
+    (sym (c.slot_at-slot.ensures ∙ ap (λ (xs : List FileSlot). slot_of xs c.args.customer c.args.id) c.deref.ensures.value))
+    ∙ sym c.is_partial.ensures ∙ c.if-not-is_partial.false
 
 own_same : (c : After-blocks_for) → c.index_mut-own.result.now ≡ (own_of c.self.inside.customers.items c.args.customer)
 own_same c =
-    let has = call.has c.self.inside.store c.self.inside.slots.items c.self.inside.customers.items c.args.customer c.args.id c.self.invariant (rw c.self.view_is c.requires.range) in
-    own_is c.self.inside.customers.items c.args.customer c.from.result c.index_mut-own.result.now has.within c.from.ensures c.index_mut-own.ensures.value
+    let has = finds.has c.self.inside.store c.self.inside.slots.items c.self.inside.customers.items c.args.customer c.args.id
+    c.self.invariant (rw c.self.view_is c.requires.range) in
+    own_is c.self.inside.customers.items c.args.customer c.from.result c.index_mut-own.result.now has.within c.from.ensures
+    c.index_mut-own.ensures.value
 
-chain_same : (c : After-blocks_for) → chain_at c.place-at.result c.self.inside.store ≡ (chain_of c.self.inside.store.chains c.args.customer c.args.id)
-chain_same c = ap (λ (i : ℕ). chain_at i c.self.inside.store) c.place-at.ensures ∙ call.chain_is c.self.inside.store c.self.inside.slots.items c.self.inside.customers.items c.args.customer c.args.id c.self.invariant (rw c.self.view_is c.requires.range) (call.small_partial c.self.inside.store c.self.inside.slots.items c.self.inside.customers.items c.args.customer c.args.id c.self.invariant (rw c.self.view_is c.requires.range) (there_is c))
+chain_same : (c : After-blocks_for) → chain_at c.place-at.result c.self.inside.store ≡
+    (chain_of c.self.inside.store.chains c.args.customer c.args.id)
+chain_same c = ap (λ (i : ℕ). chain_at i c.self.inside.store) c.place-at.ensures ∙ finds.chain_is c.self.inside.store
+    c.self.inside.slots.items c.self.inside.customers.items c.args.customer c.args.id c.self.invariant
+    (rw c.self.view_is c.requires.range) (finds.small_partial c.self.inside.store c.self.inside.slots.items
+    c.self.inside.customers.items c.args.customer c.args.id c.self.invariant (rw c.self.view_is c.requires.range) (there_is c))
 
 size_same : (c : After-blocks_for) → c.len-size.result ≡ length (chain_of c.self.inside.store.chains c.args.customer c.args.id).bytes
 size_same c = c.len-size.ensures.bytes ∙ ap (λ (x : Chain). length x.bytes) (chain_same c)
 
-counts : (c : After-blocks_for) → Counts c.index_mut-own.result.now.used c.blocks_for.result (own_of c.self.inside.customers.items c.args.customer).used (blocks_of (chain_of c.self.inside.store.chains c.args.customer c.args.id).bytes)
+counts : (c : After-blocks_for) → Counts c.index_mut-own.result.now.used c.blocks_for.result
+    (own_of c.self.inside.customers.items c.args.customer).used
+    (blocks_of (chain_of c.self.inside.store.chains c.args.customer c.args.id).bytes)
 counts c =
-    let has = call.has c.self.inside.store c.self.inside.slots.items c.self.inside.customers.items c.args.customer c.args.id c.self.invariant (rw c.self.view_is c.requires.range) in
+    let has = finds.has c.self.inside.store c.self.inside.slots.items c.self.inside.customers.items c.args.customer c.args.id
+    c.self.invariant (rw c.self.view_is c.requires.range) in
     record {
       used_is = ap (λ (o : CustomerFiles). o.used) (own_same c);
       blocks_is = c.blocks_for.ensures ∙ ap (λ (k : ℕ). (k + 251) / 252) (size_same c);
-      enough = omega (arith, call.blocks_are c.self.inside.store c.self.inside.slots.items c.self.inside.customers.items c.args.customer c.args.id c.self.invariant (rw c.self.view_is c.requires.range), call.enough_partial c.self.inside.store c.self.inside.slots.items c.self.inside.customers.items c.args.customer c.args.id c.self.invariant (rw c.self.view_is c.requires.range) (there_is c));
+      enough = omega (
+        arith,
+        finds.blocks_are c.self.inside.store c.self.inside.slots.items c.self.inside.customers.items
+            c.args.customer c.args.id c.self.invariant (rw c.self.view_is c.requires.range),
+        finds.enough_partial
+            c.self.inside.store c.self.inside.slots.items c.self.inside.customers.items c.args.customer c.args.id c.self.invariant
+            (rw c.self.view_is c.requires.range) (there_is c),
+      );
       few = omega (arith, has.own.counted, has.own.sound.within_quota, has.own.sound.quota_limit);
     }
 
-longer_same : (c : After-blocks_for-2) → c.blocks_for-2.result ≡ blocks_of ((chain_of c.self.inside.store.chains c.args.customer c.args.id).bytes ++ packed_record (record { srcb = c.args.srcb; bytes = c.args.bytes.now }))
+longer_same : (c : After-blocks_for-2) → c.blocks_for-2.result ≡ blocks_of
+    ((chain_of c.self.inside.store.chains c.args.customer c.args.id).bytes
+    ++ packed_record (record { srcb = c.args.srcb; bytes = c.args.bytes.now }))
 longer_same c =
     let at = (goal.at.overflow_add-used c).After-blocks_for in
-    let size : c.len-size.result + (3 + length c.args.bytes.now) ≡ length ((chain_of c.self.inside.store.chains c.args.customer c.args.id).bytes ++ packed_record (record { srcb = c.args.srcb; bytes = c.args.bytes.now })) = omega (arith, size_same at, length-append (chain_of c.self.inside.store.chains c.args.customer c.args.id).bytes (packed_record (record { srcb = c.args.srcb; bytes = c.args.bytes.now })), length-packed_record (record { srcb = c.args.srcb; bytes = c.args.bytes.now })) in
+    let size : c.len-size.result + (3 + length c.args.bytes.now) ≡ length
+    ((chain_of c.self.inside.store.chains c.args.customer c.args.id).bytes
+    ++ packed_record (record { srcb = c.args.srcb; bytes = c.args.bytes.now })) =
+    omega (
+      arith,
+      size_same at,
+      length-append (chain_of c.self.inside.store.chains c.args.customer c.args.id).bytes
+          (packed_record (record { srcb = c.args.srcb; bytes = c.args.bytes.now })),
+      length-packed_record
+          (record { srcb = c.args.srcb; bytes = c.args.bytes.now }),
+    ) in
     c.blocks_for-2.ensures ∙ ap (λ (k : ℕ). (k + 251) / 252) size
 
 pub overflow_sub-used : goal.overflow_sub-used
@@ -79,11 +112,27 @@ overflow_add-used c =
     let at = (goal.at.overflow_add-used c).After-blocks_for in
     let count = counts at in
     let longer = longer_same c in
-    let fits = (call.has c.self.inside.store c.self.inside.slots.items c.self.inside.customers.items c.args.customer c.args.id c.self.invariant (rw c.self.view_is c.requires.range)).own.sound in
-    let small = length-append (chain_of c.self.inside.store.chains c.args.customer c.args.id).bytes (packed_record (record { srcb = c.args.srcb; bytes = c.args.bytes.now })) in
-    omega (arith, count.used_is, count.blocks_is, count.enough, count.few, longer, small, length-packed_record (record { srcb = c.args.srcb; bytes = c.args.bytes.now }), c.requires.short)
+    let fits = (finds.has c.self.inside.store c.self.inside.slots.items c.self.inside.customers.items c.args.customer c.args.id
+    c.self.invariant (rw c.self.view_is c.requires.range)).own.sound in
+    let small = length-append (chain_of c.self.inside.store.chains c.args.customer c.args.id).bytes
+    (packed_record (record { srcb = c.args.srcb; bytes = c.args.bytes.now })) in
+    omega (
+      arith,
+      count.used_is,
+      count.blocks_is,
+      count.enough,
+      count.few,
+      longer,
+      small,
+      length-packed_record
+          (record { srcb = c.args.srcb; bytes = c.args.bytes.now }),
+      c.requires.short,
+    )
 
-now_used : (c : After-blocks_for-2) → c.index_mut-own.result.now.used - c.blocks_for.result + c.blocks_for-2.result ≡ (own_of c.self.inside.customers.items c.args.customer).used - blocks_of (chain_of c.self.inside.store.chains c.args.customer c.args.id).bytes + blocks_of ((chain_of c.self.inside.store.chains c.args.customer c.args.id).bytes ++ packed_record (record { srcb = c.args.srcb; bytes = c.args.bytes.now }))
+now_used : (c : After-blocks_for-2) → c.index_mut-own.result.now.used - c.blocks_for.result + c.blocks_for-2.result ≡
+    (own_of c.self.inside.customers.items c.args.customer).used - blocks_of (chain_of c.self.inside.store.chains c.args.customer
+    c.args.id).bytes + blocks_of ((chain_of c.self.inside.store.chains c.args.customer c.args.id).bytes
+    ++ packed_record (record { srcb = c.args.srcb; bytes = c.args.bytes.now }))
 now_used c =
     let count = counts (goal.at.overflow_add-used c).After-blocks_for in
     omega (arith, count.used_is, count.blocks_is, longer_same c)
@@ -93,46 +142,135 @@ returns-then-used-own-clause-fault c =
     let at = (goal.at.returns-then-used-own-clause-fault c).After-blocks_for-2 in
     let first = (goal.at.returns-then-used-own-clause-fault c).After-blocks_for in
     let quota = ap (λ (o : CustomerFiles). o.quota) (own_same first) in
-    rw (← c.self.view_is, call.append_full c.self.inside.store c.self.inside.slots.items c.self.inside.customers.items c.args.customer c.args.id c.self.invariant (rw c.self.view_is c.requires.range) (record { srcb = c.args.srcb; bytes = c.args.bytes.now }) (there_is first) (omega (arith, now_used at, quota, c.if-used-own.true))) refl
+    rw (
+      ← c.self.view_is,
+      finds.append_full c.self.inside.store c.self.inside.slots.items c.self.inside.customers.items
+          c.args.customer c.args.id c.self.invariant (rw c.self.view_is c.requires.range)
+          (record { srcb = c.args.srcb; bytes = c.args.bytes.now }) (there_is first)
+          (omega (arith, now_used at, quota, c.if-used-own.true)),
+    ) refl
 
 pub append-requires-clause-room : goal.append-requires-clause-room
 append-requires-clause-room c =
     let at = (goal.at.append-requires-clause-room c).After-blocks_for-2 in
     let first = (goal.at.append-requires-clause-room c).After-blocks_for in
-    let has = call.has c.self.inside.store c.self.inside.slots.items c.self.inside.customers.items c.args.customer c.args.id c.self.invariant (rw c.self.view_is c.requires.range) in
+    let has = finds.has c.self.inside.store c.self.inside.slots.items c.self.inside.customers.items c.args.customer c.args.id
+    c.self.invariant (rw c.self.view_is c.requires.range) in
     let quota = ap (λ (o : CustomerFiles). o.quota) (own_same first) in
-    let small = call.small_partial c.self.inside.store c.self.inside.slots.items c.self.inside.customers.items c.args.customer c.args.id c.self.invariant (rw c.self.view_is c.requires.range) (there_is first) in
-    let bytes : c.deref-2.result.now ≡ packed_record (record { srcb = c.args.srcb; bytes = c.args.bytes.now }) = c.deref-2.ensures.0 ∙ c.pack_record.ensures in
-    let room = call.room c.self.inside.store c.self.inside.slots.items c.self.inside.customers.items c.args.customer c.args.id c.self.invariant (rw c.self.view_is c.requires.range) (record { srcb = c.args.srcb; bytes = c.args.bytes.now }) (chain_of c.self.inside.store.chains c.args.customer c.args.id).keys (there_is first) small (omega (arith, now_used at, quota, c.if-used-own.false)) (λ more. c.quotas_leave_room.ensures (spools_of c.self.inside.customers.items (contents c.self.inside.slots.items c.self.inside.store.chains)) c.self.inside.store.capacity c.args.customer more (within_all c.self.inside.store c.self.inside.slots.items c.self.inside.customers.items c.self.invariant) (quotas_fit c.self.inside.store c.self.inside.slots.items c.self.inside.customers.items c.self.invariant) (rw c.self.view_is c.requires.range)) in
-    rw (bytes, c.place-at.ensures, call.chain_is c.self.inside.store c.self.inside.slots.items c.self.inside.customers.items c.args.customer c.args.id c.self.invariant (rw c.self.view_is c.requires.range) small) room
+    let small = finds.small_partial c.self.inside.store c.self.inside.slots.items c.self.inside.customers.items c.args.customer
+    c.args.id c.self.invariant (rw c.self.view_is c.requires.range) (there_is first) in
+    let bytes : c.deref-2.result.now ≡ packed_record (record { srcb = c.args.srcb; bytes = c.args.bytes.now }) =
+    c.deref-2.ensures.0 ∙ c.pack_record.ensures in
+    let room = finds.room c.self.inside.store c.self.inside.slots.items c.self.inside.customers.items c.args.customer c.args.id
+    c.self.invariant (rw c.self.view_is c.requires.range) (record { srcb = c.args.srcb; bytes = c.args.bytes.now })
+    (chain_of c.self.inside.store.chains c.args.customer c.args.id).keys (there_is first) small
+    (omega (arith, now_used at, quota, c.if-used-own.false))
+    (λ more. c.quotas_leave_room.ensures (spools_of c.self.inside.customers.items
+    (contents c.self.inside.slots.items c.self.inside.store.chains)) c.self.inside.store.capacity c.args.customer more
+    (within_all c.self.inside.store c.self.inside.slots.items c.self.inside.customers.items c.self.invariant)
+    (quotas_fit c.self.inside.store c.self.inside.slots.items c.self.inside.customers.items c.self.invariant)
+    (rw c.self.view_is c.requires.range)) in
+    rw (
+      bytes,
+      c.place-at.ensures,
+      finds.chain_is c.self.inside.store c.self.inside.slots.items c.self.inside.customers.items
+          c.args.customer c.args.id c.self.invariant (rw c.self.view_is c.requires.range) small,
+    ) room
 
 pub overflow_add-slot : goal.overflow_add-slot
 overflow_add-slot c =
-    let count = ap (λ (x : FileSlot). x.count) (c.slot_at-slot.ensures ∙ ap (λ (xs : List FileSlot). slot_of xs c.args.customer c.args.id) c.deref.ensures.value) in
-    omega (arith, count, call.count_small c.self.inside.store c.self.inside.slots.items c.self.inside.customers.items c.args.customer c.args.id c.self.invariant (rw c.self.view_is c.requires.range))
+    let count = ap (λ (x : FileSlot). x.count) (c.slot_at-slot.ensures
+    ∙ ap (λ (xs : List FileSlot). slot_of xs c.args.customer c.args.id) c.deref.ensures.value) in
+    omega (
+      arith,
+      count,
+      finds.count_small c.self.inside.store c.self.inside.slots.items c.self.inside.customers.items
+          c.args.customer c.args.id c.self.invariant (rw c.self.view_is c.requires.range),
+    )
 
-moved : (c : After-append) → Moves c.self.inside.store c.self.inside.slots.items c.self.inside.customers.items c.append.new.self (set c.self.inside.slots.items c.place-at.result (record c.slot_at-slot.result { count = c.slot_at-slot.result.count + 1 })) (set c.self.inside.customers.items c.from.result (record c.index_mut-own.result.now { used = c.index_mut-own.result.now.used - c.blocks_for.result + c.blocks_for-2.result })) c.args.customer (appended c.args.id (record { srcb = c.args.srcb; bytes = c.args.bytes.now }) (part c.args.customer (spools_of c.self.inside.customers.items (contents c.self.inside.slots.items c.self.inside.store.chains))))
+moved : (c : After-append) → Moves c.self.inside.store c.self.inside.slots.items c.self.inside.customers.items c.append.new.self
+    (set c.self.inside.slots.items c.place-at.result (record c.slot_at-slot.result { count = c.slot_at-slot.result.count + 1 }))
+    (set c.self.inside.customers.items c.from.result
+    (record c.index_mut-own.result.now { used = c.index_mut-own.result.now.used - c.blocks_for.result + c.blocks_for-2.result }))
+    c.args.customer (appended c.args.id (record { srcb = c.args.srcb; bytes = c.args.bytes.now })
+    (part c.args.customer (spools_of c.self.inside.customers.items (contents c.self.inside.slots.items c.self.inside.store.chains))))
 moved c =
     let at = (goal.at.overflow_add-slot c).After-blocks_for-2 in
     let first = (goal.at.overflow_add-slot c).After-blocks_for in
     let there = there_is first in
-    let small = call.small_partial c.self.inside.store c.self.inside.slots.items c.self.inside.customers.items c.args.customer c.args.id c.self.invariant (rw c.self.view_is c.requires.range) there in
+    let small = finds.small_partial c.self.inside.store c.self.inside.slots.items c.self.inside.customers.items c.args.customer
+    c.args.id c.self.invariant (rw c.self.view_is c.requires.range) there in
     let chain = chain_same first in
     let same = c.slot_at-slot.ensures ∙ ap (λ (xs : List FileSlot). slot_of xs c.args.customer c.args.id) c.deref.ensures.value in
-    let bytes : c.deref-2.result.now ≡ packed_record (record { srcb = c.args.srcb; bytes = c.args.bytes.now }) = c.deref-2.ensures.0 ∙ c.pack_record.ensures in
+    let bytes : c.deref-2.result.now ≡ packed_record (record { srcb = c.args.srcb; bytes = c.args.bytes.now }) =
+    c.deref-2.ensures.0 ∙ c.pack_record.ensures in
     let quota = ap (λ (o : CustomerFiles). o.quota) (own_same first) in
     let keys = (chain_at c.place-at.result c.append.new.self).keys in
     let blocks = c.index_mut-own.result.now.used - c.blocks_for.result + c.blocks_for-2.result in
-    let front : take (length (chain_of c.self.inside.store.chains c.args.customer c.args.id).keys) keys ≡ (chain_of c.self.inside.store.chains c.args.customer c.args.id).keys = subst (λ (x : Chain). take (length x.keys) keys ≡ x.keys) chain c.append.ensures.keys in
-    let store : c.append.new.self ≡ with_chain (1024 * c.args.customer + c.args.id) (record { keys = keys; bytes = ((chain_of c.self.inside.store.chains c.args.customer c.args.id).bytes ++ packed_record (record { srcb = c.args.srcb; bytes = c.args.bytes.now })) }) c.self.inside.store =
+    let front : take (length (chain_of c.self.inside.store.chains c.args.customer c.args.id).keys) keys ≡
+    (chain_of c.self.inside.store.chains c.args.customer c.args.id).keys =
+    subst (λ (x : Chain). take (length x.keys) keys ≡ x.keys) chain c.append.ensures.keys in
+    let store : c.append.new.self ≡ with_chain (1024 * c.args.customer + c.args.id)
+    (record {
+      keys = keys;
+      bytes = ((chain_of c.self.inside.store.chains c.args.customer c.args.id).bytes
+          ++ packed_record (record { srcb = c.args.srcb; bytes = c.args.bytes.now }));
+    }) c.self.inside.store =
     c.append.ensures.after
-    ∙ ap (λ (xs : List ℕ). with_chain c.place-at.result (record { keys = keys; bytes = (chain_at c.place-at.result c.self.inside.store).bytes ++ xs }) c.self.inside.store) bytes
-    ∙ ap (λ (x : Chain). with_chain c.place-at.result (record { keys = keys; bytes = x.bytes ++ packed_record (record { srcb = c.args.srcb; bytes = c.args.bytes.now }) }) c.self.inside.store) chain
-    ∙ ap (λ (i : ℕ). with_chain i (record { keys = keys; bytes = ((chain_of c.self.inside.store.chains c.args.customer c.args.id).bytes ++ packed_record (record { srcb = c.args.srcb; bytes = c.args.bytes.now })) }) c.self.inside.store) c.place-at.ensures in
-    call.arrives c.self.inside.store c.self.inside.slots.items c.self.inside.customers.items c.args.customer c.args.id c.self.invariant (rw c.self.view_is c.requires.range) (with_chain (1024 * c.args.customer + c.args.id) (record { keys = keys; bytes = ((chain_of c.self.inside.store.chains c.args.customer c.args.id).bytes ++ packed_record (record { srcb = c.args.srcb; bytes = c.args.bytes.now })) }) c.self.inside.store) c.append.new.self (record c.slot_at-slot.result { count = c.slot_at-slot.result.count + 1 }) (record c.index_mut-own.result.now { used = blocks }) c.place-at.result c.from.result (appended c.args.id (record { srcb = c.args.srcb; bytes = c.args.bytes.now }) (part c.args.customer (spools_of c.self.inside.customers.items (contents c.self.inside.slots.items c.self.inside.store.chains)))) store c.place-at.ensures c.from.ensures
-    (subst (λ (x : FileSlot). Moves c.self.inside.store c.self.inside.slots.items c.self.inside.customers.items (with_chain (1024 * c.args.customer + c.args.id) (record { keys = keys; bytes = ((chain_of c.self.inside.store.chains c.args.customer c.args.id).bytes ++ packed_record (record { srcb = c.args.srcb; bytes = c.args.bytes.now })) }) c.self.inside.store) (set c.self.inside.slots.items (1024 * c.args.customer + c.args.id) (record x { count = x.count + 1 })) (set c.self.inside.customers.items c.args.customer (record c.index_mut-own.result.now { used = blocks })) c.args.customer (appended c.args.id (record { srcb = c.args.srcb; bytes = c.args.bytes.now }) (part c.args.customer (spools_of c.self.inside.customers.items (contents c.self.inside.slots.items c.self.inside.store.chains))))) (sym same)
-    (subst (λ (o : CustomerFiles). Moves c.self.inside.store c.self.inside.slots.items c.self.inside.customers.items (with_chain (1024 * c.args.customer + c.args.id) (record { keys = keys; bytes = ((chain_of c.self.inside.store.chains c.args.customer c.args.id).bytes ++ packed_record (record { srcb = c.args.srcb; bytes = c.args.bytes.now })) }) c.self.inside.store) (set c.self.inside.slots.items (1024 * c.args.customer + c.args.id) (record (slot_of c.self.inside.slots.items c.args.customer c.args.id) { count = (slot_of c.self.inside.slots.items c.args.customer c.args.id).count + 1 })) (set c.self.inside.customers.items c.args.customer (record o { used = blocks })) c.args.customer (appended c.args.id (record { srcb = c.args.srcb; bytes = c.args.bytes.now }) (part c.args.customer (spools_of c.self.inside.customers.items (contents c.self.inside.slots.items c.self.inside.store.chains))))) (sym (own_same first))
-    (call.appends c.self.inside.store c.self.inside.slots.items c.self.inside.customers.items c.args.customer c.args.id c.self.invariant (rw c.self.view_is c.requires.range) (record { srcb = c.args.srcb; bytes = c.args.bytes.now }) keys blocks there c.requires.short front (now_used at) (omega (arith, quota, c.if-used-own.false)) small)))
+    ∙ ap (λ (xs : List ℕ). with_chain c.place-at.result
+    (record { keys = keys; bytes = (chain_at c.place-at.result c.self.inside.store).bytes ++ xs }) c.self.inside.store) bytes
+    ∙ ap (λ (x : Chain). with_chain c.place-at.result
+    (record { keys = keys; bytes = x.bytes ++ packed_record (record { srcb = c.args.srcb; bytes = c.args.bytes.now }) })
+    c.self.inside.store) chain
+    ∙ ap (λ (i : ℕ). with_chain i (record {
+      keys = keys;
+      bytes =
+          ((chain_of c.self.inside.store.chains c.args.customer c.args.id).bytes
+          ++ packed_record (record { srcb = c.args.srcb; bytes = c.args.bytes.now }));
+    }) c.self.inside.store) c.place-at.ensures in
+    call.arrives c.self.inside.store c.self.inside.slots.items c.self.inside.customers.items c.args.customer c.args.id
+    c.self.invariant (rw c.self.view_is c.requires.range) (with_chain (1024 * c.args.customer + c.args.id)
+    (record {
+      keys = keys;
+      bytes = ((chain_of c.self.inside.store.chains c.args.customer c.args.id).bytes
+          ++ packed_record (record { srcb = c.args.srcb; bytes = c.args.bytes.now }));
+    }) c.self.inside.store) c.append.new.self
+    (record c.slot_at-slot.result { count = c.slot_at-slot.result.count + 1 })
+    (record c.index_mut-own.result.now { used = blocks }) c.place-at.result c.from.result
+    (appended c.args.id (record { srcb = c.args.srcb; bytes = c.args.bytes.now })
+    (part c.args.customer (spools_of c.self.inside.customers.items
+    (contents c.self.inside.slots.items c.self.inside.store.chains)))) store c.place-at.ensures c.from.ensures
+    (subst (λ (x : FileSlot). Moves c.self.inside.store c.self.inside.slots.items c.self.inside.customers.items
+    (with_chain (1024 * c.args.customer + c.args.id)
+    (record {
+      keys = keys;
+      bytes = ((chain_of c.self.inside.store.chains c.args.customer c.args.id).bytes
+          ++ packed_record (record { srcb = c.args.srcb; bytes = c.args.bytes.now }));
+    }) c.self.inside.store)
+    (set c.self.inside.slots.items (1024 * c.args.customer + c.args.id) (record x { count = x.count + 1 }))
+    (set c.self.inside.customers.items c.args.customer (record c.index_mut-own.result.now { used = blocks }))
+    c.args.customer (appended c.args.id (record { srcb = c.args.srcb; bytes = c.args.bytes.now })
+    (part c.args.customer (spools_of c.self.inside.customers.items
+    (contents c.self.inside.slots.items c.self.inside.store.chains))))) (sym same)
+    (subst (λ (o : CustomerFiles). Moves c.self.inside.store c.self.inside.slots.items c.self.inside.customers.items
+    (with_chain (1024 * c.args.customer + c.args.id)
+    (record {
+      keys = keys;
+      bytes = ((chain_of c.self.inside.store.chains c.args.customer c.args.id).bytes
+          ++ packed_record (record { srcb = c.args.srcb; bytes = c.args.bytes.now }));
+    }) c.self.inside.store)
+    (set c.self.inside.slots.items (1024 * c.args.customer + c.args.id)
+    (record (slot_of c.self.inside.slots.items c.args.customer c.args.id) {
+      count =
+          (slot_of c.self.inside.slots.items c.args.customer c.args.id).count + 1;
+    }))
+    (set c.self.inside.customers.items c.args.customer (record o { used = blocks })) c.args.customer
+    (appended c.args.id (record { srcb = c.args.srcb; bytes = c.args.bytes.now })
+    (part c.args.customer (spools_of c.self.inside.customers.items
+    (contents c.self.inside.slots.items c.self.inside.store.chains))))) (sym (own_same first))
+    (call.appends c.self.inside.store c.self.inside.slots.items c.self.inside.customers.items c.args.customer c.args.id
+    c.self.invariant (rw c.self.view_is c.requires.range) (record { srcb = c.args.srcb; bytes = c.args.bytes.now }) keys
+    blocks there c.requires.short front (now_used at) (omega (arith, quota, c.if-used-own.false)) small)))
 
 pub invariant_of-self-2 : goal.invariant_of-self-2
 invariant_of-self-2 c = (moved (goal.at.invariant_of-self-2 c).After-append).kept
@@ -142,8 +280,16 @@ returns-clause-fault c =
     let at = (goal.at.returns-clause-fault c).After-blocks_for-2 in
     let first = (goal.at.returns-clause-fault c).After-blocks_for in
     let quota = ap (λ (o : CustomerFiles). o.quota) (own_same first) in
-    rw (← c.self.view_is, call.append_fits c.self.inside.store c.self.inside.slots.items c.self.inside.customers.items c.args.customer c.args.id c.self.invariant (rw c.self.view_is c.requires.range) (record { srcb = c.args.srcb; bytes = c.args.bytes.now }) (there_is first) (omega (arith, now_used at, quota, c.if-used-own.false))) refl
+    rw (
+      ← c.self.view_is,
+      finds.append_fits c.self.inside.store c.self.inside.slots.items c.self.inside.customers.items
+          c.args.customer c.args.id c.self.invariant (rw c.self.view_is c.requires.range)
+          (record { srcb = c.args.srcb; bytes = c.args.bytes.now }) (there_is first)
+          (omega (arith, now_used at, quota, c.if-used-own.false)),
+    ) refl
 
 pub returns-clause-ok : goal.returns-clause-ok
 returns-clause-ok c =
-    (moved (goal.at.returns-clause-ok c).After-append).spools ∙ ap (λ (old : List CustomerSpool). set old c.args.customer (appended c.args.id (record { srcb = c.args.srcb; bytes = c.args.bytes.now }) (part c.args.customer old))) c.self.view_is
+    (moved (goal.at.returns-clause-ok c).After-append).spools
+    ∙ ap (λ (old : List CustomerSpool). set old c.args.customer
+    (appended c.args.id (record { srcb = c.args.srcb; bytes = c.args.bytes.now }) (part c.args.customer old))) c.self.view_is

@@ -1,15 +1,11 @@
-use Rattle.std.proofs.Common.{◌≡◌, ℕ, ◌+◌, ◌-◌, ◌*◌, ◌<◌, ◌≤◌, Bool, true, false, not, eqb, List, [], ◌∷◌, ◌++◌, length, get_or, set, filter, Option, Some, None, Ok, Err, refl, sym, ap, subst, ◌∙◌, arith}
-use Rattle.njh_spool.specs.declared.file_slot.FileSlot.{FileSlot}
-use Rattle.njh_spool.specs.declared.file_slot.RecordPlace.{RecordPlace}
-use Rattle.njh_spool.specs.declared.file_slot.Stage.{Stage}
-use Rattle.njh_spool.specs.declared.file_slot.Stage.TheVariants.{Free, Partial, Whole}
+use Rattle.std.proofs.Common.{◌≡◌, ℕ, ◌+◌, ◌*◌, ◌<◌, ◌≤◌, List, [], ◌∷◌, ◌++◌, length, set}
+use Rattle.std.proofs.Common.{refl, sym, ap, ◌∙◌, arith}
 use Rattle.njh_spool.specs.declared.customer_files.CustomerFiles.{CustomerFiles}
-use Rattle.njh_spool.specs.Chains.{Chain, StoreValue, chain_at, empty_chain}
-use Rattle.njh_spool.specs.CustomerSpool.{CustomerSpool, WholeFile, with_state, removed, finished, abandoned, appended, begun, rewritten, on_file}
-use Rattle.njh_spool.specs.Spools.{part, records_numbered, record_numbered}
-use Rattle.njh_spool.specs.Slots.{contents, slot_of, chain_of, is_free, is_partial, is_whole, spools_of, IsFile, IsPlace}
-use Rattle.njh_spool.proofs.IndexLaws.{small_used}
-use Rattle.njh_spool.proofs.KeptLaws.{HasOwn, has_own, own_of, own_is, Moves}
+use Rattle.njh_spool.specs.CustomerSpool.{CustomerSpool, begun}
+use Rattle.njh_spool.specs.Spools.{part}
+use Rattle.njh_spool.specs.Slots.{contents, spools_of}
+use Rattle.njh_spool.proofs.KeptLaws.{own_of, own_is, Moves}
+use Rattle.njh_spool.proofs.CallFinds as finds
 use Rattle.njh_spool.proofs.CallLaws as call
 use Rattle.std.proofs.lemmas.List.{length-map}
 use Rattle.njh_spool.specs.CustomerSpool.{next_number}
@@ -20,30 +16,45 @@ use Rattle.njh_spool.proofs.spool.Spool.begin.Goals.{After-index_mut-own, After-
 
 pub index_mut-own-requires : goal.index_mut-own-requires
 index_mut-own-requires c =
-    let has = call.has c.self.inside.store c.self.inside.slots.items c.self.inside.customers.items c.args.customer 0 c.self.invariant (rw c.self.view_is c.requires) in
+    let has = finds.has c.self.inside.store c.self.inside.slots.items c.self.inside.customers.items c.args.customer 0
+    c.self.invariant (rw c.self.view_is c.requires) in
     omega (arith, has.within, c.from.ensures, c.self.inside.customers.ok.0)
 
 own_same : (c : After-index_mut-own) → c.index_mut-own.result.now ≡ (own_of c.self.inside.customers.items c.args.customer)
 own_same c =
-    let has = call.has c.self.inside.store c.self.inside.slots.items c.self.inside.customers.items c.args.customer 0 c.self.invariant (rw c.self.view_is c.requires) in
-    own_is c.self.inside.customers.items c.args.customer c.from.result c.index_mut-own.result.now has.within c.from.ensures c.index_mut-own.ensures.value
+    let has = finds.has c.self.inside.store c.self.inside.slots.items c.self.inside.customers.items c.args.customer 0
+    c.self.invariant (rw c.self.view_is c.requires) in
+    own_is c.self.inside.customers.items c.args.customer c.from.result c.index_mut-own.result.now has.within c.from.ensures
+    c.index_mut-own.ensures.value
 
 -- how many files the customer has
 record Few (c : After-index_mut-own) : Type 0 where
   whole : length c.index_mut-own.result.now.whole ≡ length (own_of c.self.inside.customers.items c.args.customer).whole
   partial : length c.index_mut-own.result.now.partial ≡ length (own_of c.self.inside.customers.items c.args.customer).partial
   limit : c.index_mut-own.result.now.limit ≡ (own_of c.self.inside.customers.items c.args.customer).limit
-  bound : length (own_of c.self.inside.customers.items c.args.customer).whole + length (own_of c.self.inside.customers.items c.args.customer).partial ≤ 1024
+  bound : length (own_of c.self.inside.customers.items c.args.customer).whole + length
+      (own_of c.self.inside.customers.items c.args.customer).partial ≤ 1024
   limit_bound : (own_of c.self.inside.customers.items c.args.customer).limit ≤ 1024
 
 few : (c : After-index_mut-own) → Few c
 few c =
-    let has = call.has c.self.inside.store c.self.inside.slots.items c.self.inside.customers.items c.args.customer 0 c.self.invariant (rw c.self.view_is c.requires) in
+    let has = finds.has c.self.inside.store c.self.inside.slots.items c.self.inside.customers.items c.args.customer 0
+    c.self.invariant (rw c.self.view_is c.requires) in
     record {
       whole = ap (λ (o : CustomerFiles). length o.whole) (own_same c);
       partial = ap (λ (o : CustomerFiles). length o.partial) (own_same c);
       limit = ap (λ (o : CustomerFiles). o.limit) (own_same c);
-      bound = omega (arith, has.own.sound.within_limit, has.own.sound.files_limit, length-map (own_of c.self.inside.customers.items c.args.customer).whole (whole_file (contents c.self.inside.slots.items c.self.inside.store.chains c.args.customer)), length-map (own_of c.self.inside.customers.items c.args.customer).partial (partial_file (contents c.self.inside.slots.items c.self.inside.store.chains c.args.customer)));
+      bound = omega (
+        arith,
+        has.own.sound.within_limit,
+        has.own.sound.files_limit,
+        length-map
+            (own_of c.self.inside.customers.items c.args.customer).whole
+            (whole_file (contents c.self.inside.slots.items c.self.inside.store.chains c.args.customer)),
+        length-map
+            (own_of c.self.inside.customers.items c.args.customer).partial
+            (partial_file (contents c.self.inside.slots.items c.self.inside.store.chains c.args.customer)),
+      );
       limit_bound = has.own.sound.files_limit;
     }
 
@@ -54,22 +65,38 @@ overflow_add-len c =
 
 pub returns-then-len-own-clause-fault : goal.returns-then-len-own-clause-fault
 returns-then-len-own-clause-fault c =
-    let has = call.has c.self.inside.store c.self.inside.slots.items c.self.inside.customers.items c.args.customer 0 c.self.invariant (rw c.self.view_is c.requires) in
+    let has = finds.has c.self.inside.store c.self.inside.slots.items c.self.inside.customers.items c.args.customer 0
+    c.self.invariant (rw c.self.view_is c.requires) in
     let n = few (goal.at.returns-then-len-own-clause-fault c).After-index_mut-own in
-    rw (← c.self.view_is, has.part, begin_fault-many (own_of c.self.inside.customers.items c.args.customer) (contents c.self.inside.slots.items c.self.inside.store.chains c.args.customer) has.own (omega (arith, n.whole, n.partial, n.limit, c.len.ensures, c.len-2.ensures, c.if-len-own.true))) refl
+    rw (
+      ← c.self.view_is,
+      has.part,
+      begin_fault-many (own_of c.self.inside.customers.items c.args.customer)
+          (contents c.self.inside.slots.items c.self.inside.store.chains c.args.customer) has.own
+          (omega (arith, n.whole, n.partial, n.limit, c.len.ensures, c.len-2.ensures, c.if-len-own.true)),
+    ) refl
 
 pub returns-then-own-clause-fault : goal.returns-then-own-clause-fault
 returns-then-own-clause-fault c =
-    let has = call.has c.self.inside.store c.self.inside.slots.items c.self.inside.customers.items c.args.customer 0 c.self.invariant (rw c.self.view_is c.requires) in
+    let has = finds.has c.self.inside.store c.self.inside.slots.items c.self.inside.customers.items c.args.customer 0
+    c.self.invariant (rw c.self.view_is c.requires) in
     let first = (goal.at.returns-then-own-clause-fault c).After-index_mut-own in
     let n = few first in
     let quota = ap (λ (o : CustomerFiles). o.quota) (own_same first) in
     let used' = ap (λ (o : CustomerFiles). o.used) (own_same first) in
-    rw (← c.self.view_is, has.part, begin_fault-full (own_of c.self.inside.customers.items c.args.customer) (contents c.self.inside.slots.items c.self.inside.store.chains c.args.customer) has.own (omega (arith, n.whole, n.partial, n.limit, c.len.ensures, c.len-2.ensures, c.if-len-own.false)) (omega (arith, quota, used', c.if-own.true))) refl
+    rw (
+      ← c.self.view_is,
+      has.part,
+      begin_fault-full (own_of c.self.inside.customers.items c.args.customer)
+          (contents c.self.inside.slots.items c.self.inside.store.chains c.args.customer) has.own
+          (omega (arith, n.whole, n.partial, n.limit, c.len.ensures, c.len-2.ensures, c.if-len-own.false))
+          (omega (arith, quota, used', c.if-own.true)),
+    ) refl
 
 pub free_number-number-requires-clause-all : goal.free_number-number-requires-clause-all
 free_number-number-requires-clause-all c =
-    let has = call.has c.self.inside.store c.self.inside.slots.items c.self.inside.customers.items c.args.customer 0 c.self.invariant (rw c.self.view_is c.requires) in
+    let has = finds.has c.self.inside.store c.self.inside.slots.items c.self.inside.customers.items c.args.customer 0
+    c.self.invariant (rw c.self.view_is c.requires) in
     omega (arith, has.slot_within 1023 (omega arith), ap length c.deref.ensures.value)
 
 pub free_number-number-requires-clause-few : goal.free_number-number-requires-clause-few
@@ -79,10 +106,17 @@ free_number-number-requires-clause-few c =
 
 pub free_number-number-requires-clause-some : goal.free_number-number-requires-clause-some
 free_number-number-requires-clause-some c =
-    let has = call.has c.self.inside.store c.self.inside.slots.items c.self.inside.customers.items c.args.customer 0 c.self.invariant (rw c.self.view_is c.requires) in
+    let has = finds.has c.self.inside.store c.self.inside.slots.items c.self.inside.customers.items c.args.customer 0
+    c.self.invariant (rw c.self.view_is c.requires) in
     let n = few (goal.at.free_number-number-requires-clause-some c).After-index_mut-own in
-    let free = some_free (own_of c.self.inside.customers.items c.args.customer) (contents c.self.inside.slots.items c.self.inside.store.chains c.args.customer) has.own (omega (arith, n.whole, n.partial, n.limit, c.len.ensures, c.len-2.ensures, c.if-len-own.false)) in
-    (next_number (spool_of (own_of c.self.inside.customers.items c.args.customer) (contents c.self.inside.slots.items c.self.inside.store.chains c.args.customer)), omega (arith, free.0, n.limit), rw c.deref.ensures.value free.1)
+    let free = some_free (own_of c.self.inside.customers.items c.args.customer)
+    (contents c.self.inside.slots.items c.self.inside.store.chains c.args.customer) has.own
+    (omega (arith, n.whole, n.partial, n.limit, c.len.ensures, c.len-2.ensures, c.if-len-own.false)) in (
+      next_number (spool_of (own_of c.self.inside.customers.items c.args.customer)
+          (contents c.self.inside.slots.items c.self.inside.store.chains c.args.customer)),
+      omega (arith, free.0, n.limit),
+      rw c.deref.ensures.value free.1,
+    )
 
 pub push-requires : goal.push-requires
 push-requires c =
@@ -91,52 +125,97 @@ push-requires c =
 
 pub index_mut-requires : goal.index_mut-requires
 index_mut-requires c =
-    let has = call.has c.self.inside.store c.self.inside.slots.items c.self.inside.customers.items c.args.customer 0 c.self.invariant (rw c.self.view_is c.requires) in
+    let has = finds.has c.self.inside.store c.self.inside.slots.items c.self.inside.customers.items c.args.customer 0
+    c.self.invariant (rw c.self.view_is c.requires) in
     let n = few (goal.at.index_mut-requires c).After-index_mut-own in
     let small : c.free_number-number.result < 1024 = omega (arith, c.free_number-number.ensures.below, n.limit, n.limit_bound) in
     omega (arith, has.slot_within c.free_number-number.result small, c.place.ensures, c.of-id.ensures, c.self.inside.slots.ok.0)
 
-next_is : (c : After-free_number-number) → length (own_of c.self.inside.customers.items c.args.customer).whole + length (own_of c.self.inside.customers.items c.args.customer).partial < (own_of c.self.inside.customers.items c.args.customer).limit → c.free_number-number.result ≡ next_number (spool_of (own_of c.self.inside.customers.items c.args.customer) (contents c.self.inside.slots.items c.self.inside.store.chains c.args.customer))
+next_is : (c : After-free_number-number) → length (own_of c.self.inside.customers.items c.args.customer).whole + length
+    (own_of c.self.inside.customers.items c.args.customer).partial < (own_of c.self.inside.customers.items c.args.customer).limit
+    → c.free_number-number.result ≡ next_number (spool_of (own_of c.self.inside.customers.items c.args.customer)
+    (contents c.self.inside.slots.items c.self.inside.store.chains c.args.customer))
 next_is c room =
-    let has = call.has c.self.inside.store c.self.inside.slots.items c.self.inside.customers.items c.args.customer 0 c.self.invariant (rw c.self.view_is c.requires) in
-    number_is-next (own_of c.self.inside.customers.items c.args.customer) (contents c.self.inside.slots.items c.self.inside.store.chains c.args.customer) has.own c.free_number-number.result room (rw c.deref.ensures.value at c.free_number-number.ensures.free) (λ m below. rw c.deref.ensures.value at (c.free_number-number.ensures.least m below))
+    let has = finds.has c.self.inside.store c.self.inside.slots.items c.self.inside.customers.items c.args.customer 0
+    c.self.invariant (rw c.self.view_is c.requires) in
+    number_is-next (own_of c.self.inside.customers.items c.args.customer)
+    (contents c.self.inside.slots.items c.self.inside.store.chains c.args.customer) has.own c.free_number-number.result room
+    (rw c.deref.ensures.value at c.free_number-number.ensures.free)
+    (λ m below. rw c.deref.ensures.value at (c.free_number-number.ensures.least m below))
 
-moved : (c : After-index_mut) → length (own_of c.self.inside.customers.items c.args.customer).whole + length (own_of c.self.inside.customers.items c.args.customer).partial < (own_of c.self.inside.customers.items c.args.customer).limit → Moves c.self.inside.store c.self.inside.slots.items c.self.inside.customers.items c.self.inside.store (set c.self.inside.slots.items c.place.result c.empty.result) (set c.self.inside.customers.items c.from.result (record c.index_mut-own.result.now { partial = c.push.new.self })) c.args.customer (begun c.args.kind (part c.args.customer (spools_of c.self.inside.customers.items (contents c.self.inside.slots.items c.self.inside.store.chains))))
+moved : (c : After-index_mut) → length (own_of c.self.inside.customers.items c.args.customer).whole + length
+    (own_of c.self.inside.customers.items c.args.customer).partial < (own_of c.self.inside.customers.items c.args.customer).limit
+    → Moves c.self.inside.store c.self.inside.slots.items c.self.inside.customers.items c.self.inside.store
+    (set c.self.inside.slots.items c.place.result c.empty.result) (set c.self.inside.customers.items c.from.result
+    (record c.index_mut-own.result.now { partial = c.push.new.self })) c.args.customer
+    (begun c.args.kind (part c.args.customer (spools_of c.self.inside.customers.items
+    (contents c.self.inside.slots.items c.self.inside.store.chains))))
 moved c room =
-    let has = call.has c.self.inside.store c.self.inside.slots.items c.self.inside.customers.items c.args.customer 0 c.self.invariant (rw c.self.view_is c.requires) in
-    let own = own_is c.self.inside.customers.items c.args.customer c.from.result c.index_mut-own.result.now has.within c.from.ensures c.index_mut-own.ensures.value in
+    let has = finds.has c.self.inside.store c.self.inside.slots.items c.self.inside.customers.items c.args.customer 0
+    c.self.invariant (rw c.self.view_is c.requires) in
+    let own = own_is c.self.inside.customers.items c.args.customer c.from.result c.index_mut-own.result.now has.within
+    c.from.ensures c.index_mut-own.ensures.value in
     let number = c.free_number-number.result in
-    let next = number_is-next (own_of c.self.inside.customers.items c.args.customer) (contents c.self.inside.slots.items c.self.inside.store.chains c.args.customer) has.own number room (rw c.deref.ensures.value at c.free_number-number.ensures.free) (λ m below. rw c.deref.ensures.value at (c.free_number-number.ensures.least m below)) in
-    let small : number < 1024 = omega (arith, c.free_number-number.ensures.below, ap (λ (o : CustomerFiles). o.limit) own, has.own.sound.files_limit) in
+    let next = number_is-next (own_of c.self.inside.customers.items c.args.customer)
+    (contents c.self.inside.slots.items c.self.inside.store.chains c.args.customer) has.own number room
+    (rw c.deref.ensures.value at c.free_number-number.ensures.free)
+    (λ m below. rw c.deref.ensures.value at (c.free_number-number.ensures.least m below)) in
+    let small : number < 1024 = omega (
+      arith,
+      c.free_number-number.ensures.below,
+      ap (λ (o : CustomerFiles). o.limit) own,
+      has.own.sound.files_limit,
+    ) in
     let owns =
     ap (λ (xs : List ℕ). record c.index_mut-own.result.now { partial = xs }) c.push.ensures
     ∙ ap (λ (o : CustomerFiles). record o { partial = o.partial ++ number ∷ [] }) own in
     let place = c.place.ensures ∙ ap (λ (m : ℕ). 1024 * c.args.customer + m) c.of-id.ensures in
-    call.arrives c.self.inside.store c.self.inside.slots.items c.self.inside.customers.items c.args.customer number c.self.invariant (rw c.self.view_is c.requires) c.self.inside.store c.self.inside.store c.empty.result (record c.index_mut-own.result.now { partial = c.push.new.self }) c.place.result c.from.result (begun c.args.kind (part c.args.customer (spools_of c.self.inside.customers.items (contents c.self.inside.slots.items c.self.inside.store.chains)))) refl place c.from.ensures
-    (call.begins c.self.inside.store c.self.inside.slots.items c.self.inside.customers.items c.args.customer number c.self.invariant (rw c.self.view_is c.requires) c.args.kind c.empty.result (record c.index_mut-own.result.now { partial = c.push.new.self }) room next (rw c.deref.ensures.value at c.free_number-number.ensures.free) c.empty.ensures owns small)
+    call.arrives c.self.inside.store c.self.inside.slots.items c.self.inside.customers.items c.args.customer number
+    c.self.invariant (rw c.self.view_is c.requires) c.self.inside.store c.self.inside.store c.empty.result
+    (record c.index_mut-own.result.now { partial = c.push.new.self }) c.place.result c.from.result
+    (begun c.args.kind (part c.args.customer (spools_of c.self.inside.customers.items
+    (contents c.self.inside.slots.items c.self.inside.store.chains)))) refl place c.from.ensures
+    (call.begins c.self.inside.store c.self.inside.slots.items c.self.inside.customers.items c.args.customer number
+    c.self.invariant (rw c.self.view_is c.requires) c.args.kind c.empty.result
+    (record c.index_mut-own.result.now { partial = c.push.new.self }) room next
+    (rw c.deref.ensures.value at c.free_number-number.ensures.free) c.empty.ensures owns small)
 
 pub invariant_of-self-2 : goal.invariant_of-self-2
 invariant_of-self-2 c =
     let n = few (goal.at.invariant_of-self-2 c).After-index_mut-own in
-    (moved (goal.at.invariant_of-self-2 c).After-index_mut (omega (arith, n.whole, n.partial, n.limit, c.len.ensures, c.len-2.ensures, c.if-len-own.false))).kept
+    (moved (goal.at.invariant_of-self-2 c).After-index_mut
+    (omega (arith, n.whole, n.partial, n.limit, c.len.ensures, c.len-2.ensures, c.if-len-own.false))).kept
 
 pub returns-clause-fault : goal.returns-clause-fault
 returns-clause-fault c =
-    let has = call.has c.self.inside.store c.self.inside.slots.items c.self.inside.customers.items c.args.customer 0 c.self.invariant (rw c.self.view_is c.requires) in
+    let has = finds.has c.self.inside.store c.self.inside.slots.items c.self.inside.customers.items c.args.customer 0
+    c.self.invariant (rw c.self.view_is c.requires) in
     let first = (goal.at.returns-clause-fault c).After-index_mut-own in
     let n = few first in
     let quota = ap (λ (o : CustomerFiles). o.quota) (own_same first) in
     let used' = ap (λ (o : CustomerFiles). o.used) (own_same first) in
-    rw (← c.self.view_is, has.part, begin_fault-none (own_of c.self.inside.customers.items c.args.customer) (contents c.self.inside.slots.items c.self.inside.store.chains c.args.customer) has.own (omega (arith, n.whole, n.partial, n.limit, c.len.ensures, c.len-2.ensures, c.if-len-own.false)) (omega (arith, quota, used', c.if-own.false))) refl
+    rw (
+      ← c.self.view_is,
+      has.part,
+      begin_fault-none (own_of c.self.inside.customers.items c.args.customer)
+          (contents c.self.inside.slots.items c.self.inside.store.chains c.args.customer) has.own
+          (omega (arith, n.whole, n.partial, n.limit, c.len.ensures, c.len-2.ensures, c.if-len-own.false))
+          (omega (arith, quota, used', c.if-own.false)),
+    ) refl
 
 pub returns-clause-number : goal.returns-clause-number
 returns-clause-number c =
-    let has = call.has c.self.inside.store c.self.inside.slots.items c.self.inside.customers.items c.args.customer 0 c.self.invariant (rw c.self.view_is c.requires) in
+    let has = finds.has c.self.inside.store c.self.inside.slots.items c.self.inside.customers.items c.args.customer 0
+    c.self.invariant (rw c.self.view_is c.requires) in
     let n = few (goal.at.returns-clause-number c).After-index_mut-own in
-    let next = next_is (goal.at.returns-clause-number c).After-free_number-number (omega (arith, n.whole, n.partial, n.limit, c.len.ensures, c.len-2.ensures, c.if-len-own.false)) in
-    c.of-id.ensures ∙ next ∙ ap next_number (sym has.part) ∙ ap (λ (old : List CustomerSpool). next_number (part c.args.customer old)) c.self.view_is
+    let next = next_is (goal.at.returns-clause-number c).After-free_number-number
+    (omega (arith, n.whole, n.partial, n.limit, c.len.ensures, c.len-2.ensures, c.if-len-own.false)) in
+    c.of-id.ensures ∙ next ∙ ap next_number (sym has.part)
+    ∙ ap (λ (old : List CustomerSpool). next_number (part c.args.customer old)) c.self.view_is
 
 pub returns-clause-ok : goal.returns-clause-ok
 returns-clause-ok c =
     let n = few (goal.at.returns-clause-ok c).After-index_mut-own in
-    (moved (goal.at.returns-clause-ok c).After-index_mut (omega (arith, n.whole, n.partial, n.limit, c.len.ensures, c.len-2.ensures, c.if-len-own.false))).spools ∙ ap (λ (old : List CustomerSpool). set old c.args.customer (begun c.args.kind (part c.args.customer old))) c.self.view_is
+    (moved (goal.at.returns-clause-ok c).After-index_mut
+    (omega (arith, n.whole, n.partial, n.limit, c.len.ensures, c.len-2.ensures, c.if-len-own.false))).spools
+    ∙ ap (λ (old : List CustomerSpool). set old c.args.customer (begun c.args.kind (part c.args.customer old))) c.self.view_is

@@ -1,11 +1,10 @@
-use Rattle.std.proofs.Common.{◌≡◌, ℕ, ◌+◌, ◌*◌, ◌<◌, ◌≤◌, Bool, true, false, not, List, length, get_or, set, Option, Some, None, Ok, Err, refl, sym, ap, subst, ◌∙◌, arith}
-use Rattle.njh_spool.specs.declared.file_slot.FileSlot.{FileSlot}
-use Rattle.njh_spool.specs.declared.file_slot.Stage.{Stage}
+use Rattle.std.proofs.Common.{◌<◌, length, get_or}
+use Rattle.std.proofs.Common.{sym, ap, ◌∙◌, arith}
 use Rattle.njh_spool.specs.declared.customer_files.CustomerFiles.{CustomerFiles}
 use Rattle.njh_spool.specs.CustomerSpool.{CustomerSpool}
 use Rattle.njh_spool.specs.Spools.{part}
-use Rattle.njh_spool.specs.Slots.{contents, slot_of, chain_of, is_free, is_partial, is_whole, state_of, spools_of}
-use Rattle.njh_spool.proofs.KeptLaws.{HasOwn, has_own, own_of, own_is, length-spools_from}
+use Rattle.njh_spool.specs.Slots.{contents}
+use Rattle.njh_spool.proofs.KeptLaws.{has_own, own_of, own_is}
 use Rattle.std.proofs.lemmas.List.{length-map}
 use Rattle.njh_spool.specs.Slots.{whole_file}
 use Rattle.njh_spool.proofs.PlaceLaws.{slice_get-map}
@@ -13,23 +12,46 @@ use Rattle.njh_spool.proofs.spool.Spool.file_at.Goals as goal
 
 pub index-requires : goal.index-requires
 index-requires c =
-    let has = has_own c.self.inside.store c.self.inside.slots.items c.self.inside.customers.items c.args.customer c.self.invariant (rw c.self.view_is c.requires.range) in
+    let has = has_own c.self.inside.store c.self.inside.slots.items c.self.inside.customers.items c.args.customer
+    c.self.invariant (rw c.self.view_is c.requires.range) in
     omega (arith, has.within, c.from.ensures, c.self.inside.customers.ok.0)
 
 pub at-requires : goal.at-requires
 at-requires c =
-    let has = has_own c.self.inside.store c.self.inside.slots.items c.self.inside.customers.items c.args.customer c.self.invariant (rw c.self.view_is c.requires.range) in
-    let own = own_is c.self.inside.customers.items c.args.customer c.from.result c.index.result.now has.within c.from.ensures c.index.ensures in
+    let has = has_own c.self.inside.store c.self.inside.slots.items c.self.inside.customers.items c.args.customer
+    c.self.invariant (rw c.self.view_is c.requires.range) in
+    let own = own_is c.self.inside.customers.items c.args.customer c.from.result c.index.result.now has.within c.from.ensures
+    c.index.ensures in
     let lists = ap (λ (o : CustomerFiles). length o.whole) own in
     let here = ap (λ (s : CustomerSpool). length s.whole) (ap (part c.args.customer) (sym c.self.view_is) ∙ has.part) in
-    omega (arith, lists, here, c.requires.index_range, length-map (own_of c.self.inside.customers.items c.args.customer).whole (whole_file (contents c.self.inside.slots.items c.self.inside.store.chains c.args.customer)))
+    omega (
+      arith,
+      lists,
+      here,
+      c.requires.index_range,
+      length-map (own_of c.self.inside.customers.items c.args.customer).whole
+          (whole_file (contents c.self.inside.slots.items c.self.inside.store.chains c.args.customer)),
+    )
 
 pub returns : goal.returns
 returns c =
-    let has = has_own c.self.inside.store c.self.inside.slots.items c.self.inside.customers.items c.args.customer c.self.invariant (rw c.self.view_is c.requires.range) in
-    let own = own_is c.self.inside.customers.items c.args.customer c.from.result c.index.result.now has.within c.from.ensures c.index.ensures in
+    let has = has_own c.self.inside.store c.self.inside.slots.items c.self.inside.customers.items c.args.customer
+    c.self.invariant (rw c.self.view_is c.requires.range) in
+    let own = own_is c.self.inside.customers.items c.args.customer c.from.result c.index.result.now has.within c.from.ensures
+    c.index.ensures in
     let here = ap (λ (s : CustomerSpool). length s.whole) (ap (part c.args.customer) (sym c.self.view_is) ∙ has.part) in
     let numbers = (own_of c.self.inside.customers.items c.args.customer).whole in
-    let within : c.args.index < length numbers = omega (arith, here, c.requires.index_range, length-map numbers (whole_file (contents c.self.inside.slots.items c.self.inside.store.chains c.args.customer))) in
+    let within : c.args.index < length numbers = omega (
+      arith,
+      here,
+      c.requires.index_range,
+      length-map numbers
+          (whole_file (contents c.self.inside.slots.items c.self.inside.store.chains c.args.customer)),
+    ) in
     let number = c.of.ensures ∙ c.at.ensures ∙ ap (λ (o : CustomerFiles). get_or o.whole c.args.index 0) own in
-    rw (← c.self.view_is, has.part, slice_get-map (whole_file (contents c.self.inside.slots.items c.self.inside.store.chains c.args.customer)) numbers c.args.index within) number
+    rw (
+      ← c.self.view_is,
+      has.part,
+      slice_get-map
+          (whole_file (contents c.self.inside.slots.items c.self.inside.store.chains c.args.customer)) numbers c.args.index within,
+    ) number

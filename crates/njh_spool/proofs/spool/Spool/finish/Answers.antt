@@ -1,15 +1,13 @@
-use Rattle.std.proofs.Common.{◌≡◌, ℕ, ◌+◌, ◌-◌, ◌*◌, ◌<◌, ◌≤◌, Bool, true, false, not, eqb, List, [], ◌∷◌, ◌++◌, length, get_or, set, filter, Option, Some, None, Ok, Err, refl, sym, ap, subst, ◌∙◌, arith}
+use Rattle.std.proofs.Common.{◌≡◌, ℕ, ◌+◌, ◌*◌, ◌≤◌, not, eqb, List, [], ◌∷◌, ◌++◌, length, set}
+use Rattle.std.proofs.Common.{filter, refl, sym, ap, subst, ◌∙◌, arith}
 use Rattle.njh_spool.specs.declared.file_slot.FileSlot.{FileSlot}
-use Rattle.njh_spool.specs.declared.file_slot.RecordPlace.{RecordPlace}
-use Rattle.njh_spool.specs.declared.file_slot.Stage.{Stage}
-use Rattle.njh_spool.specs.declared.file_slot.Stage.TheVariants.{Free, Partial, Whole}
+use Rattle.njh_spool.specs.declared.file_slot.Stage.TheVariants.{Whole}
 use Rattle.njh_spool.specs.declared.customer_files.CustomerFiles.{CustomerFiles}
-use Rattle.njh_spool.specs.Chains.{Chain, StoreValue, chain_at, empty_chain}
-use Rattle.njh_spool.specs.CustomerSpool.{CustomerSpool, WholeFile, with_state, removed, finished, abandoned, appended, begun, rewritten, on_file}
-use Rattle.njh_spool.specs.Spools.{part, records_numbered, record_numbered}
-use Rattle.njh_spool.specs.Slots.{contents, slot_of, chain_of, is_free, is_partial, is_whole, spools_of, IsFile, IsPlace}
-use Rattle.njh_spool.proofs.IndexLaws.{small_used}
-use Rattle.njh_spool.proofs.KeptLaws.{HasOwn, has_own, own_of, own_is, Moves}
+use Rattle.njh_spool.specs.CustomerSpool.{CustomerSpool, finished}
+use Rattle.njh_spool.specs.Spools.{part}
+use Rattle.njh_spool.specs.Slots.{contents, slot_of, is_partial, spools_of}
+use Rattle.njh_spool.proofs.KeptLaws.{own_of, own_is, Moves}
+use Rattle.njh_spool.proofs.CallFinds as finds
 use Rattle.njh_spool.proofs.CallLaws as call
 use Rattle.std.proofs.Common.{count_by}
 use Rattle.std.proofs.lemmas.List.{length-map}
@@ -22,58 +20,121 @@ use Rattle.njh_spool.proofs.spool.Spool.finish.Goals.{After-index_mut, After-is_
 
 pub slot_at-slot-requires : goal.slot_at-slot-requires
 slot_at-slot-requires c =
-    let has = call.has c.self.inside.store c.self.inside.slots.items c.self.inside.customers.items c.args.customer c.args.id c.self.invariant (rw c.self.view_is c.requires) in
+    let has = finds.has c.self.inside.store c.self.inside.slots.items c.self.inside.customers.items c.args.customer c.args.id
+    c.self.invariant (rw c.self.view_is c.requires) in
     omega (arith, has.slot_within 1023 (omega arith), ap length c.deref.ensures.value)
 
 stage_is : (c : After-is_partial) → is_partial (slot_of c.self.inside.slots.items c.args.customer c.args.id).stage ≡ c.is_partial.result
-stage_is c = ap (λ (x : FileSlot). is_partial x.stage) (sym (c.slot_at-slot.ensures ∙ ap (λ (xs : List FileSlot). slot_of xs c.args.customer c.args.id) c.deref.ensures.value)) ∙ sym c.is_partial.ensures
+stage_is c = ap (λ (x : FileSlot). is_partial x.stage)
+    (sym (c.slot_at-slot.ensures ∙ ap (λ (xs : List FileSlot). slot_of xs c.args.customer c.args.id) c.deref.ensures.value))
+    ∙ sym c.is_partial.ensures
 
 pub returns-then-not-is_partial-clause-answer : goal.returns-then-not-is_partial-clause-answer
 returns-then-not-is_partial-clause-answer c =
-    let none = call.finds_no_partial c.self.inside.store c.self.inside.slots.items c.self.inside.customers.items c.args.customer c.args.id c.self.invariant (rw c.self.view_is c.requires) (stage_is (goal.at.returns-then-not-is_partial-clause-answer c).After-is_partial ∙ c.if-not-is_partial.true) in
+    let none = finds.finds_no_partial c.self.inside.store c.self.inside.slots.items c.self.inside.customers.items c.args.customer
+    c.args.id c.self.invariant (rw c.self.view_is c.requires)
+    (stage_is (goal.at.returns-then-not-is_partial-clause-answer c).After-is_partial ∙ c.if-not-is_partial.true) in
     rw (← c.self.view_is, none.none) refl
 
 pub returns-then-not-is_partial-clause-after : goal.returns-then-not-is_partial-clause-after
 returns-then-not-is_partial-clause-after c =
-    let none = call.finds_no_partial c.self.inside.store c.self.inside.slots.items c.self.inside.customers.items c.args.customer c.args.id c.self.invariant (rw c.self.view_is c.requires) (stage_is (goal.at.returns-then-not-is_partial-clause-after c).After-is_partial ∙ c.if-not-is_partial.true) in
-    subst (λ (old : List CustomerSpool). old ≡ set old c.args.customer (finished c.args.id (part c.args.customer old))) c.self.view_is none.finishes
+    let none = finds.finds_no_partial c.self.inside.store c.self.inside.slots.items c.self.inside.customers.items c.args.customer
+    c.args.id c.self.invariant (rw c.self.view_is c.requires)
+    (stage_is (goal.at.returns-then-not-is_partial-clause-after c).After-is_partial ∙ c.if-not-is_partial.true) in
+    subst (λ (old : List CustomerSpool). old ≡ set old c.args.customer (finished c.args.id (part c.args.customer old)))
+    c.self.view_is none.finishes
 
 own_same : (c : After-index_mut-own) → c.index_mut-own.result.now ≡ (own_of c.self.inside.customers.items c.args.customer)
 own_same c =
-    let has = call.has c.self.inside.store c.self.inside.slots.items c.self.inside.customers.items c.args.customer c.args.id c.self.invariant (rw c.self.view_is c.requires) in
-    own_is c.self.inside.customers.items c.args.customer c.from.result c.index_mut-own.result.now has.within c.from.ensures c.index_mut-own.ensures.value
+    let has = finds.has c.self.inside.store c.self.inside.slots.items c.self.inside.customers.items c.args.customer c.args.id
+    c.self.invariant (rw c.self.view_is c.requires) in
+    own_is c.self.inside.customers.items c.args.customer c.from.result c.index_mut-own.result.now has.within c.from.ensures
+    c.index_mut-own.ensures.value
 
 pub remove-requires : goal.remove-requires
 remove-requires c =
-    let has = call.has c.self.inside.store c.self.inside.slots.items c.self.inside.customers.items c.args.customer c.args.id c.self.invariant (rw c.self.view_is c.requires) in
-    let most = at_most_once (is_partial ((contents c.self.inside.slots.items c.self.inside.store.chains c.args.customer) c.args.id).stage) (count_by (λ m. eqb m c.args.id) (own_of c.self.inside.customers.items c.args.customer).partial) (has.own.partial_once c.args.id) in
+    let has = finds.has c.self.inside.store c.self.inside.slots.items c.self.inside.customers.items c.args.customer c.args.id
+    c.self.invariant (rw c.self.view_is c.requires) in
+    let most = at_most_once (is_partial ((contents c.self.inside.slots.items c.self.inside.store.chains c.args.customer)
+    c.args.id).stage) (count_by (λ m. eqb m c.args.id) (own_of c.self.inside.customers.items c.args.customer).partial)
+    (has.own.partial_once c.args.id) in
     subst (λ (k : ℕ). count_by (λ m. eqb m k) c.index_mut-own.result.now.partial ≤ 1) (sym c.number.ensures)
-    (subst (λ (o : CustomerFiles). count_by (λ m. eqb m c.args.id) o.partial ≤ 1) (sym (own_same (goal.at.remove-requires c).After-index_mut-own)) most)
+    (subst (λ (o : CustomerFiles). count_by (λ m. eqb m c.args.id) o.partial ≤ 1)
+    (sym (own_same (goal.at.remove-requires c).After-index_mut-own)) most)
 
 pub push-requires : goal.push-requires
 push-requires c =
-    let has = call.has c.self.inside.store c.self.inside.slots.items c.self.inside.customers.items c.args.customer c.args.id c.self.invariant (rw c.self.view_is c.requires) in
+    let has = finds.has c.self.inside.store c.self.inside.slots.items c.self.inside.customers.items c.args.customer c.args.id
+    c.self.invariant (rw c.self.view_is c.requires) in
     let there = stage_is (goal.at.push-requires c).After-is_partial ∙ c.if-not-is_partial.false in
-    let one = once_some (is_partial ((contents c.self.inside.slots.items c.self.inside.store.chains c.args.customer) c.args.id).stage) (count_by (λ m. eqb m c.args.id) (own_of c.self.inside.customers.items c.args.customer).partial) (has.own.partial_once c.args.id) there in
+    let one = once_some (is_partial ((contents c.self.inside.slots.items c.self.inside.store.chains c.args.customer)
+    c.args.id).stage) (count_by (λ m. eqb m c.args.id) (own_of c.self.inside.customers.items c.args.customer).partial)
+    (has.own.partial_once c.args.id) there in
     let own = ap (λ (o : CustomerFiles). length o.whole) (own_same (goal.at.push-requires c).After-index_mut-own) in
-    omega (arith, own, one, count_by-le-length (λ m. eqb m c.args.id) (own_of c.self.inside.customers.items c.args.customer).partial, has.own.sound.within_limit, has.own.sound.files_limit, length-map (own_of c.self.inside.customers.items c.args.customer).whole (whole_file (contents c.self.inside.slots.items c.self.inside.store.chains c.args.customer)), length-map (own_of c.self.inside.customers.items c.args.customer).partial (partial_file (contents c.self.inside.slots.items c.self.inside.store.chains c.args.customer)))
+    omega (
+      arith,
+      own,
+      one,
+      count_by-le-length (λ m. eqb m c.args.id)
+          (own_of c.self.inside.customers.items c.args.customer).partial,
+      has.own.sound.within_limit,
+      has.own.sound.files_limit,
+      length-map (own_of c.self.inside.customers.items c.args.customer).whole
+          (whole_file (contents c.self.inside.slots.items c.self.inside.store.chains c.args.customer)),
+      length-map
+          (own_of c.self.inside.customers.items c.args.customer).partial
+          (partial_file (contents c.self.inside.slots.items c.self.inside.store.chains c.args.customer)),
+    )
 
-moved : (c : After-index_mut) → Moves c.self.inside.store c.self.inside.slots.items c.self.inside.customers.items c.self.inside.store (set c.self.inside.slots.items c.place.result (record c.slot_at-slot.result { stage = Whole Ready })) (set c.self.inside.customers.items c.from.result (record c.index_mut-own.result.now { whole = c.push.new.self; partial = c.remove.new.self })) c.args.customer (finished c.args.id (part c.args.customer (spools_of c.self.inside.customers.items (contents c.self.inside.slots.items c.self.inside.store.chains))))
+moved : (c : After-index_mut) → Moves c.self.inside.store c.self.inside.slots.items c.self.inside.customers.items
+    c.self.inside.store (set c.self.inside.slots.items c.place.result (record c.slot_at-slot.result { stage = Whole Ready }))
+    (set c.self.inside.customers.items c.from.result (record c.index_mut-own.result.now {
+      whole = c.push.new.self;
+      partial =
+          c.remove.new.self;
+    })) c.args.customer (finished c.args.id
+    (part c.args.customer (spools_of c.self.inside.customers.items (contents c.self.inside.slots.items c.self.inside.store.chains))))
 moved c =
-    let has = call.has c.self.inside.store c.self.inside.slots.items c.self.inside.customers.items c.args.customer c.args.id c.self.invariant (rw c.self.view_is c.requires) in
+    let has = finds.has c.self.inside.store c.self.inside.slots.items c.self.inside.customers.items c.args.customer c.args.id
+    c.self.invariant (rw c.self.view_is c.requires) in
     let same = c.slot_at-slot.ensures ∙ ap (λ (xs : List FileSlot). slot_of xs c.args.customer c.args.id) c.deref.ensures.value in
     let there = ap (λ (x : FileSlot). is_partial x.stage) (sym same) ∙ sym c.is_partial.ensures ∙ c.if-not-is_partial.false in
-    let small = call.small_partial c.self.inside.store c.self.inside.slots.items c.self.inside.customers.items c.args.customer c.args.id c.self.invariant (rw c.self.view_is c.requires) there in
-    let own = own_is c.self.inside.customers.items c.args.customer c.from.result c.index_mut-own.result.now has.within c.from.ensures c.index_mut-own.ensures.value in
+    let small = finds.small_partial c.self.inside.store c.self.inside.slots.items c.self.inside.customers.items c.args.customer
+    c.args.id c.self.invariant (rw c.self.view_is c.requires) there in
+    let own = own_is c.self.inside.customers.items c.args.customer c.from.result c.index_mut-own.result.now has.within
+    c.from.ensures c.index_mut-own.ensures.value in
     let list = c.remove.ensures ∙ ap (λ (k : ℕ). filter (λ m. not (eqb m k)) c.index_mut-own.result.now.partial) c.number.ensures in
     let longer = c.push.ensures ∙ ap (λ (k : ℕ). c.index_mut-own.result.now.whole ++ k ∷ []) c.number-2.ensures in
     let owns =
     ap (λ (xs : List ℕ). record c.index_mut-own.result.now { whole = c.push.new.self; partial = xs }) list
-    ∙ ap (λ (xs : List ℕ). record c.index_mut-own.result.now { whole = xs; partial = filter (λ m. not (eqb m c.args.id)) c.index_mut-own.result.now.partial }) longer
-    ∙ ap (λ (o : CustomerFiles). record o { whole = o.whole ++ c.args.id ∷ []; partial = filter (λ m. not (eqb m c.args.id)) o.partial }) own in
-    call.arrives c.self.inside.store c.self.inside.slots.items c.self.inside.customers.items c.args.customer c.args.id c.self.invariant (rw c.self.view_is c.requires) c.self.inside.store c.self.inside.store (record c.slot_at-slot.result { stage = Whole Ready }) (record c.index_mut-own.result.now { whole = c.push.new.self; partial = c.remove.new.self }) c.place.result c.from.result (finished c.args.id (part c.args.customer (spools_of c.self.inside.customers.items (contents c.self.inside.slots.items c.self.inside.store.chains)))) refl c.place.ensures c.from.ensures
-    (subst (λ (x : FileSlot). Moves c.self.inside.store c.self.inside.slots.items c.self.inside.customers.items c.self.inside.store (set c.self.inside.slots.items (1024 * c.args.customer + c.args.id) (record x { stage = Whole Ready })) (set c.self.inside.customers.items c.args.customer (record c.index_mut-own.result.now { whole = c.push.new.self; partial = c.remove.new.self })) c.args.customer (finished c.args.id (part c.args.customer (spools_of c.self.inside.customers.items (contents c.self.inside.slots.items c.self.inside.store.chains))))) (sym same)
-    (call.finishes c.self.inside.store c.self.inside.slots.items c.self.inside.customers.items c.args.customer c.args.id c.self.invariant (rw c.self.view_is c.requires) (record c.index_mut-own.result.now { whole = c.push.new.self; partial = c.remove.new.self }) there owns small))
+    ∙ ap (λ (xs : List ℕ). record c.index_mut-own.result.now {
+      whole = xs;
+      partial = filter (λ m. not (eqb m c.args.id))
+          c.index_mut-own.result.now.partial;
+    }) longer
+    ∙ ap (λ (o : CustomerFiles). record o {
+      whole = o.whole ++ c.args.id ∷ [];
+      partial = filter (λ m. not (eqb m c.args.id))
+          o.partial;
+    }) own in
+    call.arrives c.self.inside.store c.self.inside.slots.items c.self.inside.customers.items c.args.customer c.args.id
+    c.self.invariant (rw c.self.view_is c.requires) c.self.inside.store c.self.inside.store
+    (record c.slot_at-slot.result { stage = Whole Ready })
+    (record c.index_mut-own.result.now { whole = c.push.new.self; partial = c.remove.new.self }) c.place.result
+    c.from.result (finished c.args.id (part c.args.customer (spools_of c.self.inside.customers.items
+    (contents c.self.inside.slots.items c.self.inside.store.chains)))) refl c.place.ensures c.from.ensures
+    (subst (λ (x : FileSlot). Moves c.self.inside.store c.self.inside.slots.items c.self.inside.customers.items
+    c.self.inside.store (set c.self.inside.slots.items (1024 * c.args.customer + c.args.id)
+    (record x { stage = Whole Ready })) (set c.self.inside.customers.items c.args.customer
+    (record c.index_mut-own.result.now { whole = c.push.new.self; partial = c.remove.new.self })) c.args.customer
+    (finished c.args.id (part c.args.customer (spools_of c.self.inside.customers.items
+    (contents c.self.inside.slots.items c.self.inside.store.chains))))) (sym same)
+    (call.finishes c.self.inside.store c.self.inside.slots.items c.self.inside.customers.items c.args.customer c.args.id
+    c.self.invariant (rw c.self.view_is c.requires) (record c.index_mut-own.result.now {
+      whole = c.push.new.self;
+      partial =
+          c.remove.new.self;
+    }) there owns small))
 
 pub invariant_of-self : goal.invariant_of-self
 invariant_of-self c = (moved (goal.at.invariant_of-self c).After-index_mut).kept
@@ -81,8 +142,13 @@ invariant_of-self c = (moved (goal.at.invariant_of-self c).After-index_mut).kept
 pub returns-clause-answer : goal.returns-clause-answer
 returns-clause-answer c =
     let there = stage_is (goal.at.returns-clause-answer c).After-is_partial ∙ c.if-not-is_partial.false in
-    rw (← c.self.view_is, call.finds_partial c.self.inside.store c.self.inside.slots.items c.self.inside.customers.items c.args.customer c.args.id c.self.invariant (rw c.self.view_is c.requires) there) refl
+    rw (
+      ← c.self.view_is,
+      finds.finds_partial c.self.inside.store c.self.inside.slots.items c.self.inside.customers.items
+          c.args.customer c.args.id c.self.invariant (rw c.self.view_is c.requires) there,
+    ) refl
 
 pub returns-clause-after : goal.returns-clause-after
 returns-clause-after c =
-    (moved (goal.at.returns-clause-after c).After-index_mut).spools ∙ ap (λ (old : List CustomerSpool). set old c.args.customer (finished c.args.id (part c.args.customer old))) c.self.view_is
+    (moved (goal.at.returns-clause-after c).After-index_mut).spools
+    ∙ ap (λ (old : List CustomerSpool). set old c.args.customer (finished c.args.id (part c.args.customer old))) c.self.view_is

@@ -1,16 +1,12 @@
-use Rattle.std.proofs.Common.{◌≡◌, ℕ, ◌+◌, ◌-◌, ◌*◌, ◌<◌, ◌≤◌, Bool, true, false, not, eqb, List, [], ◌∷◌, ◌++◌, length, get_or, set, filter, Option, Some, None, Ok, Err, refl, sym, ap, subst, ◌∙◌, arith}
+use Rattle.std.proofs.Common.{◌≡◌, ℕ, false, List, length}
+use Rattle.std.proofs.Common.{Some, refl, sym, ap, ◌∙◌, arith}
 use Rattle.njh_spool.specs.declared.file_slot.FileSlot.{FileSlot}
-use Rattle.njh_spool.specs.declared.file_slot.RecordPlace.{RecordPlace}
-use Rattle.njh_spool.specs.declared.file_slot.Stage.{Stage}
-use Rattle.njh_spool.specs.declared.file_slot.Stage.TheVariants.{Free, Partial, Whole}
-use Rattle.njh_spool.specs.declared.customer_files.CustomerFiles.{CustomerFiles}
-use Rattle.njh_spool.specs.Chains.{Chain, StoreValue, chain_at, empty_chain}
-use Rattle.njh_spool.specs.CustomerSpool.{CustomerSpool, WholeFile, with_state, removed, finished, abandoned, appended, begun, rewritten, on_file}
-use Rattle.njh_spool.specs.Spools.{part, records_numbered, record_numbered}
-use Rattle.njh_spool.specs.Slots.{contents, slot_of, chain_of, is_free, is_partial, is_whole, spools_of, IsFile, IsPlace}
+use Rattle.njh_spool.specs.Chains.{Chain, chain_at}
+use Rattle.njh_spool.specs.CustomerSpool.{CustomerSpool}
+use Rattle.njh_spool.specs.Spools.{part, records_numbered}
+use Rattle.njh_spool.specs.Slots.{slot_of, chain_of, is_free}
 use Rattle.njh_spool.proofs.IndexLaws.{small_used}
-use Rattle.njh_spool.proofs.KeptLaws.{HasOwn, has_own, own_of, own_is, Moves}
-use Rattle.njh_spool.proofs.CallLaws as call
+use Rattle.njh_spool.proofs.CallFinds as finds
 use Rattle.njh_spool.proofs.spool.Spool.record_at.Goals as goal
 use Rattle.njh_spool.proofs.spool.Spool.record_at.Goals.{After-is_free, After-place_of_record-begins, After-read_record-srcb}
 use Rattle.std.specs.Prelude.{slice_get}
@@ -21,7 +17,8 @@ use Rattle.njh_spool.proofs.PackingLaws.{length-unpacked}
 
 pub slot_at-slot-requires : goal.slot_at-slot-requires
 slot_at-slot-requires c =
-    let has = call.has c.self.inside.store c.self.inside.slots.items c.self.inside.customers.items c.args.customer c.args.id c.self.invariant (rw c.self.view_is c.requires.range) in
+    let has = finds.has c.self.inside.store c.self.inside.slots.items c.self.inside.customers.items c.args.customer c.args.id
+    c.self.invariant (rw c.self.view_is c.requires.range) in
     omega (arith, has.slot_within 1023 (omega arith), ap length c.deref.ensures.value)
 
 same_slot : (c : After-is_free) → c.slot_at-slot.result ≡ slot_of c.self.inside.slots.items c.args.customer c.args.id
@@ -30,36 +27,63 @@ same_slot c = c.slot_at-slot.ensures ∙ ap (λ (xs : List FileSlot). slot_of xs
 stage_is : (c : After-is_free) → is_free (slot_of c.self.inside.slots.items c.args.customer c.args.id).stage ≡ c.is_free.result
 stage_is c = ap (λ (x : FileSlot). is_free x.stage) (sym (same_slot c)) ∙ sym c.is_free.ensures
 
-records_now : (c : After-is_free) → c.is_free.result ≡ false → records_numbered c.args.id (part c.args.customer c.args.self.now) ≡ Some (unpacked (slot_of c.self.inside.slots.items c.args.customer c.args.id).count (chain_of c.self.inside.store.chains c.args.customer c.args.id).bytes)
+records_now : (c : After-is_free) → c.is_free.result ≡ false → records_numbered c.args.id (part c.args.customer c.args.self.now)
+    ≡ Some (unpacked (slot_of c.self.inside.slots.items c.args.customer c.args.id).count
+    (chain_of c.self.inside.store.chains c.args.customer c.args.id).bytes)
 records_now c used' =
-    ap (λ (old : List CustomerSpool). records_numbered c.args.id (part c.args.customer old)) (sym c.self.view_is) ∙ call.finds_records c.self.inside.store c.self.inside.slots.items c.self.inside.customers.items c.args.customer c.args.id c.self.invariant (rw c.self.view_is c.requires.range) (stage_is c ∙ used')
+    ap (λ (old : List CustomerSpool). records_numbered c.args.id (part c.args.customer old)) (sym c.self.view_is)
+    ∙ finds.finds_records c.self.inside.store c.self.inside.slots.items c.self.inside.customers.items c.args.customer
+    c.args.id c.self.invariant (rw c.self.view_is c.requires.range) (stage_is c ∙ used')
 
 pub returns-then-is_free-clause-fault : goal.returns-then-is_free-clause-fault
 returns-then-is_free-clause-fault c =
-    let none = call.finds_no_records c.self.inside.store c.self.inside.slots.items c.self.inside.customers.items c.args.customer c.args.id c.self.invariant (rw c.self.view_is c.requires.range) (stage_is (goal.at.returns-then-is_free-clause-fault c).After-is_free ∙ c.if-is_free.true) in
+    let none = finds.finds_no_records c.self.inside.store c.self.inside.slots.items c.self.inside.customers.items c.args.customer
+    c.args.id c.self.invariant (rw c.self.view_is c.requires.range)
+    (stage_is (goal.at.returns-then-is_free-clause-fault c).After-is_free ∙ c.if-is_free.true) in
     rw (← c.self.view_is, none) refl
 
 pub place_of_record-begins-requires-clause-within : goal.place_of_record-begins-requires-clause-within
 place_of_record-begins-requires-clause-within c =
     let step = (goal.at.place_of_record-begins-requires-clause-within c).After-is_free in
     let count = ap (λ (x : FileSlot). x.count) (same_slot step) in
-    let many = c.requires.within (unpacked (slot_of c.self.inside.slots.items c.args.customer c.args.id).count (chain_of c.self.inside.store.chains c.args.customer c.args.id).bytes) (records_now step c.if-is_free.false) in
-    omega (arith, count, many, length-unpacked (slot_of c.self.inside.slots.items c.args.customer c.args.id).count (chain_of c.self.inside.store.chains c.args.customer c.args.id).bytes)
+    let many = c.requires.within (unpacked (slot_of c.self.inside.slots.items c.args.customer c.args.id).count
+    (chain_of c.self.inside.store.chains c.args.customer c.args.id).bytes) (records_now step c.if-is_free.false) in
+    omega (
+      arith,
+      count,
+      many,
+      length-unpacked (slot_of c.self.inside.slots.items c.args.customer c.args.id).count
+          (chain_of c.self.inside.store.chains c.args.customer c.args.id).bytes,
+    )
 
 pub read_record-srcb-requires-clause-more : goal.read_record-srcb-requires-clause-more
 read_record-srcb-requires-clause-more c =
     let step = (goal.at.read_record-srcb-requires-clause-more c).After-is_free in
     let count = ap (λ (x : FileSlot). x.count) (same_slot step) in
-    let many = c.requires.within (unpacked (slot_of c.self.inside.slots.items c.args.customer c.args.id).count (chain_of c.self.inside.store.chains c.args.customer c.args.id).bytes) (records_now step c.if-is_free.false) in
-    omega (arith, count, many, c.place_of_record-begins.ensures.index, length-unpacked (slot_of c.self.inside.slots.items c.args.customer c.args.id).count (chain_of c.self.inside.store.chains c.args.customer c.args.id).bytes)
+    let many = c.requires.within (unpacked (slot_of c.self.inside.slots.items c.args.customer c.args.id).count
+    (chain_of c.self.inside.store.chains c.args.customer c.args.id).bytes) (records_now step c.if-is_free.false) in
+    omega (
+      arith,
+      count,
+      many,
+      c.place_of_record-begins.ensures.index,
+      length-unpacked
+          (slot_of c.self.inside.slots.items c.args.customer c.args.id).count (chain_of c.self.inside.store.chains c.args.customer
+          c.args.id).bytes,
+    )
 
 pub returns-clause-fault : goal.returns-clause-fault
 returns-clause-fault c = rw (records_now (goal.at.returns-clause-fault c).After-is_free c.if-is_free.false) refl
 
-chain_is : (c : After-place_of_record-begins) → chain_at c.place-at.result c.self.inside.store ≡ chain_of c.self.inside.store.chains c.args.customer c.args.id
+chain_is : (c : After-place_of_record-begins) → chain_at c.place-at.result c.self.inside.store ≡ chain_of
+    c.self.inside.store.chains c.args.customer c.args.id
 chain_is c =
-    let used' = ap (λ (x : FileSlot). is_free x.stage) (sym (c.slot_at-slot.ensures ∙ ap (λ (xs : List FileSlot). slot_of xs c.args.customer c.args.id) c.deref.ensures.value)) ∙ sym c.is_free.ensures ∙ c.if-is_free.false in
-    ap (λ (i : ℕ). chain_at i c.self.inside.store) c.place-at.ensures ∙ call.chain_is c.self.inside.store c.self.inside.slots.items c.self.inside.customers.items c.args.customer c.args.id c.self.invariant (rw c.self.view_is c.requires.range) (small_used c.self.inside.slots.items c.args.customer c.args.id used')
+    let used' = ap (λ (x : FileSlot). is_free x.stage)
+    (sym (c.slot_at-slot.ensures ∙ ap (λ (xs : List FileSlot). slot_of xs c.args.customer c.args.id) c.deref.ensures.value))
+    ∙ sym c.is_free.ensures ∙ c.if-is_free.false in
+    ap (λ (i : ℕ). chain_at i c.self.inside.store) c.place-at.ensures ∙ finds.chain_is c.self.inside.store
+    c.self.inside.slots.items c.self.inside.customers.items c.args.customer c.args.id c.self.invariant
+    (rw c.self.view_is c.requires.range) (small_used c.self.inside.slots.items c.args.customer c.args.id used')
 
 pub returns-clause-ok : goal.returns-clause-ok
 returns-clause-ok c =
@@ -67,7 +91,9 @@ returns-clause-ok c =
     let found = c.read_record-srcb.ensures.record in
     let index = c.place_of_record-begins.ensures.index in
     ap (option_and_then (λ (records : List Stored). slice_get records c.args.n)) (records_now step c.if-is_free.false)
-    ∙ ap (λ (x : FileSlot). slice_get (unpacked x.count (chain_of c.self.inside.store.chains c.args.customer c.args.id).bytes) c.args.n) (sym (same_slot step))
-    ∙ ap (λ (x : Chain). slice_get (unpacked c.slot_at-slot.result.count x.bytes) c.args.n) (sym (chain_is (goal.at.returns-clause-ok c).After-place_of_record-begins))
+    ∙ ap (λ (x : FileSlot). slice_get (unpacked x.count (chain_of c.self.inside.store.chains c.args.customer c.args.id).bytes)
+    c.args.n) (sym (same_slot step))
+    ∙ ap (λ (x : Chain). slice_get (unpacked c.slot_at-slot.result.count x.bytes) c.args.n)
+    (sym (chain_is (goal.at.returns-clause-ok c).After-place_of_record-begins))
     ∙ ap (slice_get (unpacked c.slot_at-slot.result.count (chain_at c.place-at.result c.self.inside.store).bytes)) (sym index)
     ∙ found

@@ -1,32 +1,36 @@
-use Rattle.std.proofs.Common.{◌≡◌, ℕ, ◌+◌, ◌*◌, ◌<◌, ◌≤◌, Bool, true, false, not, List, length, get_or, set, Option, Some, None, Ok, Err, refl, sym, ap, subst, ◌∙◌, arith}
+use Rattle.std.proofs.Common.{ℕ, List, length, Ok}
+use Rattle.std.proofs.Common.{refl, sym, ap, ◌∙◌, arith}
 use Rattle.njh_spool.specs.declared.file_slot.FileSlot.{FileSlot}
-use Rattle.njh_spool.specs.declared.file_slot.Stage.{Stage}
-use Rattle.njh_spool.specs.declared.customer_files.CustomerFiles.{CustomerFiles}
-use Rattle.njh_spool.specs.CustomerSpool.{CustomerSpool}
-use Rattle.njh_spool.specs.Spools.{part}
-use Rattle.njh_spool.specs.Slots.{contents, slot_of, chain_of, is_free, is_partial, is_whole, state_of, spools_of}
-use Rattle.njh_spool.proofs.KeptLaws.{HasOwn, has_own, own_of, own_is, length-spools_from}
+use Rattle.njh_spool.specs.Slots.{contents, slot_of, chain_of, is_free}
+use Rattle.njh_spool.proofs.KeptLaws.{has_own, own_of}
 use Rattle.njh_spool.proofs.ReadLaws.{has_file, has_no_file}
 use Rattle.njh_spool.proofs.PackingLaws.{length-unpacked}
 use Rattle.njh_spool.proofs.spool.Spool.records.Goals as goal
 
 pub slot_at-slot-requires : goal.slot_at-slot-requires
 slot_at-slot-requires c =
-    let has = has_own c.self.inside.store c.self.inside.slots.items c.self.inside.customers.items c.args.customer c.self.invariant (rw c.self.view_is c.requires) in
+    let has = has_own c.self.inside.store c.self.inside.slots.items c.self.inside.customers.items c.args.customer
+    c.self.invariant (rw c.self.view_is c.requires) in
     omega (arith, has.slot_within 1023 (omega arith), ap length c.deref.ensures.value)
 
 pub returns-then-is_free : goal.returns-then-is_free
 returns-then-is_free c =
-    let has = has_own c.self.inside.store c.self.inside.slots.items c.self.inside.customers.items c.args.customer c.self.invariant (rw c.self.view_is c.requires) in
+    let has = has_own c.self.inside.store c.self.inside.slots.items c.self.inside.customers.items c.args.customer
+    c.self.invariant (rw c.self.view_is c.requires) in
     let same = c.slot_at-slot.ensures ∙ ap (λ (xs : List FileSlot). slot_of xs c.args.customer c.args.id) c.deref.ensures.value in
     let free = ap (λ (x : FileSlot). is_free x.stage) (sym same) ∙ sym c.is_free.ensures ∙ c.if-is_free.true in
-    let none = has_no_file (own_of c.self.inside.customers.items c.args.customer) (contents c.self.inside.slots.items c.self.inside.store.chains c.args.customer) c.args.id has.own free in
+    let none = has_no_file (own_of c.self.inside.customers.items c.args.customer)
+    (contents c.self.inside.slots.items c.self.inside.store.chains c.args.customer) c.args.id has.own free in
     rw (← c.self.view_is, has.part, none.records) refl
 
 pub returns : goal.returns
 returns c =
-    let has = has_own c.self.inside.store c.self.inside.slots.items c.self.inside.customers.items c.args.customer c.self.invariant (rw c.self.view_is c.requires) in
+    let has = has_own c.self.inside.store c.self.inside.slots.items c.self.inside.customers.items c.args.customer
+    c.self.invariant (rw c.self.view_is c.requires) in
     let same = c.slot_at-slot.ensures ∙ ap (λ (xs : List FileSlot). slot_of xs c.args.customer c.args.id) c.deref.ensures.value in
     let used' = ap (λ (x : FileSlot). is_free x.stage) (sym same) ∙ sym c.is_free.ensures ∙ c.if-is_free.false in
-    let file = has_file (own_of c.self.inside.customers.items c.args.customer) (contents c.self.inside.slots.items c.self.inside.store.chains c.args.customer) c.args.id has.own used' in
-    rw (← c.self.view_is, has.part, file.records) (ap (λ (x : FileSlot). Ok x.count) same ∙ ap (λ (n : ℕ). Ok n) (sym (length-unpacked (slot_of c.self.inside.slots.items c.args.customer c.args.id).count (chain_of c.self.inside.store.chains c.args.customer c.args.id).bytes)))
+    let file = has_file (own_of c.self.inside.customers.items c.args.customer)
+    (contents c.self.inside.slots.items c.self.inside.store.chains c.args.customer) c.args.id has.own used' in
+    rw (← c.self.view_is, has.part, file.records) (ap (λ (x : FileSlot). Ok x.count) same ∙ ap (λ (n : ℕ). Ok n)
+    (sym (length-unpacked (slot_of c.self.inside.slots.items c.args.customer c.args.id).count
+    (chain_of c.self.inside.store.chains c.args.customer c.args.id).bytes)))

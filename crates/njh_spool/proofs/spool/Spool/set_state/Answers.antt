@@ -1,43 +1,65 @@
-use Rattle.std.proofs.Common.{◌≡◌, ℕ, ◌+◌, ◌-◌, ◌*◌, ◌<◌, ◌≤◌, Bool, true, false, not, eqb, List, [], ◌∷◌, ◌++◌, length, get_or, set, filter, Option, Some, None, Ok, Err, refl, sym, ap, subst, ◌∙◌, arith}
+use Rattle.std.proofs.Common.{◌≡◌, ℕ, ◌+◌, ◌*◌, List, length, set}
+use Rattle.std.proofs.Common.{refl, sym, ap, subst, ◌∙◌, arith}
 use Rattle.njh_spool.specs.declared.file_slot.FileSlot.{FileSlot}
-use Rattle.njh_spool.specs.declared.file_slot.RecordPlace.{RecordPlace}
-use Rattle.njh_spool.specs.declared.file_slot.Stage.{Stage}
-use Rattle.njh_spool.specs.declared.file_slot.Stage.TheVariants.{Free, Partial, Whole}
-use Rattle.njh_spool.specs.declared.customer_files.CustomerFiles.{CustomerFiles}
-use Rattle.njh_spool.specs.Chains.{Chain, StoreValue, chain_at, empty_chain}
-use Rattle.njh_spool.specs.CustomerSpool.{CustomerSpool, WholeFile, with_state, removed, finished, abandoned, appended, begun, rewritten, on_file}
-use Rattle.njh_spool.specs.Spools.{part, records_numbered, record_numbered}
-use Rattle.njh_spool.specs.Slots.{contents, slot_of, chain_of, is_free, is_partial, is_whole, spools_of, IsFile, IsPlace}
-use Rattle.njh_spool.proofs.IndexLaws.{small_used}
-use Rattle.njh_spool.proofs.KeptLaws.{HasOwn, has_own, own_of, own_is, Moves}
+use Rattle.njh_spool.specs.declared.file_slot.Stage.TheVariants.{Whole}
+use Rattle.njh_spool.specs.CustomerSpool.{CustomerSpool, with_state}
+use Rattle.njh_spool.specs.Spools.{part}
+use Rattle.njh_spool.specs.Slots.{contents, slot_of, is_whole, spools_of}
+use Rattle.njh_spool.proofs.KeptLaws.{Moves}
+use Rattle.njh_spool.proofs.CallFinds as finds
 use Rattle.njh_spool.proofs.CallLaws as call
 use Rattle.njh_spool.proofs.spool.Spool.set_state.Goals as goal
 use Rattle.njh_spool.proofs.spool.Spool.set_state.Goals.{After-index_mut, After-is_whole}
 
 pub slot_at-slot-requires : goal.slot_at-slot-requires
 slot_at-slot-requires c =
-    let has = call.has c.self.inside.store c.self.inside.slots.items c.self.inside.customers.items c.args.customer c.args.id c.self.invariant (rw c.self.view_is c.requires) in
+    let has = finds.has c.self.inside.store c.self.inside.slots.items c.self.inside.customers.items c.args.customer c.args.id
+    c.self.invariant (rw c.self.view_is c.requires) in
     omega (arith, has.slot_within 1023 (omega arith), ap length c.deref.ensures.value)
 
 stage_is : (c : After-is_whole) → is_whole (slot_of c.self.inside.slots.items c.args.customer c.args.id).stage ≡ c.is_whole.result
-stage_is c = ap (λ (x : FileSlot). is_whole x.stage) (sym (c.slot_at-slot.ensures ∙ ap (λ (xs : List FileSlot). slot_of xs c.args.customer c.args.id) c.deref.ensures.value)) ∙ sym c.is_whole.ensures
+stage_is c = ap (λ (x : FileSlot). is_whole x.stage)
+    (sym (c.slot_at-slot.ensures ∙ ap (λ (xs : List FileSlot). slot_of xs c.args.customer c.args.id) c.deref.ensures.value))
+    ∙ sym c.is_whole.ensures
 
 pub returns-then-not-is_whole-clause-answer : goal.returns-then-not-is_whole-clause-answer
 returns-then-not-is_whole-clause-answer c =
-    let none = call.finds_no_whole c.self.inside.store c.self.inside.slots.items c.self.inside.customers.items c.args.customer c.args.id c.self.invariant (rw c.self.view_is c.requires) (stage_is (goal.at.returns-then-not-is_whole-clause-answer c).After-is_whole ∙ c.if-not-is_whole.true) in
+    let none = finds.finds_no_whole c.self.inside.store c.self.inside.slots.items c.self.inside.customers.items c.args.customer
+    c.args.id c.self.invariant (rw c.self.view_is c.requires)
+    (stage_is (goal.at.returns-then-not-is_whole-clause-answer c).After-is_whole ∙ c.if-not-is_whole.true) in
     rw (← c.self.view_is, none.none) refl
 
 pub returns-then-not-is_whole-clause-after : goal.returns-then-not-is_whole-clause-after
 returns-then-not-is_whole-clause-after c =
-    let none = call.finds_no_whole c.self.inside.store c.self.inside.slots.items c.self.inside.customers.items c.args.customer c.args.id c.self.invariant (rw c.self.view_is c.requires) (stage_is (goal.at.returns-then-not-is_whole-clause-after c).After-is_whole ∙ c.if-not-is_whole.true) in
+    let none = finds.finds_no_whole c.self.inside.store c.self.inside.slots.items c.self.inside.customers.items c.args.customer
+    c.args.id c.self.invariant (rw c.self.view_is c.requires)
+    (stage_is (goal.at.returns-then-not-is_whole-clause-after c).After-is_whole ∙ c.if-not-is_whole.true) in
     rw (← c.self.view_is) (none.changes (λ x. record x { state = c.args.state }))
 
-moved : (c : After-index_mut) → Moves c.self.inside.store c.self.inside.slots.items c.self.inside.customers.items c.self.inside.store (set c.self.inside.slots.items c.place.result (record c.slot_at-slot.result { stage = Whole c.args.state })) c.self.inside.customers.items c.args.customer (with_state c.args.id c.args.state (part c.args.customer (spools_of c.self.inside.customers.items (contents c.self.inside.slots.items c.self.inside.store.chains))))
+moved : (c : After-index_mut) → Moves c.self.inside.store c.self.inside.slots.items c.self.inside.customers.items
+    c.self.inside.store (set c.self.inside.slots.items c.place.result
+    (record c.slot_at-slot.result { stage = Whole c.args.state })) c.self.inside.customers.items c.args.customer
+    (with_state c.args.id c.args.state (part c.args.customer (spools_of c.self.inside.customers.items
+    (contents c.self.inside.slots.items c.self.inside.store.chains))))
 moved c =
-    let there = ap (λ (x : FileSlot). is_whole x.stage) (sym (c.slot_at-slot.ensures ∙ ap (λ (xs : List FileSlot). slot_of xs c.args.customer c.args.id) c.deref.ensures.value)) ∙ sym c.is_whole.ensures ∙ c.if-not-is_whole.false in
-    subst (λ (i : ℕ). Moves c.self.inside.store c.self.inside.slots.items c.self.inside.customers.items c.self.inside.store (set c.self.inside.slots.items i (record c.slot_at-slot.result { stage = Whole c.args.state })) c.self.inside.customers.items c.args.customer (with_state c.args.id c.args.state (part c.args.customer (spools_of c.self.inside.customers.items (contents c.self.inside.slots.items c.self.inside.store.chains))))) (sym c.place.ensures)
-    (subst (λ (x : FileSlot). Moves c.self.inside.store c.self.inside.slots.items c.self.inside.customers.items c.self.inside.store (set c.self.inside.slots.items (1024 * c.args.customer + c.args.id) (record x { stage = Whole c.args.state })) c.self.inside.customers.items c.args.customer (with_state c.args.id c.args.state (part c.args.customer (spools_of c.self.inside.customers.items (contents c.self.inside.slots.items c.self.inside.store.chains))))) (sym (c.slot_at-slot.ensures ∙ ap (λ (xs : List FileSlot). slot_of xs c.args.customer c.args.id) c.deref.ensures.value))
-    (call.restates c.self.inside.store c.self.inside.slots.items c.self.inside.customers.items c.args.customer c.args.id c.self.invariant (rw c.self.view_is c.requires) c.args.state there (call.small_whole c.self.inside.store c.self.inside.slots.items c.self.inside.customers.items c.args.customer c.args.id c.self.invariant (rw c.self.view_is c.requires) there)))
+    let there = ap (λ (x : FileSlot). is_whole x.stage)
+    (sym (c.slot_at-slot.ensures ∙ ap (λ (xs : List FileSlot). slot_of xs c.args.customer c.args.id) c.deref.ensures.value))
+    ∙ sym c.is_whole.ensures ∙ c.if-not-is_whole.false in
+    subst (λ (i : ℕ). Moves c.self.inside.store c.self.inside.slots.items c.self.inside.customers.items c.self.inside.store
+    (set c.self.inside.slots.items i (record c.slot_at-slot.result { stage = Whole c.args.state }))
+    c.self.inside.customers.items c.args.customer
+    (with_state c.args.id c.args.state (part c.args.customer (spools_of c.self.inside.customers.items
+    (contents c.self.inside.slots.items c.self.inside.store.chains))))) (sym c.place.ensures)
+    (subst (λ (x : FileSlot). Moves c.self.inside.store c.self.inside.slots.items c.self.inside.customers.items
+    c.self.inside.store (set c.self.inside.slots.items (1024 * c.args.customer + c.args.id)
+    (record x { stage = Whole c.args.state })) c.self.inside.customers.items c.args.customer
+    (with_state c.args.id c.args.state (part c.args.customer (spools_of c.self.inside.customers.items
+    (contents c.self.inside.slots.items c.self.inside.store.chains)))))
+    (sym (c.slot_at-slot.ensures ∙ ap (λ (xs : List FileSlot). slot_of xs c.args.customer c.args.id) c.deref.ensures.value))
+    (call.restates c.self.inside.store c.self.inside.slots.items c.self.inside.customers.items c.args.customer c.args.id
+    c.self.invariant (rw c.self.view_is c.requires) c.args.state there
+    (finds.small_whole c.self.inside.store c.self.inside.slots.items c.self.inside.customers.items c.args.customer c.args.id
+    c.self.invariant (rw c.self.view_is c.requires) there)))
 
 pub invariant_of-self : goal.invariant_of-self
 invariant_of-self c = (moved (goal.at.invariant_of-self c).After-index_mut).kept
@@ -45,8 +67,14 @@ invariant_of-self c = (moved (goal.at.invariant_of-self c).After-index_mut).kept
 pub returns-clause-answer : goal.returns-clause-answer
 returns-clause-answer c =
     let there = stage_is (goal.at.returns-clause-answer c).After-is_whole ∙ c.if-not-is_whole.false in
-    rw (← c.self.view_is, call.finds_whole c.self.inside.store c.self.inside.slots.items c.self.inside.customers.items c.args.customer c.args.id c.self.invariant (rw c.self.view_is c.requires) there) refl
+    rw (
+      ← c.self.view_is,
+      finds.finds_whole c.self.inside.store c.self.inside.slots.items c.self.inside.customers.items
+          c.args.customer c.args.id c.self.invariant (rw c.self.view_is c.requires) there,
+    ) refl
 
 pub returns-clause-after : goal.returns-clause-after
 returns-clause-after c =
-    (moved (goal.at.returns-clause-after c).After-index_mut).spools ∙ ap (λ (old : List CustomerSpool). set old c.args.customer (with_state c.args.id c.args.state (part c.args.customer old))) c.self.view_is
+    (moved (goal.at.returns-clause-after c).After-index_mut).spools
+    ∙ ap (λ (old : List CustomerSpool). set old c.args.customer
+    (with_state c.args.id c.args.state (part c.args.customer old))) c.self.view_is

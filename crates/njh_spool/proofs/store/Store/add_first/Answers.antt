@@ -9,7 +9,8 @@ use Rattle.njh_spool.proofs.store.Store.add_first.Goals as goal
 
 pub insert_reserved-key-requires : goal.insert_reserved-key-requires
 insert_reserved-key-requires c =
-    let used = used_is c.self.inside.blocks c.self.inside.slots.items c.self.inside.capacity c.args.self.now c.self.invariant c.self.view_is in
+    let used = used_is c.self.inside.blocks c.self.inside.slots.items c.self.inside.capacity c.args.self.now c.self.invariant
+    c.self.view_is in
     omega (arith, used.0, used.1, c.requires.room, c.self.invariant.room)
 
 pub invariant_of-self : goal.invariant_of-self
@@ -20,11 +21,19 @@ invariant_of-self c =
     let within = slot_within blocks slots capacity c.args.slot c.args.self.now c.self.view_is c.requires.slot in
     let slot = get_or slots c.args.slot no_slot in
     let is = get_or_default slots c.args.slot slot no_slot within in
-    let updates = subst (λ (b : Block). Updates blocks c.insert_reserved-key.new.self c.insert_reserved-key.result (Some b)) c.of.ensures c.insert_reserved-key.ensures.updates in
+    let updates = subst (λ (b : Block). Updates blocks c.insert_reserved-key.new.self c.insert_reserved-key.result (Some b))
+    c.of.ensures c.insert_reserved-key.ensures.updates in
     let used = used_is blocks slots capacity c.args.self.now c.self.invariant c.self.view_is in
     let free : slab_len blocks < capacity = omega (arith, used.0, used.1, c.requires.room) in
-    let empty : slot.len ≡ 0 = omega (arith, len_is blocks slots c.args.slot capacity slot c.self.invariant within is c.args.self.now c.self.view_is, c.requires.empty) in
-    begun blocks slots c.args.slot capacity slot c.self.invariant within is c.args.self.now c.self.view_is c.insert_reserved-key.new.self c.insert_reserved-key.result c.args.bytes.now c.requires.some c.requires.short c.insert_reserved-key.ensures.was_vacant updates c.insert_reserved-key.ensures.len c.insert_reserved-key.ensures.capacity free empty
+    let empty : slot.len ≡ 0 = omega (
+      arith,
+      len_is blocks slots c.args.slot capacity slot c.self.invariant within is
+          c.args.self.now c.self.view_is,
+      c.requires.empty,
+    ) in
+    begun blocks slots c.args.slot capacity slot c.self.invariant within is c.args.self.now c.self.view_is
+    c.insert_reserved-key.new.self c.insert_reserved-key.result c.args.bytes.now c.requires.some c.requires.short
+    c.insert_reserved-key.ensures.was_vacant updates c.insert_reserved-key.ensures.len c.insert_reserved-key.ensures.capacity free empty
 
 pub returns : goal.returns
 returns c =
@@ -34,8 +43,17 @@ returns c =
     let within = slot_within blocks slots capacity c.args.slot c.args.self.now c.self.view_is c.requires.slot in
     let slot = get_or slots c.args.slot no_slot in
     let is = get_or_default slots c.args.slot slot no_slot within in
-    let updates = subst (λ (b : Block). Updates blocks c.insert_reserved-key.new.self c.insert_reserved-key.result (Some b)) c.of.ensures c.insert_reserved-key.ensures.updates in
+    let updates = subst (λ (b : Block). Updates blocks c.insert_reserved-key.new.self c.insert_reserved-key.result (Some b))
+    c.of.ensures c.insert_reserved-key.ensures.updates in
     let used = used_is blocks slots capacity c.args.self.now c.self.invariant c.self.view_is in
     let free : slab_len blocks < capacity = omega (arith, used.0, used.1, c.requires.room) in
-    let empty : slot.len ≡ 0 = omega (arith, len_is blocks slots c.args.slot capacity slot c.self.invariant within is c.args.self.now c.self.view_is, c.requires.empty) in
-    grows_begun blocks slots c.args.slot capacity slot c.self.invariant within is c.args.self.now c.self.view_is c.insert_reserved-key.new.self c.insert_reserved-key.result c.args.bytes.now c.requires.some c.requires.short c.insert_reserved-key.ensures.was_vacant updates c.insert_reserved-key.ensures.len c.insert_reserved-key.ensures.capacity free empty c.requires.slot
+    let empty : slot.len ≡ 0 = omega (
+      arith,
+      len_is blocks slots c.args.slot capacity slot c.self.invariant within is
+          c.args.self.now c.self.view_is,
+      c.requires.empty,
+    ) in
+    grows_begun blocks slots c.args.slot capacity slot c.self.invariant within is c.args.self.now c.self.view_is
+    c.insert_reserved-key.new.self c.insert_reserved-key.result c.args.bytes.now c.requires.some c.requires.short
+    c.insert_reserved-key.ensures.was_vacant updates c.insert_reserved-key.ensures.len
+    c.insert_reserved-key.ensures.capacity free empty c.requires.slot

@@ -8,7 +8,8 @@ use Rattle.njh_spool.proofs.store.Store.add_next.Goals as goal
 
 pub insert_reserved-key-requires : goal.insert_reserved-key-requires
 insert_reserved-key-requires c =
-    let used = used_is c.self.inside.blocks c.self.inside.slots.items c.self.inside.capacity c.args.self.now c.self.invariant c.self.view_is in
+    let used = used_is c.self.inside.blocks c.self.inside.slots.items c.self.inside.capacity c.args.self.now c.self.invariant
+    c.self.view_is in
     omega (arith, used.0, used.1, c.requires.room, c.self.invariant.room)
 
 pub link-requires : goal.link-requires
@@ -19,13 +20,17 @@ link-requires c =
     let within = slot_within blocks slots capacity c.args.slot c.args.self.now c.self.view_is c.requires.slot in
     let slot = c.index-old.result.now in
     let is = sym c.index-old.ensures in
-    let updates = subst (λ (b : Block). Updates blocks c.insert_reserved-key.new.self c.insert_reserved-key.result (Some b)) c.of.ensures c.insert_reserved-key.ensures.updates in
+    let updates = subst (λ (b : Block). Updates blocks c.insert_reserved-key.new.self c.insert_reserved-key.result (Some b))
+    c.of.ensures c.insert_reserved-key.ensures.updates in
     let used = used_is blocks slots capacity c.args.self.now c.self.invariant c.self.view_is in
     let free : slab_len blocks < capacity = omega (arith, used.0, used.1, c.requires.room) in
     let size = len_is blocks slots c.args.slot capacity slot c.self.invariant within is c.args.self.now c.self.view_is in
     let filled : slot.len ≡ 252 * blocks_for slot.len = omega (arith, size, c.requires.filled) in
     let any : 0 < slot.len = omega (arith, size, c.requires.more) in
-    has_last_block blocks slots c.args.slot capacity slot c.self.invariant within is c.args.self.now c.self.view_is c.insert_reserved-key.new.self c.insert_reserved-key.result c.args.bytes.now c.requires.some c.requires.short c.insert_reserved-key.ensures.was_vacant updates c.insert_reserved-key.ensures.len c.insert_reserved-key.ensures.capacity free filled any
+    has_last_block blocks slots c.args.slot capacity slot c.self.invariant within is c.args.self.now c.self.view_is
+    c.insert_reserved-key.new.self c.insert_reserved-key.result c.args.bytes.now c.requires.some c.requires.short
+    c.insert_reserved-key.ensures.was_vacant updates c.insert_reserved-key.ensures.len
+    c.insert_reserved-key.ensures.capacity free filled any
 
 pub overflow_add-old : goal.overflow_add-old
 overflow_add-old c =
@@ -35,13 +40,17 @@ overflow_add-old c =
     let within = slot_within blocks slots capacity c.args.slot c.args.self.now c.self.view_is c.requires.slot in
     let slot = c.index-old.result.now in
     let is = sym c.index-old.ensures in
-    let updates = subst (λ (b : Block). Updates blocks c.insert_reserved-key.new.self c.insert_reserved-key.result (Some b)) c.of.ensures c.insert_reserved-key.ensures.updates in
+    let updates = subst (λ (b : Block). Updates blocks c.insert_reserved-key.new.self c.insert_reserved-key.result (Some b))
+    c.of.ensures c.insert_reserved-key.ensures.updates in
     let used = used_is blocks slots capacity c.args.self.now c.self.invariant c.self.view_is in
     let free : slab_len blocks < capacity = omega (arith, used.0, used.1, c.requires.room) in
     let size = len_is blocks slots c.args.slot capacity slot c.self.invariant within is c.args.self.now c.self.view_is in
     let filled : slot.len ≡ 252 * blocks_for slot.len = omega (arith, size, c.requires.filled) in
     let any : 0 < slot.len = omega (arith, size, c.requires.more) in
-    let fits = fits_longer blocks slots c.args.slot capacity slot c.self.invariant within is c.args.self.now c.self.view_is c.insert_reserved-key.new.self c.insert_reserved-key.result c.args.bytes.now c.requires.some c.requires.short c.insert_reserved-key.ensures.was_vacant updates c.insert_reserved-key.ensures.len c.insert_reserved-key.ensures.capacity free filled any in
+    let fits = fits_longer blocks slots c.args.slot capacity slot c.self.invariant within is c.args.self.now c.self.view_is
+    c.insert_reserved-key.new.self c.insert_reserved-key.result c.args.bytes.now c.requires.some c.requires.short
+    c.insert_reserved-key.ensures.was_vacant updates c.insert_reserved-key.ensures.len
+    c.insert_reserved-key.ensures.capacity free filled any in
     omega arith
 
 pub invariant_of-self : goal.invariant_of-self
@@ -52,13 +61,17 @@ invariant_of-self c =
     let within = slot_within blocks slots capacity c.args.slot c.args.self.now c.self.view_is c.requires.slot in
     let slot = c.index-old.result.now in
     let is = sym c.index-old.ensures in
-    let updates = subst (λ (b : Block). Updates blocks c.insert_reserved-key.new.self c.insert_reserved-key.result (Some b)) c.of.ensures c.insert_reserved-key.ensures.updates in
+    let updates = subst (λ (b : Block). Updates blocks c.insert_reserved-key.new.self c.insert_reserved-key.result (Some b))
+    c.of.ensures c.insert_reserved-key.ensures.updates in
     let used = used_is blocks slots capacity c.args.self.now c.self.invariant c.self.view_is in
     let free : slab_len blocks < capacity = omega (arith, used.0, used.1, c.requires.room) in
     let size = len_is blocks slots c.args.slot capacity slot c.self.invariant within is c.args.self.now c.self.view_is in
     let filled : slot.len ≡ 252 * blocks_for slot.len = omega (arith, size, c.requires.filled) in
     let any : 0 < slot.len = omega (arith, size, c.requires.more) in
-    rw c.link.ensures (linked blocks slots c.args.slot capacity slot c.self.invariant within is c.args.self.now c.self.view_is c.insert_reserved-key.new.self c.insert_reserved-key.result c.args.bytes.now c.requires.some c.requires.short c.insert_reserved-key.ensures.was_vacant updates c.insert_reserved-key.ensures.len c.insert_reserved-key.ensures.capacity free filled any)
+    rw c.link.ensures (linked blocks slots c.args.slot capacity slot c.self.invariant within is c.args.self.now c.self.view_is
+    c.insert_reserved-key.new.self c.insert_reserved-key.result c.args.bytes.now c.requires.some c.requires.short
+    c.insert_reserved-key.ensures.was_vacant updates c.insert_reserved-key.ensures.len
+    c.insert_reserved-key.ensures.capacity free filled any)
 
 pub returns : goal.returns
 returns c =
@@ -68,10 +81,14 @@ returns c =
     let within = slot_within blocks slots capacity c.args.slot c.args.self.now c.self.view_is c.requires.slot in
     let slot = c.index-old.result.now in
     let is = sym c.index-old.ensures in
-    let updates = subst (λ (b : Block). Updates blocks c.insert_reserved-key.new.self c.insert_reserved-key.result (Some b)) c.of.ensures c.insert_reserved-key.ensures.updates in
+    let updates = subst (λ (b : Block). Updates blocks c.insert_reserved-key.new.self c.insert_reserved-key.result (Some b))
+    c.of.ensures c.insert_reserved-key.ensures.updates in
     let used = used_is blocks slots capacity c.args.self.now c.self.invariant c.self.view_is in
     let free : slab_len blocks < capacity = omega (arith, used.0, used.1, c.requires.room) in
     let size = len_is blocks slots c.args.slot capacity slot c.self.invariant within is c.args.self.now c.self.view_is in
     let filled : slot.len ≡ 252 * blocks_for slot.len = omega (arith, size, c.requires.filled) in
     let any : 0 < slot.len = omega (arith, size, c.requires.more) in
-    rw c.link.ensures (grows_linked blocks slots c.args.slot capacity slot c.self.invariant within is c.args.self.now c.self.view_is c.insert_reserved-key.new.self c.insert_reserved-key.result c.args.bytes.now c.requires.some c.requires.short c.insert_reserved-key.ensures.was_vacant updates c.insert_reserved-key.ensures.len c.insert_reserved-key.ensures.capacity free filled any c.requires.slot)
+    rw c.link.ensures (grows_linked blocks slots c.args.slot capacity slot c.self.invariant within is c.args.self.now
+    c.self.view_is c.insert_reserved-key.new.self c.insert_reserved-key.result c.args.bytes.now c.requires.some
+    c.requires.short c.insert_reserved-key.ensures.was_vacant updates c.insert_reserved-key.ensures.len
+    c.insert_reserved-key.ensures.capacity free filled any c.requires.slot)

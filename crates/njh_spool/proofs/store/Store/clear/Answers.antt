@@ -7,7 +7,12 @@ pub loop-self-smaller : goal.loop-self-smaller
 loop-self-smaller c =
     let within = Only-within c.args.slot c.args.self.now c.loop-self.self c.loop-self.invariant c.requires in
     let chain = Only-chain c.args.slot c.loop-self.self c.remove_first.new.self _ within c.remove_first.ensures in
-    omega (arith, ap (λ (x : Chain). length x.bytes) chain, length-drop 252 (chain_at c.args.slot c.loop-self.self).bytes, c.len.ensures.bytes)
+    omega (
+      arith,
+      ap (λ (x : Chain). length x.bytes) chain,
+      length-drop 252 (chain_at c.args.slot c.loop-self.self).bytes,
+      c.len.ensures.bytes,
+    )
 
 pub loop-self-preserved : goal.loop-self-preserved
 loop-self-preserved c =

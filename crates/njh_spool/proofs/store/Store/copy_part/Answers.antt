@@ -14,7 +14,8 @@ index-requires c =
     let within = slot_within blocks slots capacity c.args.slot c.args.self.now c.self.view_is c.requires.slot in
     let slot = get_or slots c.args.slot no_slot in
     let is = get_or_default slots c.args.slot slot no_slot within in
-    key_has blocks slots c.args.slot capacity slot c.self.invariant within is c.args.self.now c.self.view_is c.args.mark.block (omega arith) c.key_of-key.result c.key_of-key.ensures
+    key_has blocks slots c.args.slot capacity slot c.self.invariant within is c.args.self.now c.self.view_is c.args.mark.block
+    (omega arith) c.key_of-key.result c.key_of-key.ensures
 
 pub returns : goal.returns
 returns c =
@@ -25,6 +26,9 @@ returns c =
     let slot = get_or slots c.args.slot no_slot in
     let is = get_or_default slots c.args.slot slot no_slot within in
     let at = c.args.place - c.args.mark.block * 252 in
-    let part = part_is blocks slots c.args.slot capacity slot c.self.invariant within is c.args.self.now c.self.view_is c.args.mark.block (omega arith) c.key_of-key.result c.key_of-key.ensures at c.args.place c.args.n c.index.result.now c.index.ensures (omega arith) (omega arith) c.requires.within in
-    let items : c.try_extend_from_slice.new.self.items ≡ c.args.into.now.items ++ field at c.args.n c.index.result.now.bytes = search rules in
+    let part = part_is blocks slots c.args.slot capacity slot c.self.invariant within is c.args.self.now c.self.view_is
+    c.args.mark.block (omega arith) c.key_of-key.result c.key_of-key.ensures at c.args.place c.args.n c.index.result.now
+    c.index.ensures (omega arith) (omega arith) c.requires.within in
+    let items : c.try_extend_from_slice.new.self.items ≡ c.args.into.now.items ++ field at c.args.n c.index.result.now.bytes =
+    search rules in
     items ∙ ap (λ xs. c.args.into.now.items ++ xs) part

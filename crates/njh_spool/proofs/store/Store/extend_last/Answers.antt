@@ -11,7 +11,8 @@ put-requires-clause-block c =
     let within = slot_within blocks slots capacity c.args.slot c.args.self.now c.self.view_is c.requires.slot in
     let slot = c.index-old.result.now in
     let is = sym c.index-old.ensures in
-    last_has blocks slots c.args.slot capacity slot c.self.invariant within is c.args.self.now c.self.view_is c.args.bytes.now c.requires.some c.requires.room
+    last_has blocks slots c.args.slot capacity slot c.self.invariant within is c.args.self.now c.self.view_is c.args.bytes.now
+    c.requires.some c.requires.room
 
 pub put-requires-clause-within : goal.put-requires-clause-within
 put-requires-clause-within c =
@@ -21,7 +22,8 @@ put-requires-clause-within c =
     let within = slot_within blocks slots capacity c.args.slot c.args.self.now c.self.view_is c.requires.slot in
     let slot = c.index-old.result.now in
     let is = sym c.index-old.ensures in
-    fits_last blocks slots c.args.slot capacity slot c.self.invariant within is c.args.self.now c.self.view_is c.args.bytes.now c.requires.some c.requires.room
+    fits_last blocks slots c.args.slot capacity slot c.self.invariant within is c.args.self.now c.self.view_is c.args.bytes.now
+    c.requires.some c.requires.room
 
 pub overflow_add-old : goal.overflow_add-old
 overflow_add-old c =
@@ -31,7 +33,8 @@ overflow_add-old c =
     let within = slot_within blocks slots capacity c.args.slot c.args.self.now c.self.view_is c.requires.slot in
     let slot = c.index-old.result.now in
     let is = sym c.index-old.ensures in
-    let fits = fits_len blocks slots c.args.slot capacity slot c.self.invariant within is c.args.self.now c.self.view_is c.args.bytes.now c.requires.some c.requires.room in
+    let fits = fits_len blocks slots c.args.slot capacity slot c.self.invariant within is c.args.self.now c.self.view_is
+    c.args.bytes.now c.requires.some c.requires.room in
     omega arith
 
 pub invariant_of-self : goal.invariant_of-self
@@ -42,7 +45,8 @@ invariant_of-self c =
     let within = slot_within blocks slots capacity c.args.slot c.args.self.now c.self.view_is c.requires.slot in
     let slot = c.index-old.result.now in
     let is = sym c.index-old.ensures in
-    rw c.put.ensures (extended blocks slots c.args.slot capacity slot c.self.invariant within is c.args.self.now c.self.view_is c.args.bytes.now c.requires.some c.requires.room)
+    rw c.put.ensures (extended blocks slots c.args.slot capacity slot c.self.invariant within is c.args.self.now c.self.view_is
+    c.args.bytes.now c.requires.some c.requires.room)
 
 pub returns : goal.returns
 returns c =
@@ -52,4 +56,5 @@ returns c =
     let within = slot_within blocks slots capacity c.args.slot c.args.self.now c.self.view_is c.requires.slot in
     let slot = c.index-old.result.now in
     let is = sym c.index-old.ensures in
-    rw c.put.ensures (view_extended blocks slots c.args.slot capacity slot c.self.invariant within is c.args.self.now c.self.view_is c.args.bytes.now c.requires.some c.requires.room)
+    rw c.put.ensures (view_extended blocks slots c.args.slot capacity slot c.self.invariant within is c.args.self.now
+    c.self.view_is c.args.bytes.now c.requires.some c.requires.room)

@@ -8,4 +8,5 @@ returns-then-mark-eq0 c =
     let blocks = c.self.inside.blocks in
     let slots = c.self.inside.slots.items in
     let within = slot_within blocks slots c.self.inside.capacity c.args.slot c.args.self.now c.self.view_is c.requires.slot in
-    first_key blocks slots c.args.slot c.self.inside.capacity c.index.result.now c.self.invariant within (sym c.index.ensures) c.args.self.now c.self.view_is c.args.mark.block c.requires.within (omega arith)
+    first_key blocks slots c.args.slot c.self.inside.capacity c.index.result.now c.self.invariant within (sym c.index.ensures)
+    c.args.self.now c.self.view_is c.args.mark.block c.requires.within (omega arith)

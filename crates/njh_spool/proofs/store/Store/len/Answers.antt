@@ -20,4 +20,5 @@ returns-clause-blocks c =
     let capacity = c.self.inside.capacity in
     let slot = c.index.result.now in
     let within = slot_within blocks slots capacity c.args.slot c.args.self.now c.self.view_is c.requires in
-    ap length (keys_is blocks slots c.args.slot capacity slot c.self.invariant within (sym c.index.ensures) c.args.self.now c.self.view_is) ∙ length-keys_from blocks (blocks_for slot.len) slot.head
+    ap length (keys_is blocks slots c.args.slot capacity slot c.self.invariant within (sym c.index.ensures) c.args.self.now
+    c.self.view_is) ∙ length-keys_from blocks (blocks_for slot.len) slot.head

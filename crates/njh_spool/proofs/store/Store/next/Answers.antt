@@ -13,7 +13,8 @@ index-requires c =
     let within = slot_within blocks slots capacity c.args.slot c.args.self.now c.self.view_is c.requires.slot in
     let slot = get_or slots c.args.slot no_slot in
     let is = get_or_default slots c.args.slot slot no_slot within in
-    key_has blocks slots c.args.slot capacity slot c.self.invariant within is c.args.self.now c.self.view_is c.args.mark.block (omega arith) c.key_of-key.result c.key_of-key.ensures
+    key_has blocks slots c.args.slot capacity slot c.self.invariant within is c.args.self.now c.self.view_is c.args.mark.block
+    (omega arith) c.key_of-key.result c.key_of-key.ensures
 
 pub overflow_add-result : goal.overflow_add-result
 overflow_add-result c =
@@ -38,4 +39,5 @@ returns-clause-mark c =
     let within = slot_within blocks slots capacity c.args.slot c.args.self.now c.self.view_is c.requires.slot in
     let slot = get_or slots c.args.slot no_slot in
     let is = get_or_default slots c.args.slot slot no_slot within in
-    λ later. next_key blocks slots c.args.slot capacity slot c.self.invariant within is c.args.self.now c.self.view_is c.args.mark.block (omega arith) c.key_of-key.result c.key_of-key.ensures c.index.result.now c.index.ensures c.requires.within
+    λ later. next_key blocks slots c.args.slot capacity slot c.self.invariant within is c.args.self.now c.self.view_is
+    c.args.mark.block (omega arith) c.key_of-key.result c.key_of-key.ensures c.index.result.now c.index.ensures c.requires.within

@@ -14,7 +14,8 @@ put-requires-clause-block c =
     let within = slot_within blocks slots capacity c.args.slot c.args.self.now c.self.view_is c.requires.slot in
     let slot = get_or slots c.args.slot no_slot in
     let is = get_or_default slots c.args.slot slot no_slot within in
-    key_has blocks slots c.args.slot capacity slot c.self.invariant within is c.args.self.now c.self.view_is c.args.mark.block (omega arith) c.key_of-key.result c.key_of-key.ensures
+    key_has blocks slots c.args.slot capacity slot c.self.invariant within is c.args.self.now c.self.view_is c.args.mark.block
+    (omega arith) c.key_of-key.result c.key_of-key.ensures
 
 pub invariant_of-self : goal.invariant_of-self
 invariant_of-self c =
@@ -24,7 +25,9 @@ invariant_of-self c =
     let within = slot_within blocks slots capacity c.args.slot c.args.self.now c.self.view_is c.requires.slot in
     let slot = get_or slots c.args.slot no_slot in
     let is = get_or_default slots c.args.slot slot no_slot within in
-    rw c.put.ensures (overwritten blocks slots c.args.slot capacity slot c.self.invariant within is c.args.self.now c.self.view_is c.args.mark.block c.key_of-key.result (c.args.place - c.args.mark.block * 252) c.args.place c.args.bytes.now c.key_of-key.ensures (omega arith) (omega arith) c.requires.some c.requires.within)
+    rw c.put.ensures (overwritten blocks slots c.args.slot capacity slot c.self.invariant within is c.args.self.now
+    c.self.view_is c.args.mark.block c.key_of-key.result (c.args.place - c.args.mark.block * 252) c.args.place
+    c.args.bytes.now c.key_of-key.ensures (omega arith) (omega arith) c.requires.some c.requires.within)
 
 pub returns : goal.returns
 returns c =
@@ -34,4 +37,6 @@ returns c =
     let within = slot_within blocks slots capacity c.args.slot c.args.self.now c.self.view_is c.requires.slot in
     let slot = get_or slots c.args.slot no_slot in
     let is = get_or_default slots c.args.slot slot no_slot within in
-    rw c.put.ensures (view_overwritten blocks slots c.args.slot capacity slot c.self.invariant within is c.args.self.now c.self.view_is c.args.mark.block c.key_of-key.result (c.args.place - c.args.mark.block * 252) c.args.place c.args.bytes.now c.key_of-key.ensures (omega arith) (omega arith) c.requires.some c.requires.within)
+    rw c.put.ensures (view_overwritten blocks slots c.args.slot capacity slot c.self.invariant within is c.args.self.now
+    c.self.view_is c.args.mark.block c.key_of-key.result (c.args.place - c.args.mark.block * 252) c.args.place
+    c.args.bytes.now c.key_of-key.ensures (omega arith) (omega arith) c.requires.some c.requires.within)

@@ -13,7 +13,11 @@ remove-first-requires c =
     let within = slot_within blocks slots capacity c.args.slot c.args.self.now c.self.view_is c.requires.slot in
     let slot = c.index-old.result.now in
     let is = sym c.index-old.ensures in
-    let any : 0 < slot.len = omega (arith, len_is blocks slots c.args.slot capacity slot c.self.invariant within is c.args.self.now c.self.view_is) in
+    let any : 0 < slot.len = omega (
+      arith,
+      len_is blocks slots c.args.slot capacity slot c.self.invariant within is
+          c.args.self.now c.self.view_is,
+    ) in
     has_head blocks blocks slots c.args.slot capacity slot c.self.invariant within is any
 
 pub invariant_of-self : goal.invariant_of-self
@@ -24,10 +28,16 @@ invariant_of-self c =
     let within = slot_within blocks slots capacity c.args.slot c.args.self.now c.self.view_is c.requires.slot in
     let slot = c.index-old.result.now in
     let is = sym c.index-old.ensures in
-    let any : 0 < slot.len = omega (arith, len_is blocks slots c.args.slot capacity slot c.self.invariant within is c.args.self.now c.self.view_is) in
+    let any : 0 < slot.len = omega (
+      arith,
+      len_is blocks slots c.args.slot capacity slot c.self.invariant within is
+          c.args.self.now c.self.view_is,
+    ) in
     let gone = c.remove-first.ensures in
-    let moves = moves_rest blocks c.remove-first.new.self slots c.args.slot capacity slot c.self.invariant within is any c.remove-first.result gone.value gone.updates gone.len gone.capacity in
-    rw c.saturating_sub.ensures (chained_moved blocks c.remove-first.new.self slots c.args.slot capacity slot _ c.self.invariant within is moves (omega (arith, gone.len, c.self.invariant.within)))
+    let moves = moves_rest blocks c.remove-first.new.self slots c.args.slot capacity slot c.self.invariant within is any
+    c.remove-first.result gone.value gone.updates gone.len gone.capacity in
+    rw c.saturating_sub.ensures (chained_moved blocks c.remove-first.new.self slots c.args.slot capacity slot _ c.self.invariant
+    within is moves (omega (arith, gone.len, c.self.invariant.within)))
 
 pub returns : goal.returns
 returns c =
@@ -40,9 +50,12 @@ returns c =
     let store = c.args.self.now in
     let any : 0 < slot.len = omega (arith, len_is blocks slots c.args.slot capacity slot c.self.invariant within is store c.self.view_is) in
     let gone = c.remove-first.ensures in
-    let moves = moves_rest blocks c.remove-first.new.self slots c.args.slot capacity slot c.self.invariant within is any c.remove-first.result gone.value gone.updates gone.len gone.capacity in
-    let chain = chain_rest blocks c.remove-first.new.self slots c.args.slot capacity slot c.self.invariant within is any c.remove-first.result gone.value gone.updates gone.len gone.capacity in
+    let moves = moves_rest blocks c.remove-first.new.self slots c.args.slot capacity slot c.self.invariant within is any
+    c.remove-first.result gone.value gone.updates gone.len gone.capacity in
+    let chain = chain_rest blocks c.remove-first.new.self slots c.args.slot capacity slot c.self.invariant within is any
+    c.remove-first.result gone.value gone.updates gone.len gone.capacity in
     let old = chain_is blocks slots c.args.slot capacity slot c.self.invariant within is store c.self.view_is in
     rw c.saturating_sub.ensures
     (view_moved blocks c.remove-first.new.self slots c.args.slot capacity slot _ c.self.invariant within is moves store c.self.view_is
-    ∙ ap (λ (x : Chain). with_chain c.args.slot x store) (chain ∙ ap (λ (x : Chain). record { keys = drop 1 x.keys; bytes = drop 252 x.bytes }) (sym old)))
+    ∙ ap (λ (x : Chain). with_chain c.args.slot x store)
+    (chain ∙ ap (λ (x : Chain). record { keys = drop 1 x.keys; bytes = drop 252 x.bytes }) (sym old)))

@@ -7,5 +7,6 @@ returns c =
     let blocks = c.self.inside.blocks in
     let slots = c.self.inside.slots.items in
     let within = slot_within blocks slots c.self.inside.capacity c.args.slot c.args.self.now c.self.view_is c.requires in
-    let size = len_is blocks slots c.args.slot c.self.inside.capacity c.index.result.now c.self.invariant within (sym c.index.ensures) c.args.self.now c.self.view_is in
+    let size = len_is blocks slots c.args.slot c.self.inside.capacity c.index.result.now c.self.invariant within
+    (sym c.index.ensures) c.args.self.now c.self.view_is in
     omega (arith, c.div_ceil.ensures)
