@@ -8,6 +8,7 @@ ghost use Rattle.njh_spool.specs.CustomerSpool.{has_room_for, partial_numbered};
 ghost use Rattle.njh_spool.specs.Spools.{part};
 ghost use Rattle.njh_table.specs.TableFile.{entry_of};
 ghost use Rattle.njh_stream.specs.Judging.{appended_where, IsAfter};
+ghost use Rattle.njh_stream.specs.SpoolFiles.{records_in};
 ghost use Rattle.njh_stream.specs.Receiving.{AgreesWith, cancelled, notice_of, stored};
 ghost use Rattle.njh_stream.specs.Transmissions as transmissions;
 
@@ -42,10 +43,12 @@ pub(crate) fn store(
     spool.quota_holds(customer);
     let records = SpoolFile::of(spool, customer, file);
     let verdict = judge(entry, line, kind, &records, progress, srcb, bytes);
-    let header = header_with(&records, srcb, bytes);
     match verdict {
-        Verdict::Cancelled(text) => cancel(customer, file, header, text, spool),
-        Verdict::Taken(progress) => { append(customer, file, progress, header, srcb, bytes, spool) }
+        Verdict::Cancelled(text) => {
+            let header = header_with(&records, srcb, bytes);
+            cancel(customer, file, header, text, spool)
+        }
+        Verdict::Taken(progress) => { append(customer, file, progress, srcb, bytes, spool) }
     }
 }
 
@@ -54,7 +57,6 @@ fn append(
     customer: u16,
     file: FileId,
     progress: Progress,
-    header: Option<JobHeader>,
     srcb: u8,
     bytes: &[u8],
     spool: &mut Spool,
@@ -63,7 +65,8 @@ fn append(
     requires short { length bytes.now ≤ 256 }
     requires there { IsSome (partial_numbered file (part customer spool.old)) }
     ensures { let r : Stored = record { srcb = srcb; bytes = bytes.now } in IsAfter result spool.new spool.old customer
-        (appended_where (has_room_for file r (part customer spool.old)) file progress header r (part customer spool.old)) }
+        (appended_where (has_room_for file r (part customer spool.old)) file progress
+        (headers.job_header_of (records_in file (part customer spool.old) ++ r ∷ [])) r (part customer spool.old)) }
 {
     match spool.append(customer, file, srcb, bytes) {
         Ok(()) => After {
@@ -72,6 +75,8 @@ fn append(
             notice: None,
         },
         Err(_) => {
+            let records = SpoolFile::of(spool, customer, file);
+            let header = header_with(&records, srcb, bytes);
             let text = full_text(&header);
             cancel(customer, file, header, text, spool)
         }

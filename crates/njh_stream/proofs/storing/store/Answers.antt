@@ -1,9 +1,10 @@
 -- The records of a file that is open are those of its number, and the verdict by what is kept is the verdict on the record.
-use Rattle.std.proofs.Common.{sym, ap, ◌∙◌, subst}
+use Rattle.std.proofs.Common.{sym, ap, ◌∙◌, subst, ◌++◌, ◌∷◌, []}
 use Rattle.std.specs.Option.{option_map}
 use Rattle.njh_record.specs.Stored.{Stored}
 use Rattle.njh_spool.specs.Spools.{part}
 use Rattle.njh_spool.specs.CustomerSpool.{has_room_for}
+use Rattle.njh_header.specs.FileHeaders.{job_header_of}
 use Rattle.njh_table.specs.TableFile.{entry_of}
 use Rattle.njh_stream.specs.Judging.{IsAfter, appended_where}
 use Rattle.njh_stream.specs.Receiving.{cancelled, notice_of, progress_of}
@@ -35,8 +36,9 @@ pub returns-in-Taken : goal.returns-in-Taken
 returns-in-Taken c =
     let r : Stored = record { srcb = c.args.srcb; bytes = c.args.bytes.now } in
     subst (λ x. IsAfter c.append.result c.append.new.spool c.args.spool.now c.args.customer x)
-    (ap (λ h. appended_where (has_room_for c.args.file r (part c.args.customer c.args.spool.now)) c.args.file c.in-Taken.progress h r (part c.args.customer c.args.spool.now))
-    c.header_with-header.ensures
+    (ap (λ x. appended_where (has_room_for c.args.file r (part c.args.customer c.args.spool.now)) c.args.file c.in-Taken.progress
+    (job_header_of (x ++ r ∷ [])) r (part c.args.customer c.args.spool.now))
+    (sym c.of-records.ensures)
     ∙ stored_taken (entry_of c.args.entry.now) c.args.line c.args.kind c.args.file r (part c.args.customer c.args.spool.now)
     c.of-records.result c.in-Taken.progress
     (c.of-records.ensures
