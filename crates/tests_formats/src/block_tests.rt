@@ -1,4 +1,4 @@
-//! Texts of the protocol's worked examples, read and written, and the texts of the faults.
+//! Texts of the protocol's worked examples, read and written.
 
 ghost use Rattle.njh_block.specs.Shown.{IsWritable};
 
@@ -22,26 +22,7 @@ const SIGNED_ON: &[u8] = b"\xA0\x8F\xCF\
 
 const TRAILER: &[u8] = b"\x00\x04\x00\x00";
 
-#[test]
-fn texts_that_are_no_block(rt: HostRuntime) -> Result<(), Fail> {
-    let table: [(&[u8], &str); 6] = [
-        (b"\x80\x8F", "B1 TooShort"),
-        (b"\xB0\x8F\xCF\x00", "B2 BadBcb"),
-        (b"\x80\x0F\xCF\x00", "B3 BadFcs"),
-        (b"\x80\x8F\xCF\x05\x00", "B4 BadRcb"),
-        (b"\x80\x8F\xCF\x99", "B5 BadRecord"),
-        (b"\x80\x8F\xCF\x99\x80\xC3\xC1\x00", "B5 BadRecord"),
-    ];
-    for (text, printed) in table {
-        match Block::read(text) {
-            Ok(_) => assert_eq!(rt; "read", printed, "{text:?}"),
-            Err(fault) => assert_eq!(rt; format!(in rt.alloc(); "{fault}")?.as_str(), printed),
-        }
-    }
-    Ok(())
-}
-
-// What a record is, its RCB and its SRCB.
+/// What a record is, its RCB and its SRCB.
 fn described(item: Option<Item<'_>>) -> (&'static str, u8, u8) {
     match item {
         Some(Item::Data { rcb, srcb }) => ("data", rcb.byte, srcb),
@@ -53,55 +34,62 @@ fn described(item: Option<Item<'_>>) -> (&'static str, u8, u8) {
     }
 }
 
-#[test]
-fn records_of_texts(rt: HostRuntime) {
-    let none: &[u8] = b"";
-    let end = ("end", 0, 0, none);
-    let table: [(&[u8], [(&str, u8, u8, &[u8]); 3]); 8] = [
-        (
-            THREE_STREAMS,
-            [
-                ("data", 0xA9, 0xD0, TRAILER),
-                ("data", 0xB9, 0xD0, TRAILER),
-                ("data", 0xC9, 0xD0, TRAILER),
-            ],
-        ),
-        (
-            b"\x80\x8F\xCF\x99\x80\xBF\xC1\xBF\xC1\xBF\xC1\xBF\xC1\xBF\xC1\xBF\xC1\xBF\xC1\xBF\xC1\xA9\xC1\x00\x99\x80\x00\x00",
-            [("long", 0x99, 0x80, none), ("data", 0x99, 0x80, none), end],
-        ),
-        (
-            b"\x81\x8F\xCF\x99\x80\x40\x00",
-            [("abort", 0x99, 0x80, none), end, end],
-        ),
-        (
-            b"\x80\x8F\xCF\x90\x99\x00\xA0\x99\x00\x00",
-            [
-                ("control", 0x90, 0x99, none),
-                ("control", 0xA0, 0x99, none),
-                end,
-            ],
-        ),
-        (
-            b"\x80\x8F\xCF\xE0\x81\x00\x00",
-            [("control", 0xE0, 0x81, none), end, end],
-        ),
-        (SIGNED_ON, [("general", 0xF0, 0xD1, none), end, end]),
-        (b"\x80\x8F\xCF", [end, end, end]),
-        (b"\x80\x8F\xCF\x00\x05", [end, end, end]),
-    ];
+fn check_next(rt: &impl Abort, block: &mut Block<'_>, item: (&str, u8, u8), bytes: &[u8]) {
     let mut record = Record::new();
-    for (text, expected) in table {
-        let mut block = match Block::read(text) {
-            Ok(block) => block,
-            Err(fault) => return assert_eq!(rt; Some(fault), None::<BlockFault>, "{text:?}"),
-        };
-        for (kind, rcb, srcb, bytes) in expected {
-            let item = block.next(&mut record);
-            assert_eq!(rt; described(item), (kind, rcb, srcb), "{text:?}");
-            assert_eq!(rt; record.as_slice(), bytes, "{text:?}");
-        }
-    }
+    let next = described(block.next(&mut record));
+    assert!(rt; next == item && record.as_slice() == bytes, "{next:?}");
+}
+
+/// A text of one record without bytes.
+fn check_only(rt: &impl Abort, text: &[u8], item: (&str, u8, u8)) -> Result<(), Fail> {
+    let mut block = Block::read(text)?;
+    check_next(rt, &mut block, item, b"");
+    check_next(rt, &mut block, ("end", 0, 0), b"");
+    Ok(())
+}
+
+#[test]
+fn records_of_texts(rt: HostRuntime) -> Result<(), Fail> {
+    let mut block = Block::read(THREE_STREAMS)?;
+    check_next(&rt, &mut block, ("data", 0xA9, 0xD0), TRAILER);
+    check_next(&rt, &mut block, ("data", 0xB9, 0xD0), TRAILER);
+    check_next(&rt, &mut block, ("data", 0xC9, 0xD0), TRAILER);
+    let mut block = Block::read(
+        b"\x80\x8F\xCF\x99\x80\xBF\xC1\xBF\xC1\xBF\xC1\xBF\xC1\xBF\xC1\xBF\xC1\xBF\xC1\xBF\xC1\xA9\xC1\x00\x99\x80\x00\x00",
+    )?;
+    check_next(&rt, &mut block, ("long", 0x99, 0x80), b"");
+    check_next(&rt, &mut block, ("data", 0x99, 0x80), b"");
+    check_only(&rt, b"\x81\x8F\xCF\x99\x80\x40\x00", ("abort", 0x99, 0x80))?;
+    check_only(
+        &rt,
+        b"\x80\x8F\xCF\x90\x99\x00\x00",
+        ("control", 0x90, 0x99),
+    )?;
+    check_only(
+        &rt,
+        b"\x80\x8F\xCF\xE0\x81\x00\x00",
+        ("control", 0xE0, 0x81),
+    )?;
+    check_only(&rt, SIGNED_ON, ("general", 0xF0, 0xD1))?;
+    check_only(&rt, b"\x80\x8F\xCF\x00\x05", ("end", 0, 0))
+}
+
+fn check_fault(rt: &impl Abort, text: &[u8], fault: BlockFault) {
+    assert!(rt; Block::read(text).err() == Some(fault), "{text:?}");
+}
+
+#[test]
+fn texts_that_are_no_block(rt: HostRuntime) {
+    check_fault(&rt, b"\x80\x8F", BlockFault::TooShort);
+    check_fault(&rt, b"\xB0\x8F\xCF\x00", BlockFault::BadBcb);
+    check_fault(&rt, b"\x80\x0F\xCF\x00", BlockFault::BadFcs);
+    check_fault(&rt, b"\x80\x8F\xCF\x05\x00", BlockFault::BadRcb);
+    check_fault(&rt, b"\x80\x8F\xCF\x99", BlockFault::BadRecord);
+    check_fault(
+        &rt,
+        b"\x80\x8F\xCF\x99\x80\xC3\xC1\x00",
+        BlockFault::BadRecord,
+    );
 }
 
 /// Adds a record of SYSOUT 2 to 4.
@@ -178,31 +166,21 @@ fn text_of_each_form(rt: HostRuntime) {
     check_alone(&rt, Bcb::setting(0), sign_on, SIGNED_ON);
 }
 
+/// Which of the eight streams go on: a bit for each that does, from SYSIN 1 on.
+fn check_streams(rt: &impl Abort, bytes: [u8; 2], streams: u8) {
+    let fcs = Fcs::read(bytes[0], bytes[1]).expect(rt, "an FCS");
+    let mut on = 0;
+    for place in 0..Stream::COUNT {
+        on = on << 1 | u8::from(fcs.is_on(Stream::at(place)));
+    }
+    assert!(rt; on == streams && fcs.messages_on(), "{bytes:?}");
+    assert!(rt; fcs.all_suspended() == (bytes[0] == 0xCF), "{bytes:?}");
+}
+
 #[test]
 fn streams_that_go_on(rt: HostRuntime) {
-    let table: [(u8, u8, bool, [bool; 8]); 4] = [
-        (0x8F, 0xCF, false, [true; 8]),
-        (0x80, 0xC0, false, [false; 8]),
-        (
-            0x8F,
-            0xC7,
-            false,
-            [true, true, true, true, false, true, true, true],
-        ),
-        (0xCF, 0xCF, true, [true; 8]),
-    ];
-    for (first, second, suspended, streams) in table {
-        let Some(fcs) = Fcs::read(first, second) else {
-            return assert!(rt; false, "{first} {second}");
-        };
-        assert_eq!(rt; fcs.all_suspended(), suspended);
-        assert!(rt; fcs.messages_on());
-        for place in 0..Stream::COUNT {
-            assert_eq!(rt;
-                fcs.is_on(Stream::at(place)),
-                streams[usize::from(place)],
-                "{place}"
-            );
-        }
-    }
+    check_streams(&rt, [0x8F, 0xCF], 0b1111_1111);
+    check_streams(&rt, [0x80, 0xC0], 0b0000_0000);
+    check_streams(&rt, [0x8F, 0xC7], 0b1111_0111);
+    check_streams(&rt, [0xCF, 0xCF], 0b1111_1111);
 }

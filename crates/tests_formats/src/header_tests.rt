@@ -1,16 +1,12 @@
-//! Worked headers, sign-ons and notices, byte by byte, and the texts of the faults.
-
-ghost use Rattle.std.specs.Prelude.{◌<◌, ◌^◌, map, length};
-ghost use Rattle.njh_record.specs.Stored.{Stored};
+//! Worked headers, sign-ons and notices, byte by byte.
 
 use arrayvec::ArrayVec;
 use njh_ebcdic::Name;
 use njh_header::{
-    DataSetHeader, Destination, FileName, FileRecords, HeaderFault, JobHeader, MessageText, SignOn,
-    User, data_set_header_of, destination_of, name_of, no_files_for, node_unknown, owner_of,
-    push_digits, routed_back, spool_full, srcb,
+    DataSetHeader, FileName, HeaderFault, JobHeader, MessageText, SignOn, no_files_for,
+    node_unknown, routed_back, spool_full, srcb,
 };
-use njh_record::{Kind, Record};
+use njh_record::Record;
 use std::process::Abort;
 use std::test::Fail;
 
@@ -44,77 +40,69 @@ static PAUL: [u8; 8] = *b"\xd7\xc1\xe4\xd3\x40\x40\x40\x40";
 
 static BLANKS: [u8; 8] = *b"\x40\x40\x40\x40\x40\x40\x40\x40";
 
-/// The parts, one behind another.
-fn joined(rt: &impl Abort, parts: &[&[u8]]) -> Record {
-    let mut record = Record::new();
-    for part in parts {
-        assert!(rt; record.try_extend_from_slice(part).is_ok());
-    }
-    record
+fn check_field(rt: &impl Abort, field: [u8; 8], bytes: &[u8; 8]) {
+    assert!(rt; field == *bytes, "{field:?}");
 }
 
 #[test]
 fn fields_of_headers(rt: HostRuntime) -> Result<(), Fail> {
+    assert_eq!(rt;
+        [srcb::JOB_HEADER, srcb::DATA_SET_HEADER, srcb::JOB_TRAILER],
+        [0xc0, 0xe0, 0xd0]
+    );
     let job = JobHeader::read(&JOB)?;
-    assert_eq!(rt; job.number(), 42);
-    assert_eq!(rt; job.name(), *b"\xd7\xc1\xe8\xd9\xd6\xd3\xd3\x40");
-    assert_eq!(rt; job.user(), ANNA);
-    assert_eq!(rt; job.origin_node().bytes(), LYON);
-    assert_eq!(rt; job.origin_user(), ANNA);
-    assert_eq!(rt; job.execution_node(), METZ);
-    assert_eq!(rt; job.execution_user(), BLANKS);
-    assert_eq!(rt; job.destination_place(), 84);
+    assert!(rt; job.number() == 42 && job.destination_place() == 84);
+    check_field(&rt, job.name(), b"\xd7\xc1\xe8\xd9\xd6\xd3\xd3\x40");
+    check_field(&rt, job.user(), &ANNA);
+    check_field(&rt, job.origin_node().bytes(), &LYON);
+    check_field(&rt, job.origin_user(), &ANNA);
+    check_field(&rt, job.execution_node(), &METZ);
+    check_field(&rt, job.execution_user(), &BLANKS);
     let data_set = DataSetHeader::read(&DATA_SET)?;
-    assert_eq!(rt; data_set.destination_node().bytes(), METZ);
-    assert_eq!(rt; data_set.destination_user(), PAUL);
-    assert_eq!(rt; data_set.destination_place(), 8);
+    assert!(rt; data_set.destination_place() == 8);
+    check_field(&rt, data_set.destination_node().bytes(), &METZ);
+    check_field(&rt, data_set.destination_user(), &PAUL);
     Ok(())
 }
 
-#[test]
-fn walks_over_sections(rt: HostRuntime) -> Result<(), Fail> {
-    let general: &'static [u8] = &JOB[4..];
-    let zeroes: &'static [u8] = &[0; 92];
-    let table: [(&'static [u8], &'static [u8], &str); 16] = [
-        (b"", b"", "H2 NoGeneralSection"),
-        (b"\x00\x03\x84", b"", "H4 SectionOverrun"),
-        (b"\x00\x04\x84\x00", b"", "H2 NoGeneralSection"),
-        (b"\x00\x04\x00\x00", b"", "H1 TooShort"),
-        (b"\x00\x03\x00\x00", zeroes, "H4 SectionOverrun"),
-        (b"\x00\x5f\x00\x00", zeroes, "H1 TooShort"),
-        (b"\x00\x60\x00\x00", &zeroes[1..], "H1 TooShort"),
-        (b"\x00\x60\x00\x00", zeroes, "H3 BadName"),
-        (b"", general, "read"),
-        (b"\x00\x04\x84\x00", general, "read"),
-        (b"\x00\x06\x00\x01\x00\x00", general, "read"),
-        (b"\x00\x64\x84\x00", general, "H2 NoGeneralSection"),
-        (b"\x00\x63\x84\x00", general, "H4 SectionOverrun"),
-        (b"\x00\x68\x84\x00", general, "H4 SectionOverrun"),
-        (b"\x00\x03\x84\x00", general, "H4 SectionOverrun"),
-        (b"\x01\x00", &general[2..], "read"),
-    ];
-    for (before, after, printed) in table {
-        let record = joined(&rt, &[&JOB[..4], before, after]);
-        match JobHeader::read(&record) {
-            Ok(_) => assert_eq!(rt; "read", printed, "{record:?}"),
-            Err(fault) => assert_eq!(rt;
-                format!(in rt.alloc(); "{fault}")?.as_str(),
-                printed,
-                "{record:?}"
-            ),
-        }
+/// A prefix, these bytes and those behind them read as a job header, or have a fault.
+fn check_walk(rt: &impl Abort, before: &[u8], after: &[u8], fault: Option<HeaderFault>) {
+    let mut record = Record::new();
+    for part in [&JOB[..4], before, after] {
+        assert!(rt; record.try_extend_from_slice(part).is_ok());
     }
-    assert_eq!(rt;
-        JobHeader::read(&JOB[..3]).err(),
-        Some(HeaderFault::TooShort)
-    );
-    Ok(())
+    assert!(rt; JobHeader::read(&record).err() == fault, "{record:?}");
+}
+
+#[test]
+fn walks_over_sections(rt: HostRuntime) {
+    let general = &JOB[4..];
+    let zeroes = &[0; 92];
+    let short = Some(HeaderFault::TooShort);
+    let lacks = Some(HeaderFault::NoGeneralSection);
+    let overrun = Some(HeaderFault::SectionOverrun);
+    check_walk(&rt, b"", b"", lacks);
+    check_walk(&rt, b"\x00\x03\x84", b"", overrun);
+    check_walk(&rt, b"\x00\x04\x84\x00", b"", lacks);
+    check_walk(&rt, b"\x00\x04\x00\x00", b"", short);
+    check_walk(&rt, b"\x00\x03\x00\x00", zeroes, overrun);
+    check_walk(&rt, b"\x00\x5f\x00\x00", zeroes, short);
+    check_walk(&rt, b"\x00\x60\x00\x00", zeroes, Some(HeaderFault::BadName));
+    check_walk(&rt, b"", general, None);
+    check_walk(&rt, b"\x00\x06\x00\x01\x00\x00", general, None);
+    check_walk(&rt, b"\x00\x64\x84\x00", general, lacks);
+    check_walk(&rt, b"\x00\x63\x84\x00", general, overrun);
+    check_walk(&rt, b"\x00\x68\x84\x00", general, overrun);
 }
 
 static SIGN_ON: [u8; 40] = *b"\x29\xd3\xe8\xd6\xd5\x40\x40\x40\x40\x01\
     \x00\x00\x00\x00\x00\x00\x04\x00\
     \x40\x40\x40\x40\x40\x40\x40\x40\x40\x40\x40\x40\x40\x40\x40\x40\
     \x00\x00\x00\x00\x00\x00";
+
+fn check_sign_on(rt: &impl Abort, bytes: &[u8], sign_on: Result<SignOn, HeaderFault>) {
+    assert!(rt; SignOn::read(bytes) == sign_on, "{bytes:?}");
+}
 
 #[test]
 fn signs_on(rt: HostRuntime) -> Result<(), Fail> {
@@ -123,108 +111,35 @@ fn signs_on(rt: HostRuntime) -> Result<(), Fail> {
         block: 1024,
         password: BLANKS,
     };
-    assert_eq!(rt; SignOn::read(&SIGN_ON)?, sign_on);
-    assert_eq!(rt; SignOn::read(&SIGN_ON[..18])?, sign_on);
-    assert_eq!(rt;
-        SignOn::read(&SIGN_ON[..17]).err(),
-        Some(HeaderFault::TooShort)
-    );
-    assert_eq!(rt;
-        SignOn::read(&SIGN_ON[1..]).err(),
-        Some(HeaderFault::BadName)
-    );
-    let with_password = joined(&rt, &[&SIGN_ON[..18], &PAUL]);
-    assert_eq!(rt; SignOn::read(&with_password)?.password, PAUL);
+    check_sign_on(&rt, &SIGN_ON, Ok(sign_on));
+    check_sign_on(&rt, &SIGN_ON[..18], Ok(sign_on));
+    check_sign_on(&rt, &SIGN_ON[..17], Err(HeaderFault::TooShort));
+    check_sign_on(&rt, &SIGN_ON[1..], Err(HeaderFault::BadName));
     let mut out = ArrayVec::new();
     sign_on.write(&mut out);
-    assert_eq!(rt; out.as_slice(), &SIGN_ON[..39]);
+    assert!(rt; out.as_slice() == &SIGN_ON[..39]);
     Ok(())
 }
 
-/// A file in memory.
-#[derive(Drop)]
-struct Records<'a> {
-    all: &'a [(u8, Record)],
-    ghost few: { length all.now < 2 ^ 32 },
-}
-
-impl FileRecords for Records<'_> {
-    ghost records = { λ f. map (λ r. record { srcb = r.0; bytes = r.1.items }) f.all.now };
-
-    fn count(&self) -> u32 {
-        self.all.len() as u32
-    }
-
-    fn copy_to(&self, n: u32, into: &mut Record) -> u8 {
-        let (srcb, bytes) = &self.all[n as usize];
-        into.clear();
-        into.try_extend_from_slice(bytes).unwrap();
-        *srcb
-    }
-}
-
-#[test]
-fn file_by_its_headers(rt: HostRuntime) -> Result<(), Fail> {
-    let srcbs = [srcb::JOB_HEADER, srcb::DATA_SET_HEADER, srcb::JOB_TRAILER];
-    assert_eq!(rt; srcbs, [0xc0, 0xe0, 0xd0]);
-    let data = b"\x05\xc8\xc5\xd3\xd3\xd6";
-    let records = [
-        (srcb::JOB_HEADER, joined(&rt, &[&JOB])),
-        (srcb::JOB_HEADER, joined(&rt, &[data])),
-        (srcb::DATA_SET_HEADER, joined(&rt, &[&DATA_SET])),
-        (0x80, joined(&rt, &[data])),
-    ];
-    let all: &[(u8, Record)] = &records;
-    let file = Records { all };
-    let node = Name::of_field(&LYON)?;
-    assert_eq!(rt; name_of(&file), Some(FileName { node, number: 42 }));
-    assert_eq!(rt; owner_of(&file), Some(User { node, user: ANNA }));
-    let job = Destination {
-        node: METZ,
-        user: BLANKS,
-    };
-    assert_eq!(rt; destination_of(&file, Kind::In), Some(job));
-    let output = Destination {
-        node: METZ,
-        user: PAUL,
-    };
-    assert_eq!(rt; destination_of(&file, Kind::Out), Some(output));
-    let headless = Records { all: &all[2..] };
-    assert_eq!(rt; name_of(&headless), None);
-    assert!(rt; data_set_header_of(&headless).is_some());
-    Ok(())
+fn check_notice(rt: &impl Abort, text: &MessageText, bytes: &[u8]) {
+    assert!(rt; text.as_slice() == bytes, "{text:?}");
 }
 
 #[test]
 fn notices(rt: HostRuntime) -> Result<(), Fail> {
     let node = Name::of_field(&LYON)?;
     let name = FileName { node, number: 42 };
-    let table: [(MessageText, &[u8]); 4] = [
-        (
-            node_unknown(Name::of_field(&PARIS)?),
-            b"\xd5\xd1\xc8\xf0\xf2\xf0\x40\xd5\xd6\xc4\xc5\x40\xd7\xc1\xd9\xc9\xe2\x40\xe4\xd5\xd2\xd5\xd6\xe6\xd5",
-        ),
-        (
-            spool_full(name),
-            b"\xd5\xd1\xc8\xf0\xf2\xf1\x40\xe2\xd7\xd6\xd6\xd3\x40\xc6\xe4\xd3\xd3\x40\xd3\xe8\xd6\xd5\x4b\xf4\xf2",
-        ),
-        (
-            no_files_for(Name::of_field(&BUREAU)?),
-            b"\xd5\xd1\xc8\xf0\xf2\xf2\x40\xd5\xd6\x40\xc6\xc9\xd3\xc5\xe2\x40\xc6\xd6\xd9\x40\xc2\xe4\xd9\xc5\xc1\xe4",
-        ),
-        (
-            routed_back(name),
-            b"\xd5\xd1\xc8\xf0\xf2\xf3\x40\xd3\xe8\xd6\xd5\x4b\xf4\xf2\x40\xd9\xd6\xe4\xe3\xc5\xc4\x40\xc2\xc1\xc3\xd2",
-        ),
-    ];
-    for (text, bytes) in &table {
-        assert_eq!(rt; text.as_slice(), *bytes);
-    }
-    let mut digits = MessageText::new();
-    push_digits(&mut digits, 4294967295);
-    assert_eq!(rt;
-        digits.as_slice(),
-        b"\xf4\xf2\xf9\xf4\xf9\xf6\xf7\xf2\xf9\xf5".as_slice()
-    );
+    let unknown =
+        b"\xd5\xd1\xc8\xf0\xf2\xf0\x40\xd5\xd6\xc4\xc5\x40\xd7\xc1\xd9\xc9\xe2\x40\xe4\xd5\xd2\xd5\xd6\xe6\xd5";
+    check_notice(&rt, &node_unknown(Name::of_field(&PARIS)?), unknown);
+    let full =
+        b"\xd5\xd1\xc8\xf0\xf2\xf1\x40\xe2\xd7\xd6\xd6\xd3\x40\xc6\xe4\xd3\xd3\x40\xd3\xe8\xd6\xd5\x4b\xf4\xf2";
+    check_notice(&rt, &spool_full(name), full);
+    let none =
+        b"\xd5\xd1\xc8\xf0\xf2\xf2\x40\xd5\xd6\x40\xc6\xc9\xd3\xc5\xe2\x40\xc6\xd6\xd9\x40\xc2\xe4\xd9\xc5\xc1\xe4";
+    check_notice(&rt, &no_files_for(Name::of_field(&BUREAU)?), none);
+    let back =
+        b"\xd5\xd1\xc8\xf0\xf2\xf3\x40\xd3\xe8\xd6\xd5\x4b\xf4\xf2\x40\xd9\xd6\xe4\xe3\xc5\xc4\x40\xc2\xc1\xc3\xd2";
+    check_notice(&rt, &routed_back(name), back);
     Ok(())
 }

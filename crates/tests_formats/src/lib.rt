@@ -1,4 +1,4 @@
-//! Tests of names, frames, records, blocks, headers, nodal messages and lines, over the public items of their crates.
+//! Tests of names, frames, records, blocks, headers, nodal messages and lines, and of what is printed of faults, over the public items of their crates.
 #![tactic(auto)]
 
 #[cfg(test)]
@@ -7,6 +7,8 @@ mod bisync_tests;
 mod block_tests;
 #[cfg(test)]
 mod ebcdic_tests;
+#[cfg(test)]
+mod fault_tests;
 #[cfg(test)]
 mod header_tests;
 #[cfg(test)]

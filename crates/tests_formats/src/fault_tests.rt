@@ -1,0 +1,56 @@
+//! What is printed of faults and of a name.
+
+use njh_block::BlockFault;
+use njh_ebcdic::{Name, NameFault};
+use njh_header::HeaderFault;
+use njh_nmr::NmrFault;
+use njh_record::RecordFault;
+use std::alloc::Global;
+use std::fmt::Display;
+use std::process::Abort;
+use std::test::Fail;
+
+fn check_printed(rt: &impl Abort, alloc: Global, fault: &impl Display, text: &str) {
+    let printed = fault.to_string(alloc).expect(rt, "memory for a text");
+    assert_eq!(rt; printed.as_str(), text);
+}
+
+#[test]
+fn printed(rt: HostRuntime) -> Result<(), Fail> {
+    let alloc = rt.alloc();
+    check_printed(&rt, alloc, &Name::of_text("LYON")?, "LYON");
+    check_printed(&rt, alloc, &NameFault::Empty, "E1 Empty");
+    check_printed(&rt, alloc, &NameFault::TooLong, "E2 TooLong");
+    check_printed(&rt, alloc, &NameFault::BadCharacter, "E3 BadCharacter");
+    check_printed(&rt, alloc, &RecordFault::BadScb, "C1 BadScb");
+    check_printed(&rt, alloc, &RecordFault::Truncated, "C2 Truncated");
+    check_printed(
+        &rt,
+        alloc,
+        &RecordFault::TooLong { used: 19 },
+        "C3 TooLong { used: 19 }",
+    );
+    check_printed(&rt, alloc, &BlockFault::TooShort, "B1 TooShort");
+    check_printed(&rt, alloc, &BlockFault::BadBcb, "B2 BadBcb");
+    check_printed(&rt, alloc, &BlockFault::BadFcs, "B3 BadFcs");
+    check_printed(&rt, alloc, &BlockFault::BadRcb, "B4 BadRcb");
+    check_printed(&rt, alloc, &BlockFault::BadRecord, "B5 BadRecord");
+    check_printed(&rt, alloc, &HeaderFault::TooShort, "H1 TooShort");
+    check_printed(
+        &rt,
+        alloc,
+        &HeaderFault::NoGeneralSection,
+        "H2 NoGeneralSection",
+    );
+    check_printed(&rt, alloc, &HeaderFault::BadName, "H3 BadName");
+    check_printed(
+        &rt,
+        alloc,
+        &HeaderFault::SectionOverrun,
+        "H4 SectionOverrun",
+    );
+    check_printed(&rt, alloc, &NmrFault::TooShort, "N1 TooShort");
+    check_printed(&rt, alloc, &NmrFault::BadLength, "N2 BadLength");
+    check_printed(&rt, alloc, &NmrFault::BadName, "N3 BadName");
+    Ok(())
+}
