@@ -17,7 +17,8 @@ use Rattle.njh_line.specs.declared.verdict.Reply.TheVariants.{Again, Control, Ne
 use Rattle.njh_line.specs.Counts.{after_acting, counted, expected}
 use Rattle.njh_line.specs.Laws.{MovesTriesAlone, is_acting, is_disregarded, is_up, last_bcb_after, last_bcb_by, sets_tries}
 use Rattle.njh_line.specs.LineTable.{Input, Enquiry, Ack0, Nak, Eot, Lost, Tick, Garbled, Spoiled, Bad, Block}
-use Rattle.njh_line.specs.LineTable.{accepted, act, by_count, call, cell, contact, end, end_with, i_sign_on, j_sign_on, none, signed_on, try_again, try_with, with_reply}
+use Rattle.njh_line.specs.LineTable.{accepted, act, by_count, call, cell, contact, end, end_with, i_sign_on, j_sign_on, none}
+use Rattle.njh_line.specs.LineTable.{signed_on, try_again, try_with, with_reply}
 use Rattle.njh_line.specs.Openings.{First}
 use Rattle.njh_line.specs.Sessions.{down, in_session}
 use Rattle.njh_line.proofs.CountLaws.{clash}
@@ -221,7 +222,8 @@ last_acted line s (Block bcb fcs first) e f =
     let k = counted s.last_bcb bcb in
     let next = after_acting bcb fcs s in
     inside (λ q x. x.session.last_bcb ≡ last_bcb_by k bcb s.last_bcb) s.phase _ _ _ _ _ e
-    (count_last k _ _ bcb fcs s (sign_on_last _ line _ next)) (count_last k _ _ bcb fcs s (sign_on_last _ line _ next)) (count_last k _ _ bcb fcs s refl)
+    (count_last k _ _ bcb fcs s (sign_on_last _ line _ next)) (count_last k _ _ bcb fcs s (sign_on_last _ line _ next))
+    (count_last k _ _ bcb fcs s refl)
 
 -- ---- a session begins
 

@@ -2,7 +2,7 @@
 use Rattle.std.proofs.Common.{◌≡◌, ℕ, ◌+◌, ◌<◌, ◌≤◌, inl, inr, List, [], ◌∷◌, ◌++◌, length, take, drop, Result, Ok, Err}
 use Rattle.std.proofs.Common.{refl, sym, ◌∙◌, ap, subst, append_assoc, arith, length-append, length-drop}
 use Rattle.std.proofs.lemmas.Bool.{cases_lt}
-use Rattle.std.proofs.lemmas.List.{append-nil, take-append-le, take-append-drop, take_at, drop_at, drop-drop, drop-append-le}
+use Rattle.std.proofs.lemmas.List.{append-nil, take-append-le, take-append-drop, take_at, drop_at, drop-append-le}
 use Rattle.std.specs.List.{flat_map, AllByRecursion}
 use Rattle.njh_record.specs.declared.End.{End}
 use Rattle.njh_record.specs.Spelling.{Item, IsItem, item_bytes, added, end_byte, Spelling}
@@ -91,46 +91,38 @@ only bytes (Err Truncated) cut =
 
 -- ---- the rest stands behind what is read
 
--- the rest of what was read stands behind so many bytes
-pub record StandsBehind (bytes rest : List ℕ) : Type 0 where
-  pub used : ℕ
-  pub some : 0 < used
-  pub within : used ≤ length bytes
-  pub is : rest ≡ drop used bytes
-
+-- what is read has a byte at least, and the rest stands behind it
 abbrev RestBehind : List ℕ → Result Unspelled Fault → Type 0
-RestBehind bytes (Ok found) = StandsBehind bytes found.rest
+RestBehind bytes (Ok found) = (front : List ℕ) × (0 < length front) × (bytes ≡ front ++ found.rest)
 RestBehind bytes (Err fault) = Unit {0}
 
-RestBehind-item : (item : Item) (rest : List ℕ) (read : Result Unspelled Fault) → RestBehind rest read
-    → RestBehind (item_bytes item ++ rest) (with_front (added item) read)
-RestBehind-item item rest (Ok found) behind =
-    let n = length (item_bytes item) in
-    record {
-      used = n + behind.used;
-      some = omega (arith, behind.some);
-      within = omega (arith, behind.within, length-append (item_bytes item) rest);
-      is = behind.is ∙ (ap (drop behind.used) (sym (drop_at (item_bytes item) rest n refl))
-          ∙ drop-drop behind.used n (item_bytes item ++ rest));
-    }
-RestBehind-item item rest (Err fault) behind = tt
+RestBehind-item : (item : Item) (bytes rest : List ℕ) (read : Result Unspelled Fault) → bytes ≡ item_bytes item ++ rest
+    → RestBehind rest read → RestBehind bytes (with_front (added item) read)
+RestBehind-item item bytes rest (Ok found) parts (front, some, is) = (
+  item_bytes item ++ front,
+  omega (arith, some, length-append (item_bytes item) front),
+  parts ∙ (ap (λ (b : List ℕ). item_bytes item ++ b) is ∙ sym (append_assoc (item_bytes item) front found.rest)),
+)
+RestBehind-item item bytes rest (Err fault) parts behind = tt
 
 behind_at : (bytes : List ℕ) (front : Front) → StandsFirst bytes front
     → ((rest : List ℕ) → length rest < length bytes → RestBehind rest (unspelled rest)) → RestBehind bytes (read_on unspelled front)
 behind_at bytes (OfItem item rest) (counted, parts) again =
-    let P : List ℕ → Type 0 = λ b. RestBehind b (with_front (added item) (unspelled rest)) in
-    subst P (sym parts) (RestBehind-item item rest (unspelled rest) (again rest (front_leaves_less bytes rest item parts)))
-behind_at bytes (OfEnd end rest) parts again =
-    record { used = 1; some = omega arith; within = omega (arith, ap length parts); is = sym (ap (drop 1) parts) }
+    RestBehind-item item bytes rest (unspelled rest) parts (again rest (front_leaves_less bytes rest item parts))
+behind_at bytes (OfEnd end rest) parts again = (end_byte end ∷ [], omega arith, parts)
 behind_at bytes Bad bad again = tt
 behind_at bytes Cut cut again = tt
 
 pub rest_behind : (bytes : List ℕ) (read : Unspelled) → unspelled bytes ≡ Ok read
     → (used : ℕ) × (0 < used) × (used ≤ length bytes) × (read.rest ≡ drop used bytes)
 rest_behind bytes read is =
-    let P : Result Unspelled Fault → Type 0 = λ read. RestBehind bytes read in
-    let behind = subst P is (by_steps RestBehind behind_at bytes) in
-    (behind.used, behind.some, behind.within, behind.is)
+    let behind = subst (RestBehind bytes) is (by_steps RestBehind behind_at bytes) in
+    let front = behind.0 in (
+      length front,
+      behind.1,
+      omega (arith, ap length behind.2, length-append front read.rest),
+      sym (ap (drop (length front)) behind.2 ∙ drop_at front read.rest (length front) refl),
+    )
 
 abbrev rest_of : Result Unspelled Fault → List ℕ
 rest_of (Ok found) = found.rest

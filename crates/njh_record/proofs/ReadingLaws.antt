@@ -77,7 +77,7 @@ ItemsThen-item item bytes items rest is then =
           ∙ sym (append_assoc (item_bytes item) (flat_map item_bytes items) rest);
     }
 
-Spelling-item : (item : Item) (bytes contents : List ℕ) (end : End) → IsItem item → Spelling bytes contents end
+pub Spelling-item : (item : Item) (bytes contents : List ℕ) (end : End) → IsItem item → Spelling bytes contents end
     → Spelling (item_bytes item ++ bytes) (added item ++ contents) end
 Spelling-item item bytes contents end is spells =
     record {

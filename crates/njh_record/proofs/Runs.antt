@@ -96,13 +96,18 @@ pub begins_run-tested : (rest tail : List ℕ) (count : ℕ) (answer value : Boo
 begins_run-tested rest tail count answer value same counted tests is =
     ap begins_run (sym same) ∙ (ap (is_run (first_of tail)) (sym counted) ∙ (sym tests ∙ is))
 
--- behind what stands before a run there is one, or nothing
-pub before_run-ends : (bytes : List ℕ)
-    → (drop (length (before_run bytes)) bytes ≡ []) ⊎ (begins_run (drop (length (before_run bytes)) bytes) ≡ true)
-before_run-ends [] = inl (ap (λ (b : List ℕ). drop (length b) []) before_run-nil)
-before_run-ends (byte ∷ bytes) =
-    let P : List ℕ → Type 0 = λ b. (drop (length b) (byte ∷ bytes) ≡ []) ⊎ (begins_run (drop (length b) (byte ∷ bytes)) ≡ true) in
+-- some bytes stand at the front, and behind them a run or nothing
+pub record StandsBefore (bytes before : List ℕ) : Type 0 where
+  pub front : take (length before) bytes ≡ before
+  pub ends : (drop (length before) bytes ≡ []) ⊎ (begins_run (drop (length before) bytes) ≡ true)
+
+pub stands_before : (bytes : List ℕ) → StandsBefore bytes (before_run bytes)
+stands_before [] = subst (λ (b : List ℕ). StandsBefore [] b) (sym before_run-nil) (record { front = refl; ends = inl refl })
+stands_before (byte ∷ bytes) =
+    let P : List ℕ → Type 0 = λ b. StandsBefore (byte ∷ bytes) b in
+    let rest = stands_before bytes in
     elim (cases_Bool (begins_run (byte ∷ bytes))) [
-      | inl at ↦ subst P (sym (before_run-at (byte ∷ bytes) at)) (inr at)
-      | inr past ↦ subst P (sym (before_run-past byte bytes past)) (before_run-ends bytes)
+      | inl at ↦ subst P (sym (before_run-at (byte ∷ bytes) at)) (record { front = refl; ends = inr at })
+      | inr past ↦ subst P (sym (before_run-past byte bytes past))
+          (record { front = ap (λ (b : List ℕ). byte ∷ b) rest.front; ends = rest.ends })
     ]

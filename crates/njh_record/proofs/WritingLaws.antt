@@ -3,14 +3,15 @@ use Rattle.std.proofs.Common.{◌≡◌, ℕ, zero, suc, ◌+◌, ◌-◌, ◌*�
 use Rattle.std.proofs.Common.{take, drop, replicate, refl, sym, ◌∙◌, ap, subst, append_assoc, arith, length-append, length-take}
 use Rattle.std.proofs.lemmas.Bool.{cases_lt, cases_Bool, cond_both, cond-true, cond-false, both_ways, eqb-true}
 use Rattle.std.proofs.lemmas.List.{take_min, take-take, take_all, length-replicate, take-append-drop}
-use Rattle.std.specs.List.{flat_map, AllByRecursion}
+use Rattle.std.specs.List.{flat_map}
 use Rattle.njh_record.specs.declared.End.TheVariants.{Record}
 use Rattle.njh_record.specs.Spelling.{Item, blanks, repeat, literal, IsItem, item_bytes, added, Spelling}
 use Rattle.njh_record.specs.Writing.{first_of, run_of, is_run, begins_run, before_run, run_item, first_item, after_first, items_past}
 use Rattle.njh_record.specs.Writing.{spelling_of}
 use Rattle.njh_record.specs.Written.{SpellsFront}
-use Rattle.njh_record.proofs.Runs.{is_run-two, is_run-three, run_of-short, run_of-within, take-run_of, before_run-at, before_run-past}
-use Rattle.njh_record.proofs.Runs.{before_run-nil, before_run-ends}
+use Rattle.njh_record.proofs.ReadingLaws.{Spelling-item, Spelling-end}
+use Rattle.njh_record.proofs.Runs.{is_run-two, is_run-three, run_of-short, run_of-within, take-run_of, before_run-past}
+use Rattle.njh_record.proofs.Runs.{stands_before}
 
 -- ---- the item that spells a run
 
@@ -39,16 +40,6 @@ unfolding first_item
 first_item-literal bytes is = cond-false (begins_run bytes) _ _ is
 
 -- what is spelled first stands first
-front_before : (bytes : List ℕ) → take (length (before_run bytes)) bytes ≡ before_run bytes
-front_before [] = ap (λ (b : List ℕ). take (length b) []) before_run-nil ∙ sym before_run-nil
-front_before (byte ∷ bytes) =
-    elim (cases_Bool (begins_run (byte ∷ bytes))) [
-      | inl at ↦ ap (λ (b : List ℕ). take (length b) (byte ∷ bytes)) (before_run-at (byte ∷ bytes) at)
-          ∙ sym (before_run-at (byte ∷ bytes) at)
-      | inr past ↦ ap (λ (b : List ℕ). take (length b) (byte ∷ bytes)) (before_run-past byte bytes past)
-          ∙ (ap (λ (b : List ℕ). byte ∷ b) (front_before bytes) ∙ sym (before_run-past byte bytes past))
-    ]
-
 SpellsFront-run : (bytes : List ℕ) → begins_run bytes ≡ true → SpellsFront bytes (run_item (first_of bytes) (run_of bytes))
 SpellsFront-run bytes at =
     let byte = first_of bytes in
@@ -74,7 +65,7 @@ SpellsFront-literal byte bytes past =
     let some : 0 < length before = omega (arith, ap length cons) in
     let same : take n (byte ∷ bytes) ≡ take 63 before =
     sym (take-take n (length before) (byte ∷ bytes) (omega arith))
-    ∙ (ap (take n) (front_before (byte ∷ bytes)) ∙ (ap (λ (m : ℕ). take m before) size ∙ take_min 63 before)) in
+    ∙ (ap (take n) (stands_before (byte ∷ bytes)).front ∙ (ap (λ (m : ℕ). take m before) size ∙ take_min 63 before)) in
     record {
       fits = omega (arith, size);
       some = omega (arith, size, some);
@@ -129,54 +120,59 @@ spelling_of-cons byte bytes =
     ∙ append_assoc (item_bytes (first_item (byte ∷ bytes))) (flat_map item_bytes (items_past 0 (after_first (byte ∷ bytes)))) (0 ∷ [])
 
 -- an item leaves less
-pub length-after_first : (byte : ℕ) (bytes : List ℕ)
+length-after_first : (byte : ℕ) (bytes : List ℕ)
     → length (added (first_item (byte ∷ bytes))) + length (after_first (byte ∷ bytes)) ≡ length (byte ∷ bytes)
 length-after_first byte bytes =
     let item = first_item (byte ∷ bytes) in
     sym (length-append (added item) (after_first (byte ∷ bytes))) ∙ ap length (SpellsFront-first_item byte bytes).front
 
-record AreItemsOf (bytes : List ℕ) (items : List Item) : Type 0 where
-  each : AllByRecursion IsItem items
-  adds : bytes ≡ flat_map added items
+-- what holds of each item in front of others holds of the whole
+module _ (P : List ℕ → Type 0) (none : P [])
+    (step : (byte : ℕ) (bytes : List ℕ) → P (after_first (byte ∷ bytes)) → P (byte ∷ bytes)) where
+  of_at_most : (k : ℕ) (bytes : List ℕ) → length bytes ≤ k → P bytes
+  of_at_most k [] le = none
+  of_at_most zero (byte ∷ bytes) le = absurd (omega arith)
+  of_at_most (suc k) (byte ∷ bytes) le =
+      let less = length-after_first byte bytes in
+      step byte bytes (of_at_most k (after_first (byte ∷ bytes)) (omega (arith, (SpellsFront-first_item byte bytes).some)))
 
-items_within : (k : ℕ) (bytes : List ℕ) → length bytes ≤ k → AreItemsOf bytes (items_past 0 bytes)
-items_within k [] le = let P : List Item → Type 0 =
-    λ items. AreItemsOf [] items in subst P (sym items_past-nil) (record { each = tt; adds = refl })
-items_within zero (byte ∷ bytes) le = absurd (omega arith)
-items_within (suc k) (byte ∷ bytes) le =
-    let P : List Item → Type 0 = λ items. AreItemsOf (byte ∷ bytes) items in
-    let first = SpellsFront-first_item byte bytes in
-    let rest = items_within k (after_first (byte ∷ bytes)) (omega (arith, length-after_first byte bytes, first.some)) in
-    subst P (sym (items_past-cons byte bytes)) (record {
-      each = (first.fits, rest.each);
-      adds = sym first.front ∙ ap (λ (b : List ℕ). added (first_item (byte ∷ bytes)) ++ b) rest.adds;
-    })
+  by_items : (bytes : List ℕ) → P bytes
+  by_items bytes = of_at_most (length bytes) bytes (omega arith)
 
 -- the one spelling spells the record
+abbrev IsSpelled : List ℕ → Type 0
+IsSpelled bytes = Spelling (spelling_of bytes) bytes Record
+
+spelled-item : (byte : ℕ) (bytes : List ℕ) → IsSpelled (after_first (byte ∷ bytes)) → IsSpelled (byte ∷ bytes)
+spelled-item byte bytes rest =
+    let first = SpellsFront-first_item byte bytes in
+    let after = after_first (byte ∷ bytes) in
+    let whole = Spelling-item (first_item (byte ∷ bytes)) (spelling_of after) after Record first.fits rest in
+    subst (λ (b : List ℕ). Spelling b (byte ∷ bytes) Record) (sym (spelling_of-cons byte bytes))
+    (subst (λ (b : List ℕ). Spelling (item_bytes (first_item (byte ∷ bytes)) ++ spelling_of after) b Record) first.front whole)
+
 pub Spelling-spelling_of : (bytes : List ℕ) → Spelling (spelling_of bytes) bytes Record
-unfolding spelling_of
-Spelling-spelling_of bytes =
-    let items = items_within (length bytes) bytes (omega arith) in
-    record { items = items_past 0 bytes; whole = record { each = items.each; parts = refl }; adds = items.adds }
+Spelling-spelling_of =
+    by_items IsSpelled (subst (λ (b : List ℕ). Spelling b [] Record) (sym spelling_of-nil) (Spelling-end Record)) spelled-item
 
 -- ---- how long it is
 
-abbrev size_of : List ℕ → ℕ
-size_of bytes = length (flat_map item_bytes (items_past 0 bytes))
-
-size_of-cons : (byte : ℕ) (bytes : List ℕ)
-    → size_of (byte ∷ bytes) ≡ length (item_bytes (first_item (byte ∷ bytes))) + size_of (after_first (byte ∷ bytes))
-size_of-cons byte bytes =
-    ap (λ (items : List Item). length (flat_map item_bytes items)) (items_past-cons byte bytes)
-    ∙ length-append (item_bytes (first_item (byte ∷ bytes))) (flat_map item_bytes (items_past 0 (after_first (byte ∷ bytes))))
+length-cons : (byte : ℕ) (bytes : List ℕ) → length (spelling_of (byte ∷ bytes))
+    ≡ length (item_bytes (first_item (byte ∷ bytes))) + length (spelling_of (after_first (byte ∷ bytes)))
+length-cons byte bytes = ap length (spelling_of-cons byte bytes)
+    ∙ length-append (item_bytes (first_item (byte ∷ bytes))) (spelling_of (after_first (byte ∷ bytes)))
 
 abbrev BeginsRunOrEnds : List ℕ → Type 0
 BeginsRunOrEnds bytes = (bytes ≡ []) ⊎ (begins_run bytes ≡ true)
 
 -- a literal of less than 63 bytes costs a byte more than it spells, and the run behind it saves one
 record IsBounded (bytes : List ℕ) : Type 0 where
-  most : 63 * size_of bytes ≤ 64 * length bytes + 62
-  at_run : BeginsRunOrEnds bytes → 63 * size_of bytes ≤ 64 * length bytes
+  some : 0 < length (spelling_of bytes)
+  most : 63 * length (spelling_of bytes) ≤ 64 * length bytes + 125
+  at_run : BeginsRunOrEnds bytes → 63 * length (spelling_of bytes) ≤ 64 * length bytes + 63
+
+bounded-none : IsBounded []
+bounded-none = let size = ap length spelling_of-nil in record { some = omega arith; most = omega arith; at_run = λ either. omega arith }
 
 bounded-run : (byte : ℕ) (bytes : List ℕ) → begins_run (byte ∷ bytes) ≡ true → IsBounded (after_first (byte ∷ bytes))
     → IsBounded (byte ∷ bytes)
@@ -186,13 +182,10 @@ bounded-run byte bytes at rest =
     let saves : length (item_bytes (first_item (byte ∷ bytes))) < n = rw item (length-run_item byte n at) in
     let spells : length (added (first_item (byte ∷ bytes))) ≡ n =
     ap (λ (i : Item). length (added i)) item ∙ (ap length (added-run_item byte n) ∙ length-replicate n byte) in
-    let size = size_of-cons byte bytes in
+    let size = length-cons byte bytes in
     let len = length-after_first byte bytes in
-    let most : 63 * size_of (byte ∷ bytes) ≤ 64 * length (byte ∷ bytes) = omega (arith, rest.most) in
-    record { most = omega arith; at_run = λ run. most }
-
-size_of-end : (bytes : List ℕ) → bytes ≡ [] → size_of bytes ≡ 0
-size_of-end bytes is = ap size_of is ∙ ap (λ (items : List Item). length (flat_map item_bytes items)) items_past-nil
+    let most : 63 * length (spelling_of (byte ∷ bytes)) ≤ 64 * length (byte ∷ bytes) + 63 = omega (arith, rest.most) in
+    record { some = omega (arith, rest.some); most = omega arith; at_run = λ run. most }
 
 -- behind a literal of less than 63 bytes stands a run, or nothing
 behind_literal : (byte : ℕ) (bytes : List ℕ) → begins_run (byte ∷ bytes) ≡ false → length (before_run (byte ∷ bytes)) < 63
@@ -202,7 +195,7 @@ behind_literal byte bytes past short =
     let whole : take 63 before ≡ before = take_all 63 before (omega arith) in
     let adds : added (first_item (byte ∷ bytes)) ≡ before = ap added (first_item-literal (byte ∷ bytes) past) ∙ whole in
     let P : List ℕ → Type 0 = λ b. BeginsRunOrEnds (drop (length b) (byte ∷ bytes)) in
-    subst P (sym adds) (before_run-ends (byte ∷ bytes))
+    subst P (sym adds) (stands_before (byte ∷ bytes)).ends
 
 bounded-literal : (byte : ℕ) (bytes : List ℕ) → begins_run (byte ∷ bytes) ≡ false → IsBounded (after_first (byte ∷ bytes))
     → IsBounded (byte ∷ bytes)
@@ -214,9 +207,10 @@ bounded-literal byte bytes past rest =
     let bytes_of : length (item_bytes (first_item (byte ∷ bytes))) ≡ suc (length (take 63 before)) =
     ap (λ (i : Item). length (item_bytes i)) item in
     let spells : length (added (first_item (byte ∷ bytes))) ≡ length (take 63 before) = ap (λ (i : Item). length (added i)) item in
-    let size = size_of-cons byte bytes in
+    let size = length-cons byte bytes in
     let len = length-after_first byte bytes in
     record {
+      some = omega (arith, rest.some);
       most = elim (cases_lt (length before) 63) [
         | inl short ↦ omega (arith, rest.at_run (behind_literal byte bytes past short))
         | inr full ↦ omega (arith, rest.most)
@@ -224,31 +218,22 @@ bounded-literal byte bytes past rest =
       at_run = λ either. absurd (elim either [ inl none ↦ (cc) | inr at ↦ both_ways (begins_run (byte ∷ bytes)) past at ]);
     }
 
-bounded_within : (k : ℕ) (bytes : List ℕ) → length bytes ≤ k → IsBounded bytes
-bounded_within k [] le = let size = size_of-end [] refl in record { most = omega arith; at_run = λ either. omega arith }
-bounded_within zero (byte ∷ bytes) le = absurd (omega arith)
-bounded_within (suc k) (byte ∷ bytes) le =
-    let rest = bounded_within k (after_first (byte ∷ bytes))
-    (omega (arith, length-after_first byte bytes, (SpellsFront-first_item byte bytes).some)) in
+bounded-item : (byte : ℕ) (bytes : List ℕ) → IsBounded (after_first (byte ∷ bytes)) → IsBounded (byte ∷ bytes)
+bounded-item byte bytes rest =
     elim (cases_Bool (begins_run (byte ∷ bytes))) [
       | inl at ↦ bounded-run byte bytes at rest
       | inr past ↦ bounded-literal byte bytes past rest
     ]
 
 -- at most one byte more for each 63, and the end
+bounded : (bytes : List ℕ) → IsBounded bytes
+bounded = by_items IsBounded bounded-none bounded-item
+
 pub length-spelling_of : (bytes : List ℕ) → 63 * length (spelling_of bytes) ≤ 64 * length bytes + 125
-unfolding spelling_of
-length-spelling_of bytes =
-    omega (
-      arith,
-      (bounded_within (length bytes) bytes (omega arith)).most,
-      length-append
-          (flat_map item_bytes (items_past 0 bytes)) (0 ∷ []),
-    )
+length-spelling_of bytes = (bounded bytes).most
 
 pub some-spelling_of : (bytes : List ℕ) → 0 < length (spelling_of bytes)
-unfolding spelling_of
-some-spelling_of bytes = omega (arith, length-append (flat_map item_bytes (items_past 0 bytes)) (0 ∷ []))
+some-spelling_of bytes = (bounded bytes).some
 
 pub length-spelling_of-record : (bytes : List ℕ) → length bytes ≤ 256 → length (spelling_of bytes) ≤ 262
 length-spelling_of-record bytes le = omega (arith, length-spelling_of bytes)

@@ -1,10 +1,6 @@
 //! Texts of the protocol's worked examples, read and written.
 
-ghost use Rattle.njh_block.specs.Shown.{IsWritable};
-
-use njh_block::{
-    Answer, Bcb, Block, BlockFault, BlockWriter, ControlRcb, Fcs, Item, Out, Rcb, Stream,
-};
+use njh_block::{Bcb, Block, BlockFault, BlockWriter, Fcs, Item, Out, Rcb, Stream};
 use njh_header::srcb;
 use njh_record::Record;
 use std::process::Abort;
@@ -92,7 +88,7 @@ fn texts_that_are_no_block(rt: HostRuntime) {
     );
 }
 
-/// Adds a record of SYSOUT 2 to 4.
+/// Adds a record of the stream at a place.
 fn add(rt: &impl Abort, writer: &mut BlockWriter, place: u8, srcb: u8, bytes: &[u8]) {
     assert!(rt; place < Stream::COUNT && bytes.len() <= 256);
     let record = Out::Data {
@@ -106,7 +102,9 @@ fn add(rt: &impl Abort, writer: &mut BlockWriter, place: u8, srcb: u8, bytes: &[
 
 #[test]
 fn text_of_three_streams(rt: HostRuntime) {
-    let mut writer = BlockWriter::new(1024, Bcb::normal(3), Fcs::nothing_suspended());
+    let mut writer = BlockWriter::new(4096, Bcb::normal(9), Fcs::streams_suspended());
+    add(&rt, &mut writer, 0, 0x80, b"\xC1\xC2\xC3");
+    writer.restart(1024, Bcb::normal(3), Fcs::nothing_suspended());
     assert!(rt; writer.is_empty());
     for place in 5..Stream::COUNT {
         add(&rt, &mut writer, place, srcb::JOB_TRAILER, TRAILER);
@@ -114,56 +112,8 @@ fn text_of_three_streams(rt: HostRuntime) {
     for place in 5..Stream::COUNT {
         add(&rt, &mut writer, place, 0x80, b"");
     }
-    assert!(rt; !writer.is_empty());
-    assert_eq!(rt; writer.text(), THREE_STREAMS);
-    assert_eq!(rt; writer.finish().as_slice(), THREE_STREAMS);
-}
-
-/// The text of one record, by a writer that was used before.
-fn check_alone(rt: &impl Abort, bcb: Bcb, out: Out<'_>, text: &[u8])
-    requires { IsWritable out }
-{
-    let mut writer = BlockWriter::new(4096, Bcb::normal(9), Fcs::streams_suspended());
-    add(rt, &mut writer, 0, 0x80, b"\xC1\xC2\xC3");
-    writer.restart(300, bcb, Fcs::nothing_suspended());
-    assert!(rt; writer.is_empty() && writer.fits(&out));
-    writer.add(out);
-    assert_eq!(rt; writer.text(), text);
-}
-
-#[test]
-fn text_of_each_form(rt: HostRuntime) {
-    let permission = Answer {
-        rcb: ControlRcb::Permission,
-        stream: Rcb { byte: 0x99 },
-    };
-    let abort = Out::Abort {
-        rcb: Rcb { byte: 0x99 },
-        srcb: 0x80,
-    };
-    let message = Out::Data {
-        rcb: Rcb::MESSAGE,
-        srcb: 0x80,
-        bytes: b"\xC1\xC2",
-    };
-    let sign_on = Out::General {
-        srcb: 0xD1,
-        bytes: &SIGNED_ON[5..SIGNED_ON.len() - 1],
-    };
-    check_alone(
-        &rt,
-        Bcb::normal(0),
-        permission.record(),
-        b"\x80\x8F\xCF\xA0\x99\x00\x00",
-    );
-    check_alone(&rt, Bcb::normal(1), abort, b"\x81\x8F\xCF\x99\x80\x40\x00");
-    check_alone(
-        &rt,
-        Bcb::normal(2),
-        message,
-        b"\x82\x8F\xCF\x9A\x80\xC2\xC1\xC2\x00\x00",
-    );
-    check_alone(&rt, Bcb::setting(0), sign_on, SIGNED_ON);
+    assert!(rt; !writer.is_empty() && writer.text() == THREE_STREAMS);
+    assert!(rt; writer.finish().as_slice() == THREE_STREAMS);
 }
 
 /// Which of the eight streams go on: a bit for each that does, from SYSIN 1 on.
@@ -179,6 +129,7 @@ fn check_streams(rt: &impl Abort, bytes: [u8; 2], streams: u8) {
 
 #[test]
 fn streams_that_go_on(rt: HostRuntime) {
+    assert!(rt; Stream::COUNT == 8 && Stream::OF_A_KIND == 4 && Rcb::MESSAGE.byte == 0x9A);
     check_streams(&rt, [0x8F, 0xCF], 0b1111_1111);
     check_streams(&rt, [0x80, 0xC0], 0b0000_0000);
     check_streams(&rt, [0x8F, 0xC7], 0b1111_0111);

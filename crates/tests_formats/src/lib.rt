@@ -1,4 +1,5 @@
-//! Tests of names, frames, records, blocks, headers, nodal messages and lines, and of what is printed of faults, over the public items of their crates.
+//! Tests of names, frames, records, blocks, headers, nodal messages and lines, and of what is printed of faults, over the
+//! public items of their crates.
 #![tactic(auto)]
 
 #[cfg(test)]

@@ -1,11 +1,12 @@
-//! What a line opens a session with, and a session that the hub calls for.
+//! What a line opens a session with, a session that the hub calls for, and how much may wait.
 
 ghost use Rattle.njh_line.specs.Sessions.{IsConfig};
 
 use njh_bisync::Control;
-use njh_block::{Bcb, Fcs};
+use njh_block::{Answer, Bcb, ControlRcb, Fcs, Rcb};
 use njh_ebcdic::Name;
 use njh_line::{Config, Input, Line, Opening, Phase, Reply, Role, Verdict};
+use njh_record::Record;
 use std::process::Abort;
 use std::test::Fail;
 
@@ -115,5 +116,25 @@ fn calls(rt: HostRuntime) -> Result<(), Fail> {
         Reply::Nothing,
         Phase::Down,
     );
+    Ok(())
+}
+
+#[test]
+fn keeps_what_waits(rt: HostRuntime) -> Result<(), Fail> {
+    let mut line = Line::new(rt.alloc(), config(&rt, Role::Answer, None))?;
+    let permission = Answer {
+        rcb: ControlRcb::Permission,
+        stream: Rcb { byte: 0x99 },
+    };
+    for answers in 0..=32 {
+        assert!(rt; line.push_answer(permission) == (answers < 32), "{answers}");
+    }
+    let message = Record::new();
+    for messages in 0..=64 {
+        assert!(rt;
+            line.push_message(&message) == (messages < 64),
+            "{messages}"
+        );
+    }
     Ok(())
 }
