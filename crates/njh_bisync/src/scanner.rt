@@ -25,13 +25,19 @@ pub enum Place {
 }
 
 /// The frame that a byte ended. The data of a text is still in the scanner.
-#[derive(Clone, Copy, Debug)]
+#[derive(Clone, Copy)]
 pub enum Ended {
+    /// SOH ENQ.
     Enquiry,
+    /// DLE and 70.
     Ack0,
+    /// NAK.
     Nak,
+    /// EOT.
     Eot,
+    /// A text, whose data are held.
     Text,
+    /// A text that is to be disregarded.
     Spoiled,
 }
 
@@ -49,6 +55,7 @@ impl Scanner {
     ghost use Rattle.njh_bisync.specs.Lent.{received};
     ghost use Rattle.njh_bisync.specs.Scanned.{good_data, rest_in, frame_in};
 
+    /// Behind a whole unit, with room for the longest text.
     pub fn new(alloc: Global) -> Result<Scanner, AllocError>
         ensures { IfOk result (λ scanner. rest_in scanner ≡ Nothing) }
     {
@@ -89,6 +96,7 @@ impl Scanner {
         }
     }
 
+    /// Drops a frame that isn't whole.
     pub fn reset(&mut self)
         ensures { rest_in self.new ≡ Nothing }
     {

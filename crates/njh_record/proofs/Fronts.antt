@@ -62,30 +62,22 @@ front-stands (b ∷ rest) =
 
 -- ---- what stands there is what the function gives
 
-front_of-high : (b : ℕ) (rest : List ℕ) → 0x80 ≤ b → front_of (b ∷ rest) ≡ counted_front b rest
-front_of-high b rest high =
-    cond-false (eqb b 0x00) _ _ (ne_eqb b 0x00 (λ e. omega arith))
-    ∙ (cond-false (eqb b 0x40) _ _ (ne_eqb b 0x40 (λ e. omega arith)) ∙ cond-false (ltb b 0x80) _ _ (le-ltb b 0x80 high))
-
 front_of-blanks : (b n : ℕ) (rest : List ℕ) → b ≡ 0x80 + n → n < 32 → front_of (b ∷ rest) ≡ OfItem (blanks n) rest
 front_of-blanks b n rest is below =
     let count : b - 0x80 ≡ n = omega arith in
-    front_of-high b rest (omega arith)
-    ∙ (cond-true (ltb b 0xA0) _ _ (lt-ltb b 0xA0 (omega arith)) ∙ ap (λ (m : ℕ). OfItem (blanks m) rest) count)
+    rw (ne_eqb b 0x00 (λ e. omega arith), ne_eqb b 0x40 (λ e. omega arith), le-ltb b 0x80 (omega arith), lt-ltb b 0xA0 (omega arith), count) refl
 
 front_of-repeat : (b n : ℕ) (rest : List ℕ) → b ≡ 0xA0 + n → n < 32 → front_of (b ∷ rest) ≡ repeat_front n rest
 front_of-repeat b n rest is below =
     let count : b - 0xA0 ≡ n = omega arith in
-    front_of-high b rest (omega arith)
-    ∙ (cond-false (ltb b 0xA0) _ _ (le-ltb b 0xA0 (omega arith))
-    ∙ (cond-true (ltb b 0xC0) _ _ (lt-ltb b 0xC0 (omega arith)) ∙ ap (λ (m : ℕ). repeat_front m rest) count))
+    rw (ne_eqb b 0x00 (λ e. omega arith), ne_eqb b 0x40 (λ e. omega arith), le-ltb b 0x80 (omega arith), le-ltb b 0xA0 (omega arith),
+    lt-ltb b 0xC0 (omega arith), count) refl
 
 front_of-literal : (b n : ℕ) (rest : List ℕ) → b ≡ 0xC0 + n → front_of (b ∷ rest) ≡ literal_front n rest
 front_of-literal b n rest is =
     let count : b - 0xC0 ≡ n = omega arith in
-    front_of-high b rest (omega arith)
-    ∙ (cond-false (ltb b 0xA0) _ _ (le-ltb b 0xA0 (omega arith))
-    ∙ (cond-false (ltb b 0xC0) _ _ (le-ltb b 0xC0 (omega arith)) ∙ ap (λ (m : ℕ). literal_front m rest) count))
+    rw (ne_eqb b 0x00 (λ e. omega arith), ne_eqb b 0x40 (λ e. omega arith), le-ltb b 0x80 (omega arith), le-ltb b 0xA0 (omega arith),
+    le-ltb b 0xC0 (omega arith), count) refl
 
 item-only : (item : Item) (rest : List ℕ) → IsCounted item → front_of (item_bytes item ++ rest) ≡ OfItem item rest
 item-only (blanks n) rest below = front_of-blanks (0x80 + n) n rest refl below
@@ -94,9 +86,7 @@ item-only (literal bytes) rest counted =
     let n = length bytes in
     let room : n ≤ length (bytes ++ rest) = omega (arith, length-append bytes rest) in
     front_of-literal (0xC0 + n) n (bytes ++ rest) refl
-    ∙ (cond-true (leb n (length (bytes ++ rest))) _ _ (le-leb n (length (bytes ++ rest)) room)
-    ∙ (ap (λ (front : List ℕ). OfItem (literal front) (drop n (bytes ++ rest))) (take_at bytes rest n refl)
-    ∙ ap (λ (after : List ℕ). OfItem (literal bytes) after) (drop_at bytes rest n refl)))
+    ∙ rw (le-leb n (length (bytes ++ rest)) room, take_at bytes rest n refl, drop_at bytes rest n refl) refl
 
 end-only : (end : End) (rest : List ℕ) → front_of (end_byte end ∷ rest) ≡ OfEnd end rest
 end-only Record rest = refl
@@ -118,8 +108,7 @@ front_only bytes (OfItem item rest) (counted, parts) = ap front_of parts ∙ ite
 front_only bytes (OfEnd end rest) parts = ap front_of parts ∙ end-only end rest
 front_only [] Bad bad = absurd bad
 front_only (b ∷ rest) Bad (above, below, other) =
-    cond-false (eqb b 0x00) _ _ (ne_eqb b 0x00 (λ e. omega arith))
-    ∙ (cond-false (eqb b 0x40) _ _ (ne_eqb b 0x40 other) ∙ cond-true (ltb b 0x80) _ _ (lt-ltb b 0x80 below))
+    rw (ne_eqb b 0x00 (λ e. omega arith), ne_eqb b 0x40 other, lt-ltb b 0x80 below) refl
 front_only [] Cut cut = refl
 front_only (b ∷ rest) Cut cut = cut-only b rest cut.missing cut.item cut.counted cut.some cut.parts
 
