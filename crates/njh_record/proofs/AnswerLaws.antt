@@ -70,16 +70,15 @@ outcome-begins bytes n contents end starts =
 outcome_is : (bytes : List ℕ) (answer : Result (ℕ × End) RecordFault) (contents : List ℕ) → Unspells bytes answer contents
     → ◌≡◌ {A = Outcome} (outcome bytes (unspelled bytes)) (answer, contents)
 outcome_is bytes (Ok (n, Record)) contents (starts, fits) =
-    outcome-begins bytes n contents Record starts ∙ cond-true (leb (length contents) 256) _ _ (le-leb (length contents) 256 fits)
+    rw (outcome-begins bytes n contents Record starts, le-leb (length contents) 256 fits) refl
 outcome_is bytes (Ok (n, Abort)) contents ((given_up, starts), left) =
-    outcome-begins bytes n given_up Abort starts ∙ ap (λ (b : List ℕ). (Ok (n, Abort), b)) (sym left)
+    rw (outcome-begins bytes n given_up Abort starts, left) refl
 outcome_is bytes (Err faults.BadScb) contents (bad, left) =
-    ap (outcome bytes) (only bytes (Err BadScb) bad) ∙ ap (λ (b : List ℕ). (Err faults.BadScb, b)) (sym left)
+    rw (only bytes (Err BadScb) bad, left) refl
 outcome_is bytes (Err faults.Truncated) contents (cut, left) =
-    ap (outcome bytes) (only bytes (Err Truncated) cut) ∙ ap (λ (b : List ℕ). (Err faults.Truncated, b)) (sym left)
+    rw (only bytes (Err Truncated) cut, left) refl
 outcome_is bytes (Err (faults.TooLong n)) contents ((long, starts, over), left) =
-    outcome-begins bytes n long Record starts
-    ∙ (cond-false (leb (length long) 256) _ _ (lt-leb (length long) 256 over) ∙ ap (λ (b : List ℕ). (Err (faults.TooLong n), b)) (sym left))
+    rw (outcome-begins bytes n long Record starts, lt-leb (length long) 256 over, left) refl
 
 pub one_answer : (bytes : List ℕ) (answer other : Result (ℕ × End) RecordFault) (contents others : List ℕ)
     → Unspells bytes answer contents → Unspells bytes other others → (answer ≡ other) × (contents ≡ others)

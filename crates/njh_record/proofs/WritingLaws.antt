@@ -45,14 +45,12 @@ SpellsFront-run bytes at =
     let byte = first_of bytes in
     let n = run_of bytes in
     let two : 2 ≤ n = is_run-two byte n at in
-    let adds : added (run_item byte n) ≡ take n bytes = added-run_item byte n ∙ sym (take-run_of bytes) in
-    let size : length (added (run_item byte n)) ≡ n = ap length (added-run_item byte n) ∙ length-replicate n byte in
+    let size : length (added (run_item byte n)) ≡ n = rw (added-run_item byte n) (length-replicate n byte) in
     record {
       fits = IsItem-run_item byte n (omega (arith, run_of-short bytes));
       some = omega arith;
       within = omega (arith, run_of-within bytes);
-      front = ap (λ (b : List ℕ). b ++ drop (length (added (run_item byte n))) bytes) adds
-          ∙ (ap (λ (m : ℕ). take n bytes ++ drop m bytes) size ∙ take-append-drop n bytes);
+      front = rw (size, added-run_item byte n, ← take-run_of bytes) (take-append-drop n bytes);
     }
 
 SpellsFront-literal : (byte : ℕ) (bytes : List ℕ) → begins_run (byte ∷ bytes) ≡ false
@@ -64,8 +62,7 @@ SpellsFront-literal byte bytes past =
     let size : n ≡ min 63 (length before) = length-take 63 before in
     let some : 0 < length before = omega (arith, ap length cons) in
     let same : take n (byte ∷ bytes) ≡ take 63 before =
-    sym (take-take n (length before) (byte ∷ bytes) (omega arith))
-    ∙ (ap (take n) (stands_before (byte ∷ bytes)).front ∙ (ap (λ (m : ℕ). take m before) size ∙ take_min 63 before)) in
+    rw (← take-take n (length before) (byte ∷ bytes) (omega arith), (stands_before (byte ∷ bytes)).front, size) (take_min 63 before) in
     record {
       fits = omega (arith, size);
       some = omega (arith, size, some);
@@ -180,8 +177,7 @@ bounded-run byte bytes at rest =
     let n = run_of (byte ∷ bytes) in
     let item : first_item (byte ∷ bytes) ≡ run_item byte n = first_item-run (byte ∷ bytes) at in
     let saves : length (item_bytes (first_item (byte ∷ bytes))) < n = rw item (length-run_item byte n at) in
-    let spells : length (added (first_item (byte ∷ bytes))) ≡ n =
-    ap (λ (i : Item). length (added i)) item ∙ (ap length (added-run_item byte n) ∙ length-replicate n byte) in
+    let spells : length (added (first_item (byte ∷ bytes))) ≡ n = rw (item, added-run_item byte n) (length-replicate n byte) in
     let size = length-cons byte bytes in
     let len = length-after_first byte bytes in
     let most : 63 * length (spelling_of (byte ∷ bytes)) ≤ 64 * length (byte ∷ bytes) + 63 = omega (arith, rest.most) in
@@ -204,9 +200,8 @@ bounded-literal byte bytes past rest =
     let item : first_item (byte ∷ bytes) ≡ literal (take 63 before) = first_item-literal (byte ∷ bytes) past in
     let some : length before ≡ suc (length (before_run bytes)) = ap length (before_run-past byte bytes past) in
     let cut : length (take 63 before) ≡ min 63 (length before) = length-take 63 before in
-    let bytes_of : length (item_bytes (first_item (byte ∷ bytes))) ≡ suc (length (take 63 before)) =
-    ap (λ (i : Item). length (item_bytes i)) item in
-    let spells : length (added (first_item (byte ∷ bytes))) ≡ length (take 63 before) = ap (λ (i : Item). length (added i)) item in
+    let bytes_of : length (item_bytes (first_item (byte ∷ bytes))) ≡ suc (length (take 63 before)) = rw item refl in
+    let spells : length (added (first_item (byte ∷ bytes))) ≡ length (take 63 before) = rw item refl in
     let size = length-cons byte bytes in
     let len = length-after_first byte bytes in
     record {
@@ -245,10 +240,7 @@ pub spelling_of-step : (out rest bytes : List ℕ) (item : Item) (after : List �
     (out ++ item_bytes item) ++ spelling_of after ≡ spelling_of bytes
 spelling_of-step out [] bytes item after some is left so_far = absurd (omega arith)
 spelling_of-step out (byte ∷ rest) bytes item after some is left so_far =
-    let now : item_bytes item ++ spelling_of after ≡ spelling_of (byte ∷ rest) =
-    ap (λ (b : List ℕ). item_bytes item ++ spelling_of b) left
-    ∙ (ap (λ (i : Item). item_bytes i ++ spelling_of (drop (length (added i)) (byte ∷ rest))) is ∙ sym (spelling_of-cons byte rest)) in
-    append_assoc out (item_bytes item) (spelling_of after) ∙ (ap (λ (b : List ℕ). out ++ b) now ∙ so_far)
+    rw (left, is, append_assoc, ← spelling_of-cons byte rest) so_far
 
 pub spelling_of-room : (out rest bytes : List ℕ) (item : Item) → 0 < length rest → item ≡ first_item rest → length bytes ≤ 256
     → out ++ spelling_of rest ≡ spelling_of bytes → length out + length (item_bytes item) ≤ 262
