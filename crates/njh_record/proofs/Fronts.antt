@@ -70,14 +70,26 @@ front_of-blanks b n rest is below =
 front_of-repeat : (b n : ℕ) (rest : List ℕ) → b ≡ 0xA0 + n → n < 32 → front_of (b ∷ rest) ≡ repeat_front n rest
 front_of-repeat b n rest is below =
     let count : b - 0xA0 ≡ n = omega arith in
-    rw (ne_eqb b 0x00 (λ e. omega arith), ne_eqb b 0x40 (λ e. omega arith), le-ltb b 0x80 (omega arith), le-ltb b 0xA0 (omega arith),
-    lt-ltb b 0xC0 (omega arith), count) refl
+    rw (
+      ne_eqb b 0x00 (λ e. omega arith),
+      ne_eqb b 0x40 (λ e. omega arith),
+      le-ltb b 0x80 (omega arith),
+      le-ltb b 0xA0 (omega arith),
+      lt-ltb b 0xC0 (omega arith),
+      count,
+    ) refl
 
 front_of-literal : (b n : ℕ) (rest : List ℕ) → b ≡ 0xC0 + n → front_of (b ∷ rest) ≡ literal_front n rest
 front_of-literal b n rest is =
     let count : b - 0xC0 ≡ n = omega arith in
-    rw (ne_eqb b 0x00 (λ e. omega arith), ne_eqb b 0x40 (λ e. omega arith), le-ltb b 0x80 (omega arith), le-ltb b 0xA0 (omega arith),
-    le-ltb b 0xC0 (omega arith), count) refl
+    rw (
+      ne_eqb b 0x00 (λ e. omega arith),
+      ne_eqb b 0x40 (λ e. omega arith),
+      le-ltb b 0x80 (omega arith),
+      le-ltb b 0xA0 (omega arith),
+      le-ltb b 0xC0 (omega arith),
+      count,
+    ) refl
 
 item-only : (item : Item) (rest : List ℕ) → IsCounted item → front_of (item_bytes item ++ rest) ≡ OfItem item rest
 item-only (blanks n) rest below = front_of-blanks (0x80 + n) n rest refl below

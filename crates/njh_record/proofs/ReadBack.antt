@@ -31,21 +31,15 @@ unspelled-items : (items : List Item) (rest : List ℕ) → AllByRecursion IsIte
     → unspelled (flat_map item_bytes items ++ rest) ≡ with_front (flat_map added items) (unspelled rest)
 unspelled-items [] rest each = with_front-nil (unspelled rest)
 unspelled-items (item ∷ items) rest each =
-    ap unspelled (append_assoc (item_bytes item) (flat_map item_bytes items) rest)
-    ∙ (unspelled-item item (flat_map item_bytes items ++ rest) each.0
-    ∙ (ap (with_front (added item)) (unspelled-items items rest each.1)
-    ∙ with_front-with_front (added item) (flat_map added items) (unspelled rest)))
+    rw (append_assoc, unspelled-item item (flat_map item_bytes items ++ rest) each.0, unspelled-items items rest each.1)
+    (with_front-with_front (added item) (flat_map added items) (unspelled rest))
 
 pub unspelled-spelling : (bytes contents : List ℕ) (end : End) (rest : List ℕ) → Spelling bytes contents end
     → unspelled (bytes ++ rest) ≡ Ok (record { contents = contents; end = end; rest = rest })
 unspelled-spelling bytes contents end rest spells =
     let items = spells.items in
-    let parts : bytes ++ rest ≡ flat_map item_bytes items ++ (end_byte end ∷ rest) =
-    ap (λ (b : List ℕ). b ++ rest) spells.whole.parts ∙ append_assoc (flat_map item_bytes items) (end_byte end ∷ []) rest in
-    let adds : flat_map added items ++ [] ≡ contents = append-nil (flat_map added items) ∙ sym spells.adds in
-    ap unspelled parts ∙ (unspelled-items items (end_byte end ∷ rest) spells.whole.each
-    ∙ (ap (with_front (flat_map added items)) (unspelled-first (end_byte end ∷ rest) (OfEnd end rest) refl)
-    ∙ ap (λ (b : List ℕ). Ok (record { contents = b; end = end; rest = rest })) adds))
+    let ends = unspelled-first (end_byte end ∷ rest) (OfEnd end rest) refl in
+    rw (spells.whole.parts, append_assoc, unspelled-items items (end_byte end ∷ rest) spells.whole.each, ends, append-nil, spells.adds) refl
 
 -- what is cut off lies within an item, or behind whole ones
 unspelled-cut : (items : List Item) (end : End) (bytes missing : List ℕ) → AllByRecursion IsItem items → 0 < length missing
@@ -60,19 +54,17 @@ unspelled-cut (item ∷ items) end bytes missing each some parts =
     elim (cases_lt (length bytes) n) [
       | inl short ↦
           let front : take (length bytes) (item_bytes item) ≡ bytes =
-          sym (take-append-le (length bytes) (item_bytes item) after (omega arith))
-          ∙ (ap (take (length bytes)) (sym joined) ∙ take_at bytes missing (length bytes) refl) in
+          rw (← take-append-le (length bytes) (item_bytes item) after (omega arith), ← joined) (take_at bytes missing (length bytes) refl) in
           let whole : bytes ++ drop (length bytes) (item_bytes item) ≡ item_bytes item =
-          ap (λ (b : List ℕ). b ++ drop (length bytes) (item_bytes item)) (sym front)
-          ∙ take-append-drop (length bytes) (item_bytes item) in
+          rw front at (take-append-drop (length bytes) (item_bytes item)) in
           unspelled-first bytes Cut
           (cut_item bytes (drop (length bytes) (item_bytes item)) item (IsCounted-item item each.0)
           (omega (arith, length-drop (length bytes) (item_bytes item))) whole)
       | inr long ↦
           let front : take n bytes ≡ item_bytes item =
-          sym (take-append-le n bytes missing long) ∙ (ap (take n) joined ∙ take_at (item_bytes item) after n refl) in
+          rw (← take-append-le n bytes missing long, joined) (take_at (item_bytes item) after n refl) in
           let back : drop n bytes ++ missing ≡ after =
-          sym (drop-append-le n bytes missing long) ∙ (ap (drop n) joined ∙ drop_at (item_bytes item) after n refl) in
+          rw (← drop-append-le n bytes missing long, joined) (drop_at (item_bytes item) after n refl) in
           let whole : bytes ≡ item_bytes item ++ drop n bytes =
           sym (take-append-drop n bytes) ∙ ap (λ (b : List ℕ). b ++ drop n bytes) front in
           ap unspelled whole ∙ (unspelled-item item (drop n bytes) each.0
@@ -83,9 +75,8 @@ pub only : (bytes : List ℕ) (read : Result Unspelled Fault) → ReadsAs bytes 
 only bytes (Ok found) (spelling, spells, parts) =
     ap unspelled parts ∙ unspelled-spelling spelling found.contents found.end found.rest spells
 only bytes (Err BadScb) bad =
-    ap unspelled bad.front.parts
-    ∙ (unspelled-items bad.items (bad.byte ∷ bad.rest) bad.front.each
-    ∙ ap (with_front (flat_map added bad.items)) (unspelled-first (bad.byte ∷ bad.rest) Bad bad.bad))
+    let ends = unspelled-first (bad.byte ∷ bad.rest) Bad bad.bad in
+    rw (bad.front.parts, unspelled-items bad.items (bad.byte ∷ bad.rest) bad.front.each, ends) refl
 only bytes (Err Truncated) cut =
     unspelled-cut cut.spelling.items cut.end bytes cut.missing cut.spelling.whole.each cut.some_missing cut.spelling.whole.parts
 

@@ -73,8 +73,7 @@ ItemsThen-item : (item : Item) (bytes : List ℕ) (items : List Item) (rest : Li
 ItemsThen-item item bytes items rest is then =
     record {
       each = (is, then.each);
-      parts = ap (λ (b : List ℕ). item_bytes item ++ b) then.parts
-          ∙ sym (append_assoc (item_bytes item) (flat_map item_bytes items) rest);
+      parts = rw (then.parts, append_assoc) refl;
     }
 
 pub Spelling-item : (item : Item) (bytes contents : List ℕ) (end : End) → IsItem item → Spelling bytes contents end
@@ -94,8 +93,7 @@ ReadsAs-item : (item : Item) (rest : List ℕ) (read : Result Unspelled Fault) �
 ReadsAs-item item rest (Ok found) is (spelling, spells, parts) = (
   item_bytes item ++ spelling,
   Spelling-item item spelling found.contents found.end is spells,
-  ap
-      (λ (b : List ℕ). item_bytes item ++ b) parts ∙ sym (append_assoc (item_bytes item) spelling found.rest),
+  rw (parts, append_assoc) refl,
 )
 ReadsAs-item item rest (Err BadScb) is bad =
     record {

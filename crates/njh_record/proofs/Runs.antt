@@ -63,15 +63,12 @@ NoRunBefore-more bytes place within past so_far =
     let at : drop place bytes ≡ byte ∷ rest = drop_more bytes place 0 within in
     let more : take (place + 1) bytes ≡ take place bytes ++ byte ∷ [] = take_more bytes place 0 within in
     let past_byte : begins_run (byte ∷ rest) ≡ false = ap begins_run (sym at) ∙ past in
-    so_far ∙ (ap (λ (b : List ℕ). take place bytes ++ b) (ap before_run at ∙ before_run-past byte rest past_byte)
-    ∙ (sym (append_assoc (take place bytes) (byte ∷ []) (before_run rest)) ∙ ap (λ (b : List ℕ). b ++ before_run rest) (sym more)))
+    rw (more, append_assoc, ← before_run-past byte rest past_byte, ← at) so_far
 
 NoRunBefore-stops : (bytes : List ℕ) (place : ℕ) → place ≤ 63 → before_run (drop place bytes) ≡ [] → NoRunBefore bytes place
     → take place bytes ≡ take 63 (before_run bytes)
 NoRunBefore-stops bytes place short stops so_far =
-    let all : before_run bytes ≡ take place bytes =
-    so_far ∙ (ap (λ (b : List ℕ). take place bytes ++ b) stops ∙ append-nil (take place bytes)) in
-    sym (ap (take 63) all ∙ take_all 63 (take place bytes) (omega (arith, length-take place bytes)))
+    rw (so_far, stops, append-nil) (sym (take_all 63 (take place bytes) (omega (arith, length-take place bytes))))
 
 pub NoRunBefore-at : (bytes : List ℕ) (place : ℕ) → place ≤ 63 → begins_run (drop place bytes) ≡ true
     → NoRunBefore bytes place → take place bytes ≡ take 63 (before_run bytes)
@@ -84,9 +81,8 @@ NoRunBefore-limit bytes place is so_far =
       | inl long ↦
           let full : 63 ≤ length (take place bytes) = omega (arith, length-take place bytes) in
           let same : place ≡ 63 = omega arith in
-          sym (ap (take 63) so_far
-          ∙ (take-append-le 63 (take place bytes) (before_run (drop place bytes)) full
-          ∙ (take-take 63 place bytes (omega arith) ∙ ap (λ (n : ℕ). take n bytes) (sym same))))
+          let cut = take-append-le 63 (take place bytes) (before_run (drop place bytes)) full in
+          rw (so_far, cut, take-take 63 place bytes (omega arith)) (ap (λ (n : ℕ). take n bytes) same)
       | inr short ↦ NoRunBefore-stops bytes place (omega arith) (ap before_run (drop_all place bytes (omega arith)) ∙ before_run-nil) so_far
     ]
 

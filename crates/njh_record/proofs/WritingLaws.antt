@@ -113,8 +113,7 @@ pub spelling_of-cons : (byte : ℕ) (bytes : List ℕ)
     → spelling_of (byte ∷ bytes) ≡ item_bytes (first_item (byte ∷ bytes)) ++ spelling_of (after_first (byte ∷ bytes))
 unfolding spelling_of
 spelling_of-cons byte bytes =
-    ap (λ (items : List Item). flat_map item_bytes items ++ 0 ∷ []) (items_past-cons byte bytes)
-    ∙ append_assoc (item_bytes (first_item (byte ∷ bytes))) (flat_map item_bytes (items_past 0 (after_first (byte ∷ bytes)))) (0 ∷ [])
+    rw (items_past-cons byte bytes, append_assoc) refl
 
 -- an item leaves less
 length-after_first : (byte : ℕ) (bytes : List ℕ)
@@ -156,8 +155,7 @@ Spelling-spelling_of =
 
 length-cons : (byte : ℕ) (bytes : List ℕ) → length (spelling_of (byte ∷ bytes))
     ≡ length (item_bytes (first_item (byte ∷ bytes))) + length (spelling_of (after_first (byte ∷ bytes)))
-length-cons byte bytes = ap length (spelling_of-cons byte bytes)
-    ∙ length-append (item_bytes (first_item (byte ∷ bytes))) (spelling_of (after_first (byte ∷ bytes)))
+length-cons byte bytes = rw (spelling_of-cons byte bytes, length-append) refl
 
 abbrev BeginsRunOrEnds : List ℕ → Type 0
 BeginsRunOrEnds bytes = (bytes ≡ []) ⊎ (begins_run bytes ≡ true)
