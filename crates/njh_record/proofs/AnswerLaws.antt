@@ -22,8 +22,7 @@ begins bytes spelling contents rest end spells parts =
     let size : length bytes ≡ length spelling + length rest = ap length parts ∙ length-append spelling rest in
     let front : take (length bytes - length rest) bytes ≡ spelling =
     ap (take (length bytes - length rest)) parts ∙ take_at spelling rest (length bytes - length rest) (omega arith) in
-    let P : List ℕ → Type 0 = λ b. Spelling b contents end in
-    record { within = omega arith; spelling = subst P (sym front) spells }
+    record { within = omega arith; spelling = rw front spells }
 
 abbrev pub Answered : List ℕ → Type 0
 Answered bytes = (answer : Result (ℕ × End) RecordFault) × (contents : List ℕ) × Unspells bytes answer contents

@@ -159,6 +159,4 @@ cut_repeat (b ∷ c ∷ rest) one low high = absurd (omega arith)
 pub cut_literal : (bytes : List ℕ) (count : ℕ) → 0 < length bytes → get_or bytes 0 0 ≡ 0xC0 + count → length bytes ≤ count → IsCutItem bytes
 cut_literal [] count some is short = absurd (omega arith)
 cut_literal (b ∷ rest) count some is short =
-    let P : Front → Type 0 = λ front. StandsFirst (b ∷ rest) front in
-    subst P (cond-false (leb count (length rest)) (OfItem (literal (take count rest)) (drop count rest)) Cut
-    (lt-leb count (length rest) (omega arith))) (literal-stands b count rest is)
+    rw (lt-leb count (length rest) (omega arith)) at (literal-stands b count rest is)

@@ -60,8 +60,7 @@ module _ (P : List ℕ → Result Unspelled Fault → Type 0)
   at_most zero [] le = step [] Cut (front-stands []) (λ rest less. absurd (omega arith))
   at_most zero (b ∷ rest) le = absurd (omega arith)
   at_most (suc k) bytes le =
-      subst (P bytes) (sym (unspelled-step bytes))
-      (step bytes (front_of bytes) (front-stands bytes) (λ rest less. at_most k rest (omega arith)))
+      rw (unspelled-step bytes) (step bytes (front_of bytes) (front-stands bytes) (λ rest less. at_most k rest (omega arith)))
 
   pub by_steps : (bytes : List ℕ) → P bytes (unspelled bytes)
   by_steps bytes = at_most (length bytes) bytes (omega arith)
@@ -104,29 +103,23 @@ ReadsAs-item item rest (Err BadScb) is bad =
       bad = bad.bad;
     }
 ReadsAs-item item rest (Err Truncated) is cut =
-    let P : List ℕ → Type 0 = λ b. Spelling b (added item ++ cut.contents) cut.end in
     record {
       missing = cut.missing;
       some_missing = cut.some_missing;
       contents = added item ++ cut.contents;
       end = cut.end;
-      spelling = subst P (sym (append_assoc (item_bytes item) rest cut.missing))
-          (Spelling-item item (rest ++ cut.missing) cut.contents cut.end is cut.spelling);
+      spelling = rw append_assoc (Spelling-item item (rest ++ cut.missing) cut.contents cut.end is cut.spelling);
     }
 
 -- the front of an item that an end follows is cut short
 IsTruncated-item : (bytes missing : List ℕ) (item : Item) → bytes ++ missing ≡ item_bytes item → IsItem item → IsTruncated bytes
 IsTruncated-item bytes missing item parts is =
-    let P : List ℕ → Type 0 = λ b. Spelling b (added item ++ []) Record in
-    let whole : item_bytes item ++ (0 ∷ []) ≡ bytes ++ (missing ++ 0 ∷ []) =
-    ap (λ (b : List ℕ). b ++ 0 ∷ []) (sym parts) ∙ append_assoc bytes missing (0 ∷ []) in
     record {
       missing = missing ++ 0 ∷ [];
       some_missing = omega (arith, length-append missing (0 ∷ []));
       contents = added item ++ [];
       end = Record;
-      spelling =
-          subst P whole (Spelling-item item (0 ∷ []) [] Record is (Spelling-end Record));
+      spelling = rw (← append_assoc bytes missing (0 ∷ []), parts) (Spelling-item item (0 ∷ []) [] Record is (Spelling-end Record));
     }
 
 pub truncated_at : (bytes : List ℕ) → AreBytes bytes → IsCutItem bytes → IsTruncated bytes
@@ -149,7 +142,7 @@ item_reads bytes rest item read are (counted, parts) reads =
     let here : AreBytes (item_bytes item ++ rest) = subst AreBytes parts are in
     let first = get_or_append_left (item_bytes item) rest 0 0 (some_item item) in
     let is = IsItem-counted item counted (omega (arith, here 0, first)) in
-    subst (λ (b : List ℕ). ReadsAs b (with_front (added item) read)) (sym parts) (ReadsAs-item item rest read is reads)
+    rw parts (ReadsAs-item item rest read is reads)
 
 pub bad_reads : (bytes : List ℕ) → StandsFirst bytes Bad → HasBadScb bytes
 bad_reads [] bad = absurd bad

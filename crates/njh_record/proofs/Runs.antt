@@ -98,12 +98,11 @@ pub record StandsBefore (bytes before : List ℕ) : Type 0 where
   pub ends : (drop (length before) bytes ≡ []) ⊎ (begins_run (drop (length before) bytes) ≡ true)
 
 pub stands_before : (bytes : List ℕ) → StandsBefore bytes (before_run bytes)
-stands_before [] = subst (λ (b : List ℕ). StandsBefore [] b) (sym before_run-nil) (record { front = refl; ends = inl refl })
+stands_before [] = rw before_run-nil (record { front = refl; ends = inl refl })
 stands_before (byte ∷ bytes) =
-    let P : List ℕ → Type 0 = λ b. StandsBefore (byte ∷ bytes) b in
     let rest = stands_before bytes in
     elim (cases_Bool (begins_run (byte ∷ bytes))) [
-      | inl at ↦ subst P (sym (before_run-at (byte ∷ bytes) at)) (record { front = refl; ends = inr at })
-      | inr past ↦ subst P (sym (before_run-past byte bytes past))
+      | inl at ↦ rw (before_run-at (byte ∷ bytes) at) (record { front = refl; ends = inr at })
+      | inr past ↦ rw (before_run-past byte bytes past)
           (record { front = ap (λ (b : List ℕ). byte ∷ b) rest.front; ends = rest.ends })
     ]

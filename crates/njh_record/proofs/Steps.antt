@@ -13,12 +13,11 @@ use Rattle.njh_record.specs.Unspelled.{OfItem, OfEnd, BadScb, Truncated, with_fr
 use Rattle.njh_record.specs.Parts.{StandsFirst, Leads, Takes, Holds, HasRead}
 use Rattle.njh_record.proofs.Fronts.{front_leaves_less}
 use Rattle.njh_record.proofs.ReadingLaws.{AreBytes-left, item_reads, bad_reads, truncated_at, Spelling-end}
-use Rattle.njh_record.proofs.ReadBack.{with_front-with_front}
-use Rattle.njh_record.proofs.ReadBack.{with_front-nil}
+use Rattle.njh_record.proofs.ReadBack.{with_front-with_front, with_front-nil}
 use Rattle.njh_record.proofs.AnswerLaws.{begins}
 
 pub Takes-same : (taken : Bool) (old more same new : List ℕ) → more ≡ same → Takes taken old more new → Takes taken old same new
-Takes-same taken old more same new is takes = subst (λ (bytes : List ℕ). Takes taken old bytes new) is takes
+Takes-same taken old more same new is takes = rw is at takes
 
 Holds-takes : (taken : Bool) (adds old more new : List ℕ) → Holds true adds old → Takes taken old more new → Holds taken (adds ++ more) new
 Holds-takes true adds old more new held takes =
@@ -69,8 +68,7 @@ begins-read : (bytes rest after contents : List ℕ) (fits : Bool) (end : End) (
     → StandsFirst rest (OfEnd end after) → Begins bytes (length bytes - length after) so_far.adds end
 begins-read bytes rest after contents fits end so_far stands =
     let read = so_far.reads (Ok (record { contents = []; end = end; rest = after })) (end_byte end ∷ [], Spelling-end end, stands) in
-    subst (λ (b : List ℕ). Begins bytes (length bytes - length after) b end) (append-nil so_far.adds)
-    (begins bytes read.0 (so_far.adds ++ []) after end read.1 read.2)
+    rw append-nil at (begins bytes read.0 (so_far.adds ++ []) after end read.1 read.2)
 
 pub unspells-aborted : (bytes rest after contents : List ℕ) (fits : Bool) → HasRead bytes rest contents fits
     → StandsFirst rest (OfEnd Abort after)
@@ -82,8 +80,7 @@ pub unspells-whole : (bytes rest after contents : List ℕ) (fits : Bool) → fi
     → StandsFirst rest (OfEnd Record after)
     → Unspells bytes (Ok (length bytes - length after, Record)) contents
 unspells-whole bytes rest after contents true is so_far stands =
-    subst (λ (b : List ℕ). Unspells bytes (Ok (length bytes - length after, Record)) b) (sym so_far.holds.0)
-    (begins-read bytes rest after contents true Record so_far stands, so_far.holds.1)
+    rw so_far.holds.0 (begins-read bytes rest after contents true Record so_far stands, so_far.holds.1)
 unspells-whole bytes rest after contents false is so_far stands = absurd cc
 
 pub unspells-too_long : (bytes rest after contents : List ℕ) (fits : Bool) → fits ≡ false → HasRead bytes rest contents fits

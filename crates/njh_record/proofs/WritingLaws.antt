@@ -72,16 +72,14 @@ SpellsFront-literal byte bytes past =
 
 pub SpellsFront-first_item : (byte : ℕ) (bytes : List ℕ) → SpellsFront (byte ∷ bytes) (first_item (byte ∷ bytes))
 SpellsFront-first_item byte bytes =
-    let P : Item → Type 0 = λ item. SpellsFront (byte ∷ bytes) item in
     elim (cases_Bool (begins_run (byte ∷ bytes))) [
-      | inl at ↦ subst P (sym (first_item-run (byte ∷ bytes) at)) (SpellsFront-run (byte ∷ bytes) at)
-      | inr past ↦ subst P (sym (first_item-literal (byte ∷ bytes) past)) (SpellsFront-literal byte bytes past)
+      | inl at ↦ rw (first_item-run (byte ∷ bytes) at) (SpellsFront-run (byte ∷ bytes) at)
+      | inr past ↦ rw (first_item-literal (byte ∷ bytes) past) (SpellsFront-literal byte bytes past)
     ]
 
 pub SpellsFront-of : (bytes : List ℕ) (item : Item) → 0 < length bytes → item ≡ first_item bytes → SpellsFront bytes item
 SpellsFront-of [] item some is = absurd (omega arith)
-SpellsFront-of (byte ∷ bytes) item some is = let P : Item → Type 0 =
-    λ i. SpellsFront (byte ∷ bytes) i in subst P (sym is) (SpellsFront-first_item byte bytes)
+SpellsFront-of (byte ∷ bytes) item some is = rw is (SpellsFront-first_item byte bytes)
 
 -- ---- the items in order
 
@@ -187,9 +185,7 @@ behind_literal : (byte : ℕ) (bytes : List ℕ) → begins_run (byte ∷ bytes)
 behind_literal byte bytes past short =
     let before = before_run (byte ∷ bytes) in
     let whole : take 63 before ≡ before = take_all 63 before (omega arith) in
-    let adds : added (first_item (byte ∷ bytes)) ≡ before = ap added (first_item-literal (byte ∷ bytes) past) ∙ whole in
-    let P : List ℕ → Type 0 = λ b. BeginsRunOrEnds (drop (length b) (byte ∷ bytes)) in
-    subst P (sym adds) (stands_before (byte ∷ bytes)).ends
+    rw (first_item-literal (byte ∷ bytes) past, whole) (stands_before (byte ∷ bytes)).ends
 
 bounded-literal : (byte : ℕ) (bytes : List ℕ) → begins_run (byte ∷ bytes) ≡ false → IsBounded (after_first (byte ∷ bytes))
     → IsBounded (byte ∷ bytes)
