@@ -1,6 +1,6 @@
 -- Runs at the front of bytes, and the bytes before them.
 use Rattle.std.proofs.Common.{◌≡◌, ℕ, ◌+◌, ◌<◌, ◌≤◌, min, Bool, true, false, eqb, leb, List, [], ◌∷◌, ◌++◌, length, take, drop, replicate}
-use Rattle.std.proofs.Common.{get_or, refl, sym, ◌∙◌, ap, subst, append_assoc, one-add, arith, ◌⊎◌, inl, inr, length-take}
+use Rattle.std.proofs.Common.{get_or, refl, sym, ◌∙◌, ap, append_assoc, one-add, arith, ◌⊎◌, inl, inr, length-take}
 use Rattle.std.proofs.lemmas.Bool.{cases_lt, cases_Bool, cond_both, cond-true, cond-false, eqb-true, leb-true}
 use Rattle.std.proofs.lemmas.List.{take-take, take_all, append-nil, take_more, drop_more, drop_all, take-append-le}
 use Rattle.std.proofs.lemmas.List.Sums.{prefix_len-le-length}
