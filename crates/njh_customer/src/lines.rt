@@ -45,7 +45,7 @@ impl Lines {
     ghost use Rattle.njh_table.specs.Accepted.{IsLine};
     ghost use Rattle.njh_customer.specs.Part.{opened, part_with, bytes_taken, signal_taken};
 
-    /// The lines of a customer's entry, each down. Want of memory is the only refusal.
+    /// The lines of a customer's entry, each down. Out of memory is the only refusal.
     pub fn open(alloc: Global, customer: &Customer) -> Result<Lines, AllocError>
         requires { All IsLine customer.now.lines }
         ensures { IfOk result (λ lines. part_with (entry_of customer.now) lines ≡ opened (entry_of customer.now)) }
@@ -169,7 +169,7 @@ fn empty_writer() -> BlockWriter {
     BlockWriter::new(LONGEST_TEXT, Bcb::normal(0), Fcs::nothing_suspended())
 }
 
-/// What a line is told by the table.
+/// The configuration of a line, by the table.
 #[tactic(auto, using(crate::proofs::OpenLaws::password_in_name))]
 fn config_of(customer: &Customer, line: &njh_table::Line) -> Config
     ensures { result ≡ config_of (entry_of customer.now) line.now.entry }

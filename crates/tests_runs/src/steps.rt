@@ -17,7 +17,10 @@ const NOWHERE: LineId = LineId {
     line: 0,
 };
 
-/// SYN, ENQ, and ENQ again, in hex as all frames here.
+/// ENQ, in hex as all frames here.
+const CONTACT: &str = "012d";
+
+/// SYN, ENQ, and ENQ again.
 const CONTACTS: &str = "32012d012d";
 
 /// The sign-on of LYON.
@@ -93,7 +96,7 @@ fn show<R: Print + AllocGlobal>(
 ) -> Result<(), Failure> {
     let frame = hex::encode(rt.alloc(), out)?;
     match answer {
-        Ok(taken) => println!(rt; "{step}: {taken}, {frame}")?,
+        Ok(taken) => println!(rt; "{step}: {taken} [{frame}]")?,
         Err(fault) => println!(rt; "{step}: {fault}")?,
     }
     Ok(())
@@ -145,13 +148,17 @@ fn bytes_came(alloc: Global, digits: &str) -> Result<Event, AllocError> {
     Ok(Event::Bytes(A1, Piece::of(alloc, &bytes_of(alloc, digits)?)?))
 }
 
-/// A sink refuses the second frame: the run tells it, with the step counted, and the hub goes on behind it.
+/// A sink refuses the second frame: the run says so, with that step counted, and the hub goes on behind it.
 pub fn refuse<R: Print + AllocGlobal>(rt: &R) -> Result<(), Failure> {
     let alloc = rt.alloc();
     let mut hub = open(alloc)?;
     count_files(rt, &hub, 0)?;
     count_files(rt, &hub, 2)?;
-    let events = [bytes_came(alloc, "012d")?, bytes_came(alloc, SIGN_ON)?];
+    let events = [
+        bytes_came(alloc, CONTACT)?,
+        bytes_came(alloc, SIGN_ON)?,
+        bytes_came(alloc, LIST)?,
+    ];
     let mut sink = Refusing {
         left: 1,
         failures: 0,
@@ -159,7 +166,7 @@ pub fn refuse<R: Print + AllocGlobal>(rt: &R) -> Result<(), Failure> {
     let ended = hub.run(&events, &mut sink);
     say_end(rt, ended, sink.failures())?;
     take_bytes(rt, &mut hub, LIST)?;
-    println!(rt; "{}", of_hub(HubFault::Memory))?;
+    print!(rt; "{}", of_hub(HubFault::Memory))?;
     Ok(())
 }
 
