@@ -1,7 +1,5 @@
 //! Single steps of a hub, a sink that refuses, and the printed names of the faults.
 
-ghost use Rattle.std.specs.Prelude.{◌≡◌, ◌≤◌, [], ◌∷◌, ◌++◌, OnOk, OnErr};
-
 use njh_hub::{Cause, Event, Hub, HubFault, Piece, RunFault, Sink, SinkFault};
 use njh_program::{Failure, ReplayFault};
 use njh_table::{LineId, Tables};
