@@ -1,5 +1,5 @@
 //! What a frame or a signal on one of a customer's lines does. The frame that answers it is put into `out`, which is empty then where
-//! none does.
+//! none does; its block, if it is one, is written in `writer`.
 
 ghost use Rattle.std.specs.Prelude.{◌≡◌, ◌<◌, length};
 ghost use Rattle.njh_bisync.specs.Lent.{received};
@@ -13,7 +13,7 @@ use crate::records::all_act;
 use crate::sending::send_reply;
 use crate::signal::Signal;
 use njh_bisync::Frame;
-use njh_block::Block;
+use njh_block::{Block, BlockWriter};
 use njh_line::{Input, Line, Verdict};
 use njh_table::Customer;
 
@@ -24,6 +24,7 @@ pub fn frame_came(
     line: u16,
     lines: &mut [Line],
     frame: Frame<'_>,
+    writer: &mut BlockWriter,
     out: &mut FrameBuffer,
 )
     requires { line < length lines.old }
@@ -33,14 +34,14 @@ pub fn frame_came(
         ≡ (alone.frame_came line (received frame.entry) (customer_with (entry_of customer.now) lines.old)).frame }
 {
     match frame {
-        Frame::Enquiry => input_came(&mut lines[usize::from(line)], &Input::Enquiry, out),
-        Frame::Ack0 => input_came(&mut lines[usize::from(line)], &Input::Ack0, out),
-        Frame::Nak => input_came(&mut lines[usize::from(line)], &Input::Nak, out),
-        Frame::Eot => input_came(&mut lines[usize::from(line)], &Input::Eot, out),
-        Frame::Spoiled => input_came(&mut lines[usize::from(line)], &Input::Spoiled, out),
+        Frame::Enquiry => input_came(&mut lines[usize::from(line)], &Input::Enquiry, writer, out),
+        Frame::Ack0 => input_came(&mut lines[usize::from(line)], &Input::Ack0, writer, out),
+        Frame::Nak => input_came(&mut lines[usize::from(line)], &Input::Nak, writer, out),
+        Frame::Eot => input_came(&mut lines[usize::from(line)], &Input::Eot, writer, out),
+        Frame::Spoiled => input_came(&mut lines[usize::from(line)], &Input::Spoiled, writer, out),
         Frame::Text(text) => match Block::read(text) {
-            Ok(block) => block_came(customer, line, lines, block, out),
-            Err(_) => input_came(&mut lines[usize::from(line)], &Input::Bad, out),
+            Ok(block) => block_came(customer, line, lines, block, writer, out),
+            Err(_) => input_came(&mut lines[usize::from(line)], &Input::Bad, writer, out),
         },
     }
 }
@@ -52,6 +53,7 @@ pub fn signal_came(
     line: u16,
     lines: &mut [Line],
     signal: Signal,
+    writer: &mut BlockWriter,
     out: &mut FrameBuffer,
 )
     requires { line < length lines.old }
@@ -60,7 +62,12 @@ pub fn signal_came(
     ensures frame { out.new
         ≡ (alone.signal_came line signal (customer_with (entry_of customer.now) lines.old)).frame }
 {
-    input_came(&mut lines[usize::from(line)], &signal_input(signal), out);
+    input_came(
+        &mut lines[usize::from(line)],
+        &signal_input(signal),
+        writer,
+        out,
+    );
 }
 
 /// A signal, as it comes to its line.
@@ -75,12 +82,12 @@ fn signal_input(signal: Signal) -> Input<'static>
 }
 
 /// What comes to a line but a good block.
-fn input_came(line: &mut Line, input: &Input<'_>, out: &mut FrameBuffer)
+fn input_came(line: &mut Line, input: &Input<'_>, writer: &mut BlockWriter, out: &mut FrameBuffer)
     ensures line { line.new ≡ (alone.input_came (shown input.now) line.old).line }
     ensures frame { out.new ≡ (alone.input_came (shown input.now) line.old).frame }
 {
     let verdict = line.accept(input);
-    carry_out(line, verdict, out);
+    carry_out(line, verdict, writer, out);
 }
 
 /// A good block comes on a line: its records act where the line table says so, and then it is answered.
@@ -89,6 +96,7 @@ fn block_came(
     line: u16,
     lines: &mut [Line],
     block: Block<'_>,
+    writer: &mut BlockWriter,
     out: &mut FrameBuffer,
 )
     requires { line < length lines.old }
@@ -101,7 +109,7 @@ fn block_came(
         end_session(&mut lines[usize::from(line)]);
         out.clear();
     } else {
-        carry_out(&mut lines[usize::from(line)], verdict, out);
+        carry_out(&mut lines[usize::from(line)], verdict, writer, out);
     }
 }
 
@@ -129,11 +137,11 @@ fn block_input<'a>(block: &Block<'a>) -> Input<'a>
 }
 
 /// Sends what a verdict asks for, and then ends the session where it says so.
-fn carry_out(line: &mut Line, verdict: Verdict, out: &mut FrameBuffer)
+fn carry_out(line: &mut Line, verdict: Verdict, writer: &mut BlockWriter, out: &mut FrameBuffer)
     ensures line { line.new ≡ (alone.carried_out verdict line.old).line }
     ensures frame { out.new ≡ (alone.carried_out verdict line.old).frame }
 {
-    send_reply(line, verdict.reply, out);
+    send_reply(line, verdict.reply, writer, out);
     if verdict.ended {
         line.clear_answers();
     }

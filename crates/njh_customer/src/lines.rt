@@ -10,7 +10,8 @@ ghost use Rattle.njh_customer.specs.Part.{rest_at};
 use crate::customer::{frame_came, signal_came};
 use crate::frame_buffer::FrameBuffer;
 use crate::signal::Signal;
-use njh_bisync::Deframer;
+use njh_bisync::{Deframer, LONGEST_TEXT};
+use njh_block::{Bcb, BlockWriter, Fcs};
 use njh_ebcdic::Name;
 use njh_line::{Config, Line};
 use njh_table::{Customer, Role};
@@ -24,6 +25,8 @@ use std::marker::Model;
 pub struct Lines {
     deframers: Vec<Deframer>,
     lines: Vec<Line>,
+    /// Where their blocks are written; what it holds between two steps is of no matter.
+    writer: BlockWriter,
 }
 
 impl Model for Lines {
@@ -42,7 +45,7 @@ impl Lines {
     ghost use Rattle.njh_table.specs.Accepted.{IsLine};
     ghost use Rattle.njh_customer.specs.Part.{opened, part_with, bytes_taken, signal_taken};
 
-    /// The lines of a customer's entry, each down. Want of memory is the only refusal.
+    /// The lines of a customer's entry, each down. Out of memory is the only refusal.
     pub fn open(alloc: Global, customer: &Customer) -> Result<Lines, AllocError>
         requires { All IsLine customer.now.lines }
         ensures { IfOk result (λ lines. part_with (entry_of customer.now) lines ≡ opened (entry_of customer.now)) }
@@ -53,7 +56,11 @@ impl Lines {
             deframers.push(Deframer::new(alloc)?)?;
             lines.push(Line::new(alloc, config_of(customer, line))?)?;
         }
-        Ok(Lines { deframers, lines })
+        Ok(Lines {
+            deframers,
+            lines,
+            writer: empty_writer(),
+        })
     }
 
     /// How many lines there are.
@@ -118,7 +125,14 @@ impl Lines {
     {
         let (taken, frame) = self.deframers[usize::from(line)].feed(piece);
         match frame {
-            Some(frame) => frame_came(customer, line, &mut self.lines, frame, out),
+            Some(frame) => frame_came(
+                customer,
+                line,
+                &mut self.lines,
+                frame,
+                &mut self.writer,
+                out,
+            ),
             None => out.clear(),
         }
         taken
@@ -139,11 +153,23 @@ impl Lines {
         ensures frame { out.new ≡ (signal_taken (part_with (entry_of customer.now) self.old) line signal).frame }
     {
         self.deframers[usize::from(line)].reset();
-        signal_came(customer, line, &mut self.lines, signal, out);
+        signal_came(
+            customer,
+            line,
+            &mut self.lines,
+            signal,
+            &mut self.writer,
+            out,
+        );
     }
 }
 
-/// What a line is told by the table.
+/// A writer of blocks, to be restarted for each.
+fn empty_writer() -> BlockWriter {
+    BlockWriter::new(LONGEST_TEXT, Bcb::normal(0), Fcs::nothing_suspended())
+}
+
+/// The configuration of a line, by the table.
 #[tactic(auto, using(crate::proofs::OpenLaws::password_in_name))]
 fn config_of(customer: &Customer, line: &njh_table::Line) -> Config
     ensures { result ≡ config_of (entry_of customer.now) line.now.entry }

@@ -1,6 +1,7 @@
 //! What a line sends. Every frame is put into `out`, which is empty then where none is sent, and the line keeps what it sent.
+//! A block is written in `block`, whatever that held.
 
-ghost use Rattle.std.specs.Prelude.{◌≡◌};
+ghost use Rattle.std.specs.Prelude.{◌≡◌, ◌≤◌};
 ghost use Rattle.njh_bisync.specs.Written.{text_bytes};
 ghost use Rattle.njh_line.specs.Openings.{opening};
 ghost use Rattle.njh_customer.specs.Sending.{filled, own_block, with_left};
@@ -15,7 +16,7 @@ use njh_line::{Line, Opening, Reply, Sent};
 const MESSAGE_SRCB: u8 = 0x80;
 
 /// Sends what a verdict asks for.
-pub fn send_reply(line: &mut Line, reply: Reply, out: &mut FrameBuffer)
+pub fn send_reply(line: &mut Line, reply: Reply, block: &mut BlockWriter, out: &mut FrameBuffer)
     ensures line { line.new ≡ (reply_sent reply line.old).line }
     ensures frame { out.new ≡ (reply_sent reply line.old).frame }
 {
@@ -28,14 +29,14 @@ pub fn send_reply(line: &mut Line, reply: Reply, out: &mut FrameBuffer)
         }
         Reply::SignOn(kind) => send_opening(line, kind, out),
         Reply::Sequence { expected } => {
-            let mut block = own_block(line);
+            begin_block(line, block);
             block.add(Out::Control {
                 rcb: ControlRcb::SequenceError,
                 srcb: expected.byte(),
             });
-            send_block(line, &block, out);
+            send_block(line, block, out);
         }
-        Reply::Next { or_ack0 } => send_next(line, or_ack0, out),
+        Reply::Next { or_ack0 } => send_next(line, or_ack0, block, out),
     }
 }
 
@@ -60,16 +61,17 @@ fn send_opening(line: &mut Line, kind: Opening, out: &mut FrameBuffer)
     line.sent(&Sent::Frame(out.bytes()));
 }
 
-/// A block of the hub's own count that suspends nothing, without records.
-fn own_block(line: &Line) -> BlockWriter
-    ensures { result ≡ own_block line.now }
+/// Begins a block of the hub's own count that suspends nothing, without records.
+fn begin_block(line: &Line, block: &mut BlockWriter)
+    ensures begun { block.new ≡ own_block line.now }
+    ensures roomy { 300 ≤ block.new.limit }
 {
     let session = line.session();
-    BlockWriter::new(
+    block.restart(
         usize::from(session.size),
         Bcb::normal(session.next_count),
         Fcs::nothing_suspended(),
-    )
+    );
 }
 
 /// Sends a block of the hub's own count.
@@ -85,19 +87,19 @@ fn send_block(line: &mut Line, block: &BlockWriter, out: &mut FrameBuffer)
 }
 
 /// Sends the next block, or what there is in its place.
-fn send_next(line: &mut Line, or_ack0: bool, out: &mut FrameBuffer)
+fn send_next(line: &mut Line, or_ack0: bool, block: &mut BlockWriter, out: &mut FrameBuffer)
     ensures line { line.new ≡ (next_sent or_ack0 line.old).line }
     ensures frame { out.new ≡ (next_sent or_ack0 line.old).frame }
 {
     if line.front_message().is_none() {
         return send_no_block(line, or_ack0, out);
     }
-    let mut block = own_block(line);
-    fill(line, &mut block);
+    begin_block(line, block);
+    fill(line, block);
     if block.is_empty() {
         send_no_block(line, or_ack0, out);
     } else {
-        send_block(line, &block, out);
+        send_block(line, block, out);
     }
 }
 

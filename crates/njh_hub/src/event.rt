@@ -21,7 +21,7 @@ impl Model for Piece {
 }
 
 impl Piece {
-    /// A copy of the bytes; want of memory is the only refusal.
+    /// A copy of the bytes. Out of memory is the only refusal.
     pub fn of(alloc: Global, bytes: &[u8]) -> Result<Piece, AllocError>
         ensures { IfOk result (λ piece. piece ≡ bytes.now) }
     {

@@ -66,7 +66,10 @@ pub fn name_at(keys: &Table, key: &str) -> Result<Name, TableFault>
     ensures { result ≡ at_key node_name key.now (table_view keys.now) }
 {
     let text = text_at(keys, key)?;
-    Name::of_text(text).map_err(|_| TableFault::BadValue)
+    match Name::of_text(text) {
+        Ok(name) => Ok(name),
+        Err(_) => Err(TableFault::BadValue),
+    }
 }
 
 /// Any text.

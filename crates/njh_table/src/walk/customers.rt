@@ -27,10 +27,16 @@ struct CustomerKeys {
     files: u32,
 }
 
+fn is_named(customer: &Customer, name: Name) -> bool
+    ensures { result ≡ bytes_eq customer.now.name name }
+{
+    customer.name() == name
+}
+
 fn has_customer(customers: &[Customer], name: Name) -> bool
     ensures { result ≡ list_any (λ c. bytes_eq c.name name) customers.now }
 {
-    customers.iter().any(|customer| customer.name() == name)
+    customers.iter().any(|customer| is_named(customer, name))
 }
 
 #[tactic(auto, unfolding(crate::specs::Walk::customer_keys))]

@@ -1,4 +1,5 @@
-use Rattle.std.proofs.Common.{sym, ◌∙◌}
+use Rattle.std.proofs.Common.{Ok, ap, sym, ◌∙◌}
+use Rattle.njh_table.specs.TableFile.{password_bytes}
 use Rattle.njh_table.specs.Walk.{line_of}
 use Rattle.njh_table.proofs.Loops.{goes_on, ends, stops}
 use Rattle.njh_table.proofs.walk.lines.line_of.Goals as goal
@@ -53,3 +54,27 @@ returns-in_err-port-clause-walk c =
     ∙ goes_on _ _ _ (sym c.in_ok-streams.ensures.read)
     ∙ goes_on _ _ _ (sym c.in_ok-password.ensures)
     ∙ ends _ _ _ (sym c.in_err-port.ensures.read))
+
+pub returns-clause-walk : goal.returns-clause-walk
+unfolding line_of
+returns-clause-walk c =
+    goes_on _ _ _ (sym c.in_ok-node.ensures)
+    ∙ goes_on _ _ _ (sym c.in_ok-role.ensures)
+    ∙ goes_on _ _ _ (sym c.in_ok-block.ensures.read)
+    ∙ goes_on _ _ _ (sym c.in_ok-streams.ensures.read)
+    ∙ goes_on _ _ _ (sym c.in_ok-password.ensures)
+    ∙ goes_on _ _ _ (sym c.in_ok-port.ensures.read)
+    ∙ ap (λ name. Ok (record {
+      name = name;
+      port = c.in_ok-port.field-0;
+      entry = record {
+        node = c.in_ok-node.node;
+        role = c.in_ok-role.role;
+        block = c.in_ok-block.field-0;
+        streams = c.in_ok-streams.field-0;
+        password = password_bytes c.in_ok-password.password;
+      };
+    })) (sym c.in_ok-from_str.ensures.ok)
+
+pub returns-clause-name : goal.returns-clause-name
+returns-clause-name c = c.in_ok-from_str.ensures.ok

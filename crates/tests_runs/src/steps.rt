@@ -1,0 +1,192 @@
+//! Single steps of a hub, a sink that refuses, and the printed names of the faults.
+
+use njh_hub::{Cause, Event, Hub, HubFault, Piece, RunFault, Sink, SinkFault};
+use njh_program::{Failure, ReplayFault};
+use njh_table::{LineId, Tables};
+use std::alloc::{AllocError, Global};
+
+const A1: LineId = LineId {
+    customer: 0,
+    line: 0,
+};
+
+const NOWHERE: LineId = LineId {
+    customer: 9,
+    line: 0,
+};
+
+/// ENQ, in hex as all frames here.
+const CONTACT: &str = "012d";
+
+/// SYN, ENQ, and ENQ again.
+const CONTACTS: &str = "32012d012d";
+
+/// The sign-on of LYON.
+const SIGN_ON: &str =
+    "1002a08fcff0c929d3e8d6d540404040010000000000000400404040404040404040404040404040400000000000001026";
+
+/// LIST of ANNA at LYON.
+const LIST: &str =
+    "1002808fcf9a80caa0770004c2e4d9c5c1e482c500c1d5d5c184c4d3e8d6d584c500d3c9e2e300001026";
+
+/// Takes so many frames, and refuses every other.
+#[derive(Drop)]
+struct Refusing {
+    left: u64,
+    failures: u64,
+}
+
+impl Sink for Refusing {
+    ghost use Rattle.std.specs.Prelude.{⊤};
+
+    // Which frames it takes is of no matter here.
+    ghost took = { λ before after pairs. ⊤ };
+
+    ghost refused = { λ before after pair. ⊤ };
+
+    ghost count = { λ sink. sink.failures };
+
+    ghost none = { λ s. tt };
+
+    ghost more = { λ a b c xs ys first then. tt };
+
+    fn failures(&self) -> u64 {
+        self.failures
+    }
+
+    fn send(&mut self, _line: LineId, _frame: &[u8]) -> Result<(), SinkFault> {
+        if self.left == 0 {
+            self.failures = self.failures.saturating_add(1);
+            return Err(SinkFault);
+        }
+        self.left -= 1;
+        Ok(())
+    }
+}
+
+/// A hub of the built-in tables.
+fn open(alloc: Global) -> Result<Hub, Failure> {
+    match Hub::open(alloc, Tables::base(alloc)?) {
+        Ok(hub) => Ok(hub),
+        Err(fault) => Err(of_hub(fault)),
+    }
+}
+
+/// The program's failure for a fault of the hub.
+fn of_hub(fault: HubFault) -> Failure {
+    Failure::from(ReplayFault::from(fault))
+}
+
+/// The bytes that hex digits spell.
+fn bytes_of(alloc: Global, digits: &str) -> Result<Vec<u8>, AllocError> {
+    match hex::decode(alloc, digits) {
+        Ok(bytes) => Ok(bytes),
+        Err(_) => Err(AllocError),
+    }
+}
+
+/// Says what a step on the first line answers, and the frame that it sends.
+fn show<R: Print + AllocGlobal>(
+    rt: &R,
+    step: &str,
+    answer: Result<usize, HubFault>,
+    out: &[u8],
+) -> Result<(), Failure> {
+    let frame = hex::encode(rt.alloc(), out)?;
+    match answer {
+        Ok(taken) => println!(rt; "{step}: {taken} [{frame}]")?,
+        Err(fault) => println!(rt; "{step}: {fault}")?,
+    }
+    Ok(())
+}
+
+/// A step by bytes of the first line.
+fn take_bytes<R: Print + AllocGlobal>(rt: &R, hub: &mut Hub, digits: &str) -> Result<(), Failure> {
+    let piece = bytes_of(rt.alloc(), digits)?;
+    let mut out = Vec::new(rt.alloc());
+    let answer = hub.take(A1, &piece, &mut out);
+    show(rt, "take", answer, &out)
+}
+
+/// A step by a signal of a line.
+fn take_signal<R: Print + AllocGlobal>(rt: &R, hub: &mut Hub, event: Event) -> Result<(), Failure> {
+    let mut out = Vec::new(rt.alloc());
+    let (step, answer) = match event {
+        Event::Tick(line) => ("tick", hub.tick(line, &mut out)),
+        Event::Garbled(line) => ("garbled", hub.garbled(line, &mut out)),
+        Event::Lost(line) => ("lost", hub.lost(line, &mut out)),
+        Event::Bytes(..) => ("", Ok(())),
+    };
+    show(rt, step, answer.map(|_| 0), &out)
+}
+
+/// Each step answers where there is memory, and takes the bytes of one frame that is answered.
+pub fn take<R: Print + AllocGlobal>(rt: &R) -> Result<(), Failure> {
+    let mut hub = open(rt.alloc())?;
+    take_bytes(rt, &mut hub, CONTACTS)?;
+    take_bytes(rt, &mut hub, "")?;
+    take_bytes(rt, &mut hub, SIGN_ON)?;
+    take_signal(rt, &mut hub, Event::Tick(A1))?;
+    take_signal(rt, &mut hub, Event::Garbled(A1))?;
+    take_signal(rt, &mut hub, Event::Tick(NOWHERE))?;
+    take_signal(rt, &mut hub, Event::Lost(A1))
+}
+
+/// Says how many files a customer has.
+fn count_files<R: Print>(rt: &R, hub: &Hub, customer: u16) -> Result<(), Failure> {
+    match hub.files(customer) {
+        Ok(files) => println!(rt; "files: {}", files.len())?,
+        Err(fault) => println!(rt; "files: {fault}")?,
+    }
+    Ok(())
+}
+
+/// The event that a line has these bytes.
+fn bytes_came(alloc: Global, digits: &str) -> Result<Event, AllocError> {
+    Ok(Event::Bytes(A1, Piece::of(alloc, &bytes_of(alloc, digits)?)?))
+}
+
+/// A sink refuses the second frame: the run says so, with that step counted, and the hub goes on behind it.
+pub fn refuse<R: Print + AllocGlobal>(rt: &R) -> Result<(), Failure> {
+    let alloc = rt.alloc();
+    let mut hub = open(alloc)?;
+    count_files(rt, &hub, 0)?;
+    count_files(rt, &hub, 2)?;
+    let events = [
+        bytes_came(alloc, CONTACT)?,
+        bytes_came(alloc, SIGN_ON)?,
+        bytes_came(alloc, LIST)?,
+    ];
+    let mut sink = Refusing {
+        left: 1,
+        failures: 0,
+    };
+    let ended = hub.run(&events, &mut sink);
+    say_end(rt, ended, sink.failures())?;
+    take_bytes(rt, &mut hub, LIST)?;
+    print!(rt; "{}", of_hub(HubFault::Memory))?;
+    Ok(())
+}
+
+/// Says where a run stopped.
+fn say_end<R: Print>(rt: &R, ended: Result<(), RunFault>, failures: u64) -> Result<(), Failure> {
+    match ended {
+        Ok(()) => println!(rt; "run: done")?,
+        Err(
+            RunFault {
+                events,
+                bytes,
+                cause: Cause::Sink,
+            },
+        ) => println!(rt;
+            "run: the sink after {events} events and {bytes} bytes, {failures} failures"
+        )?,
+        Err(
+            RunFault {
+                cause: Cause::Hub(fault),
+                ..
+            },
+        ) => println!(rt; "run: {fault}")?,
+    }
+    Ok(())
+}
