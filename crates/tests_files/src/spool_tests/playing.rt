@@ -1,0 +1,222 @@
+//! Cases of calls with what they give.
+
+use super::calls;
+use njh_record::{Kind, Record};
+use njh_spool::{FileId, Quota, Spool, SpoolFault, State};
+use std::alloc::Global;
+use std::fmt::Display;
+use std::process::Abort;
+use std::test::Fail;
+
+/// The numbers of files, each where it stands as many as it is.
+type Files = Vec<FileId>;
+
+/// Plays each of the cases, which are parted by empty lines. The first line of a case has the blocks of two customers and the
+/// files of each. Each other line is a customer, a call, a file's number, two numbers more where the call has any, and behind `=`
+/// what is given.
+pub fn play<R: Abort>(rt: &R, alloc: Global, cases: &str) -> Result<(), Fail> {
+    for case in cases.trim().split("\n\n") {
+        let (head, lines) = case.split_once("\n").ok_or("an empty case")?;
+        let mut spool = opened(rt, alloc, head)?;
+        let mut files = Vec::new(alloc);
+        for line in lines.lines() {
+            goes(rt, alloc, &mut spool, &mut files, line)?;
+        }
+    }
+    Ok(())
+}
+
+/// A spool of two customers.
+pub fn opened<R: Abort>(rt: &R, alloc: Global, head: &str) -> Result<Spool, Fail> {
+    let mut words = head.split(" ");
+    let first = number(words.next())?;
+    let second = number(words.next())?;
+    let files = number(words.next())?;
+    let first = Quota {
+        blocks: first,
+        files,
+    };
+    let second = Quota {
+        blocks: second,
+        files,
+    };
+    assert!(rt; first.is_within_limits());
+    assert!(rt; second.is_within_limits());
+    Ok(Spool::open(alloc, &[first, second])?)
+}
+
+fn number(word: Option<&str>) -> Result<u32, Fail> {
+    match word {
+        Some(word) => Ok(word.parse::<u32>()?),
+        None => Ok(0),
+    }
+}
+
+/// A line of a case.
+fn goes<R: Abort>(
+    rt: &R,
+    alloc: Global,
+    spool: &mut Spool,
+    files: &mut Files,
+    line: &str,
+) -> Result<(), Fail> {
+    let (what, want) = line.split_once(" = ").unwrap_or((line, "done"));
+    let found = given(rt, alloc, spool, files, what)?;
+    assert_eq!(rt; found.as_str(), want, "{line}");
+    Ok(())
+}
+
+/// What a call gives.
+fn given<R: Abort>(
+    rt: &R,
+    alloc: Global,
+    spool: &mut Spool,
+    files: &mut Files,
+    what: &str,
+) -> Result<String, Fail> {
+    let mut words = what.split(" ");
+    let customer = u16::try_from(number(words.next())?)?;
+    let call = words.next().ok_or("no call")?;
+    let file = number(words.next())?;
+    let n = number(words.next())?;
+    let more = number(words.next())?;
+    match call {
+        "begin_in" => begun(alloc, files, calls::begun(rt, spool, customer, Kind::In)),
+        "begin_out" => begun(alloc, files, calls::begun(rt, spool, customer, Kind::Out)),
+        "used" => told(alloc, Ok(calls::used(rt, spool, customer))),
+        "files" => told(alloc, Ok(calls::files(rt, spool, customer))),
+        "file" => begun(alloc, files, Ok(calls::file(rt, spool, customer, file))),
+        _ => {
+            let id = *files.get(file as usize).ok_or("no such file")?;
+            given_of_file(rt, alloc, spool, customer, id, call, (n, more))
+        }
+    }
+}
+
+/// What a call on a file gives.
+fn given_of_file<R: Abort>(
+    rt: &R,
+    alloc: Global,
+    spool: &mut Spool,
+    customer: u16,
+    id: FileId,
+    call: &str,
+    (n, more): (u32, u32),
+) -> Result<String, Fail> {
+    match call {
+        "finish" => done(alloc, calls::finish(rt, spool, customer, id)),
+        "abandon" => done(alloc, calls::abandon(rt, spool, customer, id)),
+        "remove" => done(alloc, calls::remove(rt, spool, customer, id)),
+        "kind" => told(alloc, calls::kind(rt, spool, customer, id).map(kind_name)),
+        "state" => told(alloc, calls::state(rt, spool, customer, id).map(state_name)),
+        "records" => told(alloc, calls::records(rt, spool, customer, id)),
+        "at" => read(alloc, calls::at(rt, spool, customer, id, n)),
+        "on" => read(alloc, calls::on(rt, spool, customer, id, n)),
+        "append" => {
+            let byte = u8::try_from(more)?;
+            done(
+                alloc,
+                calls::append(rt, spool, customer, id, n as usize, byte),
+            )
+        }
+        "rewrite" => done(
+            alloc,
+            calls::rewrite(rt, spool, customer, id, n, more as usize),
+        ),
+        _ => {
+            let state = state_in(call)?;
+            done(alloc, calls::set_state(rt, spool, customer, id, state))
+        }
+    }
+}
+
+fn state_in(call: &str) -> Result<State, Fail> {
+    match call {
+        "release" => Ok(State::Ready),
+        "hold" => Ok(State::Held),
+        "refuse" => Ok(State::Refused),
+        "send" => Ok(State::Sending),
+        _ => Err("no such call".into()),
+    }
+}
+
+fn state_name(state: State) -> &'static str {
+    match state {
+        State::Ready => "Ready",
+        State::Held => "Held",
+        State::Refused => "Refused",
+        State::Sending => "Sending",
+    }
+}
+
+fn kind_name(kind: Kind) -> &'static str {
+    match kind {
+        Kind::In => "In",
+        Kind::Out => "Out",
+    }
+}
+
+/// A file's number: its place among those that were begun, of which it becomes one.
+fn begun(
+    alloc: Global,
+    files: &mut Files,
+    answer: Result<FileId, SpoolFault>,
+) -> Result<String, Fail> {
+    match answer {
+        Ok(id) => {
+            let place = match files.as_slice().iter().position(|other| *other == id) {
+                Some(place) => place,
+                None => {
+                    files.push(id)?;
+                    files.len() - 1
+                }
+            };
+            Ok(format!(in alloc; "{place}")?)
+        }
+        Err(fault) => Ok(fault.to_string(alloc)?),
+    }
+}
+
+fn done(alloc: Global, answer: Result<(), SpoolFault>) -> Result<String, Fail> {
+    told(alloc, answer.map(|_| "done"))
+}
+
+fn told<T: Display + Drop>(alloc: Global, answer: Result<T, SpoolFault>) -> Result<String, Fail> {
+    match answer {
+        Ok(value) => Ok(value.to_string(alloc)?),
+        Err(fault) => Ok(fault.to_string(alloc)?),
+    }
+}
+
+/// A record's SRCB and its bytes in runs.
+fn read(alloc: Global, answer: Result<(u8, Record), SpoolFault>) -> Result<String, Fail> {
+    match answer {
+        Ok((srcb, record)) => {
+            let mut text = format!(in alloc; "{srcb:02x}")?;
+            push_runs(alloc, &mut text, record.as_slice())?;
+            Ok(text)
+        }
+        Err(fault) => Ok(fault.to_string(alloc)?),
+    }
+}
+
+fn push_runs(alloc: Global, text: &mut String, bytes: &[u8]) -> Result<(), Fail> {
+    let mut last = None;
+    let mut count: u32 = 0;
+    for byte in bytes {
+        if last != Some(*byte) {
+            push_run(alloc, text, last, count)?;
+            last = Some(*byte);
+            count = 0;
+        }
+        count = count.saturating_add(1);
+    }
+    push_run(alloc, text, last, count)
+}
+
+fn push_run(alloc: Global, text: &mut String, byte: Option<u8>, count: u32) -> Result<(), Fail> {
+    if let Some(byte) = byte {
+        text.push_str(format!(in alloc; " {byte:02x}*{count}")?.as_str())?;
+    }
+    Ok(())
+}
