@@ -3,10 +3,8 @@
 mod calls;
 mod playing;
 
-use calls::{append, begun, finish, on, remove, used};
-use njh_record::Kind;
 use njh_spool::SpoolFault;
-use playing::{opened, play};
+use playing::{Bench, play};
 use std::test::Fail;
 
 /// A job header, a data set header and two records of data, and then a trailer: 504 bytes, or 505.
@@ -74,8 +72,8 @@ const BLOCKS_THAT_ALTERNATE: &str = "
 0 on 0 2 = 80 08*249
 ";
 
-/// Records that end at a block's end, just past one, and over two: read on in order, from the first again after some, and by
-/// their index.
+/// Records that end at a block's end, cross one link, and cross two (the third of the second case begins in the last byte of a
+/// block, and the sixth two bytes before an end): read on in order, from the first again after some, and by their index.
 const RECORDS_CROSS_BLOCKS: &str = "
 20 1 2
 0 begin_out = 0
@@ -116,6 +114,23 @@ const RECORDS_CROSS_BLOCKS: &str = "
 0 append 0 10 12
 0 on 0 0 = 80 0c*10
 0 at 0 0 = 80 0c*10
+
+20 1 2
+0 begin_out = 0
+0 append 0 249 1
+0 append 0 248 2
+0 append 0 256 3
+0 append 0 2 4
+0 append 0 236 5
+0 append 0 256 6
+0 used = 6
+0 on 0 0 = 80 01*249
+0 on 0 1 = 80 02*248
+0 on 0 2 = 80 03*256
+0 on 0 3 = 80 04*2
+0 at 0 2 = 80 03*256
+0 at 0 5 = 80 06*256
+0 on 0 5 = 80 06*256
 ";
 
 /// Each call on no file, on a partial one and on a whole one.
@@ -218,21 +233,20 @@ fn calls_on_each_file(rt: HostRuntime) -> Result<(), Fail> {
 
 #[test]
 fn a_file_takes_the_most_blocks(rt: HostRuntime) -> Result<(), Fail> {
-    let mut spool = opened(&rt, rt.alloc(), "65535 1 1")?;
-    let id = begun(&rt, &mut spool, 0, Kind::Out)?;
+    let mut bench = Bench::open(&rt, rt.alloc(), "65535 1 1")?;
+    bench.goes(&rt, rt.alloc(), "0 begin_out = 0")?;
     for _ in 0..65_535 {
-        append(&rt, &mut spool, 0, id, 249, 0xC5)?;
+        bench.goes(&rt, rt.alloc(), "0 append 0 249 197")?;
     }
-    let more = append(&rt, &mut spool, 0, id, 0, 0);
-    assert_eq!(rt; more, Err(SpoolFault::QuotaFull));
-    finish(&rt, &mut spool, 0, id)?;
+    bench.goes(&rt, rt.alloc(), "0 append 0 0 0 = S1 QuotaFull")?;
+    bench.goes(&rt, rt.alloc(), "0 finish 0")?;
     for n in 0..65_535 {
-        let (_, record) = on(&rt, &mut spool, 0, id, n)?;
-        assert_eq!(rt; record.as_slice(), [0xC5; 249].as_slice(), "{n}");
+        let line = format!(in rt.alloc(); "0 on 0 {n} = 80 c5*249")?;
+        bench.goes(&rt, rt.alloc(), line.as_str())?;
     }
-    remove(&rt, &mut spool, 0, id)?;
-    assert_eq!(rt; used(&rt, &spool, 0), 0);
-    Ok(())
+    bench.goes(&rt, rt.alloc(), "0 used = 65535")?;
+    bench.goes(&rt, rt.alloc(), "0 remove 0")?;
+    bench.goes(&rt, rt.alloc(), "0 used = 0")
 }
 
 #[test]

@@ -8,30 +8,56 @@ use std::fmt::Display;
 use std::process::Abort;
 use std::test::Fail;
 
-/// The numbers of files, each where it stands as many as it is.
-type Files = Vec<FileId>;
-
 /// Plays each of the cases, which are parted by empty lines. The first line of a case has the blocks of two customers and the
-/// files of each. Each other line is a customer, a call, a file's number, two numbers more where the call has any, and behind `=`
-/// what is given.
+/// files of each.
 pub fn play<R: Abort>(rt: &R, alloc: Global, cases: &str) -> Result<(), Fail> {
     for case in cases.trim().split("\n\n") {
         let (head, lines) = case.split_once("\n").ok_or("an empty case")?;
-        let mut spool = opened(rt, alloc, head)?;
-        let mut files = Vec::new(alloc);
+        let mut bench = Bench::open(rt, alloc, head)?;
         for line in lines.lines() {
-            goes(rt, alloc, &mut spool, &mut files, line)?;
+            bench.goes(rt, alloc, line)?;
         }
     }
     Ok(())
 }
 
-/// A spool of two customers.
-pub fn opened<R: Abort>(rt: &R, alloc: Global, head: &str) -> Result<Spool, Fail> {
-    let mut words = head.split(" ");
-    let first = number(words.next())?;
-    let second = number(words.next())?;
-    let files = number(words.next())?;
+/// A spool, and the numbers of files: each stands where it was first given.
+#[derive(Drop)]
+pub struct Bench {
+    spool: Spool,
+    files: Vec<FileId>,
+}
+
+impl Bench {
+    /// A spool of two customers.
+    pub fn open<R: Abort>(rt: &R, alloc: Global, head: &str) -> Result<Self, Fail> {
+        let mut words = head.split(" ");
+        let first = number(words.next())?;
+        let second = number(words.next())?;
+        let files = number(words.next())?;
+        Ok(Bench {
+            spool: opened(rt, alloc, first, second, files)?,
+            files: Vec::new(alloc),
+        })
+    }
+
+    /// A line of a case: a customer, a call, the place of a file's number and two numbers more where the call has any, and behind `=`
+    /// what is given.
+    pub fn goes<R: Abort>(&mut self, rt: &R, alloc: Global, line: &str) -> Result<(), Fail> {
+        let (what, want) = line.split_once(" = ").unwrap_or((line, "done"));
+        let found = given(rt, alloc, &mut self.spool, &mut self.files, what)?;
+        assert_eq!(rt; found.as_str(), want, "{line}");
+        Ok(())
+    }
+}
+
+fn opened<R: Abort>(
+    rt: &R,
+    alloc: Global,
+    first: u32,
+    second: u32,
+    files: u32,
+) -> Result<Spool, SpoolFault> {
     let first = Quota {
         blocks: first,
         files,
@@ -42,7 +68,7 @@ pub fn opened<R: Abort>(rt: &R, alloc: Global, head: &str) -> Result<Spool, Fail
     };
     assert!(rt; first.is_within_limits());
     assert!(rt; second.is_within_limits());
-    Ok(Spool::open(alloc, &[first, second])?)
+    Spool::open(alloc, &[first, second])
 }
 
 fn number(word: Option<&str>) -> Result<u32, Fail> {
@@ -52,26 +78,12 @@ fn number(word: Option<&str>) -> Result<u32, Fail> {
     }
 }
 
-/// A line of a case.
-fn goes<R: Abort>(
-    rt: &R,
-    alloc: Global,
-    spool: &mut Spool,
-    files: &mut Files,
-    line: &str,
-) -> Result<(), Fail> {
-    let (what, want) = line.split_once(" = ").unwrap_or((line, "done"));
-    let found = given(rt, alloc, spool, files, what)?;
-    assert_eq!(rt; found.as_str(), want, "{line}");
-    Ok(())
-}
-
 /// What a call gives.
 fn given<R: Abort>(
     rt: &R,
     alloc: Global,
     spool: &mut Spool,
-    files: &mut Files,
+    files: &mut Vec<FileId>,
     what: &str,
 ) -> Result<String, Fail> {
     let mut words = what.split(" ");
@@ -104,30 +116,35 @@ fn given_of_file<R: Abort>(
     (n, more): (u32, u32),
 ) -> Result<String, Fail> {
     match call {
-        "finish" => done(alloc, calls::finish(rt, spool, customer, id)),
-        "abandon" => done(alloc, calls::abandon(rt, spool, customer, id)),
-        "remove" => done(alloc, calls::remove(rt, spool, customer, id)),
         "kind" => told(alloc, calls::kind(rt, spool, customer, id).map(kind_name)),
         "state" => told(alloc, calls::state(rt, spool, customer, id).map(state_name)),
         "records" => told(alloc, calls::records(rt, spool, customer, id)),
         "at" => read(alloc, calls::at(rt, spool, customer, id, n)),
         "on" => read(alloc, calls::on(rt, spool, customer, id, n)),
-        "append" => {
-            let byte = u8::try_from(more)?;
-            done(
-                alloc,
-                calls::append(rt, spool, customer, id, n as usize, byte),
-            )
-        }
-        "rewrite" => done(
-            alloc,
-            calls::rewrite(rt, spool, customer, id, n, more as usize),
-        ),
         _ => {
-            let state = state_in(call)?;
-            done(alloc, calls::set_state(rt, spool, customer, id, state))
+            let answer = changed(rt, spool, customer, id, call, (n, more))?;
+            told(alloc, answer.map(|_| "done"))
         }
     }
+}
+
+/// Does a call that changes a file.
+fn changed<R: Abort>(
+    rt: &R,
+    spool: &mut Spool,
+    customer: u16,
+    id: FileId,
+    call: &str,
+    (n, more): (u32, u32),
+) -> Result<Result<(), SpoolFault>, Fail> {
+    Ok(match call {
+        "append" => calls::append(rt, spool, customer, id, n as usize, u8::try_from(more)?),
+        "finish" => calls::finish(rt, spool, customer, id),
+        "abandon" => calls::abandon(rt, spool, customer, id),
+        "remove" => calls::remove(rt, spool, customer, id),
+        "rewrite" => calls::rewrite(rt, spool, customer, id, n, more as usize),
+        _ => calls::set_state(rt, spool, customer, id, state_in(call)?),
+    })
 }
 
 fn state_in(call: &str) -> Result<State, Fail> {
@@ -159,7 +176,7 @@ fn kind_name(kind: Kind) -> &'static str {
 /// A file's number: its place among those that were begun, of which it becomes one.
 fn begun(
     alloc: Global,
-    files: &mut Files,
+    files: &mut Vec<FileId>,
     answer: Result<FileId, SpoolFault>,
 ) -> Result<String, Fail> {
     match answer {
@@ -175,10 +192,6 @@ fn begun(
         }
         Err(fault) => Ok(fault.to_string(alloc)?),
     }
-}
-
-fn done(alloc: Global, answer: Result<(), SpoolFault>) -> Result<String, Fail> {
-    told(alloc, answer.map(|_| "done"))
 }
 
 fn told<T: Display + Drop>(alloc: Global, answer: Result<T, SpoolFault>) -> Result<String, Fail> {

@@ -1,6 +1,7 @@
 //! What comes on streams, with the answers and messages that are due.
 
-/// Output with headers that continue, a job, and the same user and others at one node.
+/// Output, a job with what continues its header, output with a record of 256 bytes and one that is longer, and two jobs of which one
+/// lacks its trailer.
 pub const STORED: &str = "
 4 100
 request = a0 99
@@ -22,6 +23,18 @@ e0 HELLO
 d0 END
 c0 = c0 a8
 size = 1 1
+
+4 100
+request = a0 99
+c0 JOB+LYON+ANNA+METZ+BLANK
+e0 DATA+METZ+PAUL
+80 C256
+long = b0 99
+80 HELLO
+d0 END
+80
+state = idle
+size = 0 0
 
 0 100
 request = a0 98
