@@ -5,6 +5,8 @@ mod playing;
 
 use njh_spool::SpoolFault;
 use playing::{Bench, play};
+use std::alloc::Global;
+use std::process::Abort;
 use std::test::Fail;
 
 /// A job header, a data set header and two records of data, and then a trailer: 504 bytes, or 505.
@@ -234,30 +236,43 @@ fn calls_on_each_file(rt: HostRuntime) -> Result<(), Fail> {
 #[test]
 fn a_file_takes_the_most_blocks(rt: HostRuntime) -> Result<(), Fail> {
     let mut bench = Bench::open(&rt, rt.alloc(), "65535 1 1")?;
-    bench.goes(&rt, rt.alloc(), "0 begin_out = 0")?;
+    fill(&rt, rt.alloc(), &mut bench)
+}
+
+fn fill<R: Abort>(rt: &R, alloc: Global, bench: &mut Bench) -> Result<(), Fail> {
+    bench.goes(rt, alloc, "0 begin_out = 0")?;
     for _ in 0..65_535 {
-        bench.goes(&rt, rt.alloc(), "0 append 0 249 197")?;
+        bench.goes(rt, alloc, "0 append 0 249 197")?;
     }
-    bench.goes(&rt, rt.alloc(), "0 append 0 0 0 = S1 QuotaFull")?;
-    bench.goes(&rt, rt.alloc(), "0 finish 0")?;
+    bench.goes(rt, alloc, "0 append 0 0 0 = S1 QuotaFull")?;
+    bench.goes(rt, alloc, "0 finish 0")?;
     for n in 0..65_535 {
-        let line = format!(in rt.alloc(); "0 on 0 {n} = 80 c5*249")?;
-        bench.goes(&rt, rt.alloc(), line.as_str())?;
+        read_filled(rt, alloc, bench, n)?;
     }
-    bench.goes(&rt, rt.alloc(), "0 used = 65535")?;
-    bench.goes(&rt, rt.alloc(), "0 remove 0")?;
-    bench.goes(&rt, rt.alloc(), "0 used = 0")
+    bench.goes(rt, alloc, "0 used = 65535")?;
+    bench.goes(rt, alloc, "0 remove 0")?;
+    bench.goes(rt, alloc, "0 used = 0")
+}
+
+fn read_filled<R: Abort>(rt: &R, alloc: Global, bench: &mut Bench, n: u32) -> Result<(), Fail> {
+    let line = format!(in alloc; "0 on 0 {n} = 80 c5*249")?;
+    bench.goes(rt, alloc, line.as_str())
 }
 
 #[test]
 fn faults_have_texts(rt: HostRuntime) -> Result<(), Fail> {
-    for (fault, text) in [
-        (SpoolFault::QuotaFull, "S1 QuotaFull"),
-        (SpoolFault::TooManyFiles, "S2 TooManyFiles"),
-        (SpoolFault::NoSuchFile, "S3 NoSuchFile"),
-        (SpoolFault::Memory, "S4 Memory"),
+    let mut texts = String::new(rt.alloc());
+    for fault in [
+        SpoolFault::QuotaFull,
+        SpoolFault::TooManyFiles,
+        SpoolFault::NoSuchFile,
+        SpoolFault::Memory,
     ] {
-        assert_eq!(rt; format!(in rt.alloc(); "{fault}")?.as_str(), text);
+        texts.push_str(format!(in rt.alloc(); "{fault}\n")?.as_str())?;
     }
+    assert_eq!(rt;
+        texts.as_str(),
+        "S1 QuotaFull\nS2 TooManyFiles\nS3 NoSuchFile\nS4 Memory\n"
+    );
     Ok(())
 }

@@ -14,9 +14,7 @@ pub fn play<R: Abort>(rt: &R, alloc: Global, cases: &str) -> Result<(), Fail> {
     for case in cases.trim().split("\n\n") {
         let (head, lines) = case.split_once("\n").ok_or("an empty case")?;
         let mut bench = Bench::open(rt, alloc, head)?;
-        for line in lines.lines() {
-            bench.goes(rt, alloc, line)?;
-        }
+        bench.go(rt, alloc, lines)?;
     }
     Ok(())
 }
@@ -39,6 +37,14 @@ impl Bench {
             spool: opened(rt, alloc, first, second, files)?,
             files: Vec::new(alloc),
         })
+    }
+
+    /// The lines of a case.
+    fn go<R: Abort>(&mut self, rt: &R, alloc: Global, lines: &str) -> Result<(), Fail> {
+        for line in lines.lines() {
+            self.goes(rt, alloc, line)?;
+        }
+        Ok(())
     }
 
     /// A line of a case: a customer, a call, the place of a file's number and two numbers more where the call has any, and behind `=`

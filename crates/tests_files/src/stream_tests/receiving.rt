@@ -18,26 +18,38 @@ pub fn played<R: Abort>(rt: &R, alloc: Global, case: &str) -> Result<Bench, Fail
     let place = place.parse::<u8>()?;
     assert!(rt; place < 8);
     let mut bench = Bench::open(rt, alloc, blocks.parse::<u32>()?, Stream::at(place))?;
-    for line in lines.lines() {
-        goes(rt, alloc, &mut bench, line)?;
-    }
+    go(rt, alloc, &mut bench, lines)?;
     Ok(bench)
+}
+
+/// The lines of a case.
+fn go<R: Abort>(rt: &R, alloc: Global, bench: &mut Bench, lines: &str) -> Result<(), Fail> {
+    for line in lines.lines() {
+        goes(rt, alloc, bench, line)?;
+    }
+    Ok(())
 }
 
 /// A line of a case.
 fn goes<R: Abort>(rt: &R, alloc: Global, bench: &mut Bench, line: &str) -> Result<(), Fail> {
     let (what, want) = line.split_once(" = ").unwrap_or((line, ""));
-    let found = match what {
-        "state" => String::from_str(alloc, state(bench.receiver()))?,
-        "size" => size(alloc, bench.size())?,
+    let found = given(rt, alloc, bench, what)?;
+    let wanted = wanted(alloc, want)?;
+    assert_eq!(rt; found.as_str(), wanted.as_str(), "{line}");
+    Ok(())
+}
+
+/// What a line gives.
+fn given<R: Abort>(rt: &R, alloc: Global, bench: &mut Bench, what: &str) -> Result<String, Fail> {
+    match what {
+        "state" => Ok(String::from_str(alloc, state(bench.receiver()))?),
+        "size" => size(alloc, bench.size()),
         "end" => {
             bench.end(rt);
-            String::new(alloc)
+            Ok(String::new(alloc))
         }
-        _ => came(rt, alloc, bench, what)?,
-    };
-    assert_eq!(rt; found.as_str(), wanted(alloc, want)?.as_str(), "{line}");
-    Ok(())
+        _ => came(rt, alloc, bench, what),
+    }
 }
 
 fn state(receiver: Receiver) -> &'static str {

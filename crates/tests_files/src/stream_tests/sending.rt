@@ -322,9 +322,15 @@ fn play<R: Abort>(rt: &R, alloc: Global, cases: &str) -> Result<(), Fail> {
     for case in cases.trim().split("\n\n") {
         let (state, lines) = case.split_once("\n").ok_or("an empty case")?;
         let mut way = opened(rt, alloc, state)?;
-        for line in lines.lines() {
-            goes_on(rt, alloc, &mut way, line)?;
-        }
+        go(rt, alloc, &mut way, lines)?;
+    }
+    Ok(())
+}
+
+/// The lines of a case.
+fn go<R: Abort>(rt: &R, alloc: Global, way: &mut Way, lines: &str) -> Result<(), Fail> {
+    for line in lines.lines() {
+        goes_on(rt, alloc, way, line)?;
     }
     Ok(())
 }
@@ -333,7 +339,8 @@ fn play<R: Abort>(rt: &R, alloc: Global, cases: &str) -> Result<(), Fail> {
 fn goes_on<R: Abort>(rt: &R, alloc: Global, way: &mut Way, line: &str) -> Result<(), Fail> {
     let (what, want) = line.split_once(" = ").ok_or("a line without =")?;
     let found = given(rt, alloc, way, what)?;
-    assert_eq!(rt; found.as_str(), wanted(alloc, want)?.as_str(), "{line}");
+    let wanted = wanted(alloc, want)?;
+    assert_eq!(rt; found.as_str(), wanted.as_str(), "{line}");
     Ok(())
 }
 

@@ -100,6 +100,12 @@ fn looked_up<R: Abort>(rt: &R, alloc: Global, tables: &Tables, what: &str) -> Re
     }
 }
 
+fn are_the_base<R: Abort>(rt: &R, alloc: Global, tables: &Tables) -> Result<(), Fail> {
+    let found = text_of(alloc, tables)?;
+    assert_eq!(rt; found.as_str(), WITHOUT_A_FILE);
+    look_up(rt, alloc, tables)
+}
+
 fn look_up<R: Abort>(rt: &R, alloc: Global, tables: &Tables) -> Result<(), Fail> {
     for line in LOOKED_UP.trim().lines() {
         let (what, want) = line.split_once(" = ").ok_or("a line without =")?;
@@ -126,7 +132,5 @@ fn a_file_is_read(rt: HostRuntime) -> Result<(), Fail> {
 #[test]
 fn the_tables_without_a_file(rt: HostRuntime) -> Result<(), Fail> {
     let tables = Tables::base(rt.alloc())?;
-    let found = text_of(rt.alloc(), &tables)?;
-    assert_eq!(rt; found.as_str(), WITHOUT_A_FILE);
-    look_up(&rt, rt.alloc(), &tables)
+    are_the_base(&rt, rt.alloc(), &tables)
 }
