@@ -51,7 +51,8 @@ impl Bench {
     /// what is given.
     pub fn goes<R: Abort>(&mut self, rt: &R, alloc: Global, line: &str) -> Result<(), Fail> {
         let (what, want) = line.split_once(" = ").unwrap_or((line, "done"));
-        let found = given(rt, alloc, &mut self.spool, &mut self.files, what)?;
+        let words = words_of(what)?;
+        let found = given(rt, alloc, &mut self.spool, &mut self.files, words)?;
         assert_eq!(rt; found.as_str(), want, "{line}");
         Ok(())
     }
@@ -84,29 +85,62 @@ fn number(word: Option<&str>) -> Result<u32, Fail> {
     }
 }
 
-/// What a call gives.
-fn given<R: Abort>(
-    rt: &R,
-    alloc: Global,
-    spool: &mut Spool,
-    files: &mut Vec<FileId>,
-    what: &str,
-) -> Result<String, Fail> {
+/// A customer, a call and its numbers.
+#[derive(Clone, Copy)]
+struct Words<'a> {
+    customer: u16,
+    call: &'a str,
+    file: u32,
+    n: u32,
+    more: u32,
+}
+
+fn words_of(what: &str) -> Result<Words<'_>, Fail> {
     let mut words = what.split(" ");
     let customer = u16::try_from(number(words.next())?)?;
     let call = words.next().ok_or("no call")?;
     let file = number(words.next())?;
     let n = number(words.next())?;
     let more = number(words.next())?;
-    match call {
+    Ok(Words {
+        customer,
+        call,
+        file,
+        n,
+        more,
+    })
+}
+
+/// What a call gives.
+fn given<R: Abort>(
+    rt: &R,
+    alloc: Global,
+    spool: &mut Spool,
+    files: &mut Vec<FileId>,
+    words: Words<'_>,
+) -> Result<String, Fail> {
+    let customer = words.customer;
+    match words.call {
         "begin_in" => begun(alloc, files, calls::begun(rt, spool, customer, Kind::In)),
         "begin_out" => begun(alloc, files, calls::begun(rt, spool, customer, Kind::Out)),
         "used" => told(alloc, Ok(calls::used(rt, spool, customer))),
         "files" => told(alloc, Ok(calls::files(rt, spool, customer))),
-        "file" => begun(alloc, files, Ok(calls::file(rt, spool, customer, file))),
+        "file" => begun(
+            alloc,
+            files,
+            Ok(calls::file(rt, spool, customer, words.file)),
+        ),
         _ => {
-            let id = *files.get(file as usize).ok_or("no such file")?;
-            given_of_file(rt, alloc, spool, customer, id, call, (n, more))
+            let id = *files.get(words.file as usize).ok_or("no such file")?;
+            given_of_file(
+                rt,
+                alloc,
+                spool,
+                customer,
+                id,
+                words.call,
+                (words.n, words.more),
+            )
         }
     }
 }

@@ -34,8 +34,19 @@ fn go<R: Abort>(rt: &R, alloc: Global, bench: &mut Bench, lines: &str) -> Result
 fn goes<R: Abort>(rt: &R, alloc: Global, bench: &mut Bench, line: &str) -> Result<(), Fail> {
     let (what, want) = line.split_once(" = ").unwrap_or((line, ""));
     let found = given(rt, alloc, bench, what)?;
+    is_wanted(rt, alloc, found.as_str(), want, line)
+}
+
+/// What a line gives is what it wants.
+pub fn is_wanted<R: Abort>(
+    rt: &R,
+    alloc: Global,
+    found: &str,
+    want: &str,
+    line: &str,
+) -> Result<(), Fail> {
     let wanted = wanted(alloc, want)?;
-    assert_eq!(rt; found.as_str(), wanted.as_str(), "{line}");
+    assert_eq!(rt; found, wanted.as_str(), "{line}");
     Ok(())
 }
 
@@ -123,7 +134,7 @@ fn push_notice(
 }
 
 /// What a line wants, with the bytes of names in hex.
-pub fn wanted(alloc: Global, want: &str) -> Result<String, Fail> {
+fn wanted(alloc: Global, want: &str) -> Result<String, Fail> {
     match want.split_once(" : ") {
         Some((front, names)) => {
             let mut text = String::from_str(alloc, front)?;

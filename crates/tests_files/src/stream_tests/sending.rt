@@ -1,6 +1,6 @@
 //! Files that go out.
 
-use super::receiving::{played, wanted};
+use super::receiving::{is_wanted, played};
 use njh_record::Record;
 use njh_spool::{FileId, Spool, State};
 use njh_stream::{Sender, end_senders, goes_by, retry_refused};
@@ -339,9 +339,7 @@ fn go<R: Abort>(rt: &R, alloc: Global, way: &mut Way, lines: &str) -> Result<(),
 fn goes_on<R: Abort>(rt: &R, alloc: Global, way: &mut Way, line: &str) -> Result<(), Fail> {
     let (what, want) = line.split_once(" = ").ok_or("a line without =")?;
     let found = given(rt, alloc, way, what)?;
-    let wanted = wanted(alloc, want)?;
-    assert_eq!(rt; found.as_str(), wanted.as_str(), "{line}");
-    Ok(())
+    is_wanted(rt, alloc, found.as_str(), want, line)
 }
 
 #[test]
