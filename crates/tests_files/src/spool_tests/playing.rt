@@ -119,29 +119,43 @@ fn given<R: Abort>(
     files: &mut Vec<FileId>,
     words: Words<'_>,
 ) -> Result<String, Fail> {
-    let customer = words.customer;
     match words.call {
-        "begin_in" => begun(alloc, files, calls::begun(rt, spool, customer, Kind::In)),
-        "begin_out" => begun(alloc, files, calls::begun(rt, spool, customer, Kind::Out)),
-        "used" => told(alloc, Ok(calls::used(rt, spool, customer))),
-        "files" => told(alloc, Ok(calls::files(rt, spool, customer))),
-        "file" => begun(
-            alloc,
-            files,
-            Ok(calls::file(rt, spool, customer, words.file)),
-        ),
+        "begin_in" | "begin_out" | "file" => begun(alloc, files, id_of(rt, spool, words)),
+        "used" | "files" => told(alloc, Ok(count_of(rt, spool, words))),
         _ => {
-            let id = *files.get(words.file as usize).ok_or("no such file")?;
+            let id = id_in(files, words.file)?;
             given_of_file(
                 rt,
                 alloc,
                 spool,
-                customer,
+                words.customer,
                 id,
                 words.call,
                 (words.n, words.more),
             )
         }
+    }
+}
+
+fn id_of<R: Abort>(rt: &R, spool: &mut Spool, words: Words<'_>) -> Result<FileId, SpoolFault> {
+    match words.call {
+        "begin_in" => calls::begun(rt, spool, words.customer, Kind::In),
+        "begin_out" => calls::begun(rt, spool, words.customer, Kind::Out),
+        _ => Ok(calls::file(rt, spool, words.customer, words.file)),
+    }
+}
+
+fn count_of<R: Abort>(rt: &R, spool: &Spool, words: Words<'_>) -> u32 {
+    match words.call {
+        "used" => calls::used(rt, spool, words.customer),
+        _ => calls::files(rt, spool, words.customer),
+    }
+}
+
+fn id_in(files: &[FileId], place: u32) -> Result<FileId, Fail> {
+    match files.get(place as usize) {
+        Some(id) => Ok(*id),
+        None => Err("no such file".into()),
     }
 }
 
