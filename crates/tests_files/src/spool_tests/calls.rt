@@ -1,47 +1,17 @@
 //! Calls with their conditions tested first.
 
-use arrayvec::ArrayVec;
-use njh_record::Kind;
-use njh_spool::{FileId, Quota, Spool, SpoolFault};
-use std::alloc::Global;
+use njh_record::{Kind, Record};
+use njh_spool::{FileId, Spool, SpoolFault, State};
 use std::process::Abort;
 
-/// A call with what goes into it, or with what it is to give.
-#[derive(Clone, Copy)]
-pub enum Call {
-    Begin,
-    /// A record of so many bytes, each the same.
-    Append(usize, u8),
-    Finish,
-    Remove,
-    Used(u32),
-    /// The record's index, and how many bytes it has, each the same.
-    Read(u32, usize, u8),
-}
-
-/// A spool of two customers with so many blocks each, and so many files.
-pub fn opened<R: Abort>(
+pub fn begun<R: Abort>(
     rt: &R,
-    alloc: Global,
-    [first, second]: [u32; 2],
-    files: u32,
-) -> Result<Spool, SpoolFault> {
-    let first = Quota {
-        blocks: first,
-        files,
-    };
-    let second = Quota {
-        blocks: second,
-        files,
-    };
-    assert!(rt; first.is_within_limits());
-    assert!(rt; second.is_within_limits());
-    Spool::open(alloc, &[first, second])
-}
-
-pub fn begin<R: Abort>(rt: &R, spool: &mut Spool, customer: u16) -> Result<FileId, SpoolFault> {
+    spool: &mut Spool,
+    customer: u16,
+    kind: Kind,
+) -> Result<FileId, SpoolFault> {
     assert!(rt; customer < spool.customers());
-    spool.begin(customer, Kind::Out)
+    spool.begin(customer, kind)
 }
 
 /// Appends a record of so many bytes, each the same.
@@ -50,7 +20,8 @@ pub fn append<R: Abort>(
     spool: &mut Spool,
     customer: u16,
     id: FileId,
-    (size, byte): (usize, u8),
+    size: usize,
+    byte: u8,
 ) -> Result<(), SpoolFault> {
     assert!(rt; customer < spool.customers());
     assert!(rt; size <= 256);
@@ -67,6 +38,16 @@ pub fn finish<R: Abort>(
     spool.finish(customer, id)
 }
 
+pub fn abandon<R: Abort>(
+    rt: &R,
+    spool: &mut Spool,
+    customer: u16,
+    id: FileId,
+) -> Result<(), SpoolFault> {
+    assert!(rt; customer < spool.customers());
+    spool.abandon(customer, id)
+}
+
 pub fn remove<R: Abort>(
     rt: &R,
     spool: &mut Spool,
@@ -77,47 +58,112 @@ pub fn remove<R: Abort>(
     spool.remove(customer, id)
 }
 
+pub fn set_state<R: Abort>(
+    rt: &R,
+    spool: &mut Spool,
+    customer: u16,
+    id: FileId,
+    state: State,
+) -> Result<(), SpoolFault> {
+    assert!(rt; customer < spool.customers());
+    spool.set_state(customer, id, state)
+}
+
+pub fn state<R: Abort>(
+    rt: &R,
+    spool: &Spool,
+    customer: u16,
+    id: FileId,
+) -> Result<State, SpoolFault> {
+    assert!(rt; customer < spool.customers());
+    spool.state(customer, id)
+}
+
+pub fn kind<R: Abort>(
+    rt: &R,
+    spool: &Spool,
+    customer: u16,
+    id: FileId,
+) -> Result<Kind, SpoolFault> {
+    assert!(rt; customer < spool.customers());
+    spool.kind(customer, id)
+}
+
+pub fn records<R: Abort>(
+    rt: &R,
+    spool: &Spool,
+    customer: u16,
+    id: FileId,
+) -> Result<u32, SpoolFault> {
+    assert!(rt; customer < spool.customers());
+    spool.records(customer, id)
+}
+
 pub fn used<R: Abort>(rt: &R, spool: &Spool, customer: u16) -> u32 {
     assert!(rt; customer < spool.customers());
     spool.used(customer)
 }
 
-/// Reads a record on, and tells whether it is of so many bytes, each the same.
-pub fn reads<R: Abort>(
+pub fn files<R: Abort>(rt: &R, spool: &Spool, customer: u16) -> u32 {
+    assert!(rt; customer < spool.customers());
+    spool.files(customer)
+}
+
+pub fn file<R: Abort>(rt: &R, spool: &Spool, customer: u16, index: u32) -> FileId {
+    assert!(rt; customer < spool.customers());
+    assert!(rt; index < spool.files(customer));
+    spool.file_at(customer, index)
+}
+
+/// A record's SRCB and its bytes.
+pub fn at<R: Abort>(
+    rt: &R,
+    spool: &Spool,
+    customer: u16,
+    id: FileId,
+    n: u32,
+) -> Result<(u8, Record), SpoolFault> {
+    assert!(rt; customer < spool.customers());
+    if let Ok(count) = spool.records(customer, id) {
+        assert!(rt; n < count);
+    }
+    let mut record = Record::new();
+    let srcb = spool.record_at(customer, id, n, &mut record)?;
+    Ok((srcb, record))
+}
+
+/// A record that is read on.
+pub fn on<R: Abort>(
     rt: &R,
     spool: &mut Spool,
     customer: u16,
     id: FileId,
     n: u32,
-    (size, byte): (usize, u8),
-) -> Result<bool, SpoolFault> {
+) -> Result<(u8, Record), SpoolFault> {
     assert!(rt; customer < spool.customers());
-    assert!(rt; size <= 256);
     if let Ok(count) = spool.records(customer, id) {
         assert!(rt; n < count);
     }
-    let mut record = ArrayVec::new();
-    spool.read_on(customer, id, n, &mut record)?;
-    Ok(record.as_slice() == &[byte; 256][..size])
+    let mut record = Record::new();
+    let srcb = spool.read_on(customer, id, n, &mut record)?;
+    Ok((srcb, record))
 }
 
-/// Does a call with the file, or begins it, and stops where it gives something else.
-pub fn do_call<R: Abort>(
+/// Writes eight bytes over those from a place on of a whole file's record.
+pub fn rewrite<R: Abort>(
     rt: &R,
     spool: &mut Spool,
     customer: u16,
     id: FileId,
-    call: Call,
+    n: u32,
+    place: usize,
 ) -> Result<(), SpoolFault> {
-    match call {
-        Call::Begin => assert_eq!(rt; begin(rt, spool, customer)?, id),
-        Call::Append(size, byte) => append(rt, spool, customer, id, (size, byte))?,
-        Call::Finish => finish(rt, spool, customer, id)?,
-        Call::Remove => remove(rt, spool, customer, id)?,
-        Call::Used(blocks) => assert_eq!(rt; used(rt, spool, customer), blocks),
-        Call::Read(n, size, byte) => {
-            assert!(rt; reads(rt, spool, customer, id, n, (size, byte))?, "{n}")
-        }
-    }
-    Ok(())
+    assert!(rt; customer < spool.customers());
+    spool.state(customer, id)?;
+    let count = spool.records(customer, id)?;
+    assert!(rt; n < count);
+    let mut record = Record::new();
+    spool.record_at(customer, id, n, &mut record)?;
+    assert!(rt; place <= 248 && place + 8 <= record.len());
+    spool.rewrite(customer, id, n, place, [0xE7; 8])
 }

@@ -5,7 +5,7 @@ ghost use Rattle.njh_stream.specs.Arrivals.{arrival_of, IsShort};
 
 use njh_block::Stream;
 use njh_spool::{Quota, Spool};
-use njh_stream::{Arrival, Receiver, Step};
+use njh_stream::{Arrival, Receiver, Step, end_receivers};
 use njh_table::{LineId, Tables};
 use std::alloc::Global;
 use std::marker::Model;
@@ -38,6 +38,20 @@ line = "a1"
 [[customer.route]]
 node = "METZ"
 line = "a2"
+[[customer]]
+name = "BOLT"
+hub = "BUREAU"
+quota = 100
+files = 2
+[[customer.line]]
+name = "b1"
+node = "PARIS"
+role = "answer"
+block = 1024
+streams = 4
+[[customer.route]]
+node = "PARIS"
+line = "b1"
 "#;
 
 /// A stream of line a1 to the hub.
@@ -74,7 +88,7 @@ fn is_short(arrival: Arrival<'_>) -> bool
 }
 
 impl Bench {
-    /// With a quota of so many blocks and two files.
+    /// With so many blocks.
     pub fn open<R: Abort>(
         rt: &R,
         alloc: Global,
@@ -104,21 +118,27 @@ impl Bench {
             .step(arrival, self.stream, line, &self.tables, &mut self.spool)
     }
 
-    pub fn used(&self) -> u32 {
-        self.spool.used(0)
+    /// The line's session ends.
+    pub fn end<R: Abort>(&mut self, rt: &R) {
+        let mut receivers = [self.receiver];
+        end_receivers(&mut receivers, 0, &mut self.spool);
+        assert_eq!(rt; receivers, [Receiver::Idle]);
+        self.receiver = Receiver::Idle;
     }
 
-    pub fn files(&self) -> u32 {
-        self.spool.files(0)
+    /// How many whole files there are, and how many blocks they take with the partial one.
+    pub fn size(&self) -> (u32, u32) {
+        (self.spool.files(0), self.spool.used(0))
     }
 
     pub fn receiver(&self) -> Receiver {
         self.receiver
     }
 
-    pub fn into_spool(self) -> Spool
-        ensures { 0 < length result }
+    pub fn into_parts(self) -> (Tables, Spool)
+        ensures tables { 0 < length result.0.customers }
+        ensures spool { 0 < length result.1 }
     {
-        self.spool
+        (self.tables, self.spool)
     }
 }

@@ -1,44 +1,180 @@
 //! Files that go out.
 
-ghost use Rattle.std.specs.Prelude.{◌<◌, length};
-
-use super::{HELLO, JOB, REQUEST, STORED, TO_METZ, TRAILER, goes, taken};
-use crate::stream_tests::bench::Bench;
-use njh_block::Stream;
+use super::receiving::{is_wanted, played};
 use njh_record::Record;
-use njh_spool::{FileId, Spool, SpoolFault, State};
-use njh_stream::Sender;
+use njh_spool::{FileId, Spool, State};
+use njh_stream::{Sender, end_senders, goes_by, retry_refused};
+use njh_table::Tables;
 use std::alloc::Global;
 use std::process::Abort;
 use std::test::Fail;
 
-/// What the peer or the hub does to a stream.
-#[derive(Clone, Copy, Debug)]
-enum Act {
-    Granted,
-    Refused,
-    Completed,
-    Abort,
-    Ended,
+/// The file that goes out, to METZ by line a2.
+const FILE: &str = "
+4 100
+request = a0 99
+c0 JOB+LYON+ANNA+METZ+BLANK
+e0 DATA+METZ+PAUL
+80 HELLO
+d0 END
+80 = c0 99
+";
+
+/// Each case begins with the stream's state, and the file is in state Sending. Then come answers of the peer and what else
+/// happens, each with the stream's and the file's state after it.
+const ANSWERS: &str = "
+idle
+granted = idle Sending
+
+requested
+granted = sending 0 Sending
+
+sending
+granted = sending 1 Sending
+
+eof
+granted = eof Sending
+
+aborting
+granted = aborting Sending
+
+idle
+refused = idle Sending
+
+requested
+refused = idle Refused
+
+sending
+refused = aborting Refused
+
+eof
+refused = idle Refused
+
+aborting
+refused = aborting Sending
+
+idle
+completed = idle Sending
+
+requested
+completed = requested Sending
+
+sending
+completed = sending 1 Sending
+
+eof
+completed = idle gone
+
+aborting
+completed = aborting Sending
+
+idle
+ended = idle Sending
+
+requested
+ended = idle Ready
+
+sending
+ended = idle Ready
+
+eof
+ended = idle Ready
+
+aborting
+ended = idle Sending
+
+idle
+abort = idle Sending
+
+requested
+abort = aborting Sending
+
+sending
+abort = aborting Sending
+
+eof
+abort = idle Sending
+
+aborting
+abort = aborting Sending
+
+requested
+all ended = idle Ready
+
+eof
+all ended = idle Ready
+";
+
+/// Whole lives: to the end; given up half way and begun again; removed half way.
+const LIVES: &str = "
+idle
+next = none
+request = requested Sending
+next = none
+granted = sending 0 Sending
+next = c0 : JOB+LYON+ANNA+METZ+BLANK
+next = e0 : DATA+METZ+PAUL
+next = 80 : HELLO
+next = d0 : END
+granted = sending 4 Sending
+next = none
+granted = eof Sending
+next = none
+completed = idle gone
+next = none
+
+requested
+granted = sending 0 Sending
+next = c0 : JOB+LYON+ANNA+METZ+BLANK
+next = e0 : DATA+METZ+PAUL
+ended = idle Ready
+request = requested Ready
+granted = sending 0 Ready
+next = c0 : JOB+LYON+ANNA+METZ+BLANK
+next = e0 : DATA+METZ+PAUL
+refused = aborting Refused
+next = none
+
+sending
+remove = sending 1 gone
+next = none
+refused = idle gone
+request = requested gone
+ended = idle gone
+";
+
+/// The file goes by line 1, and is Ready again there after a refusal, and only then.
+const ROUTES: &str = "
+idle
+goes by 0 = no
+goes by 1 = yes
+retry 1 = idle Sending
+refuse = idle Refused
+retry 0 = idle Refused
+retry 1 = idle Ready
+hold = idle Held
+retry 1 = idle Held
+";
+
+/// A stream, its file, and what it is sent from.
+#[derive(Drop)]
+struct Way {
+    tables: Tables,
+    spool: Spool,
+    sender: Sender,
+    file: FileId,
 }
 
-/// A spool with the sample file.
-fn stored<R: Abort>(rt: &R, alloc: Global) -> Result<Spool, Fail> {
-    let mut bench = Bench::open(rt, alloc, 100, Stream::sysout(0))?;
-    goes(
-        rt,
-        &mut bench,
-        0x99,
-        &[
-            REQUEST,
-            taken(0xc0, &JOB),
-            taken(0xe0, &TO_METZ),
-            taken(0x80, &HELLO),
-            taken(0xd0, &TRAILER),
-            STORED,
-        ],
-    );
-    Ok(bench.into_spool())
+fn opened<R: Abort>(rt: &R, alloc: Global, state: &str) -> Result<Way, Fail> {
+    let (tables, mut spool) = played(rt, alloc, FILE)?.into_parts();
+    let file = first(rt, &spool);
+    set_state(rt, &mut spool, file, State::Sending);
+    Ok(Way {
+        tables,
+        spool,
+        sender: sender_in(state, file)?,
+        file,
+    })
 }
 
 fn first<R: Abort>(rt: &R, spool: &Spool) -> FileId {
@@ -47,52 +183,176 @@ fn first<R: Abort>(rt: &R, spool: &Spool) -> FileId {
     spool.file_at(0, 0)
 }
 
-fn state<R: Abort>(rt: &R, spool: &Spool, file: FileId) -> Result<State, SpoolFault> {
+fn set_state<R: Abort>(rt: &R, spool: &mut Spool, file: FileId, state: State) {
     assert!(rt; 0 < spool.customers());
-    spool.state(0, file)
+    spool.set_state(0, file, state).ok();
 }
 
-fn do_act<R: Abort>(rt: &R, sender: &mut Sender, spool: &mut Spool, act: Act) {
-    assert!(rt; 0 < spool.customers());
-    match act {
-        Act::Granted => sender.granted(),
-        Act::Refused => sender.refused(0, spool),
-        Act::Completed => sender.completed(0, spool),
-        Act::Abort => sender.abort(),
-        Act::Ended => sender.ended(0, spool),
+fn sender_in(state: &str, file: FileId) -> Result<Sender, Fail> {
+    match state {
+        "idle" => Ok(Sender::Idle),
+        "requested" => Ok(Sender::Requested(file)),
+        "sending" => Ok(Sender::Sending(file, 1)),
+        "eof" => Ok(Sender::EofSent(file)),
+        "aborting" => Ok(Sender::Aborting),
+        _ => Err("no such state".into()),
     }
 }
 
-/// The next record's SRCB, and its bytes.
-fn next<R: Abort>(rt: &R, sender: &mut Sender, spool: &mut Spool) -> (Option<u8>, Record) {
+/// The states of a stream and of its file.
+fn states<R: Abort>(rt: &R, alloc: Global, way: &Way) -> Result<String, Fail> {
+    let file = file_state(rt, &way.spool, way.file);
+    let text = match way.sender {
+        Sender::Idle => format!(in alloc; "idle {file}")?,
+        Sender::Requested(_) => format!(in alloc; "requested {file}")?,
+        Sender::Sending(_, place) => format!(in alloc; "sending {place} {file}")?,
+        Sender::EofSent(_) => format!(in alloc; "eof {file}")?,
+        Sender::Aborting => format!(in alloc; "aborting {file}")?,
+    };
+    Ok(text)
+}
+
+fn file_state<R: Abort>(rt: &R, spool: &Spool, file: FileId) -> &'static str {
+    assert!(rt; 0 < spool.customers());
+    match spool.state(0, file) {
+        Ok(State::Ready) => "Ready",
+        Ok(State::Held) => "Held",
+        Ok(State::Refused) => "Refused",
+        Ok(State::Sending) => "Sending",
+        Err(_) => "gone",
+    }
+}
+
+/// What the peer answers, and what else happens to a stream.
+fn act<R: Abort>(
+    rt: &R,
+    sender: &mut Sender,
+    spool: &mut Spool,
+    file: FileId,
+    act: &str,
+) -> Result<(), Fail> {
+    assert!(rt; 0 < spool.customers());
+    match act {
+        "request" => *sender = Sender::Requested(file),
+        "granted" => sender.granted(),
+        "refused" => sender.refused(0, spool),
+        "completed" => sender.completed(0, spool),
+        "ended" => sender.ended(0, spool),
+        "abort" => sender.abort(),
+        "all ended" => all_ended(rt, sender, spool),
+        "remove" => remove(rt, spool, file),
+        "refuse" => set_state(rt, spool, file, State::Refused),
+        "hold" => set_state(rt, spool, file, State::Held),
+        _ => return Err("no such act".into()),
+    }
+    Ok(())
+}
+
+fn all_ended<R: Abort>(rt: &R, sender: &mut Sender, spool: &mut Spool) {
+    assert!(rt; 0 < spool.customers());
+    let mut senders = [Sender::Aborting, *sender];
+    end_senders(&mut senders, 0, spool);
+    assert_eq!(rt; senders, [Sender::Idle, Sender::Idle]);
+    *sender = Sender::Idle;
+}
+
+fn remove<R: Abort>(rt: &R, spool: &mut Spool, file: FileId) {
+    assert!(rt; 0 < spool.customers());
+    spool.remove(0, file).ok();
+}
+
+/// The next record's SRCB and its bytes.
+fn next<R: Abort>(
+    rt: &R,
+    alloc: Global,
+    sender: &mut Sender,
+    spool: &mut Spool,
+) -> Result<String, Fail> {
     assert!(rt; 0 < spool.customers());
     let mut record = Record::new();
-    let srcb = sender.next(0, spool, &mut record);
-    (srcb, record)
+    match sender.next(0, spool, &mut record) {
+        Some(srcb) => {
+            let bytes = hex::encode(alloc, record.as_slice())?;
+            Ok(format!(in alloc; "{srcb:02x} : {bytes}")?)
+        }
+        None => Ok(String::from_str(alloc, "none")?),
+    }
+}
+
+/// Whether the file goes by a line.
+fn goes<R: Abort>(rt: &R, way: &Way, line: u16) -> &'static str {
+    assert!(rt; !way.tables.customers().is_empty());
+    assert!(rt; 0 < way.spool.customers());
+    if goes_by(way.tables.customer(0), line, 0, way.file, &way.spool) {
+        "yes"
+    } else {
+        "no"
+    }
+}
+
+fn retry<R: Abort>(rt: &R, tables: &Tables, spool: &mut Spool, line: u16) {
+    assert!(rt; !tables.customers().is_empty());
+    assert!(rt; 0 < spool.customers());
+    retry_refused(tables.customer(0), line, 0, spool);
+}
+
+/// What a line of a case gives.
+fn given<R: Abort>(rt: &R, alloc: Global, way: &mut Way, what: &str) -> Result<String, Fail> {
+    match what {
+        "next" => next(rt, alloc, &mut way.sender, &mut way.spool),
+        "goes by 0" => Ok(String::from_str(alloc, goes(rt, way, 0))?),
+        "goes by 1" => Ok(String::from_str(alloc, goes(rt, way, 1))?),
+        "retry 0" => {
+            retry(rt, &way.tables, &mut way.spool, 0);
+            states(rt, alloc, way)
+        }
+        "retry 1" => {
+            retry(rt, &way.tables, &mut way.spool, 1);
+            states(rt, alloc, way)
+        }
+        _ => {
+            act(rt, &mut way.sender, &mut way.spool, way.file, what)?;
+            states(rt, alloc, way)
+        }
+    }
+}
+
+/// Plays each of the cases, which are parted by empty lines.
+fn play<R: Abort>(rt: &R, alloc: Global, cases: &str) -> Result<(), Fail> {
+    for case in cases.trim().split("\n\n") {
+        let (state, lines) = case.split_once("\n").ok_or("an empty case")?;
+        let mut way = opened(rt, alloc, state)?;
+        go(rt, alloc, &mut way, lines)?;
+    }
+    Ok(())
+}
+
+/// The lines of a case.
+fn go<R: Abort>(rt: &R, alloc: Global, way: &mut Way, lines: &str) -> Result<(), Fail> {
+    for line in lines.lines() {
+        goes_on(rt, alloc, way, line)?;
+    }
+    Ok(())
+}
+
+/// A line of a case.
+fn goes_on<R: Abort>(rt: &R, alloc: Global, way: &mut Way, line: &str) -> Result<(), Fail> {
+    let (what, want) = line.split_once(" = ").ok_or("a line without =")?;
+    let found = given(rt, alloc, way, what)?;
+    is_wanted(rt, alloc, found.as_str(), want, line)
 }
 
 #[test]
-fn a_file_goes_out(rt: HostRuntime) -> Result<(), Fail> {
-    let mut spool = stored(&rt, rt.alloc())?;
-    let file = first(&rt, &spool);
-    let mut sender = Sender::Requested(file);
-    do_act(&rt, &mut sender, &mut spool, Act::Granted);
-    for (srcb, bytes) in [
-        (Some(0xc0), JOB.as_slice()),
-        (Some(0xe0), TO_METZ.as_slice()),
-        (Some(0x80), HELLO.as_slice()),
-        (Some(0xd0), TRAILER.as_slice()),
-        (None, b"".as_slice()),
-        (None, b"".as_slice()),
-    ] {
-        let (given, record) = next(&rt, &mut sender, &mut spool);
-        assert_eq!(rt; given, srcb);
-        assert_eq!(rt; record.as_slice(), bytes);
-    }
-    assert_eq!(rt; sender, Sender::EofSent(file));
-    assert_eq!(rt; state(&rt, &spool, file), Ok(State::Ready));
-    do_act(&rt, &mut sender, &mut spool, Act::Completed);
-    assert_eq!(rt; sender, Sender::Idle);
-    assert_eq!(rt; state(&rt, &spool, file), Err(SpoolFault::NoSuchFile));
-    Ok(())
+fn answers_in_each_state(rt: HostRuntime) -> Result<(), Fail> {
+    play(&rt, rt.alloc(), ANSWERS)
+}
+
+#[test]
+fn whole_lives(rt: HostRuntime) -> Result<(), Fail> {
+    play(&rt, rt.alloc(), LIVES)
+}
+
+#[test]
+fn files_by_their_routes(rt: HostRuntime) -> Result<(), Fail> {
+    play(&rt, rt.alloc(), ROUTES)
 }

@@ -2,57 +2,135 @@
 
 use super::*;
 use njh_ebcdic::Name;
-use njh_table::{LineId, Role, Route};
+use njh_table::{Customer, Line, Role};
+use std::process::Abort;
 use std::test::Fail;
+
+/// Capacity; a customer with its hub, quota and files; its lines, each with its node, role, block, streams, password and port;
+/// its routes.
+const READ: &str = "200
+ACME BUREAU 100 8
+a1 LYON call 300 1 SECRET 5000
+LYON by 0
+BOLT BUREAU 100 8
+b1 LYON answer 1024 4 - 0
+LYON by 0
+";
+
+const WITHOUT_A_FILE: &str = "200
+ACME BUREAU 100 8
+a1 LYON answer 1024 4 - 0
+LYON by 0
+BOLT BUREAU 100 8
+b1 LYON answer 1024 4 - 0
+LYON by 0
+";
+
+/// What is looked up in the base tables: a line's owner, or a node's route for the second customer.
+const LOOKED_UP: &str = "
+line a1 = Some(LineId { customer: 0, line: 0 })
+line b1 = Some(LineId { customer: 1, line: 0 })
+line a2 = None
+node LYON = Line(0)
+node BUREAU = Here
+node METZ = Unknown
+";
+
+fn text_of(alloc: Global, tables: &Tables) -> Result<String, AllocError> {
+    let mut text = format!(in alloc; "{}\n", tables.capacity())?;
+    for customer in tables.customers() {
+        push_customer(alloc, &mut text, customer)?;
+    }
+    Ok(text)
+}
+
+fn push_customer(alloc: Global, text: &mut String, customer: &Customer) -> Result<(), AllocError> {
+    let head = format!(in alloc;
+        "{} {} {} {}\n",
+        customer.name(),
+        customer.hub(),
+        customer.quota(),
+        customer.files()
+    )?;
+    text.push_str(head.as_str())?;
+    for line in customer.lines() {
+        push_line(alloc, text, line)?;
+    }
+    for index in 0..customer.routes() {
+        let (node, line) = customer.route_at(index);
+        text.push_str(format!(in alloc; "{node} by {line}\n")?.as_str())?;
+    }
+    Ok(())
+}
+
+fn push_line(alloc: Global, text: &mut String, line: &Line) -> Result<(), AllocError> {
+    let role = match line.role() {
+        Role::Answer => "answer",
+        Role::Call => "call",
+    };
+    let password = match line.password() {
+        Some(password) => password.to_string(alloc)?,
+        None => String::from_str(alloc, "-")?,
+    };
+    let all = format!(in alloc;
+        "{} {} {role} {} {} {password} {}\n",
+        line.name(),
+        line.node(),
+        line.block(),
+        line.streams(),
+        line.port()
+    )?;
+    text.push_str(all.as_str())
+}
+
+fn text_of_file(alloc: Global, file: &str) -> Result<String, Fail> {
+    let tables = Tables::read(alloc, file)?;
+    Ok(text_of(alloc, &tables)?)
+}
+
+fn looked_up<R: Abort>(rt: &R, alloc: Global, tables: &Tables, what: &str) -> Result<String, Fail> {
+    assert!(rt; 1 < tables.customers().len());
+    match what.split_once(" ") {
+        Some(("line", name)) => Ok(format!(in alloc; "{:?}", tables.line_owner(name))?),
+        Some(("node", node)) => {
+            let route = tables.route(1, Name::of_text(node)?);
+            Ok(format!(in alloc; "{route:?}")?)
+        }
+        _ => Err("nothing to look up".into()),
+    }
+}
+
+fn are_the_base<R: Abort>(rt: &R, alloc: Global, tables: &Tables) -> Result<(), Fail> {
+    let found = text_of(alloc, tables)?;
+    assert_eq!(rt; found.as_str(), WITHOUT_A_FILE);
+    look_up(rt, alloc, tables)
+}
+
+fn look_up<R: Abort>(rt: &R, alloc: Global, tables: &Tables) -> Result<(), Fail> {
+    for line in LOOKED_UP.trim().lines() {
+        let (what, want) = line.split_once(" = ").ok_or("a line without =")?;
+        let found = looked_up(rt, alloc, tables, what)?;
+        assert_eq!(rt; found.as_str(), want, "{line}");
+    }
+    Ok(())
+}
 
 #[test]
 fn a_file_is_read(rt: HostRuntime) -> Result<(), Fail> {
     let keys = "role = \"call\"\nblock = 300\nstreams = 1\npassword = \"SECRET\"\nport = 5000";
-    let text = BASE.replacen(
+    let file = BASE.replacen(
         rt.alloc(),
         "role = \"answer\"\nblock = 1024\nstreams = 4",
         keys,
         1,
     )?;
-    let tables = Tables::read(rt.alloc(), text.as_str())?;
-    assert!(rt; tables.capacity() == 200 && tables.customers().len() == 2);
-    let a1 = LineId {
-        customer: 0,
-        line: 0,
-    };
-    assert_eq!(rt; tables.line_owner("a1"), Some(a1));
-    assert!(rt; tables.has_line(a1));
-    let line = tables.line(a1);
-    assert_eq!(rt; (line.name(), line.node()), ("a1", Name::of_text("LYON")?));
-    assert_eq!(rt;
-        (line.role(), line.block(), line.streams()),
-        (Role::Call, 300, 1)
-    );
-    assert_eq!(rt;
-        (line.password(), line.port()),
-        (Some(Name::of_text("SECRET")?), 5000)
-    );
+    let found = text_of_file(rt.alloc(), file.as_str())?;
+    assert_eq!(rt; found.as_str(), READ);
     Ok(())
 }
 
 #[test]
 fn the_tables_without_a_file(rt: HostRuntime) -> Result<(), Fail> {
     let tables = Tables::base(rt.alloc())?;
-    assert!(rt; tables.customers().len() == 2);
-    let bolt = tables.customer(1);
-    assert_eq!(rt;
-        (bolt.name(), bolt.hub()),
-        (Name::of_text("BOLT")?, Name::of_text("BUREAU")?)
-    );
-    assert_eq!(rt;
-        (bolt.quota(), bolt.files(), bolt.lines().len()),
-        (100, 8, 1)
-    );
-    assert!(rt; bolt.routes() == 1);
-    assert_eq!(rt; bolt.route_at(0), (Name::of_text("LYON")?, 0));
-    assert_eq!(rt; bolt.route(Name::of_text("METZ")?), Route::Unknown);
-    assert_eq!(rt; tables.route(1, Name::of_text("LYON")?), Route::Line(0));
-    assert_eq!(rt; tables.route(1, Name::of_text("BUREAU")?), Route::Here);
-    assert_eq!(rt; tables.line_owner("a2"), None);
-    Ok(())
+    are_the_base(&rt, rt.alloc(), &tables)
 }
