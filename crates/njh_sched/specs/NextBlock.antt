@@ -84,9 +84,9 @@ abbrev pub oldest : (WholeFile → Bool) → Kind → CustomerSpool → Option W
 oldest goes kind s = find (may_go goes kind) s.whole
 
 -- a stream asks for a file, which is Sending from then on
-abbrev pub asking : Outlet → CustomerSpool → ℕ → WholeFile → Candidate
-asking o s k f =
-    record { item = Control 0x90 (rcb_of k); outlet = with_sender k (Requested f.number) o; spool = with_state f.number state.Sending s }
+abbrev pub asking : Outlet → CustomerSpool → ℕ → ℕ → Candidate
+asking o s k number =
+    record { item = Control 0x90 (rcb_of k); outlet = with_sender k (Requested number) o; spool = with_state number state.Sending s }
 
 abbrev pub is_idle : Sender → Bool
 is_idle Idle = true
@@ -98,7 +98,7 @@ may_ask o k = nat_lt (k % 4) o.streams && is_idle (sender_at k o)
 
 abbrev pub request_of : (WholeFile → Bool) → Outlet → CustomerSpool → ℕ → Option Candidate
 request_of goes o s k =
-    elim (may_ask o k) [ false ↦ None | true ↦ option_map (asking o s k) (oldest goes (kind_of k) s) ]
+    elim (may_ask o k) [ false ↦ None | true ↦ option_map (λ f. asking o s k f.number) (oldest goes (kind_of k) s) ]
 
 -- the nodal message that waits longest
 abbrev pub telling : Outlet → CustomerSpool → List ℕ → Candidate
@@ -232,6 +232,11 @@ filling w o s = record { block = w; outlet = o; spool = s; full = false }
 abbrev pub filling_where : Bool → Writing → Outlet → CustomerSpool → Filling
 filling_where true w o s = record { block = w; outlet = o; spool = s; full = false }
 filling_where false w o s = record { block = w; outlet = o; spool = s; full = true }
+
+-- a block with one record more, where it has room
+abbrev pub with_last_where : Bool → Item → Writing → Writing
+with_last_where true i w = with_last i w
+with_last_where false i w = w
 
 -- whether a block has records
 abbrev pub has_items : List Item → Bool

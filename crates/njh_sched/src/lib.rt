@@ -1,9 +1,16 @@
 //! The hub's next block: which records go out on a line, and what the hub lets its peer send (IBM SC23-0070, "Multileaving").
 #![tactic(auto)]
 
+mod adding;
+mod aborts;
 mod files;
+mod filling;
 mod outgoing;
+mod queues;
+mod records;
+mod requests;
 mod tight;
 
+//pub use filling::fill;
 pub use outgoing::Outgoing;
 pub use tight::own_fcs;

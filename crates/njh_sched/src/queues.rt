@@ -1,0 +1,60 @@
+//! The answers and the nodal messages that wait.
+
+ghost use Rattle.std.specs.Prelude.{◌≡◌, ◌≤◌, IsTrue, length, slice_get, Some, Bool};
+ghost use Rattle.njh_spool.specs.CustomerSpool.{CustomerSpool, WholeFile};
+ghost use Rattle.njh_sched.specs.NextBlock.{WaitingAnswer, WaitingMessage, waiting_answers, waiting_messages};
+ghost use Rattle.njh_sched.specs.NextBlock.{without_answer, without_message, after_source, after_sources, filling, filling_where};
+
+use crate::adding::{PLAIN, add_where_room};
+use crate::outgoing::Outgoing;
+use njh_block::{Answer, BlockWriter, Out, Rcb};
+
+/// Adds the answer that waits longest, where it has room.
+#[tactic(auto, unfolding(crate::specs::NextBlock::after_source))]
+fn add_answer<L: Outgoing>(line: &mut L, answer: Answer, writer: &mut BlockWriter) -> bool
+    requires { slice_get (L.outlet line.old).answers 0 ≡ Some answer }
+    ensures source { (goes : WholeFile → Bool) (s : CustomerSpool) → after_source goes WaitingAnswer (filling writer.old (L.outlet line.old) s)
+        ≡ filling_where result writer.new (L.outlet line.new) s }
+    ensures outlet { IsTrue result → L.outlet line.new ≡ without_answer (L.outlet line.old) }
+{
+    let has_room = add_where_room(answer.record(), writer);
+    if has_room {
+        line.pop_answer();
+    }
+    has_room
+}
+
+/// Adds the answers that wait, until one has no room, and says whether all had.
+pub fn add_answers<L: Outgoing>(line: &mut L, writer: &mut BlockWriter) -> bool
+    ensures { (goes : WholeFile → Bool) (s : CustomerSpool)
+        → after_sources goes (waiting_answers (L.outlet line.old)) (filling writer.old (L.outlet line.old) s)
+        ≡ filling_where result writer.new (L.outlet line.new) s }
+{
+    while let Some(answer) = line.front_answer() {
+        if !add_answer(line, answer, writer) {
+            return false;
+        }
+    }
+    true
+}
+
+/// Adds the nodal message that waits longest, where it has room.
+#[tactic(auto, unfolding(crate::specs::NextBlock::after_source))]
+fn add_message<L: Outgoing>(line: &mut L, message: &[u8], writer: &mut BlockWriter) -> bool
+    requires front { slice_get (L.outlet line.old).messages 0 ≡ Some message.now }
+    requires short { length message.now ≤ 256 }
+    ensures source { (goes : WholeFile → Bool) (s : CustomerSpool) → after_source goes WaitingMessage (filling writer.old (L.outlet line.old) s)
+        ≡ filling_where result writer.new (L.outlet line.new) s }
+    ensures outlet { IsTrue result → L.outlet line.new ≡ without_message (L.outlet line.old) }
+{
+    let out = Out::Data {
+        rcb: Rcb::MESSAGE,
+        srcb: PLAIN,
+        bytes: message,
+    };
+    let has_room = add_where_room(out, writer);
+    if has_room {
+        line.pop_message();
+    }
+    has_room
+}
