@@ -1,1 +1,2 @@
 pub mod FileLists
+pub mod SourceLists

@@ -123,7 +123,7 @@ is_sending _ = false
 abbrev pub may_send : Outlet → ℕ → Bool
 may_send o k = is_on o.peer k && is_sending (sender_at k o)
 
-abbrev pub streams : List ℕ
+unfoldable pub streams : List ℕ
 streams = 0 ∷ 1 ∷ 2 ∷ 3 ∷ 4 ∷ 5 ∷ 6 ∷ 7 ∷ []
 
 -- the streams in turn, beginning after one
@@ -237,6 +237,11 @@ filling_where false w o s = record { block = w; outlet = o; spool = s; full = tr
 abbrev pub with_last_where : Bool → Item → Writing → Writing
 with_last_where true i w = with_last i w
 with_last_where false i w = w
+
+-- a message had room, and is gone, or it waits
+abbrev pub message_gone_where : Bool → Outlet → Outlet
+message_gone_where true o = without_message o
+message_gone_where false o = o
 
 -- whether a block has records
 abbrev pub has_items : List Item → Bool
