@@ -6,19 +6,19 @@ use Rattle.njh_record.specs.declared.Kind.{Kind}
 use Rattle.njh_record.specs.declared.Kind.TheVariants.{In, Out}
 use Rattle.njh_spool.specs.CustomerSpool.{CustomerSpool, WholeFile}
 use Rattle.njh_sched.specs.NextBlock.{Outlet, Source, Filling, filling, filling_where, after_source, after_sources, streams, streams_of}
+use Rattle.njh_sched.specs.NextBlock.{StreamRequest, requests, requests_of}
 
--- the streams from one on
-pub stream_next : (place : ℕ) → place < 8 → drop place streams ≡ place ∷ drop (suc place) streams
+pub stream_at : (place : ℕ) → place < 8 → slice_get streams place ≡ Some place
 unfolding streams
-stream_next zero h = refl
-stream_next (suc zero) h = refl
-stream_next (suc (suc zero)) h = refl
-stream_next (suc (suc (suc zero))) h = refl
-stream_next (suc (suc (suc (suc zero)))) h = refl
-stream_next (suc (suc (suc (suc (suc zero))))) h = refl
-stream_next (suc (suc (suc (suc (suc (suc zero)))))) h = refl
-stream_next (suc (suc (suc (suc (suc (suc (suc zero))))))) h = refl
-stream_next (suc (suc (suc (suc (suc (suc (suc (suc n)))))))) h =
+stream_at zero h = refl
+stream_at (suc zero) h = refl
+stream_at (suc (suc zero)) h = refl
+stream_at (suc (suc (suc zero))) h = refl
+stream_at (suc (suc (suc (suc zero)))) h = refl
+stream_at (suc (suc (suc (suc (suc zero))))) h = refl
+stream_at (suc (suc (suc (suc (suc (suc zero)))))) h = refl
+stream_at (suc (suc (suc (suc (suc (suc (suc zero))))))) h = refl
+stream_at (suc (suc (suc (suc (suc (suc (suc (suc n)))))))) h =
     absurd (not-suc-le-zero (le_of_suc-le-suc (le_of_suc-le-suc (le_of_suc-le-suc (le_of_suc-le-suc
     (le_of_suc-le-suc (le_of_suc-le-suc (le_of_suc-le-suc (le_of_suc-le-suc h)))))))))
 
@@ -26,20 +26,36 @@ pub no_streams : (place : ℕ) → place ≡ 8 → drop place streams ≡ []
 unfolding streams
 no_streams place e = ap (λ n. drop n streams) e
 
+pub none_of_kind : (kind : Kind) (number : ℕ) → number ≡ 4 → drop number (streams_of kind) ≡ []
+none_of_kind In number e = ap (λ n. drop n (streams_of In)) e
+none_of_kind Out number e = ap (λ n. drop n (streams_of Out)) e
+
+pub both_kinds : requests ≡ requests_of In ++ requests_of Out
+unfolding streams
+both_kinds = refl
+
+-- the element at an index, and those behind it
+pub drop_at : (xs : List ℕ) (i x : ℕ) → slice_get xs i ≡ Some x → drop i xs ≡ x ∷ drop (i + 1) xs
+drop_at xs i x h = at_suc xs i h ∙ ap (λ n. x ∷ drop n xs) (sym (add-one i))
+  where
+    at_suc : (ys : List ℕ) (j : ℕ) → slice_get ys j ≡ Some x → drop j ys ≡ x ∷ drop (suc j) ys
+    at_suc [] j e = absurd (cc e)
+    at_suc (y ∷ ys) zero e = let same : y ≡ x = cc e in ap (λ z. z ∷ ys) same
+    at_suc (y ∷ ys) (suc j) e = at_suc ys j e
+
 -- looked for among the streams from one on
 module _ (p : ℕ → Bool) (f : ℕ → ℕ) where
   pub turn_found : (place k : ℕ) → place < 8 → k ≡ f place → p k ≡ true → find p (map f (drop place streams)) ≡ Some k
   turn_found place k h at e =
-      ap (λ more. find p (map f more)) (stream_next place h)
-      ∙ ap (λ b. cond b (Some (f place)) (find p (map f (drop (suc place) streams)))) (ap p (sym at) ∙ e)
+      ap (λ more. find p (map f more)) (drop_at streams place place (stream_at place h))
+      ∙ ap (λ b. cond b (Some (f place)) (find p (map f (drop (place + 1) streams)))) (ap p (sym at) ∙ e)
       ∙ ap Some (sym at)
 
   pub turn_passed : (place k : ℕ) → place < 8 → k ≡ f place → p k ≡ false
       → find p (map f (drop place streams)) ≡ find p (map f (drop (place + 1) streams))
   turn_passed place k h at e =
-      ap (λ more. find p (map f more)) (stream_next place h)
-      ∙ ap (λ b. cond b (Some (f place)) (find p (map f (drop (suc place) streams)))) (ap p (sym at) ∙ e)
-      ∙ ap (λ n. find p (map f (drop n streams))) (sym (add-one place))
+      ap (λ more. find p (map f more)) (drop_at streams place place (stream_at place h))
+      ∙ ap (λ b. cond b (Some (f place)) (find p (map f (drop (place + 1) streams)))) (ap p (sym at) ∙ e)
 
   pub no_turn : (place : ℕ) → place ≡ 8 → find p (map f (drop place streams)) ≡ None
   no_turn place e = ap (λ more. find p (map f more)) (no_streams place e)
@@ -78,27 +94,26 @@ module _ (goes : WholeFile → Bool) where
   empty_queue [] source x h = nothing_left x
   empty_queue (b ∷ xs) source x h = absurd (cc h)
 
-  -- one stream more, and it had room or nothing to send
-  pub stream_went_on :
-      (of : ℕ → Source) (place k : ℕ) (b : Bool) (x : Filling) (w : Writing) (o : Outlet) (s : CustomerSpool) → place < 8 → k ≡ place → b ≡ true
-      → after_source goes (of k) x ≡ filling_where b w o s
-      → after_sources goes (map of (drop place streams)) x ≡ after_sources goes (map of (drop (place + 1) streams)) (filling w o s)
-  stream_went_on of place k b x w o s h at room e =
-      ap (λ more. after_sources goes (map of more) x) (stream_next place h)
-      ∙ one_more (of place) (map of (drop (suc place) streams)) x (filling w o s)
-      (ap (λ n. after_source goes (of n) x) (sym at) ∙ e ∙ ap (λ v. filling_where v w o s) room)
-      ∙ ap (λ n. after_sources goes (map of (drop n streams)) (filling w o s)) (sym (add-one place))
+  -- the streams of a list, each a source
+  module _ (of : ℕ → Source) (ks : List ℕ) where
+    -- one stream more, and it had room or nothing to send
+    pub stream_went_on :
+        (i k : ℕ) (b : Bool) (x : Filling) (w : Writing) (o : Outlet) (s : CustomerSpool) → slice_get ks i ≡ Some k → b ≡ true
+        → after_source goes (of k) x ≡ filling_where b w o s
+        → after_sources goes (map of (drop i ks)) x ≡ after_sources goes (map of (drop (i + 1) ks)) (filling w o s)
+    stream_went_on i k b x w o s at room e =
+        ap (λ more. after_sources goes (map of more) x) (drop_at ks i k at)
+        ∙ one_more (of k) (map of (drop (i + 1) ks)) x (filling w o s) (e ∙ ap (λ v. filling_where v w o s) room)
 
-  -- one stream more, and it had no room
-  pub stream_stopped :
-      (of : ℕ → Source) (place k : ℕ) (b : Bool) (x : Filling) (w : Writing) (o : Outlet) (s : CustomerSpool) → place < 8 → k ≡ place → b ≡ false
-      → after_source goes (of k) x ≡ filling_where b w o s
-      → after_sources goes (map of (drop place streams)) x ≡ filling_where false w o s
-  stream_stopped of place k b x w o s h at room e =
-      ap (λ more. after_sources goes (map of more) x) (stream_next place h)
-      ∙ one_more (of place) (map of (drop (suc place) streams)) x (filling_where false w o s)
-      (ap (λ n. after_source goes (of n) x) (sym at) ∙ e ∙ ap (λ v. filling_where v w o s) room)
-      ∙ full_stays (map of (drop (suc place) streams)) w o s
+    -- one stream more, and it had no room
+    pub stream_stopped :
+        (i k : ℕ) (b : Bool) (x : Filling) (w : Writing) (o : Outlet) (s : CustomerSpool) → slice_get ks i ≡ Some k → b ≡ false
+        → after_source goes (of k) x ≡ filling_where b w o s
+        → after_sources goes (map of (drop i ks)) x ≡ filling_where false w o s
+    stream_stopped i k b x w o s at room e =
+        ap (λ more. after_sources goes (map of more) x) (drop_at ks i k at)
+        ∙ one_more (of k) (map of (drop (i + 1) ks)) x (filling_where false w o s) (e ∙ ap (λ v. filling_where v w o s) room)
+        ∙ full_stays (map of (drop (i + 1) ks)) w o s
 
-  pub streams_done : (of : ℕ → Source) (place : ℕ) (x : Filling) → place ≡ 8 → after_sources goes (map of (drop place streams)) x ≡ x
-  streams_done of place x e = ap (λ more. after_sources goes (map of more) x) (no_streams place e) ∙ nothing_left x
+    pub streams_done : (i : ℕ) (x : Filling) → drop i ks ≡ [] → after_sources goes (map of (drop i ks)) x ≡ x
+    streams_done i x e = ap (λ more. after_sources goes (map of more) x) e ∙ nothing_left x

@@ -1,8 +1,9 @@
 -- What the hub's next block holds (IBM SC23-0070, multileaving): what may come stands in one order, each is judged in the state that those
 -- before it leave, and the block takes the longest front that has room.
-use Rattle.std.specs.Prelude.{ℕ, ◌+◌, ◌%◌, Bool, true, false, List, [], ◌∷◌, ◌++◌, length, drop, set, map, replicate, find, slice_get}
+use Rattle.std.specs.Prelude.{◌≡◌, ◌≤◌, ℕ, ◌+◌, ◌-◌, ◌%◌, Bool, true, false, List, [], ◌∷◌, ◌++◌, length, take, drop, set, map, replicate, find, slice_get}
 use Rattle.std.specs.Prelude.{slice_index_or, option_map, Option, Some, None, nat_lt, ◌&&◌}
-use Rattle.njh_block.specs.Blocks.{Item, Data, Aborted, Control, control_byte, rcb_of, is_on, all_suspended, messages_on}
+use Rattle.std.specs.List.{list_any}
+use Rattle.njh_block.specs.Blocks.{Item, Data, Aborted, Control, text_of, control_byte, rcb_of, is_on, all_suspended, messages_on}
 use Rattle.njh_block.specs.Codes.{kind_of}
 use Rattle.njh_block.specs.Writing.{Writing, has_room, with_last}
 use Rattle.njh_block.specs.declared.answer.Answer.{Answer}
@@ -155,18 +156,14 @@ candidate goes (StreamRequest k) o s = request_of goes o s k
 candidate goes WaitingMessage o s = message_of o s
 candidate goes StreamTurn o s = turn_of o s
 
-abbrev pub streams_of : Kind → List ℕ
-streams_of In = 0 ∷ 1 ∷ 2 ∷ 3 ∷ []
-streams_of Out = 4 ∷ 5 ∷ 6 ∷ 7 ∷ []
-
 abbrev pub waiting_answers : Outlet → List Source
 waiting_answers o = replicate (length o.answers) WaitingAnswer
 
 abbrev pub aborts : List Source
 aborts = map StreamAbort streams
 
-abbrev pub requests : Kind → List Source
-requests kind = map StreamRequest (streams_of kind)
+abbrev pub requests : List Source
+requests = map StreamRequest streams
 
 abbrev pub messages_where : Bool → Outlet → List Source
 messages_where true o = replicate (length o.messages) WaitingMessage
@@ -178,9 +175,11 @@ waiting_messages o = messages_where (messages_on o.peer) o
 
 -- The answers that wait, the streams' aborts, their requests, the messages that wait, and then the streams in turn: as often as the block
 -- may have bytes, which is more than it has room for.
+abbrev pub turns : ℕ → List Source
+turns most = replicate most StreamTurn
+
 abbrev pub sources : ℕ → Outlet → List Source
-sources limit o =
-    waiting_answers o ++ (aborts ++ (requests In ++ (requests Out ++ (waiting_messages o ++ replicate limit StreamTurn))))
+sources limit o = waiting_answers o ++ (aborts ++ (requests ++ (waiting_messages o ++ turns limit)))
 
 -- ---- what the block takes
 
@@ -232,6 +231,23 @@ filling w o s = record { block = w; outlet = o; spool = s; full = false }
 abbrev pub filling_where : Bool → Writing → Outlet → CustomerSpool → Filling
 filling_where true w o s = record { block = w; outlet = o; spool = s; full = false }
 filling_where false w o s = record { block = w; outlet = o; spool = s; full = true }
+
+-- how many bytes more a block may have
+abbrev pub room_of : Writing → ℕ
+room_of w = w.limit - length (text_of w.bcb w.fcs w.items)
+
+-- the streams of a kind
+abbrev pub streams_of : Kind → List ℕ
+streams_of In = 0 ∷ 1 ∷ 2 ∷ 3 ∷ []
+streams_of Out = 4 ∷ 5 ∷ 6 ∷ 7 ∷ []
+
+abbrev pub requests_of : Kind → List Source
+requests_of kind = map StreamRequest (streams_of kind)
+
+-- no file before an index may go on a stream of a kind
+pub record HasPassed (goes : WholeFile → Bool) (kind : Kind) (index : ℕ) (s : CustomerSpool) : Type 0 where
+  pub within : index ≤ length s.whole
+  pub none : list_any (may_go goes kind) (take index s.whole) ≡ false
 
 -- a block with one record more, where it has room
 abbrev pub with_last_where : Bool → Item → Writing → Writing

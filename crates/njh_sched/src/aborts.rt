@@ -12,9 +12,10 @@ use njh_stream::Sender;
 /// Adds a stream's abort, where it has one to send and it has room.
 #[tactic(auto, unfolding(crate::specs::NextBlock::after_source))]
 fn add_abort<L: Outgoing>(stream: Stream, line: &mut L, writer: &mut BlockWriter) -> bool
-    ensures { (goes : WholeFile → Bool) (s : CustomerSpool)
+    ensures source { (goes : WholeFile → Bool) (s : CustomerSpool)
         → after_source goes (StreamAbort stream) (filling writer.old (L.outlet line.old) s)
         ≡ filling_where result writer.new (L.outlet line.new) s }
+    ensures rest { L.rest line.new ≡ L.rest line.old }
 {
     match line.sender(stream) {
         Sender::Aborting => {
@@ -34,8 +35,9 @@ fn add_abort<L: Outgoing>(stream: Stream, line: &mut L, writer: &mut BlockWriter
 
 /// Adds the streams' aborts, until one has no room, and says whether all had.
 pub fn add_aborts<L: Outgoing>(line: &mut L, writer: &mut BlockWriter) -> bool
-    ensures { (goes : WholeFile → Bool) (s : CustomerSpool) → after_sources goes aborts (filling writer.old (L.outlet line.old) s)
+    ensures source { (goes : WholeFile → Bool) (s : CustomerSpool) → after_sources goes aborts (filling writer.old (L.outlet line.old) s)
         ≡ filling_where result writer.new (L.outlet line.new) s }
+    ensures rest { L.rest line.new ≡ L.rest line.old }
 {
     for place in 0..Stream::COUNT {
         if !add_abort(Stream::at(place), line, writer) {

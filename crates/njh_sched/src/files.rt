@@ -1,12 +1,11 @@
 //! A customer's files, one after the other.
 
-ghost use Rattle.std.specs.Prelude.{◌≡◌, ◌<◌, ◌≤◌, length, slice_get, take, false, Some, ◌&&◌};
-ghost use Rattle.std.specs.List.{list_any};
+ghost use Rattle.std.specs.Prelude.{◌≡◌, ◌<◌, length, slice_get, IsSomeAnd, Some, ◌&&◌};
 ghost use Rattle.njh_spool.specs.CustomerSpool.{WholeFile, whole_numbered};
 ghost use Rattle.njh_spool.specs.Spools.{part};
 ghost use Rattle.njh_stream.specs.Sending.{goes_by, holds_of};
 ghost use Rattle.njh_table.specs.TableFile.{entry_of};
-ghost use Rattle.njh_sched.specs.NextBlock.{same_kind, may_go, oldest};
+ghost use Rattle.njh_sched.specs.NextBlock.{HasPassed, same_kind, may_go, oldest};
 
 use njh_record::Kind;
 use njh_spool::{FileId, Spool, State};
@@ -17,7 +16,8 @@ use njh_table::Customer;
 pub fn file_at(customer: u16, index: u32, spool: &Spool) -> FileId
     requires range { customer < length spool.now }
     requires index_range { index < length (part customer spool.now).whole }
-    ensures { whole_numbered result (part customer spool.now) ≡ slice_get (part customer spool.now).whole index }
+    ensures file { whole_numbered result (part customer spool.now) ≡ slice_get (part customer spool.now).whole index }
+    ensures number { IsSomeAnd (slice_get (part customer spool.now).whole index) (λ f. result ≡ f.number) }
 {
     spool.quota_holds(customer);
     spool.file_at(customer, index)
@@ -82,10 +82,8 @@ pub fn oldest_from(
     spool: &Spool,
 ) -> u32
     requires range { customer < length spool.now }
-    requires from_range { from ≤ length (part customer spool.now).whole }
-    requires passed { list_any (may_go (goes_by (entry_of entry.now) line) kind) (take from (part customer spool.now).whole) ≡ false }
-    ensures range { result ≤ length (part customer spool.now).whole }
-    ensures passed { list_any (may_go (goes_by (entry_of entry.now) line) kind) (take result (part customer spool.now).whole) ≡ false }
+    requires from { HasPassed (goes_by (entry_of entry.now) line) kind from (part customer spool.now) }
+    ensures passed { HasPassed (goes_by (entry_of entry.now) line) kind result (part customer spool.now) }
     ensures oldest { oldest (goes_by (entry_of entry.now) line) kind (part customer spool.now)
         ≡ slice_get (part customer spool.now).whole result }
 {

@@ -17,13 +17,7 @@ pub trait Outgoing {
 
     ghost outlet: { Self → Outlet };
 
-    // NOTE OF THE LEAD (2026-11-22, take it out when done): without this the hub can't know that `fill` leaves a line's session, config,
-    // last frame and receivers. So: `rest` is the line without what its outlet shows (an implementor gives the line with an empty outlet);
-    // every method that takes `&mut self` ensures `rest self.new ≡ rest self.old` (added below), and so must `fill` and each function
-    // of yours that takes `&mut impl Outgoing`. Second: the hub's line value must not know its customer's number (it differs between
-    // hubs), so please give `fill` the `LineId` as an argument (`fill(line: &mut impl Outgoing, id: LineId, ..)`) and drop `id` here.
-    // See /work/h/sched/LEAD-NOTE.md.
-    /// The line without what its outlet shows.
+    // The line without what its outlet shows.
     ghost rest: { Self → Self };
 
     /// Which line it is.

@@ -1,6 +1,6 @@
 //! The answers and the nodal messages that wait.
 
-ghost use Rattle.std.specs.Prelude.{◌≡◌, ◌≤◌, IsTrue, length, slice_get, Some, Bool};
+ghost use Rattle.std.specs.Prelude.{◌≡◌, ◌≤◌, IsTrue, length, slice_get, Some, Bool, true};
 ghost use Rattle.njh_spool.specs.CustomerSpool.{CustomerSpool, WholeFile};
 ghost use Rattle.njh_sched.specs.NextBlock.{Outlet, WaitingAnswer, WaitingMessage, waiting_answers, messages_where, waiting_messages};
 ghost use Rattle.njh_sched.specs.NextBlock.{without_answer, message_gone_where, after_source, after_sources, filling, filling_where};
@@ -16,6 +16,7 @@ fn add_answer<L: Outgoing>(line: &mut L, answer: Answer, writer: &mut BlockWrite
     ensures source { (goes : WholeFile → Bool) (s : CustomerSpool) → after_source goes WaitingAnswer (filling writer.old (L.outlet line.old) s)
         ≡ filling_where result writer.new (L.outlet line.new) s }
     ensures outlet { IsTrue result → L.outlet line.new ≡ without_answer (L.outlet line.old) }
+    ensures rest { L.rest line.new ≡ L.rest line.old }
 {
     let has_room = add_where_room(answer.record(), writer);
     if has_room {
@@ -26,9 +27,10 @@ fn add_answer<L: Outgoing>(line: &mut L, answer: Answer, writer: &mut BlockWrite
 
 /// Adds the answers that wait, until one has no room, and says whether all had.
 pub fn add_answers<L: Outgoing>(line: &mut L, writer: &mut BlockWriter) -> bool
-    ensures { (goes : WholeFile → Bool) (s : CustomerSpool)
+    ensures source { (goes : WholeFile → Bool) (s : CustomerSpool)
         → after_sources goes (waiting_answers (L.outlet line.old)) (filling writer.old (L.outlet line.old) s)
         ≡ filling_where result writer.new (L.outlet line.new) s }
+    ensures rest { L.rest line.new ≡ L.rest line.old }
 {
     while let Some(answer) = line.front_answer() {
         if !add_answer(line, answer, writer) {
@@ -55,9 +57,10 @@ fn add_message(message: &[u8], writer: &mut BlockWriter) -> bool
 
 /// Adds the nodal messages that wait, until one has no room, and says whether all had.
 fn add_all_messages<L: Outgoing>(line: &mut L, writer: &mut BlockWriter) -> bool
-    ensures { (goes : WholeFile → Bool) (s : CustomerSpool)
+    ensures source { (goes : WholeFile → Bool) (s : CustomerSpool)
         → after_sources goes (messages_where true (L.outlet line.old)) (filling writer.old (L.outlet line.old) s)
         ≡ filling_where result writer.new (L.outlet line.new) s }
+    ensures rest { L.rest line.new ≡ L.rest line.old }
 {
     while let Some(message) = line.front_message() {
         if !add_message(message, writer) {
@@ -70,9 +73,10 @@ fn add_all_messages<L: Outgoing>(line: &mut L, writer: &mut BlockWriter) -> bool
 
 /// Adds the nodal messages that wait, where the peer lets them, until one has no room, and says whether all had.
 pub fn add_messages<L: Outgoing>(line: &mut L, writer: &mut BlockWriter) -> bool
-    ensures { (goes : WholeFile → Bool) (s : CustomerSpool)
+    ensures source { (goes : WholeFile → Bool) (s : CustomerSpool)
         → after_sources goes (waiting_messages (L.outlet line.old)) (filling writer.old (L.outlet line.old) s)
         ≡ filling_where result writer.new (L.outlet line.new) s }
+    ensures rest { L.rest line.new ≡ L.rest line.old }
 {
     if line.peer().messages_on() {
         add_all_messages(line, writer)

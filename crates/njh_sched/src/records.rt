@@ -1,10 +1,10 @@
 //! The records of the streams, in turn.
 
-ghost use Rattle.std.specs.Prelude.{◌≡◌, ◌<◌, Bool, length, replicate, Some};
+ghost use Rattle.std.specs.Prelude.{◌≡◌, ◌<◌, Bool, IsTrue, length, Some};
 ghost use Rattle.njh_spool.specs.CustomerSpool.{WholeFile};
 ghost use Rattle.njh_spool.specs.Spools.{part};
 ghost use Rattle.njh_stream.specs.Sending.{next_of};
-ghost use Rattle.njh_sched.specs.NextBlock.{StreamTurn, is_sending, may_send, next_served, sender_at, serving};
+ghost use Rattle.njh_sched.specs.NextBlock.{turns, may_send, next_served, room_of, sender_at, serving};
 ghost use Rattle.njh_sched.specs.NextBlock.{after_candidate, after_sources, filling, filling_where};
 
 use crate::adding::{PLAIN, add_where_room};
@@ -50,6 +50,8 @@ fn add_record<L: Outgoing>(
         (filling writer.old (L.outlet line.old) (part customer spool.old))
         ≡ filling_where result writer.new (L.outlet line.new) (part customer spool.old) }
     ensures spool { spool.new ≡ spool.old }
+    ensures room { IsTrue result → room_of writer.new < room_of writer.old }
+    ensures rest { L.rest line.new ≡ L.rest line.old }
 {
     let mut sender = line.sender(stream);
     let srcb = sender.next(customer, spool, record).unwrap_or(PLAIN);
@@ -64,4 +66,28 @@ fn add_record<L: Outgoing>(
         line.set_served(stream);
     }
     has_room
+}
+
+/// Adds records and ends of file of the streams in turn, until one has no room, and says whether all had.
+pub fn add_records<L: Outgoing>(
+    line: &mut L,
+    customer: u16,
+    spool: &mut Spool,
+    writer: &mut BlockWriter,
+) -> bool
+    requires { customer < length spool.old }
+    ensures source { (goes : WholeFile → Bool) → after_sources goes (turns writer.old.limit)
+        (filling writer.old (L.outlet line.old) (part customer spool.old))
+        ≡ filling_where result writer.new (L.outlet line.new) (part customer spool.old) }
+    ensures spool { spool.new ≡ spool.old }
+    ensures rest { L.rest line.new ≡ L.rest line.old }
+{
+    let _some_room = writer.text();
+    let mut record = Record::new();
+    while let Some(stream) = next_served(line) {
+        if !add_record(stream, line, customer, spool, &mut record, writer) {
+            return false;
+        }
+    }
+    true
 }
