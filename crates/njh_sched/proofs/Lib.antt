@@ -1,4 +1,5 @@
 pub mod FileLists
+pub mod KeptLaws
 pub mod RequestLaws
 pub mod SourceLists
 pub mod SpoolLaws

@@ -1,7 +1,7 @@
 -- What the hub's next block holds (IBM SC23-0070, multileaving): what may come stands in one order, each is judged in the state that those
 -- before it leave, and the block takes the longest front that has room.
 use Rattle.std.specs.Prelude.{◌≡◌, ◌≤◌, ℕ, ◌+◌, ◌-◌, ◌%◌, Bool, true, false, List, [], ◌∷◌, ◌++◌, length, take, drop, set, map, replicate, find, slice_get}
-use Rattle.std.specs.Prelude.{slice_index_or, option_map, Option, Some, None, nat_lt, ◌&&◌}
+use Rattle.std.specs.Prelude.{slice_index_or, option_map, Option, Some, None, nat_lt, not, ◌&&◌}
 use Rattle.std.specs.List.{list_any}
 use Rattle.njh_block.specs.Blocks.{Item, Data, Aborted, Control, text_of, control_byte, rcb_of, is_on, all_suspended, messages_on}
 use Rattle.njh_block.specs.Codes.{kind_of}
@@ -165,13 +165,13 @@ aborts = map StreamAbort streams
 abbrev pub requests : List Source
 requests = map StreamRequest streams
 
-abbrev pub messages_where : Bool → Outlet → List Source
-messages_where true o = replicate (length o.messages) WaitingMessage
-messages_where false o = []
+abbrev pub messages_where : Bool → List (List ℕ) → List Source
+messages_where true messages = replicate (length messages) WaitingMessage
+messages_where false messages = []
 
 -- none where the peer doesn't let them
 abbrev pub waiting_messages : Outlet → List Source
-waiting_messages o = messages_where (messages_on o.peer) o
+waiting_messages o = messages_where (messages_on o.peer) o.messages
 
 -- The answers that wait, the streams' aborts, their requests, the messages that wait, and then the streams in turn: as often as the block
 -- may have bytes, which is more than it has room for.
@@ -227,10 +227,9 @@ filled goes x = filled_where (all_suspended x.outlet.peer) goes x
 abbrev pub filling : Writing → Outlet → CustomerSpool → Filling
 filling w o s = record { block = w; outlet = o; spool = s; full = false }
 
--- where it is told whether the block may take more
+-- where it is told whether all had room so far
 abbrev pub filling_where : Bool → Writing → Outlet → CustomerSpool → Filling
-filling_where true w o s = record { block = w; outlet = o; spool = s; full = false }
-filling_where false w o s = record { block = w; outlet = o; spool = s; full = true }
+filling_where more w o s = record { block = w; outlet = o; spool = s; full = not more }
 
 -- how many bytes more a block may have
 abbrev pub room_of : Writing → ℕ

@@ -11,6 +11,6 @@ mod records;
 mod requests;
 mod tight;
 
-//pub use filling::fill;
+pub use filling::fill;
 pub use outgoing::Outgoing;
 pub use tight::own_fcs;

@@ -58,7 +58,7 @@ fn add_message(message: &[u8], writer: &mut BlockWriter) -> bool
 /// Adds the nodal messages that wait, until one has no room, and says whether all had.
 fn add_all_messages<L: Outgoing>(line: &mut L, writer: &mut BlockWriter) -> bool
     ensures source { (goes : WholeFile → Bool) (s : CustomerSpool)
-        → after_sources goes (messages_where true (L.outlet line.old)) (filling writer.old (L.outlet line.old) s)
+        → after_sources goes (messages_where true (L.outlet line.old).messages) (filling writer.old (L.outlet line.old) s)
         ≡ filling_where result writer.new (L.outlet line.new) s }
     ensures rest { L.rest line.new ≡ L.rest line.old }
 {
