@@ -3,4 +3,5 @@ pub mod KeptLaws
 pub mod RequestLaws
 pub mod SourceLists
 pub mod SpoolLaws
+pub mod StreamLaws
 pub mod TurnLaws

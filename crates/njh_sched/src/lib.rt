@@ -5,6 +5,7 @@ mod adding;
 mod aborts;
 mod files;
 mod filling;
+mod laws;
 mod outgoing;
 mod queues;
 mod records;
@@ -12,5 +13,6 @@ mod requests;
 mod tight;
 
 pub use filling::fill;
+pub use laws::{nothing_where_all_is_suspended, sources_move_streams_so};
 pub use outgoing::Outgoing;
 pub use tight::own_fcs;

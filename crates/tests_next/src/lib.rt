@@ -1,5 +1,5 @@
 //! Tests of the next block, over the public items of njh_sched.
-#![tactic(auto)]
+#![tactic(auto, using(crate::proofs::KeptLaws::kept, crate::proofs::KeptLaws::finished_quota, crate::proofs::KeptLaws::kept_again))]
 
 #[cfg(test)]
 mod desk;
