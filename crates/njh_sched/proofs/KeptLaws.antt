@@ -1,5 +1,5 @@
 -- What sources leave alone: the block's limit, and all but one kind the nodal messages that wait.
-use Rattle.std.proofs.Common.{◌≡◌, ℕ, zero, suc, Bool, true, false, ◌&&◌, List, [], ◌∷◌, ◌++◌, map, replicate, Option, Some, None}
+use Rattle.std.proofs.Common.{◌≡◌, ℕ, zero, suc, Bool, true, false, ◌&&◌, List, [], ◌∷◌, ◌++◌, replicate, Option, Some, None}
 use Rattle.std.proofs.Common.{option_map, refl, sym, ap, ◌∙◌}
 use Rattle.std.specs.List.{list_all}
 use Rattle.njh_block.specs.declared.answer.Answer.{Answer}
@@ -8,8 +8,8 @@ use Rattle.njh_spool.specs.CustomerSpool.{CustomerSpool, WholeFile}
 use Rattle.njh_stream.specs.declared.sender.Sender.{Sender}
 use Rattle.njh_stream.specs.declared.sender.Sender.TheVariants.{Idle, Requested, Sending, EofSent, Aborting}
 use Rattle.njh_sched.specs.NextBlock.{Outlet, Candidate, Filling, Source, WaitingAnswer, StreamAbort, StreamRequest, WaitingMessage, StreamTurn}
-use Rattle.njh_sched.specs.NextBlock.{answering, abort_where, asking, serving, added_where, after_candidate, after_source, after_source_where, after_sources}
-use Rattle.njh_sched.specs.NextBlock.{candidate, filling, filling_where, may_ask, sender_at, waiting_messages, aborts, requests, streams, turn_of}
+use Rattle.njh_sched.specs.NextBlock.{answering, abort_where, asking, added_where, after_candidate, after_source, after_source_where, after_sources}
+use Rattle.njh_sched.specs.NextBlock.{candidate, filling, filling_where, may_ask, sender_at, waiting_messages, aborts, requests, streams}
 use Rattle.njh_sched.proofs.SourceLists.{one_behind_others, full_stays}
 
 module _ (goes : WholeFile → Bool) where

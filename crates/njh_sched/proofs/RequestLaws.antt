@@ -1,7 +1,6 @@
 -- A stream's request, and the files that were looked at for it.
-use Rattle.std.proofs.Common.{◌≡◌, ◌<◌, ◌≤◌, ℕ, ◌+◌, Bool, true, false, ◌&&◌, List, ◌∷◌, length, take, map, Option, Some, None, ◌==◌, cond}
-use Rattle.std.proofs.Common.{slice_get, option_map, IsSomeAnd, refl, sym, ap, ◌∙◌, subst, add-one, arith, eq-eqb}
-use Rattle.std.specs.List.{list_any}
+use Rattle.std.proofs.Common.{◌≡◌, ◌<◌, ℕ, ◌+◌, Bool, true, false, List, length, map, Option, Some, None, ◌==◌, cond}
+use Rattle.std.proofs.Common.{slice_get, option_map, IsSomeAnd, refl, sym, ap, ◌∙◌, arith, eq-eqb}
 use Rattle.std.proofs.lemmas.Option.{slice_get_within, slice_get-map}
 use Rattle.std.proofs.lemmas.List.{length-map}
 use Rattle.njh_block.specs.Codes.{kind_of}

@@ -1,12 +1,12 @@
 -- Sources one after the other.
-use Rattle.std.proofs.Common.{◌≡◌, ◌<◌, ℕ, zero, suc, ◌+◌, Bool, true, false, List, [], ◌∷◌, ◌++◌, length, drop, map, replicate, Option, Some, None}
+use Rattle.std.proofs.Common.{◌≡◌, ◌<◌, ℕ, zero, suc, ◌+◌, Bool, true, false, List, [], ◌∷◌, ◌++◌, length, drop, map, replicate, Some, None}
 use Rattle.std.proofs.Common.{slice_get, find, cond, refl, sym, ap, ◌∙◌, not-suc-le-zero, le_of_suc-le-suc, add-one}
 use Rattle.njh_block.specs.Writing.{Writing}
 use Rattle.njh_record.specs.declared.Kind.{Kind}
 use Rattle.njh_record.specs.declared.Kind.TheVariants.{In, Out}
 use Rattle.njh_spool.specs.CustomerSpool.{CustomerSpool, WholeFile}
 use Rattle.njh_sched.specs.NextBlock.{Outlet, Source, Filling, filling, filling_where, after_source, after_sources, streams, streams_of}
-use Rattle.njh_sched.specs.NextBlock.{StreamRequest, requests, requests_of}
+use Rattle.njh_sched.specs.NextBlock.{requests, requests_of}
 
 pub stream_at : (place : ℕ) → place < 8 → slice_get streams place ≡ Some place
 unfolding streams

@@ -1,5 +1,5 @@
 -- A customer's part of the spool that moves on.
-use Rattle.std.proofs.Common.{◌≡◌, ◌<◌, ℕ, List, length, slice_set, set, sym, ap, subst, ◌∙◌}
+use Rattle.std.proofs.Common.{◌≡◌, ◌<◌, ℕ, List, length, slice_set, sym, ap, subst, ◌∙◌}
 use Rattle.std.proofs.lemmas.List.{set-set}
 use Rattle.std.proofs.Math.ListN.{length-set}
 use Rattle.njh_spool.specs.CustomerSpool.{CustomerSpool}

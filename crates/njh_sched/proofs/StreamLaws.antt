@@ -1,6 +1,6 @@
 -- What one source does to a stream.
-use Rattle.std.proofs.Common.{◌≡◌, ◌<◌, ℕ, zero, suc, ◌+◌, ◌%◌, Bool, true, false, ◌&&◌, List, [], ◌∷◌, ◌++◌, length, map, filter, find, cond}
-use Rattle.std.proofs.Common.{Option, Some, None, option_map, slice_get, set, get_or, ◌==◌, refl, sym, ap, subst, ◌∙◌, arith, not-suc-le-zero, le_of_suc-le-suc, lit<}
+use Rattle.std.proofs.Common.{◌≡◌, ◌<◌, ℕ, zero, suc, ◌+◌, ◌%◌, Bool, true, false, ◌&&◌, List, [], ◌∷◌, ◌++◌, length, map, find, cond}
+use Rattle.std.proofs.Common.{Option, Some, None, option_map, slice_get, set, get_or, ◌==◌, refl, sym, ap, subst, ◌∙◌, not-suc-le-zero, le_of_suc-le-suc, lit<}
 use Rattle.std.proofs.Math.Nat.{mod-lt}
 use Rattle.std.proofs.lemmas.List.{get_or-set_same, get_or-set_other}
 use Rattle.std.proofs.lemmas.Bool.{eqb-true, eqb-false}
@@ -9,14 +9,14 @@ use Rattle.njh_block.specs.Codes.{kind_of}
 use Rattle.njh_block.specs.Writing.{has_room}
 use Rattle.njh_block.specs.declared.answer.Answer.{Answer}
 use Rattle.njh_record.specs.Stored.{Stored}
-use Rattle.njh_spool.specs.CustomerSpool.{CustomerSpool, WholeFile}
+use Rattle.njh_spool.specs.CustomerSpool.{WholeFile}
 use Rattle.njh_stream.specs.Sending.{next_of}
 use Rattle.njh_stream.specs.declared.sender.Sender.{Sender}
 use Rattle.njh_stream.specs.declared.sender.Sender.TheVariants.{Idle, Requested, Sending, EofSent, Aborting}
 use Rattle.njh_sched.specs.NextBlock.{Outlet, Candidate, Filling, Source, WaitingAnswer, StreamAbort, StreamRequest, WaitingMessage, StreamTurn}
 use Rattle.njh_sched.specs.NextBlock.{answering, telling, giving_up, abort_where, asking, is_idle, is_sending, may_ask, may_send, oldest, next_served}
-use Rattle.njh_sched.specs.NextBlock.{data_item, serving, sender_at, streams, candidate, added_where, after_candidate, after_source, after_source_where}
-use Rattle.njh_sched.specs.Laws.{is_under, records_under, IsLeft, GivesUp, Asks, Sends, Does, left, gives_up, asks, sends}
+use Rattle.njh_sched.specs.NextBlock.{data_item, sender_at, streams, candidate, added_where, after_candidate, after_source, after_source_where}
+use Rattle.njh_sched.specs.Laws.{is_under, records_under, Does, left, gives_up, asks, sends}
 use Rattle.njh_sched.proofs.TurnLaws.{served_by}
 
 -- an item that isn't under an RCB

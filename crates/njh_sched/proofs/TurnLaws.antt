@@ -1,5 +1,5 @@
 -- The streams in turn: how often more than there is room for doesn't matter.
-use Rattle.std.proofs.Common.{List, [], ◌∷◌, ◌++◌, length, not, ◌&&◌, nat_le, ◌≡◌, ◌<◌, ◌≤◌, ℕ, zero, suc, ◌+◌, ◌-◌, Bool, true, false, Option, Some, None}
+use Rattle.std.proofs.Common.{[], ◌∷◌, ◌++◌, length, not, ◌&&◌, nat_le, ◌≡◌, ◌<◌, ◌≤◌, ℕ, zero, suc, ◌+◌, Bool, true, false, Option, Some, None}
 use Rattle.std.proofs.Common.{option_map, refl, sym, ap, ◌∙◌, arith, not-suc-le-zero, add-one}
 use Rattle.std.specs.List.{list_any}
 use Rattle.std.proofs.lemmas.Grind.{common_steps}
@@ -9,7 +9,7 @@ use Rattle.njh_block.specs.Writing.{Writing, has_room, is_general, with_last}
 use Rattle.njh_record.specs.Stored.{Stored}
 use Rattle.njh_spool.specs.CustomerSpool.{CustomerSpool, WholeFile}
 use Rattle.njh_stream.specs.Sending.{next_of}
-use Rattle.njh_sched.specs.NextBlock.{Outlet, StreamTurn, Candidate, Filling, turns, next_served, sender_at, serving, data_item, room_of}
+use Rattle.njh_sched.specs.NextBlock.{Outlet, StreamTurn, Candidate, turns, next_served, sender_at, serving, data_item, room_of}
 use Rattle.njh_sched.specs.NextBlock.{after_source, after_sources, after_candidate, added_where, filling, filling_where}
 use Rattle.njh_sched.proofs.SourceLists.{one_more, full_stays, nothing_left}
 

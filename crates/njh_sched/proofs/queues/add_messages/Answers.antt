@@ -1,4 +1,4 @@
-use Rattle.std.proofs.Common.{◌≡◌, ◌∙◌, sym, ap, false}
+use Rattle.std.proofs.Common.{◌∙◌, sym, ap}
 use Rattle.njh_block.specs.Blocks.{messages_on}
 use Rattle.njh_sched.specs.NextBlock.{after_sources, messages_where, filling}
 use Rattle.njh_sched.proofs.SourceLists.{nothing_left}

@@ -1,4 +1,4 @@
-use Rattle.std.proofs.Common.{◌≡◌, ◌∙◌, ◌<◌, ◌+◌, sym, ap, false, true, Some, None, length, arith, rules}
+use Rattle.std.proofs.Common.{◌≡◌, ◌∙◌, ◌<◌, ◌+◌, sym, ap, false, true, None, length, arith, rules}
 use Rattle.njh_spool.specs.Spools.{part}
 use Rattle.njh_sched.specs.NextBlock.{next_served, room_of}
 use Rattle.njh_sched.proofs.TurnLaws.{enough, no_turns, turn_went_on, turn_stopped}

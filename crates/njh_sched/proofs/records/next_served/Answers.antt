@@ -1,4 +1,4 @@
-use Rattle.std.proofs.Common.{◌≡◌, ◌∙◌, ◌+◌, ◌%◌, sym, ap, false, true, arith}
+use Rattle.std.proofs.Common.{◌≡◌, ◌∙◌, ◌+◌, ◌%◌, sym, arith}
 use Rattle.njh_sched.specs.NextBlock.{may_send}
 use Rattle.njh_sched.proofs.SourceLists.{turn_found, turn_passed, no_turn}
 use Rattle.njh_sched.proofs.records.next_served.Goals as goal

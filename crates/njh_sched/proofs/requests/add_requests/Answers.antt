@@ -1,4 +1,4 @@
-use Rattle.std.proofs.Common.{◌≡◌, ◌∙◌, sym, ap, false, true}
+use Rattle.std.proofs.Common.{◌∙◌, ap}
 use Rattle.njh_record.specs.declared.Kind.TheVariants.{In, Out}
 use Rattle.njh_spool.specs.Spools.{part}
 use Rattle.njh_stream.specs.Sending.{goes_by}
