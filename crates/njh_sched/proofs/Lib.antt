@@ -1,3 +1,4 @@
+pub mod EachLaws
 pub mod FileLists
 pub mod KeptLaws
 pub mod RequestLaws

@@ -5,7 +5,7 @@ use Rattle.njh_block.specs.Codes.{kind_of}
 use Rattle.njh_spool.specs.CustomerSpool.{WholeFile}
 use Rattle.njh_stream.specs.Sending.{next_of}
 use Rattle.njh_stream.specs.declared.sender.Sender.TheVariants.{Idle, Requested, Aborting}
-use Rattle.njh_sched.specs.NextBlock.{Filling, data_item, is_sending, oldest, sender_at}
+use Rattle.njh_sched.specs.NextBlock.{Filling, Source, after_source, data_item, is_sending, oldest, sender_at}
 
 abbrev pub is_under : ℕ → Item → Bool
 is_under rcb (Data own srcb bytes) = own == rcb
@@ -49,3 +49,8 @@ pub data Does (goes : WholeFile → Bool) (k : ℕ) (x y : Filling) : Type 0 whe
   gives_up : GivesUp k x y → Does goes k x y
   asks : Asks goes k x y → Does goes k x y
   sends : Sends k x y → Does goes k x y
+
+-- each of some sources does so, one after the other
+abbrev pub EachDoes : (WholeFile → Bool) → ℕ → List Source → Filling → Type 0
+EachDoes goes k [] x = Unit {0}
+EachDoes goes k (source ∷ more) x = Does goes k x (after_source goes source x) × EachDoes goes k more (after_source goes source x)
