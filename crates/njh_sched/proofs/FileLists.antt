@@ -1,6 +1,7 @@
 -- Lists of files that are looked at one after the other.
 use Rattle.std.proofs.Common.{◌≡◌, ◌≤◌, ℕ, zero, suc, ◌+◌, Bool, true, false, cond, ◌||◌, List, [], ◌∷◌, length, take, map}
-use Rattle.std.proofs.Common.{find, count_by, Option, Some, None, ◌==◌, slice_get, refl, sym, ap, ◌∙◌, arith, add-one, eq-eqb, not-suc-le-zero, le_of_suc-le-suc, IsSomeAnd}
+use Rattle.std.proofs.Common.{find, count_by, Option, Some, None, ◌==◌, slice_get, refl}
+use Rattle.std.proofs.Common.{sym, ap, ◌∙◌, arith, add-one, eq-eqb, not-suc-le-zero, le_of_suc-le-suc, IsSomeAnd}
 use Rattle.std.specs.List.{list_any}
 use Rattle.std.proofs.lemmas.List.Sums.{sum_by-cons}
 use Rattle.njh_spool.specs.CustomerSpool.{CustomerSpool, WholeFile, whole_numbered}
@@ -17,7 +18,8 @@ module _ (p : WholeFile → Bool) where
   -- a file that passes is counted
   counted_at : (xs : List WholeFile) (i : ℕ) (y : WholeFile) → slice_get xs i ≡ Some y → p y ≡ true → 1 ≤ count_by p xs
   counted_at [] i y h e = absurd (cc h)
-  counted_at (x ∷ xs) zero y h e = let same : x ≡ y = cc h in let passes : p x ≡ true = ap p same ∙ e in omega (arith, count_true x xs passes)
+  counted_at (x ∷ xs) zero y h e = let same : x ≡ y = cc h in let passes : p x ≡ true = ap p same ∙ e in omega
+      (arith, count_true x xs passes)
   counted_at (x ∷ xs) (suc i) y h e = omega (arith, count-cons x xs, counted_at xs i y h e)
 
   -- where one passes at most, that is found

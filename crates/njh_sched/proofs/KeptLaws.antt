@@ -7,8 +7,10 @@ use Rattle.njh_block.specs.Writing.{Writing, has_room}
 use Rattle.njh_spool.specs.CustomerSpool.{CustomerSpool, WholeFile}
 use Rattle.njh_stream.specs.declared.sender.Sender.{Sender}
 use Rattle.njh_stream.specs.declared.sender.Sender.TheVariants.{Idle, Requested, Sending, EofSent, Aborting}
-use Rattle.njh_sched.specs.NextBlock.{Outlet, Candidate, Filling, Source, WaitingAnswer, StreamAbort, StreamRequest, WaitingMessage, StreamTurn}
-use Rattle.njh_sched.specs.NextBlock.{answering, abort_where, asking, added_where, after_candidate, after_source, after_source_where, after_sources}
+use Rattle.njh_sched.specs.NextBlock.{Outlet, Candidate, Filling, Source}
+use Rattle.njh_sched.specs.NextBlock.{WaitingAnswer, StreamAbort, StreamRequest, WaitingMessage, StreamTurn}
+use Rattle.njh_sched.specs.NextBlock.{answering, abort_where, asking, added_where}
+use Rattle.njh_sched.specs.NextBlock.{after_candidate, after_source, after_source_where, after_sources}
 use Rattle.njh_sched.specs.NextBlock.{candidate, filling, filling_where, may_ask, sender_at, waiting_messages, aborts, requests, streams}
 use Rattle.njh_sched.proofs.SourceLists.{one_behind_others, full_stays}
 
@@ -63,7 +65,8 @@ module _ (goes : WholeFile → Bool) where
   messages_by_room true c x e = e
   messages_by_room false c x e = refl
 
-  messages_by_candidate : (c : Option Candidate) (x : Filling) → KeptBy c x.outlet → waiting_messages (after_candidate c x).outlet ≡ waiting_messages x.outlet
+  messages_by_candidate : (c : Option Candidate) (x : Filling) → KeptBy c x.outlet → waiting_messages (after_candidate c x).outlet
+      ≡ waiting_messages x.outlet
   messages_by_candidate None x e = refl
   messages_by_candidate (Some c) x e = messages_by_room (has_room x.block c.item) c x e
 
@@ -100,7 +103,8 @@ module _ (goes : WholeFile → Bool) where
       at_test :
           (b : Bool) → is_short source ≡ b → (b && list_all is_short more) ≡ true
           → (list_all is_short more ≡ true
-          → waiting_messages (after_sources goes more (after_source goes source x)).outlet ≡ waiting_messages (after_source goes source x).outlet)
+          → waiting_messages (after_sources goes more (after_source goes source x)).outlet ≡ waiting_messages
+          (after_source goes source x).outlet)
           → waiting_messages (after_sources goes more (after_source goes source x)).outlet ≡ waiting_messages x.outlet
       at_test true f h kept = kept h ∙ messages_by_source source x f
       at_test false f h kept = absurd (cc h)
@@ -148,5 +152,6 @@ module _ (goes : WholeFile → Bool) where
     pub messages_behind_aborts : after_sources goes aborts (filling w o s) ≡ filling_where b v p r → waiting_messages p ≡ waiting_messages o
     messages_behind_aborts e = messages_are aborts b w v o p s r short_aborts e
 
-    pub messages_behind_requests : after_sources goes requests (filling w o s) ≡ filling_where b v p r → waiting_messages p ≡ waiting_messages o
+    pub messages_behind_requests : after_sources goes requests (filling w o s) ≡ filling_where b v p r → waiting_messages p
+        ≡ waiting_messages o
     messages_behind_requests e = messages_are requests b w v o p s r short_requests e

@@ -17,15 +17,19 @@ module _ (goes : WholeFile → Bool) (k : ℕ) (w : Writing) (o : Outlet) (s : C
   pub not_asked : may_ask o k ≡ false → after_source goes (StreamRequest k) (filling w o s) ≡ filling w o s
   unfolding after_source
   not_asked e =
-      ap (λ b. after_candidate (elim b [ false ↦ None | true ↦ option_map (λ f. asking o s k f.number) (oldest goes (kind_of k) s) ]) (filling w o s)) e
+      ap (λ b. after_candidate (elim b [ false ↦ None | true ↦ option_map (λ f. asking o s k f.number) (oldest goes (kind_of k) s) ])
+      (filling w o s)) e
 
   by_test : (b : Bool) → may_ask o k ≡ b → after_source goes (StreamRequest k) (filling w o s)
-      ≡ after_candidate (elim b [ false ↦ None | true ↦ option_map (λ f. asking o s k f.number) (oldest goes (kind_of k) s) ]) (filling w o s)
+      ≡ after_candidate (elim b [ false ↦ None | true ↦ option_map (λ f. asking o s k f.number) (oldest goes (kind_of k) s) ])
+      (filling w o s)
   unfolding after_source
   by_test b e =
-      ap (λ v. after_candidate (elim v [ false ↦ None | true ↦ option_map (λ f. asking o s k f.number) (oldest goes (kind_of k) s) ]) (filling w o s)) e
+      ap (λ v. after_candidate (elim v [ false ↦ None | true ↦ option_map (λ f. asking o s k f.number) (oldest goes (kind_of k) s) ])
+      (filling w o s)) e
 
-  pub nothing_to_ask : may_ask o k ≡ true → oldest goes (kind_of k) s ≡ None → after_source goes (StreamRequest k) (filling w o s) ≡ filling w o s
+  pub nothing_to_ask : may_ask o k ≡ true → oldest goes (kind_of k) s ≡ None → after_source goes (StreamRequest k) (filling w o s)
+      ≡ filling w o s
   nothing_to_ask e none = by_test true e ∙ ap (λ f. after_candidate (option_map (λ x. asking o s k x.number) f) (filling w o s)) none
 
   pub asks : (f : Option WholeFile) (n : ℕ) → may_ask o k ≡ true → oldest goes (kind_of k) s ≡ f → IsSomeAnd f (λ x. n ≡ x.number)
@@ -39,7 +43,8 @@ module _ (goes : WholeFile → Bool) (k : ℕ) (w : Writing) (o : Outlet) (s : C
 
 -- a file that was asked for is Sending, and is passed too
 module _ (goes : WholeFile → Bool) (kind : Kind) (n : ℕ) where
-  stays_out : (x : WholeFile) → may_go goes kind x ≡ false → may_go goes kind (cond (x.number == n) (record x { state = state.Sending }) x) ≡ false
+  stays_out : (x : WholeFile) → may_go goes kind x ≡ false → may_go goes kind (cond (x.number == n)
+      (record x { state = state.Sending }) x) ≡ false
   stays_out x h = at_test (x.number == n)
     where
       at_test : (b : Bool) → may_go goes kind (cond b (record x { state = state.Sending }) x) ≡ false

@@ -84,7 +84,8 @@ module _ (goes : WholeFile → Bool) where
   full_stays (source ∷ more) w o s = full_stays more w o s
 
   -- the first of those that wait in a queue
-  pub first_of_queue : {X : Type 0} (xs : List X) (a : X) (source : Source) (x y : Filling) → slice_get xs 0 ≡ Some a → after_source goes source x ≡ y
+  pub first_of_queue : {X : Type 0} (xs : List X) (a : X) (source : Source) (x y : Filling) → slice_get xs 0 ≡ Some a
+      → after_source goes source x ≡ y
       → after_sources goes (replicate (length xs) source) x ≡ after_sources goes (replicate (length (drop 1 xs)) source) y
   first_of_queue [] a source x y h e = absurd (cc h)
   first_of_queue (b ∷ xs) a source x y h e = one_more source (replicate (length xs) source) x y e

@@ -1,6 +1,7 @@
 -- What one source does to a stream.
 use Rattle.std.proofs.Common.{◌≡◌, ◌<◌, ℕ, zero, suc, ◌+◌, ◌%◌, Bool, true, false, ◌&&◌, List, [], ◌∷◌, ◌++◌, length, map, find, cond}
-use Rattle.std.proofs.Common.{Option, Some, None, option_map, slice_get, set, get_or, ◌==◌, refl, sym, ap, subst, ◌∙◌, not-suc-le-zero, le_of_suc-le-suc, lit<}
+use Rattle.std.proofs.Common.{Option, Some, None, option_map, slice_get, set, get_or, ◌==◌}
+use Rattle.std.proofs.Common.{refl, sym, ap, subst, ◌∙◌, not-suc-le-zero, le_of_suc-le-suc, lit<}
 use Rattle.std.proofs.Math.Nat.{mod-lt}
 use Rattle.std.proofs.lemmas.List.{get_or-set_same, get_or-set_other}
 use Rattle.std.proofs.lemmas.Bool.{eqb-true, eqb-false}
@@ -13,9 +14,12 @@ use Rattle.njh_spool.specs.CustomerSpool.{WholeFile}
 use Rattle.njh_stream.specs.Sending.{next_of}
 use Rattle.njh_stream.specs.declared.sender.Sender.{Sender}
 use Rattle.njh_stream.specs.declared.sender.Sender.TheVariants.{Idle, Requested, Sending, EofSent, Aborting}
-use Rattle.njh_sched.specs.NextBlock.{Outlet, Candidate, Filling, Source, WaitingAnswer, StreamAbort, StreamRequest, WaitingMessage, StreamTurn}
-use Rattle.njh_sched.specs.NextBlock.{answering, telling, giving_up, abort_where, asking, is_idle, is_sending, may_ask, may_send, oldest, next_served}
-use Rattle.njh_sched.specs.NextBlock.{data_item, sender_at, streams, candidate, added_where, after_candidate, after_source, after_source_where}
+use Rattle.njh_sched.specs.NextBlock.{Outlet, Candidate, Filling, Source}
+use Rattle.njh_sched.specs.NextBlock.{WaitingAnswer, StreamAbort, StreamRequest, WaitingMessage, StreamTurn}
+use Rattle.njh_sched.specs.NextBlock.{answering, telling, giving_up, abort_where, asking}
+use Rattle.njh_sched.specs.NextBlock.{is_idle, is_sending, may_ask, may_send, oldest, next_served}
+use Rattle.njh_sched.specs.NextBlock.{data_item, sender_at, streams, candidate}
+use Rattle.njh_sched.specs.NextBlock.{added_where, after_candidate, after_source, after_source_where}
 use Rattle.njh_sched.specs.Laws.{is_under, records_under, Does, left, gives_up, asks, sends}
 use Rattle.njh_sched.proofs.TurnLaws.{served_by}
 
@@ -85,7 +89,8 @@ module _ (p : ℕ → Bool) (f : ℕ → ℕ) where
 
 served_is : (o : Outlet) (t : ℕ) → next_served o ≡ Some t → (may_send o t ≡ true) × (t < 8)
 served_is o t e =
-    let found : (may_send o t ≡ true) × ((n : ℕ) × (t ≡ (o.served + 1 + n) % 8)) = found_in (may_send o) (λ n. (o.served + 1 + n) % 8) streams t e in
+    let found : (may_send o t ≡ true) × ((n : ℕ) × (t ≡ (o.served + 1 + n) % 8)) = found_in (may_send o) (λ n.
+    (o.served + 1 + n) % 8) streams t e in
     (found.0, subst (λ n. n < 8) (sym found.1.1) (mod-lt (o.served + 1 + found.1.0) (lit< tt)))
 
 and_both : (a b : Bool) → (a && b) ≡ true → (a ≡ true) × (b ≡ true)
@@ -103,7 +108,8 @@ module _ (goes : WholeFile → Bool) (k : ℕ) (x : Filling) where
   by_answer None = left (record { sender = refl; items = refl })
   by_answer (Some a) = left_by (has_room x.block (answering x.outlet x.spool a).item) (answering x.outlet x.spool a) refl refl
 
-  by_message : (0x9a == rcb_of k) ≡ false → (m : Option (List ℕ)) → Does goes k x (after_candidate (option_map (telling x.outlet x.spool) m) x)
+  by_message : (0x9a == rcb_of k) ≡ false → (m : Option (List ℕ)) → Does goes k x (after_candidate (option_map
+      (telling x.outlet x.spool) m) x)
   by_message other None = left (record { sender = refl; items = refl })
   by_message other (Some m) = left_by (has_room x.block (telling x.outlet x.spool m).item) (telling x.outlet x.spool m) refl other
 
@@ -120,12 +126,15 @@ module _ (goes : WholeFile → Bool) (k : ℕ) (x : Filling) where
         → Does goes k x (added_where (has_room x.block (giving_up x.outlet x.spool t).item) (giving_up x.outlet x.spool t) x)
     abort_at t true e is =
         let same : t ≡ k = eqb-true t k e in
-        subst (λ n. Does goes k x (added_where (has_room x.block (giving_up x.outlet x.spool n).item) (giving_up x.outlet x.spool n) x)) (sym same)
+        subst (λ n. Does goes k x (added_where (has_room x.block (giving_up x.outlet x.spool n).item)
+        (giving_up x.outlet x.spool n) x)) (sym same)
         (gives_up_by (has_room x.block (giving_up x.outlet x.spool k).item) (ap (λ n. sender_at n x.outlet) (sym same) ∙ is))
     abort_at t false e is =
-        left_by (has_room x.block (giving_up x.outlet x.spool t).item) (giving_up x.outlet x.spool t) (set_other x.outlet.senders k t Idle Idle e) refl
+        left_by (has_room x.block (giving_up x.outlet x.spool t).item) (giving_up x.outlet x.spool t)
+        (set_other x.outlet.senders k t Idle Idle e) refl
 
-    by_abort : (t : ℕ) (sender : Sender) → sender_at t x.outlet ≡ sender → Does goes k x (after_candidate (abort_where sender x.outlet x.spool t) x)
+    by_abort : (t : ℕ) (sender : Sender) → sender_at t x.outlet ≡ sender → Does goes k x (after_candidate
+        (abort_where sender x.outlet x.spool t) x)
     by_abort t Idle e = left (record { sender = refl; items = refl })
     by_abort t (Requested n) e = left (record { sender = refl; items = refl })
     by_abort t (Sending n place) e = left (record { sender = refl; items = refl })
@@ -154,7 +163,8 @@ module _ (goes : WholeFile → Bool) (k : ℕ) (x : Filling) where
         → Does goes k x (added_where (has_room x.block (asking x.outlet x.spool t f.number).item) (asking x.outlet x.spool t f.number) x)
     asks_at t true f e idle is =
         let same : t ≡ k = eqb-true t k e in
-        subst (λ n. Does goes k x (added_where (has_room x.block (asking x.outlet x.spool n f.number).item) (asking x.outlet x.spool n f.number) x)) (sym same)
+        subst (λ n. Does goes k x (added_where (has_room x.block (asking x.outlet x.spool n f.number).item)
+        (asking x.outlet x.spool n f.number) x)) (sym same)
         (asks_by (has_room x.block (asking x.outlet x.spool k f.number).item) f (ap (λ n. sender_at n x.outlet) (sym same) ∙ idle)
         (ap (λ n. oldest goes (kind_of n) x.spool) (sym same) ∙ is))
     asks_at t false f e idle is =
@@ -183,7 +193,8 @@ module _ (goes : WholeFile → Bool) (k : ℕ) (x : Filling) where
         → Does goes k x (added_where (has_room x.block (served_by x.outlet x.spool t).item) (served_by x.outlet x.spool t) x)
     serves_at t true e few below on is =
         let same : t ≡ k = eqb-true t k e in
-        subst (λ n. Does goes k x (added_where (has_room x.block (served_by x.outlet x.spool n).item) (served_by x.outlet x.spool n) x)) (sym same)
+        subst (λ n. Does goes k x (added_where (has_room x.block (served_by x.outlet x.spool n).item)
+        (served_by x.outlet x.spool n) x)) (sym same)
         (serves_by (has_room x.block (served_by x.outlet x.spool k).item) (ap (is_on x.outlet.peer) (sym same) ∙ on)
         (ap (λ n. is_sending (sender_at n x.outlet)) (sym same) ∙ is))
     serves_at t false e few below on is =
@@ -191,7 +202,8 @@ module _ (goes : WholeFile → Bool) (k : ℕ) (x : Filling) where
         (set_other x.outlet.senders k t (next_of (sender_at t x.outlet) x.spool).sender Idle e)
         (under_data (rcb_of k) t (next_of (sender_at t x.outlet) x.spool).stored ∙ rcbs_differ t k below few e)
 
-    by_turn : (t : Option ℕ) → k < 8 → next_served x.outlet ≡ t → Does goes k x (after_candidate (option_map (served_by x.outlet x.spool) t) x)
+    by_turn : (t : Option ℕ) → k < 8 → next_served x.outlet ≡ t → Does goes k x (after_candidate (option_map
+        (served_by x.outlet x.spool) t) x)
     by_turn None few e = left (record { sender = refl; items = refl })
     by_turn (Some t) few e =
         let is : (may_send x.outlet t ≡ true) × (t < 8) = served_is x.outlet t e in

@@ -1,5 +1,6 @@
 -- The streams in turn: how often more than there is room for doesn't matter.
-use Rattle.std.proofs.Common.{[], ◌∷◌, ◌++◌, length, not, ◌&&◌, nat_le, ◌≡◌, ◌<◌, ◌≤◌, ℕ, zero, suc, ◌+◌, Bool, true, false, Option, Some, None}
+use Rattle.std.proofs.Common.{[], ◌∷◌, ◌++◌, length, not, ◌&&◌, nat_le, ◌≡◌, ◌<◌, ◌≤◌}
+use Rattle.std.proofs.Common.{ℕ, zero, suc, ◌+◌, Bool, true, false, Option, Some, None}
 use Rattle.std.proofs.Common.{option_map, refl, sym, ap, ◌∙◌, arith, not-suc-le-zero, add-one}
 use Rattle.std.specs.List.{list_any}
 use Rattle.std.proofs.lemmas.Grind.{common_steps}
@@ -46,7 +47,8 @@ module _ (goes : WholeFile → Bool) where
   unfolding after_source
   turn_is w o s k e = ap (λ t. after_candidate (option_map (served_by o s) t) (filling w o s)) e
 
-  pub no_turns : (n : ℕ) (w : Writing) (o : Outlet) (s : CustomerSpool) → next_served o ≡ None → after_sources goes (turns n) (filling w o s) ≡ filling w o s
+  pub no_turns : (n : ℕ) (w : Writing) (o : Outlet) (s : CustomerSpool) → next_served o ≡ None → after_sources goes (turns n)
+      (filling w o s) ≡ filling w o s
   no_turns zero w o s e = nothing_left goes (filling w o s)
   no_turns (suc n) w o s e = one_more goes StreamTurn (turns n) (filling w o s) (filling w o s) (turn_is w o s None e) ∙ no_turns n w o s e
 
@@ -64,7 +66,8 @@ module _ (goes : WholeFile → Bool) where
           ≡ after_sources goes (turns m) (added_where b (served_by o s t) (filling w o s))
       by_room t true e f more =
           let less : room_of (with_last (served_by o s t).item w) < room_of w = served_takes w o s t f in
-          more (with_last (served_by o s t).item w) (served_by o s t).outlet (served_by o s t).spool (omega (arith, less)) (omega (arith, less))
+          more (with_last (served_by o s t).item w) (served_by o s t).outlet (served_by o s t).spool (omega (arith, less)) (omega
+          (arith, less))
       by_room t false e f more = full_stays goes (turns n) w o s ∙ sym (full_stays goes (turns m) w o s)
 
       served : (t : ℕ) → next_served o ≡ Some t → after_source goes StreamTurn (filling w o s)

@@ -1,6 +1,7 @@
 -- What the hub's next block holds (IBM SC23-0070, multileaving): what may come stands in one order, each is judged in the state that those
 -- before it leave, and the block takes the longest front that has room.
-use Rattle.std.specs.Prelude.{◌≡◌, ◌≤◌, ℕ, ◌+◌, ◌-◌, ◌%◌, Bool, true, false, List, [], ◌∷◌, ◌++◌, length, take, drop, set, map, replicate, find, slice_get}
+use Rattle.std.specs.Prelude.{◌≡◌, ◌≤◌, ℕ, ◌+◌, ◌-◌, ◌%◌, Bool, true, false, List}
+use Rattle.std.specs.Prelude.{[], ◌∷◌, ◌++◌, length, take, drop, set, map, replicate, find, slice_get}
 use Rattle.std.specs.Prelude.{slice_index_or, option_map, Option, Some, None, nat_lt, not, ◌&&◌}
 use Rattle.std.specs.List.{list_any}
 use Rattle.njh_block.specs.Blocks.{Item, Data, Aborted, Control, text_of, control_byte, rcb_of, is_on, all_suspended, messages_on}

@@ -13,7 +13,8 @@ use njh_block::{Answer, BlockWriter, Out, Rcb};
 #[tactic(auto, unfolding(crate::specs::NextBlock::after_source))]
 fn add_answer<L: Outgoing>(line: &mut L, answer: Answer, writer: &mut BlockWriter) -> bool
     requires { slice_get (L.outlet line.old).answers 0 ≡ Some answer }
-    ensures source { (goes : WholeFile → Bool) (s : CustomerSpool) → after_source goes WaitingAnswer (filling writer.old (L.outlet line.old) s)
+    ensures source { (goes : WholeFile → Bool) (s : CustomerSpool)
+        → after_source goes WaitingAnswer (filling writer.old (L.outlet line.old) s)
         ≡ filling_where result writer.new (L.outlet line.new) s }
     ensures outlet { IsTrue result → L.outlet line.new ≡ without_answer (L.outlet line.old) }
     ensures rest { L.rest line.new ≡ L.rest line.old }

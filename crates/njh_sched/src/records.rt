@@ -46,7 +46,8 @@ fn add_record<L: Outgoing>(
 ) -> bool
     requires { customer < length spool.old }
     ensures candidate { after_candidate
-        (Some (serving (L.outlet line.old) (part customer spool.old) stream (next_of (sender_at stream (L.outlet line.old)) (part customer spool.old))))
+        (Some (serving (L.outlet line.old) (part customer spool.old) stream
+        (next_of (sender_at stream (L.outlet line.old)) (part customer spool.old))))
         (filling writer.old (L.outlet line.old) (part customer spool.old))
         ≡ filling_where result writer.new (L.outlet line.new) (part customer spool.old) }
     ensures spool { spool.new ≡ spool.old }

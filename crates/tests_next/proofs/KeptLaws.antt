@@ -6,7 +6,8 @@ use Rattle.njh_spool.specs.CustomerSpool.{CustomerSpool, PartialFile, partial_nu
 use Rattle.njh_spool.specs.Spools.{part, no_spool}
 use Rattle.tests_next.specs.Kept.{IsKept}
 
-pub kept : (old new : List CustomerSpool) (s : CustomerSpool) → 0 < length old → new ≡ slice_set old 0 s → s.quota ≡ (part 0 old).quota → IsKept old new
+pub kept : (old new : List CustomerSpool) (s : CustomerSpool) → 0 < length old → new ≡ slice_set old 0 s → s.quota ≡ (part 0 old).quota
+    → IsKept old new
 kept old new s h e q = record {
   customers = ap length e ∙ simp length-set;
   quota = ap (λ m. (part 0 m).quota) e ∙ ap (λ x. x.quota) (get_or-set_same old 0 s no_spool h) ∙ q;

@@ -8,7 +8,8 @@ returns-then-not-add_abort-clause-source g c goes s =
     let no_room : c.add_abort.result ≡ false = grind arith in
     c.loop-place.invariant.source goes s
     ∙ stream_stopped goes StreamAbort streams c.loop-place.place c.at.result c.add_abort.result
-    (filling c.loop-place.writer (g.L.Outgoing.outlet c.loop-place.line) s) c.add_abort.new.writer (g.L.Outgoing.outlet c.add_abort.new.line) s
+    (filling c.loop-place.writer (g.L.Outgoing.outlet c.loop-place.line) s) c.add_abort.new.writer
+    (g.L.Outgoing.outlet c.add_abort.new.line) s
     (stream_at c.loop-place.place c.loop-place-test.true ∙ ap Some (sym c.at.ensures)) no_room (c.add_abort.ensures.source goes s)
 
 pub loop-place-preserved : goal.loop-place-preserved
@@ -17,7 +18,8 @@ loop-place-preserved g c =
     record {
       source = λ goes s. c.loop-place.invariant.source goes s
           ∙ stream_went_on goes StreamAbort streams c.loop-place.place c.at.result c.add_abort.result
-          (filling c.loop-place.writer (g.L.Outgoing.outlet c.loop-place.line) s) c.add_abort.new.writer (g.L.Outgoing.outlet c.add_abort.new.line) s
+          (filling c.loop-place.writer (g.L.Outgoing.outlet c.loop-place.line) s) c.add_abort.new.writer
+          (g.L.Outgoing.outlet c.add_abort.new.line) s
           (stream_at c.loop-place.place c.loop-place-test.true ∙ ap Some (sym c.at.ensures)) room (c.add_abort.ensures.source goes s);
       rest = c.add_abort.ensures.rest ∙ c.loop-place.invariant.rest;
     }

@@ -22,4 +22,5 @@ pub returns-clause-oldest : goal.returns-clause-oldest
 returns-clause-oldest c =
     let all : length (part c.args.customer c.args.spool.now).whole ≤ c.loop-index.index = omega (arith, c.files-files.ensures) in
     found_nowhere (may_go (goes_by (entry_of c.args.entry.now) c.args.line) c.args.kind) (part c.args.customer c.args.spool.now).whole
-    c.loop-index.index c.loop-index.invariant.none all ∙ ap (slice_get (part c.args.customer c.args.spool.now).whole) (sym c.files-files.ensures)
+    c.loop-index.index c.loop-index.invariant.none all ∙ ap (slice_get (part c.args.customer c.args.spool.now).whole)
+    (sym c.files-files.ensures)

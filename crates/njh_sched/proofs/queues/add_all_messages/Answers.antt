@@ -13,7 +13,8 @@ returns-then-not-add_message-clause-source g c goes s =
     (filling_where false c.add_message.new.writer (g.L.Outgoing.outlet c.loop-message.line) s) waits
     (c.add_message.ensures goes (g.L.Outgoing.outlet c.loop-message.line) s waits
     ∙ ap (λ b. filling_where b c.add_message.new.writer (message_gone_where b (g.L.Outgoing.outlet c.loop-message.line)) s) no_room)
-    ∙ full_stays goes (replicate (length (drop 1 (g.L.Outgoing.outlet c.loop-message.line).messages)) WaitingMessage) c.add_message.new.writer
+    ∙ full_stays goes (replicate (length (drop 1 (g.L.Outgoing.outlet c.loop-message.line).messages)) WaitingMessage)
+    c.add_message.new.writer
     (g.L.Outgoing.outlet c.loop-message.line) s
 
 pub loop-message-preserved : goal.loop-message-preserved

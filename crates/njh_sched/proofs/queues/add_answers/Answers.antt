@@ -27,7 +27,8 @@ loop-answer-preserved g c =
           (sym c.in-Some.ensures)
           (c.add_answer.ensures.source goes s
           ∙ ap (λ b. filling_where b c.add_answer.new.writer (g.L.Outgoing.outlet c.add_answer.new.line) s) room)
-          ∙ ap (λ o. after_sources goes (replicate (length o.answers) WaitingAnswer) (filling c.add_answer.new.writer (g.L.Outgoing.outlet c.add_answer.new.line) s))
+          ∙ ap (λ o. after_sources goes (replicate (length o.answers) WaitingAnswer) (filling c.add_answer.new.writer
+          (g.L.Outgoing.outlet c.add_answer.new.line) s))
           (sym (c.add_answer.ensures.outlet room));
       rest = c.add_answer.ensures.rest ∙ c.loop-answer.invariant.rest;
     }

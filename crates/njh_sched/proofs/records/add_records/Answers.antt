@@ -23,7 +23,8 @@ loop-stream-preserved g c =
       source = λ goes. c.loop-stream.invariant.source goes
           ∙ turn_went_on goes c.in-Some.stream c.add_record.result c.loop-stream.writer c.add_record.new.writer
           (g.L.Outgoing.outlet c.loop-stream.line) (g.L.Outgoing.outlet c.add_record.new.line) (part c.args.customer c.args.spool.now)
-          (sym c.in-Some.ensures) room (rw c.loop-stream.invariant.spool at c.add_record.ensures.candidate) (c.add_record.ensures.room room);
+          (sym c.in-Some.ensures) room (rw c.loop-stream.invariant.spool at c.add_record.ensures.candidate)
+          (c.add_record.ensures.room room);
       rest = c.add_record.ensures.rest ∙ c.loop-stream.invariant.rest;
       spool = c.add_record.ensures.spool ∙ c.loop-stream.invariant.spool;
     }

@@ -6,13 +6,15 @@ use Rattle.njh_sched.proofs.records.next_served.Goals as goal
 pub returns-then-may_send : goal.returns-then-may_send
 returns-then-may_send g c =
     sym (c.loop-step.invariant
-    ∙ turn_found (may_send (g.L.Outgoing.outlet c.args.line.now)) (λ n. (c.place-served.result + 1 + n) % 8) c.loop-step.step c.at-stream.result
+    ∙ turn_found (may_send (g.L.Outgoing.outlet c.args.line.now)) (λ n.
+    (c.place-served.result + 1 + n) % 8) c.loop-step.step c.at-stream.result
     c.loop-step-test.true c.at-stream.ensures (sym c.may_send.ensures ∙ c.if-may_send.true))
 
 pub loop-step-preserved : goal.loop-step-preserved
 loop-step-preserved g c =
     c.loop-step.invariant
-    ∙ turn_passed (may_send (g.L.Outgoing.outlet c.args.line.now)) (λ n. (c.place-served.result + 1 + n) % 8) c.loop-step.step c.at-stream.result
+    ∙ turn_passed (may_send (g.L.Outgoing.outlet c.args.line.now)) (λ n.
+    (c.place-served.result + 1 + n) % 8) c.loop-step.step c.at-stream.result
     c.loop-step-test.true c.at-stream.ensures (sym c.may_send.ensures ∙ c.if-may_send.false)
 
 pub returns : goal.returns

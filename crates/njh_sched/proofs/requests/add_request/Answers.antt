@@ -18,9 +18,11 @@ pub returns-then-index-files-clause-source : goal.returns-then-index-files-claus
 returns-then-index-files-clause-source g c =
     let idle : c.may_ask.result ≡ true = grind arith in
     let past : length (part c.args.id.customer c.args.spool.now).whole ≤ c.oldest_from-index.result = omega (arith, c.files.ensures) in
-    nothing_to_ask (goes_by (entry_of c.args.entry.now) c.args.id.line) c.args.stream c.args.writer.now (g.L.Outgoing.outlet c.args.line.now)
+    nothing_to_ask (goes_by (entry_of c.args.entry.now) c.args.id.line) c.args.stream c.args.writer.now
+    (g.L.Outgoing.outlet c.args.line.now)
     (part c.args.id.customer c.args.spool.now) (sym c.may_ask.ensures ∙ idle)
-    (ap (λ kind. oldest (goes_by (entry_of c.args.entry.now) c.args.id.line) kind (part c.args.id.customer c.args.spool.now)) (sym c.kind.ensures)
+    (ap (λ kind. oldest (goes_by (entry_of c.args.entry.now) c.args.id.line) kind (part c.args.id.customer c.args.spool.now))
+    (sym c.kind.ensures)
     ∙ c.oldest_from-index.ensures.oldest
     ∙ slice_get_past (part c.args.id.customer c.args.spool.now).whole c.oldest_from-index.result past)
 
@@ -30,7 +32,8 @@ returns-clause-source g c =
     asks (goes_by (entry_of c.args.entry.now) c.args.id.line) c.args.stream c.args.writer.now (g.L.Outgoing.outlet c.args.line.now)
     (part c.args.id.customer c.args.spool.now) (slice_get (part c.args.id.customer c.args.spool.now).whole c.oldest_from-index.result)
     c.file_at-file.result (sym c.may_ask.ensures ∙ idle)
-    (ap (λ kind. oldest (goes_by (entry_of c.args.entry.now) c.args.id.line) kind (part c.args.id.customer c.args.spool.now)) (sym c.kind.ensures)
+    (ap (λ kind. oldest (goes_by (entry_of c.args.entry.now) c.args.id.line) kind (part c.args.id.customer c.args.spool.now))
+    (sym c.kind.ensures)
     ∙ c.oldest_from-index.ensures.oldest)
     c.file_at-file.ensures.number
     ∙ c.ask.ensures.candidate
@@ -39,8 +42,10 @@ pub returns-clause-passed : goal.returns-clause-passed
 returns-clause-passed g c room =
     subst (HasPassed (goes_by (entry_of c.args.entry.now) c.args.id.line) (kind_of c.args.stream) (c.oldest_from-index.result + 1))
     (sym (c.ask.ensures.state room))
-    (passed_more (goes_by (entry_of c.args.entry.now) c.args.id.line) (kind_of c.args.stream) c.file_at-file.result c.oldest_from-index.result
+    (passed_more (goes_by (entry_of c.args.entry.now) c.args.id.line)
+    (kind_of c.args.stream) c.file_at-file.result c.oldest_from-index.result
     (part c.args.id.customer c.args.spool.now)
-    (subst (λ kind. HasPassed (goes_by (entry_of c.args.entry.now) c.args.id.line) kind c.oldest_from-index.result (part c.args.id.customer c.args.spool.now))
+    (subst (λ kind. HasPassed (goes_by (entry_of c.args.entry.now) c.args.id.line) kind c.oldest_from-index.result
+    (part c.args.id.customer c.args.spool.now))
     c.kind.ensures c.oldest_from-index.ensures.passed)
     c.file_at-file.ensures.number)

@@ -19,7 +19,8 @@ returns-then-not-add_request-clause-source g c =
 
 pub returns-then-not-add_request-clause-spool : goal.returns-then-not-add_request-clause-spool
 returns-then-not-add_request-clause-spool g c =
-    moved_on c.args.id.customer c.args.spool.now c.loop-number.spool c.add_request.new.spool c.loop-number.invariant.spool c.add_request.ensures.spool
+    moved_on c.args.id.customer c.args.spool.now c.loop-number.spool c.add_request.new.spool c.loop-number.invariant.spool
+    c.add_request.ensures.spool
 
 pub loop-number-preserved : goal.loop-number-preserved
 loop-number-preserved g c =
@@ -34,7 +35,8 @@ loop-number-preserved g c =
       rest = c.add_request.ensures.rest ∙ c.loop-number.invariant.rest;
       spool = moved_on c.args.id.customer c.args.spool.now c.loop-number.spool c.add_request.new.spool c.loop-number.invariant.spool
           c.add_request.ensures.spool;
-      range = as_long c.args.id.customer c.loop-number.spool c.add_request.new.spool c.loop-number.invariant.range c.add_request.ensures.spool;
+      range = as_long c.args.id.customer c.loop-number.spool c.add_request.new.spool c.loop-number.invariant.range
+          c.add_request.ensures.spool;
       passed = subst (λ kind. HasPassed (goes_by (entry_of c.args.entry.now) c.args.id.line) kind c.add_request.new.passed
           (part c.args.id.customer c.add_request.new.spool)) c.stream_of-stream.ensures.kind (c.add_request.ensures.passed room);
     }
