@@ -1,0 +1,6 @@
+mod OnlyOneLaws
+mod FileLaws
+mod SplitLaws
+mod RecordLaws
+mod ReplyLaws
+mod WalkLaws
