@@ -1,11 +1,10 @@
 -- A file's records, one by one to another node.
-use Rattle.std.proofs.Common.{◌≡◌, ◌<◌, ℕ, zero, suc, List, [], ◌∷◌, ◌++◌, length, take, drop, set, get_or, Option, Some, None, slice_get}
+use Rattle.std.proofs.Common.{◌≡◌, ◌<◌, ℕ, zero, suc, List, [], ◌∷◌, ◌++◌, length, take, drop, set, Option, Some, None, slice_get}
 use Rattle.std.proofs.Common.{refl, sym, ap, ◌∙◌, not-suc-le-zero, le_of_suc-le-suc}
 use Rattle.std.proofs.lemmas.List.{set-get_or}
 use Rattle.njh_record.specs.Stored.{Stored}
 use Rattle.njh_record.specs.declared.Kind.{Kind}
 use Rattle.njh_spool.specs.CustomerSpool.{at_index, rewritten_record}
-use Rattle.njh_header.specs.FileHeaders.{with_node_at}
 use Rattle.njh_header.specs.Redirecting.{destination_place, redirected, redirected_record}
 use Rattle.njh_command.specs.Files.{no_record, record_at, redirected_up_to, srcb_before, with_redirected}
 
@@ -57,8 +56,8 @@ before_from before (suc n) records = Some (record_at n records).srcb
 more_from :
     (kind : Kind) (before : Option ℕ) (node : List ℕ) (n : ℕ) (records : List Stored) → n < length records
     → set (redirected kind node before (take n records) ++ drop n records) n
-      (redirected_record node (destination_place kind (before_from before n records) (record_at n records)) (record_at n records))
-      ≡ redirected kind node before (take (suc n) records) ++ drop (suc n) records
+    (redirected_record node (destination_place kind (before_from before n records) (record_at n records)) (record_at n records))
+    ≡ redirected kind node before (take (suc n) records) ++ drop (suc n) records
 more_from kind before node n [] h = absurd (not-suc-le-zero h)
 more_from kind before node zero (r ∷ rs) h = refl
 more_from kind before node (suc zero) (r ∷ []) h = absurd (not-suc-le-zero (le_of_suc-le-suc h))

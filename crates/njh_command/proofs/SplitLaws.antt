@@ -1,6 +1,6 @@
 -- Splitting at blanks and at full stops, which folding leaves as they are.
 use Rattle.std.proofs.Common.{◌≡◌, ◌<◌, ◌≤◌, ◌+◌, ℕ, zero, suc, Bool, true, false, cond, not, ◌==◌, ◌||◌, ltb, leb, List, [], ◌∷◌, length, map, filter, take, drop, Some, None, position}
-use Rattle.std.proofs.Common.{refl, sym, ap, ap₂, subst, ◌∙◌, arith, ne_eqb, ◌⊎◌, inl, inr}
+use Rattle.std.proofs.Common.{refl, sym, ap, ap₂, subst, ◌∙◌, arith, ne_eqb, inl, inr}
 use Rattle.std.specs.List.{slice_split, onto_first, position_or_len}
 use Rattle.std.proofs.lemmas.Bool.{cases_lt, lt-ltb}
 use Rattle.std.proofs.lemmas.Bool.Decides.{leb_tells}
@@ -73,7 +73,7 @@ module _ (p : ℕ → Bool) (stays : (b : ℕ) → p (upper b) ≡ p b) where
   pub first_folded :
       (bytes : List ℕ) → position_or_len p bytes < length bytes
       → slice_split p (map upper bytes)
-        ≡ map upper (take (position_or_len p bytes) bytes) ∷ slice_split p (map upper (drop (position_or_len p bytes + 1) bytes))
+      ≡ map upper (take (position_or_len p bytes) bytes) ∷ slice_split p (map upper (drop (position_or_len p bytes + 1) bytes))
   first_folded bytes h =
       slice_split_first p (map upper bytes) 0 (rw (position_folded bytes, length_folded bytes) h)
       ∙ ap₂ (λ first rest. first ∷ slice_split p rest)
@@ -114,8 +114,8 @@ module _ {X : Type 0} (p : X → Bool) where
 -- the parts of what is folded: the first, and those behind it
 parts_of : (bytes : List ℕ)
     → (others : List (List ℕ))
-      × (slice_split is_blank (map upper bytes) ≡ map upper (take (position_or_len is_blank bytes) bytes) ∷ others)
-      × (filter is_word others ≡ words (drop (position_or_len is_blank bytes) bytes))
+    × (slice_split is_blank (map upper bytes) ≡ map upper (take (position_or_len is_blank bytes) bytes) ∷ others)
+    × (filter is_word others ≡ words (drop (position_or_len is_blank bytes) bytes))
 parts_of [] = ([], refl, refl)
 parts_of (b ∷ bytes) =
     let one_more : suc (position_or_len is_blank bytes) ≡ 1 + position_or_len is_blank bytes = omega arith in
@@ -136,7 +136,7 @@ parts_of (b ∷ bytes) =
     by_test :
         (t : Bool) → is_blank (upper b) ≡ t
         → (others : List (List ℕ)) × (slice_split is_blank (map upper bytes) ≡ map upper (take n bytes) ∷ others)
-          × (filter is_word others ≡ words (drop n bytes))
+        × (filter is_word others ≡ words (drop n bytes))
         → Parts t (suc n)
     by_test true folded more = (slice_split is_blank (map upper bytes), ap split folded, sym (ap (λ u. filter is_word (split u)) folded))
     by_test false folded more = (more.0, ap split folded ∙ ap (onto_first (upper b)) more.1, more.2)

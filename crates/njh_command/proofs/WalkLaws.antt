@@ -1,6 +1,6 @@
 -- A walk over a customer's files in order.
-use Rattle.std.proofs.Common.{◌≡◌, ◌<◌, ◌≤◌, ◌+◌, ℕ, zero, suc, Bool, true, false, cond, not, ◌&&◌, List, [], ◌∷◌, ◌++◌, length, take, drop, map}
-use Rattle.std.proofs.Common.{filter, fold, set, get_or, slice_set, Option, Some, None, refl, sym, ap, ap₂, ◌∙◌, add-one, append_assoc}
+use Rattle.std.proofs.Common.{◌≡◌, ◌<◌, ◌≤◌, ◌+◌, ℕ, Bool, true, false, cond, not, ◌&&◌, List, [], ◌∷◌, ◌++◌, length, take, drop, map}
+use Rattle.std.proofs.Common.{filter, fold, get_or, slice_set, Option, Some, None, refl, sym, ap, ap₂, ◌∙◌, add-one, append_assoc}
 use Rattle.std.specs.Prelude.{remove}
 use Rattle.std.proofs.lemmas.List.{set-set, get_or-set_same, set-get_or, get_or_at, drop_more, take_all, map-append, append-nil}
 use Rattle.std.proofs.lemmas.List.Elements.{filter_more}
@@ -101,7 +101,7 @@ index_more p b s i n m inside passes so_far more =
 
 pub numbers_more : (p : WholeFile → Bool) (i : ℕ) (s : CustomerSpool) → i < length s.whole
     → map (λ f. f.number) (filter p (take (i + 1) s.whole))
-      ≡ map (λ f. f.number) (filter p (take i s.whole)) ++ numbers_where (p (file_at i s)) (file_at i s)
+    ≡ map (λ f. f.number) (filter p (take i s.whole)) ++ numbers_where (p (file_at i s)) (file_at i s)
 numbers_more p i s inside =
     ap (map (λ f. f.number)) (filter_more p s.whole i no_file inside)
     ∙ map-append (λ f. f.number) (filter p (take i s.whole)) (cond (p (file_at i s)) (file_at i s ∷ []) [])
@@ -154,16 +154,15 @@ line_kept who i s replies text inside so_far line =
 
     by_test : (b : Bool) → owned who (file_at i s) ≡ b → Some text ≡ line_where b (file_at i s)
         → (kept (replies ++ text ∷ []) ≡ kept (map file_line (filter (owned who) (take (i + 1) s.whole)))) × (owned who (file_at i s) ≡ true)
-    by_test true own same =
-        (
-          ap₂ (λ rs t. kept (rs ++ t ∷ [])) so_far (some_is same)
+    by_test true own same = (
+      ap₂ (λ rs t. kept (rs ++ t ∷ [])) so_far (some_is same)
           ∙ kept_more 64 lines (file_line (file_at i s) ∷ [])
           ∙ ap kept (sym (
           ap (map file_line) (filter_more (owned who) s.whole i no_file inside)
           ∙ map-append file_line (filter (owned who) (take i s.whole)) (cond (owned who (file_at i s)) (file_at i s ∷ []) [])
           ∙ ap (λ b. lines ++ map file_line (cond b (file_at i s ∷ []) [])) own)),
-          own,
-        )
+      own,
+    )
       where
         or_none : Option (List ℕ) → List ℕ
         or_none o = elim o [ Some t ↦ t | None ↦ [] ]
@@ -181,12 +180,11 @@ no_line who i s replies inside so_far line = by_test (owned who (file_at i s)) r
     by_test : (b : Bool) → owned who (file_at i s) ≡ b → None ≡ line_where b (file_at i s)
         → (replies ≡ kept (map file_line (filter (owned who) (take (i + 1) s.whole)))) × (owned who (file_at i s) ≡ false)
     by_test true own same = absurd (cc same)
-    by_test false own same =
-        (
-          so_far
+    by_test false own same = (
+      so_far
           ∙ ap (λ files. kept (map file_line files)) (
           sym (append-nil (filter (owned who) (take i s.whole)))
           ∙ sym (filter_more (owned who) s.whole i no_file inside
           ∙ ap (λ b. filter (owned who) (take i s.whole) ++ cond b (file_at i s ∷ []) []) own)),
-          own,
-        )
+      own,
+    )

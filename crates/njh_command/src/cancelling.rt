@@ -15,7 +15,12 @@ use crate::texts::{cancelled, not_found};
 use njh_spool::Spool;
 
 /// Removes the files, and says how many. The streams of those that are being sent give them up, in order.
-pub(crate) fn cancel_files<S: Senders>(choice: &Choice, spool: &mut Spool, customer: u16, senders: &mut S) -> Replies
+pub(crate) fn cancel_files<S: Senders>(
+    choice: &Choice,
+    spool: &mut Spool,
+    customer: u16,
+    senders: &mut S,
+) -> Replies
     requires { customer < length spool.old }
     ensures replies { result ≡ (cancelling (chosen choice.now.who choice.now.name) choice.now.name (part customer spool.old)).replies }
     ensures spool { spool.new ≡ slice_set spool.old customer
@@ -30,7 +35,12 @@ pub(crate) fn cancel_files<S: Senders>(choice: &Choice, spool: &mut Spool, custo
 }
 
 /// Removes the files in order, and gives how many.
-fn cancel_each<S: Senders>(choice: &Choice, spool: &mut Spool, customer: u16, senders: &mut S) -> u32
+fn cancel_each<S: Senders>(
+    choice: &Choice,
+    spool: &mut Spool,
+    customer: u16,
+    senders: &mut S,
+) -> u32
     requires { customer < length spool.old }
     ensures count { result ≡ count (chosen choice.now.who choice.now.name) (part customer spool.old) }
     ensures spool { spool.new ≡ slice_set spool.old customer
@@ -52,7 +62,13 @@ fn cancel_each<S: Senders>(choice: &Choice, spool: &mut Spool, customer: u16, se
 }
 
 /// Removes the file at a place, where it is one of them, and says whether it was.
-fn cancel_at<S: Senders>(choice: &Choice, spool: &mut Spool, customer: u16, index: u32, senders: &mut S) -> bool
+fn cancel_at<S: Senders>(
+    choice: &Choice,
+    spool: &mut Spool,
+    customer: u16,
+    index: u32,
+    senders: &mut S,
+) -> bool
     requires range { customer < length spool.old }
     requires within { index < length (part customer spool.old).whole }
     ensures removed { result ≡ chosen choice.now.who choice.now.name (file_at index (part customer spool.old)) }

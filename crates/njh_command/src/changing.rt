@@ -45,7 +45,12 @@ pub(crate) struct Counts {
 }
 
 /// Changes the files, and says how many.
-pub(crate) fn change_files(change: &Change, choice: &Choice, spool: &mut Spool, customer: u16) -> Replies
+pub(crate) fn change_files(
+    change: &Change,
+    choice: &Choice,
+    spool: &mut Spool,
+    customer: u16,
+) -> Replies
     requires { customer < length spool.old }
     ensures replies { result ≡ change_replies (text_of change.now choice.now.name) choice.now.name
         (count (is_idle (chosen choice.now.who choice.now.name)) (part customer spool.old))

@@ -17,4 +17,4 @@ mod words;
 pub use command::{BadCommand, Command};
 pub use replies::{MOST_REPLIES, Replies};
 pub use running::{obey, run};
-pub use senders::Senders;
+pub use senders::{Senders, give_up};

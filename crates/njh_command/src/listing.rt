@@ -12,7 +12,9 @@ use crate::choice::is_owner;
 use crate::files::{count_records, kind_of, records_of, state_of};
 use crate::replies::Replies;
 use crate::texts::{file_line, files_line};
-use njh_header::{Destination, FileRecords, JobHeader, MessageText, User, data_set_header_of, job_header_of};
+use njh_header::{
+    Destination, FileRecords, JobHeader, MessageText, User, data_set_header_of, job_header_of,
+};
 use njh_record::Kind;
 use njh_spool::Spool;
 

@@ -3,7 +3,6 @@
 ghost use Rattle.std.specs.Prelude.{◌≡◌, ◌<◌, ◌∷◌, [], fold, length, slice_set};
 ghost use Rattle.njh_spool.specs.Spools.{part};
 ghost use Rattle.njh_table.specs.TableFile.{customer_at, entry_of};
-
 ghost use Rattle.njh_command.specs.Commands.{chosen, commanded, count, obeyed, rerouted_by, where_found, without_file};
 
 use crate::cancelling::cancel_files;
@@ -79,7 +78,13 @@ pub fn run<S: Senders>(
 }
 
 /// Sends files to another node, where the hub has a route for it.
-fn reroute_files(choice: &Choice, node: Name, customer: u16, tables: &Tables, spool: &mut Spool) -> Replies
+fn reroute_files(
+    choice: &Choice,
+    node: Name,
+    customer: u16,
+    tables: &Tables,
+    spool: &mut Spool,
+) -> Replies
     requires known { customer < length tables.now.customers }
     requires range { customer < length spool.old }
     ensures replies { result

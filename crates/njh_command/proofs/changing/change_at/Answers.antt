@@ -1,5 +1,5 @@
 -- The file is none of them, or is being sent, and nothing is done.
-use Rattle.std.proofs.Common.{◌≡◌, false, ◌⊎◌, inl, inr, sym, ap, ◌∙◌, slice_set}
+use Rattle.std.proofs.Common.{◌≡◌, false, inl, inr, sym, ap, ◌∙◌, slice_set}
 use Rattle.njh_spool.specs.CustomerSpool.{WholeFile}
 use Rattle.njh_spool.specs.Spools.{part}
 use Rattle.njh_command.specs.Changes.{change_by}
@@ -20,7 +20,7 @@ returns-in-Other c =
     record {
       standing = c.judge-standing.ensures;
       spool =
-        unmoved c.args.spool.now c.args.customer
-        ∙ ap (slice_set c.args.spool.now c.args.customer)
-        (same_file s c.args.index ∙ ap (λ (x : WholeFile). with_file c.args.index x s) (unchanged p (change_by c.args.change.now) f idle))
+          unmoved c.args.spool.now c.args.customer
+          ∙ ap (slice_set c.args.spool.now c.args.customer)
+          (same_file s c.args.index ∙ ap (λ (x : WholeFile). with_file c.args.index x s) (unchanged p (change_by c.args.change.now) f idle));
     }

@@ -11,6 +11,6 @@ invariant-loop-index l = record {
   busy : l.busy ≡ count_up_to (is_busy (chosen l.choice.who l.choice.name)) l.index (part l.customer l.initial.spool);
   few : l.idle + l.busy ≤ l.index;
   spool : l.spool
-    ≡ slice_set l.initial.spool l.customer
-      (changed_up_to (changed_file (chosen l.choice.who l.choice.name) (change_by l.change)) l.index (part l.customer l.initial.spool))
+      ≡ slice_set l.initial.spool l.customer
+      (changed_up_to (changed_file (chosen l.choice.who l.choice.name) (change_by l.change)) l.index (part l.customer l.initial.spool));
 }

@@ -1,5 +1,5 @@
 -- One file more was looked at, or all were.
-use Rattle.std.proofs.Common.{◌≡◌, ◌<◌, ◌≤◌, ◌+◌, ◌++◌, ◌∷◌, [], ℕ, List, cond, true, false, filter, length, map, take, sym, ap, ap₂, subst, ◌∙◌, arith}
+use Rattle.std.proofs.Common.{◌<◌, ◌≤◌, ◌++◌, ◌∷◌, [], ℕ, List, true, false, filter, length, map, take, sym, ap, ap₂, subst, ◌∙◌, arith}
 use Rattle.std.specs.Option.{option_map}
 use Rattle.arrayvec.specs.ArrayVec.{ArrayVec}
 use Rattle.njh_spool.specs.Spools.{part}
@@ -18,19 +18,19 @@ loop-index-preserved c =
     elim c.match-line_at.branch [
       | in-Some w ↦
           let r = line_kept c.args.who i s c.loop-index.replies w.in-Some.text.items inside c.loop-index.invariant.replies
-                (sym (ap (option_map (λ (t : ArrayVec ℕ). t.items)) w.in-Some.is) ∙ c.line_at.ensures) in
+          (sym (ap (option_map (λ (t : ArrayVec ℕ). t.items)) w.in-Some.is) ∙ c.line_at.ensures) in
           record {
             replies = w.replies-is ∙ w.add.ensures ∙ r.0;
             count = counted_more (owned c.args.who) true s i c.loop-index.count c.match-line_at.count inside r.1 c.loop-index.invariant.count (omega (arith, w.count-is));
-            few = omega (arith, w.count-is, c.loop-index.invariant.few)
+            few = omega (arith, w.count-is, c.loop-index.invariant.few);
           }
       | in_default w ↦
           let r = no_line c.args.who i s c.loop-index.replies inside c.loop-index.invariant.replies
-                (sym (ap (option_map (λ (t : ArrayVec ℕ). t.items)) w.in_default.is) ∙ c.line_at.ensures) in
+          (sym (ap (option_map (λ (t : ArrayVec ℕ). t.items)) w.in_default.is) ∙ c.line_at.ensures) in
           record {
             replies = w.replies-is ∙ r.0;
             count = counted_more (owned c.args.who) false s i c.loop-index.count c.match-line_at.count inside r.1 c.loop-index.invariant.count (omega (arith, w.count-is));
-            few = omega (arith, w.count-is, c.loop-index.invariant.few)
+            few = omega (arith, w.count-is, c.loop-index.invariant.few);
           }
     ]
 

@@ -9,5 +9,5 @@ abbrev pub invariant-loop-index : goal.invariant-loop-index
 invariant-loop-index l = record {
   replies : l.replies ≡ kept (map file_line (filter (owned l.who) (take l.index (part l.customer l.spool).whole)));
   count : l.count ≡ count_up_to (owned l.who) l.index (part l.customer l.spool);
-  few : l.count ≤ l.index
+  few : l.count ≤ l.index;
 }

@@ -1,5 +1,5 @@
 -- One record more of the file.
-use Rattle.std.proofs.Common.{◌≡◌, ◌<◌, ◌+◌, ℕ, suc, List, Option, None, Some, length, slice_set, sym, ap, ap₂, subst, ◌∙◌, add-one}
+use Rattle.std.proofs.Common.{◌≡◌, ◌<◌, ◌+◌, ℕ, List, Option, None, Some, length, slice_set, sym, ap, ap₂, subst, ◌∙◌, add-one}
 use Rattle.njh_record.specs.Stored.{Stored}
 use Rattle.njh_record.specs.declared.Kind.{Kind}
 use Rattle.njh_spool.specs.CustomerSpool.{CustomerSpool, WholeFile}
@@ -53,16 +53,16 @@ loop-n-preserved c =
     let inside : c.loop-n.n < length f.records = subst (λ (m : ℕ). c.loop-n.n < m) c.count_records-n-end.ensures c.loop-n-test.true in
     record {
       before =
-        ap Some (c.redirect_record.ensures.srcb
-        ∙ ap (λ (x : WholeFile). (record_at c.loop-n.n x.records).srcb) (known c.args.spool.now c.loop-n.spool c.args.customer c.args.index c.loop-n.n
-        c.args.node c.requires.range c.requires.within inside c.loop-n.invariant.spool)
-        ∙ ap (λ (r : Stored). r.srcb) (not_yet f.kind c.args.node c.loop-n.n f.records inside))
-        ∙ ap (λ (m : ℕ). srcb_before m f.records) (sym (add-one c.loop-n.n));
+          ap Some (c.redirect_record.ensures.srcb
+          ∙ ap (λ (x : WholeFile). (record_at c.loop-n.n x.records).srcb) (known c.args.spool.now c.loop-n.spool c.args.customer c.args.index c.loop-n.n
+          c.args.node c.requires.range c.requires.within inside c.loop-n.invariant.spool)
+          ∙ ap (λ (r : Stored). r.srcb) (not_yet f.kind c.args.node c.loop-n.n f.records inside))
+          ∙ ap (λ (m : ℕ). srcb_before m f.records) (sym (add-one c.loop-n.n));
       spool =
-        moved_twice c.args.spool.now c.loop-n.spool c.redirect_record.new.spool c.args.customer
-        (with_file c.args.index (so_far c.args.node c.loop-n.n f) s)
-        (step c.kind_of-kind.result c.loop-n.before c.args.node c.args.index c.loop-n.n)
-        c.requires.range c.loop-n.invariant.spool c.redirect_record.ensures.spool
-        ∙ ap (slice_set c.args.spool.now c.args.customer) (stepped c.kind_of-kind.result c.loop-n.before c.args.node c.args.index c.loop-n.n s
-        c.requires.within inside c.kind_of-kind.ensures c.loop-n.invariant.before)
+          moved_twice c.args.spool.now c.loop-n.spool c.redirect_record.new.spool c.args.customer
+          (with_file c.args.index (so_far c.args.node c.loop-n.n f) s)
+          (step c.kind_of-kind.result c.loop-n.before c.args.node c.args.index c.loop-n.n)
+          c.requires.range c.loop-n.invariant.spool c.redirect_record.ensures.spool
+          ∙ ap (slice_set c.args.spool.now c.args.customer) (stepped c.kind_of-kind.result c.loop-n.before c.args.node c.args.index c.loop-n.n s
+          c.requires.within inside c.kind_of-kind.ensures c.loop-n.invariant.before);
     }

@@ -1,5 +1,5 @@
 -- The records, and then the state.
-use Rattle.std.proofs.Common.{◌≡◌, List, None, ap, ◌∙◌, slice_set}
+use Rattle.std.proofs.Common.{List, None, ap, ◌∙◌, slice_set}
 use Rattle.njh_record.specs.Stored.{Stored}
 use Rattle.njh_spool.specs.CustomerSpool.{CustomerSpool, WholeFile}
 use Rattle.njh_spool.specs.Spools.{part}
@@ -18,8 +18,8 @@ returns c =
     moved_twice c.args.spool.now c.redirect.new.spool c.try_again.new.spool c.args.customer (with_file c.args.index g s)
     (λ (x : CustomerSpool). with_file c.args.index (ready (file_at c.args.index x)) x) c.requires.range c.redirect.ensures c.try_again.ensures
     ∙ ap (slice_set c.args.spool.now c.args.customer) (
-      ap (λ (x : WholeFile). with_file c.args.index (ready x) (with_file c.args.index g s)) (file_is s c.args.index g c.requires.within)
-      ∙ file_twice s c.args.index g (ready g)
-      ∙ ap (λ (records : List Stored). with_file c.args.index (with_state (state_after_reroute f.state) (with_records records f)) s)
-        (c.redirected_by_records.ensures f.kind c.args.node f.records)
+    ap (λ (x : WholeFile). with_file c.args.index (ready x) (with_file c.args.index g s)) (file_is s c.args.index g c.requires.within)
+    ∙ file_twice s c.args.index g (ready g)
+    ∙ ap (λ (records : List Stored). with_file c.args.index (with_state (state_after_reroute f.state) (with_records records f)) s)
+    (c.redirected_by_records.ensures f.kind c.args.node f.records)
     )

@@ -7,5 +7,5 @@ use Rattle.njh_command.proofs.running.count_files.Given as goal
 abbrev pub invariant-loop-index : goal.invariant-loop-index
 invariant-loop-index l = record {
   count : l.count ≡ count_up_to (chosen l.choice.who l.choice.name) l.index (part l.customer l.spool);
-  few : l.count ≤ l.index
+  few : l.count ≤ l.index;
 }

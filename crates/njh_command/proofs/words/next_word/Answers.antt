@@ -1,5 +1,5 @@
 -- A word stands in front.
-use Rattle.std.proofs.Common.{◌≡◌, ◌∷◌, ℕ, List, map, take, drop, sym, ap, ap₂, ◌∙◌}
+use Rattle.std.proofs.Common.{◌∷◌, ℕ, List, map, take, drop, sym, ap, ap₂, ◌∙◌}
 use Rattle.njh_ebcdic.specs.Names.{upper}
 use Rattle.njh_command.specs.Words.{words}
 use Rattle.njh_command.proofs.SplitLaws.{word_in_front}

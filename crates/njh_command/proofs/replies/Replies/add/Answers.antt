@@ -1,5 +1,5 @@
 -- There is room for one more, or there is none.
-use Rattle.std.proofs.Common.{◌≡◌, ◌++◌, ◌∷◌, [], ℕ, List, ◌==◌, map, length, sym, ap, ◌∙◌}
+use Rattle.std.proofs.Common.{◌++◌, ◌∷◌, [], ℕ, List, map, length, sym, ap, ◌∙◌}
 use Rattle.std.proofs.lemmas.Bool.{eqb-true, eqb-false}
 use Rattle.arrayvec.specs.ArrayVec.{ArrayVec}
 use Rattle.njh_command.specs.Commands.{kept}
