@@ -6,7 +6,8 @@ use Rattle.njh_spool.specs.CustomerSpool.{CustomerSpool, WholeFile, whole_number
 use Rattle.njh_command.specs.Files.{file_at, no_file, with_file, without}
 use Rattle.njh_command.proofs.OnlyOneLaws.{only_found, only_changed, only_removed}
 
-pub number_at : (xs : List WholeFile) (i n : ℕ) (d : WholeFile) → IsSomeAnd (slice_get xs i) (λ f. n ≡ f.number) → (get_or xs i d).number ≡ n
+pub number_at : (xs : List WholeFile) (i n : ℕ) (d : WholeFile) → IsSomeAnd (slice_get xs i) (λ f. n ≡ f.number) → (get_or xs i
+    d).number ≡ n
 number_at [] i n d is = absurd (search is)
 number_at (x ∷ xs) zero n d is = let same : n ≡ x.number = search is in sym same
 number_at (x ∷ xs) (suc i) n d is = number_at xs i n d is

@@ -1,6 +1,7 @@
 -- Lists in which a test passes one element at most, which stands at a known index.
 use Rattle.std.proofs.Common.{◌≡◌, ◌<◌, ◌≤◌, ℕ, zero, suc, ◌+◌, Bool, true, false, cond, not, filter, List, [], ◌∷◌, ◌++◌, length}
-use Rattle.std.proofs.Common.{take, drop, map, set, get_or, find, count_by, Some, refl, sym, ap, ap₂, ◌∙◌, not-suc-le-zero, le_of_suc-le-suc, arith}
+use Rattle.std.proofs.Common.{take, drop, map, set, get_or, find, count_by, Some, refl, sym, ap, ap₂, ◌∙◌, not-suc-le-zero}
+use Rattle.std.proofs.Common.{le_of_suc-le-suc, arith}
 use Rattle.std.proofs.lemmas.List.Sums.{sum_by-cons}
 
 module _ {X : Type 0} (p : X → Bool) where
@@ -31,7 +32,8 @@ module _ {X : Type 0} (p : X → Bool) where
       at_test false f more = ap (λ rest. x ∷ rest) (more (omega (arith, count_false x xs f, e)))
 
   -- the one that passes is found
-  pub only_found : (xs : List X) (i : ℕ) (d : X) → i < length xs → p (get_or xs i d) ≡ true → count_by p xs ≤ 1 → find p xs ≡ Some (get_or xs i d)
+  pub only_found : (xs : List X) (i : ℕ) (d : X) → i < length xs → p (get_or xs i d) ≡ true → count_by p xs ≤ 1 → find p xs ≡ Some
+      (get_or xs i d)
   only_found [] i d h e few = absurd (not-suc-le-zero h)
   only_found (x ∷ xs) zero d h e few = ap (λ b. cond b (Some x) (find p xs)) e
   only_found (x ∷ xs) (suc i) d h e few = at_test (p x) refl (only_found xs i d (le_of_suc-le-suc h) e)

@@ -63,7 +63,8 @@ more_from kind before node zero (r ∷ rs) h = refl
 more_from kind before node (suc zero) (r ∷ []) h = absurd (not-suc-le-zero (le_of_suc-le-suc h))
 more_from kind before node (suc zero) (r ∷ s ∷ rs) h = refl
 more_from kind before node (suc (suc n)) (r ∷ rs) h =
-    ap (λ rest. redirected_record node (destination_place kind before r) r ∷ rest) (more_from kind (Some r.srcb) node (suc n) rs (le_of_suc-le-suc h))
+    ap (λ rest. redirected_record node (destination_place kind before r) r ∷ rest) (more_from kind (Some r.srcb) node (suc n) rs
+        (le_of_suc-le-suc h))
 
 -- the n-th isn't changed yet
 not_yet_from :
@@ -82,11 +83,13 @@ pub not_yet : (kind : Kind) (node : List ℕ) (n : ℕ) (records : List Stored) 
 not_yet kind node n records h = not_yet_from kind None node n records h
 
 pub one_more : (kind : Kind) (node : List ℕ) (n : ℕ) (records : List Stored) → n < length records
-    → with_redirected kind (srcb_before n records) node n (redirected_up_to kind node n records) ≡ redirected_up_to kind node (suc n) records
+    → with_redirected kind (srcb_before n records) node n (redirected_up_to kind node n records) ≡ redirected_up_to kind node (suc n)
+        records
 one_more kind node n records h =
     ap (λ r. set (redirected_up_to kind node n records) n (redirected_record node (destination_place kind (srcb_before n records) r) r))
     (not_yet kind node n records h)
-    ∙ ap (λ o. set (redirected_up_to kind node n records) n (redirected_record node (destination_place kind o (record_at n records)) (record_at n records)))
+    ∙ ap (λ o. set (redirected_up_to kind node n records) n (redirected_record node (destination_place kind o (record_at n records))
+        (record_at n records)))
     (sym (same_before n records))
     ∙ more_from kind None node n records h
 

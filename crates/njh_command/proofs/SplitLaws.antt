@@ -1,5 +1,6 @@
 -- Splitting at blanks and at full stops, which folding leaves as they are.
-use Rattle.std.proofs.Common.{◌≡◌, ◌<◌, ◌≤◌, ◌+◌, ℕ, zero, suc, Bool, true, false, cond, not, ◌==◌, ◌||◌, ltb, leb, List, [], ◌∷◌, length, map, filter, take, drop, Some, None, position}
+use Rattle.std.proofs.Common.{◌≡◌, ◌<◌, ◌≤◌, ◌+◌, ℕ, zero, suc, Bool, true, false, cond, not, ◌==◌, ◌||◌, ltb, leb, List, [], ◌∷◌, length}
+use Rattle.std.proofs.Common.{map, filter, take, drop, Some, None, position}
 use Rattle.std.proofs.Common.{refl, sym, ap, ap₂, subst, ◌∙◌, arith, ne_eqb, inl, inr}
 use Rattle.std.specs.List.{slice_split, onto_first, position_or_len}
 use Rattle.std.proofs.lemmas.Bool.{cases_lt, lt-ltb}
@@ -152,7 +153,8 @@ word_in_front (b ∷ bytes) some =
     others : List (List ℕ)
     others = (parts_of (b ∷ bytes)).0
 
-    by_place : (n : ℕ) → (n ≡ 0 → ⊥) → filter is_word (map upper (take n (b ∷ bytes)) ∷ others) ≡ map upper (take n (b ∷ bytes)) ∷ filter is_word others
+    by_place : (n : ℕ) → (n ≡ 0 → ⊥) → filter is_word (map upper (take n (b ∷ bytes)) ∷ others) ≡ map upper (take n (b ∷ bytes)) ∷
+        filter is_word others
     by_place zero differs = absurd (differs refl)
     by_place (suc n) differs = refl
 
@@ -181,7 +183,8 @@ pub with_stops : (word : List ℕ) → stop word < length word → stop (drop (s
     → name_in (map upper word) ≡ None
 with_stops word h more =
     ap name_of_parts (first_folded is_full_stop full_stops_stay word h)
-    ∙ ap (λ parts. name_of_parts (map upper (take (stop word) word) ∷ parts)) (first_folded is_full_stop full_stops_stay (drop (stop word + 1) word) more)
+    ∙ ap (λ parts. name_of_parts (map upper (take (stop word) word) ∷ parts)) (first_folded is_full_stop full_stops_stay (drop (stop
+        word + 1) word) more)
     ∙ too_many (map upper (take (stop word) word)) (map upper (take (stop (drop (stop word + 1) word)) (drop (stop word + 1) word)))
     (map upper (drop (stop (drop (stop word + 1) word) + 1) (drop (stop word + 1) word)))
 
@@ -189,4 +192,5 @@ pub with_stop : (word : List ℕ) → stop word < length word → stop (drop (st
     → name_in (map upper word) ≡ name_of_parts (map upper (take (stop word) word) ∷ map upper (drop (stop word + 1) word) ∷ [])
 with_stop word h last =
     ap name_of_parts (first_folded is_full_stop full_stops_stay word h)
-    ∙ ap (λ parts. name_of_parts (map upper (take (stop word) word) ∷ parts)) (whole_folded is_full_stop full_stops_stay (drop (stop word + 1) word) last)
+    ∙ ap (λ parts. name_of_parts (map upper (take (stop word) word) ∷ parts)) (whole_folded is_full_stop full_stops_stay (drop (stop
+        word + 1) word) last)

@@ -27,7 +27,8 @@ pub part_of : (old now : List CustomerSpool) (c : ℕ) (x : CustomerSpool) → c
 part_of old now c x range now_is = ap (part c) now_is ∙ get_or-set_same old c x no_spool range
 
 pub moved_twice :
-    (old now new : List CustomerSpool) (c : ℕ) (x : CustomerSpool) (f : CustomerSpool → CustomerSpool) → c < length old → now ≡ slice_set old c x
+    (old now new : List CustomerSpool) (c : ℕ) (x : CustomerSpool) (f : CustomerSpool → CustomerSpool) → c < length old → now ≡
+        slice_set old c x
     → new ≡ slice_set now c (f (part c now)) → new ≡ slice_set old c (f x)
 moved_twice old now new c x f range now_is new_is =
     new_is
@@ -50,7 +51,8 @@ pub counted_more :
 counted_more p b s i n m inside passes so_far more =
     more ∙ ap₂ (λ k t. k + cond t 1 0) so_far (sym passes) ∙ sym (length-filter_more p s.whole i no_file inside)
 
-pub changed_not_yet : (g : WholeFile → WholeFile) (i : ℕ) (s : CustomerSpool) → i < length s.whole → file_at i (changed_up_to g i s) ≡ file_at i s
+pub changed_not_yet : (g : WholeFile → WholeFile) (i : ℕ) (s : CustomerSpool) → i < length s.whole → file_at i (changed_up_to g i s) ≡
+    file_at i s
 changed_not_yet g i s inside = not_yet g i s.whole no_file inside
 
 pub changed_one_more : (g : WholeFile → WholeFile) (i : ℕ) (s : CustomerSpool) → i < length s.whole
@@ -121,7 +123,8 @@ all_looked_at xs n h = take_all n xs h
 
 -- ---- what a file is to a change
 
-pub as_other : (passes sending : Bool) → standing_by passes sending ≡ Other → ((passes && not sending) ≡ false) × ((passes && sending) ≡ false)
+pub as_other : (passes sending : Bool) → standing_by passes sending ≡ Other → ((passes && not sending) ≡ false) × ((passes && sending)
+    ≡ false)
 as_other false sending e = (refl, refl)
 as_other true true e = absurd (cc e)
 as_other true false e = absurd (cc e)
@@ -153,7 +156,8 @@ line_kept who i s replies text inside so_far line =
     lines = map file_line (filter (owned who) (take i s.whole))
 
     by_test : (b : Bool) → owned who (file_at i s) ≡ b → Some text ≡ line_where b (file_at i s)
-        → (kept (replies ++ text ∷ []) ≡ kept (map file_line (filter (owned who) (take (i + 1) s.whole)))) × (owned who (file_at i s) ≡ true)
+        → (kept (replies ++ text ∷ []) ≡ kept (map file_line (filter (owned who) (take (i + 1) s.whole)))) × (owned who (file_at i s) ≡
+            true)
     by_test true own same = (
       ap₂ (λ rs t. kept (rs ++ t ∷ [])) so_far (some_is same)
           ∙ kept_more 64 lines (file_line (file_at i s) ∷ [])

@@ -1,5 +1,6 @@
 -- A customer's whole files by their places in order of arrival.
-use Rattle.std.specs.Prelude.{ℕ, zero, suc, None, Some, List, [], ◌++◌, length, take, drop, map, filter, remove, slice_index_or, slice_set, Bool, not, Option}
+use Rattle.std.specs.Prelude.{ℕ, zero, suc, None, Some, List, [], ◌++◌, length, take, drop, map, filter, remove, slice_index_or}
+use Rattle.std.specs.Prelude.{slice_set, Bool, not, Option}
 use Rattle.njh_record.specs.Stored.{Stored}
 use Rattle.njh_record.specs.declared.Kind.{Kind}
 use Rattle.njh_record.specs.declared.Kind.TheVariants.{In}

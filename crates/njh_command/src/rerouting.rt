@@ -29,7 +29,8 @@ fn redirect(node: Name, spool: &mut Spool, customer: u16, index: u32)
     requires range { customer < length spool.old }
     requires within { index < length (part customer spool.old).whole }
     ensures { spool.new ≡ slice_set spool.old customer (with_file index
-        (with_records (redirected (file_at index (part customer spool.old)).kind node None (file_at index (part customer spool.old)).records)
+        (with_records (redirected (file_at index (part customer spool.old)).kind node None
+        (file_at index (part customer spool.old)).records)
         (file_at index (part customer spool.old))) (part customer spool.old)) }
 {
     let kind = kind_of(spool, customer, index);

@@ -105,7 +105,8 @@ fn reroute_files(
 /// Why the files don't go there, or that there are none.
 fn refused(choice: &Choice, text: MessageText, spool: &Spool, customer: u16) -> Replies
     requires { customer < length spool.now }
-    ensures { result ≡ where_found (count (chosen choice.now.who choice.now.name) (part customer spool.now)) choice.now.name (text.items ∷ []) }
+    ensures { result ≡ where_found (count (chosen choice.now.who choice.now.name) (part customer spool.now))
+        choice.now.name (text.items ∷ []) }
 {
     match count_files(choice, spool, customer) {
         0 => Replies::one(not_found(choice.name)),

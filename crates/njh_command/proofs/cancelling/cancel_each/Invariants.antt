@@ -10,7 +10,8 @@ invariant-loop g l = record {
   count : l.count ≡ count_up_to (chosen l.choice.who l.choice.name) l.counter (part l.customer l.initial.spool);
   few : l.index + l.count ≤ l.counter;
   spool : l.spool
-      ≡ slice_set l.initial.spool l.customer (removed_up_to (chosen l.choice.who l.choice.name) l.counter (part l.customer l.initial.spool));
+      ≡ slice_set l.initial.spool l.customer (removed_up_to (chosen l.choice.who l.choice.name) l.counter (part l.customer
+          l.initial.spool));
   senders : l.senders
       ≡ fold (λ x n. g.S.Senders.each x (without_file n)) l.initial.senders
       (map (λ f. f.number) (filter (is_busy (chosen l.choice.who l.choice.name)) (take l.counter (part l.customer l.initial.spool).whole)));

@@ -29,24 +29,30 @@ loop-index-preserved c =
       | in-Other w ↦
           let is = as_other (p f) (is_sending f.state) (sym standing ∙ w.in-Other.is) in
           record {
-            idle = counted_more (is_idle p) false s i c.loop-index.idle c.match-change_at.idle inside is.0 c.loop-index.invariant.idle (omega (arith, w.idle-is));
-            busy = counted_more (is_busy p) false s i c.loop-index.busy c.match-change_at.busy inside is.1 c.loop-index.invariant.busy (omega (arith, w.busy-is));
+            idle = counted_more (is_idle p) false s i c.loop-index.idle c.match-change_at.idle inside is.0 c.loop-index.invariant.idle
+                (omega (arith, w.idle-is));
+            busy = counted_more (is_busy p) false s i c.loop-index.busy c.match-change_at.busy inside is.1 c.loop-index.invariant.busy
+                (omega (arith, w.busy-is));
             few = omega (arith, w.idle-is, w.busy-is, c.loop-index.invariant.few);
             spool = spool;
           }
       | in-Busy w ↦
           let is = as_busy (p f) (is_sending f.state) (sym standing ∙ w.in-Busy.is) in
           record {
-            idle = counted_more (is_idle p) false s i c.loop-index.idle c.match-change_at.idle inside is.0 c.loop-index.invariant.idle (omega (arith, w.idle-is));
-            busy = counted_more (is_busy p) true s i c.loop-index.busy c.match-change_at.busy inside is.1 c.loop-index.invariant.busy (omega (arith, w.busy-is));
+            idle = counted_more (is_idle p) false s i c.loop-index.idle c.match-change_at.idle inside is.0 c.loop-index.invariant.idle
+                (omega (arith, w.idle-is));
+            busy = counted_more (is_busy p) true s i c.loop-index.busy c.match-change_at.busy inside is.1 c.loop-index.invariant.busy
+                (omega (arith, w.busy-is));
             few = omega (arith, w.idle-is, w.busy-is, c.loop-index.invariant.few);
             spool = spool;
           }
       | in-Idle w ↦
           let is = as_idle (p f) (is_sending f.state) (sym standing ∙ w.in-Idle.is) in
           record {
-            idle = counted_more (is_idle p) true s i c.loop-index.idle c.match-change_at.idle inside is.0 c.loop-index.invariant.idle (omega (arith, w.idle-is));
-            busy = counted_more (is_busy p) false s i c.loop-index.busy c.match-change_at.busy inside is.1 c.loop-index.invariant.busy (omega (arith, w.busy-is));
+            idle = counted_more (is_idle p) true s i c.loop-index.idle c.match-change_at.idle inside is.0 c.loop-index.invariant.idle
+                (omega (arith, w.idle-is));
+            busy = counted_more (is_busy p) false s i c.loop-index.busy c.match-change_at.busy inside is.1 c.loop-index.invariant.busy
+                (omega (arith, w.busy-is));
             few = omega (arith, w.idle-is, w.busy-is, c.loop-index.invariant.few);
             spool = spool;
           }

@@ -21,7 +21,8 @@ loop-index-preserved c =
           (sym (ap (option_map (λ (t : ArrayVec ℕ). t.items)) w.in-Some.is) ∙ c.line_at.ensures) in
           record {
             replies = w.replies-is ∙ w.add.ensures ∙ r.0;
-            count = counted_more (owned c.args.who) true s i c.loop-index.count c.match-line_at.count inside r.1 c.loop-index.invariant.count (omega (arith, w.count-is));
+            count = counted_more (owned c.args.who) true s i c.loop-index.count c.match-line_at.count inside r.1
+                c.loop-index.invariant.count (omega (arith, w.count-is));
             few = omega (arith, w.count-is, c.loop-index.invariant.few);
           }
       | in_default w ↦
@@ -29,7 +30,8 @@ loop-index-preserved c =
           (sym (ap (option_map (λ (t : ArrayVec ℕ). t.items)) w.in_default.is) ∙ c.line_at.ensures) in
           record {
             replies = w.replies-is ∙ r.0;
-            count = counted_more (owned c.args.who) false s i c.loop-index.count c.match-line_at.count inside r.1 c.loop-index.invariant.count (omega (arith, w.count-is));
+            count = counted_more (owned c.args.who) false s i c.loop-index.count c.match-line_at.count inside r.1
+                c.loop-index.invariant.count (omega (arith, w.count-is));
             few = omega (arith, w.count-is, c.loop-index.invariant.few);
           }
     ]
@@ -38,10 +40,12 @@ pub returns : goal.returns
 returns c =
     let s = part c.args.customer c.args.spool.now in
     let own = owned c.args.who in
-    let all : length s.whole ≤ c.loop-index.index = subst (λ (m : ℕ). m ≤ c.loop-index.index) c.files-index-end.ensures c.loop-index-test.false in
+    let all : length s.whole ≤ c.loop-index.index = subst (λ (m : ℕ). m ≤ c.loop-index.index) c.files-index-end.ensures
+        c.loop-index-test.false in
     let last : List (List ℕ) = files_line (count own s) ∷ [] in
     c.add-2.ensures
     ∙ ap₂ (λ (replies : List (List ℕ)) (text : List ℕ). kept (replies ++ text ∷ [])) c.loop-index.invariant.replies
-    (c.files_line.ensures ∙ ap files_line (c.loop-index.invariant.count ∙ ap (λ files. length (filter own files)) (all_looked_at s.whole c.loop-index.index all)))
+    (c.files_line.ensures ∙ ap files_line (c.loop-index.invariant.count ∙ ap (λ files. length (filter own files)) (all_looked_at
+        s.whole c.loop-index.index all)))
     ∙ kept_more 64 (map file_line (filter own (take c.loop-index.index s.whole))) last
     ∙ ap (λ files. kept (map file_line (filter own files) ++ last)) (all_looked_at s.whole c.loop-index.index all)
