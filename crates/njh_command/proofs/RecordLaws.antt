@@ -6,7 +6,8 @@ use Rattle.njh_record.specs.Stored.{Stored}
 use Rattle.njh_record.specs.declared.Kind.{Kind}
 use Rattle.njh_spool.specs.CustomerSpool.{at_index, rewritten_record}
 use Rattle.njh_header.specs.Redirecting.{destination_place, redirected, redirected_record}
-use Rattle.njh_command.specs.Files.{no_record, record_at, redirected_up_to, srcb_before, with_redirected}
+use Rattle.njh_command.specs.Files.{no_record, record_at, with_redirected}
+use Rattle.njh_command.proofs.UpTo.{redirected_up_to, srcb_before}
 
 -- the record that was read
 pub record_is : (records : List Stored) (n : ℕ) (r : Stored) → slice_get records n ≡ Some r → record_at n records ≡ r
@@ -64,7 +65,7 @@ more_from kind before node (suc zero) (r ∷ []) h = absurd (not-suc-le-zero (le
 more_from kind before node (suc zero) (r ∷ s ∷ rs) h = refl
 more_from kind before node (suc (suc n)) (r ∷ rs) h =
     ap (λ rest. redirected_record node (destination_place kind before r) r ∷ rest) (more_from kind (Some r.srcb) node (suc n) rs
-        (le_of_suc-le-suc h))
+    (le_of_suc-le-suc h))
 
 -- the n-th isn't changed yet
 not_yet_from :
@@ -84,12 +85,12 @@ not_yet kind node n records h = not_yet_from kind None node n records h
 
 pub one_more : (kind : Kind) (node : List ℕ) (n : ℕ) (records : List Stored) → n < length records
     → with_redirected kind (srcb_before n records) node n (redirected_up_to kind node n records) ≡ redirected_up_to kind node (suc n)
-        records
+    records
 one_more kind node n records h =
     ap (λ r. set (redirected_up_to kind node n records) n (redirected_record node (destination_place kind (srcb_before n records) r) r))
     (not_yet kind node n records h)
     ∙ ap (λ o. set (redirected_up_to kind node n records) n (redirected_record node (destination_place kind o (record_at n records))
-        (record_at n records)))
+    (record_at n records)))
     (sym (same_before n records))
     ∙ more_from kind None node n records h
 

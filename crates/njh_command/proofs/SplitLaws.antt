@@ -184,7 +184,7 @@ pub with_stops : (word : List ℕ) → stop word < length word → stop (drop (s
 with_stops word h more =
     ap name_of_parts (first_folded is_full_stop full_stops_stay word h)
     ∙ ap (λ parts. name_of_parts (map upper (take (stop word) word) ∷ parts)) (first_folded is_full_stop full_stops_stay (drop (stop
-        word + 1) word) more)
+    word + 1) word) more)
     ∙ too_many (map upper (take (stop word) word)) (map upper (take (stop (drop (stop word + 1) word)) (drop (stop word + 1) word)))
     (map upper (drop (stop (drop (stop word + 1) word) + 1) (drop (stop word + 1) word)))
 
@@ -193,4 +193,4 @@ pub with_stop : (word : List ℕ) → stop word < length word → stop (drop (st
 with_stop word h last =
     ap name_of_parts (first_folded is_full_stop full_stops_stay word h)
     ∙ ap (λ parts. name_of_parts (map upper (take (stop word) word) ∷ parts)) (whole_folded is_full_stop full_stops_stay (drop (stop
-        word + 1) word) last)
+    word + 1) word) last)

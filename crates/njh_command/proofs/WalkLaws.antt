@@ -11,7 +11,8 @@ use Rattle.njh_command.specs.declared.changing.Standing.TheVariants.{Other, Busy
 use Rattle.njh_command.specs.Replies.{file_line}
 use Rattle.njh_command.specs.Commands.{changed_file, is_idle, kept, owned}
 use Rattle.njh_command.specs.Changes.{line_where, numbers_where, standing_by, without_where}
-use Rattle.njh_command.specs.Files.{changed_up_to, count_up_to, file_at, left_up_to, no_file, removed_up_to, with_file}
+use Rattle.njh_command.specs.Files.{file_at, no_file, with_file}
+use Rattle.njh_command.proofs.UpTo.{changed_up_to, count_up_to, left_up_to, removed_up_to}
 use Rattle.njh_command.proofs.OnlyOneLaws.{changed_more, not_yet}
 use Rattle.njh_command.proofs.ReplyLaws.{kept_more}
 
@@ -28,7 +29,7 @@ part_of old now c x range now_is = ap (part c) now_is ∙ get_or-set_same old c 
 
 pub moved_twice :
     (old now new : List CustomerSpool) (c : ℕ) (x : CustomerSpool) (f : CustomerSpool → CustomerSpool) → c < length old → now ≡
-        slice_set old c x
+    slice_set old c x
     → new ≡ slice_set now c (f (part c now)) → new ≡ slice_set old c (f x)
 moved_twice old now new c x f range now_is new_is =
     new_is
@@ -157,7 +158,7 @@ line_kept who i s replies text inside so_far line =
 
     by_test : (b : Bool) → owned who (file_at i s) ≡ b → Some text ≡ line_where b (file_at i s)
         → (kept (replies ++ text ∷ []) ≡ kept (map file_line (filter (owned who) (take (i + 1) s.whole)))) × (owned who (file_at i s) ≡
-            true)
+        true)
     by_test true own same = (
       ap₂ (λ rs t. kept (rs ++ t ∷ [])) so_far (some_is same)
           ∙ kept_more 64 lines (file_line (file_at i s) ∷ [])

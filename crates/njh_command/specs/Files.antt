@@ -1,10 +1,9 @@
 -- A customer's whole files by their places in order of arrival.
-use Rattle.std.specs.Prelude.{ℕ, zero, suc, None, Some, List, [], ◌++◌, length, take, drop, map, filter, remove, slice_index_or}
-use Rattle.std.specs.Prelude.{slice_set, Bool, not, Option}
+use Rattle.std.specs.Prelude.{ℕ, List, [], Option, remove, slice_index_or, slice_set}
 use Rattle.njh_record.specs.Stored.{Stored}
 use Rattle.njh_record.specs.declared.Kind.{Kind}
 use Rattle.njh_record.specs.declared.Kind.TheVariants.{In}
-use Rattle.njh_header.specs.Redirecting.{destination_place, redirected, redirected_record}
+use Rattle.njh_header.specs.Redirecting.{destination_place, redirected_record}
 use Rattle.njh_spool.specs.declared.State.TheVariants.{Ready}
 use Rattle.njh_spool.specs.CustomerSpool.{CustomerSpool, WholeFile}
 
@@ -25,24 +24,6 @@ without index s = record s { whole = remove s.whole index }
 abbrev pub with_records : List Stored → WholeFile → WholeFile
 with_records records f = record f { records = records }
 
--- ---- a walk over the files in order
-
--- the first so many files are changed
-abbrev pub changed_up_to : (WholeFile → WholeFile) → ℕ → CustomerSpool → CustomerSpool
-changed_up_to change n s = record s { whole = map change (take n s.whole) ++ drop n s.whole }
-
--- of the first so many files, those that don't pass
-abbrev pub left_up_to : (WholeFile → Bool) → ℕ → CustomerSpool → List WholeFile
-left_up_to p n s = filter (λ f. not (p f)) (take n s.whole)
-
--- of the first so many files, those that pass are removed
-abbrev pub removed_up_to : (WholeFile → Bool) → ℕ → CustomerSpool → CustomerSpool
-removed_up_to p n s = record s { whole = left_up_to p n s ++ drop n s.whole }
-
--- how many of the first so many files pass
-abbrev pub count_up_to : (WholeFile → Bool) → ℕ → CustomerSpool → ℕ
-count_up_to p n s = length (filter p (take n s.whole))
-
 -- ---- the records of a file
 
 -- where there is no such record, one without bytes
@@ -56,12 +37,3 @@ record_at n records = slice_index_or records n no_record
 abbrev pub with_redirected : Kind → Option ℕ → List ℕ → ℕ → List Stored → List Stored
 with_redirected kind before node n records =
     slice_set records n (redirected_record node (destination_place kind before (record_at n records)) (record_at n records))
-
--- the SRCB of the record before the n-th
-abbrev pub srcb_before : ℕ → List Stored → Option ℕ
-srcb_before zero records = None
-srcb_before (suc n) records = Some (record_at n records).srcb
-
--- the first so many records have another destination node, where they name one
-abbrev pub redirected_up_to : Kind → List ℕ → ℕ → List Stored → List Stored
-redirected_up_to kind node n records = redirected kind node None (take n records) ++ drop n records

@@ -49,12 +49,7 @@ fn a_file_that_is_being_sent_is_cancelled(rt: HostRuntime) -> Result<(), Fail> {
     bench.streams.senders[4] = Sender::Sending(sent, 1);
     bench.streams.senders[7] = Sender::EofSent(ended);
     bench.anna(&rt, alloc, "HOLD LYON.42", "NJH012 LYON.42 IS BEING SENT\n")?;
-    bench.anna(
-        &rt,
-        alloc,
-        "CANCEL LYON.42",
-        "NJH005 LYON.42 CANCELLED 2\n",
-    )?;
+    bench.anna(&rt, alloc, "CANCEL LYON.42", "NJH005 LYON.42 CANCELLED 2\n")?;
     let streams = bench.streams.senders;
     assert_eq!(rt; streams[3], Sender::Sending(other, 2));
     assert_eq!(rt; streams[4], Sender::Aborting);
@@ -75,19 +70,9 @@ fn two_files_of_a_name_are_cancelled(rt: HostRuntime) -> Result<(), Fail> {
     let mut bench = Bench::open(&rt, alloc)?;
     bench.output(&rt, ACME, 42, ANNA)?;
     bench.output(&rt, ACME, 42, ANNA)?;
-    bench.anna(
-        &rt,
-        alloc,
-        "CANCEL LYON.42",
-        "NJH005 LYON.42 CANCELLED 2\n",
-    )?;
+    bench.anna(&rt, alloc, "CANCEL LYON.42", "NJH005 LYON.42 CANCELLED 2\n")?;
     bench.anna(&rt, alloc, "LIST", "NJH002 0 FILES\n")?;
-    bench.anna(
-        &rt,
-        alloc,
-        "CANCEL LYON.42",
-        "NJH010 LYON.42 NOT FOUND\n",
-    )?;
+    bench.anna(&rt, alloc, "CANCEL LYON.42", "NJH010 LYON.42 NOT FOUND\n")?;
     Ok(())
 }
 
@@ -140,7 +125,10 @@ fn headers_of_output_are_rerouted(rt: HostRuntime) -> Result<(), Fail> {
     for n in 0..7 {
         let (srcb, bytes) = records[n];
         let wanted = if n == 2 || n == 5 { &changed } else { bytes };
-        assert!(rt; bench.holds(&rt, ACME, file, n as u32, (srcb, wanted))?, "{n}");
+        assert!(rt;
+            bench.holds(&rt, ACME, file, n as u32, (srcb, wanted))?,
+            "{n}"
+        );
     }
     bench.anna(
         &rt,
@@ -175,7 +163,10 @@ fn a_job_is_rerouted(rt: HostRuntime) -> Result<(), Fail> {
     for n in 0..4 {
         let (srcb, bytes) = records[n];
         let wanted = if n == 0 { &changed } else { bytes };
-        assert!(rt; bench.holds(&rt, ACME, file, n as u32, (srcb, wanted))?, "{n}");
+        assert!(rt;
+            bench.holds(&rt, ACME, file, n as u32, (srcb, wanted))?,
+            "{n}"
+        );
     }
     bench.anna(
         &rt,
@@ -265,11 +256,7 @@ fn users_are_told_by_their_bytes(rt: HostRuntime) -> Result<(), Fail> {
         &rt,
         ACME,
         Kind::Out,
-        &[
-            (0xc0, &job(3, strange)),
-            (0xe0, &header),
-            (0xd0, &TRAILER),
-        ],
+        &[(0xc0, &job(3, strange)), (0xe0, &header), (0xd0, &TRAILER)],
     )?;
     for (user, replies) in [
         (

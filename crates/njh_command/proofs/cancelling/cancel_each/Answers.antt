@@ -5,7 +5,8 @@ use Rattle.njh_spool.specs.CustomerSpool.{CustomerSpool, WholeFile}
 use Rattle.njh_spool.specs.Spools.{part}
 use Rattle.njh_command.specs.Changes.{numbers_where, without_where}
 use Rattle.njh_command.specs.Commands.{chosen, is_busy, without_file}
-use Rattle.njh_command.specs.Files.{file_at, removed_up_to}
+use Rattle.njh_command.specs.Files.{file_at}
+use Rattle.njh_command.proofs.UpTo.{removed_up_to}
 use Rattle.njh_command.proofs.WalkLaws.{part_of, moved_twice, counted_more, index_more, removed_not_yet, removed_one_more, numbers_more}
 use Rattle.njh_command.proofs.WalkLaws.{fold_more, all_looked_at}
 use Rattle.njh_command.proofs.cancelling.cancel_each.Goals.{then-cancel_at, else-cancel_at}
@@ -32,9 +33,9 @@ loop-preserved g c =
     let senders =
     c.cancel_at.ensures.senders
     ∙ ap₂ (λ x (y : WholeFile). fold (λ z k. g.S.Senders.each z (without_file k)) x (numbers_where (is_busy p y) y))
-        c.loop.invariant.senders here
+    c.loop.invariant.senders here
     ∙ sym (fold_more (λ z k. g.S.Senders.each z (without_file k)) c.args.senders.now (map (λ x. x.number) (filter (is_busy p) (take i
-        s.whole)))
+    s.whole)))
     (numbers_where (is_busy p f) f))
     ∙ ap (fold (λ z k. g.S.Senders.each z (without_file k)) c.args.senders.now) (sym (numbers_more (is_busy p) i s inside)) in
     elim c.if-cancel_at.branch [
@@ -42,8 +43,10 @@ loop-preserved g c =
           let passes : p f ≡ true = sym removed ∙ w.if-cancel_at.true in
           record {
             index = index_more p true s i n c.if-cancel_at.index inside passes c.loop.invariant.index (omega (arith, w.index-is));
-            count = counted_more p true s i c.loop.count c.if-cancel_at.count inside passes c.loop.invariant.count (omega (arith,
-                w.count-is));
+            count = counted_more p true s i c.loop.count c.if-cancel_at.count inside passes c.loop.invariant.count (omega (
+              arith,
+              w.count-is,
+            ));
             few = omega (arith, w.index-is, w.count-is, c.loop.invariant.few);
             spool = spool;
             senders = senders;
@@ -52,8 +55,10 @@ loop-preserved g c =
           let passes : p f ≡ false = sym removed ∙ w.if-cancel_at.false in
           record {
             index = index_more p false s i n c.if-cancel_at.index inside passes c.loop.invariant.index (omega (arith, w.index-is));
-            count = counted_more p false s i c.loop.count c.if-cancel_at.count inside passes c.loop.invariant.count (omega (arith,
-                w.count-is));
+            count = counted_more p false s i c.loop.count c.if-cancel_at.count inside passes c.loop.invariant.count (omega (
+              arith,
+              w.count-is,
+            ));
             few = omega (arith, w.index-is, w.count-is, c.loop.invariant.few);
             spool = spool;
             senders = senders;
@@ -67,4 +72,4 @@ returns-clause-senders g c =
     c.loop.invariant.senders
     ∙ ap (λ files. fold (λ x n. g.S.Senders.each x (without_file n)) c.args.senders.now
     (map (λ f. f.number) (filter (is_busy (chosen c.args.choice.now.who c.args.choice.now.name)) files))) (all_looked_at s.whole
-        c.loop.counter all)
+    c.loop.counter all)

@@ -23,5 +23,5 @@ returns-in-Other c =
           unmoved c.args.spool.now c.args.customer
           ∙ ap (slice_set c.args.spool.now c.args.customer)
           (same_file s c.args.index ∙ ap (λ (x : WholeFile). with_file c.args.index x s) (unchanged p (change_by c.args.change.now) f
-              idle));
+          idle));
     }

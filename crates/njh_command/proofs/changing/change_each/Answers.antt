@@ -4,7 +4,8 @@ use Rattle.njh_spool.specs.CustomerSpool.{CustomerSpool, WholeFile}
 use Rattle.njh_spool.specs.Spools.{part}
 use Rattle.njh_command.specs.Changes.{change_by, standing_of}
 use Rattle.njh_command.specs.Commands.{changed_file, chosen, is_busy, is_idle, is_sending}
-use Rattle.njh_command.specs.Files.{changed_up_to, file_at, with_file}
+use Rattle.njh_command.specs.Files.{file_at, with_file}
+use Rattle.njh_command.proofs.UpTo.{changed_up_to}
 use Rattle.njh_command.proofs.WalkLaws.{part_of, moved_twice, counted_more, changed_not_yet, changed_one_more, as_other, as_busy, as_idle}
 use Rattle.njh_command.proofs.changing.change_each.Goals.{in-Other, in-Busy, in-Idle}
 use Rattle.njh_command.proofs.changing.change_each.Goals as goal

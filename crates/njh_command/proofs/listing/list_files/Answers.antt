@@ -41,11 +41,11 @@ returns c =
     let s = part c.args.customer c.args.spool.now in
     let own = owned c.args.who in
     let all : length s.whole ≤ c.loop-index.index = subst (λ (m : ℕ). m ≤ c.loop-index.index) c.files-index-end.ensures
-        c.loop-index-test.false in
+    c.loop-index-test.false in
     let last : List (List ℕ) = files_line (count own s) ∷ [] in
     c.add-2.ensures
     ∙ ap₂ (λ (replies : List (List ℕ)) (text : List ℕ). kept (replies ++ text ∷ [])) c.loop-index.invariant.replies
     (c.files_line.ensures ∙ ap files_line (c.loop-index.invariant.count ∙ ap (λ files. length (filter own files)) (all_looked_at
-        s.whole c.loop-index.index all)))
+    s.whole c.loop-index.index all)))
     ∙ kept_more 64 (map file_line (filter own (take c.loop-index.index s.whole))) last
     ∙ ap (λ files. kept (map file_line (filter own files) ++ last)) (all_looked_at s.whole c.loop-index.index all)

@@ -1,7 +1,7 @@
 use Rattle.std.proofs.Common.{◌≡◌, ◌≤◌, map, filter, take}
 use Rattle.njh_spool.specs.Spools.{part}
 use Rattle.njh_command.specs.Commands.{kept, owned}
-use Rattle.njh_command.specs.Files.{count_up_to}
+use Rattle.njh_command.proofs.UpTo.{count_up_to}
 use Rattle.njh_command.specs.Replies.{file_line}
 use Rattle.njh_command.proofs.listing.list_files.Given as goal
 

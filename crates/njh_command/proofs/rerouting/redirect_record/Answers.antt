@@ -16,14 +16,14 @@ returns-in-Some-clause-spool c =
     let e = redirected_here c.args.kind c.args.before c.args.node c.args.n c.in-Some.place
     (file_at c.args.index (part c.args.customer c.args.spool.now)).records r c.read_record-srcb.ensures.record
     (ap (λ b. destination_place c.args.kind c.args.before (of b)) (sym c.deref.ensures.0) ∙ sym c.destination_place.ensures.place ∙
-        c.in-Some.is) in
+    c.in-Some.is) in
     cc (e, c.rewrite_record.ensures, c.read_record-srcb.ensures.same, c.bytes.ensures.same)
 
 pub returns-in_default-clause-srcb : goal.returns-in_default-clause-srcb
 returns-in_default-clause-srcb c =
     let r : Stored = record { srcb = c.read_record-srcb.result; bytes = c.read_record-srcb.new.into.items } in
     sym (ap (λ x. x.srcb) (record_is (file_at c.args.index (part c.args.customer c.args.spool.now)).records c.args.n r
-        c.read_record-srcb.ensures.record))
+    c.read_record-srcb.ensures.record))
 
 pub returns-in_default-clause-spool : goal.returns-in_default-clause-spool
 returns-in_default-clause-spool c =
@@ -32,7 +32,7 @@ returns-in_default-clause-spool c =
     let f : WholeFile = file_at c.args.index (part c.args.customer c.args.spool.now) in
     let e = redirected_nowhere c.args.kind c.args.before c.args.node c.args.n f.records r c.read_record-srcb.ensures.record
     (ap (λ b. destination_place c.args.kind c.args.before (of b)) (sym c.deref.ensures.0) ∙ sym c.destination_place.ensures.place ∙
-        c.in_default.is) in
+    c.in_default.is) in
     c.read_record-srcb.ensures.same
     ∙ unmoved c.args.spool.now c.args.customer
     ∙ ap (slice_set c.args.spool.now c.args.customer) (

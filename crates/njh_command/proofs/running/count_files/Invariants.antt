@@ -1,7 +1,7 @@
 use Rattle.std.proofs.Common.{◌≡◌, ◌≤◌}
 use Rattle.njh_spool.specs.Spools.{part}
 use Rattle.njh_command.specs.Commands.{chosen}
-use Rattle.njh_command.specs.Files.{count_up_to}
+use Rattle.njh_command.proofs.UpTo.{count_up_to}
 use Rattle.njh_command.proofs.running.count_files.Given as goal
 
 abbrev pub invariant-loop-index : goal.invariant-loop-index

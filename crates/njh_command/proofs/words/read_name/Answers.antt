@@ -12,8 +12,11 @@ pub returns-then-count_before-number : goal.returns-then-count_before-number
 returns-then-count_before-number c =
     let word = c.args.word.now in
     let at : c.count_before-end.result ≡ stop word = c.count_before-end.ensures.place in
-    let inside : stop word < length word = subst (λ (n : ℕ). n < length word) at (omega (arith, c.count_before-end.ensures.within,
-        c.if-end-word.false)) in
+    let inside : stop word < length word = subst (λ (n : ℕ). n < length word) at (omega (
+      arith,
+      c.count_before-end.ensures.within,
+      c.if-end-word.false,
+    )) in
     let behind : c.split_at-2.result.1.now ≡ drop (stop word + 1) word = c.split_at-2.ensures.back ∙ ap (λ (n : ℕ). drop (n + 1) word) at in
     let place : c.count_before.result ≡ stop c.split_at-2.result.1.now = c.count_before.ensures.place in
     let more : stop c.split_at-2.result.1.now < length c.split_at-2.result.1.now
@@ -24,8 +27,11 @@ pub returns : goal.returns
 returns c =
     let word = c.args.word.now in
     let at : c.count_before-end.result ≡ stop word = c.count_before-end.ensures.place in
-    let inside : stop word < length word = subst (λ (n : ℕ). n < length word) at (omega (arith, c.count_before-end.ensures.within,
-        c.if-end-word.false)) in
+    let inside : stop word < length word = subst (λ (n : ℕ). n < length word) at (omega (
+      arith,
+      c.count_before-end.ensures.within,
+      c.if-end-word.false,
+    )) in
     let front : c.split_at.result.0.now ≡ take (stop word) word = c.split_at.ensures.front ∙ ap (λ (n : ℕ). take n word) at in
     let behind : c.split_at-2.result.1.now ≡ drop (stop word + 1) word = c.split_at-2.ensures.back ∙ ap (λ (n : ℕ). drop (n + 1) word) at in
     let place : c.count_before.result ≡ stop c.split_at-2.result.1.now = c.count_before.ensures.place in
