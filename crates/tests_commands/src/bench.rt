@@ -81,15 +81,18 @@ static JOB: [u8; 100] = *b"\x00\x64\x00\x00\
 pub static TO_METZ: [u8; 24] = *b"\x00\x18\x00\x00\x00\x14\x00\x00\
     \xd4\xc5\xe3\xe9\x40\x40\x40\x40\xd7\xc1\xe4\xd3\x40\x40\x40\x40";
 
+/// A record of data.
 pub static HELLO: [u8; 6] = *b"\x05\xc8\xc5\xd3\xd3\xd6";
 
+/// The record that ends a file.
 pub static TRAILER: [u8; 4] = *b"\x00\x04\x00\x00";
 
-/// The field of a user at LYON.
+/// The field of a user at LYON, and of another.
 pub const ANNA: [u8; 8] = *b"\xc1\xd5\xd5\xc1\x40\x40\x40\x40";
 
 pub const EVA: [u8; 8] = *b"\xc5\xe5\xc1\x40\x40\x40\x40\x40";
 
+/// The customers' numbers.
 pub const ACME: u16 = 0;
 
 pub const BOLT: u16 = 1;
@@ -102,11 +105,12 @@ pub fn job(number: u16, user: [u8; 8]) -> [u8; 100] {
     header
 }
 
+/// Two customers with their files, and the streams of a line.
 #[derive(Drop)]
 pub struct Bench {
     tables: Tables,
     spool: Spool,
-    pub streams: Streams,
+    streams: Streams,
 }
 
 impl Model for Bench {
@@ -130,6 +134,7 @@ fn ebcdic(alloc: Global, text: &str) -> Result<Vec<u8>, Fail> {
 }
 
 impl Bench {
+    /// Without files.
     pub fn open<R: Abort>(rt: &R, alloc: Global) -> Result<Self, Fail> {
         let tables = Tables::read(alloc, TABLES)?;
         assert!(rt; tables.customers().len() >= 2);
@@ -146,22 +151,32 @@ impl Bench {
         })
     }
 
-    /// A whole file of these records, Ready.
-    pub fn store<R: Abort>(
+    /// A partial file without records.
+    pub fn begin<R: Abort>(&mut self, rt: &R, customer: u16, kind: Kind) -> Result<FileId, Fail> {
+        assert!(rt; customer < 2);
+        Ok(self.spool.begin(customer, kind)?)
+    }
+
+    /// A record more.
+    pub fn append<R: Abort>(
         &mut self,
         rt: &R,
         customer: u16,
-        kind: Kind,
-        records: &[(u8, &[u8])],
-    ) -> Result<FileId, Fail> {
+        file: FileId,
+        srcb: u8,
+        bytes: &[u8],
+    ) -> Result<(), Fail> {
         assert!(rt; customer < 2);
-        let file = self.spool.begin(customer, kind)?;
-        for (srcb, bytes) in records {
-            assert!(rt; bytes.len() <= 256);
-            self.spool.append(customer, file, *srcb, bytes)?;
-        }
+        assert!(rt; bytes.len() <= 256);
+        self.spool.append(customer, file, srcb, bytes)?;
+        Ok(())
+    }
+
+    /// The file is whole, and Ready.
+    pub fn finish<R: Abort>(&mut self, rt: &R, customer: u16, file: FileId) -> Result<(), Fail> {
+        assert!(rt; customer < 2);
         self.spool.finish(customer, file)?;
-        Ok(file)
+        Ok(())
     }
 
     /// Output of a user at LYON for PAUL at METZ, of four records.
@@ -172,19 +187,16 @@ impl Bench {
         number: u16,
         user: [u8; 8],
     ) -> Result<FileId, Fail> {
-        self.store(
-            rt,
-            customer,
-            Kind::Out,
-            &[
-                (0xc0, &job(number, user)),
-                (0xe0, &TO_METZ),
-                (0x80, &HELLO),
-                (0xd0, &TRAILER),
-            ],
-        )
+        let file = self.begin(rt, customer, Kind::Out)?;
+        self.append(rt, customer, file, 0xc0, &job(number, user))?;
+        self.append(rt, customer, file, 0xe0, &TO_METZ)?;
+        self.append(rt, customer, file, 0x80, &HELLO)?;
+        self.append(rt, customer, file, 0xd0, &TRAILER)?;
+        self.finish(rt, customer, file)?;
+        Ok(file)
     }
 
+    /// Gives a whole file another state.
     pub fn set_state<R: Abort>(
         &mut self,
         rt: &R,
@@ -204,7 +216,8 @@ impl Bench {
         customer: u16,
         file: FileId,
         n: u32,
-        (srcb, bytes): (u8, &[u8]),
+        srcb: u8,
+        bytes: &[u8],
     ) -> Result<bool, Fail> {
         assert!(rt; customer < 2);
         let count = self.spool.records(customer, file)?;
@@ -244,16 +257,43 @@ impl Bench {
         Ok(shown)
     }
 
-    /// ANNA of ACME says this, and is answered so.
-    pub fn anna<R: Abort>(
+    /// ANNA of ACME says what stands first on each line, and is answered what stands behind it, all parted by strokes.
+    pub fn talk<R: Abort>(&mut self, rt: &R, alloc: Global, lines: &str) -> Result<(), Fail> {
+        for line in lines.lines() {
+            let (message, replies) = line.split_once('/').expect(rt, "a message and its replies");
+            self.hear(rt, alloc, ANNA, message, replies)?;
+        }
+        Ok(())
+    }
+
+    /// A user of ACME says this, and is answered so, the replies parted by strokes.
+    pub fn hear<R: Abort>(
         &mut self,
         rt: &R,
         alloc: Global,
+        user: [u8; 8],
         message: &str,
         replies: &str,
     ) -> Result<(), Fail> {
-        let said = self.say(rt, alloc, ACME, ANNA, message)?;
-        assert_eq!(rt; said.as_str(), replies, "{message}");
+        let said = self.say(rt, alloc, ACME, user, message)?;
+        let mut wanted = String::new(alloc);
+        for reply in replies.split('/') {
+            wanted.push_str(reply)?;
+            wanted.push('\n')?;
+        }
+        assert_eq!(rt; said.as_str(), wanted.as_str(), "{message}");
         Ok(())
+    }
+
+    /// A stream is about something.
+    pub fn set_stream<R: Abort>(&mut self, rt: &R, place: usize, sender: Sender) {
+        assert!(rt; place < 8);
+        self.streams.set(place, sender);
+    }
+
+    /// What a stream is about.
+    pub fn stream<R: Abort>(&self, rt: &R, place: usize) -> Sender {
+        assert!(rt; place < 8);
+        self.streams.at(place)
     }
 }

@@ -1,6 +1,6 @@
 //! A line's streams in memory.
 
-ghost use Rattle.std.specs.Prelude.{◌≡◌, ◌∷◌, [], replicate};
+ghost use Rattle.std.specs.Prelude.{◌≡◌, ◌<◌, replicate, slice_get, slice_set, Some};
 ghost use Rattle.njh_stream.specs.declared.sender.Sender.TheVariants.{Idle};
 
 use njh_command::{Senders, give_up};
@@ -11,8 +11,7 @@ use std::marker::Model;
 /// The streams from the hub on one line: four of SYSIN, and four of SYSOUT.
 #[derive(Debug, Drop)]
 pub struct Streams {
-    /// What each is about.
-    pub senders: [Sender; 8],
+    senders: [Sender; 8],
 }
 
 impl Model for Streams {
@@ -32,6 +31,22 @@ impl Streams {
         Streams {
             senders: [Sender::Idle; 8],
         }
+    }
+
+    /// What a stream is about.
+    pub fn at(&self, place: usize) -> Sender
+        requires { place < 8 }
+        ensures { slice_get self.now place ≡ Some result }
+    {
+        self.senders[place]
+    }
+
+    /// A stream is about something else.
+    pub fn set(&mut self, place: usize, sender: Sender)
+        requires { place < 8 }
+        ensures { self.new ≡ slice_set self.old place sender }
+    {
+        self.senders[place] = sender;
     }
 }
 

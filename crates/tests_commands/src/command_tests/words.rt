@@ -1,6 +1,6 @@
 //! Which messages are commands.
 
-use crate::bench::Bench;
+use crate::bench::{ANNA, Bench};
 use std::test::Fail;
 
 /// Each a message that is a command, and what is replied where there are no files.
@@ -70,12 +70,7 @@ HELP LYON.42";
 fn commands_are_read(rt: HostRuntime) -> Result<(), Fail> {
     let alloc = rt.alloc();
     let mut bench = Bench::open(&rt, alloc)?;
-    for line in COMMANDS.lines() {
-        let (message, reply) = line.split_once('/').expect(&rt, "a line of two parts");
-        let replies = format!(in alloc; "{reply}\n")?;
-        bench.anna(&rt, alloc, message, replies.as_str())?;
-    }
-    Ok(())
+    bench.talk(&rt, alloc, COMMANDS)
 }
 
 #[test]
@@ -83,10 +78,8 @@ fn other_messages_are_no_commands(rt: HostRuntime) -> Result<(), Fail> {
     let alloc = rt.alloc();
     let mut bench = Bench::open(&rt, alloc)?;
     for message in OTHERS.lines() {
-        bench.anna(&rt, alloc, message, "NJH011 BAD COMMAND\n")?;
+        bench.hear(&rt, alloc, ANNA, message, "NJH011 BAD COMMAND")?;
     }
-    for message in ["", " ", "     "] {
-        bench.anna(&rt, alloc, message, "NJH011 BAD COMMAND\n")?;
-    }
-    Ok(())
+    bench.hear(&rt, alloc, ANNA, "", "NJH011 BAD COMMAND")?;
+    bench.hear(&rt, alloc, ANNA, "   ", "NJH011 BAD COMMAND")
 }
