@@ -6,3 +6,4 @@ pub mod SourceLists
 pub mod SpoolLaws
 pub mod StreamLaws
 pub mod TurnLaws
+pub mod CarryingLaws

@@ -1,3 +1,4 @@
 pub mod Tight
 pub mod NextBlock
 pub mod Laws
+pub mod Carrying

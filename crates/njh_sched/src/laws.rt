@@ -1,10 +1,13 @@
 //! Laws of what the next block holds. Each function does nothing: its contract is the law.
 
-ghost use Rattle.std.specs.Prelude.{◌≡◌, ℕ, ◌<◌, Bool, true, false, List, length};
-ghost use Rattle.njh_block.specs.Blocks.{all_suspended};
+ghost use Rattle.std.specs.Prelude.{◌≡◌, ℕ, ◌<◌, ◌≤◌, Bool, true, false, List, length};
+ghost use Rattle.njh_block.specs.Blocks.{all_suspended, rcb_of};
 ghost use Rattle.njh_spool.specs.CustomerSpool.{WholeFile};
-ghost use Rattle.njh_sched.specs.NextBlock.{Filling, Source, after_source, after_sources, filled, sources};
-ghost use Rattle.njh_sched.specs.Laws.{Does, EachDoes};
+ghost use Rattle.njh_sched.specs.NextBlock.{Filling, Source, after_source, after_sources, filled, is_sending, sender_at, sources};
+ghost use Rattle.njh_sched.specs.Laws.{Does, EachDoes, records_under};
+ghost use Rattle.njh_sched.specs.Carrying.{Carries, file_records};
+
+use njh_stream::Sender;
 
 /// Where the peer suspends all, nothing is added and nothing moves.
 #[tactic(auto, unfolding(crate::specs::NextBlock::filled))]
@@ -27,4 +30,15 @@ pub fn sources_move_streams_so()
 pub fn sources_fill_the_block()
     ensures { (goes : WholeFile → Bool) (x : Filling) → all_suspended x.outlet.peer ≡ false
         → filled goes x ≡ after_sources goes (sources x.block.limit x.outlet) x }
+{}
+
+/// What a block carries under a stream's RCB. Of a stream that sends a file: the file's records from the place before the block to the place
+/// after it, each once and in order, and the end of file only behind the last one. Of any other stream nothing.
+pub fn blocks_carry_files_in_order()
+    ensures carried { (goes : WholeFile → Bool) (k n p : ℕ) (x : Filling) → k < 8 → k < length x.outlet.senders
+        → sender_at k x.outlet ≡ Sender.Sending n p → p ≤ length (file_records n x.spool)
+        → Carries k n p (file_records n x.spool) (records_under (rcb_of k) x.block.items) (filled goes x) }
+    ensures quiet { (goes : WholeFile → Bool) (k : ℕ) (x : Filling) → k < 8 → k < length x.outlet.senders
+        → is_sending (sender_at k x.outlet) ≡ false
+        → records_under (rcb_of k) (filled goes x).block.items ≡ records_under (rcb_of k) x.block.items }
 {}
