@@ -1,0 +1,78 @@
+-- A stream's request, and the files that were looked at for it.
+use Rattle.std.proofs.Common.{◌≡◌, ◌<◌, ℕ, ◌+◌, Bool, true, false, List, length, map, Option, Some, None, ◌==◌, cond}
+use Rattle.std.proofs.Common.{slice_get, option_map, IsSomeAnd, refl, sym, ap, ◌∙◌, arith, eq-eqb}
+use Rattle.std.proofs.lemmas.Option.{slice_get_within, slice_get-map}
+use Rattle.std.proofs.lemmas.List.{length-map}
+use Rattle.njh_block.specs.Codes.{kind_of}
+use Rattle.njh_block.specs.Writing.{Writing}
+use Rattle.njh_record.specs.declared.Kind.{Kind}
+use Rattle.njh_spool.specs.CustomerSpool.{CustomerSpool, WholeFile, with_state}
+use Rattle.njh_spool.specs.declared.State.TheVariants as state
+use Rattle.njh_stream.specs.Sending.{holds_of}
+use Rattle.njh_sched.specs.NextBlock.{Outlet, StreamRequest, HasPassed, may_go, may_ask, oldest, asking}
+use Rattle.njh_sched.specs.NextBlock.{after_source, after_candidate, filling}
+use Rattle.njh_sched.proofs.FileLists.{one_more, none_changed}
+
+module _ (goes : WholeFile → Bool) (k : ℕ) (w : Writing) (o : Outlet) (s : CustomerSpool) where
+  pub not_asked : may_ask o k ≡ false → after_source goes (StreamRequest k) (filling w o s) ≡ filling w o s
+  unfolding after_source
+  not_asked e =
+      ap (λ b. after_candidate (elim b [ false ↦ None | true ↦ option_map (λ f. asking o s k f.number) (oldest goes (kind_of k) s) ])
+      (filling w o s)) e
+
+  by_test : (b : Bool) → may_ask o k ≡ b → after_source goes (StreamRequest k) (filling w o s)
+      ≡ after_candidate (elim b [ false ↦ None | true ↦ option_map (λ f. asking o s k f.number) (oldest goes (kind_of k) s) ])
+      (filling w o s)
+  unfolding after_source
+  by_test b e =
+      ap (λ v. after_candidate (elim v [ false ↦ None | true ↦ option_map (λ f. asking o s k f.number) (oldest goes (kind_of k) s) ])
+      (filling w o s)) e
+
+  pub nothing_to_ask : may_ask o k ≡ true → oldest goes (kind_of k) s ≡ None → after_source goes (StreamRequest k) (filling w o s)
+      ≡ filling w o s
+  nothing_to_ask e none = by_test true e ∙ ap (λ f. after_candidate (option_map (λ x. asking o s k x.number) f) (filling w o s)) none
+
+  pub asks : (f : Option WholeFile) (n : ℕ) → may_ask o k ≡ true → oldest goes (kind_of k) s ≡ f → IsSomeAnd f (λ x. n ≡ x.number)
+      → after_source goes (StreamRequest k) (filling w o s) ≡ after_candidate (Some (asking o s k n)) (filling w o s)
+  asks None n e is at = absurd (search at)
+  asks (Some f) n e is at =
+      let number : n ≡ f.number = search at in
+      by_test true e
+      ∙ ap (λ x. after_candidate (option_map (λ y. asking o s k y.number) x) (filling w o s)) is
+      ∙ ap (λ m. after_candidate (Some (asking o s k m)) (filling w o s)) (sym number)
+
+-- a file that was asked for is Sending, and is passed too
+module _ (goes : WholeFile → Bool) (kind : Kind) (n : ℕ) where
+  stays_out : (x : WholeFile) → may_go goes kind x ≡ false → may_go goes kind (cond (x.number == n)
+      (record x { state = state.Sending }) x) ≡ false
+  stays_out x h = at_test (x.number == n)
+    where
+      at_test : (b : Bool) → may_go goes kind (cond b (record x { state = state.Sending }) x) ≡ false
+      at_test true = refl
+      at_test false = h
+
+  goes_out : (x : WholeFile) → n ≡ x.number → may_go goes kind (cond (x.number == n) (record x { state = state.Sending }) x) ≡ false
+  goes_out x e = ap (λ b. may_go goes kind (cond b (record x { state = state.Sending }) x)) (eq-eqb x.number n (sym e))
+
+  out_at : (i : ℕ) (xs : List WholeFile) (f : Option WholeFile) → slice_get xs i ≡ f → IsSomeAnd f (λ x. n ≡ x.number)
+      → holds_of (may_go goes kind) (slice_get (map (λ x. cond (x.number == n) (record x { state = state.Sending }) x) xs) i) ≡ false
+  out_at i xs None e at = absurd (search at)
+  out_at i xs (Some f) e at =
+      ap (holds_of (may_go goes kind))
+      (slice_get-map (λ x. cond (x.number == n) (record x { state = state.Sending }) x) xs i
+      ∙ ap (option_map (λ x. cond (x.number == n) (record x { state = state.Sending }) x)) e)
+      ∙ goes_out f (search at)
+
+  inside : (i : ℕ) (xs : List WholeFile) (f : Option WholeFile) → slice_get xs i ≡ f → IsSomeAnd f (λ x. n ≡ x.number) → i < length xs
+  inside i xs None e at = absurd (search at)
+  inside i xs (Some f) e at = slice_get_within xs i f e
+
+  pub passed_more : (i : ℕ) (s : CustomerSpool) → HasPassed goes kind i s → IsSomeAnd (slice_get s.whole i) (λ x. n ≡ x.number)
+      → HasPassed goes kind (i + 1) (with_state n state.Sending s)
+  passed_more i s p at = record {
+    within = let there : i < length s.whole = inside i s.whole (slice_get s.whole i) refl at in
+        omega (arith, there, length-map {A = WholeFile} {B = WholeFile});
+    none = one_more (may_go goes kind) (map (λ x. cond (x.number == n) (record x { state = state.Sending }) x) s.whole) i
+        (none_changed (may_go goes kind) (λ x. cond (x.number == n) (record x { state = state.Sending }) x) s.whole i stays_out p.none)
+        (out_at i s.whole (slice_get s.whole i) refl at);
+  }

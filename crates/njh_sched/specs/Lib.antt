@@ -1,0 +1,3 @@
+pub mod Tight
+pub mod NextBlock
+pub mod Laws

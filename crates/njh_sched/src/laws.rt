@@ -1,0 +1,30 @@
+//! Laws of what the next block holds. Each function does nothing: its contract is the law.
+
+ghost use Rattle.std.specs.Prelude.{◌≡◌, ℕ, ◌<◌, Bool, true, false, List, length};
+ghost use Rattle.njh_block.specs.Blocks.{all_suspended};
+ghost use Rattle.njh_spool.specs.CustomerSpool.{WholeFile};
+ghost use Rattle.njh_sched.specs.NextBlock.{Filling, Source, after_source, after_sources, filled, sources};
+ghost use Rattle.njh_sched.specs.Laws.{Does, EachDoes};
+
+/// Where the peer suspends all, nothing is added and nothing moves.
+#[tactic(auto, unfolding(crate::specs::NextBlock::filled))]
+pub fn nothing_where_all_is_suspended()
+    ensures { (goes : WholeFile → Bool) (x : Filling) → all_suspended x.outlet.peer ≡ true → filled goes x ≡ x }
+{}
+
+/// What each source of a block does to a stream, one after the other. A stream that isn't sending, or that the peer suspends, has no record
+/// added under its RCB; one that is sending has the file's record at its place, and its place moves by that; where there is no such
+/// record it has the end of file. A stream asks for a file only where it was idle. Nothing else moves a stream.
+pub fn sources_move_streams_so()
+    ensures one { (goes : WholeFile → Bool) (k : ℕ) (source : Source) (x : Filling) → k < 8 → k < length x.outlet.senders
+        → Does goes k x (after_source goes source x) }
+    ensures each { (goes : WholeFile → Bool) (k : ℕ) (sources : List Source) (x : Filling) → k < 8 → k < length x.outlet.senders
+        → EachDoes goes k sources x }
+{}
+
+/// A block is filled by its sources one after the other, where the peer doesn't suspend all.
+#[tactic(auto, unfolding(crate::specs::NextBlock::filled))]
+pub fn sources_fill_the_block()
+    ensures { (goes : WholeFile → Bool) (x : Filling) → all_suspended x.outlet.peer ≡ false
+        → filled goes x ≡ after_sources goes (sources x.block.limit x.outlet) x }
+{}

@@ -1,0 +1,94 @@
+//! The records of the streams, in turn.
+
+ghost use Rattle.std.specs.Prelude.{◌≡◌, ◌<◌, Bool, IsTrue, length, Some};
+ghost use Rattle.njh_spool.specs.CustomerSpool.{WholeFile};
+ghost use Rattle.njh_spool.specs.Spools.{part};
+ghost use Rattle.njh_stream.specs.Sending.{next_of};
+ghost use Rattle.njh_sched.specs.NextBlock.{turns, may_send, next_served, room_of, sender_at, serving};
+ghost use Rattle.njh_sched.specs.NextBlock.{after_candidate, after_sources, filling, filling_where};
+
+use crate::adding::{PLAIN, add_where_room};
+use crate::outgoing::Outgoing;
+use njh_block::{BlockWriter, Out, Stream};
+use njh_record::Record;
+use njh_spool::Spool;
+use njh_stream::Sender;
+
+/// Whether a stream sends a file, and the peer lets it.
+fn may_send<L: Outgoing>(stream: Stream, line: &L) -> bool
+    ensures { result ≡ may_send (L.outlet line.now) stream }
+{
+    line.peer().is_on(stream) && matches!(line.sender(stream), Sender::Sending(_, _))
+}
+
+/// The stream whose turn it is.
+fn next_served<L: Outgoing>(line: &L) -> Option<Stream>
+    ensures { result ≡ next_served (L.outlet line.now) }
+{
+    let served = line.served().place();
+    for step in 0..Stream::COUNT {
+        let stream = Stream::at((served + 1 + step) % Stream::COUNT);
+        if may_send(stream, line) {
+            return Some(stream);
+        }
+    }
+    None
+}
+
+/// Adds a stream's next record, or its end of file, where it has room. Else the stream stays where it is.
+fn add_record<L: Outgoing>(
+    stream: Stream,
+    line: &mut L,
+    customer: u16,
+    spool: &mut Spool,
+    record: &mut Record,
+    writer: &mut BlockWriter,
+) -> bool
+    requires { customer < length spool.old }
+    ensures candidate { after_candidate
+        (Some (serving (L.outlet line.old) (part customer spool.old) stream
+        (next_of (sender_at stream (L.outlet line.old)) (part customer spool.old))))
+        (filling writer.old (L.outlet line.old) (part customer spool.old))
+        ≡ filling_where result writer.new (L.outlet line.new) (part customer spool.old) }
+    ensures spool { spool.new ≡ spool.old }
+    ensures room { IsTrue result → room_of writer.new < room_of writer.old }
+    ensures rest { L.rest line.new ≡ L.rest line.old }
+{
+    let mut sender = line.sender(stream);
+    let srcb = sender.next(customer, spool, record).unwrap_or(PLAIN);
+    let out = Out::Data {
+        rcb: stream.rcb(),
+        srcb,
+        bytes: record,
+    };
+    let has_room = add_where_room(out, writer);
+    if has_room {
+        line.set_sender(stream, sender);
+        line.set_served(stream);
+    }
+    has_room
+}
+
+/// Adds records and ends of file of the streams in turn, until one has no room, and says whether all had.
+pub fn add_records<L: Outgoing>(
+    line: &mut L,
+    customer: u16,
+    spool: &mut Spool,
+    writer: &mut BlockWriter,
+) -> bool
+    requires { customer < length spool.old }
+    ensures source { (goes : WholeFile → Bool) → after_sources goes (turns writer.old.limit)
+        (filling writer.old (L.outlet line.old) (part customer spool.old))
+        ≡ filling_where result writer.new (L.outlet line.new) (part customer spool.old) }
+    ensures spool { spool.new ≡ spool.old }
+    ensures rest { L.rest line.new ≡ L.rest line.old }
+{
+    let _some_room = writer.text();
+    let mut record = Record::new();
+    while let Some(stream) = next_served(line) {
+        if !add_record(stream, line, customer, spool, &mut record, writer) {
+            return false;
+        }
+    }
+    true
+}
