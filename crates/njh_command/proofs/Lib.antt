@@ -1,0 +1,7 @@
+mod UpTo
+mod OnlyOneLaws
+mod FileLaws
+mod SplitLaws
+mod RecordLaws
+mod ReplyLaws
+mod WalkLaws

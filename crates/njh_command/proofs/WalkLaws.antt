@@ -1,0 +1,195 @@
+-- A walk over a customer's files in order.
+use Rattle.std.proofs.Common.{◌≡◌, ◌<◌, ◌≤◌, ◌+◌, ℕ, Bool, true, false, cond, not, ◌&&◌, List, [], ◌∷◌, ◌++◌, length, take, drop, map}
+use Rattle.std.proofs.Common.{filter, fold, get_or, slice_set, Option, Some, None, refl, sym, ap, ap₂, ◌∙◌, add-one, append_assoc}
+use Rattle.std.specs.Prelude.{remove}
+use Rattle.std.proofs.lemmas.List.{set-set, get_or-set_same, set-get_or, get_or_at, drop_more, take_all, map-append, append-nil}
+use Rattle.std.proofs.lemmas.List.Elements.{filter_more}
+use Rattle.std.proofs.lemmas.List.Filters.{length-filter_more}
+use Rattle.njh_spool.specs.Spools.{part, no_spool}
+use Rattle.njh_spool.specs.CustomerSpool.{CustomerSpool, WholeFile}
+use Rattle.njh_command.specs.declared.changing.Standing.TheVariants.{Other, Busy, Idle}
+use Rattle.njh_command.specs.Replies.{file_line}
+use Rattle.njh_command.specs.Commands.{changed_file, is_idle, kept, owned}
+use Rattle.njh_command.specs.Changes.{line_where, numbers_where, standing_by, without_where}
+use Rattle.njh_command.specs.Files.{file_at, no_file, with_file}
+use Rattle.njh_command.proofs.UpTo.{changed_up_to, count_up_to, left_up_to, removed_up_to}
+use Rattle.njh_command.proofs.OnlyOneLaws.{changed_more, not_yet}
+use Rattle.njh_command.proofs.ReplyLaws.{kept_more}
+
+-- nothing was done to a customer, or to a file
+pub unmoved : (old : List CustomerSpool) (c : ℕ) → old ≡ slice_set old c (part c old)
+unmoved old c = sym (set-get_or old c no_spool)
+
+pub same_file : (s : CustomerSpool) (i : ℕ) → s ≡ with_file i (file_at i s) s
+same_file s i = ap (λ files. record s { whole = files }) (sym (set-get_or s.whole i no_file))
+
+-- a customer's spool that moves twice
+pub part_of : (old now : List CustomerSpool) (c : ℕ) (x : CustomerSpool) → c < length old → now ≡ slice_set old c x → part c now ≡ x
+part_of old now c x range now_is = ap (part c) now_is ∙ get_or-set_same old c x no_spool range
+
+pub moved_twice :
+    (old now new : List CustomerSpool) (c : ℕ) (x : CustomerSpool) (f : CustomerSpool → CustomerSpool) → c < length old → now ≡
+    slice_set old c x
+    → new ≡ slice_set now c (f (part c now)) → new ≡ slice_set old c (f x)
+moved_twice old now new c x f range now_is new_is =
+    new_is
+    ∙ ap₂ (λ m s. slice_set m c (f s)) now_is (part_of old now c x range now_is)
+    ∙ set-set old c x (f x)
+
+-- a file that moves twice
+pub file_is : (s : CustomerSpool) (i : ℕ) (f : WholeFile) → i < length s.whole → file_at i (with_file i f s) ≡ f
+file_is s i f inside = get_or-set_same s.whole i f no_file inside
+
+pub file_twice : (s : CustomerSpool) (i : ℕ) (f g : WholeFile) → with_file i g (with_file i f s) ≡ with_file i g s
+file_twice s i f g = ap (λ files. record s { whole = files }) (set-set s.whole i f g)
+
+-- ---- one file more
+
+-- it counts where it passes
+pub counted_more :
+    (p : WholeFile → Bool) (b : Bool) (s : CustomerSpool) (i n m : ℕ) → i < length s.whole → p (file_at i s) ≡ b → n ≡ count_up_to p i s
+    → m ≡ n + cond b 1 0 → m ≡ count_up_to p (i + 1) s
+counted_more p b s i n m inside passes so_far more =
+    more ∙ ap₂ (λ k t. k + cond t 1 0) so_far (sym passes) ∙ sym (length-filter_more p s.whole i no_file inside)
+
+pub changed_not_yet : (g : WholeFile → WholeFile) (i : ℕ) (s : CustomerSpool) → i < length s.whole → file_at i (changed_up_to g i s) ≡
+    file_at i s
+changed_not_yet g i s inside = not_yet g i s.whole no_file inside
+
+pub changed_one_more : (g : WholeFile → WholeFile) (i : ℕ) (s : CustomerSpool) → i < length s.whole
+    → with_file i (g (file_at i (changed_up_to g i s))) (changed_up_to g i s) ≡ changed_up_to g (i + 1) s
+changed_one_more g i s inside =
+    ap (λ f. with_file i (g f) (changed_up_to g i s)) (changed_not_yet g i s inside)
+    ∙ ap (λ files. record s { whole = files }) (sym (changed_more g i s.whole no_file inside))
+    ∙ ap (λ n. changed_up_to g n s) (sym (add-one i))
+
+-- the files that are left, up to the next
+pub left_more : (p : WholeFile → Bool) (i : ℕ) (s : CustomerSpool) → i < length s.whole
+    → left_up_to p (i + 1) s ≡ left_up_to p i s ++ cond (not (p (file_at i s))) (file_at i s ∷ []) []
+left_more p i s inside = filter_more (λ f. not (p f)) s.whole i no_file inside
+
+pub removed_not_yet : (p : WholeFile → Bool) (i : ℕ) (s : CustomerSpool) → i < length s.whole
+    → file_at (length (left_up_to p i s)) (removed_up_to p i s) ≡ file_at i s
+removed_not_yet p i s inside =
+    ap (λ rest. get_or (left_up_to p i s ++ rest) (length (left_up_to p i s)) no_file) (drop_more s.whole i no_file inside)
+    ∙ get_or_at (left_up_to p i s) (file_at i s) (drop (i + 1) s.whole) no_file (length (left_up_to p i s)) refl
+
+remove_at : (xs : List WholeFile) (y : WholeFile) (ys : List WholeFile) → remove (xs ++ y ∷ ys) (length xs) ≡ xs ++ ys
+remove_at [] y ys = refl
+remove_at (x ∷ xs) y ys = ap (λ rest. x ∷ rest) (remove_at xs y ys)
+
+pub removed_one_more : (p : WholeFile → Bool) (i : ℕ) (s : CustomerSpool) → i < length s.whole
+    → without_where (p (file_at i s)) (length (left_up_to p i s)) (removed_up_to p i s) ≡ removed_up_to p (i + 1) s
+removed_one_more p i s inside =
+    by_test (p (file_at i s)) ∙ ap (λ files. record s { whole = files ++ drop (i + 1) s.whole }) (sym (left_more p i s inside))
+  where
+    by_test : (b : Bool) → without_where b (length (left_up_to p i s)) (removed_up_to p i s)
+        ≡ record s { whole = (left_up_to p i s ++ cond (not b) (file_at i s ∷ []) []) ++ drop (i + 1) s.whole }
+    by_test true =
+        ap (λ files. record s { whole = files }) (
+        ap (λ rest. remove (left_up_to p i s ++ rest) (length (left_up_to p i s))) (drop_more s.whole i no_file inside)
+        ∙ remove_at (left_up_to p i s) (file_at i s) (drop (i + 1) s.whole)
+        ∙ ap (λ files. files ++ drop (i + 1) s.whole) (sym (append-nil (left_up_to p i s))))
+    by_test false =
+        ap (λ files. record s { whole = files }) (
+        ap (λ rest. left_up_to p i s ++ rest) (drop_more s.whole i no_file inside)
+        ∙ sym (append_assoc (left_up_to p i s) (file_at i s ∷ []) (drop (i + 1) s.whole)))
+
+-- the index moves on where the file is left
+pub index_more :
+    (p : WholeFile → Bool) (b : Bool) (s : CustomerSpool) (i n m : ℕ) → i < length s.whole → p (file_at i s) ≡ b
+    → n ≡ length (left_up_to p i s) → m ≡ n + cond (not b) 1 0 → m ≡ length (left_up_to p (i + 1) s)
+index_more p b s i n m inside passes so_far more =
+    more ∙ ap₂ (λ k t. k + cond (not t) 1 0) so_far (sym passes) ∙ sym (length-filter_more (λ f. not (p f)) s.whole i no_file inside)
+
+pub numbers_more : (p : WholeFile → Bool) (i : ℕ) (s : CustomerSpool) → i < length s.whole
+    → map (λ f. f.number) (filter p (take (i + 1) s.whole))
+    ≡ map (λ f. f.number) (filter p (take i s.whole)) ++ numbers_where (p (file_at i s)) (file_at i s)
+numbers_more p i s inside =
+    ap (map (λ f. f.number)) (filter_more p s.whole i no_file inside)
+    ∙ map-append (λ f. f.number) (filter p (take i s.whole)) (cond (p (file_at i s)) (file_at i s ∷ []) [])
+    ∙ ap (λ numbers. map (λ f. f.number) (filter p (take i s.whole)) ++ numbers) (by_test (p (file_at i s)))
+  where
+    by_test : (b : Bool) → map (λ f. f.number) (cond b (file_at i s ∷ []) []) ≡ numbers_where b (file_at i s)
+    by_test true = refl
+    by_test false = refl
+
+pub fold_more : {A B : Type 0} (f : B → A → B) (x : B) (xs ys : List A) → fold f x (xs ++ ys) ≡ fold f (fold f x xs) ys
+fold_more f x [] ys = refl
+fold_more f x (a ∷ xs) ys = fold_more f (f x a) xs ys
+
+-- all were looked at
+pub all_looked_at : {X : Type 0} (xs : List X) (n : ℕ) → length xs ≤ n → take n xs ≡ xs
+all_looked_at xs n h = take_all n xs h
+
+-- ---- what a file is to a change
+
+pub as_other : (passes sending : Bool) → standing_by passes sending ≡ Other → ((passes && not sending) ≡ false) × ((passes && sending)
+    ≡ false)
+as_other false sending e = (refl, refl)
+as_other true true e = absurd (cc e)
+as_other true false e = absurd (cc e)
+
+pub as_busy : (passes sending : Bool) → standing_by passes sending ≡ Busy → ((passes && not sending) ≡ false) × ((passes && sending) ≡ true)
+as_busy false sending e = absurd (cc e)
+as_busy true true e = (refl, refl)
+as_busy true false e = absurd (cc e)
+
+pub as_idle : (passes sending : Bool) → standing_by passes sending ≡ Idle → ((passes && not sending) ≡ true) × ((passes && sending) ≡ false)
+as_idle false sending e = absurd (cc e)
+as_idle true true e = absurd (cc e)
+as_idle true false e = (refl, refl)
+
+-- a file that isn't changed
+pub unchanged : (p : WholeFile → Bool) (g : WholeFile → WholeFile) (f : WholeFile) → is_idle p f ≡ false → f ≡ changed_file p g f
+unchanged p g f e = sym (ap (λ b. cond b (g f) f) e)
+
+-- ---- a line of LIST more
+
+pub line_kept : (who : List ℕ × List ℕ) (i : ℕ) (s : CustomerSpool) (replies : List (List ℕ)) (text : List ℕ) → i < length s.whole
+    → replies ≡ kept (map file_line (filter (owned who) (take i s.whole)))
+    → Some text ≡ line_where (owned who (file_at i s)) (file_at i s)
+    → (kept (replies ++ text ∷ []) ≡ kept (map file_line (filter (owned who) (take (i + 1) s.whole)))) × (owned who (file_at i s) ≡ true)
+line_kept who i s replies text inside so_far line =
+    by_test (owned who (file_at i s)) refl line
+  where
+    lines : List (List ℕ)
+    lines = map file_line (filter (owned who) (take i s.whole))
+
+    by_test : (b : Bool) → owned who (file_at i s) ≡ b → Some text ≡ line_where b (file_at i s)
+        → (kept (replies ++ text ∷ []) ≡ kept (map file_line (filter (owned who) (take (i + 1) s.whole)))) × (owned who (file_at i s) ≡
+        true)
+    by_test true own same = (
+      ap₂ (λ rs t. kept (rs ++ t ∷ [])) so_far (some_is same)
+          ∙ kept_more 64 lines (file_line (file_at i s) ∷ [])
+          ∙ ap kept (sym (
+          ap (map file_line) (filter_more (owned who) s.whole i no_file inside)
+          ∙ map-append file_line (filter (owned who) (take i s.whole)) (cond (owned who (file_at i s)) (file_at i s ∷ []) [])
+          ∙ ap (λ b. lines ++ map file_line (cond b (file_at i s ∷ []) [])) own)),
+      own,
+    )
+      where
+        or_none : Option (List ℕ) → List ℕ
+        or_none o = elim o [ Some t ↦ t | None ↦ [] ]
+
+        some_is : Some text ≡ Some (file_line (file_at i s)) → text ≡ file_line (file_at i s)
+        some_is e = ap or_none e
+    by_test false own same = absurd (cc same)
+
+pub no_line : (who : List ℕ × List ℕ) (i : ℕ) (s : CustomerSpool) (replies : List (List ℕ)) → i < length s.whole
+    → replies ≡ kept (map file_line (filter (owned who) (take i s.whole)))
+    → None ≡ line_where (owned who (file_at i s)) (file_at i s)
+    → (replies ≡ kept (map file_line (filter (owned who) (take (i + 1) s.whole)))) × (owned who (file_at i s) ≡ false)
+no_line who i s replies inside so_far line = by_test (owned who (file_at i s)) refl line
+  where
+    by_test : (b : Bool) → owned who (file_at i s) ≡ b → None ≡ line_where b (file_at i s)
+        → (replies ≡ kept (map file_line (filter (owned who) (take (i + 1) s.whole)))) × (owned who (file_at i s) ≡ false)
+    by_test true own same = absurd (cc same)
+    by_test false own same = (
+      so_far
+          ∙ ap (λ files. kept (map file_line files)) (
+          sym (append-nil (filter (owned who) (take i s.whole)))
+          ∙ sym (filter_more (owned who) s.whole i no_file inside
+          ∙ ap (λ b. filter (owned who) (take i s.whole) ++ cond b (file_at i s ∷ []) []) own)),
+      own,
+    )

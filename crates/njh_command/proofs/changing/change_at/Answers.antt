@@ -1,0 +1,27 @@
+-- The file is none of them, or is being sent, and nothing is done.
+use Rattle.std.proofs.Common.{◌≡◌, false, inl, inr, sym, ap, ◌∙◌, slice_set}
+use Rattle.njh_spool.specs.CustomerSpool.{WholeFile}
+use Rattle.njh_spool.specs.Spools.{part}
+use Rattle.njh_command.specs.Changes.{change_by}
+use Rattle.njh_command.specs.Commands.{chosen, is_idle, is_sending}
+use Rattle.njh_command.specs.Files.{file_at, with_file}
+use Rattle.njh_command.proofs.WalkLaws.{unmoved, same_file, unchanged, as_other, as_busy}
+use Rattle.njh_command.proofs.changing.change_at.Goals as goal
+
+pub returns-in-Other : goal.returns-in-Other
+returns-in-Other c =
+    let s = part c.args.customer c.args.spool.now in
+    let f : WholeFile = file_at c.args.index s in
+    let p = chosen c.args.choice.now.who c.args.choice.now.name in
+    let idle : is_idle p f ≡ false = elim c.in-Other.is [
+      | inl other ↦ (as_other (p f) (is_sending f.state) (sym c.judge-standing.ensures ∙ other)).0
+      | inr busy ↦ (as_busy (p f) (is_sending f.state) (sym c.judge-standing.ensures ∙ busy)).0
+    ] in
+    record {
+      standing = c.judge-standing.ensures;
+      spool =
+          unmoved c.args.spool.now c.args.customer
+          ∙ ap (slice_set c.args.spool.now c.args.customer)
+          (same_file s c.args.index ∙ ap (λ (x : WholeFile). with_file c.args.index x s) (unchanged p (change_by c.args.change.now) f
+          idle));
+    }

@@ -1,0 +1,156 @@
+-- What a command does to the sender's files, and what it is answered: filters and maps over the files in order of arrival.
+use Rattle.std.specs.Prelude.{ℕ, ◌+◌, Bool, true, false, List, [], ◌∷◌, ◌++◌, length, take, map, filter, Option, Some, None, ◌==◌, cond}
+use Rattle.std.specs.Prelude.{not, ◌&&◌, bytes_eq}
+use Rattle.njh_spool.specs.declared.State.{State}
+use Rattle.njh_spool.specs.declared.State.TheVariants.{Ready, Held, Refused, Sending}
+use Rattle.njh_spool.specs.CustomerSpool.{CustomerSpool, WholeFile}
+use Rattle.njh_header.specs.FileHeaders.{owner_of, name_of, with_destination}
+use Rattle.njh_header.specs.Texts.{node_unknown, no_files_for}
+use Rattle.njh_table.specs.Entries.{CustomerEntry, route_of}
+use Rattle.njh_table.specs.declared.Route.{Route}
+use Rattle.njh_table.specs.declared.Route.TheVariants.{Here, Line, Unknown}
+use Rattle.njh_stream.specs.declared.sender.Sender.{Sender}
+use Rattle.njh_stream.specs.Sending.{file_in, aborted}
+use Rattle.njh_command.specs.declared.command.Command.{Command}
+use Rattle.njh_command.specs.declared.command.Command.TheVariants as commands
+use Rattle.njh_command.specs.Words.{command_of}
+use Rattle.njh_command.specs.Replies.{file_line, files_line, held, released, cancelled, rerouted_to, not_found, bad_command, being_sent}
+
+-- What is answered, what is left in the spool, and the numbers of the files that were removed while they were being sent, in order of
+-- arrival.
+pub record Outcome : Type 0 where
+  pub replies : List (List ℕ)
+  pub spool : CustomerSpool
+  pub cancelled : List ℕ
+
+abbrev pub answers : List (List ℕ) → CustomerSpool → Outcome
+answers replies s = record { replies = replies; spool = s; cancelled = [] }
+
+-- ---- which files
+
+abbrev pub is_owner : List ℕ × List ℕ → Option (List ℕ × List ℕ) → Bool
+is_owner who None = false
+is_owner who (Some owner) = bytes_eq who.0 owner.0 && bytes_eq who.1 owner.1
+
+abbrev pub is_called : List ℕ × ℕ → Option (List ℕ × ℕ) → Bool
+is_called name None = false
+is_called name (Some other) = bytes_eq name.0 other.0 && (name.1 == other.1)
+
+-- a file of the sender's own
+abbrev pub owned : List ℕ × List ℕ → WholeFile → Bool
+owned who f = is_owner who (owner_of f.records)
+
+-- one of this name
+abbrev pub chosen : List ℕ × List ℕ → List ℕ × ℕ → WholeFile → Bool
+chosen who name f = owned who f && is_called name (name_of f.records)
+
+abbrev pub is_sending : State → Bool
+is_sending Sending = true
+is_sending Ready = false
+is_sending Held = false
+is_sending Refused = false
+
+-- of the files that pass, those that aren't being sent, and those that are
+abbrev pub is_idle : (WholeFile → Bool) → WholeFile → Bool
+is_idle p f = p f && not (is_sending f.state)
+
+abbrev pub is_busy : (WholeFile → Bool) → WholeFile → Bool
+is_busy p f = p f && is_sending f.state
+
+abbrev pub count : (WholeFile → Bool) → CustomerSpool → ℕ
+count p s = length (filter p s.whole)
+
+-- ---- LIST
+
+-- the first 64 replies are kept
+abbrev pub kept : List (List ℕ) → List (List ℕ)
+kept replies = take 64 replies
+
+abbrev pub listing : List ℕ × List ℕ → CustomerSpool → List (List ℕ)
+listing who s = map file_line (filter (owned who) s.whole) ++ files_line (count (owned who) s) ∷ []
+
+-- ---- HOLD, RELEASE and REROUTE
+
+-- where there is no file of the name, that is all that is said
+abbrev pub where_found : ℕ → List ℕ × ℕ → List (List ℕ) → List (List ℕ)
+where_found n name replies = cond (n == 0) (not_found name ∷ []) replies
+
+-- so many files, where there are some
+abbrev pub if_some : ℕ → List ℕ → List (List ℕ)
+if_some n text = cond (n == 0) [] (text ∷ [])
+
+abbrev pub change_replies : (ℕ → List ℕ) → List ℕ × ℕ → ℕ → ℕ → List (List ℕ)
+change_replies text name idle busy = where_found (idle + busy) name (if_some idle (text idle) ++ if_some busy (being_sent name))
+
+abbrev pub changed_file : (WholeFile → Bool) → (WholeFile → WholeFile) → WholeFile → WholeFile
+changed_file p change f = cond (is_idle p f) (change f) f
+
+abbrev pub changed : (WholeFile → Bool) → (WholeFile → WholeFile) → CustomerSpool → CustomerSpool
+changed p change s = record s { whole = map (changed_file p change) s.whole }
+
+-- the files that aren't being sent change, and the others are left
+abbrev pub changing : (ℕ → List ℕ) → (WholeFile → WholeFile) → (WholeFile → Bool) → List ℕ × ℕ → CustomerSpool → Outcome
+changing text change p name s =
+    answers (change_replies text name (count (is_idle p) s) (count (is_busy p) s)) (changed p change s)
+
+abbrev pub with_state : State → WholeFile → WholeFile
+with_state state f = record f { state = state }
+
+abbrev pub state_after_reroute : State → State
+state_after_reroute Refused = Ready
+state_after_reroute Ready = Ready
+state_after_reroute Held = Held
+state_after_reroute Sending = Sending
+
+abbrev pub rerouted : List ℕ → WholeFile → WholeFile
+rerouted node f = record f { records = with_destination f.kind node f.records; state = state_after_reroute f.state }
+
+-- by where the new node is
+abbrev pub rerouting : Route → CustomerEntry → List ℕ → (WholeFile → Bool) → List ℕ × ℕ → CustomerSpool → Outcome
+rerouting Here entry node p name s = answers (where_found (count p s) name (no_files_for entry.hub ∷ [])) s
+rerouting (Line l) entry node p name s = changing (rerouted_to name node) (rerouted node) p name s
+rerouting Unknown entry node p name s = answers (where_found (count p s) name (node_unknown node ∷ [])) s
+
+abbrev pub rerouted_by : CustomerEntry → List ℕ → List ℕ × List ℕ → List ℕ × ℕ → CustomerSpool → Outcome
+rerouted_by entry node who name s = rerouting (route_of entry node) entry node (chosen who name) name s
+
+-- ---- CANCEL
+
+abbrev pub cancelling : (WholeFile → Bool) → List ℕ × ℕ → CustomerSpool → Outcome
+cancelling p name s = record {
+  replies = where_found (count p s) name (cancelled name (count p s) ∷ []);
+  spool = record s { whole = filter (λ f. not (p f)) s.whole };
+  cancelled = map (λ f. f.number) (filter (is_busy p) s.whole);
+}
+
+-- ---- all
+
+-- What a command of a user does.
+abbrev pub obeyed : CustomerEntry → List ℕ × List ℕ → Command → CustomerSpool → Outcome
+obeyed entry who commands.List s = answers (kept (listing who s)) s
+obeyed entry who (commands.Hold name) s = changing (held name) (with_state Held) (chosen who name) name s
+obeyed entry who (commands.Release name) s = changing (released name) (with_state Ready) (chosen who name) name s
+obeyed entry who (commands.Cancel name) s = cancelling (chosen who name) name s
+obeyed entry who (commands.Reroute name node) s = rerouted_by entry node who name s
+
+abbrev pub obeyed_where : Option Command → CustomerEntry → List ℕ × List ℕ → CustomerSpool → Outcome
+obeyed_where None entry who s = answers (bad_command ∷ []) s
+obeyed_where (Some command) entry who s = obeyed entry who command s
+
+-- What a message of a user to the hub does.
+abbrev pub commanded : CustomerEntry → List ℕ × List ℕ → List ℕ → CustomerSpool → Outcome
+commanded entry who message s = obeyed_where (command_of message) entry who s
+
+-- ---- the streams
+
+abbrev pub aborted_where : Bool → Sender → Sender
+aborted_where true sender = aborted sender
+aborted_where false sender = sender
+
+abbrev pub is_about : ℕ → Option ℕ → Bool
+is_about number None = false
+is_about number (Some n) = n == number
+
+-- a stream that is about the file of a number gives it up
+abbrev pub without_file : ℕ → Sender → Sender
+without_file number sender = aborted_where (is_about number (file_in sender)) sender

@@ -1,0 +1,5 @@
+pub mod Words
+pub mod Replies
+pub mod Commands
+pub mod Files
+pub mod Changes

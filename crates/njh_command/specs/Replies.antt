@@ -1,0 +1,83 @@
+-- What the hub replies to a command, a definition a reply. NJH020 and NJH022 stand in njh_header, since notices say them too.
+use Rattle.std.specs.Prelude.{ℕ, List, [], ◌∷◌, ◌++◌, length, Option, Some, None, codes}
+use Rattle.njh_ebcdic.specs.Names.{digits, ebcdic, trimmed}
+use Rattle.njh_record.specs.declared.Kind.{Kind}
+use Rattle.njh_record.specs.declared.Kind.TheVariants.{In, Out}
+use Rattle.njh_spool.specs.declared.State.{State}
+use Rattle.njh_spool.specs.declared.State.TheVariants.{Ready, Held, Refused, Sending}
+use Rattle.njh_spool.specs.CustomerSpool.{WholeFile}
+use Rattle.njh_header.specs.FileHeaders.{name_of, destination_of}
+use Rattle.njh_header.specs.Texts.{file_name}
+
+-- ---- what they are made of
+
+abbrev pub name_text : Option (List ℕ × ℕ) → List ℕ
+name_text None = []
+name_text (Some name) = file_name name
+
+-- a blank user is left out with its blank
+abbrev pub user_text : List ℕ → List ℕ
+user_text [] = []
+user_text (b ∷ bytes) = 0x40 ∷ b ∷ bytes
+
+-- METZ PAUL
+abbrev pub destination_text : Option (List ℕ × List ℕ) → List ℕ
+destination_text None = []
+destination_text (Some place) = trimmed place.0 ++ user_text (trimmed place.1)
+
+abbrev pub kind_text : Kind → List ℕ
+kind_text In = ebcdic (codes "IN")
+kind_text Out = ebcdic (codes "OUT")
+
+abbrev pub state_text : State → List ℕ
+state_text Ready = ebcdic (codes "READY")
+state_text Held = ebcdic (codes "HELD")
+state_text Refused = ebcdic (codes "REFUSED")
+state_text Sending = ebcdic (codes "SENDING")
+
+-- ---- the replies
+
+-- NJH001 LYON.42 TO METZ PAUL OUT 4 RECORDS READY
+unfoldable pub line_of : Option (List ℕ × ℕ) → Option (List ℕ × List ℕ) → Kind → ℕ → State → List ℕ
+line_of name destination kind records state =
+    ebcdic (codes "NJH001 ") ++ name_text name
+    ++ ebcdic (codes " TO ") ++ destination_text destination
+    ++ ebcdic (codes " ") ++ kind_text kind
+    ++ ebcdic (codes " ") ++ digits records
+    ++ ebcdic (codes " RECORDS ") ++ state_text state
+
+abbrev pub file_line : WholeFile → List ℕ
+file_line f = line_of (name_of f.records) (destination_of f.kind f.records) f.kind (length f.records) f.state
+
+-- NJH002 2 FILES
+abbrev pub files_line : ℕ → List ℕ
+files_line n = ebcdic (codes "NJH002 ") ++ digits n ++ ebcdic (codes " FILES")
+
+-- NJH003 LYON.42 HELD 1
+abbrev pub held : List ℕ × ℕ → ℕ → List ℕ
+held name n = ebcdic (codes "NJH003 ") ++ file_name name ++ ebcdic (codes " HELD ") ++ digits n
+
+-- NJH004 LYON.42 RELEASED 1
+abbrev pub released : List ℕ × ℕ → ℕ → List ℕ
+released name n = ebcdic (codes "NJH004 ") ++ file_name name ++ ebcdic (codes " RELEASED ") ++ digits n
+
+-- NJH005 LYON.42 CANCELLED 1
+abbrev pub cancelled : List ℕ × ℕ → ℕ → List ℕ
+cancelled name n = ebcdic (codes "NJH005 ") ++ file_name name ++ ebcdic (codes " CANCELLED ") ++ digits n
+
+-- NJH006 LYON.42 REROUTED TO METZ 1
+abbrev pub rerouted_to : List ℕ × ℕ → List ℕ → ℕ → List ℕ
+rerouted_to name node n =
+    ebcdic (codes "NJH006 ") ++ file_name name ++ ebcdic (codes " REROUTED TO ") ++ trimmed node ++ ebcdic (codes " ") ++ digits n
+
+-- NJH010 LYON.42 NOT FOUND
+abbrev pub not_found : List ℕ × ℕ → List ℕ
+not_found name = ebcdic (codes "NJH010 ") ++ file_name name ++ ebcdic (codes " NOT FOUND")
+
+-- NJH011 BAD COMMAND
+abbrev pub bad_command : List ℕ
+bad_command = ebcdic (codes "NJH011 BAD COMMAND")
+
+-- NJH012 LYON.42 IS BEING SENT
+abbrev pub being_sent : List ℕ × ℕ → List ℕ
+being_sent name = ebcdic (codes "NJH012 ") ++ file_name name ++ ebcdic (codes " IS BEING SENT")

@@ -1,0 +1,93 @@
+//! CANCEL: files leave the spool, those too that are being sent.
+
+ghost use Rattle.std.specs.Prelude.{◌≡◌, ◌<◌, fold, length, slice_set};
+ghost use Rattle.njh_spool.specs.Spools.{part};
+ghost use Rattle.njh_command.specs.Changes.{numbers_where, without_where};
+ghost use Rattle.njh_command.specs.Commands.{cancelling, chosen, count, is_busy, without_file};
+ghost use Rattle.njh_command.specs.Files.{file_at};
+
+use crate::changing::{Standing, judge};
+use crate::choice::Choice;
+use crate::files::remove;
+use crate::replies::Replies;
+use crate::senders::Senders;
+use crate::texts::{cancelled, not_found};
+use njh_spool::Spool;
+
+/// Removes the files, and says how many. The streams of those that are being sent give them up, in order.
+pub(crate) fn cancel_files<S: Senders>(
+    choice: &Choice,
+    spool: &mut Spool,
+    customer: u16,
+    senders: &mut S,
+) -> Replies
+    requires { customer < length spool.old }
+    ensures replies { result ≡ (cancelling (chosen choice.now.who choice.now.name) choice.now.name (part customer spool.old)).replies }
+    ensures spool { spool.new ≡ slice_set spool.old customer
+        (cancelling (chosen choice.now.who choice.now.name) choice.now.name (part customer spool.old)).spool }
+    ensures senders { senders.new ≡ fold (λ x n. S.each x (without_file n)) senders.old
+        (cancelling (chosen choice.now.who choice.now.name) choice.now.name (part customer spool.old)).cancelled }
+{
+    match cancel_each(choice, spool, customer, senders) {
+        0 => Replies::one(not_found(choice.name)),
+        count => Replies::one(cancelled(choice.name, count)),
+    }
+}
+
+/// Removes the files in order, and gives how many.
+fn cancel_each<S: Senders>(
+    choice: &Choice,
+    spool: &mut Spool,
+    customer: u16,
+    senders: &mut S,
+) -> u32
+    requires { customer < length spool.old }
+    ensures count { result ≡ count (chosen choice.now.who choice.now.name) (part customer spool.old) }
+    ensures spool { spool.new ≡ slice_set spool.old customer
+        (cancelling (chosen choice.now.who choice.now.name) choice.now.name (part customer spool.old)).spool }
+    ensures senders { senders.new ≡ fold (λ x n. S.each x (without_file n)) senders.old
+        (cancelling (chosen choice.now.who choice.now.name) choice.now.name (part customer spool.old)).cancelled }
+{
+    // A file that is removed leaves its place to the one behind it.
+    let mut index = 0;
+    let mut count = 0;
+    for _ in 0..spool.files(customer) {
+        if cancel_at(choice, spool, customer, index, senders) {
+            count += 1;
+        } else {
+            index += 1;
+        }
+    }
+    count
+}
+
+/// Removes the file at a place, where it is one of them, and says whether it was.
+fn cancel_at<S: Senders>(
+    choice: &Choice,
+    spool: &mut Spool,
+    customer: u16,
+    index: u32,
+    senders: &mut S,
+) -> bool
+    requires range { customer < length spool.old }
+    requires within { index < length (part customer spool.old).whole }
+    ensures removed { result ≡ chosen choice.now.who choice.now.name (file_at index (part customer spool.old)) }
+    ensures spool { spool.new ≡ slice_set spool.old customer
+        (without_where (chosen choice.now.who choice.now.name (file_at index (part customer spool.old))) index (part customer spool.old)) }
+    ensures senders { senders.new ≡ fold (λ x n. S.each x (without_file n)) senders.old
+        (numbers_where (is_busy (chosen choice.now.who choice.now.name) (file_at index (part customer spool.old)))
+        (file_at index (part customer spool.old))) }
+{
+    match judge(choice, spool, customer, index) {
+        Standing::Other => false,
+        Standing::Idle => {
+            remove(spool, customer, index);
+            true
+        }
+        Standing::Busy => {
+            let file = remove(spool, customer, index);
+            senders.abort(file);
+            true
+        }
+    }
+}

@@ -1,0 +1,158 @@
+//! HOLD, RELEASE and REROUTE: what changes the files that aren't being sent.
+
+ghost use Rattle.std.specs.Prelude.{◌≡◌, ◌<◌, length, slice_set};
+ghost use Rattle.njh_spool.specs.Spools.{part};
+ghost use Rattle.njh_command.specs.Changes.{change_by, standing_of, text_of};
+ghost use Rattle.njh_command.specs.Commands.{change_replies, changed, changed_file, chosen, count, is_busy, is_idle};
+ghost use Rattle.njh_command.specs.Files.{file_at, with_file};
+
+use crate::choice::{Choice, is_chosen};
+use crate::files::{set_state, state_of};
+use crate::replies::Replies;
+use crate::rerouting::reroute;
+use crate::texts::{being_sent, held, not_found, released, rerouted_to};
+use njh_ebcdic::Name;
+use njh_header::{FileName, MessageText};
+use njh_spool::{Spool, State};
+
+/// What becomes of the files.
+#[derive(Clone, Copy, Debug, PartialEq, Eq)]
+pub(crate) enum Change {
+    /// They are Held.
+    Hold,
+    /// They are Ready.
+    Release,
+    /// They go to this node.
+    Reroute(Name),
+}
+
+/// What a file is to a change.
+#[derive(Clone, Copy, Debug, PartialEq, Eq)]
+pub(crate) enum Standing {
+    /// It isn't one of the files.
+    Other,
+    /// It is one, and is being sent.
+    Busy,
+    /// It is one, and isn't being sent.
+    Idle,
+}
+
+/// How many files were changed, and how many were left since they are being sent.
+#[derive(Clone, Copy, Debug, PartialEq, Eq)]
+pub(crate) struct Counts {
+    pub(crate) idle: u32,
+    pub(crate) busy: u32,
+}
+
+/// Changes the files, and says how many.
+pub(crate) fn change_files(
+    change: &Change,
+    choice: &Choice,
+    spool: &mut Spool,
+    customer: u16,
+) -> Replies
+    requires { customer < length spool.old }
+    ensures replies { result ≡ change_replies (text_of change.now choice.now.name) choice.now.name
+        (count (is_idle (chosen choice.now.who choice.now.name)) (part customer spool.old))
+        (count (is_busy (chosen choice.now.who choice.now.name)) (part customer spool.old)) }
+    ensures spool { spool.new ≡ slice_set spool.old customer
+        (changed (chosen choice.now.who choice.now.name) (change_by change.now) (part customer spool.old)) }
+{
+    let counts = change_each(change, choice, spool, customer);
+    replies_to(change, choice.name, counts)
+}
+
+/// What is said where so many files were changed and left.
+fn replies_to(change: &Change, name: FileName, counts: Counts) -> Replies
+    ensures { result ≡ change_replies (text_of change.now name) name counts.idle counts.busy }
+{
+    match (counts.idle, counts.busy) {
+        (0, 0) => Replies::one(not_found(name)),
+        (0, _) => Replies::one(being_sent(name)),
+        (idle, 0) => Replies::one(done(change, name, idle)),
+        (idle, _) => Replies::two(done(change, name, idle), being_sent(name)),
+    }
+}
+
+/// What is said of so many files that were changed.
+fn done(change: &Change, name: FileName, count: u32) -> MessageText
+    ensures { result.items ≡ text_of change.now name count }
+{
+    match change {
+        Change::Hold => held(name, count),
+        Change::Release => released(name, count),
+        Change::Reroute(node) => rerouted_to(name, *node, count),
+    }
+}
+
+/// Changes the files in order.
+fn change_each(change: &Change, choice: &Choice, spool: &mut Spool, customer: u16) -> Counts
+    requires { customer < length spool.old }
+    ensures idle { result.idle ≡ count (is_idle (chosen choice.now.who choice.now.name)) (part customer spool.old) }
+    ensures busy { result.busy ≡ count (is_busy (chosen choice.now.who choice.now.name)) (part customer spool.old) }
+    ensures spool { spool.new ≡ slice_set spool.old customer
+        (changed (chosen choice.now.who choice.now.name) (change_by change.now) (part customer spool.old)) }
+{
+    let mut idle = 0;
+    let mut busy = 0;
+    for index in 0..spool.files(customer) {
+        match change_at(change, choice, spool, customer, index) {
+            Standing::Other => {}
+            Standing::Busy => busy += 1,
+            Standing::Idle => idle += 1,
+        }
+    }
+    Counts { idle, busy }
+}
+
+/// Changes the file at a place, where it is one of them and isn't being sent.
+fn change_at(
+    change: &Change,
+    choice: &Choice,
+    spool: &mut Spool,
+    customer: u16,
+    index: u32,
+) -> Standing
+    requires range { customer < length spool.old }
+    requires within { index < length (part customer spool.old).whole }
+    ensures standing { result ≡ standing_of (chosen choice.now.who choice.now.name) (file_at index (part customer spool.old)) }
+    ensures spool { spool.new ≡ slice_set spool.old customer (with_file index
+        (changed_file (chosen choice.now.who choice.now.name) (change_by change.now) (file_at index (part customer spool.old)))
+        (part customer spool.old)) }
+{
+    let standing = judge(choice, spool, customer, index);
+    match standing {
+        Standing::Idle => change_one(change, spool, customer, index),
+        Standing::Other | Standing::Busy => {}
+    }
+    standing
+}
+
+/// What the file at a place is to a change.
+pub(crate) fn judge(choice: &Choice, spool: &Spool, customer: u16, index: u32) -> Standing
+    requires range { customer < length spool.now }
+    requires within { index < length (part customer spool.now).whole }
+    ensures { result ≡ standing_of (chosen choice.now.who choice.now.name) (file_at index (part customer spool.now)) }
+{
+    if !is_chosen(choice, spool, customer, index) {
+        return Standing::Other;
+    }
+    match state_of(spool, customer, index) {
+        State::Sending => Standing::Busy,
+        State::Ready | State::Held | State::Refused => Standing::Idle,
+    }
+}
+
+/// Changes the file at a place.
+fn change_one(change: &Change, spool: &mut Spool, customer: u16, index: u32)
+    requires range { customer < length spool.old }
+    requires within { index < length (part customer spool.old).whole }
+    ensures { spool.new ≡ slice_set spool.old customer
+        (with_file index (change_by change.now (file_at index (part customer spool.old))) (part customer spool.old)) }
+{
+    match change {
+        Change::Hold => set_state(spool, customer, index, State::Held),
+        Change::Release => set_state(spool, customer, index, State::Ready),
+        Change::Reroute(node) => reroute(*node, spool, customer, index),
+    }
+}

@@ -1,0 +1,127 @@
+//! A customer's whole files, by their places in order of arrival.
+//!
+//! A place is below the number of the customer's whole files: the caller's condition.
+
+ghost use Rattle.std.specs.Prelude.{◌≡◌, ◌+◌, ◌<◌, ◌≤◌, ℕ, length, slice_set, slice_get, slice_index_or, Some, IsSomeAnd};
+ghost use Rattle.njh_record.specs.Bytes.{with_field};
+ghost use Rattle.njh_spool.specs.CustomerSpool.{WholeFile, whole_numbered, on_file, removed, at_index, rewritten_record};
+ghost use Rattle.njh_spool.specs.Spools.{part};
+ghost use Rattle.njh_command.specs.Commands as commands;
+ghost use Rattle.njh_command.specs.Files.{file_at, with_file, with_records, without};
+
+use njh_record::{Kind, Record};
+use njh_spool::{FileId, Spool, State};
+use njh_stream::SpoolFile;
+
+/// The number of the file at a place, which is no other file's.
+pub(crate) fn number_of(spool: &Spool, customer: u16, index: u32) -> FileId
+    requires range { customer < length spool.now }
+    requires within { index < length (part customer spool.now).whole }
+    ensures number { result ≡ (file_at index (part customer spool.now)).number }
+    ensures found { whole_numbered result (part customer spool.now) ≡ Some (file_at index (part customer spool.now)) }
+    ensures alone { (f : WholeFile → WholeFile) → on_file result f (part customer spool.now)
+        ≡ with_file index (f (file_at index (part customer spool.now))) (part customer spool.now) }
+    ensures removed { removed result (part customer spool.now) ≡ without index (part customer spool.now) }
+{
+    spool.quota_holds(customer);
+    spool.file_at(customer, index)
+}
+
+pub(crate) fn kind_of(spool: &Spool, customer: u16, index: u32) -> Kind
+    requires range { customer < length spool.now }
+    requires within { index < length (part customer spool.now).whole }
+    ensures { result ≡ (file_at index (part customer spool.now)).kind }
+{
+    let file = number_of(spool, customer, index);
+    spool.kind(customer, file).unwrap_or(Kind::In)
+}
+
+pub(crate) fn state_of(spool: &Spool, customer: u16, index: u32) -> State
+    requires range { customer < length spool.now }
+    requires within { index < length (part customer spool.now).whole }
+    ensures { result ≡ (file_at index (part customer spool.now)).state }
+{
+    let file = number_of(spool, customer, index);
+    spool.state(customer, file).unwrap_or(State::Ready)
+}
+
+/// How many records the file has.
+pub(crate) fn count_records(spool: &Spool, customer: u16, index: u32) -> u32
+    requires range { customer < length spool.now }
+    requires within { index < length (part customer spool.now).whole }
+    ensures { result ≡ length (file_at index (part customer spool.now)).records }
+{
+    let file = number_of(spool, customer, index);
+    spool.records(customer, file).unwrap_or(0)
+}
+
+/// The file as the list of its records.
+pub(crate) fn records_of(spool: &Spool, customer: u16, index: u32) -> SpoolFile<'_>
+    requires range { customer < length spool.now }
+    requires within { index < length (part customer spool.now).whole }
+    ensures { result ≡ (file_at index (part customer spool.now)).records }
+{
+    let file = number_of(spool, customer, index);
+    SpoolFile::of(spool, customer, file)
+}
+
+/// Puts the bytes of the file's n-th record in place of what `into` held, and gives its SRCB. The next record is read on from there.
+pub(crate) fn read_record(
+    spool: &mut Spool,
+    customer: u16,
+    index: u32,
+    n: u32,
+    into: &mut Record,
+) -> u8
+    requires range { customer < length spool.old }
+    requires within { index < length (part customer spool.old).whole }
+    requires known { n < length (file_at index (part customer spool.old)).records }
+    ensures record { slice_get (file_at index (part customer spool.old)).records n
+        ≡ Some (record { srcb = result; bytes = into.new.items }) }
+    ensures same { spool.new ≡ spool.old }
+{
+    let file = number_of(spool, customer, index);
+    spool.read_on(customer, file, n, into).unwrap_or(0)
+}
+
+/// Writes eight bytes over those from a place on of the file's n-th record.
+pub(crate) fn rewrite_record(
+    spool: &mut Spool,
+    customer: u16,
+    index: u32,
+    n: u32,
+    place: usize,
+    bytes: [u8; 8],
+)
+    requires range { customer < length spool.old }
+    requires within { index < length (part customer spool.old).whole }
+    requires field { IsSomeAnd (slice_get (file_at index (part customer spool.old)).records n) (λ r. place + 8 ≤ length r.bytes) }
+    ensures { spool.new ≡ slice_set spool.old customer (with_file index
+        (with_records (at_index n (rewritten_record place bytes) (file_at index (part customer spool.old)).records)
+        (file_at index (part customer spool.old))) (part customer spool.old)) }
+{
+    let file = number_of(spool, customer, index);
+    spool.rewrite(customer, file, n, place, bytes).ok();
+}
+
+pub(crate) fn set_state(spool: &mut Spool, customer: u16, index: u32, state: State)
+    requires range { customer < length spool.old }
+    requires within { index < length (part customer spool.old).whole }
+    ensures { spool.new ≡ slice_set spool.old customer
+        (with_file index (commands.with_state state (file_at index (part customer spool.old))) (part customer spool.old)) }
+{
+    let file = number_of(spool, customer, index);
+    spool.set_state(customer, file, state).ok();
+}
+
+/// Removes the file, and gives the number that it had.
+pub(crate) fn remove(spool: &mut Spool, customer: u16, index: u32) -> FileId
+    requires range { customer < length spool.old }
+    requires within { index < length (part customer spool.old).whole }
+    ensures number { result ≡ (file_at index (part customer spool.old)).number }
+    ensures spool { spool.new ≡ slice_set spool.old customer (without index (part customer spool.old)) }
+{
+    let file = number_of(spool, customer, index);
+    spool.remove(customer, file).ok();
+    file
+}

@@ -1,0 +1,21 @@
+//! Commands in nodal messages (IBM SC23-0070, "Nodal message record"): what a user may say to the hub, and what becomes of the
+//! user's files.
+#![tactic(auto)]
+
+mod cancelling;
+mod changing;
+mod choice;
+mod command;
+mod files;
+mod listing;
+mod replies;
+mod rerouting;
+mod running;
+mod senders;
+mod texts;
+mod words;
+
+pub use command::{BadCommand, Command};
+pub use replies::{MOST_REPLIES, Replies};
+pub use running::{obey, run};
+pub use senders::{Senders, give_up};

@@ -1,0 +1,81 @@
+//! Another destination node for a file.
+
+ghost use Rattle.std.specs.Prelude.{◌≡◌, ◌<◌, length, slice_set, None};
+ghost use Rattle.njh_spool.specs.Spools.{part};
+ghost use Rattle.njh_header.specs.Redirecting.{redirected};
+ghost use Rattle.njh_command.specs.Commands.{rerouted, state_after_reroute, with_state};
+ghost use Rattle.njh_command.specs.Files.{file_at, record_at, with_file, with_records, with_redirected};
+
+use crate::files::{count_records, kind_of, read_record, rewrite_record, set_state, state_of};
+use njh_ebcdic::Name;
+use njh_header::{destination_place, redirected_by_records};
+use njh_record::{Kind, Record};
+use njh_spool::{Spool, State};
+
+/// The file at a place goes to another node: its headers say so, and it is Ready where it was Refused.
+pub(crate) fn reroute(node: Name, spool: &mut Spool, customer: u16, index: u32)
+    requires range { customer < length spool.old }
+    requires within { index < length (part customer spool.old).whole }
+    ensures { spool.new ≡ slice_set spool.old customer
+        (with_file index (rerouted node (file_at index (part customer spool.old))) (part customer spool.old)) }
+{
+    redirect(node, spool, customer, index);
+    redirected_by_records();
+    try_again(spool, customer, index);
+}
+
+/// The headers of the file at a place name another node. Each of its records is read once, in order.
+fn redirect(node: Name, spool: &mut Spool, customer: u16, index: u32)
+    requires range { customer < length spool.old }
+    requires within { index < length (part customer spool.old).whole }
+    ensures { spool.new ≡ slice_set spool.old customer (with_file index
+        (with_records (redirected (file_at index (part customer spool.old)).kind node None
+        (file_at index (part customer spool.old)).records)
+        (file_at index (part customer spool.old))) (part customer spool.old)) }
+{
+    let kind = kind_of(spool, customer, index);
+    let mut before = None;
+    for n in 0..count_records(spool, customer, index) {
+        before = Some(redirect_record(kind, before, node, spool, customer, index, n));
+    }
+}
+
+/// The n-th record of the file at a place names another node, where it names one. It gives the record's SRCB.
+fn redirect_record(
+    kind: Kind,
+    before: Option<u8>,
+    node: Name,
+    spool: &mut Spool,
+    customer: u16,
+    index: u32,
+    n: u32,
+) -> u8
+    requires range { customer < length spool.old }
+    requires within { index < length (part customer spool.old).whole }
+    requires known { n < length (file_at index (part customer spool.old)).records }
+    ensures srcb { result ≡ (record_at n (file_at index (part customer spool.old)).records).srcb }
+    ensures spool { spool.new ≡ slice_set spool.old customer (with_file index
+        (with_records (with_redirected kind before node n (file_at index (part customer spool.old)).records)
+        (file_at index (part customer spool.old))) (part customer spool.old)) }
+{
+    let mut record = Record::new();
+    let srcb = read_record(spool, customer, index, n, &mut record);
+    if let Some(place) = destination_place(kind, before, srcb, &record) {
+        rewrite_record(spool, customer, index, n, place, node.bytes());
+    }
+    srcb
+}
+
+/// The file at a place is Ready where it was Refused.
+fn try_again(spool: &mut Spool, customer: u16, index: u32)
+    requires range { customer < length spool.old }
+    requires within { index < length (part customer spool.old).whole }
+    ensures { spool.new ≡ slice_set spool.old customer (with_file index
+        (with_state (state_after_reroute (file_at index (part customer spool.old)).state) (file_at index (part customer spool.old)))
+        (part customer spool.old)) }
+{
+    match state_of(spool, customer, index) {
+        State::Refused => set_state(spool, customer, index, State::Ready),
+        State::Ready | State::Held | State::Sending => {}
+    }
+}

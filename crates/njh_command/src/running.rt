@@ -1,0 +1,129 @@
+//! What a user's command does.
+
+ghost use Rattle.std.specs.Prelude.{◌≡◌, ◌<◌, ◌∷◌, [], fold, length, slice_set};
+ghost use Rattle.njh_spool.specs.Spools.{part};
+ghost use Rattle.njh_table.specs.TableFile.{customer_at, entry_of};
+ghost use Rattle.njh_command.specs.Commands.{chosen, commanded, count, obeyed, rerouted_by, where_found, without_file};
+
+use crate::cancelling::cancel_files;
+use crate::changing::{Change, change_files};
+use crate::choice::{Choice, is_chosen};
+use crate::command::Command;
+use crate::listing::list_files;
+use crate::replies::Replies;
+use crate::senders::Senders;
+use crate::texts::{bad_command, not_found};
+use njh_ebcdic::{FIELD, Name};
+use njh_header::{MessageText, User, no_files_for, node_unknown};
+use njh_spool::Spool;
+use njh_table::{Route, Tables};
+
+/// Does what a message of a user to the hub says, or answers that it is no command. The user is told by node and user field.
+pub fn obey<S: Senders>(
+    message: &[u8],
+    from: Name,
+    user: [u8; FIELD],
+    customer: u16,
+    tables: &Tables,
+    spool: &mut Spool,
+    senders: &mut S,
+) -> Replies
+    requires known { customer < length tables.now.customers }
+    requires range { customer < length spool.old }
+    ensures replies { result
+        ≡ (commanded (entry_of (customer_at tables.now customer)) (from, user) message.now (part customer spool.old)).replies }
+    ensures spool { spool.new ≡ slice_set spool.old customer
+        (commanded (entry_of (customer_at tables.now customer)) (from, user) message.now (part customer spool.old)).spool }
+    ensures senders { senders.new ≡ fold (λ x n. S.each x (without_file n)) senders.old
+        (commanded (entry_of (customer_at tables.now customer)) (from, user) message.now (part customer spool.old)).cancelled }
+{
+    match Command::read(message) {
+        Ok(command) => run(command, from, user, customer, tables, spool, senders),
+        Err(_) => Replies::one(bad_command()),
+    }
+}
+
+/// Does what a user commands, to the user's own whole files alone, in their order of arrival, and says what is replied. The user
+/// is told by node and user field. A file that is removed while it is being sent is given up by the customer's streams.
+pub fn run<S: Senders>(
+    command: Command,
+    from: Name,
+    user: [u8; FIELD],
+    customer: u16,
+    tables: &Tables,
+    spool: &mut Spool,
+    senders: &mut S,
+) -> Replies
+    requires known { customer < length tables.now.customers }
+    requires range { customer < length spool.old }
+    ensures replies { result
+        ≡ (obeyed (entry_of (customer_at tables.now customer)) (from, user) command (part customer spool.old)).replies }
+    ensures spool { spool.new ≡ slice_set spool.old customer
+        (obeyed (entry_of (customer_at tables.now customer)) (from, user) command (part customer spool.old)).spool }
+    ensures senders { senders.new ≡ fold (λ x n. S.each x (without_file n)) senders.old
+        (obeyed (entry_of (customer_at tables.now customer)) (from, user) command (part customer spool.old)).cancelled }
+{
+    let who = User { node: from, user };
+    match command {
+        Command::List => list_files(who, spool, customer),
+        Command::Hold(name) => change_files(&Change::Hold, &Choice { who, name }, spool, customer),
+        Command::Release(name) => {
+            change_files(&Change::Release, &Choice { who, name }, spool, customer)
+        }
+        Command::Cancel(name) => cancel_files(&Choice { who, name }, spool, customer, senders),
+        Command::Reroute(name, node) => {
+            reroute_files(&Choice { who, name }, node, customer, tables, spool)
+        }
+    }
+}
+
+/// Sends files to another node, where the hub has a route for it.
+fn reroute_files(
+    choice: &Choice,
+    node: Name,
+    customer: u16,
+    tables: &Tables,
+    spool: &mut Spool,
+) -> Replies
+    requires known { customer < length tables.now.customers }
+    requires range { customer < length spool.old }
+    ensures replies { result
+        ≡ (rerouted_by (entry_of (customer_at tables.now customer)) node choice.now.who choice.now.name (part customer spool.old)).replies }
+    ensures spool { spool.new ≡ slice_set spool.old customer
+        (rerouted_by (entry_of (customer_at tables.now customer)) node choice.now.who choice.now.name (part customer spool.old)).spool }
+{
+    match tables.route(customer, node) {
+        Route::Here => {
+            let hub = tables.customer(customer).hub();
+            refused(choice, no_files_for(hub), spool, customer)
+        }
+        Route::Line(_) => change_files(&Change::Reroute(node), choice, spool, customer),
+        Route::Unknown => refused(choice, node_unknown(node), spool, customer),
+    }
+}
+
+/// Why the files don't go there, or that there are none.
+fn refused(choice: &Choice, text: MessageText, spool: &Spool, customer: u16) -> Replies
+    requires { customer < length spool.now }
+    ensures { result ≡ where_found (count (chosen choice.now.who choice.now.name) (part customer spool.now))
+        choice.now.name (text.items ∷ []) }
+{
+    match count_files(choice, spool, customer) {
+        0 => Replies::one(not_found(choice.name)),
+        _ => Replies::one(text),
+    }
+}
+
+/// How many files there are of them.
+fn count_files(choice: &Choice, spool: &Spool, customer: u16) -> u32
+    requires { customer < length spool.now }
+    ensures { result ≡ count (chosen choice.now.who choice.now.name) (part customer spool.now) }
+{
+    let mut count = 0;
+    for index in 0..spool.files(customer) {
+        if is_chosen(choice, spool, customer, index) {
+            count += 1;
+        }
+    }
+    count
+}

@@ -1,0 +1,179 @@
+//! The texts of the replies.
+
+ghost use Rattle.std.specs.Prelude.{◌≡◌, ◌+◌, ◌≤◌, ◌++◌, length, Some};
+ghost use Rattle.njh_ebcdic.specs.Names.{trimmed};
+ghost use Rattle.njh_command.specs.Replies as replies;
+
+use njh_ebcdic::{BLANK, Name, trim_blanks};
+use njh_header::{
+    Destination, FileName, MessageText, push_ascii, push_digits, push_file_name, push_trimmed,
+};
+use njh_record::{Kind, put_bytes};
+use njh_spool::State;
+
+/// NJH002: so many files.
+pub(crate) fn files_line(count: u32) -> MessageText
+    ensures { result.items ≡ replies.files_line count }
+{
+    let mut text = MessageText::new();
+    push_ascii(&mut text, "NJH002 ");
+    push_digits(&mut text, count);
+    push_ascii(&mut text, " FILES");
+    text
+}
+
+/// NJH003: so many files of a name are held.
+pub(crate) fn held(name: FileName, count: u32) -> MessageText
+    ensures { result.items ≡ replies.held name count }
+{
+    let mut text = MessageText::new();
+    push_ascii(&mut text, "NJH003 ");
+    push_file_name(&mut text, name);
+    push_ascii(&mut text, " HELD ");
+    push_digits(&mut text, count);
+    text
+}
+
+/// NJH004: so many files of a name are released.
+pub(crate) fn released(name: FileName, count: u32) -> MessageText
+    ensures { result.items ≡ replies.released name count }
+{
+    let mut text = MessageText::new();
+    push_ascii(&mut text, "NJH004 ");
+    push_file_name(&mut text, name);
+    push_ascii(&mut text, " RELEASED ");
+    push_digits(&mut text, count);
+    text
+}
+
+/// NJH005: so many files of a name are cancelled.
+pub(crate) fn cancelled(name: FileName, count: u32) -> MessageText
+    ensures { result.items ≡ replies.cancelled name count }
+{
+    let mut text = MessageText::new();
+    push_ascii(&mut text, "NJH005 ");
+    push_file_name(&mut text, name);
+    push_ascii(&mut text, " CANCELLED ");
+    push_digits(&mut text, count);
+    text
+}
+
+/// NJH006: so many files of a name go to another node.
+pub(crate) fn rerouted_to(name: FileName, node: Name, count: u32) -> MessageText
+    ensures { result.items ≡ replies.rerouted_to name node count }
+{
+    let mut text = MessageText::new();
+    push_ascii(&mut text, "NJH006 ");
+    push_file_name(&mut text, name);
+    push_ascii(&mut text, " REROUTED TO ");
+    push_trimmed(&mut text, &node.bytes());
+    push_ascii(&mut text, " ");
+    push_digits(&mut text, count);
+    text
+}
+
+/// NJH010: the sender has no file of a name.
+pub(crate) fn not_found(name: FileName) -> MessageText
+    ensures { result.items ≡ replies.not_found name }
+{
+    let mut text = MessageText::new();
+    push_ascii(&mut text, "NJH010 ");
+    push_file_name(&mut text, name);
+    push_ascii(&mut text, " NOT FOUND");
+    text
+}
+
+/// NJH011: what was said is no command.
+pub(crate) fn bad_command() -> MessageText
+    ensures { result.items ≡ replies.bad_command }
+{
+    let mut text = MessageText::new();
+    push_ascii(&mut text, "NJH011 BAD COMMAND");
+    text
+}
+
+/// NJH012: a file of a name was left as it is, for it is being sent.
+pub(crate) fn being_sent(name: FileName) -> MessageText
+    ensures { result.items ≡ replies.being_sent name }
+{
+    let mut text = MessageText::new();
+    push_ascii(&mut text, "NJH012 ");
+    push_file_name(&mut text, name);
+    push_ascii(&mut text, " IS BEING SENT");
+    text
+}
+
+/// NJH001: a file by its name, destination, kind, number of records and state.
+#[tactic(auto, unfolding(crate::specs::Replies::line_of))]
+pub(crate) fn file_line(
+    name: FileName,
+    destination: Option<Destination>,
+    kind: Kind,
+    records: u32,
+    state: State,
+) -> MessageText
+    ensures { result.items ≡ replies.line_of (Some name) destination kind records state }
+{
+    let mut text = MessageText::new();
+    push_ascii(&mut text, "NJH001 ");
+    push_file_name(&mut text, name);
+    push_ascii(&mut text, " TO ");
+    push_destination(&mut text, destination);
+    push_ascii(&mut text, " ");
+    push_kind(&mut text, kind);
+    push_ascii(&mut text, " ");
+    push_digits(&mut text, records);
+    push_ascii(&mut text, " RECORDS ");
+    push_state(&mut text, state);
+    text
+}
+
+/// Appends a destination: the node, and the user where it isn't blank.
+fn push_destination(text: &mut MessageText, destination: Option<Destination>)
+    requires { length text.old.items + 17 ≤ 148 }
+    ensures text { text.new.items ≡ text.old.items ++ replies.destination_text destination }
+    ensures few { length text.new.items ≤ length text.old.items + 17 }
+{
+    if let Some(place) = destination {
+        push_trimmed(text, &place.node);
+        push_user(text, &place.user);
+    }
+}
+
+/// Appends a blank and a user, where the user isn't blank.
+fn push_user(text: &mut MessageText, user: &[u8; 8])
+    requires { length text.old.items + 9 ≤ 148 }
+    ensures text { text.new.items ≡ text.old.items ++ replies.user_text (trimmed user.now) }
+    ensures few { length text.new.items ≤ length text.old.items + 9 }
+{
+    let user = trim_blanks(user);
+    if !user.is_empty() {
+        text.push(BLANK);
+        put_bytes(text, user);
+    }
+}
+
+/// Appends what kind of file it is.
+fn push_kind(text: &mut MessageText, kind: Kind)
+    requires { length text.old.items + 3 ≤ 148 }
+    ensures text { text.new.items ≡ text.old.items ++ replies.kind_text kind }
+    ensures few { length text.new.items ≤ length text.old.items + 3 }
+{
+    match kind {
+        Kind::In => push_ascii(text, "IN"),
+        Kind::Out => push_ascii(text, "OUT"),
+    }
+}
+
+/// Appends a file's state.
+fn push_state(text: &mut MessageText, state: State)
+    requires { length text.old.items + 8 ≤ 148 }
+    ensures { text.new.items ≡ text.old.items ++ replies.state_text state }
+{
+    match state {
+        State::Ready => push_ascii(text, "READY"),
+        State::Held => push_ascii(text, "HELD"),
+        State::Refused => push_ascii(text, "REFUSED"),
+        State::Sending => push_ascii(text, "SENDING"),
+    }
+}
