@@ -59,25 +59,25 @@ fn add_all<L: Outgoing>(
 #[tactic(auto, unfolding(crate::specs::NextBlock::filled))]
 pub fn fill<L: Outgoing>(
     line: &mut L,
+    id: LineId,
     spool: &mut Spool,
     tables: &Tables,
     writer: &mut BlockWriter,
 ) -> bool
-    requires range { (L.id line.old).customer < length spool.old }
-    requires known { (L.id line.old).customer < length tables.now.customers }
-    ensures block { writer.new ≡ (filled (goes_by (entry_of (customer_at tables.now (L.id line.old).customer)) (L.id line.old).line)
-        (filling writer.old (L.outlet line.old) (part (L.id line.old).customer spool.old))).block }
-    ensures outlet { L.outlet line.new ≡ (filled (goes_by (entry_of (customer_at tables.now (L.id line.old).customer)) (L.id line.old).line)
-        (filling writer.old (L.outlet line.old) (part (L.id line.old).customer spool.old))).outlet }
-    ensures spool { spool.new ≡ slice_set spool.old (L.id line.old).customer
-        (filled (goes_by (entry_of (customer_at tables.now (L.id line.old).customer)) (L.id line.old).line)
-        (filling writer.old (L.outlet line.old) (part (L.id line.old).customer spool.old))).spool }
+    requires range { id.customer < length spool.old }
+    requires known { id.customer < length tables.now.customers }
+    ensures block { writer.new ≡ (filled (goes_by (entry_of (customer_at tables.now id.customer)) id.line)
+        (filling writer.old (L.outlet line.old) (part id.customer spool.old))).block }
+    ensures outlet { L.outlet line.new ≡ (filled (goes_by (entry_of (customer_at tables.now id.customer)) id.line)
+        (filling writer.old (L.outlet line.old) (part id.customer spool.old))).outlet }
+    ensures spool { spool.new ≡ slice_set spool.old id.customer
+        (filled (goes_by (entry_of (customer_at tables.now id.customer)) id.line)
+        (filling writer.old (L.outlet line.old) (part id.customer spool.old))).spool }
     ensures added { result ≡ has_items writer.new.items }
     // what isn't of its outlet stays
     ensures rest { L.rest line.new ≡ L.rest line.old }
 {
     if !line.peer().all_suspended() {
-        let id = line.id();
         add_all(line, id, tables.customer(id.customer), spool, writer);
     }
     has_items(writer)

@@ -2,27 +2,19 @@
 
 ghost use Rattle.std.specs.Prelude.{◌≡◌, slice_get};
 ghost use Rattle.std.specs.Option.{option_map};
-ghost use Rattle.njh_table.specs.declared.LineId.{LineId};
 ghost use Rattle.njh_sched.specs.NextBlock.{Outlet, without_answer, without_message, sender_at, with_sender, with_served};
 
 use njh_block::{Answer, Fcs, Stream};
 use njh_record::Record;
 use njh_stream::Sender;
-use njh_table::LineId;
 
 /// A line, as it is sent from: what waits, what its streams from the hub are about, and what its peer lets them send. A contract sees
 /// it as an `Outlet`.
 pub trait Outgoing {
-    ghost id: { Self → LineId };
-
     ghost outlet: { Self → Outlet };
 
     // The line without what its outlet shows.
     ghost rest: { Self → Self };
-
-    /// Which line it is.
-    fn id(&self) -> LineId
-        ensures { result ≡ id self.now };
 
     /// How many streams of each kind it has.
     fn streams(&self) -> u8

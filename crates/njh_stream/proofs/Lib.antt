@@ -7,3 +7,6 @@ pub mod RoutingLaws
 pub mod OnlyOneLaws
 pub mod OutcomeLaws
 pub mod FollowingLaws
+pub mod PartialLaws
+pub mod MoveLaws
+pub mod TiedLaws

@@ -7,3 +7,4 @@ pub mod Arrivals
 pub mod Routing
 pub mod Outcomes
 pub mod Following
+pub mod Streams

@@ -1,12 +1,14 @@
 //! Laws of the definitions. Each function does nothing: its contract is the law.
 
-ghost use Rattle.std.specs.Prelude.{◌≡◌, ℕ, true, ◌&&◌, List, map};
+ghost use Rattle.std.specs.Prelude.{◌≡◌, ℕ, ◌<◌, true, ◌&&◌, List, [], length, map};
+ghost use Rattle.njh_block.specs.Codes.{kind_of};
 ghost use Rattle.njh_record.specs.declared.Kind.{Kind};
 ghost use Rattle.njh_table.specs.Entries.{CustomerEntry};
 ghost use Rattle.njh_spool.specs.CustomerSpool.{CustomerSpool, abandoned, has_block, has_file_room, next_number};
 ghost use Rattle.njh_stream.specs.Following.{Moment, coming_at, followed, following_from, IsUntouched};
 ghost use Rattle.njh_stream.specs.Outcomes.{Becomes, Ending, Outcome, records_of};
-ghost use Rattle.njh_stream.specs.Receiving.{Arrival, Request, received, requested, without_open};
+ghost use Rattle.njh_stream.specs.Receiving.{Arrival, Request, received, requested, without_all_open, without_open};
+ghost use Rattle.njh_stream.specs.Streams.{AreTied, stream_at, streams_at, with_stream, without_streams};
 ghost use Rattle.njh_stream.specs.Transmissions.{Coming};
 
 use crate::receiver::{Progress, Receiver};
@@ -34,6 +36,23 @@ pub fn streams_end_so()
         → (received entry l kind (Receiver.Open n progress) a s).spool ≡ abandoned n s }
     ensures cut { (entry : CustomerEntry) (l : ℕ) (kind : Kind) (receiver : Receiver) (s : CustomerSpool)
         → received entry l kind receiver Request s ≡ requested kind (without_open receiver s) }
+{
+    next_number_is_least();
+}
+
+/// A customer's streams and its partial files stay tied: each open stream keeps what its file says, no two have the same
+/// file, and none is without a stream. So it is where nothing comes, and so it stays through every arrival on any stream,
+/// the end of any line's session, and all that touches no partial file.
+pub fn streams_stay_tied()
+    ensures at_rest { (lines : List (List Receiver)) (s : CustomerSpool) → ((l k : ℕ) → stream_at l k lines ≡ Receiver.Idle)
+        → s.partial ≡ [] → AreTied lines s }
+    ensures arrival { (entry : CustomerEntry) (l k : ℕ) (a : Arrival) (lines : List (List Receiver)) (s : CustomerSpool)
+        → l < length lines → k < length (streams_at l lines) → AreTied lines s
+        → AreTied (with_stream l k (received entry l (kind_of k) (stream_at l k lines) a s).receiver lines)
+        (received entry l (kind_of k) (stream_at l k lines) a s).spool }
+    ensures ended { (l : ℕ) (lines : List (List Receiver)) (s : CustomerSpool) → l < length lines → AreTied lines s
+        → AreTied (without_streams l lines) (without_all_open (streams_at l lines) s) }
+    ensures untouched { (lines : List (List Receiver)) (s t : CustomerSpool) → t.partial ≡ s.partial → AreTied lines s → AreTied lines t }
 {
     next_number_is_least();
 }

@@ -15,7 +15,7 @@ mod storing;
 
 pub use arrival::Arrival;
 pub use ending::{end_receivers, end_senders};
-pub use laws::{one_outcome, streams_end_so};
+pub use laws::{one_outcome, streams_end_so, streams_stay_tied};
 pub use notice::Notice;
 pub use receiver::{Progress, Receiver, Step};
 pub use routing::{goes_by, retry_refused};

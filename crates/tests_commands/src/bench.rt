@@ -77,15 +77,38 @@ static JOB: [u8; 100] = *b"\x00\x64\x00\x00\
     \xd4\xc5\xe3\xe9\x40\x40\x40\x40\
     \x40\x40\x40\x40\x40\x40\x40\x40";
 
+/// The same job, to be run at LYON.
+static JOB_TO_LYON: [u8; 100] = *b"\x00\x64\x00\x00\
+    \x00\x60\x00\x00\x00\x2a\
+    \0\0\0\0\0\0\0\0\0\0\0\0\0\0\0\0\0\0\
+    \xd7\xc1\xe8\xd9\xd6\xd3\xd3\x40\
+    \xc1\xd5\xd5\xc1\x40\x40\x40\x40\
+    \0\0\0\0\0\0\0\0\0\0\0\0\0\0\0\0\0\0\0\0\0\0\0\0\
+    \xd3\xe8\xd6\xd5\x40\x40\x40\x40\
+    \xc1\xd5\xd5\xc1\x40\x40\x40\x40\
+    \xd3\xe8\xd6\xd5\x40\x40\x40\x40\
+    \x40\x40\x40\x40\x40\x40\x40\x40";
+
+/// What makes a job header so long that the next header's node lies across two blocks.
+static CONTINUATION: [u8; 131] = [0xc1; 131];
+
+/// Output for PAUL at LYON.
+static TO_LYON: [u8; 24] = *b"\x00\x18\x00\x00\x00\x14\x00\x00\
+    \xd3\xe8\xd6\xd5\x40\x40\x40\x40\xd7\xc1\xe4\xd3\x40\x40\x40\x40";
+
+/// Output for a user at METZ whose field has bytes without a character.
+static TO_STRANGE: [u8; 24] = *b"\x00\x18\x00\x00\x00\x14\x00\x00\
+    \xd4\xc5\xe3\xe9\x40\x40\x40\x40\x00\xff\x40\x81\x40\x40\x40\x40";
+
 /// Output for PAUL at METZ.
-pub static TO_METZ: [u8; 24] = *b"\x00\x18\x00\x00\x00\x14\x00\x00\
+static TO_METZ: [u8; 24] = *b"\x00\x18\x00\x00\x00\x14\x00\x00\
     \xd4\xc5\xe3\xe9\x40\x40\x40\x40\xd7\xc1\xe4\xd3\x40\x40\x40\x40";
 
 /// A record of data.
-pub static HELLO: [u8; 6] = *b"\x05\xc8\xc5\xd3\xd3\xd6";
+static HELLO: [u8; 6] = *b"\x05\xc8\xc5\xd3\xd3\xd6";
 
 /// The record that ends a file.
-pub static TRAILER: [u8; 4] = *b"\x00\x04\x00\x00";
+static TRAILER: [u8; 4] = *b"\x00\x04\x00\x00";
 
 /// The field of a user at LYON, and of another.
 pub const ANNA: [u8; 8] = *b"\xc1\xd5\xd5\xc1\x40\x40\x40\x40";
@@ -98,11 +121,38 @@ pub const ACME: u16 = 0;
 pub const BOLT: u16 = 1;
 
 /// A job header of a user at LYON.
-pub fn job(number: u16, user: [u8; 8]) -> [u8; 100] {
+fn job(number: u16, user: [u8; 8]) -> [u8; 100] {
     let mut header = JOB;
     header[8..10].copy_from_slice(&number.to_be_bytes());
     header[76..84].copy_from_slice(&user);
     header
+}
+
+/// A record of a file.
+#[derive(Clone, Copy)]
+pub enum Part {
+    Job,
+    JobToLyon,
+    Continuation,
+    ToMetz,
+    ToLyon,
+    ToStrange,
+    Hello,
+    Trailer,
+}
+
+/// Its SRCB and its bytes.
+fn record_of(part: Part) -> (u8, &'static [u8]) {
+    match part {
+        Part::Job => (0xc0, &JOB),
+        Part::JobToLyon => (0xc0, &JOB_TO_LYON),
+        Part::Continuation => (0xc0, &CONTINUATION),
+        Part::ToMetz => (0xe0, &TO_METZ),
+        Part::ToLyon => (0xe0, &TO_LYON),
+        Part::ToStrange => (0xe0, &TO_STRANGE),
+        Part::Hello => (0x80, &HELLO),
+        Part::Trailer => (0xd0, &TRAILER),
+    }
 }
 
 /// Two customers with their files, and the streams of a line.
@@ -158,7 +208,12 @@ impl Bench {
     }
 
     /// A record more.
-    pub fn append<R: Abort>(
+    pub fn append<R: Abort>(&mut self, rt: &R, file: FileId, part: Part) -> Result<(), Fail> {
+        let (srcb, bytes) = record_of(part);
+        self.append_bytes(rt, ACME, file, srcb, bytes)
+    }
+
+    fn append_bytes<R: Abort>(
         &mut self,
         rt: &R,
         customer: u16,
@@ -170,6 +225,18 @@ impl Bench {
         assert!(rt; bytes.len() <= 256);
         self.spool.append(customer, file, srcb, bytes)?;
         Ok(())
+    }
+
+    /// A job header of a user at LYON.
+    pub fn append_job<R: Abort>(
+        &mut self,
+        rt: &R,
+        customer: u16,
+        file: FileId,
+        number: u16,
+        user: [u8; 8],
+    ) -> Result<(), Fail> {
+        self.append_bytes(rt, customer, file, 0xc0, &job(number, user))
     }
 
     /// The file is whole, and Ready.
@@ -188,10 +255,10 @@ impl Bench {
         user: [u8; 8],
     ) -> Result<FileId, Fail> {
         let file = self.begin(rt, customer, Kind::Out)?;
-        self.append(rt, customer, file, 0xc0, &job(number, user))?;
-        self.append(rt, customer, file, 0xe0, &TO_METZ)?;
-        self.append(rt, customer, file, 0x80, &HELLO)?;
-        self.append(rt, customer, file, 0xd0, &TRAILER)?;
+        self.append_job(rt, customer, file, number, user)?;
+        self.append_bytes(rt, customer, file, 0xe0, &TO_METZ)?;
+        self.append_bytes(rt, customer, file, 0x80, &HELLO)?;
+        self.append_bytes(rt, customer, file, 0xd0, &TRAILER)?;
         self.finish(rt, customer, file)?;
         Ok(file)
     }
@@ -209,21 +276,13 @@ impl Bench {
         Ok(())
     }
 
-    /// Whether a file's record has this SRCB and these bytes.
-    pub fn holds<R: Abort>(
-        &self,
-        rt: &R,
-        customer: u16,
-        file: FileId,
-        n: u32,
-        srcb: u8,
-        bytes: &[u8],
-    ) -> Result<bool, Fail> {
-        assert!(rt; customer < 2);
-        let count = self.spool.records(customer, file)?;
+    /// Whether a file of ACME has this record at a place.
+    pub fn holds<R: Abort>(&self, rt: &R, file: FileId, n: u32, part: Part) -> Result<bool, Fail> {
+        let count = self.spool.records(ACME, file)?;
         assert!(rt; n < count);
         let mut record = Record::new();
-        let found = self.spool.record_at(customer, file, n, &mut record)?;
+        let found = self.spool.record_at(ACME, file, n, &mut record)?;
+        let (srcb, bytes) = record_of(part);
         Ok(found == srcb && record.as_slice() == bytes)
     }
 

@@ -3,7 +3,7 @@
 mod rerouting;
 mod words;
 
-use crate::bench::{ACME, ANNA, BOLT, Bench, EVA, TO_METZ, TRAILER, job};
+use crate::bench::{ACME, ANNA, BOLT, Bench, EVA, Part};
 use njh_command::BadCommand;
 use njh_record::Kind;
 use njh_spool::State;
@@ -175,12 +175,10 @@ fn users_are_told_by_their_bytes(rt: HostRuntime) -> Result<(), Fail> {
     let strange = *b"\x00\xff\x40\x81\x40\x40\x40\x40";
     bench.output(&rt, ACME, 1, blank)?;
     bench.output(&rt, ACME, 2, strange)?;
-    let mut header = TO_METZ;
-    header[16..24].copy_from_slice(&strange);
     let file = bench.begin(&rt, ACME, Kind::Out)?;
-    bench.append(&rt, ACME, file, 0xc0, &job(3, strange))?;
-    bench.append(&rt, ACME, file, 0xe0, &header)?;
-    bench.append(&rt, ACME, file, 0xd0, &TRAILER)?;
+    bench.append_job(&rt, ACME, file, 3, strange)?;
+    bench.append(&rt, file, Part::ToStrange)?;
+    bench.append(&rt, file, Part::Trailer)?;
     bench.finish(&rt, ACME, file)?;
     bench.hear(
         &rt,

@@ -9,7 +9,7 @@ use njh_block::{Bcb, BlockText, BlockWriter, Fcs};
 use njh_record::Kind;
 use njh_sched::{Outgoing, fill, own_fcs};
 use njh_spool::{FileId, Quota, Spool, SpoolFault, State};
-use njh_table::Tables;
+use njh_table::{LineId, Tables};
 use std::alloc::Global;
 use std::marker::Model;
 use std::process::Abort;
@@ -195,7 +195,11 @@ pub fn next_block<R: Abort>(
     assert!(rt; 300 <= size);
     assert!(rt; size <= 4096);
     let mut writer = BlockWriter::new(size, Bcb::normal(3), Fcs::nothing_suspended());
-    if fill(memory, spool, tables, &mut writer) {
+    let line = LineId {
+        customer: 0,
+        line: memory.line,
+    };
+    if fill(memory, line, spool, tables, &mut writer) {
         Some(writer.finish())
     } else {
         None

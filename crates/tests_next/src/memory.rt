@@ -5,7 +5,6 @@ use njh_block::{Answer, ControlRcb, Fcs, Stream};
 use njh_record::Record;
 use njh_sched::Outgoing;
 use njh_stream::Sender;
-use njh_table::LineId;
 use std::alloc::{AllocError, Global};
 
 /// What a line has to send, and nothing else.
@@ -23,8 +22,6 @@ pub struct Memory {
 impl Outgoing for Memory {
     ghost use Rattle.std.specs.Prelude.{[], map};
 
-    ghost id = { λ m. record { customer = 0; line = m.line } };
-
     ghost outlet = { λ m. record {
       streams = m.streams;
       peer = m.peer;
@@ -40,13 +37,6 @@ impl Outgoing for Memory {
       senders = [];
       served = 0;
     } };
-
-    fn id(&self) -> LineId {
-        LineId {
-            customer: 0,
-            line: self.line,
-        }
-    }
 
     fn streams(&self) -> u8 {
         self.streams

@@ -62,8 +62,9 @@ impl Spool {
         Ok(srcb)
     }
 
-    /// As `record_at`, and keeps in the file's slot where the next record begins: reading on from there costs the record's
-    /// bytes, so reading a file from its first record to its last costs the file's bytes. S3 where the number is no file's.
+    /// As `record_at`, and keeps in the file's slot where the record begins: reading it again, as where it had no room in a
+    /// block, or the one behind it costs no walk over the file, so reading a file from its first record to its last costs the
+    /// file's bytes. S3 where the number is no file's.
     pub fn read_on(
         &mut self,
         customer: u16,
@@ -86,8 +87,8 @@ impl Spool {
         }
         let at = place(customer, id);
         let begins = place_of_record(&self.store, at, &slot, n);
-        let (srcb, next) = read_record(&self.store, at, &slot, begins, into);
-        slot.next = next;
+        let (srcb, _) = read_record(&self.store, at, &slot, begins, into);
+        slot.next = begins;
         self.slots[at as usize] = slot;
         Ok(srcb)
     }

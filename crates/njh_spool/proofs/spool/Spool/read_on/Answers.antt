@@ -104,7 +104,7 @@ returns-clause-ok c =
 
 moved : (c : After-read_record-srcb) → Moves c.self.inside.store c.self.inside.slots.items c.self.inside.customers.items
     c.self.inside.store (set c.self.inside.slots.items c.place-at.result
-    (record c.slot_at-slot.result { next = c.read_record-srcb.result.1 })) c.self.inside.customers.items c.args.customer
+    (record c.slot_at-slot.result { next = c.place_of_record-begins.result })) c.self.inside.customers.items c.args.customer
     (part c.args.customer (spools_of c.self.inside.customers.items (contents c.self.inside.slots.items c.self.inside.store.chains)))
 moved c =
     let same = c.slot_at-slot.ensures ∙ ap (λ (xs : List FileSlot). slot_of xs c.args.customer c.args.id) c.deref.ensures.value in
@@ -115,23 +115,23 @@ moved c =
     (rw c.self.view_is c.requires.range) small in
     let place : IsPlace (unpacked (slot_of c.self.inside.slots.items c.args.customer c.args.id).count
     (chain_of c.self.inside.store.chains c.args.customer c.args.id).bytes)
-    (chain_of c.self.inside.store.chains c.args.customer c.args.id).keys c.read_record-srcb.result.1 =
+    (chain_of c.self.inside.store.chains c.args.customer c.args.id).keys c.place_of_record-begins.result =
     subst (λ (x : Chain). IsPlace (unpacked (slot_of c.self.inside.slots.items c.args.customer c.args.id).count x.bytes) x.keys
-    c.read_record-srcb.result.1) chain
+    c.place_of_record-begins.result) chain
     (subst (λ (x : FileSlot). IsPlace (unpacked x.count (chain_at c.place-at.result c.self.inside.store).bytes)
-    (chain_at c.place-at.result c.self.inside.store).keys c.read_record-srcb.result.1) same c.read_record-srcb.ensures.place) in
+    (chain_at c.place-at.result c.self.inside.store).keys c.place_of_record-begins.result) same c.place_of_record-begins.ensures.place) in
     subst (λ (i : ℕ). Moves c.self.inside.store c.self.inside.slots.items c.self.inside.customers.items c.self.inside.store
-    (set c.self.inside.slots.items i (record c.slot_at-slot.result { next = c.read_record-srcb.result.1 }))
+    (set c.self.inside.slots.items i (record c.slot_at-slot.result { next = c.place_of_record-begins.result }))
     c.self.inside.customers.items c.args.customer
     (part c.args.customer (spools_of c.self.inside.customers.items
     (contents c.self.inside.slots.items c.self.inside.store.chains)))) (sym c.place-at.ensures)
     (subst (λ (x : FileSlot). Moves c.self.inside.store c.self.inside.slots.items c.self.inside.customers.items
     c.self.inside.store (set c.self.inside.slots.items (1024 * c.args.customer + c.args.id)
-    (record x { next = c.read_record-srcb.result.1 })) c.self.inside.customers.items c.args.customer
+    (record x { next = c.place_of_record-begins.result })) c.self.inside.customers.items c.args.customer
     (part c.args.customer (spools_of c.self.inside.customers.items
     (contents c.self.inside.slots.items c.self.inside.store.chains)))) (sym same)
     (call.reads_on c.self.inside.store c.self.inside.slots.items c.self.inside.customers.items c.args.customer c.args.id
-    c.self.invariant (rw c.self.view_is c.requires.range) c.read_record-srcb.result.1 used' place small))
+    c.self.invariant (rw c.self.view_is c.requires.range) c.place_of_record-begins.result used' place small))
 
 pub invariant_of-self : goal.invariant_of-self
 invariant_of-self c = (moved (goal.at.invariant_of-self c).After-read_record-srcb).kept

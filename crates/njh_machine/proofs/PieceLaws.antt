@@ -1,0 +1,92 @@
+-- A piece worked off step by step is the run over its bytes.
+use Rattle.std.proofs.Common.{◌≡◌, ℕ, suc, ◌+◌, ◌<◌, List, [], ◌∷◌, ◌++◌, length, take, set, refl, ap, sym, ◌∙◌, arith, append_assoc}
+use Rattle.std.proofs.lemmas.List.{get_or-set_same, length-set, set-set, set-get_or}
+use Rattle.njh_bisync.specs.Reading.{Rest, Nothing}
+use Rattle.njh_machine.specs.Customer.{Customer}
+use Rattle.njh_machine.specs.Feeding.{byte_step, Taking, or_later, take_step, LineRun, bytes_run, sent_on, sent_first}
+use Rattle.njh_machine.specs.Part.{Part, rest_on}
+use Rattle.njh_machine.specs.Runs.{OwnEvent, Run, alone_run}
+use Rattle.njh_machine.specs.Laws.{CutsAreLike, FirstBytesSendFirst, NoBytesDoNothing, StepsFollowBytes}
+use Rattle.njh_machine.proofs.FeedingLaws.{bytes_run-append}
+
+take-one_more : (n byte : ℕ) (bytes : List ℕ) → take (1 + n) (byte ∷ bytes) ≡ byte ∷ take n bytes
+take-one_more n byte bytes = let e : 1 + n ≡ suc n = omega arith in rw e refl
+
+-- a step as a run over the bytes that it takes
+abbrev run_by : ℕ → Taking → LineRun
+run_by l t = record { rest = t.rest; after = t.after; sent = sent_on l t.frame }
+
+after_byte : (go : List ℕ → LineRun) (byte : ℕ) (rest : Rest) (after : Customer) (frame : List ℕ) (l : ℕ) (bytes : List ℕ)
+    (later : Taking) →
+    ((more : List ℕ) → go (byte ∷ more) ≡ sent_first (sent_on l frame) (bytes_run rest after l more)) →
+    bytes_run rest after l (take later.taken bytes) ≡ run_by l later →
+    go (take (or_later 1 rest (record { after = after; frame = frame }) later).taken (byte ∷ bytes))
+    ≡ run_by l (or_later 1 rest (record { after = after; frame = frame }) later)
+after_byte go byte rest after [] l bytes later opens same = ap go (take-one_more later.taken byte bytes)
+    ∙ opens (take later.taken bytes) ∙ same
+after_byte go byte rest after (b ∷ frame) l bytes later opens same = opens []
+
+take_step-run : (rest : Rest) (c : Customer) (l : ℕ) (piece : List ℕ) →
+    bytes_run rest c l (take (take_step rest c l piece).taken piece) ≡ run_by l (take_step rest c l piece)
+take_step-run rest c l [] = refl
+take_step-run rest c l (byte ∷ bytes) =
+    let x = byte_step rest c l byte in
+    after_byte (bytes_run rest c l) byte x.rest x.after x.frame l bytes (take_step x.rest x.after l bytes) (λ more. refl)
+    (take_step-run x.rest x.after l bytes)
+
+-- a part whose line l has read some bytes
+abbrev read_part : Part → ℕ → LineRun → Part
+read_part p l r = record { rests = set p.rests l r.rest; customer = r.after }
+
+abbrev run_with : Part → List (ℕ × List ℕ) → Run
+run_with after sent = record { after = after; sent = sent }
+
+-- a line that read some bytes and then more has read the last
+read_part-twice : (p : Part) (l : ℕ) (r q : LineRun) → read_part p l q ≡ read_part (read_part p l r) l q
+read_part-twice p l r q = ap (λ (rests : List Rest). record { rests = rests; customer = q.after }) (sym (set-set p.rests l r.rest q.rest))
+
+-- no bytes change nothing
+pub no_bytes_do_nothing : NoBytesDoNothing
+no_bytes_do_nothing p l = ap (λ (rests : List Rest). run_with (record p { rests = rests }) []) (set-get_or p.rests l Nothing)
+
+-- bytes, and then the run over more
+bytes_run-more : (p : Part) (l : ℕ) (front more : List ℕ) → l < length p.rests →
+    (let r = bytes_run (rest_on l p) p.customer l front in
+    bytes_run (rest_on l p) p.customer l (front ++ more) ≡ sent_first r.sent (bytes_run (rest_on l (read_part p l r)) r.after l more))
+bytes_run-more p l front more within =
+    let r = bytes_run (rest_on l p) p.customer l front in
+    let rest_is : rest_on l (read_part p l r) ≡ r.rest = get_or-set_same p.rests l r.rest Nothing within in
+    bytes_run-append (rest_on l p) p.customer l front more
+    ∙ ap (λ (x : Rest). sent_first r.sent (bytes_run x r.after l more)) (sym rest_is)
+
+pub steps_follow_bytes : StepsFollowBytes
+steps_follow_bytes p l front left within =
+    let r = bytes_run (rest_on l p) p.customer l front in
+    let q = read_part p l r in
+    let t = take_step (rest_on l q) q.customer l left in
+    ap (λ (x : LineRun). run_with (read_part p l x) x.sent)
+    (bytes_run-more p l front (take t.taken left) (omega (arith, within, length-set p.rests l r.rest))
+    ∙ ap (sent_first r.sent) (take_step-run (rest_on l q) q.customer l left))
+    ∙ ap (λ (y : Part). run_with y (r.sent ++ sent_on l t.frame)) (read_part-twice p l r (run_by l t))
+
+-- a run goes on from a part, after frames that were sent before
+abbrev later_run : List (ℕ × List ℕ) → Part → List OwnEvent → Run
+later_run sent p events = run_with (alone_run p events).after (sent ++ (alone_run p events).sent)
+
+later_run-twice : (a b : List (ℕ × List ℕ)) (p : Part) (events : List OwnEvent) →
+    later_run (a ++ b) p events ≡ run_with (alone_run p events).after (a ++ (b ++ (alone_run p events).sent))
+later_run-twice a b p events = ap (run_with (alone_run p events).after) (append_assoc a b (alone_run p events).sent)
+
+pub cuts_are_like : CutsAreLike
+cuts_are_like p l front back events within =
+    let r = bytes_run (rest_on l p) p.customer l front in
+    let q = read_part p l r in
+    let s = bytes_run (rest_on l q) q.customer l back in
+    ap (λ (x : LineRun). later_run x.sent (read_part p l x) events) (bytes_run-more p l front back within)
+    ∙ later_run-twice r.sent s.sent (read_part p l s) events
+    ∙ ap (λ (y : Part). run_with (alone_run y events).after (r.sent ++ (s.sent ++ (alone_run y events).sent))) (read_part-twice p l r s)
+
+pub first_bytes_send_first : FirstBytesSendFirst
+first_bytes_send_first p l front back =
+    let r = bytes_run (rest_on l p) p.customer l front in
+    ((bytes_run r.rest r.after l back).sent, ap (λ (x : LineRun). x.sent) (sym (bytes_run-append (rest_on l p) p.customer l front back)))

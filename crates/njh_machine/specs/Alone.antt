@@ -1,0 +1,126 @@
+-- A customer alone: what each frame and each signal on one of its lines does and sends.
+use Rattle.std.specs.Prelude.{ℕ, Bool, true, false, List, [], length, replicate, slice_set, Result, Ok, Err, nat_lt, cond}
+use Rattle.njh_bisync.specs.Frames as frame
+use Rattle.njh_bisync.specs.Frames.{Received}
+use Rattle.njh_block.specs.Blocks.{Block, read_block, general_first}
+use Rattle.njh_block.specs.declared.fault.BlockFault.{BlockFault}
+use Rattle.njh_spool.specs.CustomerSpool.{CustomerSpool}
+use Rattle.njh_table.specs.Entries.{CustomerEntry}
+use Rattle.njh_stream.specs.declared.receiver.Receiver.TheVariants as receiver
+use Rattle.njh_stream.specs.declared.sender.Sender.TheVariants as sender
+use Rattle.njh_stream.specs.Receiving.{without_all_open}
+use Rattle.njh_stream.specs.Sending.{all_ended, tried_again}
+use Rattle.njh_line.specs.LineTable as input
+use Rattle.njh_line.specs.LineTable.{Input, accepted}
+use Rattle.njh_line.specs.Lines.{after_input, after_end, without_answers}
+use Rattle.njh_line.specs.declared.verdict.Reply.{Reply}
+use Rattle.njh_line.specs.declared.verdict.Verdict.{Verdict}
+use Rattle.njh_machine.specs.declared.signal.Signal.{Signal}
+use Rattle.njh_machine.specs.declared.signal.Signal.TheVariants as signal
+use Rattle.njh_machine.specs.Customer.{Customer, CustomerLine, line_at, on_line, in_state}
+use Rattle.njh_machine.specs.Acting.{acted_where}
+use Rattle.njh_machine.specs.Sending.{LineSent, reply_sent}
+
+-- The customer after a step, and the frame that it sent; [] where it sent none.
+pub record Step : Type 0 where
+  pub after : Customer
+  pub frame : List ℕ
+
+abbrev pub silent : Customer → Step
+silent c = record { after = c; frame = [] }
+
+-- a line sends what a verdict asks for
+abbrev pub replied : ℕ → LineSent → Customer → Step
+replied l sent c = record { after = record c { spool = sent.spool; lines = slice_set c.lines l sent.line }; frame = sent.frame }
+
+abbrev pub replied_to : ℕ → Reply → Customer → Step
+replied_to l reply c = replied l (reply_sent c.entry l reply c.spool (line_at l c.lines)) c
+
+-- ---- the end of a line's session
+
+-- its answers are gone, and its streams are about nothing
+abbrev pub quiet : CustomerLine → CustomerLine
+quiet x = record x {
+  state = without_answers x.state;
+  receivers = replicate (length x.receivers) receiver.Idle;
+  senders = replicate (length x.senders) sender.Idle;
+}
+
+-- The files that it was sending may go again, and so may those that were refused and go by it; the files that came in on it are gone.
+abbrev pub spool_over : CustomerEntry → ℕ → CustomerLine → CustomerSpool → CustomerSpool
+spool_over entry l x s = without_all_open x.receivers (tried_again entry l (all_ended x.senders s))
+
+abbrev pub session_over : ℕ → Customer → Customer
+session_over l c = record c { spool = spool_over c.entry l (line_at l c.lines) c.spool; lines = on_line l quiet c.lines }
+
+abbrev pub session_over_where : Bool → ℕ → Customer → Customer
+session_over_where true l c = session_over l c
+session_over_where false l c = c
+
+-- a record ended the session
+abbrev pub session_ended : ℕ → Customer → Customer
+session_ended l c = session_over l (record c { lines = on_line l (in_state after_end) c.lines })
+
+-- ---- what comes on a line
+
+-- what a verdict asks for is sent, and then the session ends where it says so
+abbrev pub carried_out : ℕ → Verdict → Customer → Step
+carried_out l v c = let s = replied_to l v.reply c in record { after = session_over_where v.ended l s.after; frame = s.frame }
+
+-- the line table's verdict on what comes
+abbrev pub verdict_on : ℕ → Input → Customer → Verdict
+verdict_on l came c = let x = (line_at l c.lines).state in (accepted x.config came x.session).verdict
+
+abbrev pub accepted_on : ℕ → Input → Customer → Customer
+accepted_on l came c = record c { lines = on_line l (in_state (after_input came)) c.lines }
+
+-- what comes to a line but a good block
+abbrev pub input_came : ℕ → Input → Customer → Step
+input_came l came c = carried_out l (verdict_on l came c) (accepted_on l came c)
+
+abbrev pub block_input : Block → Input
+block_input b = input.Block b.bcb b.fcs (general_first b.items)
+
+-- behind the records of a block, one of which ended the session or didn't
+abbrev pub behind_records : Bool → ℕ → Verdict → Customer → Step
+behind_records true l v c = silent (session_ended l c)
+behind_records false l v c = carried_out l v c
+
+-- a good block: its records act where the line table says so, and then it is answered
+abbrev pub block_came : ℕ → Block → Customer → Step
+block_came l b c =
+    let v = verdict_on l (block_input b) c in
+    let a = acted_where v.acts l b.items (accepted_on l (block_input b) c) in
+    behind_records a.ended l v a.customer
+
+abbrev pub text_read : ℕ → Result Block BlockFault → Customer → Step
+text_read l (Ok b) c = block_came l b c
+text_read l (Err e) c = input_came l input.Bad c
+
+abbrev pub text_came : ℕ → List ℕ → Customer → Step
+text_came l text c = text_read l (read_block text) c
+
+abbrev pub received_on : ℕ → Received → Customer → Step
+received_on l frame.Enquiry c = input_came l input.Enquiry c
+received_on l frame.Ack0 c = input_came l input.Ack0 c
+received_on l frame.Nak c = input_came l input.Nak c
+received_on l frame.Eot c = input_came l input.Eot c
+received_on l (frame.Text text) c = text_came l text c
+received_on l frame.Spoiled c = input_came l input.Spoiled c
+
+abbrev pub signal_input : Signal → Input
+signal_input signal.Tick = input.Tick
+signal_input signal.Garbled = input.Garbled
+signal_input signal.Lost = input.Lost
+
+-- a line that isn't there takes nothing and sends nothing
+abbrev pub where_there : ℕ → Step → Customer → Step
+where_there l s c = cond (nat_lt l (length c.lines)) s (silent c)
+
+-- a frame comes on a line
+unfoldable pub frame_came : ℕ → Received → Customer → Step
+frame_came l received c = where_there l (received_on l received c) c
+
+-- a signal comes on a line
+unfoldable pub signal_came : ℕ → Signal → Customer → Step
+signal_came l s c = where_there l (input_came l (signal_input s) c) c

@@ -1,0 +1,31 @@
+-- What is said of all runs of a customer by itself, over the definitions alone.
+use Rattle.std.specs.Prelude.{◌≡◌, ℕ, ◌<◌, List, [], ◌∷◌, ◌++◌, length, take}
+use Rattle.njh_machine.specs.Feeding.{sent_on}
+use Rattle.njh_machine.specs.Part.{Part, bytes_taken}
+use Rattle.njh_machine.specs.Runs.{OwnEvent, OwnBytes, Run, event_run, alone_run}
+
+-- A piece that comes in two gives the same frames and the same part.
+abbrev pub CutsAreLike : Type 0
+CutsAreLike =
+    (p : Part) (l : ℕ) (front back : List ℕ) (events : List OwnEvent) → l < length p.rests →
+    alone_run p (OwnBytes l (front ++ back) ∷ events) ≡ alone_run p (OwnBytes l front ∷ OwnBytes l back ∷ events)
+
+abbrev pub NoBytesDoNothing : Type 0
+NoBytesDoNothing = (p : Part) (l : ℕ) → event_run p (OwnBytes l []) ≡ record { after = p; sent = [] }
+
+-- a step by bytes that come after others: the part is the step's, and its frame comes last
+abbrev pub followed_by : Run → ℕ → List ℕ → Run
+followed_by r l left = let t = bytes_taken r.after l left in record { after = t.after; sent = r.sent ++ sent_on l t.frame }
+
+-- Bytes, and then a step by what is left, are those bytes and the step's.
+abbrev pub StepsFollowBytes : Type 0
+StepsFollowBytes =
+    (p : Part) (l : ℕ) (front left : List ℕ) → l < length (event_run p (OwnBytes l front)).after.rests →
+    event_run p (OwnBytes l (front ++ take (bytes_taken (event_run p (OwnBytes l front)).after l left).taken left))
+    ≡ followed_by (event_run p (OwnBytes l front)) l left
+
+-- The frames that the first bytes of a piece send come first of those that the piece sends.
+abbrev pub FirstBytesSendFirst : Type 0
+FirstBytesSendFirst =
+    (p : Part) (l : ℕ) (front back : List ℕ) →
+    (more : List (ℕ × List ℕ)) × ((event_run p (OwnBytes l front)).sent ++ more ≡ (event_run p (OwnBytes l (front ++ back))).sent)

@@ -1,0 +1,260 @@
+//! What a frame or a signal on one of a customer's lines does. The frame that answers it is put into `out`, which is empty then where
+//! none does.
+
+ghost use Rattle.std.specs.Prelude.{◌≡◌, length};
+ghost use Rattle.std.specs.Option.{option_map};
+ghost use Rattle.njh_machine.specs.Feeding.{acted_on};
+ghost use Rattle.njh_bisync.specs.Lent.{received};
+ghost use Rattle.njh_line.specs.LineTable.{shown};
+ghost use Rattle.njh_machine.specs.Acting.{acted_where};
+ghost use Rattle.njh_machine.specs.Alone as alone;
+ghost use Rattle.njh_machine.specs.Leading.{IsReady, Leads, customer_of};
+
+use crate::acting::all_act;
+use crate::customer_lines::CustomerLines;
+use crate::frame_buffer::FrameBuffer;
+use crate::signal::Signal;
+use njh_bisync::Frame;
+use njh_block::{Block, BlockWriter};
+use njh_line::{Input, Verdict};
+use njh_spool::Spool;
+use njh_stream::streams_stay_tied;
+use njh_table::{LineId, Tables};
+
+/// A frame comes on a line, where one is whole. The line is ready for more.
+pub(crate) fn take_frame(
+    line: LineId,
+    frame: Option<Frame<'_>>,
+    tables: &Tables,
+    spool: &mut Spool,
+    lines: &mut CustomerLines,
+    block: &mut BlockWriter,
+    out: &mut FrameBuffer,
+)
+    requires ready { IsReady tables.now line spool.old lines.old }
+    ensures after { Leads tables.now line.customer spool.old spool.new lines.new
+        (acted_on line.line (option_map received frame.entry) (customer_of tables.now line.customer spool.old lines.old)).after }
+    ensures frame { out.new
+        ≡ (acted_on line.line (option_map received frame.entry) (customer_of tables.now line.customer spool.old lines.old)).frame }
+    ensures ready { IsReady tables.now line spool.new lines.new }
+    ensures count { length lines.new ≡ length lines.old }
+{
+    streams_stay_tied();
+    frame_came(line, frame, tables, spool, lines, block, out);
+}
+
+/// A signal comes on a line. The line is ready for more.
+pub(crate) fn take_signal(
+    line: LineId,
+    signal: Signal,
+    tables: &Tables,
+    spool: &mut Spool,
+    lines: &mut CustomerLines,
+    block: &mut BlockWriter,
+    out: &mut FrameBuffer,
+)
+    requires ready { IsReady tables.now line spool.old lines.old }
+    ensures after { Leads tables.now line.customer spool.old spool.new lines.new
+        (alone.signal_came line.line signal (customer_of tables.now line.customer spool.old lines.old)).after }
+    ensures frame { out.new
+        ≡ (alone.signal_came line.line signal (customer_of tables.now line.customer spool.old lines.old)).frame }
+    ensures ready { IsReady tables.now line spool.new lines.new }
+    ensures count { length lines.new ≡ length lines.old }
+{
+    streams_stay_tied();
+    signal_came(line, signal, tables, spool, lines, block, out);
+}
+
+/// A frame comes on a line, where one is whole.
+#[tactic(auto, unfolding(crate::specs::Alone::frame_came))]
+fn frame_came(
+    line: LineId,
+    frame: Option<Frame<'_>>,
+    tables: &Tables,
+    spool: &mut Spool,
+    lines: &mut CustomerLines,
+    block: &mut BlockWriter,
+    out: &mut FrameBuffer,
+)
+    requires ready { IsReady tables.now line spool.old lines.old }
+    ensures after { Leads tables.now line.customer spool.old spool.new lines.new
+        (acted_on line.line (option_map received frame.entry) (customer_of tables.now line.customer spool.old lines.old)).after }
+    ensures frame { out.new
+        ≡ (acted_on line.line (option_map received frame.entry) (customer_of tables.now line.customer spool.old lines.old)).frame }
+{
+    match frame {
+        None => out.clear(),
+        Some(Frame::Enquiry) => input_came(line, &Input::Enquiry, tables, spool, lines, block, out),
+        Some(Frame::Ack0) => input_came(line, &Input::Ack0, tables, spool, lines, block, out),
+        Some(Frame::Nak) => input_came(line, &Input::Nak, tables, spool, lines, block, out),
+        Some(Frame::Eot) => input_came(line, &Input::Eot, tables, spool, lines, block, out),
+        Some(Frame::Spoiled) => input_came(line, &Input::Spoiled, tables, spool, lines, block, out),
+        Some(Frame::Text(text)) => match Block::read(text) {
+            Ok(read) => block_came(line, read, tables, spool, lines, block, out),
+            Err(_) => input_came(line, &Input::Bad, tables, spool, lines, block, out),
+        },
+    }
+}
+
+/// A signal comes on a line.
+#[tactic(auto, unfolding(crate::specs::Alone::signal_came))]
+fn signal_came(
+    line: LineId,
+    signal: Signal,
+    tables: &Tables,
+    spool: &mut Spool,
+    lines: &mut CustomerLines,
+    block: &mut BlockWriter,
+    out: &mut FrameBuffer,
+)
+    requires ready { IsReady tables.now line spool.old lines.old }
+    ensures after { Leads tables.now line.customer spool.old spool.new lines.new
+        (alone.signal_came line.line signal (customer_of tables.now line.customer spool.old lines.old)).after }
+    ensures frame { out.new
+        ≡ (alone.signal_came line.line signal (customer_of tables.now line.customer spool.old lines.old)).frame }
+{
+    let verdict = accept_signal(line, signal, tables, spool, lines);
+    carry_out(line, verdict, tables, spool, lines, block, out);
+}
+
+/// The line table judges a signal.
+fn accept_signal(
+    line: LineId,
+    signal: Signal,
+    tables: &Tables,
+    spool: &Spool,
+    lines: &mut CustomerLines,
+) -> Verdict
+    requires ready { IsReady tables.now line spool.now lines.old }
+    ensures verdict { result
+        ≡ alone.verdict_on line.line (alone.signal_input signal) (customer_of tables.now line.customer spool.now lines.old) }
+    ensures after { customer_of tables.now line.customer spool.now lines.new
+        ≡ alone.accepted_on line.line (alone.signal_input signal) (customer_of tables.now line.customer spool.now lines.old) }
+    ensures ready { IsReady tables.now line spool.now lines.new }
+{
+    streams_stay_tied();
+    lines.accept_signal(line.line, signal)
+}
+
+/// What comes to a line but a good block.
+fn input_came(
+    line: LineId,
+    input: &Input<'_>,
+    tables: &Tables,
+    spool: &mut Spool,
+    lines: &mut CustomerLines,
+    block: &mut BlockWriter,
+    out: &mut FrameBuffer,
+)
+    requires ready { IsReady tables.now line spool.old lines.old }
+    ensures after { Leads tables.now line.customer spool.old spool.new lines.new
+        (alone.input_came line.line (shown input.now) (customer_of tables.now line.customer spool.old lines.old)).after }
+    ensures frame { out.new
+        ≡ (alone.input_came line.line (shown input.now) (customer_of tables.now line.customer spool.old lines.old)).frame }
+{
+    let verdict = accept(line, input, tables, spool, lines);
+    carry_out(line, verdict, tables, spool, lines, block, out);
+}
+
+/// The line table judges what comes to a line.
+fn accept(
+    line: LineId,
+    input: &Input<'_>,
+    tables: &Tables,
+    spool: &Spool,
+    lines: &mut CustomerLines,
+) -> Verdict
+    requires ready { IsReady tables.now line spool.now lines.old }
+    ensures verdict { result ≡ alone.verdict_on line.line (shown input.now) (customer_of tables.now line.customer spool.now lines.old) }
+    ensures after { customer_of tables.now line.customer spool.now lines.new
+        ≡ alone.accepted_on line.line (shown input.now) (customer_of tables.now line.customer spool.now lines.old) }
+    ensures ready { IsReady tables.now line spool.now lines.new }
+{
+    streams_stay_tied();
+    lines.accept(line.line, input)
+}
+
+/// A good block comes on a line: its records act where the line table says so, and then it is answered.
+fn block_came(
+    line: LineId,
+    read: Block<'_>,
+    tables: &Tables,
+    spool: &mut Spool,
+    lines: &mut CustomerLines,
+    block: &mut BlockWriter,
+    out: &mut FrameBuffer,
+)
+    requires ready { IsReady tables.now line spool.old lines.old }
+    ensures after { Leads tables.now line.customer spool.old spool.new lines.new
+        (alone.block_came line.line read.entry (customer_of tables.now line.customer spool.old lines.old)).after }
+    ensures frame { out.new
+        ≡ (alone.block_came line.line read.entry (customer_of tables.now line.customer spool.old lines.old)).frame }
+{
+    let input = Input::Block {
+        bcb: read.bcb(),
+        fcs: read.fcs(),
+        first: read.first_general(),
+    };
+    let verdict = accept(line, &input, tables, spool, lines);
+    if act_where(verdict.acts, line, read, tables, spool, lines) {
+        end_session(line, tables, spool, lines);
+        out.clear();
+    } else {
+        carry_out(line, verdict, tables, spool, lines, block, out);
+    }
+}
+
+/// The records of a block act where they may. Says whether one ended the session.
+fn act_where(
+    acts: bool,
+    line: LineId,
+    read: Block<'_>,
+    tables: &Tables,
+    spool: &mut Spool,
+    lines: &mut CustomerLines,
+) -> bool
+    requires ready { IsReady tables.now line spool.old lines.old }
+    ensures ended { result
+        ≡ (acted_where acts line.line read.entry.items (customer_of tables.now line.customer spool.old lines.old)).ended }
+    ensures after { Leads tables.now line.customer spool.old spool.new lines.new
+        (acted_where acts line.line read.entry.items (customer_of tables.now line.customer spool.old lines.old)).customer }
+    ensures ready { IsReady tables.now line spool.new lines.new }
+{
+    if acts {
+        all_act(line, read, tables, spool, lines)
+    } else {
+        false
+    }
+}
+
+/// Sends what a verdict asks for, and then ends the session where it says so.
+fn carry_out(
+    line: LineId,
+    verdict: Verdict,
+    tables: &Tables,
+    spool: &mut Spool,
+    lines: &mut CustomerLines,
+    block: &mut BlockWriter,
+    out: &mut FrameBuffer,
+)
+    requires ready { IsReady tables.now line spool.old lines.old }
+    ensures after { Leads tables.now line.customer spool.old spool.new lines.new
+        (alone.carried_out line.line verdict (customer_of tables.now line.customer spool.old lines.old)).after }
+    ensures frame { out.new
+        ≡ (alone.carried_out line.line verdict (customer_of tables.now line.customer spool.old lines.old)).frame }
+{
+    lines.send_reply(line, verdict.reply, tables, spool, block, out);
+    if verdict.ended {
+        lines.end_session(line, tables, spool);
+    }
+}
+
+/// A record ended the session.
+fn end_session(line: LineId, tables: &Tables, spool: &mut Spool, lines: &mut CustomerLines)
+    requires ready { IsReady tables.now line spool.old lines.old }
+    ensures { Leads tables.now line.customer spool.old spool.new lines.new
+        (alone.session_ended line.line (customer_of tables.now line.customer spool.old lines.old)) }
+{
+    lines.end(line.line);
+    lines.end_session(line, tables, spool);
+}
