@@ -13,6 +13,9 @@ mod requests;
 mod tight;
 
 pub use filling::fill;
-pub use laws::{blocks_carry_files_in_order, nothing_where_all_is_suspended, sources_fill_the_block, sources_move_streams_so};
+pub use laws::{
+    blocks_carry_files_in_order, nothing_where_all_is_suspended, sources_fill_the_block,
+    sources_move_streams_so,
+};
 pub use outgoing::Outgoing;
 pub use tight::own_fcs;
