@@ -1,5 +1,11 @@
+pub mod ShapeLaws
+pub mod CoherenceLaws
+pub mod StepLaws
+pub mod ReadyLaws
+pub mod FilledLaws
+pub mod SessionLaws
 pub mod FeedingLaws
-pub mod FillLaws
 pub mod OpenLaws
 pub mod TakingLaws
 pub mod PieceLaws
+pub mod OpenedLaws

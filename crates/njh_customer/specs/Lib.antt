@@ -1,8 +1,10 @@
-pub mod Command
 pub mod Customer
+pub mod Waiting
+pub mod Acting
 pub mod Sending
 pub mod Alone
 pub mod Feeding
 pub mod Part
 pub mod Runs
 pub mod Laws
+pub mod Leading

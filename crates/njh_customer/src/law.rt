@@ -1,6 +1,11 @@
 //! Laws of the definitions: what holds of all runs of a customer by itself, whoever computes them.
 
+ghost use Rattle.std.specs.Prelude.{◌≤◌, All};
+ghost use Rattle.njh_table.specs.Entries.{CustomerEntry};
+ghost use Rattle.njh_customer.specs.Customer.{IsCoherent, fresh_customer};
 ghost use Rattle.njh_customer.specs.Laws.{CutsAreLike, FirstBytesSendFirst, NoBytesDoNothing, StepsFollowBytes};
+
+use njh_stream::streams_stay_tied;
 
 /// It doesn't matter how the bytes of a line are cut into pieces.
 pub fn cuts_are_like()
@@ -21,3 +26,10 @@ pub fn steps_follow_bytes()
 pub fn first_bytes_send_first()
     ensures { FirstBytesSendFirst }
 {}
+
+/// A customer that was just opened is coherent.
+pub fn opened_is_coherent()
+    ensures { (entry : CustomerEntry) → All (λ line. line.streams ≤ 4) entry.lines → IsCoherent (fresh_customer entry) }
+{
+    streams_stay_tied();
+}
