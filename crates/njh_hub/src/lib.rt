@@ -6,6 +6,7 @@ mod fault;
 mod file_view;
 mod hub;
 mod law;
+mod opening;
 mod run;
 mod sink;
 
