@@ -1,6 +1,6 @@
 -- The customers' parts, of what the hub keeps: the table, the files of all customers, and each customer's lines.
 use Rattle.std.specs.Prelude.{◌≡◌, ℕ, ◌<◌, List, [], length, map, slice_index_or}
-use Rattle.core.specs.List.{range_with_len}
+use Rattle.std.specs.List.{range_with_len}
 use Rattle.njh_spool.specs.CustomerSpool.{CustomerSpool, empty_spool}
 use Rattle.njh_spool.specs.Spools as spools
 use Rattle.njh_spool.specs.declared.quota.Quota.{Quota}

@@ -3,6 +3,7 @@
 ghost use Rattle.std.specs.Prelude.{◌≡◌, ℕ, ◌<◌, length, map, IfOk, OnErr, Err};
 ghost use Rattle.njh_customer.specs.Part.{opened, part_with};
 ghost use Rattle.njh_hub.specs.Parts.{empty_files, lines_at, quota_in};
+ghost use Rattle.njh_table.specs.Accepted.{IsAccepted};
 ghost use Rattle.njh_table.specs.TableFile.{customer_at, entry_of};
 
 use crate::fault::HubFault;
@@ -25,7 +26,8 @@ pub(crate) fn open_spool(alloc: Global, tables: &Tables) -> Result<Spool, HubFau
 
 /// The quotas of the tables' customers, in their order.
 fn quotas_of(alloc: Global, tables: &Tables) -> Result<Vec<Quota>, AllocError>
-    ensures { IfOk result (λ quotas. quotas.items ≡ map quota_in tables.now.customers) }
+    ensures each { IfOk result (λ quotas. quotas.items ≡ map quota_in tables.now.customers) }
+    ensures accepted { IsAccepted tables.now }
 {
     let mut quotas = Vec::with_capacity(alloc, tables.customers().len())?;
     for customer in tables.customers() {
@@ -50,6 +52,7 @@ pub(crate) fn open_lines(alloc: Global, tables: &Tables) -> Result<Vec<Lines>, A
     ensures opened { IfOk result (λ lines. (c : ℕ) → c < length tables.now.customers →
         part_with (entry_of (customer_at tables.now c)) (empty_files (customer_at tables.now c)) (lines_at c lines.items)
         ≡ opened (entry_of (customer_at tables.now c))) }
+    ensures accepted { IsAccepted tables.now }
 {
     let mut lines = Vec::with_capacity(alloc, tables.customers().len())?;
     for customer in tables.customers() {

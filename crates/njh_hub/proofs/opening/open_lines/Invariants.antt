@@ -9,6 +9,6 @@ abbrev pub invariant-loop-customer : goal.invariant-loop-customer
 invariant-loop-customer l = record {
   count : length l.lines.items ≡ l.customer-index;
   opened : (c : ℕ) → c < l.customer-index →
-      part_with (entry_of (customer_at l.fn.tables.now c)) (empty_files (customer_at l.fn.tables.now c)) (lines_at c l.lines.items)
-      ≡ opened (entry_of (customer_at l.fn.tables.now c));
+      part_with (entry_of (customer_at l.fn.tables c)) (empty_files (customer_at l.fn.tables c)) (lines_at c l.lines.items)
+      ≡ opened (entry_of (customer_at l.fn.tables c));
 }
