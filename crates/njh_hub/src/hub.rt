@@ -1,13 +1,14 @@
 //! The hub: each customer's files and lines, and a step for each event on one of these lines.
 
-ghost use Rattle.std.specs.Prelude.{◌≡◌, ℕ, ◌+◌, ◌<◌, ◌≤◌, ◌↔◌, List, [], length, IsTrue, OnOk, OnErr, IfOk, IsOk, Err};
+ghost use Rattle.std.specs.Prelude.{◌≡◌, ℕ, ◌+◌, ◌<◌, ◌≤◌, ◌↔◌, length, IsTrue, OnOk, OnErr, IfOk, Err};
 ghost use Rattle.std.specs.Vec.{vec_len, vec_capacity};
 ghost use Rattle.njh_customer.specs.Part.{bytes_taken, signal_taken};
+ghost use Rattle.njh_hub.specs.Files.{files_at};
 ghost use Rattle.njh_hub.specs.Steps.{IsStep};
 ghost use Rattle.njh_hub.specs.Whole.{part, HasLine};
 
 use crate::fault::HubFault;
-use crate::file_view::FileView;
+use crate::file_view::{FileView, files_of};
 use crate::opening::{open_lines, open_spool};
 use njh_bisync::LONGEST_FRAME;
 use njh_customer::{FrameBuffer, Lines, Signal, opened_is_coherent};
@@ -71,17 +72,19 @@ impl Hub {
         usize::from(line.line) < self.lines[customer].len()
     }
 
-    /// A customer's whole files in their order of arrival. Until files are taken in there are none.
+    /// A customer's whole files in their order of arrival, each with all its records.
+    ///
+    /// `UnknownCustomer` comes where the hub has no such customer, else `Memory` where there was none for the copies.
     pub fn files(&self, customer: u16) -> Result<Vec<FileView>, HubFault>
-        ensures none { IfOk result (λ files. files.items ≡ []) }
-        ensures known { IsOk result ↔ (customer < length self.now) }
-        ensures unknown { OnErr result (result ≡ Err HubFault.UnknownCustomer) }
+        ensures files { IfOk result (λ files. files.items ≡ files_at customer self.now) }
+        ensures known { OnOk result (customer < length self.now) }
+        ensures unknown { ¬ (customer < length self.now) → result ≡ Err HubFault.UnknownCustomer }
+        ensures memory { customer < length self.now → OnErr result (result ≡ Err HubFault.Memory) }
     {
-        if usize::from(customer) < self.lines.len() {
-            Ok(Vec::new(self.alloc))
-        } else {
-            Err(HubFault::UnknownCustomer)
+        if usize::from(customer) >= self.lines.len() {
+            return Err(HubFault::UnknownCustomer);
         }
+        files_of(self.alloc, &self.spool, customer)
     }
 
     /// Where the hub's memory comes from.

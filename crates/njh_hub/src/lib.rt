@@ -12,7 +12,7 @@ mod sink;
 
 pub use event::{Event, Piece};
 pub use fault::{Cause, HubFault, RunFault};
-pub use file_view::FileView;
+pub use file_view::{FileRecord, FileView};
 pub use hub::Hub;
 pub use law::{customers_never_meet, each_is_alone, sent_in_order, two_lists_are_like};
 pub use njh_customer::{Signal, cuts_are_like};
