@@ -96,6 +96,7 @@ pub fn read_record(
     ensures record { slice_get (unpacked slot.now.count (chain_at at store.now).bytes) from.record_index
         ≡ Some (record { srcb = result.0; bytes = into.new.items }) }
     ensures place { IsPlace (unpacked slot.now.count (chain_at at store.now).bytes) (chain_at at store.now).keys result.1 }
+    ensures next { result.1.record_index ≡ from.record_index + 1 }
 {
     let head = read_head(store, at, slot, from);
     let begins = from.place + RECORD_HEAD as u32;

@@ -8,6 +8,7 @@ use crate::SpoolFault;
 use crate::file_id::FileId;
 use crate::places::{place, slot_at};
 use crate::reading::{place_of_record, read_record};
+use crate::record_reader::RecordReader;
 use crate::spool::Spool;
 use njh_record::{Kind, Record};
 
@@ -34,6 +35,18 @@ impl Spool {
             return Err(SpoolFault::NoSuchFile);
         }
         Ok(slot.count)
+    }
+
+    /// The records of a file, whole or partial, from the first on. S3 where the number is no file's.
+    pub fn read_all(&self, customer: u16, id: FileId) -> Result<RecordReader<'_>, SpoolFault>
+        requires { customer < length self.now }
+        ensures { result ≡ or_no_file (records_numbered id (part customer self.now)) }
+    {
+        let slot = slot_at(&self.slots, customer, id);
+        if slot.is_free() {
+            return Err(SpoolFault::NoSuchFile);
+        }
+        Ok(RecordReader::of(&self.store, place(customer, id), slot))
     }
 
     /// Puts the n-th record's bytes into `into` and gives its SRCB. S3 where the number is no file's.
