@@ -84,7 +84,8 @@ impl Hub {
         if usize::from(customer) >= self.lines.len() {
             return Err(HubFault::UnknownCustomer);
         }
-        files_of(self.alloc, &self.spool, customer)
+        let files = files_of(self.alloc, &self.spool, customer)?;
+        Ok(files)
     }
 
     /// Where the hub's memory comes from.
