@@ -16,3 +16,9 @@ pub mod EndingMoves
 pub mod RecordsMoves
 pub mod DoingLaws
 pub mod BlocksCarry
+pub mod EventMoves
+pub mod FileListLaws
+pub mod LeavingLaws
+pub mod StreamMoveLaws
+pub mod RecordsChange
+pub mod DisregardingLaws

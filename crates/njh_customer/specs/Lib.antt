@@ -12,3 +12,4 @@ pub mod Outgoing
 pub mod Moves
 pub mod Doing
 pub mod MovingLaws
+pub mod Disregarding
