@@ -1,6 +1,6 @@
 -- What a line disregards changes nothing but its session, or ends it.
-use Rattle.std.proofs.Common.{◌≡◌, ◌≢◌, ℕ, ◌+◌, ◌<◌, Bool, true, false, cond, ◌==◌, List, length, set, get_or, Result, Ok, Err, nat_lt, refl, sym, ap, subst, ◌∙◌}
-use Rattle.std.proofs.lemmas.Bool.{eqb-true, eqb-false, ltb-true}
+use Rattle.std.proofs.Common.{◌≡◌, ◌≢◌, ℕ, ◌+◌, ◌<◌, Bool, true, false, cond, ◌==◌, List, length, set, get_or, Result, Ok, Err, nat_lt, refl, sym, ap, subst, ◌∙◌, arith}
+use Rattle.std.proofs.lemmas.Bool.{eqb-true, eqb-false, ltb-true, ltb-false}
 use Rattle.std.proofs.lemmas.List.{get_or-set_same, set-get_or, set-set}
 use Rattle.njh_bisync.specs.Frames as frame
 use Rattle.njh_bisync.specs.declared.frame.Control.TheVariants as control
@@ -15,16 +15,16 @@ use Rattle.njh_line.specs.declared.Phase.{Phase}
 use Rattle.njh_line.specs.declared.Phase.TheVariants.{Down, Calling, Answered, SentI, Up}
 use Rattle.njh_line.specs.declared.config.Config.{Config}
 use Rattle.njh_line.specs.declared.session.Session.{Session}
-use Rattle.njh_line.specs.declared.table.Outcome.{Outcome}
 use Rattle.njh_line.specs.declared.verdict.Reply.TheVariants as reply
+use Rattle.njh_line.specs.declared.verdict.Verdict.{Verdict}
 use Rattle.njh_customer.specs.declared.signal.Signal.TheVariants as signal
 use Rattle.njh_customer.specs.Customer.{Customer, CustomerLine, no_line, line_at, on_line, in_state}
 use Rattle.njh_customer.specs.Alone.{Step, silent, session_over, session_ended, carried_out, input_came, text_read, frame_came, signal_came}
 use Rattle.njh_customer.specs.Disregarding.{session_on, IsButSession, IsDisregarded, SpoiledIsDisregarded, BadBlocksAreDisregarded, GarbledIsDisregarded}
 
 -- by what the line table says
-abbrev by_outcome : ℕ → Outcome → Customer → Step
-by_outcome l o c = carried_out l o.verdict (record c { lines = on_line l (in_state (with_session o.session)) c.lines })
+abbrev by_parts : ℕ → Session → Verdict → Customer → Step
+by_parts l s v c = carried_out l v (record c { lines = on_line l (in_state (with_session s)) c.lines })
 
 abbrev lines_as : Customer → List CustomerLine → Customer
 lines_as c lines = record c { lines = lines }
@@ -52,10 +52,10 @@ module _ (l : ℕ) (c : Customer) where
   again : (xs : List CustomerLine) → set xs l (get_or xs l no_line) ≡ xs
   again xs = set-get_or xs l no_line
 
-  nothing : by_outcome l (none (session_on l c)) c ≡ silent c
+  nothing : by_parts l (none (session_on l c)).session (none (session_on l c)).verdict c ≡ silent c
   nothing = ap (λ lines. silent (lines_as c lines)) (again (set c.lines l (line_at l c.lines)) ∙ same_lines)
 
-  ends : by_outcome l (end (session_on l c)) c ≡ silent (session_ended l c)
+  ends : by_parts l (end (session_on l c)).session (end (session_on l c)).verdict c ≡ silent (session_ended l c)
   ends =
       ap (λ lines. silent (session_over l (lines_as c lines)))
       (again (on_line l (in_state (with_session (end (session_on l c)).session)) c.lines))
@@ -66,7 +66,7 @@ module _ (l : ℕ) (c : Customer) where
       ap (λ t. cond t (end (session_on l c)) (with_reply (reply.Control control.Nak) (record (session_on l c) { tries = (session_on l c).tries + 1 }))) e
 
   -- NAK goes out
-  one_try : (s : Session) → l < length c.lines → IsButSession l c (by_outcome l (with_reply (reply.Control control.Nak) s) c).after
+  one_try : (s : Session) → l < length c.lines → IsButSession l c (by_parts l s (with_reply (reply.Control control.Nak) s).verdict c).after
   one_try s there =
       record {
         session = without_turn s;
@@ -88,23 +88,24 @@ module _ (l : ℕ) (c : Customer) where
       }
 
   tried_or_over : (b : Bool) → ((session_on l c).tries == 5) ≡ b → l < length c.lines → in_session (session_on l c).phase ≡ true
-      → (s : Step) → s ≡ by_outcome l (try_nak (session_on l c)) c → IsDisregarded l c s
+      → (s : Step) → s ≡ by_parts l (try_nak (session_on l c)).session (try_nak (session_on l c)).verdict c → IsDisregarded l c s
   tried_or_over true e there up s is =
       record {
         down = λ down. absurd (cc (sym up ∙ down));
         goes_on = λ few. absurd (few (eqb-true (session_on l c).tries 5 e));
-        over = λ _ _ _. is ∙ ap (λ o. by_outcome l o c) (try_is true e) ∙ ends;
+        over = λ _ _ _. is ∙ ap (λ o. by_parts l o.session o.verdict c) (try_is true e) ∙ ends;
       }
   tried_or_over false e there up s is =
       let tried : Session = record (session_on l c) { tries = (session_on l c).tries + 1 } in
       record {
         down = λ down. absurd (cc (sym up ∙ down));
-        goes_on = λ few. subst (λ t. IsButSession l c t.after) (sym (is ∙ ap (λ o. by_outcome l o c) (try_is false e))) (one_try tried there);
+        goes_on = λ few. subst (λ t. IsButSession l c t.after) (sym (is ∙ ap (λ o. by_parts l o.session o.verdict c) (try_is false e))) (one_try tried there);
         over = λ _ _ tries. absurd (eqb-false (session_on l c).tries 5 e tries);
       }
 
   by_phase : (p : Phase) → (session_on l c).phase ≡ p → l < length c.lines → (s : Step)
-      → s ≡ by_outcome l (cell p (none (session_on l c)) (none (session_on l c)) (try_nak (session_on l c)) (try_nak (session_on l c)) (try_nak (session_on l c))) c
+      → (let o = cell p (none (session_on l c)) (none (session_on l c)) (try_nak (session_on l c)) (try_nak (session_on l c)) (try_nak (session_on l c)) in
+      s ≡ by_parts l o.session o.verdict c)
       → IsDisregarded l c s
   by_phase Down e there s is = where_down s (ap in_session e) (is ∙ nothing)
   by_phase Calling e there s is = where_down s (ap in_session e) (is ∙ nothing)
@@ -115,7 +116,7 @@ module _ (l : ℕ) (c : Customer) where
   input_disregarded : (came : Input) → is_disregarded came ≡ true → l < length c.lines → IsDisregarded l c (input_came l came c)
   input_disregarded came e there =
       by_phase (session_on l c).phase refl there (input_came l came c)
-      (ap (λ o. by_outcome l o c) (table_is (line_at l c.lines).state.config came (session_on l c) e))
+      (ap (λ o. by_parts l o.session o.verdict c) (table_is (line_at l c.lines).state.config came (session_on l c) e))
 
   -- a line that isn't there
   not_there : nat_lt l (length c.lines) ≡ false → IsDisregarded l c (silent c)
@@ -123,7 +124,7 @@ module _ (l : ℕ) (c : Customer) where
       record {
         down = λ _. refl;
         goes_on = λ _. unchanged;
-        over = λ there up tries. absurd (ltb-false l (length c.lines) e there);
+        over = λ there up tries. absurd (omega (arith, ltb-false l (length c.lines) e, there));
       }
 
   where_it_is : (s : Step) (b : Bool) → nat_lt l (length c.lines) ≡ b → (l < length c.lines → IsDisregarded l c s) → IsDisregarded l c (cond b s (silent c))
