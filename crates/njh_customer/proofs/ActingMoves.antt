@@ -28,11 +28,11 @@ use Rattle.njh_command.specs.declared.command.Command.{Command}
 use Rattle.njh_command.specs.declared.command.Command.TheVariants as commands
 use Rattle.njh_command.specs.Words.{command_of}
 use Rattle.njh_command.specs.Commands.{Outcome, chosen, obeyed, obeyed_where, rerouting}
-use Rattle.njh_customer.specs.Customer.{Customer, CustomerLine, line_at, on_line, receiver_at, with_receiver, sender_at, with_sender}
-use Rattle.njh_customer.specs.Waiting.{answered, waits, said, notified}
+use Rattle.njh_customer.specs.Customer.{Customer, CustomerLine, line_at, on_line, receiver_at, with_receiver, sender_at}
+use Rattle.njh_customer.specs.Waiting.{answered, waits, said}
 use Rattle.njh_customer.specs.Acting.{arrived, stream_came, with_sent, permitted, answer_came, refusal_of, request_came, peer_answered, given_up}
 use Rattle.njh_customer.specs.Acting.{with_outcome, command_came, unknown_told, message_routed, message_read, message_came, acted}
-use Rattle.njh_customer.specs.Outgoing.{outgoing, streams_from_hub, stream_at, with_stream}
+use Rattle.njh_customer.specs.Outgoing.{outgoing, streams_from_hub, stream_at}
 use Rattle.njh_customer.specs.Moves as moves
 use Rattle.njh_customer.specs.Moves.{Acts, Commands, Tells, busy_numbers}
 use Rattle.njh_customer.proofs.OutgoingLaws.{of_parts, on_line_senders, answered_senders, waits_senders, said_senders, all_said_senders, notified_senders}
@@ -294,7 +294,15 @@ module _ (l : ℕ) (i : Item) (c : Customer) (n : Nodal) where
           record { entry = refl; moves = inl (ap (of_parts c.spool.whole) (changes (obeyed_where None c.entry (n.origin, n.user) c.spool) refl)) }
       at_command (Some command) e =
           obeyed_acts command (record {
-            srcb = srcb; bytes = bytes; is_message = is; nodal = n; reads = reads; to_hub = here; is_command = user; sender = refl; says = e;
+            srcb = srcb;
+            bytes = bytes;
+            is_message = is;
+            nodal = n;
+            reads = reads;
+            to_hub = here;
+            is_command = user;
+            sender = refl;
+            says = e;
           })
 
   routed_acts :

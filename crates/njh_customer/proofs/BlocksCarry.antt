@@ -1,5 +1,5 @@
 -- What a block carries of each stream's file, wherever the stream stands.
-use Rattle.std.proofs.Common.{◌≡◌, ◌<◌, ◌≤◌, ℕ, ◌+◌, ◌-◌, Bool, true, false, cond, ◌==◌, ◌⊎◌, inl, inr, List, [], ◌∷◌, ◌++◌, length, map, take, drop, set, get_or, find}
+use Rattle.std.proofs.Common.{◌≡◌, ◌<◌, ◌≤◌, ℕ, ◌-◌, Bool, true, false, cond, ◌==◌, ◌⊎◌, inl, inr, List, [], ◌∷◌, ◌++◌, length, map, take, drop, get_or, find}
 use Rattle.std.proofs.Common.{Option, Some, None, slice_get, nat_le, refl, sym, ap, subst, ◌∙◌, arith, eq-eqb}
 use Rattle.std.proofs.lemmas.Bool.{leb-true, leb-false}
 use Rattle.std.proofs.lemmas.List.{drop_all, length-drop, length-take-le}
@@ -17,7 +17,7 @@ use Rattle.njh_sched.specs.NextBlock.{Filling, Source, after_source, after_sourc
 use Rattle.njh_sched.specs.Laws.{Does, EachDoes, left, gives_up, asks, sends, is_under, records_under}
 use Rattle.njh_sched.specs.Carrying.{end_of_file, file_records, record_item, records_of}
 use Rattle.njh_sched.specs.Carrying as carrying
-use Rattle.njh_customer.specs.Outgoing.{Outgoing, marked, records_numbered, stream_at, with_stream}
+use Rattle.njh_customer.specs.Outgoing.{Outgoing, marked, records_numbered}
 use Rattle.njh_customer.specs.Moves as moves
 use Rattle.njh_customer.specs.Moves.{Sends}
 use Rattle.njh_customer.specs.Doing.{Carries, nothing, on_its_way, to_its_end}

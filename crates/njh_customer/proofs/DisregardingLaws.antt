@@ -1,11 +1,9 @@
 -- What a line disregards changes nothing but its session, or ends it.
-use Rattle.std.proofs.Common.{◌≡◌, ◌≢◌, ℕ, ◌+◌, ◌<◌, Bool, true, false, cond, ◌==◌, List, length, set, get_or, Result, Ok, Err, nat_lt, refl, sym, ap, subst, ◌∙◌, arith}
+use Rattle.std.proofs.Common.{◌≡◌, ℕ, ◌+◌, ◌<◌, Bool, true, false, cond, ◌==◌, List, length, set, get_or, nat_lt, refl, sym, ap, subst, ◌∙◌, arith}
 use Rattle.std.proofs.lemmas.Bool.{eqb-true, eqb-false, ltb-true, ltb-false}
 use Rattle.std.proofs.lemmas.List.{get_or-set_same, set-get_or, set-set}
-use Rattle.njh_bisync.specs.Frames as frame
 use Rattle.njh_bisync.specs.declared.frame.Control.TheVariants as control
-use Rattle.njh_block.specs.Blocks.{Block, read_block}
-use Rattle.njh_block.specs.declared.fault.BlockFault.{BlockFault}
+use Rattle.njh_block.specs.Blocks.{read_block}
 use Rattle.njh_line.specs.LineTable as input
 use Rattle.njh_line.specs.LineTable.{Input, accepted, cell, end, none, try_nak, with_reply}
 use Rattle.njh_line.specs.Laws.{is_disregarded}
@@ -17,7 +15,6 @@ use Rattle.njh_line.specs.declared.config.Config.{Config}
 use Rattle.njh_line.specs.declared.session.Session.{Session}
 use Rattle.njh_line.specs.declared.verdict.Reply.TheVariants as reply
 use Rattle.njh_line.specs.declared.verdict.Verdict.{Verdict}
-use Rattle.njh_customer.specs.declared.signal.Signal.TheVariants as signal
 use Rattle.njh_customer.specs.Customer.{Customer, CustomerLine, no_line, line_at, on_line, in_state}
 use Rattle.njh_customer.specs.Alone.{Step, silent, session_over, session_ended, carried_out, input_came, text_read, frame_came, signal_came}
 use Rattle.njh_customer.specs.Disregarding.{session_on, IsButSession, IsDisregarded, SpoiledIsDisregarded, BadBlocksAreDisregarded, GarbledIsDisregarded}

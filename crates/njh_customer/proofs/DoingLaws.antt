@@ -1,5 +1,5 @@
 -- What a frame or a signal on a line does to a customer's whole files and to its streams from the hub.
-use Rattle.std.proofs.Common.{◌≡◌, ℕ, ◌<◌, Bool, true, false, cond, ◌⊎◌, inl, inr, List, [], ◌∷◌, length, map, set, get_or, Result, Ok, Err, nat_lt}
+use Rattle.std.proofs.Common.{◌≡◌, ℕ, ◌<◌, Bool, true, false, cond, ◌⊎◌, inl, inr, List, [], ◌∷◌, length, set, Result, Ok, Err, nat_lt}
 use Rattle.std.proofs.Common.{refl, sym, ap, subst, ◌∙◌, arith}
 use Rattle.std.proofs.Math.ListN.{get_or-map}
 use Rattle.std.proofs.Math.Seq.{map-set_same}
@@ -7,8 +7,7 @@ use Rattle.std.proofs.lemmas.Bool.{ltb-true}
 use Rattle.std.proofs.lemmas.List.{length-map, length-set, map-set, set-get_or}
 use Rattle.njh_bisync.specs.Frames as frame
 use Rattle.njh_bisync.specs.Frames.{Received}
-use Rattle.njh_bisync.specs.Written.{text_bytes}
-use Rattle.njh_block.specs.Blocks.{Block, Item, read_block, text_of}
+use Rattle.njh_block.specs.Blocks.{Block, Item, read_block}
 use Rattle.njh_block.specs.Writing.{Writing}
 use Rattle.njh_block.specs.declared.fault.BlockFault.{BlockFault}
 use Rattle.njh_table.specs.Entries.{CustomerEntry}
@@ -26,11 +25,11 @@ use Rattle.njh_customer.specs.declared.signal.Signal.{Signal}
 use Rattle.njh_customer.specs.Customer.{Customer, CustomerLine, no_line, line_at, on_line, in_state}
 use Rattle.njh_customer.specs.Acting.{acted_where}
 use Rattle.njh_customer.specs.Sending.{LineSent, Sending, empty_sent, block_sent, next_block, outlet_of, own_block, reply_sent, with_outlet}
-use Rattle.njh_customer.specs.Alone.{Step, silent, replied, replied_to, session_over, session_over_where, session_ended, carried_out, verdict_on}
+use Rattle.njh_customer.specs.Alone.{Step, silent, replied, replied_to, session_over_where, session_ended, carried_out, verdict_on}
 use Rattle.njh_customer.specs.Alone.{accepted_on, input_came, block_input, behind_records, block_came, text_read, text_came, received_on, signal_input, frame_came, signal_came}
-use Rattle.njh_customer.specs.Outgoing.{Outgoing, outgoing, streams_from_hub, streams_of}
+use Rattle.njh_customer.specs.Outgoing.{outgoing, streams_from_hub, streams_of}
 use Rattle.njh_customer.specs.Moves.{Leads, nowhere, OneActs, Over, Sends}
-use Rattle.njh_customer.specs.Doing.{Carries, GoesOut, moves_nothing, new_block, Does, block_records, records_in}
+use Rattle.njh_customer.specs.Doing.{AgainMovesNothing, Carries, GoesOut, moves_nothing, new_block, Does, block_records, records_in}
 use Rattle.njh_customer.proofs.OutgoingLaws.{of_parts, on_line_senders}
 use Rattle.njh_customer.proofs.SendingMoves.{out_of, filled_leads, filled_with_none}
 use Rattle.njh_customer.proofs.EndingMoves.{over_so}
@@ -57,6 +56,14 @@ sent_unmoved l x c same files =
 -- by a block's records
 abbrev sent_where : Bool → Writing → LineState → List Item → Sending
 sent_where or_ack0 w x is = elim is [ [] ↦ empty_sent or_ack0 w x | i ∷ js ↦ block_sent w x ]
+
+pub again_moves_nothing : AgainMovesNothing
+again_moves_nothing l c = (map_same, refl)
+  where
+    map_same : outgoing (replied_to l reply.Again c).after ≡ outgoing c
+    map_same =
+        ap (of_parts c.spool.whole)
+        (map-set_same (λ y. y.senders) c.lines l (reply_sent c.entry l reply.Again c.spool (line_at l c.lines)).line no_line refl)
 
 module _ (carry : BlocksCarry) where
   -- a new block, or what is sent in its place

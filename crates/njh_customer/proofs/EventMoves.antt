@@ -11,7 +11,7 @@ use Rattle.njh_table.specs.Entries.{CustomerEntry}
 use Rattle.njh_customer.specs.Customer.{Customer}
 use Rattle.njh_customer.specs.Alone.{Step, signal_came}
 use Rattle.njh_customer.specs.Feeding.{acted_on, bytes_run}
-use Rattle.njh_customer.specs.Part.{Part, rest_on}
+use Rattle.njh_customer.specs.Part.{rest_on}
 use Rattle.njh_customer.specs.Runs.{OwnBytes, OwnSignal}
 use Rattle.njh_customer.specs.Outgoing.{Outgoing, outgoing}
 use Rattle.njh_customer.specs.Moves.{Leads, nowhere, onward, Moves, by_record, by_sending, by_end, OneActs, Over, Sends}

@@ -1,5 +1,5 @@
 -- How a file leaves a customer's spool.
-use Rattle.std.proofs.Common.{◌≡◌, ℕ, Bool, true, false, ◌==◌, ◌||◌, List, [], ◌∷◌, ◌++◌, filter, not, refl, sym, ap, subst, ◌∙◌}
+use Rattle.std.proofs.Common.{◌≡◌, ℕ, Bool, true, false, ◌==◌, ◌||◌, List, [], ◌∷◌, ◌++◌, filter, not, refl, sym, ap, ◌∙◌}
 use Rattle.std.proofs.lemmas.Bool.{eqb-true}
 use Rattle.std.proofs.lemmas.List.Folds.{list_any-append}
 use Rattle.std.specs.List.{Contains}
@@ -9,7 +9,7 @@ use Rattle.njh_spool.specs.declared.State.TheVariants.{Held, Ready, Refused, Sen
 use Rattle.njh_table.specs.Entries.{CustomerEntry}
 use Rattle.njh_stream.specs.declared.sender.Sender.TheVariants.{EofSent}
 use Rattle.njh_command.specs.Commands.{chosen, rerouted, with_state, without_file}
-use Rattle.njh_customer.specs.Outgoing.{Outgoing, each_stream, has_file, stream_at, with_files}
+use Rattle.njh_customer.specs.Outgoing.{Outgoing, each_stream, has_file, with_files}
 use Rattle.njh_customer.specs.Moves as moves
 use Rattle.njh_customer.specs.Moves.{Acts, Leads, nowhere, onward, Moves, by_record, by_sending, by_end, Sends, without_files}
 use Rattle.njh_customer.specs.MovingLaws as laws

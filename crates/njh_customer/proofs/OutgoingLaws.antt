@@ -1,8 +1,8 @@
 -- A customer's whole files and its streams from the hub, as its lines change.
-use Rattle.std.proofs.Common.{◌≡◌, ℕ, List, [], ◌∷◌, length, map, set, get_or, fold, Option, Some, None, refl, sym, ap, ◌∙◌}
+use Rattle.std.proofs.Common.{◌≡◌, ℕ, List, [], ◌∷◌, map, set, get_or, fold, Option, Some, None, refl, sym, ap, ◌∙◌}
 use Rattle.std.proofs.Math.ListN.{get_or-map}
 use Rattle.std.proofs.Math.Seq.{map-set_same}
-use Rattle.std.proofs.lemmas.List.{length-map, map-set, set-get_or}
+use Rattle.std.proofs.lemmas.List.{map-set, set-get_or}
 use Rattle.njh_block.specs.declared.answer.Answer.{Answer}
 use Rattle.njh_nmr.specs.Nodal.{notice_record}
 use Rattle.njh_spool.specs.CustomerSpool.{CustomerSpool, WholeFile}

@@ -22,7 +22,6 @@ use Rattle.njh_spool.specs.declared.State.TheVariants as state
 use Rattle.njh_table.specs.Entries.{CustomerEntry}
 use Rattle.njh_stream.specs.Sending.{ready}
 use Rattle.njh_stream.specs.Transmissions.{is_whole}
-use Rattle.njh_command.specs.declared.command.Command.{Command}
 use Rattle.njh_command.specs.declared.command.Command.TheVariants as commands
 use Rattle.njh_command.specs.Words.{command_in, file_command, name_in, node_in, reroute_command, says, words}
 use Rattle.njh_command.specs.Commands.{changed_file, chosen, is_idle, is_sending, rerouted, with_state}
@@ -185,10 +184,10 @@ module _ (by_records : (kind : Kind) (node : List ℕ) (records : List Stored) �
         was_there (itself x.files g (from_filter (λ f. not (f.number == n)) x.files g (among (filter (λ f. not (f.number == n)) x.files) (ap (λ z. z.files) e) there)))
     record_changes i at (moves.holds who name given e) there =
         was_there (one_restated (chosen who name) state.Held x.files g
-            (among (map (changed_file (chosen who name) (with_state state.Held)) x.files) (ap (λ z. z.files) e) there))
+        (among (map (changed_file (chosen who name) (with_state state.Held)) x.files) (ap (λ z. z.files) e) there))
     record_changes i at (moves.releases who name given e) there =
         was_there (one_restated (chosen who name) state.Ready x.files g
-            (among (map (changed_file (chosen who name) (with_state state.Ready)) x.files) (ap (λ z. z.files) e) there))
+        (among (map (changed_file (chosen who name) (with_state state.Ready)) x.files) (ap (λ z. z.files) e) there))
     record_changes i at (moves.reroutes who name node line given route e) there =
         rerouted_one i who name node at given (among (map (changed_file (chosen who name) (rerouted node)) x.files) (ap (λ z. z.files) e) there)
     record_changes i at (moves.cancels who name given e) there =

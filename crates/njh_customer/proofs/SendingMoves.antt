@@ -7,16 +7,16 @@ use Rattle.njh_block.specs.Codes.{kind_of}
 use Rattle.njh_block.specs.Writing.{has_room}
 use Rattle.njh_block.specs.declared.answer.Answer.{Answer}
 use Rattle.njh_record.specs.Stored.{Stored}
-use Rattle.njh_spool.specs.CustomerSpool.{CustomerSpool, WholeFile, whole_numbered}
+use Rattle.njh_spool.specs.CustomerSpool.{WholeFile, whole_numbered}
 use Rattle.njh_table.specs.Entries.{CustomerEntry}
 use Rattle.njh_stream.specs.declared.sender.Sender.{Sender}
 use Rattle.njh_stream.specs.declared.sender.Sender.TheVariants.{Idle, Requested, Sending, EofSent, Aborting}
 use Rattle.njh_stream.specs.Sending.{goes_by, next_at, next_of, record_at}
-use Rattle.njh_sched.specs.NextBlock.{Outlet, Candidate, Filling, Source, WaitingAnswer, StreamAbort, StreamRequest, WaitingMessage, StreamTurn}
+use Rattle.njh_sched.specs.NextBlock.{Candidate, Filling, Source, WaitingAnswer, StreamAbort, StreamRequest, WaitingMessage, StreamTurn}
 use Rattle.njh_sched.specs.NextBlock.{abort_where, answering, asking, candidate, is_idle, may_ask, next_served, oldest, sender_at, serving, telling}
 use Rattle.njh_sched.specs.NextBlock.{added_where, after_candidate, after_source, after_source_where, after_sources, filled, filled_where, sources}
 use Rattle.njh_sched.specs.Carrying.{records_of}
-use Rattle.njh_customer.specs.Outgoing.{Outgoing, record_numbered, stream_at, streams_of, with_stream}
+use Rattle.njh_customer.specs.Outgoing.{Outgoing, record_numbered, stream_at, with_stream}
 use Rattle.njh_customer.specs.Moves as moves
 use Rattle.njh_customer.specs.Moves.{Leads, nowhere, onward, Sends}
 use Rattle.njh_customer.proofs.OutgoingLaws.{of_parts}
@@ -87,7 +87,7 @@ module _ (entry : CustomerEntry) (l : ℕ) (base : List (List Sender)) (inside :
   offers_request x k true e =
       offers_map {A = WholeFile} x (λ f. asking x.outlet x.spool k f.number) (oldest (goes_by entry l) (kind_of k) x.spool)
       (λ f found. one (moves.asks k f (stream_now k x ∙ idle_is (sender_at k x.outlet) (both_right (nat_lt (k % 4) x.outlet.streams) (is_idle (sender_at k x.outlet)) e)) found
-          (moved_is x k (Requested f.number) (asking x.outlet x.spool k f.number).spool.whole)))
+      (moved_is x k (Requested f.number) (asking x.outlet x.spool k f.number).spool.whole)))
 
   at_place : (n place : ℕ) (x : Filling) → record_at n place x.spool ≡ record_numbered n place (out_of l base x)
   at_place n place x = at_file (whole_numbered n x.spool)

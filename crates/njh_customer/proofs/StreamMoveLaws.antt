@@ -1,6 +1,6 @@
 -- How a stream from the hub moves.
-use Rattle.std.proofs.Common.{◌≡◌, ℕ, zero, suc, ◌+◌, Bool, true, false, cond, ◌==◌, ◌⊎◌, inl, inr, List, [], ◌∷◌, length, map, set, get_or, replicate, filter, find, not}
-use Rattle.std.proofs.Common.{Option, Some, None, refl, sym, ap, subst, ◌∙◌}
+use Rattle.std.proofs.Common.{◌≡◌, ℕ, zero, suc, ◌+◌, Bool, true, false, ◌⊎◌, inl, inr, List, [], ◌∷◌, length, map, set, get_or, replicate, filter, find, not}
+use Rattle.std.proofs.Common.{Some, None, refl, sym, ap, subst, ◌∙◌}
 use Rattle.std.proofs.Math.ListN.{get_or-map}
 use Rattle.std.specs.List.{Contains}
 use Rattle.njh_block.specs.Blocks.{Item}
@@ -10,7 +10,7 @@ use Rattle.njh_spool.specs.declared.State.TheVariants as state
 use Rattle.njh_table.specs.Entries.{CustomerEntry}
 use Rattle.njh_stream.specs.declared.sender.Sender.{Sender}
 use Rattle.njh_stream.specs.declared.sender.Sender.TheVariants.{Idle, Requested, Sending, EofSent, Aborting}
-use Rattle.njh_stream.specs.Sending.{aborted, file_in, goes_by}
+use Rattle.njh_stream.specs.Sending.{file_in, goes_by}
 use Rattle.njh_sched.specs.NextBlock.{may_go}
 use Rattle.njh_command.specs.Commands.{aborted_where, chosen, is_about, without_file}
 use Rattle.njh_customer.specs.Outgoing.{Outgoing, each_stream, marked, stream_at, streams_of, with_files, with_stream, without}
@@ -140,7 +140,7 @@ module _ (entry : CustomerEntry) (l : ℕ) (items : List Item) (j k : ℕ) (x y 
   sending_moves (moves.asks m f before found e) =
       moved_so m (Requested f.number) (marked f.number state.Sending x.files) e
       (λ line stream now. laws.asks f (moves.asks m f before found e) (was j k l m Idle x before line stream)
-          (ap (λ t. find (may_go (goes_by entry l) (kind_of t)) x.files) stream ∙ found) now)
+      (ap (λ t. find (may_go (goes_by entry l) (kind_of t)) x.files) stream ∙ found) now)
   sending_moves (moves.goes_on m n place r before found e) =
       moved_so m (Sending n (place + 1)) x.files e
       (λ line stream now. laws.goes_on n place r (moves.goes_on m n place r before found e) (was j k l m (Sending n place) x before line stream) found now)

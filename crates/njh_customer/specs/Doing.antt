@@ -11,8 +11,9 @@ use Rattle.njh_sched.specs.NextBlock.{is_sending}
 use Rattle.njh_sched.specs.Laws.{records_under}
 use Rattle.njh_sched.specs.Carrying.{end_of_file, record_item}
 use Rattle.njh_table.specs.Entries.{CustomerEntry}
-use Rattle.njh_customer.specs.Customer.{Customer}
-use Rattle.njh_customer.specs.Alone.{Step}
+use Rattle.njh_line.specs.declared.verdict.Reply.TheVariants.{Again}
+use Rattle.njh_customer.specs.Customer.{Customer, line_at}
+use Rattle.njh_customer.specs.Alone.{Step, replied_to}
 use Rattle.njh_customer.specs.Outgoing.{Outgoing, outgoing, records_numbered, stream_at, streams_of}
 use Rattle.njh_customer.specs.Moves.{Leads, OneActs, Over, Sends}
 
@@ -59,3 +60,8 @@ pub record Does (l : ℕ) (items : List Item) (c : Customer) (s : Step) : Type 0
   pub answer : GoesOut c.entry l acted answered s.frame
   pub end : (outgoing s.after ≡ answered) ⊎ Over l answered (outgoing s.after)
   pub entry : s.after.entry ≡ c.entry
+
+-- The last transmission goes out again: nothing moves.
+abbrev pub AgainMovesNothing : Type 0
+AgainMovesNothing =
+    (l : ℕ) (c : Customer) → let s = replied_to l Again c in (outgoing s.after ≡ outgoing c) × (s.frame ≡ (line_at l c.lines).state.last)

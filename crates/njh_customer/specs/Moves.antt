@@ -7,7 +7,6 @@ use Rattle.njh_block.specs.Codes.{kind_of}
 use Rattle.njh_nmr.specs.Nodal.{Nodal, nodal_of, is_user_command}
 use Rattle.njh_record.specs.Stored.{Stored}
 use Rattle.njh_spool.specs.CustomerSpool.{WholeFile}
-use Rattle.njh_spool.specs.declared.State.{State}
 use Rattle.njh_spool.specs.declared.State.TheVariants as state
 use Rattle.njh_table.specs.Entries.{CustomerEntry, route_of}
 use Rattle.njh_table.specs.declared.Route.TheVariants.{Here, Line}

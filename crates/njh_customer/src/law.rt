@@ -4,6 +4,7 @@ ghost use Rattle.std.specs.Prelude.{◌≤◌, All};
 ghost use Rattle.njh_table.specs.Entries.{CustomerEntry};
 ghost use Rattle.njh_customer.specs.Customer.{IsCoherent, fresh_customer};
 ghost use Rattle.njh_customer.specs.Disregarding.{BadBlocksAreDisregarded, GarbledIsDisregarded, SpoiledIsDisregarded};
+ghost use Rattle.njh_customer.specs.Doing.{AgainMovesNothing};
 ghost use Rattle.njh_customer.specs.Laws.{CutsAreLike, FirstBytesSendFirst, NoBytesDoNothing, StepsFollowBytes};
 ghost use Rattle.njh_customer.specs.MovingLaws.{EventsMoveSo, FilesLeaveSo, FilesLeaveSoBetween, FramesDoSo, IdleStreamsTakeFiles};
 ghost use Rattle.njh_customer.specs.MovingLaws.{RecordsChangeSo, SignalsDoSo, StreamsMoveSo};
@@ -43,10 +44,13 @@ pub fn opened_is_coherent()
 }
 
 /// What each frame and each signal does to the customer's whole files and to its streams from the hub: its records act, a frame goes out,
-/// and the session goes on or ends.
+/// and the session goes on or ends. A frame that is a new block carries, under each stream's RCB, the stream's file in order from its place before
+/// the block to its place behind it, and the end of file only behind the last record. Any other moves nothing, nor does the last transmission
+/// that goes out again.
 pub fn frames_do_so()
     ensures frames { FramesDoSo }
     ensures signals { SignalsDoSo }
+    ensures again { AgainMovesNothing }
 {
     blocks_carry_files_in_order();
     sources_move_streams_so();
