@@ -6,3 +6,4 @@ pub mod OrderLaws
 pub mod RunningLaws
 pub mod WireLaws
 pub mod TurnLaws
+pub mod RoundLaws

@@ -112,23 +112,44 @@ placed parts lines quiets i round = record {
   turn = slice_index_or round i no_turn;
 }
 
+abbrev pub placed_acts : Placed → List WireAct
+placed_acts p = turn_acts p.parts p.line p.quiet p.turn
+
+abbrev pub placed_stop : Placed → Type 0
+placed_stop p = IsStopWhere p.parts p.turn.cut (event_of p.line p.quiet p.turn.heard)
+
+-- a wire had this turn
+pub record HadTurn {S : Type 0} (passed : S → S → List WireAct → Type 0) (count : S → ℕ) (p : Placed) (wire new_wire : S) : Type 0 where
+  pub acts : passed wire new_wire (placed_acts p)
+  pub stop : placed_stop p
+  pub counts : count wire ≤ count new_wire
+  pub counted : HasFault p.turn → IsCounted (count wire) (count new_wire)
+
+-- The first wires had these turns of a round, and the others none yet.
+pub record IsRound {S : Type 0} (passed : S → S → List WireAct → Type 0) (count : S → ℕ) (lines : List LineId) (parts : List Part)
+    (quiets : List ℕ) (wires : List S) (turns : List Turn) (new : List Part) (new_quiets : List ℕ) (new_wires : List S) : Type 0 where
+  pub hub : new ≡ (hub_run parts (round_events lines quiets turns)).parts
+  pub calm : new_quiets ≡ quiets_after quiets turns
+  pub had : (i : ℕ) (d : S) → i < length turns →
+      HadTurn passed count (placed parts lines quiets i turns) (slice_index_or wires i d) (slice_index_or new_wires i d)
+  pub rest : (i : ℕ) (d : S) → length turns ≤ i → slice_index_or new_wires i d ≡ slice_index_or wires i d
+
 -- ---- round after round
 
 abbrev pub all_events : List LineId → List ℕ → List (List Turn) → List Event
 all_events lines quiets [] = []
 all_events lines quiets (round ∷ rounds) = round_events lines quiets round ++ all_events lines (quiets_after quiets round) rounds
 
+-- the quiets in a row after these rounds
+abbrev pub all_quiets : List ℕ → List (List Turn) → List ℕ
+all_quiets quiets [] = quiets
+all_quiets quiets (round ∷ rounds) = all_quiets (quiets_after quiets round) rounds
+
 -- the turns of the i-th wire
 abbrev pub turns_of : List Part → List LineId → List ℕ → ℕ → List (List Turn) → List Placed
 turns_of parts lines quiets i [] = []
 turns_of parts lines quiets i (round ∷ rounds) = placed parts lines quiets i round
     ∷ turns_of (hub_run parts (round_events lines quiets round)).parts lines (quiets_after quiets round) i rounds
-
-abbrev pub placed_acts : Placed → List WireAct
-placed_acts p = turn_acts p.parts p.line p.quiet p.turn
-
-abbrev pub placed_stop : Placed → Type 0
-placed_stop p = IsStopWhere p.parts p.turn.cut (event_of p.line p.quiet p.turn.heard)
 
 -- A wire had these turns, and nothing else passed on it.
 pub record HadTurns {S : Type 0} (passed : S → S → List WireAct → Type 0) (count : S → ℕ) (turns : List Placed) (wire new_wire : S) :
