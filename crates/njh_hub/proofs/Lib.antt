@@ -7,3 +7,4 @@ pub mod RunningLaws
 pub mod WireLaws
 pub mod TurnLaws
 pub mod RoundLaws
+pub mod OwnWires

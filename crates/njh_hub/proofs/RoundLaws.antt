@@ -1,11 +1,11 @@
 -- Rounds of turns: one turn more, and one round more.
-use Rattle.std.proofs.Common.{◌≡◌, ℕ, zero, suc, ◌+◌, ◌<◌, ◌≤◌, List, [], ◌∷◌, ◌++◌, length, take, set, get_or, refl}
-use Rattle.std.proofs.Common.{ap, sym, subst, ◌∙◌, ⊎_elim, arith, append_assoc, append-nil, inl, inr}
+use Rattle.std.proofs.Common.{◌≡◌, ℕ, ◌<◌, ◌≤◌, List, [], ◌∷◌, ◌++◌, length, set, get_or, refl}
+use Rattle.std.proofs.Common.{ap, sym, subst, ◌∙◌, ⊎_elim, arith, append_assoc, append-nil}
 use Rattle.std.specs.Prelude.{All, ◌⊎◌}
 use Rattle.std.specs.List.{flat_map}
 use Rattle.std.proofs.lemmas.Bool.{cases_lt}
 use Rattle.std.proofs.lemmas.Grind.{flat_map-append}
-use Rattle.std.proofs.lemmas.List.{take-append-le, take_all, length-append, get_or-set_same, get_or-set_other, get_or_append_left, get_or_read}
+use Rattle.std.proofs.lemmas.List.{take-append-le, length-append, get_or-set_same, get_or-set_other, get_or_append_left, get_or_read}
 use Rattle.std.proofs.lemmas.List.Elements.{All-push}
 use Rattle.std.proofs.Math.Seq.{get_or-append_seam, take-append_seam}
 use Rattle.njh_table.specs.declared.LineId.{LineId}
@@ -20,7 +20,7 @@ use Rattle.njh_hub.proofs.TurnLaws.{counted_on}
 
 -- ---- one turn more
 
-round_events-none : (lines : List LineId) (quiets : List ℕ) → round_events lines quiets [] ≡ []
+pub round_events-none : (lines : List LineId) (quiets : List ℕ) → round_events lines quiets [] ≡ []
 round_events-none [] quiets = refl
 round_events-none (line ∷ lines) [] = refl
 round_events-none (line ∷ lines) (quiet ∷ quiets) = refl
@@ -37,7 +37,7 @@ round_events-more (l ∷ ls) (q ∷ qs) (t ∷ ts) turn h k =
     ∙ sym (append_assoc (turn_events l q t) (round_events ls qs ts)
     (turn_events (get_or ls (length ts) no_line) (get_or qs (length ts) 0) turn))
 
-quiets_after-none : (quiets : List ℕ) → quiets ≡ quiets_after quiets []
+pub quiets_after-none : (quiets : List ℕ) → quiets ≡ quiets_after quiets []
 quiets_after-none [] = refl
 quiets_after-none (q ∷ qs) = refl
 

@@ -1,6 +1,6 @@
 -- An event of a wire: its steps, the frames that are written, and a write that fails.
 use Rattle.std.proofs.Common.{◌≡◌, ℕ, zero, suc, ◌+◌, ◌-◌, ◌<◌, ◌≤◌, List, [], ◌∷◌, ◌++◌, length, map, take, set, refl}
-use Rattle.std.proofs.Common.{ap, sym, subst, ◌∙◌, arith, append-nil, Some}
+use Rattle.std.proofs.Common.{ap, sym, subst, ◌∙◌, arith, append-nil}
 use Rattle.std.proofs.lemmas.List.{get_or-set_same, length-set, length-append, map-append}
 use Rattle.std.proofs.Math.Seq.{take-add}
 use Rattle.njh_bisync.specs.Reading.{Rest}
@@ -50,8 +50,12 @@ byte_less cuts {start} {now} {after} {line} {piece} {left} {before} {used} {fram
     let x = event_run p (OwnBytes l front) in
     let k = used - 1 in
     let moved : part c now ≡ x.after = ap (part c) h.now_is ∙ get_or-set_same start c x.after no_part (known-there start line h.known) in
-    let inside : l < length p.rests = omega (arith, h.rests, ap (λ (q : Part). length q.rests) moved,
-    length-set p.rests l (bytes_run (rest_on l p) p.customer l front).rest) in
+    let inside : l < length p.rests = omega (
+      arith,
+      h.rests,
+      ap (λ (q : Part). length q.rests) moved,
+      length-set p.rests l (bytes_run (rest_on l p) p.customer l front).rest,
+    ) in
     let same : before + used - 1 ≡ before + k = omega arith in
     let cut : take (before + used - 1) piece ≡ front ++ take k left =
     ap (λ (n : ℕ). take n piece) same ∙ take-add before k piece ∙ ap (λ (bs : List ℕ). front ++ take k bs) (sym h.left_is) in

@@ -1,6 +1,6 @@
 -- Turns of wires: one of one wire, and turn after turn of many, wire by wire in their order.
 use Rattle.std.specs.Prelude.{◌≡◌, ℕ, ◌+◌, ◌<◌, ◌≤◌, ◌==◌, ◌⊎◌, cond, List, [], ◌∷◌, ◌++◌, length, replicate, take, Option, Some, None}
-use Rattle.std.specs.Prelude.{IsSome, ⊤, slice_index_or, All}
+use Rattle.std.specs.Prelude.{IsSome, slice_index_or, All}
 use Rattle.std.specs.List.{flat_map}
 use Rattle.njh_table.specs.declared.LineId.{LineId}
 use Rattle.njh_hub.specs.declared.event.Event.{Event}

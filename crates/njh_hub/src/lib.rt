@@ -12,6 +12,7 @@ mod serve;
 mod sink;
 mod turn;
 mod wire;
+mod wire_law;
 
 pub use event::{Event, Piece};
 pub use fault::{Cause, HubFault, RunFault};
@@ -24,3 +25,4 @@ pub use serve::serve_turns;
 pub use sink::{Sink, SinkFault};
 pub use turn::wire_turn;
 pub use wire::Wire;
+pub use wire_law::own_wires_decide;

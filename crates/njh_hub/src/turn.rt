@@ -97,13 +97,7 @@ fn act_on<W: Wire>(
 }
 
 /// Hands the hub bytes of a line and writes each frame that it sends. Where a write fails the line is lost.
-fn pass_bytes<W: Wire>(
-    hub: &mut Hub,
-    line: LineId,
-    piece: &[u8],
-    wire: &mut W,
-    out: &mut Vec<u8>,
-)
+fn pass_bytes<W: Wire>(hub: &mut Hub, line: LineId, piece: &[u8], wire: &mut W, out: &mut Vec<u8>)
     requires known { HasLine hub.old line }
     requires room { LONGEST_FRAME ≤ vec_capacity out.old }
     ensures done { (cut : Option ℕ) × IsDone W.passed W.count hub.old (Bytes line piece.now) cut wire.old hub.new wire.new }

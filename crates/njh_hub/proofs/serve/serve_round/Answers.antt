@@ -1,8 +1,7 @@
-use Rattle.std.proofs.Common.{◌≡◌, ℕ, zero, ◌+◌, ◌<◌, ◌≤◌, List, [], ◌∷◌, ◌++◌, length, get_or, set, refl, ap, sym, subst, ◌∙◌, arith}
+use Rattle.std.proofs.Common.{ℕ, ◌<◌, [], ◌∷◌, ◌++◌, get_or, set, refl, ap, sym, subst, ◌∙◌, arith}
 use Rattle.std.proofs.lemmas.List.{length-append}
 use Rattle.std.proofs.lemmas.List.Elements.{All-set}
-use Rattle.njh_hub.specs.Turns.{Turn, IsRound, no_line}
-use Rattle.njh_hub.specs.Whole.{HasLine}
+use Rattle.njh_hub.specs.Turns.{IsRound, no_line}
 use Rattle.njh_hub.proofs.RoundLaws.{GoesRound, round_more, round_none}
 use Rattle.njh_hub.proofs.serve.serve_round.Goals as goal
 
@@ -49,8 +48,11 @@ loop-i-preserved g c =
     c.args.wires.now (so_far.0 ++ did.0 ∷ []) c.wire_turn.new.hub (set c.loop-i.quiets c.loop-i.i n)
     (set c.loop-i.wires c.loop-i.i c.wire_turn.new.wire) in
     record {
-      turns = (so_far.0 ++ did.0 ∷ [], omega (arith, so_far.1, length-append so_far.0 (did.0 ∷ [])),
-          subst P (sym did.2) (round_more goes));
+      turns = (
+        so_far.0 ++ did.0 ∷ [],
+        omega (arith, so_far.1, length-append so_far.0 (did.0 ∷ [])),
+        subst P (sym did.2) (round_more goes),
+      );
       few = All-set (λ (q : ℕ). q < 10) c.loop-i.quiets c.loop-i.i c.wire_turn.result c.wire_turn.ensures.few c.loop-i.invariant.few;
       same = λ d. c.wire_turn.ensures.lines d ∙ c.loop-i.invariant.same d;
       empty = c.wire_turn.ensures.empty;

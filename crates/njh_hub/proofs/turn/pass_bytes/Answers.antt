@@ -1,8 +1,8 @@
-use Rattle.std.proofs.Common.{◌≡◌, ℕ, ◌+◌, ◌<◌, ◌≤◌, List, [], ◌∷◌, ◌++◌, length, map, take, Some, None, ap, sym, subst, ◌∙◌, refl, arith}
+use Rattle.std.proofs.Common.{◌≡◌, ℕ, ◌+◌, ◌<◌, ◌≤◌, List, [], ◌∷◌, length, map, take, Some, None, ap, sym, subst, ◌∙◌, refl, arith}
 use Rattle.std.proofs.lemmas.List.{take_all}
 use Rattle.njh_hub.specs.declared.event.Event.TheVariants.{Bytes}
-use Rattle.njh_hub.specs.Whole.{Part, HubRun, HasLine, hub_run}
-use Rattle.njh_hub.specs.Wires.{WireAct, Unsent, sent_act, frame_acts, last_unsent, run_until}
+use Rattle.njh_hub.specs.Whole.{HubRun, HasLine, hub_run}
+use Rattle.njh_hub.specs.Wires.{WireAct, Unsent, sent_act, frame_acts}
 use Rattle.njh_hub.proofs.PieceLaws.{after_bytes, after_bytes-none}
 use Rattle.njh_hub.proofs.RunningLaws.{GoesOn, step_done, whole_done, counted_from}
 use Rattle.njh_hub.proofs.WireLaws.{step_written, step_unsent, step_stops, lost_next}
@@ -46,7 +46,9 @@ loop-taken-preserved g c =
     } in
     let F : List ℕ → Type 0 = λ b. g.W.Wire.passed c.loop-taken.wire c.send.new.wire (frame_acts b) in
     let sent = subst F c.deref.ensures.value c.in-Ok.ensures.ok in
-    let acts = g.met.W.Wire.more _ _ _ _ _ c.loop-taken.invariant.acts sent in
+    let before = map sent_act (after_bytes start line (take c.loop-taken.taken c.args.piece.now)).sent in
+    let frame = c.take_bytes-taken.new.out.items in
+    let acts = g.met.W.Wire.more c.args.wire.now c.loop-taken.wire c.send.new.wire before (frame_acts frame) c.loop-taken.invariant.acts sent in
     let P : List WireAct → Type 0 = λ s. g.W.Wire.passed c.args.wire.now c.send.new.wire s in
     record {
       within = omega (arith, c.take_bytes-taken.ensures.within, c.split_at.ensures.back_len);
@@ -58,8 +60,12 @@ loop-taken-preserved g c =
     }
 
 pub take_signal-requires-clause-known : goal.take_signal-requires-clause-known
-take_signal-requires-clause-known g c = omega (arith, c.requires.known, c.loop-taken.invariant.same c.args.line.customer,
-    c.take_bytes-taken.ensures.step.lines c.args.line.customer)
+take_signal-requires-clause-known g c = omega (
+  arith,
+  c.requires.known,
+  c.loop-taken.invariant.same c.args.line.customer,
+  c.take_bytes-taken.ensures.step.lines c.args.line.customer,
+)
 
 pub returns-in-Err-clause-done : goal.returns-in-Err-clause-done
 returns-in-Err-clause-done g c =
@@ -82,21 +88,24 @@ returns-in-Err-clause-done g c =
     let frame = c.take_bytes-taken.new.out.items in
     let F : List ℕ → Type 0 = λ b. g.W.Wire.passed c.loop-taken.wire c.send.new.wire (Unsent b ∷ []) in
     let unsent = subst F c.deref.ensures.value c.in-Err.ensures.err.0 in
-    let acts = g.met.W.Wire.more _ _ _ _ _ c.loop-taken.invariant.acts unsent in
+    let before = map sent_act (after_bytes start line (take c.loop-taken.taken c.args.piece.now)).sent in
+    let acts = g.met.W.Wire.more c.args.wire.now c.loop-taken.wire c.send.new.wire before (Unsent frame ∷ []) c.loop-taken.invariant.acts unsent in
     let P : List WireAct → Type 0 = λ s. g.W.Wire.passed c.args.wire.now c.send.new.wire s in
     let some : 0 < length frame = omega (arith, c.in-Err.ensures.err.1, ap (λ (b : List ℕ). length b) c.deref.ensures.value) in
     let any : 0 < c.take_bytes-taken.result = c.take_bytes-taken.ensures.progress (omega (arith, c.split_at.ensures.back_len)) in
     let within : n ≤ length c.args.piece.now = omega (arith, c.take_bytes-taken.ensures.within, c.split_at.ensures.back_len) in
     let here : c.take_bytes-taken.new.hub ≡ (hub_run start (Bytes line (take n c.args.piece.now) ∷ [])).parts =
-    sym (ap (λ (h : HubRun). h.parts) (whole_done start (Bytes line (take n c.args.piece.now)) ∙ step_done step)) in
-    (Some n, record {
-      hub = lost_next start c.take_bytes-taken.new.hub c.take_signal.new.hub (Bytes line (take n c.args.piece.now)) line refl here
-          c.take_signal.ensures.hub;
-      acts = subst P (sym (step_unsent step some)) acts;
-      stop = step_stops c.cuts_are_like.ensures step some any within;
-      counts = omega (arith, c.loop-taken.invariant.counts, c.in-Err.ensures.counts);
-      counted = λ _. counted_from _ _ _ c.loop-taken.invariant.counts c.in-Err.ensures.counted;
-    })
+    sym (ap (λ (h : HubRun). h.parts) (whole_done start (Bytes line (take n c.args.piece.now)) ∙ step_done step)) in (
+      Some n,
+      record {
+        hub = lost_next start c.take_bytes-taken.new.hub c.take_signal.new.hub (Bytes line (take n c.args.piece.now)) line refl here
+            c.take_signal.ensures.hub;
+        acts = subst P (sym (step_unsent step some)) acts;
+        stop = step_stops c.cuts_are_like.ensures step some any within;
+        counts = omega (arith, c.loop-taken.invariant.counts, c.in-Err.ensures.counts);
+        counted = λ _. counted_from _ _ _ c.loop-taken.invariant.counts c.in-Err.ensures.counted;
+      },
+    )
 
 pub returns-in-Err-clause-lines : goal.returns-in-Err-clause-lines
 returns-in-Err-clause-lines g c = λ d. c.take_signal.ensures.lines d ∙ c.take_bytes-taken.ensures.step.lines d ∙ c.loop-taken.invariant.same d
@@ -107,14 +116,16 @@ returns-clause-done g c =
     let on : after_bytes c.args.hub.now c.args.line (take c.loop-taken.taken c.args.piece.now)
     ≡ hub_run c.args.hub.now (Bytes c.args.line c.args.piece.now ∷ []) =
     ap (after_bytes c.args.hub.now c.args.line) all ∙ sym (whole_done c.args.hub.now (Bytes c.args.line c.args.piece.now)) in
-    let P : HubRun → Type 0 = λ h. g.W.Wire.passed c.args.wire.now c.loop-taken.wire (map sent_act h.sent) in
-    (None, record {
-      hub = c.loop-taken.invariant.parts ∙ ap (λ (h : HubRun). h.parts) on;
-      acts = subst P on c.loop-taken.invariant.acts;
-      stop = tt;
-      counts = c.loop-taken.invariant.counts;
-      counted = λ never. cc;
-    })
+    let P : HubRun → Type 0 = λ h. g.W.Wire.passed c.args.wire.now c.loop-taken.wire (map sent_act h.sent) in (
+      None,
+      record {
+        hub = c.loop-taken.invariant.parts ∙ ap (λ (h : HubRun). h.parts) on;
+        acts = subst P on c.loop-taken.invariant.acts;
+        stop = tt;
+        counts = c.loop-taken.invariant.counts;
+        counted = λ never. cc;
+      },
+    )
 
 pub returns-clause-lines : goal.returns-clause-lines
 returns-clause-lines g c = c.loop-taken.invariant.same
