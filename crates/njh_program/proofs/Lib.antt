@@ -1,4 +1,5 @@
 mod ArgumentLaws
+mod FileLaws
 mod LineForms
 mod Lines
 mod PrintedParts
