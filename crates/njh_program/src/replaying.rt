@@ -15,7 +15,7 @@ use crate::files::{customer_names, print_files};
 use crate::input::read_text;
 use crate::names::LineNames;
 use crate::printer::Printer;
-use crate::script::events_of;
+use crate::script::{LIMIT, events_of};
 use njh_ebcdic::Name;
 use njh_hub::{Cause, Event, Hub, HubFault, each_is_alone, sent_in_order};
 use njh_table::Tables;
@@ -149,7 +149,7 @@ fn read_events<R: Read>(
         HasBadLine (owner_of tables.now) (R.remaining script.old) number }
     ensures faults { IfErr result MayEnd }
 {
-    let text = read_text(alloc, script)?;
+    let text = read_text(alloc, LIMIT, script)?;
     events_of(alloc, tables, &text)
 }
 
