@@ -1,7 +1,7 @@
 //! One byte after another through the frame grammar.
 ghost use Rattle.std.specs.Prelude.{◌≡◌, ◌<◌, ◌≤◌, [], false, length, IfOk, option_map, vec_len, vec_capacity};
-ghost use Rattle.njh_bisync.specs.Fed.{turn, fed, fed_on, kept_with};
-ghost use Rattle.njh_bisync.specs.Plain.{kept_all};
+ghost use Rattle.njh_bisync.specs.Fed.{turn, fed, kept_with};
+ghost use Rattle.njh_bisync.specs.Plain.{fed_on, kept_all};
 ghost use Rattle.njh_bisync.specs.Frames.{text_or_spoiled, IsShort};
 ghost use Rattle.njh_bisync.specs.Reading.{Nothing, InText};
 ghost use Rattle.njh_bisync.specs.declared.frame.TheConstants.{LONGEST_TEXT};
