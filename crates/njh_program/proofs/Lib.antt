@@ -1,5 +1,7 @@
 mod ArgumentLaws
+mod DigitLaws
 mod LineForms
+mod FoundLines
 mod Lines
 mod PrintedParts
 mod Printing

@@ -2,6 +2,8 @@
 #![tactic(auto)]
 
 mod arguments;
+mod cutting;
+mod digits;
 mod failure;
 mod fault;
 mod input;
