@@ -37,14 +37,18 @@ state_text Sending = ebcdic (codes "SENDING")
 
 -- ---- the replies
 
--- NJH001 LYON.42 TO METZ PAUL OUT 4 RECORDS READY
-unfoldable pub line_of : Option (List ℕ × ℕ) → Option (List ℕ × List ℕ) → Kind → ℕ → State → List ℕ
-line_of name destination kind records state =
-    ebcdic (codes "NJH001 ") ++ name_text name
+-- what is said of a file: LYON.42 TO METZ PAUL OUT 4 RECORDS READY
+unfoldable pub file_text : Option (List ℕ × ℕ) → Option (List ℕ × List ℕ) → Kind → ℕ → State → List ℕ
+file_text name destination kind records state =
+    name_text name
     ++ ebcdic (codes " TO ") ++ destination_text destination
     ++ ebcdic (codes " ") ++ kind_text kind
     ++ ebcdic (codes " ") ++ digits records
     ++ ebcdic (codes " RECORDS ") ++ state_text state
+
+-- NJH001 LYON.42 TO METZ PAUL OUT 4 RECORDS READY
+abbrev pub line_of : Option (List ℕ × ℕ) → Option (List ℕ × List ℕ) → Kind → ℕ → State → List ℕ
+line_of name destination kind records state = ebcdic (codes "NJH001 ") ++ file_text name destination kind records state
 
 abbrev pub file_line : WholeFile → List ℕ
 file_line f = line_of (name_of f.records) (destination_of f.kind f.records) f.kind (length f.records) f.state

@@ -14,7 +14,7 @@ use njh_spool::{FileId, Spool, State};
 use njh_stream::SpoolFile;
 
 /// The number of the file at a place, which is no other file's.
-pub(crate) fn number_of(spool: &Spool, customer: u16, index: u32) -> FileId
+pub fn number_of(spool: &Spool, customer: u16, index: u32) -> FileId
     requires range { customer < length spool.now }
     requires within { index < length (part customer spool.now).whole }
     ensures number { result ≡ (file_at index (part customer spool.now)).number }

@@ -16,6 +16,8 @@ mod texts;
 mod words;
 
 pub use command::{BadCommand, Command};
+pub use files::number_of;
 pub use replies::{MOST_REPLIES, Replies};
 pub use running::{obey, run};
 pub use senders::{Senders, give_up};
+pub use texts::file_text;

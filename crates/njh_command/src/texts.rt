@@ -104,7 +104,6 @@ pub(crate) fn being_sent(name: FileName) -> MessageText
 }
 
 /// NJH001: a file by its name, destination, kind, number of records and state.
-#[tactic(auto, unfolding(crate::specs::Replies::line_of))]
 pub(crate) fn file_line(
     name: FileName,
     destination: Option<Destination>,
@@ -116,7 +115,28 @@ pub(crate) fn file_line(
 {
     let mut text = MessageText::new();
     push_ascii(&mut text, "NJH001 ");
-    push_file_name(&mut text, name);
+    put_bytes(
+        &mut text,
+        &file_text(Some(name), destination, kind, records, state),
+    );
+    text
+}
+
+/// What NJH001 says of a file, behind its number: its name, destination, kind, number of records and state. It leaves out a name or a
+/// destination that there isn't.
+#[tactic(auto, unfolding(crate::specs::Replies::file_text))]
+pub fn file_text(
+    name: Option<FileName>,
+    destination: Option<Destination>,
+    kind: Kind,
+    records: u32,
+    state: State,
+) -> MessageText
+    ensures text { result.items ≡ replies.file_text name destination kind records state }
+    ensures few { length result.items ≤ 72 }
+{
+    let mut text = MessageText::new();
+    push_name(&mut text, name);
     push_ascii(&mut text, " TO ");
     push_destination(&mut text, destination);
     push_ascii(&mut text, " ");
@@ -126,6 +146,17 @@ pub(crate) fn file_line(
     push_ascii(&mut text, " RECORDS ");
     push_state(&mut text, state);
     text
+}
+
+/// Appends a file's name.
+fn push_name(text: &mut MessageText, name: Option<FileName>)
+    requires { length text.old.items + 19 ≤ 148 }
+    ensures text { text.new.items ≡ text.old.items ++ replies.name_text name }
+    ensures few { length text.new.items ≤ length text.old.items + 19 }
+{
+    if let Some(name) = name {
+        push_file_name(text, name);
+    }
 }
 
 /// Appends a destination: the node, and the user where it isn't blank.
@@ -168,7 +199,8 @@ fn push_kind(text: &mut MessageText, kind: Kind)
 /// Appends a file's state.
 fn push_state(text: &mut MessageText, state: State)
     requires { length text.old.items + 8 ≤ 148 }
-    ensures { text.new.items ≡ text.old.items ++ replies.state_text state }
+    ensures text { text.new.items ≡ text.old.items ++ replies.state_text state }
+    ensures few { length text.new.items ≤ length text.old.items + 8 }
 {
     match state {
         State::Ready => push_ascii(text, "READY"),

@@ -1,16 +1,33 @@
--- One customer by itself: its entry in the table, and its lines.
-use Rattle.std.specs.Prelude.{ℕ, List, [], ◌∷◌, map, Option, Some, None}
+-- One customer by itself: its entry in the table, its files, and its lines.
+use Rattle.std.specs.Prelude.{◌≡◌, ℕ, ◌≤◌, All, length, List, [], ◌∷◌, map, replicate, slice_index_or, slice_set, Option, Some, None}
 use Rattle.njh_table.specs.Entries.{CustomerEntry, LineEntry}
 use Rattle.njh_table.specs.declared.Role.{Role}
 use Rattle.njh_table.specs.declared.Role.TheVariants.{Call, Answer}
+use Rattle.njh_spool.specs.CustomerSpool.{CustomerSpool, empty_spool}
+use Rattle.njh_stream.specs.declared.receiver.Receiver.{Receiver}
+use Rattle.njh_stream.specs.declared.receiver.Receiver.TheVariants as receiver
+use Rattle.njh_stream.specs.declared.sender.Sender.{Sender}
+use Rattle.njh_stream.specs.declared.sender.Sender.TheVariants as sender
+use Rattle.njh_stream.specs.Streams.{AreTied}
 use Rattle.njh_line.specs.declared.config.Config.{Config}
 use Rattle.njh_line.specs.declared.config.Role as line_role
 use Rattle.njh_line.specs.declared.config.Role.TheVariants as role
 use Rattle.njh_line.specs.Lines.{LineState, fresh_line}
 
+-- A line with its streams.
+pub record CustomerLine : Type 0 where
+  pub state : LineState  -- its session, and what waits to be sent
+  pub streams : ℕ  -- of each kind
+  pub receivers : List Receiver  -- SYSIN 1 to 4, SYSOUT 1 to 4
+  pub senders : List Sender
+  pub served : ℕ  -- the stream last served
+
 pub record Customer : Type 0 where
   pub entry : CustomerEntry
-  pub lines : List LineState
+  pub spool : CustomerSpool
+  pub lines : List CustomerLine
+
+-- ---- one that was just opened
 
 -- an empty password is none
 abbrev pub password_in : List ℕ → Option (List ℕ)
@@ -30,10 +47,76 @@ config_of entry line = record {
   password = password_in line.password;
 }
 
+-- a line that is down, none of whose streams is about a file
+abbrev pub quiet_line : Config → ℕ → CustomerLine
+quiet_line config streams = record {
+  state = fresh_line config;
+  streams = streams;
+  receivers = replicate 8 receiver.Idle;
+  senders = replicate 8 sender.Idle;
+  served = 7;
+}
+
 -- a customer of a hub that was just opened
 abbrev pub fresh_customer : CustomerEntry → Customer
-fresh_customer entry = record { entry = entry; lines = map (λ line. fresh_line (config_of entry line)) entry.lines }
+fresh_customer entry = record {
+  entry = entry;
+  spool = empty_spool entry.quota entry.files;
+  lines = map (λ line. quiet_line (config_of entry line) line.streams) entry.lines;
+}
 
--- a customer of this entry with these lines
-abbrev pub customer_with : CustomerEntry → List LineState → Customer
-customer_with entry lines = record { entry = entry; lines = lines }
+-- a customer of this entry with these files and lines
+abbrev pub customer_with : CustomerEntry → CustomerSpool → List CustomerLine → Customer
+customer_with entry spool lines = record { entry = entry; spool = spool; lines = lines }
+
+-- ---- its lines
+
+-- a line in the place of one that isn't there
+abbrev pub no_line : CustomerLine
+no_line = record {
+  state = fresh_line (record { hub = []; node = []; role = role.Answer; block = 0; password = None });
+  streams = 0;
+  receivers = [];
+  senders = [];
+  served = 0;
+}
+
+abbrev pub line_at : ℕ → List CustomerLine → CustomerLine
+line_at l lines = slice_index_or lines l no_line
+
+abbrev pub on_line : ℕ → (CustomerLine → CustomerLine) → List CustomerLine → List CustomerLine
+on_line l f lines = slice_set lines l (f (line_at l lines))
+
+abbrev pub with_state : LineState → CustomerLine → CustomerLine
+with_state state x = record x { state = state }
+
+abbrev pub in_state : (LineState → LineState) → CustomerLine → CustomerLine
+in_state f x = with_state (f x.state) x
+
+abbrev pub receiver_at : ℕ → CustomerLine → Receiver
+receiver_at k x = slice_index_or x.receivers k receiver.Idle
+
+abbrev pub with_receiver : ℕ → Receiver → CustomerLine → CustomerLine
+with_receiver k r x = record x { receivers = slice_set x.receivers k r }
+
+abbrev pub sender_at : ℕ → CustomerLine → Sender
+sender_at k x = slice_index_or x.senders k sender.Idle
+
+abbrev pub with_sender : ℕ → Sender → CustomerLine → CustomerLine
+with_sender k s x = record x { senders = slice_set x.senders k s }
+
+-- ---- what ties its parts to each other
+
+-- the streams to the hub, line by line
+abbrev pub streams_to_hub : List CustomerLine → List (List Receiver)
+streams_to_hub lines = map (λ x. x.receivers) lines
+
+-- eight streams to the hub, and at most four of a kind that the peer may use
+abbrev pub HasStreams : CustomerLine → Type 0
+HasStreams x = (length x.receivers ≡ 8) × (x.streams ≤ 4)
+
+-- What a customer's streams keep of its partial files is what those are, and its files stand under its own quota.
+pub record IsCoherent (c : Customer) : Type 0 where
+  pub tied : AreTied (streams_to_hub c.lines) c.spool
+  pub streamed : All HasStreams c.lines
+  pub quota : c.spool.quota ≡ c.entry.quota

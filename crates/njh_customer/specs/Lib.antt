@@ -1,8 +1,15 @@
-pub mod Command
 pub mod Customer
+pub mod Waiting
+pub mod Acting
 pub mod Sending
 pub mod Alone
 pub mod Feeding
 pub mod Part
 pub mod Runs
 pub mod Laws
+pub mod Leading
+pub mod Outgoing
+pub mod Moves
+pub mod Doing
+pub mod MovingLaws
+pub mod Disregarding

@@ -2,9 +2,9 @@
 use Rattle.std.specs.Prelude.{ℕ, List, map, slice_index_or, slice_set}
 use Rattle.njh_bisync.specs.Reading.{Rest, Nothing}
 use Rattle.njh_table.specs.Entries.{CustomerEntry}
-use Rattle.njh_line.specs.Lines.{LineState}
+use Rattle.njh_spool.specs.CustomerSpool.{CustomerSpool}
 use Rattle.njh_customer.specs.declared.signal.Signal.{Signal}
-use Rattle.njh_customer.specs.Customer.{Customer, customer_with, fresh_customer}
+use Rattle.njh_customer.specs.Customer.{Customer, CustomerLine, customer_with, fresh_customer}
 use Rattle.njh_customer.specs.Alone.{signal_came}
 use Rattle.njh_customer.specs.Feeding.{take_step}
 
@@ -19,10 +19,10 @@ opened entry = record { rests = map (λ line. Nothing) entry.lines; customer = f
 -- a customer's lines, and of each what has come of its next frame
 pub record Lines : Type 0 where
   pub rests : List Rest
-  pub states : List LineState
+  pub lines : List CustomerLine
 
-abbrev pub part_with : CustomerEntry → Lines → Part
-part_with entry lines = record { rests = lines.rests; customer = customer_with entry lines.states }
+abbrev pub part_with : CustomerEntry → CustomerSpool → Lines → Part
+part_with entry spool x = record { rests = x.rests; customer = customer_with entry spool x.lines }
 
 -- what has come of the next frame on a line
 abbrev pub rest_at : ℕ → List Rest → Rest

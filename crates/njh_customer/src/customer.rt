@@ -1,156 +1,260 @@
 //! What a frame or a signal on one of a customer's lines does. The frame that answers it is put into `out`, which is empty then where
-//! none does; its block, if it is one, is written in `writer`.
+//! none does.
 
-ghost use Rattle.std.specs.Prelude.{◌≡◌, ◌<◌, length};
+ghost use Rattle.std.specs.Prelude.{◌≡◌, length};
+ghost use Rattle.std.specs.Option.{option_map};
+ghost use Rattle.njh_customer.specs.Feeding.{acted_on};
 ghost use Rattle.njh_bisync.specs.Lent.{received};
 ghost use Rattle.njh_line.specs.LineTable.{shown};
-ghost use Rattle.njh_table.specs.TableFile.{entry_of};
+ghost use Rattle.njh_customer.specs.Acting.{acted_where};
 ghost use Rattle.njh_customer.specs.Alone as alone;
-ghost use Rattle.njh_customer.specs.Customer.{customer_with};
+ghost use Rattle.njh_customer.specs.Leading.{IsReady, Leads, customer_of};
 
+use crate::acting::all_act;
+use crate::customer_lines::CustomerLines;
 use crate::frame_buffer::FrameBuffer;
-use crate::records::all_act;
-use crate::sending::send_reply;
 use crate::signal::Signal;
 use njh_bisync::Frame;
 use njh_block::{Block, BlockWriter};
-use njh_line::{Input, Line, Verdict};
-use njh_table::Customer;
+use njh_line::{Input, Verdict};
+use njh_spool::Spool;
+use njh_stream::streams_stay_tied;
+use njh_table::{LineId, Tables};
 
-/// A frame comes on a line.
-#[tactic(auto, unfolding(crate::specs::Alone::frame_came))]
-pub fn frame_came(
-    customer: &Customer,
-    line: u16,
-    lines: &mut [Line],
-    frame: Frame<'_>,
-    writer: &mut BlockWriter,
+/// A frame comes on a line, where one is whole. The line is ready for more.
+pub(crate) fn take_frame(
+    line: LineId,
+    frame: Option<Frame<'_>>,
+    tables: &Tables,
+    spool: &mut Spool,
+    lines: &mut CustomerLines,
+    block: &mut BlockWriter,
     out: &mut FrameBuffer,
 )
-    requires { line < length lines.old }
-    ensures customer { customer_with (entry_of customer.now) lines.new
-        ≡ (alone.frame_came line (received frame.entry) (customer_with (entry_of customer.now) lines.old)).after }
+    requires ready { IsReady tables.now line spool.old lines.old }
+    ensures after { Leads tables.now line.customer spool.old spool.new lines.new
+        (acted_on line.line (option_map received frame.entry) (customer_of tables.now line.customer spool.old lines.old)).after }
     ensures frame { out.new
-        ≡ (alone.frame_came line (received frame.entry) (customer_with (entry_of customer.now) lines.old)).frame }
+        ≡ (acted_on line.line (option_map received frame.entry) (customer_of tables.now line.customer spool.old lines.old)).frame }
+    ensures ready { IsReady tables.now line spool.new lines.new }
+    ensures count { length lines.new ≡ length lines.old }
+{
+    streams_stay_tied();
+    frame_came(line, frame, tables, spool, lines, block, out);
+}
+
+/// A signal comes on a line. The line is ready for more.
+pub(crate) fn take_signal(
+    line: LineId,
+    signal: Signal,
+    tables: &Tables,
+    spool: &mut Spool,
+    lines: &mut CustomerLines,
+    block: &mut BlockWriter,
+    out: &mut FrameBuffer,
+)
+    requires ready { IsReady tables.now line spool.old lines.old }
+    ensures after { Leads tables.now line.customer spool.old spool.new lines.new
+        (alone.signal_came line.line signal (customer_of tables.now line.customer spool.old lines.old)).after }
+    ensures frame { out.new
+        ≡ (alone.signal_came line.line signal (customer_of tables.now line.customer spool.old lines.old)).frame }
+    ensures ready { IsReady tables.now line spool.new lines.new }
+    ensures count { length lines.new ≡ length lines.old }
+{
+    streams_stay_tied();
+    signal_came(line, signal, tables, spool, lines, block, out);
+}
+
+/// A frame comes on a line, where one is whole.
+#[tactic(auto, unfolding(crate::specs::Alone::frame_came))]
+fn frame_came(
+    line: LineId,
+    frame: Option<Frame<'_>>,
+    tables: &Tables,
+    spool: &mut Spool,
+    lines: &mut CustomerLines,
+    block: &mut BlockWriter,
+    out: &mut FrameBuffer,
+)
+    requires ready { IsReady tables.now line spool.old lines.old }
+    ensures after { Leads tables.now line.customer spool.old spool.new lines.new
+        (acted_on line.line (option_map received frame.entry) (customer_of tables.now line.customer spool.old lines.old)).after }
+    ensures frame { out.new
+        ≡ (acted_on line.line (option_map received frame.entry) (customer_of tables.now line.customer spool.old lines.old)).frame }
 {
     match frame {
-        Frame::Enquiry => input_came(&mut lines[usize::from(line)], &Input::Enquiry, writer, out),
-        Frame::Ack0 => input_came(&mut lines[usize::from(line)], &Input::Ack0, writer, out),
-        Frame::Nak => input_came(&mut lines[usize::from(line)], &Input::Nak, writer, out),
-        Frame::Eot => input_came(&mut lines[usize::from(line)], &Input::Eot, writer, out),
-        Frame::Spoiled => input_came(&mut lines[usize::from(line)], &Input::Spoiled, writer, out),
-        Frame::Text(text) => match Block::read(text) {
-            Ok(block) => block_came(customer, line, lines, block, writer, out),
-            Err(_) => input_came(&mut lines[usize::from(line)], &Input::Bad, writer, out),
+        None => out.clear(),
+        Some(Frame::Enquiry) => input_came(line, &Input::Enquiry, tables, spool, lines, block, out),
+        Some(Frame::Ack0) => input_came(line, &Input::Ack0, tables, spool, lines, block, out),
+        Some(Frame::Nak) => input_came(line, &Input::Nak, tables, spool, lines, block, out),
+        Some(Frame::Eot) => input_came(line, &Input::Eot, tables, spool, lines, block, out),
+        Some(Frame::Spoiled) => input_came(line, &Input::Spoiled, tables, spool, lines, block, out),
+        Some(Frame::Text(text)) => match Block::read(text) {
+            Ok(read) => block_came(line, read, tables, spool, lines, block, out),
+            Err(_) => input_came(line, &Input::Bad, tables, spool, lines, block, out),
         },
     }
 }
 
 /// A signal comes on a line.
 #[tactic(auto, unfolding(crate::specs::Alone::signal_came))]
-pub fn signal_came(
-    customer: &Customer,
-    line: u16,
-    lines: &mut [Line],
+fn signal_came(
+    line: LineId,
     signal: Signal,
-    writer: &mut BlockWriter,
+    tables: &Tables,
+    spool: &mut Spool,
+    lines: &mut CustomerLines,
+    block: &mut BlockWriter,
     out: &mut FrameBuffer,
 )
-    requires { line < length lines.old }
-    ensures customer { customer_with (entry_of customer.now) lines.new
-        ≡ (alone.signal_came line signal (customer_with (entry_of customer.now) lines.old)).after }
+    requires ready { IsReady tables.now line spool.old lines.old }
+    ensures after { Leads tables.now line.customer spool.old spool.new lines.new
+        (alone.signal_came line.line signal (customer_of tables.now line.customer spool.old lines.old)).after }
     ensures frame { out.new
-        ≡ (alone.signal_came line signal (customer_with (entry_of customer.now) lines.old)).frame }
+        ≡ (alone.signal_came line.line signal (customer_of tables.now line.customer spool.old lines.old)).frame }
 {
-    input_came(
-        &mut lines[usize::from(line)],
-        &signal_input(signal),
-        writer,
-        out,
-    );
+    let verdict = accept_signal(line, signal, tables, spool, lines);
+    carry_out(line, verdict, tables, spool, lines, block, out);
 }
 
-/// A signal, as it comes to its line.
-fn signal_input(signal: Signal) -> Input<'static>
-    ensures { shown result ≡ alone.signal_input signal }
+/// The line table judges a signal.
+fn accept_signal(
+    line: LineId,
+    signal: Signal,
+    tables: &Tables,
+    spool: &Spool,
+    lines: &mut CustomerLines,
+) -> Verdict
+    requires ready { IsReady tables.now line spool.now lines.old }
+    ensures verdict { result
+        ≡ alone.verdict_on line.line (alone.signal_input signal) (customer_of tables.now line.customer spool.now lines.old) }
+    ensures after { customer_of tables.now line.customer spool.now lines.new
+        ≡ alone.accepted_on line.line (alone.signal_input signal) (customer_of tables.now line.customer spool.now lines.old) }
+    ensures ready { IsReady tables.now line spool.now lines.new }
 {
-    match signal {
-        Signal::Tick => Input::Tick,
-        Signal::Garbled => Input::Garbled,
-        Signal::Lost => Input::Lost,
-    }
+    streams_stay_tied();
+    lines.accept_signal(line.line, signal)
 }
 
 /// What comes to a line but a good block.
-fn input_came(line: &mut Line, input: &Input<'_>, writer: &mut BlockWriter, out: &mut FrameBuffer)
-    ensures line { line.new ≡ (alone.input_came (shown input.now) line.old).line }
-    ensures frame { out.new ≡ (alone.input_came (shown input.now) line.old).frame }
+fn input_came(
+    line: LineId,
+    input: &Input<'_>,
+    tables: &Tables,
+    spool: &mut Spool,
+    lines: &mut CustomerLines,
+    block: &mut BlockWriter,
+    out: &mut FrameBuffer,
+)
+    requires ready { IsReady tables.now line spool.old lines.old }
+    ensures after { Leads tables.now line.customer spool.old spool.new lines.new
+        (alone.input_came line.line (shown input.now) (customer_of tables.now line.customer spool.old lines.old)).after }
+    ensures frame { out.new
+        ≡ (alone.input_came line.line (shown input.now) (customer_of tables.now line.customer spool.old lines.old)).frame }
 {
-    let verdict = line.accept(input);
-    carry_out(line, verdict, writer, out);
+    let verdict = accept(line, input, tables, spool, lines);
+    carry_out(line, verdict, tables, spool, lines, block, out);
+}
+
+/// The line table judges what comes to a line.
+fn accept(
+    line: LineId,
+    input: &Input<'_>,
+    tables: &Tables,
+    spool: &Spool,
+    lines: &mut CustomerLines,
+) -> Verdict
+    requires ready { IsReady tables.now line spool.now lines.old }
+    ensures verdict { result ≡ alone.verdict_on line.line (shown input.now) (customer_of tables.now line.customer spool.now lines.old) }
+    ensures after { customer_of tables.now line.customer spool.now lines.new
+        ≡ alone.accepted_on line.line (shown input.now) (customer_of tables.now line.customer spool.now lines.old) }
+    ensures ready { IsReady tables.now line spool.now lines.new }
+{
+    streams_stay_tied();
+    lines.accept(line.line, input)
 }
 
 /// A good block comes on a line: its records act where the line table says so, and then it is answered.
 fn block_came(
-    customer: &Customer,
-    line: u16,
-    lines: &mut [Line],
-    block: Block<'_>,
-    writer: &mut BlockWriter,
+    line: LineId,
+    read: Block<'_>,
+    tables: &Tables,
+    spool: &mut Spool,
+    lines: &mut CustomerLines,
+    block: &mut BlockWriter,
     out: &mut FrameBuffer,
 )
-    requires { line < length lines.old }
-    ensures lines { lines.new ≡ (alone.block_came (entry_of customer.now) line block.entry lines.old).lines }
-    ensures frame { out.new ≡ (alone.block_came (entry_of customer.now) line block.entry lines.old).frame }
+    requires ready { IsReady tables.now line spool.old lines.old }
+    ensures after { Leads tables.now line.customer spool.old spool.new lines.new
+        (alone.block_came line.line read.entry (customer_of tables.now line.customer spool.old lines.old)).after }
+    ensures frame { out.new
+        ≡ (alone.block_came line.line read.entry (customer_of tables.now line.customer spool.old lines.old)).frame }
 {
-    let input = block_input(&block);
-    let verdict = lines[usize::from(line)].accept(&input);
-    if act_where(verdict.acts, customer, block, lines) {
-        end_session(&mut lines[usize::from(line)]);
+    let input = Input::Block {
+        bcb: read.bcb(),
+        fcs: read.fcs(),
+        first: read.first_general(),
+    };
+    let verdict = accept(line, &input, tables, spool, lines);
+    if act_where(verdict.acts, line, read, tables, spool, lines) {
+        end_session(line, tables, spool, lines);
         out.clear();
     } else {
-        carry_out(&mut lines[usize::from(line)], verdict, writer, out);
+        carry_out(line, verdict, tables, spool, lines, block, out);
     }
 }
 
 /// The records of a block act where they may. Says whether one ended the session.
-fn act_where(acts: bool, customer: &Customer, block: Block<'_>, lines: &mut [Line]) -> bool
-    ensures ended { result ≡ (alone.acted_where acts (entry_of customer.now) block.entry.items lines.old).ended }
-    ensures lines { lines.new ≡ (alone.acted_where acts (entry_of customer.now) block.entry.items lines.old).lines }
+fn act_where(
+    acts: bool,
+    line: LineId,
+    read: Block<'_>,
+    tables: &Tables,
+    spool: &mut Spool,
+    lines: &mut CustomerLines,
+) -> bool
+    requires ready { IsReady tables.now line spool.old lines.old }
+    ensures ended { result
+        ≡ (acted_where acts line.line read.entry.items (customer_of tables.now line.customer spool.old lines.old)).ended }
+    ensures after { Leads tables.now line.customer spool.old spool.new lines.new
+        (acted_where acts line.line read.entry.items (customer_of tables.now line.customer spool.old lines.old)).customer }
+    ensures ready { IsReady tables.now line spool.new lines.new }
 {
     if acts {
-        all_act(customer, block, lines)
+        all_act(line, read, tables, spool, lines)
     } else {
         false
     }
 }
 
-/// A good block, as it comes to its line.
-fn block_input<'a>(block: &Block<'a>) -> Input<'a>
-    ensures { shown result ≡ alone.block_input block.now }
-{
-    Input::Block {
-        bcb: block.bcb(),
-        fcs: block.fcs(),
-        first: block.first_general(),
-    }
-}
-
 /// Sends what a verdict asks for, and then ends the session where it says so.
-fn carry_out(line: &mut Line, verdict: Verdict, writer: &mut BlockWriter, out: &mut FrameBuffer)
-    ensures line { line.new ≡ (alone.carried_out verdict line.old).line }
-    ensures frame { out.new ≡ (alone.carried_out verdict line.old).frame }
+fn carry_out(
+    line: LineId,
+    verdict: Verdict,
+    tables: &Tables,
+    spool: &mut Spool,
+    lines: &mut CustomerLines,
+    block: &mut BlockWriter,
+    out: &mut FrameBuffer,
+)
+    requires ready { IsReady tables.now line spool.old lines.old }
+    ensures after { Leads tables.now line.customer spool.old spool.new lines.new
+        (alone.carried_out line.line verdict (customer_of tables.now line.customer spool.old lines.old)).after }
+    ensures frame { out.new
+        ≡ (alone.carried_out line.line verdict (customer_of tables.now line.customer spool.old lines.old)).frame }
 {
-    send_reply(line, verdict.reply, writer, out);
+    lines.send_reply(line, verdict.reply, tables, spool, block, out);
     if verdict.ended {
-        line.clear_answers();
+        lines.end_session(line, tables, spool);
     }
 }
 
 /// A record ended the session.
-fn end_session(line: &mut Line)
-    ensures { line.new ≡ alone.session_ended line.old }
+fn end_session(line: LineId, tables: &Tables, spool: &mut Spool, lines: &mut CustomerLines)
+    requires ready { IsReady tables.now line spool.old lines.old }
+    ensures { Leads tables.now line.customer spool.old spool.new lines.new
+        (alone.session_ended line.line (customer_of tables.now line.customer spool.old lines.old)) }
 {
-    line.end();
-    line.clear_answers();
+    lines.end(line.line);
+    lines.end_session(line, tables, spool);
 }

@@ -1,18 +1,23 @@
-//! A customer by itself: its lines, and what bytes and signals on one of them do and send.
+//! A customer by itself: its files and its lines, and what bytes and signals on one of these do and send.
 //!
 //! Nothing here knows of another customer.
 #![tactic(auto)]
 
-mod command;
+mod acting;
 mod customer;
+mod customer_line;
+mod customer_lines;
 mod frame_buffer;
 mod law;
 mod lines;
-mod records;
 mod sending;
 mod signal;
 
 pub use frame_buffer::FrameBuffer;
-pub use law::{cuts_are_like, first_bytes_send_first, no_bytes_do_nothing, steps_follow_bytes};
+pub use law::{
+    bad_texts_change_nothing, cuts_are_like, events_move_so, files_leave_so,
+    first_bytes_send_first, frames_do_so, no_bytes_do_nothing, opened_is_coherent,
+    records_change_so, steps_follow_bytes, streams_move_so,
+};
 pub use lines::Lines;
 pub use signal::Signal;

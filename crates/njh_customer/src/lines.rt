@@ -1,32 +1,37 @@
-//! A customer's lines.
+//! A customer's lines, with what has come of the next frame on each.
 
-ghost use Rattle.std.specs.Prelude.{◌≡◌, ◌<◌, ◌≤◌, length, slice_set, IfOk};
+ghost use Rattle.std.specs.Prelude.{◌≡◌, ◌<◌, ◌≤◌, length, map, slice_set, IfOk};
 ghost use Rattle.njh_bisync.specs.Fed.{fed};
-ghost use Rattle.njh_table.specs.TableFile.{entry_of, password_bytes};
-ghost use Rattle.njh_customer.specs.Customer.{config_of, customer_with, password_in, role_of};
+ghost use Rattle.njh_spool.specs.CustomerSpool.{empty_spool};
+ghost use Rattle.njh_spool.specs.Spools.{part};
+ghost use Rattle.njh_table.specs.TableFile.{customer_at, entry_of, password_bytes};
+ghost use Rattle.njh_customer.specs.Customer.{config_of, password_in, role_of};
 ghost use Rattle.njh_customer.specs.Feeding.{acted_on};
+ghost use Rattle.njh_customer.specs.Leading.{IsReady, Leads, customer_of};
 ghost use Rattle.njh_customer.specs.Part.{rest_at};
 
-use crate::customer::{frame_came, signal_came};
+use crate::customer::{take_frame, take_signal};
+use crate::customer_line::CustomerLine;
+use crate::customer_lines::CustomerLines;
 use crate::frame_buffer::FrameBuffer;
 use crate::signal::Signal;
-use njh_bisync::{Deframer, LONGEST_TEXT};
+use njh_bisync::Deframer;
 use njh_block::{Bcb, BlockWriter, Fcs};
 use njh_ebcdic::Name;
-use njh_line::{Config, Line};
-use njh_table::{Customer, Role};
+use njh_line::Config;
+use njh_spool::Spool;
+use njh_table::{Customer, LineId, Role, Tables};
 use std::alloc::{AllocError, Global};
 use std::marker::Model;
 
-/// The lines of one customer, each with what has come of its next frame.
+/// The lines of one customer, each with what has come of its next frame, and room for the block that is being written.
 ///
 /// The deframers stand beside the lines, so that a text may stay lent from one while its records act on any line.
 #[derive(Drop)]
 pub struct Lines {
     deframers: Vec<Deframer>,
-    lines: Vec<Line>,
-    /// Where their blocks are written; what it holds between two steps is of no matter.
-    writer: BlockWriter,
+    lines: CustomerLines,
+    block: BlockWriter,
 }
 
 impl Model for Lines {
@@ -35,9 +40,9 @@ impl Model for Lines {
 
     ghost Value = { part.Lines };
 
-    ghost view = { λ x. record { rests = x.deframers.items; states = x.lines.items } };
+    ghost view = { λ x. record { rests = x.deframers.items; lines = x.lines } };
 
-    ghost invariant = { λ x. length x.deframers.items ≡ length x.lines.items };
+    ghost invariant = { λ x. length x.deframers.items ≡ length x.lines };
 }
 
 impl Lines {
@@ -45,54 +50,61 @@ impl Lines {
     ghost use Rattle.njh_table.specs.Accepted.{IsLine};
     ghost use Rattle.njh_customer.specs.Part.{opened, part_with, bytes_taken, signal_taken};
 
-    /// The lines of a customer's entry, each down. Out of memory is the only refusal.
+    /// The lines of a customer's entry, each down, with no stream about a file. Want of memory is the only refusal.
     pub fn open(alloc: Global, customer: &Customer) -> Result<Lines, AllocError>
         requires { All IsLine customer.now.lines }
-        ensures { IfOk result (λ lines. part_with (entry_of customer.now) lines ≡ opened (entry_of customer.now)) }
+        ensures { IfOk result (λ lines.
+            part_with (entry_of customer.now) (empty_spool customer.now.quota customer.now.files) lines ≡ opened (entry_of customer.now)) }
     {
         let mut deframers = Vec::new(alloc);
-        let mut lines = Vec::new(alloc);
+        let mut lines = CustomerLines::new(alloc);
         for line in customer.lines() {
             deframers.push(Deframer::new(alloc)?)?;
-            lines.push(Line::new(alloc, config_of(customer, line))?)?;
+            lines.push(CustomerLine::new(alloc, config_of(customer, line), line.streams())?)?;
         }
         Ok(Lines {
             deframers,
             lines,
-            writer: empty_writer(),
+            block: BlockWriter::new(300, Bcb::normal(0), Fcs::nothing_suspended()),
         })
     }
 
     /// How many lines there are.
     pub fn len(&self) -> usize
-        ensures lines { result ≡ length self.now.states }
+        ensures lines { result ≡ length self.now.lines }
         ensures rests { result ≡ length self.now.rests }
     {
         self.lines.len()
     }
 
-    /// One step by bytes of a line: those up to the end of the first frame that is answered, or all. Says how many.
+    /// One step by bytes of a line: those up to the end of the first frame that is answered, or all. Says how many. The frame that is
+    /// sent is put into `out`, which is empty then where none is.
     pub fn take_bytes(
         &mut self,
-        customer: &Customer,
-        line: u16,
+        line: LineId,
         piece: &[u8],
+        tables: &Tables,
+        spool: &mut Spool,
         out: &mut FrameBuffer,
     ) -> usize
-        requires { line < length self.old.states }
-        ensures taken { result ≡ (bytes_taken (part_with (entry_of customer.now) self.old) line piece.now).taken }
+        requires ready { IsReady tables.now line spool.old self.old.lines }
+        ensures taken { result
+            ≡ (bytes_taken (part_with (entry_of (customer_at tables.now line.customer)) (part line.customer spool.old) self.old) line.line piece.now).taken }
         ensures progress { 0 < length piece.now → 0 < result }
         ensures few { result ≤ length piece.now }
-        ensures part { part_with (entry_of customer.now) self.new
-            ≡ (bytes_taken (part_with (entry_of customer.now) self.old) line piece.now).after }
-        ensures count { length self.new.states ≡ length self.old.states }
-        ensures frame { out.new ≡ (bytes_taken (part_with (entry_of customer.now) self.old) line piece.now).frame }
+        ensures part { part_with (entry_of (customer_at tables.now line.customer)) (part line.customer spool.new) self.new
+            ≡ (bytes_taken (part_with (entry_of (customer_at tables.now line.customer)) (part line.customer spool.old) self.old) line.line piece.now).after }
+        ensures others { spool.new ≡ slice_set spool.old line.customer (part line.customer spool.new) }
+        ensures ready { IsReady tables.now line spool.new self.new.lines }
+        ensures count { length self.new.lines ≡ length self.old.lines }
+        ensures frame { out.new
+            ≡ (bytes_taken (part_with (entry_of (customer_at tables.now line.customer)) (part line.customer spool.old) self.old) line.line piece.now).frame }
     {
         out.clear();
         let mut left = piece;
         let mut taken = 0;
         while !left.is_empty() && out.is_empty() {
-            let used = self.take_frame(customer, line, left, out);
+            let used = self.take_frame(line, left, tables, spool, out);
             taken += used;
             let (_, after) = left.split_at(used);
             left = after;
@@ -104,72 +116,72 @@ impl Lines {
     #[tactic(auto, using(crate::proofs::TakingLaws::fed_within, crate::proofs::TakingLaws::fed_some))]
     fn take_frame(
         &mut self,
-        customer: &Customer,
-        line: u16,
+        line: LineId,
         piece: &[u8],
+        tables: &Tables,
+        spool: &mut Spool,
         out: &mut FrameBuffer,
     ) -> usize
-        requires { line < length self.old.states }
-        ensures taken { result ≡ (fed (rest_at line self.old.rests) piece.now).taken }
+        requires ready { IsReady tables.now line spool.old self.old.lines }
+        ensures taken { result ≡ (fed (rest_at line.line self.old.rests) piece.now).taken }
         ensures within { result ≤ length piece.now }
         ensures progress { 0 < length piece.now → 0 < result }
-        ensures rest { rest_at line self.new.rests ≡ (fed (rest_at line self.old.rests) piece.now).rest }
-        ensures rests { self.new.rests ≡ slice_set self.old.rests line (rest_at line self.new.rests) }
-        ensures customer { customer_with (entry_of customer.now) self.new.states
-            ≡ (acted_on line (fed (rest_at line self.old.rests) piece.now).frame
-            (customer_with (entry_of customer.now) self.old.states)).after }
-        ensures count { length self.new.states ≡ length self.old.states }
+        ensures rest { rest_at line.line self.new.rests ≡ (fed (rest_at line.line self.old.rests) piece.now).rest }
+        ensures rests { self.new.rests ≡ slice_set self.old.rests line.line (rest_at line.line self.new.rests) }
+        ensures after { Leads tables.now line.customer spool.old spool.new self.new.lines
+            (acted_on line.line (fed (rest_at line.line self.old.rests) piece.now).frame
+            (customer_of tables.now line.customer spool.old self.old.lines)).after }
+        ensures ready { IsReady tables.now line spool.new self.new.lines }
+        ensures count { length self.new.lines ≡ length self.old.lines }
         ensures frame { out.new
-            ≡ (acted_on line (fed (rest_at line self.old.rests) piece.now).frame
-            (customer_with (entry_of customer.now) self.old.states)).frame }
+            ≡ (acted_on line.line (fed (rest_at line.line self.old.rests) piece.now).frame
+            (customer_of tables.now line.customer spool.old self.old.lines)).frame }
     {
-        let (taken, frame) = self.deframers[usize::from(line)].feed(piece);
-        match frame {
-            Some(frame) => frame_came(
-                customer,
-                line,
-                &mut self.lines,
-                frame,
-                &mut self.writer,
-                out,
-            ),
-            None => out.clear(),
-        }
+        let (taken, frame) = self.deframers[usize::from(line.line)].feed(piece);
+        take_frame(
+            line,
+            frame,
+            tables,
+            spool,
+            &mut self.lines,
+            &mut self.block,
+            out,
+        );
         taken
     }
 
-    /// One step by a signal on a line: a frame that isn't whole is dropped first.
+    /// One step by a signal on a line: a frame that isn't whole is dropped first. The frame that is sent is put into `out`, which is empty
+    /// then where none is.
     pub fn take_signal(
         &mut self,
-        customer: &Customer,
-        line: u16,
+        line: LineId,
         signal: Signal,
+        tables: &Tables,
+        spool: &mut Spool,
         out: &mut FrameBuffer,
     )
-        requires { line < length self.old.states }
-        ensures part { part_with (entry_of customer.now) self.new
-            ≡ (signal_taken (part_with (entry_of customer.now) self.old) line signal).after }
-        ensures count { length self.new.states ≡ length self.old.states }
-        ensures frame { out.new ≡ (signal_taken (part_with (entry_of customer.now) self.old) line signal).frame }
+        requires ready { IsReady tables.now line spool.old self.old.lines }
+        ensures part { part_with (entry_of (customer_at tables.now line.customer)) (part line.customer spool.new) self.new
+            ≡ (signal_taken (part_with (entry_of (customer_at tables.now line.customer)) (part line.customer spool.old) self.old) line.line signal).after }
+        ensures others { spool.new ≡ slice_set spool.old line.customer (part line.customer spool.new) }
+        ensures ready { IsReady tables.now line spool.new self.new.lines }
+        ensures count { length self.new.lines ≡ length self.old.lines }
+        ensures frame { out.new
+            ≡ (signal_taken (part_with (entry_of (customer_at tables.now line.customer)) (part line.customer spool.old) self.old) line.line signal).frame }
     {
-        self.deframers[usize::from(line)].reset();
-        signal_came(
-            customer,
+        self.deframers[usize::from(line.line)].reset();
+        take_signal(
             line,
-            &mut self.lines,
             signal,
-            &mut self.writer,
+            tables,
+            spool,
+            &mut self.lines,
+            &mut self.block,
             out,
         );
     }
 }
-
-/// A writer of blocks, to be restarted for each.
-fn empty_writer() -> BlockWriter {
-    BlockWriter::new(LONGEST_TEXT, Bcb::normal(0), Fcs::nothing_suspended())
-}
-
-/// The configuration of a line, by the table.
+/// What a line is told by the table.
 #[tactic(auto, using(crate::proofs::OpenLaws::password_in_name))]
 fn config_of(customer: &Customer, line: &njh_table::Line) -> Config
     ensures { result ≡ config_of (entry_of customer.now) line.now.entry }

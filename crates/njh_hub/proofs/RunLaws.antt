@@ -1,6 +1,6 @@
 -- Runs of a whole hub, seen by one customer.
 use Rattle.std.proofs.Common.{◌≡◌, ◌≢◌, ℕ, ◌<◌, Bool, true, false, cond, eqb, List, [], ◌∷◌, ◌++◌, length, map, set, refl}
-use Rattle.std.proofs.Common.{ap, sym, ◌∙◌, ⊎_elim, arith}
+use Rattle.std.proofs.Common.{ap, ap₂, sym, ◌∙◌, ⊎_elim, arith}
 use Rattle.std.proofs.lemmas.List.{get_or-set_same, get_or-set_other, length-map, length-set}
 use Rattle.std.proofs.lemmas.Bool.Decides.{eqb_tells}
 use Rattle.std.proofs.Math.ListN.{get_or-map}
@@ -10,7 +10,9 @@ use Rattle.njh_hub.specs.declared.event.Event.{Event}
 use Rattle.njh_customer.specs.Runs.{OwnEvent, Run, event_run, alone_run}
 use Rattle.njh_hub.specs.Own.{line_of, own, events_of, sent_to}
 use Rattle.njh_hub.specs.Whole.{Part, opened, no_entry, no_part, part, sent_by, own_event, hub_run}
-use Rattle.njh_hub.specs.Laws.{IsAlone, EachIsAlone, TwoListsAreLike, entry_at, CustomersNeverMeet}
+use Rattle.njh_hub.specs.Files.{files_of}
+use Rattle.njh_hub.specs.Laws.{IsAlone, EachIsAlone, TwoListsAreLike, CustomersNeverMeet, OthersStay, OwnStepIsOwn}
+use Rattle.njh_hub.specs.Outcome.{Outcome, entry_at}
 
 -- a pair is sent to c or not, before more
 cond-append : {A : Type 0} (b : Bool) (x : A) (xs ys zs : List A) → xs ≡ ys ++ zs → cond b (x ∷ xs) xs ≡ cond b (x ∷ ys) ys ++ zs
@@ -88,11 +90,31 @@ two_lists_are_like c d parts others events more within there alike same =
       sent = one.sent ∙ ap (λ (r : Run). r.sent) runs ∙ sym two.sent;
     }
 
+-- frames and a part make an outcome
+abbrev outcome : List (ℕ × List ℕ) → Part → Outcome
+outcome sent p = record { sent = sent; files = files_of p.customer.spool }
+
 part-opened : (c : ℕ) (entries : List CustomerEntry) → part c (map opened entries) ≡ opened (entry_at c entries)
 part-opened c entries = get_or-map opened entries c no_entry
 
 pub customers_never_meet : CustomersNeverMeet
 customers_never_meet c d entries others events more within there agree same =
-    two_lists_are_like c d (map opened entries) (map opened others) events more
-    (omega (arith, length-map entries opened)) (omega (arith, length-map others opened))
-    (part-opened c entries ∙ ap opened agree ∙ sym (part-opened d others)) same
+    let here : c < length (map opened entries) = omega (arith, within, length-map entries opened) in
+    let like = two_lists_are_like c d (map opened entries) (map opened others) events more here (omega (arith, there, length-map others opened))
+    (part-opened c entries ∙ ap opened agree ∙ sym (part-opened d others)) same in
+    let one = each_is_alone c (map opened entries) events here in
+    let runs : alone_run (part c (map opened entries)) (events_of c events) ≡ alone_run (opened (entry_at c entries)) (events_of c events) =
+    ap (λ (p : Part). alone_run p (events_of c events)) (part-opened c entries) in (
+      ap₂ outcome like.sent like.after,
+      ap₂ outcome (one.sent ∙ ap (λ (r : Run). r.sent) runs) (one.after ∙ ap (λ (r : Run). r.after) runs),
+    )
+
+pub others_stay : OthersStay
+others_stay c parts event apart =
+    let d = (line_of event).customer in
+    get_or-set_other parts d c (event_run (part d parts) (own event)).after no_part apart
+
+pub own_step_is_own : OwnStepIsOwn
+own_step_is_own parts event there =
+    let d = (line_of event).customer in
+    get_or-set_same parts d (event_run (part d parts) (own event)).after no_part there

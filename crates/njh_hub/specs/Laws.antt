@@ -1,10 +1,11 @@
 -- What is said of all runs, over the definitions alone.
-use Rattle.std.specs.Prelude.{◌≡◌, ℕ, ◌<◌, List, ◌++◌, length, map, slice_index_or}
+use Rattle.std.specs.Prelude.{◌≡◌, ◌≢◌, ℕ, ◌<◌, List, ◌++◌, length}
 use Rattle.njh_table.specs.Entries.{CustomerEntry}
 use Rattle.njh_hub.specs.declared.event.Event.{Event}
-use Rattle.njh_customer.specs.Runs.{alone_run}
-use Rattle.njh_hub.specs.Own.{events_of, first_of, sent_to}
-use Rattle.njh_hub.specs.Whole.{Part, opened, no_entry, part, hub_run}
+use Rattle.njh_customer.specs.Runs.{alone_run, event_run}
+use Rattle.njh_hub.specs.Outcome.{alone, entry_at, outcome_of}
+use Rattle.njh_hub.specs.Own.{events_of, first_of, line_of, own, sent_to}
+use Rattle.njh_hub.specs.Whole.{Part, part, hub_event, hub_run}
 
 -- Events lead customer c's part of a hub, and what is sent on its lines, as its own events lead that part alone.
 pub record IsAlone (c : ℕ) (parts : List Part) (events : List Event) : Type 0 where
@@ -27,17 +28,26 @@ TwoListsAreLike =
     c < length parts → d < length others → part c parts ≡ part d others → events_of c events ≡ events_of d more →
     IsLike c d parts others events more
 
--- a customer's entry in a table
-abbrev pub entry_at : ℕ → List CustomerEntry → CustomerEntry
-entry_at c entries = slice_index_or entries c no_entry
-
--- The headline: two hubs that were just opened, of tables that agree on a customer, and two lists of events with the same events of it. It
--- is sent the same on both and stands alike in the end. One of the two may be a hub of its own, where no other customer is.
+-- The headline: two hubs that were just opened, of tables that agree on a customer, and two lists of events with the same events of it. The
+-- frames on its lines and its files are the same on both, and are those of the customer alone on a hub of its own.
 abbrev pub CustomersNeverMeet : Type 0
 CustomersNeverMeet =
     (c d : ℕ) (entries others : List CustomerEntry) (events more : List Event) →
     c < length entries → d < length others → entry_at c entries ≡ entry_at d others → events_of c events ≡ events_of d more →
-    IsLike c d (map opened entries) (map opened others) events more
+    (outcome_of c entries events ≡ outcome_of d others more)
+    × (outcome_of c entries events ≡ alone (entry_at c entries) (events_of c events))
+
+-- ---- one step
+
+-- A step on another customer's line leaves a customer's part as it is.
+abbrev pub OthersStay : Type 0
+OthersStay = (c : ℕ) (parts : List Part) (event : Event) → c ≢ (line_of event).customer → part c (hub_event parts event).parts ≡ part c parts
+
+-- A step on a customer's own line does what it does on a hub of its own, whatever the others hold.
+abbrev pub OwnStepIsOwn : Type 0
+OwnStepIsOwn =
+    (parts : List Part) (event : Event) → (line_of event).customer < length parts →
+    part (line_of event).customer (hub_event parts event).parts ≡ (event_run (part (line_of event).customer parts) (own event)).after
 
 -- a list begins another
 abbrev pub Begins : {X : Type 0} → List X → List X → Type 0

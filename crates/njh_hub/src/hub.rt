@@ -1,38 +1,42 @@
-//! The hub: each customer's lines, and a step for each event on one of them.
+//! The hub: each customer's files and lines, and a step for each event on one of these lines.
 
-ghost use Rattle.std.specs.Prelude.{◌≡◌, ℕ, ◌+◌, ◌<◌, ◌≤◌, ◌↔◌, List, [], length, IsTrue, OnOk, OnErr, IfOk, IsOk, Err};
+ghost use Rattle.std.specs.Prelude.{◌≡◌, ℕ, ◌+◌, ◌<◌, ◌≤◌, ◌↔◌, length, IsTrue, OnOk, OnErr, IfOk, Err};
 ghost use Rattle.std.specs.Vec.{vec_len, vec_capacity};
 ghost use Rattle.njh_customer.specs.Part.{bytes_taken, signal_taken};
+ghost use Rattle.njh_hub.specs.Files.{files_at};
 ghost use Rattle.njh_hub.specs.Steps.{IsStep};
 ghost use Rattle.njh_hub.specs.Whole.{part, HasLine};
 
 use crate::fault::HubFault;
-use crate::file_view::FileView;
+use crate::file_view::{FileView, files_of};
+use crate::opening::{open_lines, open_spool};
 use njh_bisync::LONGEST_FRAME;
-use njh_customer::{FrameBuffer, Lines, Signal};
+use njh_customer::{FrameBuffer, Lines, Signal, opened_is_coherent};
+use njh_spool::Spool;
 use njh_table::{LineId, Tables};
 use std::alloc::Global;
 use std::marker::Model;
 use std::mem;
 
-/// Customers with lines of their own, over one table. A caller sees it as the list of the customers' parts.
+/// Customers with files and lines of their own, over one table and one spool. A caller sees it as the list of the customers' parts.
 #[derive(Drop)]
 pub struct Hub {
     tables: Tables,
+    spool: Spool,
     lines: Vec<Lines>,
     alloc: Global,
 }
 
 impl Model for Hub {
-    ghost use Rattle.std.specs.Prelude.{◌≡◌, List, length};
+    ghost use Rattle.std.specs.Prelude.{List};
     ghost use Rattle.njh_hub.specs.Whole.{Part};
-    ghost use Rattle.njh_hub.specs.Parts.{entries_of, parts_of};
+    ghost use Rattle.njh_hub.specs.Parts.{parts_of, IsHub};
 
     ghost Value = { List Part };
 
-    ghost view = { λ hub. parts_of (entries_of hub.tables) hub.lines.items };
+    ghost view = { λ hub. parts_of hub.tables hub.spool hub.lines.items };
 
-    ghost invariant = { λ hub. length hub.lines.items ≡ length (entries_of hub.tables) };
+    ghost invariant = { λ hub. IsHub hub.tables hub.spool hub.lines.items };
 }
 
 impl Hub {
@@ -40,17 +44,17 @@ impl Hub {
     ghost use Rattle.njh_hub.specs.Whole.{opened};
     ghost use Rattle.njh_hub.specs.Parts.{entries_of};
 
-    /// A hub of these tables, with all the room that its lines need. Want of memory is the only refusal.
+    /// A hub of these tables, with all the room that its files and lines need. Want of memory is the only refusal.
     pub fn open(alloc: Global, tables: Tables) -> Result<Hub, HubFault>
         ensures opened { IfOk result (λ hub. hub ≡ map opened (entries_of tables)) }
         ensures memory { OnErr result (result ≡ Err HubFault.Memory) }
     {
-        let mut lines = Vec::new(alloc);
-        for customer in tables.customers() {
-            lines.push(Lines::open(alloc, customer)?)?;
-        }
+        opened_is_coherent();
+        let spool = open_spool(alloc, &tables)?;
+        let lines = open_lines(alloc, &tables)?;
         Ok(Hub {
             tables,
+            spool,
             lines,
             alloc,
         })
@@ -68,17 +72,20 @@ impl Hub {
         usize::from(line.line) < self.lines[customer].len()
     }
 
-    /// A customer's whole files in their order of arrival. Until files are taken in there are none.
+    /// A customer's whole files in their order of arrival, each with all its records.
+    ///
+    /// `UnknownCustomer` comes where the hub has no such customer, else `Memory` where there was none for the copies.
     pub fn files(&self, customer: u16) -> Result<Vec<FileView>, HubFault>
-        ensures none { IfOk result (λ files. files.items ≡ []) }
-        ensures known { IsOk result ↔ (customer < length self.now) }
-        ensures unknown { OnErr result (result ≡ Err HubFault.UnknownCustomer) }
+        ensures files { IfOk result (λ files. files.items ≡ files_at customer self.now) }
+        ensures known { OnOk result (customer < length self.now) }
+        ensures unknown { ¬ (customer < length self.now) → result ≡ Err HubFault.UnknownCustomer }
+        ensures memory { customer < length self.now → OnErr result (result ≡ Err HubFault.Memory) }
     {
-        if usize::from(customer) < self.lines.len() {
-            Ok(Vec::new(self.alloc))
-        } else {
-            Err(HubFault::UnknownCustomer)
+        if usize::from(customer) >= self.lines.len() {
+            return Err(HubFault::UnknownCustomer);
         }
+        let files = files_of(self.alloc, &self.spool, customer)?;
+        Ok(files)
     }
 
     /// Where the hub's memory comes from.
@@ -98,9 +105,8 @@ impl Hub {
         ensures rests { OnOk result (line.line < length (part line.customer self.old).rests) }
     {
         let mut frame = self.frame_buffer(line, out)?;
-        let customer = self.tables.customer(line.customer);
         let lines = &mut self.lines[usize::from(line.customer)];
-        let taken = lines.take_bytes(customer, line.line, piece, &mut frame);
+        let taken = lines.take_bytes(line, piece, &self.tables, &mut self.spool, &mut frame);
         *out = frame.into_bytes();
         Ok(taken)
     }
@@ -140,9 +146,8 @@ impl Hub {
             IsStep self.old line t.after t.frame out.old result self.new out.new }
     {
         let mut frame = self.frame_buffer(line, out)?;
-        let customer = self.tables.customer(line.customer);
         let lines = &mut self.lines[usize::from(line.customer)];
-        lines.take_signal(customer, line.line, signal, &mut frame);
+        lines.take_signal(line, signal, &self.tables, &mut self.spool, &mut frame);
         *out = frame.into_bytes();
         Ok(())
     }

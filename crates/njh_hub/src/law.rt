@@ -1,6 +1,6 @@
 //! Laws of the definitions: what holds of all runs, whoever computes them.
 
-ghost use Rattle.njh_hub.specs.Laws.{EachIsAlone, TwoListsAreLike, CustomersNeverMeet, SentInOrder};
+ghost use Rattle.njh_hub.specs.Laws.{EachIsAlone, TwoListsAreLike, CustomersNeverMeet, OthersStay, OwnStepIsOwn, SentInOrder};
 
 use njh_customer::first_bytes_send_first;
 
@@ -16,9 +16,19 @@ pub fn two_lists_are_like()
 {}
 
 /// The headline: on any two hubs that were just opened on tables that agree on a customer, after any two lists of events with the same
-/// events of that customer, the frames on its lines and its part are equal. One of the hubs may be a hub of its own.
+/// events of that customer, the frames on its lines and its files are equal, and are those of that customer alone on a hub of its own.
 pub fn customers_never_meet()
     ensures { CustomersNeverMeet }
+{}
+
+/// A step on another customer's line leaves a customer's part as it is, whatever becomes of the blocks that they share.
+pub fn others_stay()
+    ensures { OthersStay }
+{}
+
+/// A step on a customer's own line does what it does on a hub of its own, whatever the others hold.
+pub fn own_step_is_own()
+    ensures { OwnStepIsOwn }
 {}
 
 /// The frames of the first events, and of the first bytes of the next, come first of the frames of all.

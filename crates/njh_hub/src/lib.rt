@@ -4,15 +4,31 @@
 mod event;
 mod fault;
 mod file_view;
+mod headline;
 mod hub;
 mod law;
+mod opening;
+mod reading;
 mod run;
+mod serve;
 mod sink;
+mod turn;
+mod wire;
+mod wire_law;
 
 pub use event::{Event, Piece};
 pub use fault::{Cause, HubFault, RunFault};
-pub use file_view::FileView;
+pub use file_view::{FileRecord, FileView};
+pub use headline::{outcome, two_runs};
 pub use hub::Hub;
-pub use law::{customers_never_meet, each_is_alone, sent_in_order, two_lists_are_like};
+pub use law::{
+    customers_never_meet, each_is_alone, others_stay, own_step_is_own, sent_in_order,
+    two_lists_are_like,
+};
 pub use njh_customer::{Signal, cuts_are_like};
+pub use reading::{Reading, WireFault};
+pub use serve::serve_turns;
 pub use sink::{Sink, SinkFault};
+pub use turn::wire_turn;
+pub use wire::Wire;
+pub use wire_law::own_wires_decide;

@@ -1,7 +1,8 @@
 mod ArgumentLaws
 mod DigitLaws
-mod LineForms
+mod FileLaws
 mod FoundLines
+mod LineForms
 mod Lines
 mod PrintedParts
 mod Printing

@@ -1,4 +1,5 @@
-//! All of the program: replays a script of events through the hub, and prints the frames that the hub sends.
+//! All of the program: replays a script of events through the hub, and prints the frames that the hub sends and then the files that it
+//! holds.
 #![tactic(auto)]
 
 mod arguments;
@@ -6,6 +7,7 @@ mod cutting;
 mod digits;
 mod failure;
 mod fault;
+mod files;
 mod input;
 mod line;
 mod names;

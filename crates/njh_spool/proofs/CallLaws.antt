@@ -11,7 +11,7 @@ use Rattle.njh_spool.specs.declared.State.TheVariants.{Ready}
 use Rattle.njh_spool.specs.declared.file_slot.Stage.{Stage}
 use Rattle.njh_spool.specs.declared.file_slot.Stage.TheVariants.{Partial, Whole}
 use Rattle.njh_spool.specs.declared.file_slot.FileSlot.{FileSlot}
-use Rattle.njh_spool.specs.declared.file_slot.RecordPlace.{RecordPlace}
+use Rattle.njh_spool.specs.declared.file_slot.KeptPlaces.{KeptPlaces}
 use Rattle.njh_spool.specs.declared.customer_files.CustomerFiles.{CustomerFiles}
 use Rattle.njh_spool.specs.Chains.{Chain, StoreValue, empty_chain, with_chain, blocks_of}
 use Rattle.njh_spool.specs.CustomerSpool.{CustomerSpool, cost, stored_size, next_number}
@@ -20,14 +20,14 @@ use Rattle.njh_spool.specs.CustomerSpool.{at_index, rewritten_record}
 use Rattle.njh_spool.specs.Spools.{part}
 use Rattle.njh_spool.specs.Packing.{packed_record, packed, unpacked, IsShort}
 use Rattle.njh_spool.specs.Slots.{Content, content, contents, slot_of, chain_of, free_slot, no_files, is_free, is_partial, is_whole}
-use Rattle.njh_spool.specs.Slots.{whole_file, spool_of, spools_of, IsPlace, IsOwn, IsFile, IsKept}
+use Rattle.njh_spool.specs.Slots.{whole_file, spool_of, spools_of, first_places, ArePlaces, IsOwn, IsFile, IsKept}
 use Rattle.njh_spool.proofs.CostLaws.{cost-rewritten, stored_size-rewritten}
 use Rattle.njh_spool.proofs.IndexLaws.{put, put_again, at_is}
 use Rattle.njh_spool.proofs.KeptLaws.{own_of, HasOwn, Moves, moves}
-use Rattle.njh_spool.proofs.FileLaws.{records_are, file_of, first_place, appended-records, appended-file, size_is}
+use Rattle.njh_spool.proofs.FileLaws.{records_are, file_of, first_are, appended-records, appended-file, size_is}
 use Rattle.njh_spool.proofs.ReadLaws.{partial_stage as stage_of, whole_not_partial as not_partial_of}
 use Rattle.njh_spool.proofs.PackingLaws.{length-packed, length-unpacked}
-use Rattle.njh_spool.proofs.RewriteLaws.{packed-at_index, short-at_index, length-at_index, places-at_index}
+use Rattle.njh_spool.proofs.RewriteLaws.{packed-at_index, short-at_index, length-at_index, place-rewritten}
 use Rattle.njh_spool.proofs.SlotLaws.{whole_from}
 use Rattle.njh_spool.proofs.PartialLaws as partial
 use Rattle.njh_spool.proofs.WholeLaws as whole
@@ -80,15 +80,11 @@ module _ (store : StoreValue) (slots : List FileSlot) (customers : List Customer
       moves store slots customers c n slot' chain' own' kept has small (call (part c spools)) quota blocks file
       (owns.0, owns.1 ∙ ap call (sym has.part))
 
-  empty_file : (slot' : FileSlot) (keys : List ℕ) → slot'.count ≡ 0 → slot'.next ≡ record {
-    record_index = 0;
-    place = 0;
-    mark =
-        record { block = 0; key = 0 };
-  } → IsFile slot' (record { keys = keys; bytes = [] })
+  empty_file : (slot' : FileSlot) (keys : List ℕ) → slot'.count ≡ 0 → slot'.places ≡ first_places → IsFile slot'
+      (record { keys = keys; bytes = [] })
   empty_file slot' keys none first =
       file_of [] slot' (record { keys = keys; bytes = [] }) (λ k d within. absurd (omega arith)) none refl (λ _. none)
-      (omega arith) (first_place [] keys slot'.next first)
+      (omega arith) (first_are [] keys slot'.places first)
 
   pub abandons : (slot' : FileSlot) (own' : CustomerFiles) → is_partial slot.stage ≡ true → slot' ≡ free_slot →
       own' ≡ record own { used = own.used - blocks_of chain.bytes; partial = filter (λ m. not (eqb m n)) own.partial } →
@@ -101,7 +97,7 @@ module _ (store : StoreValue) (slots : List FileSlot) (customers : List Customer
       let left : own'.used ≡ own.used - cost (files n).records = ap (λ (o : CustomerFiles). o.used) now in
       goes (abandoned n) slot' empty_chain own' small (ap (λ (o : CustomerFiles). o.quota) owns)
       (omega (arith, left, enough, blocks_are)) (empty_file slot' [] (ap (λ (x : FileSlot). x.count) free)
-      (ap (λ (x : FileSlot). x.next) free))
+      (ap (λ (x : FileSlot). x.places) free))
       (partial.abandons own files n has.own stage (content slot' empty_chain) own' (ap (λ (x : FileSlot). x.stage) free) now)
 
   pub removes : (slot' : FileSlot) (own' : CustomerFiles) → is_whole slot.stage ≡ true → slot' ≡ free_slot →
@@ -115,7 +111,7 @@ module _ (store : StoreValue) (slots : List FileSlot) (customers : List Customer
       let left : own'.used ≡ own.used - cost (files n).records = ap (λ (o : CustomerFiles). o.used) now in
       goes (removed n) slot' empty_chain own' small (ap (λ (o : CustomerFiles). o.quota) owns)
       (omega (arith, left, enough, blocks_are)) (empty_file slot' [] (ap (λ (x : FileSlot). x.count) free)
-      (ap (λ (x : FileSlot). x.next) free))
+      (ap (λ (x : FileSlot). x.places) free))
       (whole.removes own files n has.own there other (content slot' empty_chain) own' (ap (λ (x : FileSlot). x.stage) free) now)
 
   -- the file has another stage, and is not free
@@ -128,7 +124,7 @@ module _ (store : StoreValue) (slots : List FileSlot) (customers : List Customer
         free = λ free. absurd (let clash : false ≡ true = sym used'
             ∙ free in cc);
         small = file.small;
-        next = file.next;
+        places = file.places;
       }
 
   pub finishes : (own' : CustomerFiles) → is_partial slot.stage ≡ true →
@@ -156,18 +152,18 @@ module _ (store : StoreValue) (slots : List FileSlot) (customers : List Customer
       (goes (with_state n state) slot' chain own small refl refl (restaged (Whole state) refl)
       (whole.changes own files n has.own there other (λ x. record x { state = state }) (content slot' chain) refl refl refl refl)))
 
-  -- another record is read on next
-  pub reads_on : (next : RecordPlace) → is_free slot.stage ≡ false → IsPlace (files n).records chain.keys next → n < 1024 →
-      Moves store slots customers store (set slots (1024 * c + n) (record slot { next = next })) customers c (part c spools)
-  reads_on next used' place small =
-      let slot' : FileSlot = record slot { next = next } in
+  -- it is read on from elsewhere
+  pub reads_on : (kept' : KeptPlaces) → is_free slot.stage ≡ false → ArePlaces (files n).records chain.keys kept' → n < 1024 →
+      Moves store slots customers store (set slots (1024 * c + n) (record slot { places = kept' })) customers c (part c spools)
+  reads_on kept' used' places small =
+      let slot' : FileSlot = record slot { places = kept' } in
       let file = kept.files c n in
       subst (λ (os : List CustomerFiles). Moves store slots customers store (set slots (1024 * c + n) slot') os c
       (part c spools)) customers_same
       (subst (λ (t : StoreValue). Moves store slots customers t (set slots (1024 * c + n) slot') (set customers c own) c
       (part c spools)) (store_same small)
       (goes (λ (s : CustomerSpool). s) slot' chain own small refl refl
-      (record { bytes = file.bytes; short = file.short; free = file.free; small = file.small; next = place })
+      (record { bytes = file.bytes; short = file.short; free = file.free; small = file.small; places = places })
       (subst (λ (fs : ℕ → Content). IsOwn own fs) (sym (put_again files n)) has.own, ap (spool_of own) (put_again files n))))
 
   pub begins : (kind : Kind) (slot' : FileSlot) (own' : CustomerFiles) → length own.whole + length own.partial < own.limit →
@@ -183,7 +179,7 @@ module _ (store : StoreValue) (slots : List FileSlot) (customers : List Customer
       let none : slot'.count ≡ 0 = ap (λ (x : FileSlot). x.count) is in
       let blocks = ap (λ (o : CustomerFiles). o.used) owns in
       let made : IsFile slot' chain = file_of [] slot' chain (λ k d within. absurd (omega arith)) none empty (λ _. none)
-      file.small (first_place [] chain.keys slot'.next (ap (λ (x : FileSlot). x.next) is)) in
+      file.small (first_are [] chain.keys slot'.places (ap (λ (x : FileSlot). x.places) is)) in
       let same : content slot' chain ≡ record { stage = Partial; kind = kind; records = [] } = ap (λ (x : FileSlot). content x chain) is in
       subst (λ (t : StoreValue). Moves store slots customers t (set slots (1024 * c + n) slot') (set customers c own') c
       (begun kind (part c spools))) (store_same small)
@@ -246,9 +242,8 @@ module _ (store : StoreValue) (slots : List FileSlot) (customers : List Customer
       let size : length (with_field at new chain.bytes) ≡ length chain.bytes = ap length bytes ∙ length-packed changed
       ∙ stored_size-rewritten k place new records fits ∙ sym (size_is slot chain file) in
       let made : IsFile slot chain' = file_of changed slot chain' short counted bytes file.free (omega (arith, size, file.small)) (record {
-        before = omega (arith, file.next.before, length-at_index k (rewritten_record place new) records);
-        place = file.next.place ∙ sym (places-at_index slot.next.record_index k place new records fits);
-        mark = file.next.mark;
+        last = place-rewritten k place new records chain.keys slot.places.last fits file.places.last;
+        next = place-rewritten k place new records chain.keys slot.places.next fits file.places.next;
       }) in
       let same : content slot chain' ≡ record { stage = slot.stage; kind = slot.kind; records = changed } =
       ap (λ (rs : List Stored). record { stage = slot.stage; kind = slot.kind; records = rs })

@@ -7,11 +7,12 @@ use Rattle.std.proofs.lemmas.List.Elements.{All-head, All-tail}
 use Rattle.njh_record.specs.Stored.{Stored}
 use Rattle.njh_spool.specs.declared.file_slot.FileSlot.{FileSlot}
 use Rattle.njh_spool.specs.declared.file_slot.RecordPlace.{RecordPlace}
+use Rattle.njh_spool.specs.declared.file_slot.KeptPlaces.{KeptPlaces}
 use Rattle.njh_spool.specs.declared.store.mark.Mark.{Mark}
 use Rattle.njh_spool.specs.Chains.{Chain, IsMark}
 use Rattle.njh_spool.specs.CustomerSpool.{stored_size}
 use Rattle.njh_spool.specs.Packing.{packed_record, packed, unpacked, IsShort}
-use Rattle.njh_spool.specs.Slots.{is_free, IsPlace, IsFile}
+use Rattle.njh_spool.specs.Slots.{is_free, first_place, first_places, IsPlace, ArePlaces, IsFile}
 use Rattle.njh_spool.proofs.PackingLaws.{length-packed_record, length-packed, packed-append, length-unpacked, unpacked-packed}
 
 -- the records of bytes that are packed
@@ -24,26 +25,24 @@ records_are records count bytes short counted is =
 -- a file of these records
 pub file_of : (records : List Stored) (slot : FileSlot) (chain : Chain) → All IsShort records → slot.count ≡ length records →
     chain.bytes ≡ packed records → (is_free slot.stage ≡ true → slot.count ≡ 0) → length chain.bytes ≤ 252 * 65535 →
-    IsPlace records chain.keys slot.next → IsFile slot chain
-file_of records slot chain short counted is free small next =
+    ArePlaces records chain.keys slot.places → IsFile slot chain
+file_of records slot chain short counted is free small places =
     let same = records_are records slot.count chain.bytes short counted is in
     record {
       bytes = is ∙ ap packed (sym same);
       short = subst (λ (rs : List Stored). All IsShort rs) (sym same) short;
       free = free;
       small = small;
-      next = subst (λ (rs : List Stored). IsPlace rs chain.keys slot.next) (sym same) next;
+      places = subst (λ (rs : List Stored). ArePlaces rs chain.keys slot.places) (sym same) places;
     }
 
-pub first_place : (records : List Stored) (keys : List ℕ) (at : RecordPlace) → at ≡ record {
-  record_index = 0;
-  place = 0;
-  mark =
-      record { block = 0; key = 0 };
-} → IsPlace records keys at
-first_place records keys at is =
-    subst (λ (x : RecordPlace). IsPlace records keys x) (sym is)
-    (record { before = omega arith; place = refl; mark = λ above. absurd (omega arith) })
+first_is : (records : List Stored) (keys : List ℕ) → IsPlace records keys first_place
+first_is records keys = record { before = omega arith; place = refl; mark = λ above. absurd (omega arith) }
+
+pub first_are : (records : List Stored) (keys : List ℕ) (kept : KeptPlaces) → kept ≡ first_places → ArePlaces records keys kept
+first_are records keys kept is =
+    subst (λ (x : KeptPlaces). ArePlaces records keys x) (sym is)
+    (record { last = first_is records keys; next = first_is records keys })
 
 All-push : (P : Stored → Type 0) (xs : List Stored) (y : Stored) → All P xs → P y → All P (xs ++ y ∷ [])
 All-push P [] y all here = λ k d within. elim k as (λ k'. k' < 1 → P (get_or (y ∷ []) k' d)) [
@@ -65,6 +64,16 @@ slice_get-front (suc n) (suc i) (x ∷ xs) key found = slice_get-front n i xs ke
 pub mark-grown : (keys keys' : List ℕ) (mark : Mark) → take (length keys) keys' ≡ keys → IsMark keys mark → IsMark keys' mark
 mark-grown keys keys' mark front is = λ above. slice_get-front (length keys) mark.block keys' mark.key
     (ap (λ (ks : List ℕ). slice_get ks mark.block) front ∙ is above)
+
+-- a place stays one where a record more is put last
+place-grown : (records : List Stored) (r : Stored) (keys keys' : List ℕ) (at : RecordPlace) → take (length keys) keys' ≡ keys →
+    IsPlace records keys at → IsPlace (records ++ r ∷ []) keys' at
+place-grown records r keys keys' at front is =
+    record {
+      before = omega (arith, is.before, length-append records (r ∷ []));
+      place = is.place ∙ ap stored_size (sym (take-append-le at.record_index records (r ∷ []) is.before));
+      mark = mark-grown keys keys' at.mark front is.mark;
+    }
 
 -- one record more
 module _ (slot : FileSlot) (chain : Chain) (keys : List ℕ) (r : Stored) (file : IsFile slot chain) (short : IsShort r)
@@ -98,9 +107,8 @@ module _ (slot : FileSlot) (chain : Chain) (keys : List ℕ) (r : Stored) (file 
   appended-file used small =
       file_of longer slot' chain' all_short counted bytes_are
       (λ free. absurd (let clash : false ≡ true = sym used ∙ free in cc)) small (record {
-        before = omega (arith, file.next.before, length-append records (r ∷ []));
-        place = file.next.place ∙ ap stored_size (sym (take-append-le slot.next.record_index records (r ∷ []) file.next.before));
-        mark = mark-grown chain.keys keys slot.next.mark front file.next.mark;
+        last = place-grown records r chain.keys keys slot.places.last front file.places.last;
+        next = place-grown records r chain.keys keys slot.places.next front file.places.next;
       })
 
   pub appended-size : length (chain.bytes ++ packed_record r) ≡ length chain.bytes + (3 + length r.bytes)

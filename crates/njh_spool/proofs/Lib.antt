@@ -25,6 +25,7 @@ pub mod PartialLaws
 pub mod PlaceLaws
 pub mod QuotaLaws
 pub mod ReadLaws
+pub mod ReaderLaws
 pub mod RecordLaws
 pub mod RewriteLaws
 pub mod SlotLaws

@@ -16,7 +16,7 @@ use Rattle.njh_spool.specs.Spools.{IsSound}
 use Rattle.njh_spool.specs.Slots.{Content, contents, slot_of, chain_of, free_slot, no_files}
 use Rattle.njh_spool.specs.Slots.{spools_from, IsOwn, IsFile, IsKept}
 use Rattle.njh_spool.proofs.KeptLaws.{own_of}
-use Rattle.njh_spool.proofs.FileLaws.{file_of, first_place}
+use Rattle.njh_spool.proofs.FileLaws.{file_of, first_are}
 
 abbrev pub opened : Quota → CustomerFiles
 opened q = record { quota = q.blocks; limit = q.files; used = 0; whole = []; partial = [] }
@@ -86,7 +86,7 @@ sum_by-opened (q ∷ quotas) =
 
 empty_file : IsFile free_slot empty_chain
 empty_file = file_of [] free_slot empty_chain (λ k d within. absurd (omega arith)) refl refl (λ _. refl) (omega arith)
-    (first_place [] [] free_slot.next refl)
+    (first_are [] [] free_slot.places refl)
 
 own_opened : (q : Quota) (files : ℕ → Content) → ((n : ℕ) → (files n).stage ≡ Free) → IsWithinLimits q → IsOwn (opened q) files
 own_opened q files free limits =

@@ -7,8 +7,10 @@ use Rattle.std.proofs.lemmas.List.Elements.{All-head, All-tail}
 use Rattle.std.proofs.lemmas.List.Sums.{sum_by-cons}
 use Rattle.njh_record.specs.Bytes.{with_field, two_bytes}
 use Rattle.njh_record.specs.Stored.{Stored}
+use Rattle.njh_spool.specs.declared.file_slot.RecordPlace.{RecordPlace}
 use Rattle.njh_spool.specs.CustomerSpool.{stored_size, at_index, rewritten_record}
 use Rattle.njh_spool.specs.Packing.{packed_record, packed, IsShort}
+use Rattle.njh_spool.specs.Slots.{IsPlace}
 use Rattle.njh_spool.proofs.CostLaws.{length-with_field}
 use Rattle.njh_spool.proofs.PackingLaws.{length-packed_record}
 
@@ -85,7 +87,7 @@ length-at_index zero f (r ∷ records) = refl
 length-at_index (suc k) f (r ∷ records) = ap suc (length-at_index k f records)
 
 -- the places of all records are as they were
-pub places-at_index : (j k place : ℕ) (new : List ℕ) (records : List Stored) → IsSomeAnd (slice_get records k)
+places-at_index : (j k place : ℕ) (new : List ℕ) (records : List Stored) → IsSomeAnd (slice_get records k)
     (λ r. place + length new ≤ length r.bytes) → stored_size (take j (at_index k (rewritten_record place new) records)) ≡
     stored_size (take j records)
 places-at_index j k place new [] fits = refl
@@ -105,3 +107,14 @@ places-at_index (suc j) (suc k) place new (r ∷ records) fits =
       sum_by-cons (λ (x : Stored). 3 + length x.bytes) r (take j records),
       places-at_index j k place new records fits,
     )
+
+-- a place that is kept stays one
+pub place-rewritten : (k place : ℕ) (new : List ℕ) (records : List Stored) (keys : List ℕ) (at : RecordPlace) →
+    IsSomeAnd (slice_get records k) (λ r. place + length new ≤ length r.bytes) → IsPlace records keys at →
+    IsPlace (at_index k (rewritten_record place new) records) keys at
+place-rewritten k place new records keys at fits is =
+    record {
+      before = omega (arith, is.before, length-at_index k (rewritten_record place new) records);
+      place = is.place ∙ sym (places-at_index at.record_index k place new records fits);
+      mark = is.mark;
+    }

@@ -12,20 +12,24 @@ use Rattle.njh_spool.specs.declared.file_slot.Stage.{Stage}
 use Rattle.njh_spool.specs.declared.file_slot.Stage.TheVariants.{Free, Partial, Whole}
 use Rattle.njh_spool.specs.declared.file_slot.FileSlot.{FileSlot}
 use Rattle.njh_spool.specs.declared.file_slot.RecordPlace.{RecordPlace}
+use Rattle.njh_spool.specs.declared.file_slot.KeptPlaces.{KeptPlaces}
 use Rattle.njh_spool.specs.declared.customer_files.CustomerFiles.{CustomerFiles}
 use Rattle.njh_spool.specs.Chains.{Chain, StoreValue, empty_chain, blocks_used, IsMark}
 use Rattle.njh_spool.specs.CustomerSpool.{CustomerSpool, WholeFile, PartialFile, stored_size, used}
 use Rattle.njh_spool.specs.Spools.{IsSound}
 use Rattle.njh_spool.specs.Packing.{packed, unpacked, IsShort}
 
+-- where the first record of any file begins
+abbrev pub first_place : RecordPlace
+first_place = record { record_index = 0; place = 0; mark = record { block = 0; key = 0 } }
+
+-- the places of a file of which no record was read
+abbrev pub first_places : KeptPlaces
+first_places = record { last = first_place; next = first_place }
+
 -- a slot in which no file is
 abbrev pub free_slot : FileSlot
-free_slot = record {
-  stage = Free;
-  kind = In;
-  count = 0;
-  next = record { record_index = 0; place = 0; mark = record { block = 0; key = 0 } };
-}
+free_slot = record { stage = Free; kind = In; count = 0; places = first_places }
 
 -- a customer that the spool does not have
 abbrev pub no_files : CustomerFiles
@@ -109,14 +113,19 @@ pub record IsPlace (records : List Stored) (keys : List ℕ) (at : RecordPlace) 
   pub place : at.place ≡ stored_size (take at.record_index records)
   pub mark : IsMark keys at.mark
 
+-- the places that a file's slot keeps
+pub record ArePlaces (records : List Stored) (keys : List ℕ) (kept : KeptPlaces) : Type 0 where
+  pub last : IsPlace records keys kept.last
+  pub next : IsPlace records keys kept.next
+
 -- what always holds of a slot and its chain: the chain has the bytes of as many records as the slot counts, none where the slot
--- is free, and the record that is read on next begins where the slot says
+-- is free, and records begin at the places that the slot keeps
 pub record IsFile (slot : FileSlot) (chain : Chain) : Type 0 where
   pub bytes : chain.bytes ≡ packed (unpacked slot.count chain.bytes)
   pub short : All IsShort (unpacked slot.count chain.bytes)
   pub free : is_free slot.stage ≡ true → slot.count ≡ 0
   pub small : length chain.bytes ≤ 252 * MOST_BLOCKS
-  pub next : IsPlace (unpacked slot.count chain.bytes) chain.keys slot.next
+  pub places : ArePlaces (unpacked slot.count chain.bytes) chain.keys slot.places
 
 -- what always holds of the spool
 pub record IsKept (store : StoreValue) (slots : List FileSlot) (customers : List CustomerFiles) : Type 0 where

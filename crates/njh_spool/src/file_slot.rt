@@ -23,13 +23,20 @@ pub struct RecordPlace {
     pub mark: Mark,
 }
 
-/// A file's kind and stage, how many records it has, and where the next that is read on begins.
+/// Where the record that was read last begins, and where the one behind it does.
+#[derive(Clone, Copy)]
+pub struct KeptPlaces {
+    pub last: RecordPlace,
+    pub next: RecordPlace,
+}
+
+/// A file's kind and stage, how many records it has, and where it is read on.
 #[derive(Clone, Copy)]
 pub struct FileSlot {
     pub stage: Stage,
     pub kind: Kind,
     pub count: u32,
-    pub next: RecordPlace,
+    pub places: KeptPlaces,
 }
 
 impl RecordPlace {
@@ -38,6 +45,14 @@ impl RecordPlace {
         record_index: 0,
         place: 0,
         mark: FIRST_BLOCK,
+    };
+}
+
+impl KeptPlaces {
+    /// Those of a file of which no record was read.
+    pub const FIRST: KeptPlaces = KeptPlaces {
+        last: RecordPlace::FIRST,
+        next: RecordPlace::FIRST,
     };
 }
 
@@ -52,7 +67,7 @@ impl FileSlot {
             stage,
             kind,
             count: 0,
-            next: RecordPlace::FIRST,
+            places: KeptPlaces::FIRST,
         }
     }
 

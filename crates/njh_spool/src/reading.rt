@@ -5,7 +5,7 @@ ghost use Rattle.njh_spool.specs.Chains.{chain_at, IsMark};
 ghost use Rattle.njh_spool.specs.Packing.{packed_record, unpacked};
 ghost use Rattle.njh_spool.specs.Slots.{IsFile, IsPlace};
 
-use crate::file_slot::{FileSlot, RecordPlace};
+use crate::file_slot::{FileSlot, KeptPlaces, RecordPlace};
 use crate::store::Store;
 use crate::store::mark::Mark;
 use arrayvec::ArrayVec;
@@ -62,7 +62,7 @@ fn place_behind(store: &Store, at: u32, slot: &FileSlot, from: RecordPlace) -> R
     }
 }
 
-/// Where the n-th record begins, looked for from the place that the slot keeps, where this isn't behind it.
+/// Where the n-th record begins, looked for from the last of the places that the slot keeps that isn't behind it.
 pub fn place_of_record(store: &Store, at: u32, slot: &FileSlot, n: u32) -> RecordPlace
     requires range { at < length store.now.chains }
     requires file { IsFile slot.now (chain_at at store.now) }
@@ -70,8 +70,11 @@ pub fn place_of_record(store: &Store, at: u32, slot: &FileSlot, n: u32) -> Recor
     ensures place { IsPlace (unpacked slot.now.count (chain_at at store.now).bytes) (chain_at at store.now).keys result }
     ensures index { result.record_index ≡ n }
 {
-    let mut place = if slot.next.record_index <= n {
-        slot.next
+    let KeptPlaces { last, next } = slot.places;
+    let mut place = if next.record_index <= n {
+        next
+    } else if last.record_index <= n {
+        last
     } else {
         RecordPlace::FIRST
     };
@@ -96,6 +99,7 @@ pub fn read_record(
     ensures record { slice_get (unpacked slot.now.count (chain_at at store.now).bytes) from.record_index
         ≡ Some (record { srcb = result.0; bytes = into.new.items }) }
     ensures place { IsPlace (unpacked slot.now.count (chain_at at store.now).bytes) (chain_at at store.now).keys result.1 }
+    ensures next { result.1.record_index ≡ from.record_index + 1 }
 {
     let head = read_head(store, at, slot, from);
     let begins = from.place + RECORD_HEAD as u32;

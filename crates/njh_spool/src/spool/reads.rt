@@ -6,8 +6,10 @@ ghost use Rattle.njh_spool.specs.Spools.{part, or_no_file, kind_numbered, record
 
 use crate::SpoolFault;
 use crate::file_id::FileId;
+use crate::file_slot::KeptPlaces;
 use crate::places::{place, slot_at};
 use crate::reading::{place_of_record, read_record};
+use crate::record_reader::RecordReader;
 use crate::spool::Spool;
 use njh_record::{Kind, Record};
 
@@ -36,6 +38,18 @@ impl Spool {
         Ok(slot.count)
     }
 
+    /// The records of a file, whole or partial, from the first on. S3 where the number is no file's.
+    pub fn read_all(&self, customer: u16, id: FileId) -> Result<RecordReader<'_>, SpoolFault>
+        requires { customer < length self.now }
+        ensures { result ≡ or_no_file (records_numbered id (part customer self.now)) }
+    {
+        let slot = slot_at(&self.slots, customer, id);
+        if slot.is_free() {
+            return Err(SpoolFault::NoSuchFile);
+        }
+        Ok(RecordReader::of(&self.store, place(customer, id), slot))
+    }
+
     /// Puts the n-th record's bytes into `into` and gives its SRCB. S3 where the number is no file's.
     pub fn record_at(
         &self,
@@ -62,9 +76,9 @@ impl Spool {
         Ok(srcb)
     }
 
-    /// As `record_at`, and keeps in the file's slot where the record begins: reading it again, as where it had no room in a
-    /// block, or the one behind it costs no walk over the file, so reading a file from its first record to its last costs the
-    /// file's bytes. S3 where the number is no file's.
+    /// As `record_at`, and keeps in the file's slot where the record begins and where the one behind it does: reading it
+    /// again, as where it had no room in a block, or the one behind it costs no walk over the file, so reading a file from its
+    /// first record to its last costs the file's bytes. S3 where the number is no file's.
     pub fn read_on(
         &mut self,
         customer: u16,
@@ -87,8 +101,11 @@ impl Spool {
         }
         let at = place(customer, id);
         let begins = place_of_record(&self.store, at, &slot, n);
-        let (srcb, _) = read_record(&self.store, at, &slot, begins, into);
-        slot.next = begins;
+        let (srcb, behind) = read_record(&self.store, at, &slot, begins, into);
+        slot.places = KeptPlaces {
+            last: begins,
+            next: behind,
+        };
         self.slots[at as usize] = slot;
         Ok(srcb)
     }

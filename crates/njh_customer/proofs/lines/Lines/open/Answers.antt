@@ -3,8 +3,8 @@ use Rattle.std.proofs.lemmas.List.{map_more, take_all}
 use Rattle.njh_bisync.specs.Reading.{Rest, Nothing}
 use Rattle.njh_table.specs.Entries.{LineEntry}
 use Rattle.njh_table.specs.TableFile.{NamedLine, entry_of}
-use Rattle.njh_line.specs.Lines.{LineState, fresh_line}
-use Rattle.njh_customer.specs.Customer.{config_of, customer_with}
+use Rattle.njh_spool.specs.CustomerSpool.{empty_spool}
+use Rattle.njh_customer.specs.Customer.{CustomerLine, config_of, customer_with, quiet_line}
 use Rattle.njh_customer.specs.Part.{Part}
 use Rattle.njh_customer.proofs.OpenLaws.{rests_of_lines, states_of_lines}
 use Rattle.njh_customer.proofs.lines.Lines.open.Goals as goal
@@ -14,16 +14,16 @@ loop-line-preserved c =
     let lines : List NamedLine = c.args.customer.now.lines in
     let i = c.loop-line.line-index in
     let entry = entry_of c.args.customer.now in
-    let state : NamedLine → LineState = λ l. fresh_line (config_of entry l.entry) in
+    let state : NamedLine → CustomerLine = λ l. quiet_line (config_of entry l.entry) l.entry.streams in
     let within : i < length lines = omega (arith, ap (λ (ls : List NamedLine). length ls) c.lines-line-items.ensures) in
     let item : c.line-item.result ≡ get_or lines i c.line-item.result =
     c.line-item.is ∙ ap (λ (ls : List NamedLine). get_or ls i c.line-item.result) c.lines-line-items.ensures in
     let rests : c.push.new.self.items ≡ c.loop-line.deframers.items ++ Nothing ∷ [] = search rules in
-    let states : c.push-in-loop-line.new.self.items ≡ c.loop-line.lines.items ++ state c.line-item.result ∷ [] = search rules in
+    let states : c.push-in-loop-line.new.self ≡ c.loop-line.lines ++ state c.line-item.result ∷ [] = search rules in
     record {
       rests = rests ∙ ap (λ (rs : List Rest). rs ++ Nothing ∷ []) c.loop-line.invariant.rests
           ∙ sym (map_more (λ (l : NamedLine). Nothing) lines i c.line-item.result within);
-      states = states ∙ ap (λ (ss : List LineState). ss ++ state c.line-item.result ∷ []) c.loop-line.invariant.states
+      states = states ∙ ap (λ (ss : List CustomerLine). ss ++ state c.line-item.result ∷ []) c.loop-line.invariant.states
           ∙ ap (λ (l : NamedLine). map state (take i lines) ++ state l ∷ []) item
           ∙ sym (map_more state lines i c.line-item.result within);
     }
@@ -32,11 +32,11 @@ pub returns : goal.returns
 returns c =
     let lines : List NamedLine = c.args.customer.now.lines in
     let entry = entry_of c.args.customer.now in
-    let state : NamedLine → LineState = λ l. fresh_line (config_of entry l.entry) in
+    let state : NamedLine → CustomerLine = λ l. quiet_line (config_of entry l.entry) l.entry.streams in
     let all : take c.loop-line.line-index lines
     ≡ lines = take_all _ lines (omega (arith, ap (λ (ls : List NamedLine). length ls) c.lines-line-items.ensures)) in
-    let part_of : List Rest → List LineState → Part = λ rests states. record { rests = rests; customer = customer_with entry states } in
-    ap (λ (rests : List Rest). part_of rests c.loop-line.lines.items)
+    let part_of : List Rest → List CustomerLine → Part = λ rests states. record { rests = rests; customer = customer_with entry (empty_spool entry.quota entry.files) states } in
+    ap (λ (rests : List Rest). part_of rests c.loop-line.lines)
     (c.loop-line.invariant.rests ∙ ap (λ (ls : List NamedLine). map (λ (l : NamedLine). Nothing) ls) all ∙ sym (rests_of_lines lines))
-    ∙ ap (λ (states : List LineState). part_of (map (λ (line : LineEntry). Nothing) entry.lines) states)
+    ∙ ap (λ (states : List CustomerLine). part_of (map (λ (line : LineEntry). Nothing) entry.lines) states)
     (c.loop-line.invariant.states ∙ ap (map state) all ∙ sym (states_of_lines entry lines))

@@ -1,55 +1,55 @@
-use Rattle.std.proofs.Common.{◌≡◌, ℕ, ◌∙◌, List, length, slice_index_or, slice_set, ap, rules, arith}
-use Rattle.njh_table.specs.TableFile.{entry_of}
-use Rattle.njh_customer.specs.Part.{part_with, signal_taken}
-use Rattle.njh_hub.specs.Parts.{entries_of, parts_of}
-use Rattle.njh_hub.specs.Whole.{Part, part}
-use Rattle.njh_hub.proofs.PartsLaws.{Stands, found-there, found, found-line, found-moved, found-lines}
+use Rattle.std.proofs.Common.{◌≡◌, ℕ, ◌∙◌, List, length, get_or, slice_set, ap, subst, sym, rules, arith}
+use Rattle.njh_customer.specs.Part.{signal_taken}
+use Rattle.njh_hub.specs.Parts.{IsHub, parts_of}
+use Rattle.njh_hub.specs.Whole.{Part, HasLine, part}
+use Rattle.njh_hub.proofs.PartsLaws.{found, hub-moved, line-there, step-leads, step-lines, step-others, stepped}
 use Rattle.njh_hub.proofs.hub.Hub.signal.Goals as goal
-
-pub customer-customer-requires : goal.customer-customer-requires
-customer-customer-requires c =
-    let stands : Stands (entries_of c.self.inside.tables) c.self.inside.lines.items c.args.self.now =
-    record { each = c.self.invariant; are = c.self.view_is } in
-    (found-there c.self.inside.tables.customers c.args.line stands c.in_ok-frame.ensures.known).1
 
 pub index_mut-lines-requires : goal.index_mut-lines-requires
 index_mut-lines-requires c =
-    let stands : Stands (entries_of c.self.inside.tables) c.self.inside.lines.items c.args.self.now =
-    record { each = c.self.invariant; are = c.self.view_is } in
-    let there = (found-there c.self.inside.tables.customers c.args.line stands c.in_ok-frame.ensures.known).0 in
-    omega (arith, there, c.self.inside.lines.ok.0)
+    let s = c.self.inside in
+    let known = subst (λ ps. HasLine ps c.args.line) (sym c.self.view_is) c.in_ok-frame.ensures.known in
+    omega (arith, line-there s.tables s.spool s.lines.items c.args.line known, c.self.invariant.lined, s.lines.ok.0)
 
 pub take_signal-requires : goal.take_signal-requires
 take_signal-requires c =
-    let stands : Stands (entries_of c.self.inside.tables) c.self.inside.lines.items c.args.self.now =
-    record { each = c.self.invariant; are = c.self.view_is } in
-    let here : c.index_mut-lines.result.now
-    ≡ slice_index_or c.self.inside.lines.items c.args.line.customer c.index_mut-lines.result.now = search rules in
-    let f = found c.self.inside.tables.customers c.args.line c.customer-customer.result.now c.index_mut-lines.result.now stands
-    c.in_ok-frame.ensures.known c.customer-customer.ensures here in
-    found-line f c.in_ok-frame.ensures.known
+    let s = c.self.inside in
+    let x = c.index_mut-lines.result.now in
+    let here : x ≡ get_or s.lines.items c.args.line.customer x = search rules in
+    let f = found s.tables s.spool s.lines.items c.args.self.now c.args.line x c.self.invariant c.self.view_is c.in_ok-frame.ensures.known here in
+    record { ready = f.ready }
+
+pub invariant_of-self : goal.invariant_of-self
+invariant_of-self c =
+    let s = c.self.inside in
+    let x = c.index_mut-lines.result.now in
+    let t = c.take_signal in
+    let here : x ≡ get_or s.lines.items c.args.line.customer x = search rules in
+    let f = found s.tables s.spool s.lines.items c.args.self.now c.args.line x c.self.invariant c.self.view_is c.in_ok-frame.ensures.known here in
+    let m = stepped s.tables s.spool s.lines.items c.args.self.now c.args.line x f t.new.spool t.new.self t.ensures.others t.ensures.ready t.ensures.count in
+    subst (λ (n : ℕ). IsHub s.tables t.new.spool (slice_set s.lines.items n t.new.self)) (sym c.from.ensures)
+    (hub-moved s.tables s.spool s.lines.items c.args.line.customer t.new.spool t.new.self m)
 
 pub returns : goal.returns
 returns c =
+    let s = c.self.inside in
+    let x = c.index_mut-lines.result.now in
+    let t = c.take_signal in
     let line = c.args.line in
     let known = c.in_ok-frame.ensures.known in
-    let stands : Stands (entries_of c.self.inside.tables) c.self.inside.lines.items c.args.self.now =
-    record { each = c.self.invariant; are = c.self.view_is } in
-    let here : c.index_mut-lines.result.now
-    ≡ slice_index_or c.self.inside.lines.items line.customer c.index_mut-lines.result.now = search rules in
-    let f = found c.self.inside.tables.customers line c.customer-customer.result.now c.index_mut-lines.result.now stands
-    known c.customer-customer.ensures here in
-    let t = signal_taken (part line.customer c.args.self.now) line.line c.args.signal in
-    let moved : part_with (entry_of c.customer-customer.result.now) c.take_signal.new.self ≡ t.after =
-    c.take_signal.ensures.part ∙ ap (λ (p : Part). (signal_taken p line.line c.args.signal).after) f.part_is in
-    let view = λ (n : ℕ). parts_of (entries_of c.self.inside.tables) (slice_set c.self.inside.lines.items n c.take_signal.new.self) in
-    let at = ap view c.from.ensures in
+    let here : x ≡ get_or s.lines.items line.customer x = search rules in
+    let f = found s.tables s.spool s.lines.items c.args.self.now line x c.self.invariant c.self.view_is known here in
+    let m = stepped s.tables s.spool s.lines.items c.args.self.now line x f t.new.spool t.new.self t.ensures.others t.ensures.ready t.ensures.count in
+    let steps = λ (p : Part). signal_taken p line.line c.args.signal in
+    let at = ap (λ (n : ℕ). parts_of s.tables t.new.spool (slice_set s.lines.items n t.new.self)) c.from.ensures in
     record {
-      hub = at ∙ found-moved f c.take_signal.new.self t.after moved;
-      frame = c.into_bytes.ensures.bytes ∙ c.take_signal.ensures.frame
-          ∙ ap (λ (p : Part). (signal_taken p line.line c.args.signal).frame) f.part_is;
+      hub = at ∙ step-leads s.tables s.spool s.lines.items c.args.self.now line x f t.new.spool t.new.self m
+          (steps (part line.customer c.args.self.now)).after (t.ensures.part ∙ ap (λ (p : Part). (steps p).after) f.part_is);
+      others = λ d apart. ap (part d) at
+          ∙ step-others s.tables s.spool s.lines.items c.args.self.now line x f t.new.spool t.new.self m d apart;
+      frame = c.into_bytes.ensures.bytes ∙ t.ensures.frame ∙ ap (λ (p : Part). (steps p).frame) f.part_is;
       lines = λ d. ap (λ (ps : List Part). length (part d ps).customer.lines) at
-          ∙ found-lines f c.take_signal.new.self c.take_signal.ensures.count d;
+          ∙ step-lines s.tables s.spool s.lines.items c.args.self.now line x f t.new.spool t.new.self m d;
       room = c.into_bytes.ensures.room;
       known = known;
       unknown = λ nowhere. absurd (nowhere known);

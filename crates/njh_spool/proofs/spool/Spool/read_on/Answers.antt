@@ -1,10 +1,11 @@
 use Rattle.std.proofs.Common.{◌≡◌, ℕ, ◌+◌, ◌*◌, false, List, length, set}
 use Rattle.std.proofs.Common.{Some, refl, sym, ap, subst, ◌∙◌, arith}
 use Rattle.njh_spool.specs.declared.file_slot.FileSlot.{FileSlot}
+use Rattle.njh_spool.specs.declared.file_slot.KeptPlaces.{KeptPlaces}
 use Rattle.njh_spool.specs.Chains.{Chain, chain_at}
 use Rattle.njh_spool.specs.CustomerSpool.{CustomerSpool}
 use Rattle.njh_spool.specs.Spools.{part, records_numbered}
-use Rattle.njh_spool.specs.Slots.{contents, slot_of, chain_of, is_free, spools_of, IsPlace}
+use Rattle.njh_spool.specs.Slots.{contents, slot_of, chain_of, is_free, spools_of, ArePlaces}
 use Rattle.njh_spool.proofs.IndexLaws.{small_used}
 use Rattle.njh_spool.proofs.KeptLaws.{Moves}
 use Rattle.njh_spool.proofs.CallFinds as finds
@@ -102,9 +103,12 @@ returns-clause-ok c =
     ∙ ap (slice_get (unpacked c.slot_at-slot.result.count (chain_at c.place-at.result c.self.inside.store).bytes)) (sym index)
     ∙ found
 
+abbrev kept : After-read_record-srcb → KeptPlaces
+kept c = record { last = c.place_of_record-begins.result; next = c.read_record-srcb.result.1 }
+
 moved : (c : After-read_record-srcb) → Moves c.self.inside.store c.self.inside.slots.items c.self.inside.customers.items
-    c.self.inside.store (set c.self.inside.slots.items c.place-at.result
-    (record c.slot_at-slot.result { next = c.place_of_record-begins.result })) c.self.inside.customers.items c.args.customer
+    c.self.inside.store (set c.self.inside.slots.items c.place-at.result (record c.slot_at-slot.result { places = kept c }))
+    c.self.inside.customers.items c.args.customer
     (part c.args.customer (spools_of c.self.inside.customers.items (contents c.self.inside.slots.items c.self.inside.store.chains)))
 moved c =
     let same = c.slot_at-slot.ensures ∙ ap (λ (xs : List FileSlot). slot_of xs c.args.customer c.args.id) c.deref.ensures.value in
@@ -113,25 +117,25 @@ moved c =
     let chain = ap (λ (i : ℕ). chain_at i c.self.inside.store) c.place-at.ensures ∙ finds.chain_is c.self.inside.store
     c.self.inside.slots.items c.self.inside.customers.items c.args.customer c.args.id c.self.invariant
     (rw c.self.view_is c.requires.range) small in
-    let place : IsPlace (unpacked (slot_of c.self.inside.slots.items c.args.customer c.args.id).count
+    let places : ArePlaces (unpacked (slot_of c.self.inside.slots.items c.args.customer c.args.id).count
     (chain_of c.self.inside.store.chains c.args.customer c.args.id).bytes)
-    (chain_of c.self.inside.store.chains c.args.customer c.args.id).keys c.place_of_record-begins.result =
-    subst (λ (x : Chain). IsPlace (unpacked (slot_of c.self.inside.slots.items c.args.customer c.args.id).count x.bytes) x.keys
-    c.place_of_record-begins.result) chain
-    (subst (λ (x : FileSlot). IsPlace (unpacked x.count (chain_at c.place-at.result c.self.inside.store).bytes)
-    (chain_at c.place-at.result c.self.inside.store).keys c.place_of_record-begins.result) same c.place_of_record-begins.ensures.place) in
+    (chain_of c.self.inside.store.chains c.args.customer c.args.id).keys (kept c) =
+    subst (λ (x : Chain). ArePlaces (unpacked (slot_of c.self.inside.slots.items c.args.customer c.args.id).count x.bytes) x.keys
+    (kept c)) chain
+    (subst (λ (x : FileSlot). ArePlaces (unpacked x.count (chain_at c.place-at.result c.self.inside.store).bytes)
+    (chain_at c.place-at.result c.self.inside.store).keys (kept c)) same
+    (record { last = c.place_of_record-begins.ensures.place; next = c.read_record-srcb.ensures.place })) in
     subst (λ (i : ℕ). Moves c.self.inside.store c.self.inside.slots.items c.self.inside.customers.items c.self.inside.store
-    (set c.self.inside.slots.items i (record c.slot_at-slot.result { next = c.place_of_record-begins.result }))
-    c.self.inside.customers.items c.args.customer
-    (part c.args.customer (spools_of c.self.inside.customers.items
+    (set c.self.inside.slots.items i (record c.slot_at-slot.result { places = kept c })) c.self.inside.customers.items
+    c.args.customer (part c.args.customer (spools_of c.self.inside.customers.items
     (contents c.self.inside.slots.items c.self.inside.store.chains)))) (sym c.place-at.ensures)
     (subst (λ (x : FileSlot). Moves c.self.inside.store c.self.inside.slots.items c.self.inside.customers.items
-    c.self.inside.store (set c.self.inside.slots.items (1024 * c.args.customer + c.args.id)
-    (record x { next = c.place_of_record-begins.result })) c.self.inside.customers.items c.args.customer
+    c.self.inside.store (set c.self.inside.slots.items (1024 * c.args.customer + c.args.id) (record x { places = kept c }))
+    c.self.inside.customers.items c.args.customer
     (part c.args.customer (spools_of c.self.inside.customers.items
     (contents c.self.inside.slots.items c.self.inside.store.chains)))) (sym same)
     (call.reads_on c.self.inside.store c.self.inside.slots.items c.self.inside.customers.items c.args.customer c.args.id
-    c.self.invariant (rw c.self.view_is c.requires.range) c.place_of_record-begins.result used' place small))
+    c.self.invariant (rw c.self.view_is c.requires.range) (kept c) used' places small))
 
 pub invariant_of-self : goal.invariant_of-self
 invariant_of-self c = (moved (goal.at.invariant_of-self c).After-read_record-srcb).kept

@@ -1,0 +1,155 @@
+-- A customer stays coherent, whatever comes.
+use Rattle.std.proofs.Common.{◌≡◌, ℕ, ◌<◌, Bool, true, false, ◌&&◌, List, [], ◌∷◌, ◌++◌, length, set, get_or, Option, Some, None}
+use Rattle.std.proofs.Common.{refl, sym, ap, subst, ◌∙◌, arith}
+use Rattle.std.specs.Option.{option_map}
+use Rattle.std.proofs.Math.ListN.{get_or-map}
+use Rattle.std.proofs.lemmas.List.{map-set, length-map, length-set}
+use Rattle.std.proofs.lemmas.List.Elements.{All-set}
+use Rattle.njh_block.specs.Codes.{kind_of}
+use Rattle.njh_record.specs.Stored.{Stored}
+use Rattle.njh_record.specs.declared.Kind.{Kind}
+use Rattle.njh_stream.specs.declared.receiver.Receiver.{Receiver}
+use Rattle.njh_stream.specs.declared.receiver.Receiver.TheVariants.{Idle, Open, Draining}
+use Rattle.njh_stream.specs.Arrivals.{answer_on}
+use Rattle.njh_stream.specs.Receiving.{Agrees, Arrival, Request, Data, Long, Abort, Received, received, without_all_open}
+use Rattle.njh_stream.specs.Receiving.{requested, requested_where, closed_by, stored_by}
+use Rattle.njh_stream.specs.Transmissions.{Verdict, Taken, Cancelled, Fitting, is_whole, judged_coming}
+use Rattle.njh_stream.specs.Streams.{AreTied, streams_at, stream_at, with_stream, without_streams}
+use Rattle.njh_spool.specs.CustomerSpool.{CustomerSpool, PartialFile, has_file_room, has_block, has_room_for, partial_numbered, partial_records}
+use Rattle.njh_spool.specs.CustomerSpool.{abandoned, as_whole}
+use Rattle.njh_table.specs.Entries.{CustomerEntry}
+use Rattle.njh_customer.specs.Customer.{Customer, CustomerLine, no_line, line_at, on_line, receiver_at, with_receiver, streams_to_hub, HasStreams, IsCoherent}
+use Rattle.njh_customer.specs.Waiting.{answered}
+use Rattle.njh_customer.specs.Acting.{after_arrival, arrived}
+use Rattle.njh_customer.proofs.ShapeLaws.{shapes, same_streams, streamed_still, answered_shapes, notified_shapes}
+
+-- what the streams of a customer owe to each other, as the crate of streams says it
+abbrev pub ArrivalsTie : Type 0
+ArrivalsTie =
+    (entry : CustomerEntry) (l k : ℕ) (a : Arrival) (lines : List (List Receiver)) (s : CustomerSpool) → l < length lines
+    → k < length (streams_at l lines) → AreTied lines s
+    → AreTied (with_stream l k (received entry l (kind_of k) (stream_at l k lines) a s).receiver lines)
+    (received entry l (kind_of k) (stream_at l k lines) a s).spool
+
+abbrev pub NothingUnties : Type 0
+NothingUnties = (lines : List (List Receiver)) (s t : CustomerSpool) → t.partial ≡ s.partial → AreTied lines s → AreTied lines t
+
+abbrev pub EndsTie : Type 0
+EndsTie =
+    (l : ℕ) (lines : List (List Receiver)) (s : CustomerSpool) → l < length lines → AreTied lines s
+    → AreTied (without_streams l lines) (without_all_open (streams_at l lines) s)
+
+-- the streams are the same, and so are the partial files and the quota
+pub record IsLike (d c : Customer) : Type 0 where
+  pub entry : d.entry ≡ c.entry
+  pub lines : shapes d.lines ≡ shapes c.lines
+  pub partial : d.spool.partial ≡ c.spool.partial
+  pub quota : d.spool.quota ≡ c.spool.quota
+
+pub coherent_still : (d c : Customer) → NothingUnties → IsLike d c → IsCoherent c → IsCoherent d
+coherent_still d c untied like coherent = record {
+  tied = subst (λ lines. AreTied lines d.spool) (sym (same_streams d.lines c.lines like.lines))
+      (untied (streams_to_hub c.lines) c.spool d.spool like.partial coherent.tied);
+  streamed = streamed_still d.lines c.lines like.lines coherent.streamed;
+  quota = like.quota ∙ coherent.quota ∙ ap (λ e. e.quota) (sym like.entry);
+}
+
+-- ---- the stream at a place
+
+pub stream_is : (l k : ℕ) (lines : List CustomerLine) → stream_at l k (streams_to_hub lines) ≡ receiver_at k (line_at l lines)
+stream_is l k lines = ap (λ rs. get_or rs k Idle) (get_or-map (λ x. x.receivers) lines l no_line)
+
+pub agrees_there : (l k : ℕ) (c : Customer) → IsCoherent c → Agrees (kind_of k) (receiver_at k (line_at l c.lines)) c.spool
+agrees_there l k c coherent = subst (λ r. Agrees (kind_of k) r c.spool) (stream_is l k c.lines) (coherent.tied.agree l k)
+
+-- ---- an arrival
+
+requested_quota : (kind : Kind) (s : CustomerSpool) → (requested kind s).spool.quota ≡ s.quota
+requested_quota kind s = at_room (has_file_room s && has_block s)
+  where
+    at_room : (b : Bool) → (requested_where b kind s).spool.quota ≡ s.quota
+    at_room true = refl
+    at_room false = refl
+
+abbrev finished_where : ℕ → CustomerSpool → Option PartialFile → CustomerSpool
+finished_where n s o = elim o [ None ↦ s | Some f ↦ record (abandoned n s) { whole = s.whole ++ as_whole f ∷ [] } ]
+
+closed_quota : (b : Bool) (n : ℕ) (s : CustomerSpool) → (closed_by b n s).spool.quota ≡ s.quota
+closed_quota false n s = refl
+closed_quota true n s = at_file (partial_numbered n s)
+  where
+    at_file : (o : Option PartialFile) → (finished_where n s o).quota ≡ s.quota
+    at_file None = refl
+    at_file (Some f) = refl
+
+stored_quota : (v : Verdict) (kind : Kind) (n : ℕ) (r : Stored) (more : List Stored) (s : CustomerSpool)
+    → (stored_by v kind n r more s).spool.quota ≡ s.quota
+stored_quota Taken kind n r more s = refl
+stored_quota (Cancelled text) kind n r more s = refl
+
+received_quota : (entry : CustomerEntry) (l : ℕ) (kind : Kind) (r : Receiver) (a : Arrival) (s : CustomerSpool)
+    → (received entry l kind r a s).spool.quota ≡ s.quota
+received_quota entry l kind Idle Request s = requested_quota kind s
+received_quota entry l kind Idle (Data srcb bytes) s = refl
+received_quota entry l kind Idle Long s = refl
+received_quota entry l kind Idle Abort s = refl
+received_quota entry l kind Draining Request s = requested_quota kind s
+received_quota entry l kind Draining (Data srcb []) s = refl
+received_quota entry l kind Draining (Data srcb (b ∷ bytes)) s = refl
+received_quota entry l kind Draining Long s = refl
+received_quota entry l kind Draining Abort s = refl
+received_quota entry l kind (Open n progress) Request s = requested_quota kind (abandoned n s)
+received_quota entry l kind (Open n progress) (Data srcb []) s = closed_quota (is_whole (partial_records n s)) n s
+received_quota entry l kind (Open n progress) (Data srcb (b ∷ bytes)) s =
+    let r : Stored = record { srcb = srcb; bytes = b ∷ bytes } in
+    let earlier = partial_records n s in
+    stored_quota (judged_coming entry l kind earlier (Fitting r (has_room_for n r s))) kind n r (earlier ++ r ∷ []) s
+received_quota entry l kind (Open n progress) Long s = refl
+received_quota entry l kind (Open n progress) Abort s = refl
+
+with_streams : (l k : ℕ) (r : Receiver) (lines : List CustomerLine) → streams_to_hub (on_line l (with_receiver k r) lines) ≡ with_stream l k r (streams_to_hub lines)
+with_streams l k r lines =
+    map-set (λ x. x.receivers) lines l (with_receiver k r (line_at l lines))
+    ∙ ap (λ rs. set (streams_to_hub lines) l (set rs k r)) (sym (get_or-map (λ x. x.receivers) lines l no_line))
+
+-- the stream has moved, and nothing was said of it yet
+abbrev moved : ℕ → ℕ → Received → Customer → Customer
+moved l k done c = record c { spool = done.spool; lines = on_line l (with_receiver k done.receiver) c.lines }
+
+keeps_moved :
+    (l k : ℕ) (a : Arrival) (c : Customer) → ArrivalsTie → l < length c.lines → k < 8 → IsCoherent c
+    → IsCoherent (moved l k (received c.entry l (kind_of k) (receiver_at k (line_at l c.lines)) a c.spool) c)
+keeps_moved l k a c arrivals line_there stream_there coherent =
+    let lines = streams_to_hub c.lines in
+    let r = receiver_at k (line_at l c.lines) in
+    let done = received c.entry l (kind_of k) r a c.spool in
+    let eight = coherent.streamed l no_line line_there in
+    let at : streams_at l lines ≡ (line_at l c.lines).receivers = get_or-map (λ x. x.receivers) c.lines l no_line in
+    let there : l < length lines = omega (arith, line_there, length-map c.lines (λ x. x.receivers)) in
+    let in_line : k < length (streams_at l lines) = omega (arith, stream_there, eight.0, ap length at) in
+    let tied = arrivals c.entry l k a lines c.spool there in_line coherent.tied in
+    let now : AreTied (with_stream l k done.receiver lines) done.spool =
+    subst (λ x. let d = received c.entry l (kind_of k) x a c.spool in AreTied (with_stream l k d.receiver lines) d.spool)
+    (stream_is l k c.lines) tied in
+    record {
+      tied = subst (λ rs. AreTied rs done.spool) (sym (with_streams l k done.receiver c.lines)) now;
+      streamed = All-set HasStreams c.lines l (with_receiver k done.receiver (line_at l c.lines))
+          (length-set (line_at l c.lines).receivers k done.receiver ∙ eight.0, eight.1) coherent.streamed;
+      quota = received_quota c.entry l (kind_of k) r a c.spool ∙ coherent.quota;
+    }
+
+pub keeps_arrived :
+    (l k : ℕ) (a : Arrival) (c : Customer) → ArrivalsTie → NothingUnties → l < length c.lines → k < 8 → IsCoherent c
+    → IsCoherent (arrived l k a c)
+keeps_arrived l k a c arrivals untied line_there stream_there coherent =
+    let done = received c.entry l (kind_of k) (receiver_at k (line_at l c.lines)) a c.spool in
+    let lines = on_line l (with_receiver k done.receiver) c.lines in
+    let answer = option_map (answer_on k) done.answer in
+    coherent_still (after_arrival l k done c) (moved l k done c) untied
+    (record {
+      entry = refl;
+      lines = notified_shapes c.entry done.notice (answered l answer lines) ∙ answered_shapes l answer lines;
+      partial = refl;
+      quota = refl;
+    })
+    (keeps_moved l k a c arrivals line_there stream_there coherent)

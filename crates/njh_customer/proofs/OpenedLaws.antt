@@ -1,0 +1,41 @@
+-- A customer that was just opened is coherent.
+use Rattle.std.proofs.Common.{◌≡◌, ℕ, zero, suc, ◌≤◌, List, [], ◌∷◌, map, replicate, get_or, refl}
+use Rattle.std.specs.List.{All}
+use Rattle.std.proofs.lemmas.List.Elements.{All-map}
+use Rattle.njh_stream.specs.declared.receiver.Receiver.{Receiver}
+use Rattle.njh_stream.specs.declared.receiver.Receiver.TheVariants as receiver
+use Rattle.njh_stream.specs.Streams.{AreTied, stream_at}
+use Rattle.njh_spool.specs.CustomerSpool.{CustomerSpool, empty_spool}
+use Rattle.njh_table.specs.Entries.{CustomerEntry, LineEntry}
+use Rattle.njh_customer.specs.Customer.{IsCoherent, HasStreams, config_of, fresh_customer, quiet_line, streams_to_hub}
+
+eight_idle : (k : ℕ) → get_or (replicate 8 receiver.Idle) k receiver.Idle ≡ receiver.Idle
+eight_idle k = idle 8 k
+  where
+    idle : (n k : ℕ) → get_or (replicate n receiver.Idle) k receiver.Idle ≡ receiver.Idle
+    idle zero k = refl
+    idle (suc n) zero = refl
+    idle (suc n) (suc k) = idle n k
+
+no_stream : (entry : CustomerEntry) (lines : List LineEntry) (l k : ℕ)
+    → stream_at l k (streams_to_hub (map (λ line. quiet_line (config_of entry line) line.streams) lines)) ≡ receiver.Idle
+no_stream entry [] l k = refl
+no_stream entry (x ∷ xs) zero k = eight_idle k
+no_stream entry (x ∷ xs) (suc l) k = no_stream entry xs l k
+
+line_of_eight : (entry : CustomerEntry) (line : LineEntry) → line.streams ≤ 4 → HasStreams (quiet_line (config_of entry line) line.streams)
+line_of_eight entry line few = (refl, few)
+
+streamed : (entry : CustomerEntry) (lines : List LineEntry) → All (λ line. line.streams ≤ 4) lines
+    → All HasStreams (map (λ line. quiet_line (config_of entry line) line.streams) lines)
+streamed entry lines few =
+    All-map HasStreams (λ line. quiet_line (config_of entry line) line.streams) lines (λ i d h. line_of_eight entry (get_or lines i d) (few i d h))
+
+pub fresh_coherent : (entry : CustomerEntry) → All (λ line. line.streams ≤ 4) entry.lines
+    → ((lines : List (List Receiver)) (s : CustomerSpool) → ((l k : ℕ) → stream_at l k lines ≡ receiver.Idle) → s.partial ≡ [] → AreTied lines s)
+    → IsCoherent (fresh_customer entry)
+fresh_coherent entry few at_rest = record {
+  tied = at_rest (streams_to_hub (fresh_customer entry).lines) (empty_spool entry.quota entry.files) (no_stream entry entry.lines) refl;
+  streamed = streamed entry entry.lines few;
+  quota = refl;
+}

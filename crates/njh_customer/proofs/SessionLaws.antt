@@ -1,0 +1,193 @@
+-- What a line sends, the end of its session, and all that comes on it leave a customer coherent.
+use Rattle.std.proofs.Common.{◌≡◌, ℕ, ◌<◌, Bool, true, false, List, [], ◌∷◌, length, set, replicate, Option, Some, None, Result, Ok, Err}
+use Rattle.std.proofs.Common.{refl, sym, subst, ◌∙◌, arith, nat_lt, cond}
+use Rattle.std.proofs.Math.ListN.{get_or-map}
+use Rattle.std.proofs.Math.Seq.{map-set_same}
+use Rattle.std.proofs.lemmas.List.{map-set, length-map, length-set, length-replicate}
+use Rattle.std.proofs.lemmas.List.Elements.{All-set}
+use Rattle.njh_bisync.specs.Frames as frame
+use Rattle.njh_bisync.specs.Frames.{Received}
+use Rattle.njh_block.specs.Blocks.{Block, read_block}
+use Rattle.njh_block.specs.declared.fault.BlockFault.{BlockFault}
+use Rattle.njh_spool.specs.CustomerSpool.{CustomerSpool, with_state}
+use Rattle.njh_spool.specs.declared.State.TheVariants.{Ready}
+use Rattle.njh_stream.specs.declared.receiver.Receiver.{Receiver}
+use Rattle.njh_stream.specs.declared.receiver.Receiver.TheVariants as receiver
+use Rattle.njh_stream.specs.declared.sender.Sender.{Sender}
+use Rattle.njh_stream.specs.Receiving.{without_open, without_all_open}
+use Rattle.njh_stream.specs.Sending.{all_ended, ended, file_in, goes_by, tried_again}
+use Rattle.njh_stream.specs.Streams.{AreTied, streams_at}
+use Rattle.njh_sched.specs.NextBlock.{filling}
+use Rattle.njh_sched.specs.Tight.{own_fcs}
+use Rattle.njh_line.specs.LineTable as input
+use Rattle.njh_line.specs.LineTable.{Input}
+use Rattle.njh_line.specs.Lines.{after_end}
+use Rattle.njh_line.specs.declared.verdict.Reply.{Reply}
+use Rattle.njh_line.specs.declared.verdict.Reply.TheVariants as reply
+use Rattle.njh_line.specs.declared.verdict.Verdict.{Verdict}
+use Rattle.njh_customer.specs.declared.signal.Signal.{Signal}
+use Rattle.njh_customer.specs.Customer.{Customer, no_line, line_at, on_line, in_state, streams_to_hub, HasStreams, IsCoherent}
+use Rattle.njh_customer.specs.Sending.{LineSent, outlet_of, own_block, reply_sent}
+use Rattle.njh_customer.specs.Acting.{acted_where}
+use Rattle.njh_customer.specs.Alone.{Step, silent, replied, replied_to, quiet, session_over, session_over_where, session_ended, carried_out, verdict_on}
+use Rattle.njh_customer.specs.Alone.{accepted_on, input_came, block_input, behind_records, block_came, text_read, text_came, received_on, signal_input, frame_came, signal_came}
+use Rattle.njh_customer.specs.Feeding.{acted_on}
+use Rattle.njh_customer.proofs.ShapeLaws.{shape, on_line_shapes}
+use Rattle.njh_customer.proofs.CoherenceLaws.{ArrivalsTie, NothingUnties, EndsTie}
+use Rattle.njh_customer.proofs.StepLaws.{Stays, stays, stays_like, stays_lines, accepted_stays, acted_where_stays}
+use Rattle.njh_customer.proofs.FilledLaws.{filled_kept}
+
+-- two steps
+onward : (e d c : Customer) → Stays e d → Stays d c → Stays e c
+onward e d c later first = record { coherent = later.coherent; lines = later.lines ∙ first.lines }
+
+-- ---- the files of streams whose session ends
+
+abbrev ended_where : Option ℕ → CustomerSpool → CustomerSpool
+ended_where o s = elim o [ Some n ↦ with_state n Ready s | None ↦ s ]
+
+ended_partial : (x : Sender) (s : CustomerSpool) → (ended x s).partial ≡ s.partial
+ended_partial x s = at_file (file_in x)
+  where
+    at_file : (o : Option ℕ) → (ended_where o s).partial ≡ s.partial
+    at_file None = refl
+    at_file (Some n) = refl
+
+ended_quota : (x : Sender) (s : CustomerSpool) → (ended x s).quota ≡ s.quota
+ended_quota x s = at_file (file_in x)
+  where
+    at_file : (o : Option ℕ) → (ended_where o s).quota ≡ s.quota
+    at_file None = refl
+    at_file (Some n) = refl
+
+all_ended_partial : (xs : List Sender) (s : CustomerSpool) → (all_ended xs s).partial ≡ s.partial
+all_ended_partial [] s = refl
+all_ended_partial (x ∷ xs) s = all_ended_partial xs (ended x s) ∙ ended_partial x s
+
+all_ended_quota : (xs : List Sender) (s : CustomerSpool) → (all_ended xs s).quota ≡ s.quota
+all_ended_quota [] s = refl
+all_ended_quota (x ∷ xs) s = all_ended_quota xs (ended x s) ∙ ended_quota x s
+
+without_open_quota : (r : Receiver) (s : CustomerSpool) → (without_open r s).quota ≡ s.quota
+without_open_quota receiver.Idle s = refl
+without_open_quota (receiver.Open n progress) s = refl
+without_open_quota receiver.Draining s = refl
+
+without_all_quota : (rs : List Receiver) (s : CustomerSpool) → (without_all_open rs s).quota ≡ s.quota
+without_all_quota [] s = refl
+without_all_quota (r ∷ rs) s = without_all_quota rs (without_open r s) ∙ without_open_quota r s
+
+module _ (untied : NothingUnties) (ends : EndsTie) where
+  -- ---- what a line sends
+
+  sent_stays : (l : ℕ) (x : LineSent) (c : Customer) → shape x.line ≡ shape (line_at l c.lines) → x.spool.partial ≡ c.spool.partial
+      → x.spool.quota ≡ c.spool.quota → IsCoherent c → Stays (replied l x c).after c
+  sent_stays l x c same partial quota coherent =
+      stays_like untied (replied l x c).after c
+      (record { entry = refl; lines = map-set_same shape c.lines l x.line no_line same; partial = partial; quota = quota }) coherent
+
+  reply_stays : (l : ℕ) (r : Reply) (c : Customer) → IsCoherent c → Stays (replied_to l r c).after c
+  reply_stays l reply.Nothing c coherent = sent_stays l (reply_sent c.entry l reply.Nothing c.spool (line_at l c.lines)) c refl refl refl coherent
+  reply_stays l (reply.Control control) c coherent =
+      sent_stays l (reply_sent c.entry l (reply.Control control) c.spool (line_at l c.lines)) c refl refl refl coherent
+  reply_stays l reply.Again c coherent = sent_stays l (reply_sent c.entry l reply.Again c.spool (line_at l c.lines)) c refl refl refl coherent
+  reply_stays l (reply.SignOn kind) c coherent =
+      sent_stays l (reply_sent c.entry l (reply.SignOn kind) c.spool (line_at l c.lines)) c refl refl refl coherent
+  reply_stays l (reply.Sequence expected) c coherent =
+      sent_stays l (reply_sent c.entry l (reply.Sequence expected) c.spool (line_at l c.lines)) c refl refl refl coherent
+  reply_stays l (reply.Next or_ack0) c coherent =
+      let x = line_at l c.lines in
+      let kept = filled_kept (goes_by c.entry l) (filling (own_block (own_fcs c.spool) x.state) (outlet_of x) c.spool) in
+      sent_stays l (reply_sent c.entry l (reply.Next or_ack0) c.spool x) c refl kept.partial kept.quota coherent
+
+  -- ---- the end of a session
+
+  over_stays : (l : ℕ) (c : Customer) → l < length c.lines → IsCoherent c → Stays (session_over l c) c
+  over_stays l c line_there coherent =
+      let x = line_at l c.lines in
+      let lines = streams_to_hub c.lines in
+      let sent = tried_again c.entry l (all_ended x.senders c.spool) in
+      let here : streams_at l lines ≡ x.receivers = get_or-map (λ y. y.receivers) c.lines l no_line in
+      let there : l < length lines = omega (arith, line_there, length-map c.lines (λ y. y.receivers)) in
+      let tied = ends l lines sent there (untied lines c.spool sent (all_ended_partial x.senders c.spool) coherent.tied) in
+      let after : AreTied (set lines l (replicate (length x.receivers) receiver.Idle)) (without_all_open x.receivers sent) =
+      subst (λ rs. AreTied (set lines l (replicate (length rs) receiver.Idle)) (without_all_open rs sent)) here tied in
+      let eight = coherent.streamed l no_line line_there in
+      record {
+        coherent = record {
+          tied = subst (λ rs. AreTied rs (without_all_open x.receivers sent)) (sym (map-set (λ y. y.receivers) c.lines l (quiet x))) after;
+          streamed = All-set HasStreams c.lines l (quiet x) (length-replicate (length x.receivers) receiver.Idle ∙ eight.0, eight.1) coherent.streamed;
+          quota = without_all_quota x.receivers sent ∙ all_ended_quota x.senders c.spool ∙ coherent.quota;
+        };
+        lines = length-set c.lines l (quiet x);
+      }
+
+  over_where_stays : (b : Bool) (l : ℕ) (c : Customer) → l < length c.lines → IsCoherent c → Stays (session_over_where b l c) c
+  over_where_stays true l c line_there coherent = over_stays l c line_there coherent
+  over_where_stays false l c line_there coherent = stays c coherent
+
+  ended_stays : (l : ℕ) (c : Customer) → l < length c.lines → IsCoherent c → Stays (session_ended l c) c
+  ended_stays l c line_there coherent =
+      let d : Customer = record c { lines = on_line l (in_state after_end) c.lines } in
+      let first = stays_lines untied d.lines c (on_line_shapes l (in_state after_end) c.lines (λ x. refl)) coherent in
+      onward (session_over l d) d c (over_stays l d (omega (arith, line_there, first.lines)) first.coherent) first
+
+  -- ---- what comes on a line
+
+  carried_stays : (l : ℕ) (v : Verdict) (c : Customer) → l < length c.lines → IsCoherent c → Stays (carried_out l v c).after c
+  carried_stays l v c line_there coherent =
+      let d = (replied_to l v.reply c).after in
+      let first = reply_stays l v.reply c coherent in
+      onward (session_over_where v.ended l d) d c (over_where_stays v.ended l d (omega (arith, line_there, first.lines)) first.coherent) first
+
+  input_stays : (l : ℕ) (came : Input) (c : Customer) → l < length c.lines → IsCoherent c → Stays (input_came l came c).after c
+  input_stays l came c line_there coherent =
+      let d = accepted_on l came c in
+      let first = accepted_stays untied l came c coherent in
+      onward (carried_out l (verdict_on l came c) d).after d c (carried_stays l (verdict_on l came c) d (omega (arith, line_there, first.lines)) first.coherent) first
+
+  module _ (arrivals : ArrivalsTie) where
+    behind_stays : (b : Bool) (l : ℕ) (v : Verdict) (c : Customer) → l < length c.lines → IsCoherent c → Stays (behind_records b l v c).after c
+    behind_stays true l v c line_there coherent = ended_stays l c line_there coherent
+    behind_stays false l v c line_there coherent = carried_stays l v c line_there coherent
+
+    block_stays : (l : ℕ) (b : Block) (c : Customer) → l < length c.lines → IsCoherent c → Stays (block_came l b c).after c
+    block_stays l b c line_there coherent =
+        let v = verdict_on l (block_input b) c in
+        let d = accepted_on l (block_input b) c in
+        let a = acted_where v.acts l b.items d in
+        let first = accepted_stays untied l (block_input b) c coherent in
+        let acted = acted_where_stays untied arrivals v.acts l b.items d (omega (arith, line_there, first.lines)) first.coherent in
+        onward (behind_records a.ended l v a.customer).after a.customer c
+        (behind_stays a.ended l v a.customer (omega (arith, line_there, first.lines, acted.lines)) acted.coherent)
+        (onward a.customer d c acted first)
+
+    text_stays : (l : ℕ) (text : List ℕ) (c : Customer) → l < length c.lines → IsCoherent c → Stays (text_came l text c).after c
+    text_stays l text c line_there coherent = at_block (read_block text)
+      where
+        at_block : (b : Result Block BlockFault) → Stays (text_read l b c).after c
+        at_block (Ok b) = block_stays l b c line_there coherent
+        at_block (Err e) = input_stays l input.Bad c line_there coherent
+
+    received_stays : (l : ℕ) (x : Received) (c : Customer) → l < length c.lines → IsCoherent c → Stays (received_on l x c).after c
+    received_stays l frame.Enquiry c line_there coherent = input_stays l input.Enquiry c line_there coherent
+    received_stays l frame.Ack0 c line_there coherent = input_stays l input.Ack0 c line_there coherent
+    received_stays l frame.Nak c line_there coherent = input_stays l input.Nak c line_there coherent
+    received_stays l frame.Eot c line_there coherent = input_stays l input.Eot c line_there coherent
+    received_stays l (frame.Text text) c line_there coherent = text_stays l text c line_there coherent
+    received_stays l frame.Spoiled c line_there coherent = input_stays l input.Spoiled c line_there coherent
+
+    there_stays : (b : Bool) (x : Step) (c : Customer) → IsCoherent c → Stays x.after c → Stays (cond b x (silent c)).after c
+    there_stays true x c coherent after = after
+    there_stays false x c coherent after = stays c coherent
+
+    pub frame_stays : (l : ℕ) (o : Option Received) (c : Customer) → l < length c.lines → IsCoherent c → Stays (acted_on l o c).after c
+    unfolding frame_came
+    frame_stays l None c line_there coherent = stays c coherent
+    frame_stays l (Some x) c line_there coherent =
+        there_stays (nat_lt l (length c.lines)) (received_on l x c) c coherent (received_stays l x c line_there coherent)
+
+    pub signal_stays : (l : ℕ) (x : Signal) (c : Customer) → l < length c.lines → IsCoherent c → Stays (signal_came l x c).after c
+    unfolding signal_came
+    signal_stays l x c line_there coherent =
+        there_stays (nat_lt l (length c.lines)) (input_came l (signal_input x) c) c coherent (input_stays l (signal_input x) c line_there coherent)

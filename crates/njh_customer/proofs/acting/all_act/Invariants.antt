@@ -1,0 +1,17 @@
+use Rattle.std.proofs.Common.{◌≡◌, length, slice_set}
+use Rattle.njh_spool.specs.Spools.{part}
+use Rattle.njh_customer.specs.Acting.{all_acted}
+use Rattle.njh_customer.specs.Leading.{IsReady, customer_of}
+use Rattle.njh_customer.proofs.acting.all_act.Given as goal
+
+-- what is left to act is what leads on from here
+abbrev pub invariant-records : goal.invariant-records
+invariant-records l = record {
+  rest : all_acted l.line.line l.block.items (customer_of l.tables l.line.customer l.spool l.lines)
+      ≡ all_acted l.line.line l.fn.block.items (customer_of l.tables l.line.customer l.fn.spool l.fn.lines);
+  others : l.spool ≡ slice_set l.fn.spool l.line.customer (part l.line.customer l.spool);
+  ready : IsReady l.tables l.line l.spool l.lines;
+}
+
+abbrev pub decreases-records : goal.decreases-records
+decreases-records l = length l.block.items

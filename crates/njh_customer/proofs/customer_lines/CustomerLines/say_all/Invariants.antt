@@ -1,0 +1,9 @@
+use Rattle.std.proofs.Common.{◌≡◌, map, drop}
+use Rattle.njh_table.specs.TableFile.{entry_of}
+use Rattle.njh_customer.specs.Waiting.{all_said}
+use Rattle.njh_customer.proofs.customer_lines.CustomerLines.say_all.Given as goal
+
+abbrev pub invariant-loop-text : goal.invariant-loop-text
+invariant-loop-text l =
+    all_said (entry_of l.customer) (l.node, l.user) (map (λ t. t.items) (drop l.text-index l.text-items)) l.self
+    ≡ all_said (entry_of l.customer) (l.node, l.user) l.replies l.initial.self

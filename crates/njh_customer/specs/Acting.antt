@@ -1,0 +1,150 @@
+-- What the records of a block do to a customer, one after the other (IBM SC23-0070, multileaving).
+use Rattle.std.specs.Prelude.{ℕ, Bool, true, false, List, [], ◌∷◌, fold, map, Option, Some, None, Result, Ok, Err, ◌==◌, ◌||◌, cond}
+use Rattle.std.specs.Option.{option_map}
+use Rattle.njh_block.specs.Blocks.{Item, Data, Aborted, Long, Control, General, stream_number, stream_of}
+use Rattle.njh_block.specs.Codes.{kind_of}
+use Rattle.njh_block.specs.declared.answer.Answer.{Answer}
+use Rattle.njh_block.specs.declared.rcb.ControlRcb.TheVariants.{Refusal}
+use Rattle.njh_header.specs.Texts.{node_unknown}
+use Rattle.njh_nmr.specs.declared.fault.NmrFault.{NmrFault}
+use Rattle.njh_nmr.specs.Nodal.{Nodal, nodal_of, is_user_command, cut_after_message}
+use Rattle.njh_table.specs.Entries.{route_of}
+use Rattle.njh_table.specs.declared.Route.{Route}
+use Rattle.njh_table.specs.declared.Route.TheVariants.{Here, Line, Unknown}
+use Rattle.njh_stream.specs.declared.sender.Sender.{Sender}
+use Rattle.njh_stream.specs.Arrivals.{answer_on}
+use Rattle.njh_stream.specs.Receiving as receiving
+use Rattle.njh_stream.specs.Receiving.{Arrival, Received, received}
+use Rattle.njh_stream.specs.Sending.{Sent, granted, refused, completed}
+use Rattle.njh_command.specs.Commands.{commanded, without_file, Outcome}
+use Rattle.njh_customer.specs.Customer.{Customer, CustomerLine, line_at, on_line, receiver_at, with_receiver, sender_at, with_sender}
+use Rattle.njh_customer.specs.Waiting.{answered, waits, said, all_said, notified}
+
+-- ---- streams to the hub
+
+-- an arrival on a stream of a line leaves this, is answered so, and the owner of the file is told so
+abbrev pub after_arrival : ℕ → ℕ → Received → Customer → Customer
+after_arrival l k done c = record c {
+  spool = done.spool;
+  lines = notified c.entry done.notice (answered l (option_map (answer_on k) done.answer) (on_line l (with_receiver k done.receiver) c.lines));
+}
+
+abbrev pub arrived : ℕ → ℕ → Arrival → Customer → Customer
+arrived l k a c = after_arrival l k (received c.entry l (kind_of k) (receiver_at k (line_at l c.lines)) a c.spool) c
+
+-- by an RCB, which may name no stream of the line
+abbrev pub stream_came : ℕ → Option ℕ → Arrival → Customer → Customer
+stream_came l None a c = c
+stream_came l (Some k) a c = arrived l k a c
+
+-- ---- streams from the hub
+
+abbrev pub with_sent : ℕ → ℕ → Sent → Customer → Customer
+with_sent l k sent c = record c { spool = sent.spool; lines = on_line l (with_sender k sent.sender) c.lines }
+
+abbrev pub permitted : ℕ → ℕ → Customer → Customer
+permitted l k c = record c { lines = on_line l (with_sender k (granted (sender_at k (line_at l c.lines)))) c.lines }
+
+-- A0, B0 and C0 of the peer
+abbrev pub answer_came : ℕ → ℕ → ℕ → Customer → Customer
+answer_came l rcb k c =
+    cond (rcb == 0xa0) (permitted l k c)
+    (cond (rcb == 0xb0) (with_sent l k (refused (sender_at k (line_at l c.lines)) c.spool) c)
+    (cond (rcb == 0xc0) (with_sent l k (completed (sender_at k (line_at l c.lines)) c.spool) c) c))
+
+-- ---- control records
+
+-- the answer to a request for a stream that the line doesn't have: a refusal, where it names one at all
+abbrev pub refusal_of : ℕ → Option ℕ → Option Answer
+refusal_of srcb None = None
+refusal_of srcb (Some n) = Some (record { rcb = Refusal; stream = record { byte = srcb } })
+
+abbrev pub request_came : ℕ → ℕ → Option ℕ → Customer → Customer
+request_came l srcb None c = record c { lines = answered l (refusal_of srcb (stream_number srcb)) c.lines }
+request_came l srcb (Some k) c = arrived l k receiving.Request c
+
+abbrev pub peer_answered : ℕ → ℕ → Option ℕ → Customer → Customer
+peer_answered l rcb None c = c
+peer_answered l rcb (Some k) c = answer_came l rcb k c
+
+abbrev pub control_came : ℕ → ℕ → ℕ → Customer → Customer
+control_came l rcb srcb c =
+    let stream = stream_of (line_at l c.lines).streams srcb in
+    cond (rcb == 0x90) (request_came l srcb stream c) (peer_answered l rcb stream c)
+
+-- ---- nodal messages
+
+abbrev pub with_senders_by : (Sender → Sender) → CustomerLine → CustomerLine
+with_senders_by f x = record x { senders = map f x.senders }
+
+-- a file was cancelled that was being sent: its stream gives it up
+abbrev pub given_up : List CustomerLine → ℕ → List CustomerLine
+given_up lines n = map (with_senders_by (without_file n)) lines
+
+abbrev pub with_outcome : Nodal → Outcome → Customer → Customer
+with_outcome n done c = record c {
+  spool = done.spool;
+  lines = all_said c.entry (n.origin, n.user) done.replies (fold given_up c.lines done.cancelled);
+}
+
+-- a command of a user to the hub
+abbrev pub command_came : Nodal → Customer → Customer
+command_came n c = with_outcome n (commanded c.entry (n.origin, n.user) n.message c.spool) c
+
+-- the sender of a command is told that nobody has the node
+abbrev pub unknown_told : Nodal → Customer → Customer
+unknown_told n c = record c { lines = said c.entry (n.origin, n.user) (node_unknown n.to) c.lines }
+
+-- A message that came on a line, by the route of its node: the hub's own are commands of users, others are sent on, but not back, and of a
+-- node that nobody has the user hears who commanded something.
+abbrev pub message_routed : ℕ → Nodal → List ℕ → Route → Customer → Customer
+message_routed l n bytes Here c = cond (is_user_command n) (command_came n c) c
+message_routed l n bytes (Line k) c = cond (k == l) c (record c { lines = waits k (cut_after_message bytes) c.lines })
+message_routed l n bytes Unknown c = cond (is_user_command n) (unknown_told n c) c
+
+-- what is no nodal message is ignored
+abbrev pub message_read : ℕ → List ℕ → Result Nodal NmrFault → Customer → Customer
+message_read l bytes (Err e) c = c
+message_read l bytes (Ok n) c = message_routed l n bytes (route_of c.entry n.to) c
+
+abbrev pub message_came : ℕ → List ℕ → Customer → Customer
+message_came l bytes c = message_read l bytes (nodal_of bytes) c
+
+-- ---- every record
+
+-- a record with bytes: a nodal message, or one of a stream
+abbrev pub data_came : ℕ → ℕ → ℕ → List ℕ → Customer → Customer
+data_came l rcb srcb bytes c =
+    cond (rcb == 0x9a) (message_came l bytes c) (stream_came l (stream_of (line_at l c.lines).streams rcb) (receiving.Data srcb bytes) c)
+
+-- what a record does that ends no session
+abbrev pub acted : ℕ → Item → Customer → Customer
+acted l (Data rcb srcb bytes) c = data_came l rcb srcb bytes c
+acted l (Aborted rcb srcb) c = stream_came l (stream_of (line_at l c.lines).streams rcb) receiving.Abort c
+acted l (Long rcb srcb) c = stream_came l (stream_of (line_at l c.lines).streams rcb) receiving.Long c
+acted l (Control rcb srcb) c = control_came l rcb srcb c
+acted l (General srcb rest) c = c
+
+-- a count that the peer didn't expect (E0), and of the general records the sign-ons I, J and K and the sign-off B
+abbrev pub ends_session : Item → Bool
+ends_session (Control rcb srcb) = rcb == 0xe0
+ends_session (General srcb rest) = (srcb == 0xc9) || ((srcb == 0xd1) || ((srcb == 0xc2) || (srcb == 0xd2)))
+ends_session _ = false
+
+-- The customer after records, and whether one ended the session.
+pub record Acted : Type 0 where
+  pub ended : Bool
+  pub customer : Customer
+
+-- the records act in their order, up to one that ends the session
+abbrev pub ended_or : Bool → Customer → Acted → Acted
+ended_or true c later = record { ended = true; customer = c }
+ended_or false c later = later
+
+abbrev pub all_acted : ℕ → List Item → Customer → Acted
+all_acted l [] c = record { ended = false; customer = c }
+all_acted l (i ∷ is) c = ended_or (ends_session i) c (all_acted l is (acted l i c))
+
+abbrev pub acted_where : Bool → ℕ → List Item → Customer → Acted
+acted_where true l items c = all_acted l items c
+acted_where false l items c = record { ended = false; customer = c }

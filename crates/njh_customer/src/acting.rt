@@ -1,0 +1,366 @@
+//! What the records of a block do, one after the other.
+
+ghost use Rattle.std.specs.Prelude.{◌≡◌, ◌<◌, ◌≤◌, ℕ, List, length, slice_set, Some};
+ghost use Rattle.njh_block.specs.Blocks.{control_byte, stream_number, stream_of};
+ghost use Rattle.njh_header.specs.Texts.{node_unknown};
+ghost use Rattle.njh_nmr.specs.Nodal.{cut_after_message, record_of};
+ghost use Rattle.njh_block.specs.Shown.{shown};
+ghost use Rattle.njh_spool.specs.Spools.{part};
+ghost use Rattle.njh_stream.specs.Arrivals.{IsShort, arrival_of};
+ghost use Rattle.njh_stream.specs.Receiving as receiving;
+ghost use Rattle.njh_stream.specs.Sending as sending;
+ghost use Rattle.njh_table.specs.TableFile.{entry_of};
+ghost use Rattle.njh_customer.specs.Acting as acting;
+ghost use Rattle.njh_customer.specs.Customer.{line_at, on_line, sender_at, with_sender};
+ghost use Rattle.njh_customer.specs.Leading.{IsReady, Leads, customer_of};
+ghost use Rattle.njh_customer.specs.Waiting.{said, waits};
+
+use crate::customer_lines::CustomerLines;
+use njh_block::{Answer, Block, ControlRcb, Item, Rcb, Stream};
+use njh_command::obey;
+use njh_header::node_unknown;
+use njh_nmr::Nmr;
+use njh_record::Record;
+use njh_spool::Spool;
+use njh_stream::{Arrival, streams_stay_tied};
+use njh_table::{Customer, LineId, Route, Tables};
+
+/// An arrival on a stream of a line.
+fn arrive(
+    line: LineId,
+    stream: Stream,
+    arrival: Arrival<'_>,
+    tables: &Tables,
+    spool: &mut Spool,
+    lines: &mut CustomerLines,
+)
+    requires ready { IsReady tables.now line spool.old lines.old }
+    requires short { IsShort (arrival_of arrival) }
+    ensures { Leads tables.now line.customer spool.old spool.new lines.new
+        (acting.arrived line.line stream (arrival_of arrival.entry) (customer_of tables.now line.customer spool.old lines.old)) }
+{
+    let mut receiver = lines.line(line.line).receiver(stream);
+    let step = receiver.step(arrival, stream, line, tables, spool);
+    lines.set_receiver(line.line, stream, receiver);
+    lines.push_answer(line.line, step.answer);
+    lines.notify(tables.customer(line.customer), step.notice);
+}
+
+/// An arrival on a stream, where the RCB names one of the line.
+fn arrive_where(
+    line: LineId,
+    stream: Option<Stream>,
+    arrival: Arrival<'_>,
+    tables: &Tables,
+    spool: &mut Spool,
+    lines: &mut CustomerLines,
+)
+    requires ready { IsReady tables.now line spool.old lines.old }
+    requires short { IsShort (arrival_of arrival) }
+    ensures { Leads tables.now line.customer spool.old spool.new lines.new
+        (acting.stream_came line.line stream (arrival_of arrival.entry) (customer_of tables.now line.customer spool.old lines.old)) }
+{
+    if let Some(stream) = stream {
+        arrive(line, stream, arrival, tables, spool, lines);
+    }
+}
+
+/// The stream of a line that an RCB names.
+fn stream_at(line: u16, rcb: Rcb, lines: &CustomerLines) -> Option<Stream>
+    requires { line < length lines.now }
+    ensures { result ≡ stream_of (line_at line lines.now).streams rcb.byte }
+{
+    rcb.stream(lines.line(line).streams())
+}
+
+/// The peer's answer to a stream from the hub: permission, refusal, completion, or what isn't one.
+fn take_answer(
+    line: LineId,
+    rcb: ControlRcb,
+    stream: Stream,
+    tables: &Tables,
+    spool: &mut Spool,
+    lines: &mut CustomerLines,
+)
+    requires ready { IsReady tables.now line spool.old lines.old }
+    ensures { Leads tables.now line.customer spool.old spool.new lines.new
+        (acting.answer_came line.line (control_byte rcb) stream (customer_of tables.now line.customer spool.old lines.old)) }
+{
+    let mut sender = lines.line(line.line).sender(stream);
+    match rcb {
+        ControlRcb::Permission => {
+            sender.granted();
+            lines.set_sender(line.line, stream, sender);
+        }
+        ControlRcb::Refusal => {
+            sender.refused(line.customer, spool);
+            lines.set_sender(line.line, stream, sender);
+        }
+        ControlRcb::Completion => {
+            sender.completed(line.customer, spool);
+            lines.set_sender(line.line, stream, sender);
+        }
+        ControlRcb::Request | ControlRcb::Ready | ControlRcb::SequenceError => {}
+    }
+}
+
+/// A control record that the peer sends: a request, or the answer to one of the hub's.
+fn take_control(
+    line: LineId,
+    rcb: ControlRcb,
+    named: Rcb,
+    tables: &Tables,
+    spool: &mut Spool,
+    lines: &mut CustomerLines,
+)
+    requires ready { IsReady tables.now line spool.old lines.old }
+    ensures { Leads tables.now line.customer spool.old spool.new lines.new
+        (acting.control_came line.line (control_byte rcb) named.byte (customer_of tables.now line.customer spool.old lines.old)) }
+{
+    let stream = stream_at(line.line, named, lines);
+    match rcb {
+        ControlRcb::Request => take_request(line, named, stream, tables, spool, lines),
+        ControlRcb::Permission
+        | ControlRcb::Refusal
+        | ControlRcb::Completion
+        | ControlRcb::Ready
+        | ControlRcb::SequenceError => {
+            if let Some(stream) = stream {
+                take_answer(line, rcb, stream, tables, spool, lines);
+            }
+        }
+    }
+}
+
+/// A request; one for a stream that the line doesn't have is refused.
+fn take_request(
+    line: LineId,
+    named: Rcb,
+    stream: Option<Stream>,
+    tables: &Tables,
+    spool: &mut Spool,
+    lines: &mut CustomerLines,
+)
+    requires ready { IsReady tables.now line spool.old lines.old }
+    ensures { Leads tables.now line.customer spool.old spool.new lines.new
+        (acting.request_came line.line named.byte stream (customer_of tables.now line.customer spool.old lines.old)) }
+{
+    match stream {
+        Some(stream) => arrive(line, stream, Arrival::Request, tables, spool, lines),
+        None => lines.push_answer(line.line, refusal_of(named)),
+    }
+}
+
+/// The refusal of a request for a stream that the line doesn't have: none where the RCB is no stream's.
+fn refusal_of(named: Rcb) -> Option<Answer>
+    ensures { result ≡ acting.refusal_of named.byte (stream_number named.byte) }
+{
+    match named.stream_number() {
+        Some(_) => Some(Answer {
+            rcb: ControlRcb::Refusal,
+            stream: named,
+        }),
+        None => None,
+    }
+}
+
+/// A nodal message: it is for the hub, goes on to another line, or has a node that nobody has.
+fn take_message(
+    line: LineId,
+    bytes: &[u8],
+    tables: &Tables,
+    spool: &mut Spool,
+    lines: &mut CustomerLines,
+)
+    requires ready { IsReady tables.now line spool.old lines.old }
+    ensures { Leads tables.now line.customer spool.old spool.new lines.new
+        (acting.message_came line.line bytes.now (customer_of tables.now line.customer spool.old lines.old)) }
+{
+    match Nmr::read(bytes) {
+        Ok(message) => {
+            let route = tables.route(line.customer, message.to());
+            route_message(line, &message, route, tables, spool, lines);
+        }
+        Err(_) => {}
+    }
+}
+
+/// A nodal message by the route of its node.
+fn route_message(
+    line: LineId,
+    message: &Nmr,
+    route: Route,
+    tables: &Tables,
+    spool: &mut Spool,
+    lines: &mut CustomerLines,
+)
+    requires ready { IsReady tables.now line spool.old lines.old }
+    ensures { (bytes : List ℕ) → record_of message.now ≡ cut_after_message bytes →
+        Leads tables.now line.customer spool.old spool.new lines.new
+        (acting.message_routed line.line message.now bytes route (customer_of tables.now line.customer spool.old lines.old)) }
+{
+    match route {
+        Route::Here => {
+            if message.is_user_command() {
+                command(line.customer, message, tables, spool, lines);
+            }
+        }
+        Route::Line(other) => {
+            if other != line.line {
+                pass_on(other, message, lines);
+            }
+        }
+        Route::Unknown => {
+            if message.is_user_command() {
+                tell_unknown(tables.customer(line.customer), message, lines);
+            }
+        }
+    }
+}
+
+/// A nodal message waits on another line, as it came.
+fn pass_on(other: u16, message: &Nmr, lines: &mut CustomerLines)
+    ensures { lines.new ≡ waits other (record_of message.now) lines.old }
+{
+    let mut record = Record::new();
+    message.write(&mut record);
+    lines.push_message(other, &record);
+}
+
+/// The sender of a command is told that nobody has its node.
+fn tell_unknown(customer: &Customer, message: &Nmr, lines: &mut CustomerLines)
+    ensures { lines.new
+        ≡ said (entry_of customer.now) (message.now.origin, message.now.user) (node_unknown message.now.to) lines.old }
+{
+    let text = node_unknown(message.to());
+    lines.say(customer, message.origin(), message.user(), &text);
+}
+
+/// A command of a user to the hub: the user is replied to.
+fn command(
+    customer: u16,
+    message: &Nmr,
+    tables: &Tables,
+    spool: &mut Spool,
+    lines: &mut CustomerLines,
+)
+    requires known { customer < length tables.now.customers }
+    requires spooled { customer < length spool.old }
+    ensures { Leads tables.now customer spool.old spool.new lines.new
+        (acting.command_came message.now (customer_of tables.now customer spool.old lines.old)) }
+{
+    let node = message.origin();
+    let user = message.user();
+    let replies = obey(
+        message.message(),
+        node,
+        user,
+        customer,
+        tables,
+        spool,
+        lines,
+    );
+    lines.say_all(tables.customer(customer), node, user, &replies);
+}
+
+/// A record that ends no session acts.
+fn act(
+    line: LineId,
+    item: Item<'_>,
+    bytes: &[u8],
+    tables: &Tables,
+    spool: &mut Spool,
+    lines: &mut CustomerLines,
+)
+    requires ready { IsReady tables.now line spool.old lines.old }
+    requires short { length bytes.now ≤ 256 }
+    ensures { Leads tables.now line.customer spool.old spool.new lines.new
+        (acting.acted line.line (shown bytes.now item.entry) (customer_of tables.now line.customer spool.old lines.old)) }
+{
+    match item {
+        Item::Data { rcb, srcb } => {
+            if rcb == Rcb::MESSAGE {
+                take_message(line, bytes, tables, spool, lines);
+            } else {
+                let stream = stream_at(line.line, rcb, lines);
+                arrive_where(
+                    line,
+                    stream,
+                    Arrival::Record { srcb, bytes },
+                    tables,
+                    spool,
+                    lines,
+                );
+            }
+        }
+        Item::Abort { rcb, .. } => {
+            let stream = stream_at(line.line, rcb, lines);
+            arrive_where(line, stream, Arrival::Abort, tables, spool, lines);
+        }
+        Item::Long { rcb, .. } => {
+            let stream = stream_at(line.line, rcb, lines);
+            arrive_where(line, stream, Arrival::TooLong, tables, spool, lines);
+        }
+        Item::Control { rcb, srcb } => {
+            take_control(line, rcb, Rcb { byte: srcb }, tables, spool, lines);
+        }
+        Item::General { .. } => {}
+    }
+}
+
+/// Whether a record ends the session: a count that the peer didn't expect, a sign-on I, J or K, or the sign-off B (IBM SC23-0070,
+/// "Multileaving").
+fn ends_session(item: &Item<'_>) -> bool
+    ensures { (bytes : List ℕ) → result ≡ acting.ends_session (shown bytes item.now) }
+{
+    match item {
+        Item::Control { rcb, .. } => *rcb == ControlRcb::SequenceError,
+        Item::General { srcb, .. } => matches!(*srcb, 0xc9 | 0xd1 | 0xc2 | 0xd2),
+        Item::Data { .. } | Item::Abort { .. } | Item::Long { .. } => false,
+    }
+}
+
+/// One record acts, and its line is ready for the next.
+fn act_one(
+    line: LineId,
+    item: Item<'_>,
+    bytes: &[u8],
+    tables: &Tables,
+    spool: &mut Spool,
+    lines: &mut CustomerLines,
+)
+    requires ready { IsReady tables.now line spool.old lines.old }
+    requires short { length bytes.now ≤ 256 }
+    ensures after { Leads tables.now line.customer spool.old spool.new lines.new
+        (acting.acted line.line (shown bytes.now item.entry) (customer_of tables.now line.customer spool.old lines.old)) }
+    ensures ready { IsReady tables.now line spool.new lines.new }
+{
+    streams_stay_tied();
+    act(line, item, bytes, tables, spool, lines);
+}
+
+/// The records of a block act in their order, up to one that ends the session. Says whether one did.
+pub(crate) fn all_act(
+    line: LineId,
+    block: Block<'_>,
+    tables: &Tables,
+    spool: &mut Spool,
+    lines: &mut CustomerLines,
+) -> bool
+    requires ready { IsReady tables.now line spool.old lines.old }
+    ensures ended { result
+        ≡ (acting.all_acted line.line block.entry.items (customer_of tables.now line.customer spool.old lines.old)).ended }
+    ensures after { Leads tables.now line.customer spool.old spool.new lines.new
+        (acting.all_acted line.line block.entry.items (customer_of tables.now line.customer spool.old lines.old)).customer }
+    ensures ready { IsReady tables.now line spool.new lines.new }
+{
+    let mut block = block;
+    let mut record = Record::new();
+    'records: while let Some(item) = block.next(&mut record) {
+        if ends_session(&item) {
+            return true;
+        }
+        act_one(line, item, &record, tables, spool, lines);
+    }
+    false
+}

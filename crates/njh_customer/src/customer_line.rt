@@ -1,0 +1,278 @@
+//! A line with its streams.
+
+ghost use Rattle.std.specs.Prelude.{◌≡◌, ◌≤◌, ◌<◌, IfOk, length, slice_set};
+ghost use Rattle.njh_line.specs.Sessions.{IsConfig};
+ghost use Rattle.njh_line.specs.LineTable.{accepted, shown};
+ghost use Rattle.njh_line.specs.Lines as lines;
+ghost use Rattle.njh_command.specs.Commands.{without_file};
+ghost use Rattle.njh_customer.specs.Acting.{with_senders_by};
+ghost use Rattle.njh_customer.specs.Alone.{quiet, spool_over};
+ghost use Rattle.njh_spool.specs.Spools.{part};
+ghost use Rattle.njh_sched.specs.Tight.{own_fcs};
+ghost use Rattle.njh_table.specs.TableFile.{customer_at, entry_of};
+ghost use Rattle.njh_customer.specs.Sending.{next_sent, reply_sent};
+ghost use Rattle.njh_customer.specs.Customer.{quiet_line, in_state, receiver_at, with_receiver, sender_at, with_sender};
+
+use crate::frame_buffer::FrameBuffer;
+use crate::sending::{
+    begin_block, send_again, send_control, send_opening, send_sequence, send_written,
+};
+use njh_block::{Answer, BlockWriter, Fcs, Stream};
+use njh_command::give_up;
+use njh_line::{Config, Input, Line, Reply, Verdict};
+use njh_record::Record;
+use njh_sched::{Outgoing, fill, own_fcs};
+use njh_spool::{FileId, Spool};
+use njh_stream::{Receiver, Sender, end_receivers, end_senders, retry_refused};
+use njh_table::{LineId, Tables};
+use std::alloc::{AllocError, Global};
+use std::marker::Model;
+
+/// A line of a customer, with its streams.
+#[derive(Drop)]
+pub(crate) struct CustomerLine {
+    /// Its session, and what waits to be sent.
+    line: Line,
+    /// How many streams of each kind the peer may use.
+    streams: u8,
+    /// The streams to the hub: SYSIN 1 to 4, SYSOUT 1 to 4.
+    receivers: [Receiver; 8],
+    /// The streams from the hub.
+    senders: [Sender; 8],
+    /// The stream last served.
+    served: Stream,
+}
+
+impl Model for CustomerLine {
+    ghost use Rattle.std.specs.Prelude.{◌≤◌};
+    ghost use Rattle.njh_customer.specs.Customer as customer;
+
+    ghost Value = { customer.CustomerLine };
+
+    ghost view = { λ x. record {
+      state = x.line;
+      streams = x.streams;
+      receivers = x.receivers;
+      senders = x.senders;
+      served = x.served;
+    } };
+
+    ghost invariant = { λ x. x.streams ≤ 4 };
+}
+
+impl CustomerLine {
+    /// A line that is down, none of whose streams is about a file. Want of memory is the only refusal.
+    pub(crate) fn new(alloc: Global, config: Config, streams: u8) -> Result<Self, AllocError>
+        requires config { IsConfig config }
+        requires streams { streams ≤ 4 }
+        ensures { IfOk result (λ x. x ≡ quiet_line config streams) }
+    {
+        Ok(CustomerLine {
+            line: Line::new(alloc, config)?,
+            streams,
+            receivers: [Receiver::Idle; 8],
+            senders: [Sender::Idle; 8],
+            served: Stream::at(7),
+        })
+    }
+
+    /// How many streams of each kind the peer may use.
+    pub(crate) fn streams(&self) -> u8
+        ensures value { result ≡ self.now.streams }
+        ensures few { result ≤ 4 }
+    {
+        self.streams
+    }
+
+    /// What a stream to the hub is about.
+    pub(crate) fn receiver(&self, stream: Stream) -> Receiver
+        ensures { result ≡ receiver_at stream self.now }
+    {
+        self.receivers[usize::from(stream.place())]
+    }
+
+    /// Says what a stream to the hub is about.
+    pub(crate) fn set_receiver(&mut self, stream: Stream, receiver: Receiver)
+        ensures { self.new ≡ with_receiver stream receiver self.old }
+    {
+        self.receivers[usize::from(stream.place())] = receiver;
+    }
+
+    /// What a stream from the hub is about.
+    pub(crate) fn sender(&self, stream: Stream) -> Sender
+        ensures { result ≡ sender_at stream self.now }
+    {
+        self.senders[usize::from(stream.place())]
+    }
+
+    /// Says what a stream from the hub is about.
+    pub(crate) fn set_sender(&mut self, stream: Stream, sender: Sender)
+        ensures { self.new ≡ with_sender stream sender self.old }
+    {
+        self.senders[usize::from(stream.place())] = sender;
+    }
+
+    /// Each stream that is about a file gives it up.
+    pub(crate) fn give_up(&mut self, file: FileId)
+        ensures { self.new ≡ with_senders_by (without_file file) self.old }
+    {
+        give_up(&mut self.senders, file);
+    }
+
+    /// Decides by the line table what an input does.
+    pub(crate) fn accept(&mut self, input: &Input<'_>) -> Verdict
+        ensures verdict { result ≡ (accepted self.old.state.config (shown input.now) self.old.state.session).verdict }
+        ensures line { self.new ≡ in_state (lines.after_input (shown input.now)) self.old }
+    {
+        self.line.accept(input)
+    }
+
+    /// A record of a block ends the session.
+    pub(crate) fn end(&mut self)
+        ensures { self.new ≡ in_state lines.after_end self.old }
+    {
+        self.line.end();
+    }
+
+    /// Lets an answer wait.
+    pub(crate) fn push_answer(&mut self, answer: Answer)
+        ensures { self.new ≡ in_state (lines.with_answer answer) self.old }
+    {
+        self.line.push_answer(answer);
+    }
+
+    /// Lets a nodal message wait.
+    pub(crate) fn push_message(&mut self, message: &Record)
+        ensures { self.new ≡ in_state (lines.with_message message.now.items) self.old }
+    {
+        self.line.push_message(message);
+    }
+
+    /// Sends what a verdict asks for. `block` is room for a block.
+    pub(crate) fn send_reply(
+        &mut self,
+        line: LineId,
+        reply: Reply,
+        tables: &Tables,
+        spool: &mut Spool,
+        block: &mut BlockWriter,
+        out: &mut FrameBuffer,
+    )
+        requires known { line.customer < length tables.now.customers }
+        requires spooled { line.customer < length spool.old }
+        requires quota { (customer_at tables.now line.customer).quota ≡ (part line.customer spool.old).quota }
+        ensures line { self.new ≡ (reply_sent (entry_of (customer_at tables.now line.customer)) line.line reply (part line.customer spool.old) self.old).line }
+        ensures spool { spool.new ≡ slice_set spool.old line.customer
+            (reply_sent (entry_of (customer_at tables.now line.customer)) line.line reply (part line.customer spool.old) self.old).spool }
+        ensures frame { out.new
+            ≡ (reply_sent (entry_of (customer_at tables.now line.customer)) line.line reply (part line.customer spool.old) self.old).frame }
+    {
+        match reply {
+            Reply::Nothing => out.clear(),
+            Reply::Control(control) => send_control(&mut self.line, control, out),
+            Reply::Again => send_again(&mut self.line, out),
+            Reply::SignOn(kind) => send_opening(&mut self.line, kind, out),
+            Reply::Sequence { expected } => {
+                let fcs = own_fcs(line.customer, spool, tables);
+                send_sequence(&mut self.line, expected, fcs, block, out);
+            }
+            Reply::Next { or_ack0 } => {
+                let fcs = own_fcs(line.customer, spool, tables);
+                self.send_next(line, or_ack0, fcs, tables, spool, block, out);
+            }
+        }
+    }
+
+    /// Sends the next block under a function control sequence, or what there is in its place.
+    fn send_next(
+        &mut self,
+        line: LineId,
+        or_ack0: bool,
+        fcs: Fcs,
+        tables: &Tables,
+        spool: &mut Spool,
+        block: &mut BlockWriter,
+        out: &mut FrameBuffer,
+    )
+        requires known { line.customer < length tables.now.customers }
+        requires spooled { line.customer < length spool.old }
+        requires own { fcs ≡ own_fcs (part line.customer spool.old) }
+        ensures line { self.new ≡ (next_sent (entry_of (customer_at tables.now line.customer)) line.line or_ack0 (part line.customer spool.old) self.old).line }
+        ensures spool { spool.new ≡ slice_set spool.old line.customer
+            (next_sent (entry_of (customer_at tables.now line.customer)) line.line or_ack0 (part line.customer spool.old) self.old).spool }
+        ensures frame { out.new
+            ≡ (next_sent (entry_of (customer_at tables.now line.customer)) line.line or_ack0 (part line.customer spool.old) self.old).frame }
+    {
+        begin_block(&self.line, fcs, block);
+        fill(self, line, spool, tables, block);
+        send_written(&mut self.line, or_ack0, block, fcs, out);
+    }
+
+    /// The end of a session: the files that were being sent may go again, and so may those that were refused and go by this line; the
+    /// files that came in are gone, and so are the answers.
+    pub(crate) fn end_session(&mut self, line: LineId, tables: &Tables, spool: &mut Spool)
+        requires known { line.customer < length tables.now.customers }
+        requires spooled { line.customer < length spool.old }
+        ensures line { self.new ≡ quiet self.old }
+        ensures spool { spool.new ≡ slice_set spool.old line.customer
+            (spool_over (entry_of (customer_at tables.now line.customer)) line.line self.old (part line.customer spool.old)) }
+    {
+        end_senders(&mut self.senders, line.customer, spool);
+        retry_refused(
+            tables.customer(line.customer),
+            line.line,
+            line.customer,
+            spool,
+        );
+        end_receivers(&mut self.receivers, line.customer, spool);
+        self.line.clear_answers();
+    }
+}
+
+impl Outgoing for CustomerLine {
+    ghost use Rattle.njh_customer.specs.Sending.{emptied, outlet_of};
+
+    ghost outlet = { outlet_of };
+
+    ghost rest = { emptied };
+
+    fn streams(&self) -> u8 {
+        self.streams
+    }
+
+    fn peer(&self) -> Fcs {
+        self.line.session().peer_fcs
+    }
+
+    fn front_answer(&self) -> Option<Answer> {
+        self.line.front_answer()
+    }
+
+    fn pop_answer(&mut self) {
+        self.line.pop_answer();
+    }
+
+    fn front_message(&self) -> Option<&Record> {
+        self.line.front_message()
+    }
+
+    fn pop_message(&mut self) {
+        self.line.pop_message();
+    }
+
+    fn sender(&self, stream: Stream) -> Sender {
+        self.senders[usize::from(stream.place())]
+    }
+
+    fn set_sender(&mut self, stream: Stream, sender: Sender) {
+        self.senders[usize::from(stream.place())] = sender;
+    }
+
+    fn served(&self) -> Stream {
+        self.served
+    }
+
+    fn set_served(&mut self, stream: Stream) {
+        self.served = stream;
+    }
+}

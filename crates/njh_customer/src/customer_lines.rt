@@ -1,0 +1,248 @@
+//! A customer's lines, and what waits on them.
+
+ghost use Rattle.std.specs.Prelude.{◌≡◌, ◌<◌, ◌≤◌, ◌++◌, ◌∷◌, [], IfOk, length, map};
+ghost use Rattle.njh_block.specs.declared.answer.Answer.{Answer as WaitingAnswer};
+ghost use Rattle.njh_stream.specs.declared.sender.Sender.{Sender};
+ghost use Rattle.njh_table.specs.TableFile.{entry_of};
+ghost use Rattle.njh_command.specs.Commands.{without_file};
+ghost use Rattle.njh_customer.specs.Acting.{given_up, with_senders_by};
+ghost use Rattle.njh_customer.specs.Alone.{replied_to, session_over, signal_input};
+ghost use Rattle.njh_line.specs.LineTable.{accepted, shown};
+ghost use Rattle.njh_line.specs.Lines.{after_end, after_input};
+ghost use Rattle.njh_customer.specs.Leading.{IsReady, Leads, customer_of};
+ghost use Rattle.njh_customer.specs.Customer.{in_state, line_at, on_line, receiver_at, with_receiver, sender_at, with_sender};
+ghost use Rattle.njh_customer.specs.Waiting.{all_said, answered, goes, notified, said, waits};
+
+use crate::customer_line::CustomerLine;
+use crate::frame_buffer::FrameBuffer;
+use crate::signal::Signal;
+use njh_block::{Answer, BlockWriter, Stream};
+use njh_command::{Replies, Senders};
+use njh_ebcdic::{FIELD, Name};
+use njh_line::{Input, Reply, Verdict};
+use njh_nmr::Nmr;
+use njh_record::Record;
+use njh_spool::{FileId, Spool};
+use njh_stream::{Notice, Receiver, Sender};
+use njh_table::{Customer, LineId, Route, Tables};
+use std::alloc::{AllocError, Global};
+use std::marker::Model;
+
+/// The lines of one customer, each with its streams.
+#[derive(Drop)]
+pub(crate) struct CustomerLines {
+    lines: Vec<CustomerLine>,
+}
+
+impl Model for CustomerLines {
+    ghost use Rattle.std.specs.Prelude.{List};
+    ghost use Rattle.njh_customer.specs.Customer as customer;
+
+    ghost Value = { List customer.CustomerLine };
+
+    ghost view = { λ x. x.lines.items };
+}
+
+impl CustomerLines {
+    /// No line yet.
+    pub(crate) fn new(alloc: Global) -> Self
+        ensures { result ≡ [] }
+    {
+        CustomerLines {
+            lines: Vec::new(alloc),
+        }
+    }
+
+    /// Adds a line behind the others. Want of memory is the only refusal.
+    pub(crate) fn push(&mut self, line: CustomerLine) -> Result<(), AllocError>
+        ensures { IfOk result (λ done. self.new ≡ self.old ++ line ∷ []) }
+    {
+        self.lines.push(line)?;
+        Ok(())
+    }
+
+    /// How many lines there are.
+    pub(crate) fn len(&self) -> usize
+        ensures { result ≡ length self.now }
+    {
+        self.lines.len()
+    }
+
+    /// A line by its number.
+    pub(crate) fn line(&self, line: u16) -> &CustomerLine
+        requires { line < length self.now }
+        ensures { result.now ≡ line_at line self.now }
+    {
+        &self.lines[usize::from(line)]
+    }
+
+    /// Says what a stream to the hub is about.
+    pub(crate) fn set_receiver(&mut self, line: u16, stream: Stream, receiver: Receiver)
+        requires { line < length self.old }
+        ensures { self.new ≡ on_line line (with_receiver stream receiver) self.old }
+    {
+        self.lines[usize::from(line)].set_receiver(stream, receiver);
+    }
+
+    /// Says what a stream from the hub is about.
+    pub(crate) fn set_sender(&mut self, line: u16, stream: Stream, sender: Sender)
+        requires { line < length self.old }
+        ensures { self.new ≡ on_line line (with_sender stream sender) self.old }
+    {
+        self.lines[usize::from(line)].set_sender(stream, sender);
+    }
+
+    /// Decides by the line table what an input does.
+    pub(crate) fn accept(&mut self, line: u16, input: &Input<'_>) -> Verdict
+        requires { line < length self.old }
+        ensures verdict { result ≡ (accepted (line_at line self.old).state.config (shown input.now) (line_at line self.old).state.session).verdict }
+        ensures lines { self.new ≡ on_line line (in_state (after_input (shown input.now))) self.old }
+    {
+        self.lines[usize::from(line)].accept(input)
+    }
+
+    /// Decides by the line table what a signal does.
+    pub(crate) fn accept_signal(&mut self, line: u16, signal: Signal) -> Verdict
+        requires { line < length self.old }
+        ensures verdict { result
+            ≡ (accepted (line_at line self.old).state.config (signal_input signal) (line_at line self.old).state.session).verdict }
+        ensures lines { self.new ≡ on_line line (in_state (after_input (signal_input signal))) self.old }
+    {
+        accept_signal(&mut self.lines, line, signal)
+    }
+
+    /// A record of a block ends the session of a line.
+    pub(crate) fn end(&mut self, line: u16)
+        requires { line < length self.old }
+        ensures { self.new ≡ on_line line (in_state after_end) self.old }
+    {
+        self.lines[usize::from(line)].end();
+    }
+
+    /// Sends what a verdict asks for. `block` is room for a block.
+    pub(crate) fn send_reply(
+        &mut self,
+        line: LineId,
+        reply: Reply,
+        tables: &Tables,
+        spool: &mut Spool,
+        block: &mut BlockWriter,
+        out: &mut FrameBuffer,
+    )
+        requires ready { IsReady tables.now line spool.old self.old }
+        ensures after { Leads tables.now line.customer spool.old spool.new self.new
+            (replied_to line.line reply (customer_of tables.now line.customer spool.old self.old)).after }
+        ensures frame { out.new ≡ (replied_to line.line reply (customer_of tables.now line.customer spool.old self.old)).frame }
+    {
+        self.lines[usize::from(line.line)].send_reply(line, reply, tables, spool, block, out);
+    }
+
+    /// The end of a line's session: what becomes of its streams' files, and its answers are gone.
+    pub(crate) fn end_session(&mut self, line: LineId, tables: &Tables, spool: &mut Spool)
+        requires known { line.customer < length tables.now.customers }
+        requires spooled { line.customer < length spool.old }
+        requires there { line.line < length self.old }
+        ensures { Leads tables.now line.customer spool.old spool.new self.new
+            (session_over line.line (customer_of tables.now line.customer spool.old self.old)) }
+    {
+        self.lines[usize::from(line.line)].end_session(line, tables, spool);
+    }
+
+    /// Lets an answer to the peer of a line wait, if there is one.
+    pub(crate) fn push_answer(&mut self, line: u16, answer: Option<Answer>)
+        requires { line < length self.old }
+        ensures { self.new ≡ answered line answer self.old }
+    {
+        if let Some(answer) = answer {
+            self.lines[usize::from(line)].push_answer(answer);
+        }
+    }
+
+    /// Lets a nodal message wait on a line, if the line is there.
+    pub(crate) fn push_message(&mut self, line: u16, message: &Record)
+        ensures { self.new ≡ waits line message.now.items self.old }
+    {
+        if usize::from(line) < self.lines.len() {
+            self.lines[usize::from(line)].push_message(message);
+        }
+    }
+
+    /// A nodal message goes by a route, and is dropped where that is no line.
+    fn send(&mut self, route: Route, message: &Record)
+        ensures { self.new ≡ goes route message.now.items self.old }
+    {
+        match route {
+            Route::Line(line) => self.push_message(line, message),
+            Route::Here | Route::Unknown => {}
+        }
+    }
+
+    /// The hub says something to a user at a node.
+    pub(crate) fn say(&mut self, customer: &Customer, node: Name, user: [u8; FIELD], text: &[u8])
+        requires { length text.now ≤ 148 }
+        ensures { self.new ≡ said (entry_of customer.now) (node, user) text.now self.old }
+    {
+        let notice = Nmr::notice(customer.hub(), node, user, text);
+        let mut record = Record::new();
+        notice.write(&mut record);
+        self.send(customer.route(node), &record);
+    }
+
+    /// The hub replies to a user's command.
+    pub(crate) fn say_all(
+        &mut self,
+        customer: &Customer,
+        node: Name,
+        user: [u8; FIELD],
+        replies: &Replies,
+    )
+        ensures { self.new ≡ all_said (entry_of customer.now) (node, user) replies.now self.old }
+    {
+        for text in replies.texts() {
+            self.say(customer, node, user, text);
+        }
+    }
+
+    /// The owner of a file is told, if there is something to say.
+    pub(crate) fn notify(&mut self, customer: &Customer, notice: Option<Notice>)
+        ensures { self.new ≡ notified (entry_of customer.now) notice self.old }
+    {
+        if let Some(notice) = notice {
+            self.say(customer, notice.node, notice.user, &notice.text);
+        }
+    }
+}
+
+impl Senders for CustomerLines {
+    ghost use Rattle.std.specs.Prelude.{map};
+    ghost use Rattle.njh_customer.specs.Acting.{with_senders_by};
+
+    ghost each = { λ lines f. map (with_senders_by f) lines };
+
+    fn abort(&mut self, file: FileId) {
+        for line in 0..self.lines.len() {
+            self.lines[line].give_up(file);
+        }
+    }
+}
+
+/// Decides by the line table what a signal on a line does.
+fn accept_signal(lines: &mut [CustomerLine], line: u16, signal: Signal) -> Verdict
+    requires { line < length lines.old }
+    ensures verdict { result
+        ≡ (accepted (line_at line lines.old).state.config (signal_input signal) (line_at line lines.old).state.session).verdict }
+    ensures lines { lines.new ≡ on_line line (in_state (after_input (signal_input signal))) lines.old }
+{
+    lines[usize::from(line)].accept(&signal_input(signal))
+}
+
+/// A signal, as it comes to its line.
+fn signal_input(signal: Signal) -> Input<'static>
+    ensures { shown result ≡ signal_input signal }
+{
+    match signal {
+        Signal::Tick => Input::Tick,
+        Signal::Garbled => Input::Garbled,
+        Signal::Lost => Input::Lost,
+    }
+}

@@ -1,0 +1,27 @@
+-- The customer that was just opened is coherent.
+use Rattle.std.proofs.Common.{◌≡◌, ◌<◌, ◌≤◌, length, get_or, sym, ap, subst, ◌∙◌, rules}
+use Rattle.std.specs.List.{All}
+use Rattle.std.proofs.lemmas.List.Elements.{All-map}
+use Rattle.njh_spool.specs.CustomerSpool.{empty_spool}
+use Rattle.njh_table.specs.TableFile.{customer_at, entry_of, no_customer}
+use Rattle.njh_customer.specs.Customer.{IsCoherent, customer_with, fresh_customer}
+use Rattle.tests_customer.proofs.desk.Desk.open.Goals as goal
+
+pub invariant_of-result : goal.invariant_of-result
+invariant_of-result g c =
+    let tables = c.in_ok-tables.tables in
+    let named = customer_at tables 0 in
+    let entry = entry_of named in
+    let some : 0 < length tables.customers = search rules in
+    let spooled : 0 < length c.in_ok-spool.spool = search rules in
+    let customer = c.customers.ensures.accepted.each 0 no_customer some in
+    let few : All (λ line. line.streams ≤ 4) entry.lines =
+    All-map (λ line. line.streams ≤ 4) (λ l. l.entry) named.lines (λ i d h. (customer.lines i d h).streams.1) in
+    let coherent = c.opened_is_coherent.ensures entry few in
+    let lines = c.in_ok-lines.lines in
+    let spool_is : get_or c.in_ok-spool.spool 0 (empty_spool 0 0) ≡ empty_spool named.quota named.files =
+    c.in_ok-spool.ensures.1 ∙ ap (λ n. empty_spool n.quota n.files) c.customer.ensures in
+    let lines_are : customer_with entry (empty_spool named.quota named.files) lines.lines ≡ fresh_customer entry =
+    subst (λ n. customer_with (entry_of n) (empty_spool n.quota n.files) lines.lines ≡ fresh_customer (entry_of n)) c.customer-2.ensures
+    (ap (λ p. p.customer) c.in_ok-lines.ensures) in
+    (some, spooled, subst IsCoherent (sym (ap (λ s. customer_with entry s lines.lines) spool_is ∙ lines_are)) coherent)

@@ -1,0 +1,118 @@
+//! A customer with its tables, its files and its lines.
+
+ghost use Rattle.std.specs.Prelude.{◌≡◌, ◌<◌, length, slice_index_or, IfOk};
+ghost use Rattle.njh_customer.specs.Customer.{IsCoherent};
+ghost use Rattle.njh_customer.specs.Leading.{customer_of};
+ghost use Rattle.njh_spool.specs.CustomerSpool.{empty_spool};
+ghost use Rattle.njh_table.specs.TableFile.{customer_at};
+
+use njh_bisync::LONGEST_FRAME;
+use njh_customer::{FrameBuffer, Lines, Signal, opened_is_coherent};
+use njh_spool::{Quota, Spool, SpoolFault};
+use njh_table::{Customer, LineId, Tables};
+use std::alloc::{AllocError, Global};
+use std::marker::Model;
+use std::process::Abort;
+use std::test::Fail;
+
+/// Line 0 leads to LYON, line 1 to METZ.
+const TABLES: &str = r#"
+capacity = 100
+[[customer]]
+name = "ACME"
+hub = "BUREAU"
+quota = 100
+files = 8
+[[customer.line]]
+name = "a1"
+node = "LYON"
+role = "answer"
+block = 1024
+streams = 4
+[[customer.line]]
+name = "a2"
+node = "METZ"
+role = "answer"
+block = 1024
+streams = 4
+[[customer.route]]
+node = "LYON"
+line = "a1"
+[[customer.route]]
+node = "METZ"
+line = "a2"
+"#;
+
+/// The customer of these tables, and the frame that it sent last.
+#[derive(Drop)]
+pub struct Desk {
+    tables: Tables,
+    spool: Spool,
+    lines: Lines,
+    frame: FrameBuffer,
+}
+
+impl Model for Desk {
+    ghost use Rattle.std.specs.Prelude.{◌<◌, length};
+    ghost use Rattle.njh_customer.specs.Customer.{IsCoherent};
+    ghost use Rattle.njh_customer.specs.Leading.{customer_of};
+
+    ghost Value = { Unit {0} };
+
+    ghost view = { λ d. tt };
+
+    ghost invariant = { λ d. (0 < length d.tables.customers) × (0 < length d.spool)
+        × IsCoherent (customer_of d.tables 0 d.spool d.lines.lines) };
+}
+
+/// A spool of a customer's quota.
+fn open_spool<R: Abort>(rt: &R, alloc: Global, customer: &Customer) -> Result<Spool, SpoolFault>
+    ensures { IfOk result (λ spool. (0 < length spool)
+        × (slice_index_or spool 0 (empty_spool 0 0) ≡ empty_spool customer.now.quota customer.now.files)) }
+{
+    let quota = Quota {
+        blocks: customer.quota(),
+        files: customer.files(),
+    };
+    assert!(rt; quota.is_within_limits());
+    Spool::open(alloc, &[quota])
+}
+
+impl Desk {
+    pub fn open<R: Abort>(rt: &R, alloc: Global) -> Result<Self, Fail> {
+        opened_is_coherent();
+        let tables = Tables::read(alloc, TABLES)?;
+        assert!(rt; !tables.customers().is_empty());
+        let spool = open_spool(rt, alloc, tables.customer(0))?;
+        let lines = Lines::open(alloc, tables.customer(0))?;
+        let frame = FrameBuffer::of(Vec::with_capacity(alloc, LONGEST_FRAME)?);
+        Ok(Desk {
+            tables,
+            spool,
+            lines,
+            frame,
+        })
+    }
+
+    /// Bytes come on a line. Gives how many were taken.
+    pub fn take(&mut self, line: u16, piece: &[u8]) -> usize {
+        if usize::from(line) >= self.lines.len() {
+            return 0;
+        }
+        let line = LineId { customer: 0, line };
+        self.lines.take_bytes(line, piece, &self.tables, &mut self.spool, &mut self.frame)
+    }
+
+    /// A signal comes on a line.
+    pub fn signal(&mut self, line: u16, signal: Signal) {
+        if usize::from(line) < self.lines.len() {
+            let line = LineId { customer: 0, line };
+            self.lines.take_signal(line, signal, &self.tables, &mut self.spool, &mut self.frame);
+        }
+    }
+
+    /// The frame that was sent last; empty where none was.
+    pub fn frame(&self) -> &[u8] {
+        self.frame.bytes()
+    }
+}

@@ -1,7 +1,0 @@
-//! Tests of a customer whole, with bytes written by hand.
-#![tactic(auto)]
-
-#[cfg(test)]
-mod desk;
-#[cfg(test)]
-mod machine_tests;
