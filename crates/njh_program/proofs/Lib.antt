@@ -1,5 +1,7 @@
 mod ArgumentLaws
+mod DigitLaws
 mod FileLaws
+mod FoundLines
 mod LineForms
 mod Lines
 mod PrintedParts

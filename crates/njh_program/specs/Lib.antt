@@ -1,9 +1,11 @@
 pub mod Arguments
+pub mod Digits
 pub mod Names
 pub mod Outcome
 pub mod Printed
 pub mod PrintedLaws
 pub mod Replayed
 pub mod Script
+pub mod Found
 pub mod Status
 pub mod TableBytes

@@ -3,6 +3,8 @@
 #![tactic(auto)]
 
 mod arguments;
+mod cutting;
+mod digits;
 mod failure;
 mod fault;
 mod files;
