@@ -1,5 +1,4 @@
 mod ArgumentLaws
-mod DigitLaws
 mod FileLaws
 mod FoundLines
 mod LineForms

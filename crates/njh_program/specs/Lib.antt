@@ -1,5 +1,4 @@
 pub mod Arguments
-pub mod Digits
 pub mod Names
 pub mod Outcome
 pub mod Printed

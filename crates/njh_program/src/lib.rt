@@ -4,7 +4,6 @@
 
 mod arguments;
 mod cutting;
-mod digits;
 mod failure;
 mod fault;
 mod files;

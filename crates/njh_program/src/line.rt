@@ -5,7 +5,7 @@ ghost use Rattle.njh_table.specs.TableFile.{owner_of, HasLine};
 ghost use Rattle.njh_hub.specs.Own.{line_of};
 ghost use Rattle.njh_program.specs.Script.{bytes_on, event_of, event_of_words, piece_of, signal_of, words_of};
 
-use crate::digits::bytes_of;
+use hex::FromHexError;
 use njh_hub::{Event, Piece};
 use njh_table::{LineId, Tables};
 use std::alloc::{AllocError, Global};
@@ -79,8 +79,10 @@ fn bytes_on(
 fn piece_of(alloc: Global, digits: &str) -> Result<Option<Piece>, AllocError>
     ensures { IfOk result (λ piece. piece ≡ piece_of digits.now) }
 {
-    match bytes_of(alloc, digits.as_bytes())? {
-        Some(bytes) if !bytes.is_empty() => Ok(Some(Piece::of(alloc, &bytes)?)),
-        _ => Ok(None),
+    match hex::decode(alloc, digits) {
+        Ok(bytes) if bytes.is_empty() => Ok(None),
+        Ok(bytes) => Ok(Some(Piece::of(alloc, &bytes)?)),
+        Err(FromHexError::OutOfMemory) => Err(AllocError),
+        Err(_) => Ok(None),
     }
 }
