@@ -1,5 +1,5 @@
 -- All moves of a step, and of an event.
-use Rattle.std.proofs.Common.{◌≡◌, ℕ, ◌⊎◌, inl, inr, List, [], ◌∷◌, ◌++◌, Option, Some, None, refl, sym, subst, ◌∙◌}
+use Rattle.std.proofs.Common.{◌≡◌, ℕ, ◌⊎◌, inl, inr, List, [], ◌∷◌, ◌++◌, Option, Some, None, length, take, refl, sym, ap, subst, ◌∙◌, arith}
 use Rattle.std.proofs.lemmas.List.Elements.{Contains-append_left, Contains-append_right}
 use Rattle.std.specs.Prelude.{flat_map}
 use Rattle.std.specs.List.{Contains, cons_option}
@@ -8,15 +8,17 @@ use Rattle.njh_bisync.specs.Frames.{Received}
 use Rattle.njh_bisync.specs.Reading.{Rest}
 use Rattle.njh_block.specs.Blocks.{Item}
 use Rattle.njh_table.specs.Entries.{CustomerEntry}
-use Rattle.njh_customer.specs.Customer.{Customer}
+use Rattle.njh_customer.specs.Customer.{Customer, line_at}
 use Rattle.njh_customer.specs.Alone.{Step, signal_came}
 use Rattle.njh_customer.specs.Feeding.{acted_on, bytes_run}
-use Rattle.njh_customer.specs.Part.{rest_on}
-use Rattle.njh_customer.specs.Runs.{OwnBytes, OwnSignal}
+use Rattle.njh_customer.specs.Part.{bytes_taken, rest_on}
+use Rattle.njh_customer.specs.Runs.{OwnBytes, OwnSignal, Run, event_run}
 use Rattle.njh_customer.specs.Outgoing.{Outgoing, outgoing}
 use Rattle.njh_customer.specs.Moves.{Leads, nowhere, onward, Moves, by_record, by_sending, by_end, OneActs, Over, Sends}
-use Rattle.njh_customer.specs.Doing.{Does, GoesOut, moves_nothing, new_block, records_in}
-use Rattle.njh_customer.specs.MovingLaws.{EventsMoveSo}
+use Rattle.njh_customer.specs.Doing.{Does, GoesOut, no_block, new_block, records_in}
+use Rattle.njh_customer.specs.MovingLaws.{EventsMoveSo, TakesMoveSo, records_by}
+use Rattle.njh_customer.specs.Laws.{followed_by}
+use Rattle.njh_customer.proofs.PieceLaws.{no_bytes_do_nothing, steps_follow_bytes}
 use Rattle.njh_customer.proofs.DoingLaws.{BlocksCarry, frame_does, signal_does}
 
 pub leads_as :
@@ -42,8 +44,8 @@ does_moves l items c s does =
     (leads_as (OneActs c.entry l items) (Moves c.entry l items) (outgoing c) does.acted (λ u v acts. by_record acts) does.records)
     (leads_then (Moves c.entry l items) does.acted does.answered (outgoing s.after) (at_answer does.answer) (at_end does.end))
   where
-    at_answer : GoesOut c.entry l does.acted does.answered s.frame → Leads (Moves c.entry l items) does.acted does.answered
-    at_answer (moves_nothing same) = subst (Leads (Moves c.entry l items) does.acted) (sym same) (nowhere does.acted)
+    at_answer : GoesOut c.entry l (line_at l c.lines).state does.acted does.answered s.frame → Leads (Moves c.entry l items) does.acted does.answered
+    at_answer (no_block same no_new) = subst (Leads (Moves c.entry l items) does.acted) (sym same) (nowhere does.acted)
     at_answer (new_block bcb fcs is frame sends carries) =
         leads_as (Sends c.entry l) (Moves c.entry l items) does.acted does.answered (λ u v send. by_sending send) sends
 
@@ -90,3 +92,14 @@ module _ (carry : BlocksCarry) where
   pub events_move : EventsMoveSo
   events_move p (OwnBytes l piece) = (bytes_move (rest_on l p) p.customer l piece).moves
   events_move p (OwnSignal signal l) = does_moves l [] p.customer (signal_came l signal p.customer) (signal_does carry l signal p.customer)
+
+  pub takes_move : TakesMoveSo
+  takes_move p l piece there =
+      let t = bytes_taken p l piece in
+      let front = take t.taken piece in
+      let nothing : event_run p (OwnBytes l []) ≡ record { after = p; sent = [] } = no_bytes_do_nothing p l in
+      let some : event_run p (OwnBytes l front) ≡ followed_by (record { after = p; sent = [] }) l piece =
+      subst (λ (r : Run). event_run p (OwnBytes l (take (bytes_taken r.after l piece).taken piece)) ≡ followed_by r l piece) nothing
+      (steps_follow_bytes p l [] piece (omega (arith, there, ap (λ (r : Run). length r.after.rests) nothing))) in
+      subst (Leads (Moves p.customer.entry l (records_by p (OwnBytes l front))) (outgoing p.customer))
+      (ap (λ (r : Run). outgoing r.after.customer) some) (events_move p (OwnBytes l front))

@@ -13,6 +13,7 @@ pub mod OutgoingLaws
 pub mod ActingMoves
 pub mod SendingMoves
 pub mod EndingMoves
+pub mod KeptLines
 pub mod RecordsMoves
 pub mod DoingLaws
 pub mod BlocksCarry

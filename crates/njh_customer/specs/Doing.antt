@@ -3,17 +3,20 @@
 use Rattle.std.specs.Prelude.{◌≡◌, ℕ, ◌+◌, ◌<◌, ◌⊎◌, false, List, [], ◌∷◌, ◌++◌, length, take, drop, map, Result, Ok, Err}
 use Rattle.njh_bisync.specs.Frames as frame
 use Rattle.njh_bisync.specs.Frames.{Received}
-use Rattle.njh_bisync.specs.Written.{text_bytes}
-use Rattle.njh_block.specs.Blocks.{Block, Item, rcb_of, read_block, text_of}
+use Rattle.njh_bisync.specs.Written.{control_bytes, text_bytes}
+use Rattle.njh_bisync.specs.declared.frame.Control as frame_control
+use Rattle.njh_block.specs.Blocks.{Block, Item, Control, rcb_of, read_block, text_of}
 use Rattle.njh_block.specs.declared.fault.BlockFault.{BlockFault}
 use Rattle.njh_stream.specs.declared.sender.Sender.TheVariants.{Sending, EofSent}
 use Rattle.njh_sched.specs.NextBlock.{is_sending}
 use Rattle.njh_sched.specs.Laws.{records_under}
 use Rattle.njh_sched.specs.Carrying.{end_of_file, record_item}
 use Rattle.njh_table.specs.Entries.{CustomerEntry}
-use Rattle.njh_line.specs.declared.verdict.Reply.TheVariants.{Again}
+use Rattle.njh_line.specs.Lines.{LineState}
+use Rattle.njh_line.specs.Openings.{opening}
+use Rattle.njh_line.specs.declared.opening.Opening.{Opening}
 use Rattle.njh_customer.specs.Customer.{Customer, line_at}
-use Rattle.njh_customer.specs.Alone.{Step, replied_to}
+use Rattle.njh_customer.specs.Alone.{Step}
 use Rattle.njh_customer.specs.Outgoing.{Outgoing, outgoing, records_numbered, stream_at, streams_of}
 use Rattle.njh_customer.specs.Moves.{Leads, OneActs, Over, Sends}
 
@@ -45,23 +48,28 @@ pub data Carries (l k : ℕ) (items : List Item) (x y : Outgoing) : Type 0 where
       → records_under (rcb_of k) items ≡ map (record_item k) (drop place (records_numbered n x)) ++ end_of_file k ∷ []
       → Carries l k items x y
 
--- What goes out: a frame that moves nothing, which is any but a new block, or none; or a new block, by whose records the line's streams
--- move, each as far as the block carries its file.
-pub data GoesOut (entry : CustomerEntry) (l : ℕ) (x y : Outgoing) (sent : List ℕ) : Type 0 where
-  moves_nothing : y ≡ x → GoesOut entry l x y sent
+-- What a line sends that is no new block: nothing, a control frame, the last transmission again, a sign-on, the count that was expected, or a
+-- block without records.
+pub data IsNoNewBlock (line : LineState) (sent : List ℕ) : Type 0 where
+  nothing_sent : sent ≡ [] → IsNoNewBlock line sent
+  control : (which : frame_control.Control) → sent ≡ control_bytes which → IsNoNewBlock line sent
+  again : sent ≡ line.last → IsNoNewBlock line sent
+  sign_on : (kind : Opening) → sent ≡ text_bytes (opening kind line.config) → IsNoNewBlock line sent
+  count : (bcb : ℕ) (fcs : ℕ × ℕ) (expected : ℕ) → sent ≡ text_bytes (text_of bcb fcs (Control 0xe0 expected ∷ [])) → IsNoNewBlock line sent
+  without_records : (bcb : ℕ) (fcs : ℕ × ℕ) → sent ≡ text_bytes (text_of bcb fcs []) → IsNoNewBlock line sent
+
+-- What goes out on a line that stood so: what is no new block, and moves nothing; or a new block, by whose records the line's streams move,
+-- each as far as the block carries its file.
+pub data GoesOut (entry : CustomerEntry) (l : ℕ) (line : LineState) (x y : Outgoing) (sent : List ℕ) : Type 0 where
+  no_block : y ≡ x → IsNoNewBlock line sent → GoesOut entry l line x y sent
   new_block :
       (bcb : ℕ) (fcs : ℕ × ℕ) (items : List Item) → sent ≡ text_bytes (text_of bcb fcs items) → Leads (Sends entry l) x y
-      → ((k : ℕ) → k < 8 → k < length (streams_of l x) → Carries l k items x y) → GoesOut entry l x y sent
+      → ((k : ℕ) → k < 8 → k < length (streams_of l x) → Carries l k items x y) → GoesOut entry l line x y sent
 
 pub record Does (l : ℕ) (items : List Item) (c : Customer) (s : Step) : Type 0 where
   pub acted : Outgoing
   pub records : Leads (OneActs c.entry l items) (outgoing c) acted
   pub answered : Outgoing
-  pub answer : GoesOut c.entry l acted answered s.frame
+  pub answer : GoesOut c.entry l (line_at l c.lines).state acted answered s.frame
   pub end : (outgoing s.after ≡ answered) ⊎ Over l answered (outgoing s.after)
   pub entry : s.after.entry ≡ c.entry
-
--- The last transmission goes out again: nothing moves.
-abbrev pub AgainMovesNothing : Type 0
-AgainMovesNothing =
-    (l : ℕ) (c : Customer) → let s = replied_to l Again c in (outgoing s.after ≡ outgoing c) × (s.frame ≡ (line_at l c.lines).state.last)

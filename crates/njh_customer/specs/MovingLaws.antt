@@ -1,5 +1,5 @@
 -- What is said of how a customer's whole files and its streams from the hub move.
-use Rattle.std.specs.Prelude.{◌≡◌, ℕ, ◌+◌, ◌⊎◌, true, false, List, [], find, flat_map, length, Some, None}
+use Rattle.std.specs.Prelude.{◌≡◌, ℕ, ◌+◌, ◌<◌, ◌⊎◌, true, false, List, [], find, flat_map, length, take, Some, None}
 use Rattle.std.specs.List.{Contains}
 use Rattle.njh_bisync.specs.Fed.{frames_after}
 use Rattle.njh_bisync.specs.Frames.{Received}
@@ -19,7 +19,7 @@ use Rattle.njh_command.specs.Commands.{chosen, is_sending}
 use Rattle.njh_customer.specs.declared.signal.Signal.{Signal}
 use Rattle.njh_customer.specs.Customer.{Customer}
 use Rattle.njh_customer.specs.Alone.{frame_came, signal_came}
-use Rattle.njh_customer.specs.Part.{Part, rest_on}
+use Rattle.njh_customer.specs.Part.{Part, bytes_taken, rest_on}
 use Rattle.njh_customer.specs.Runs.{OwnEvent, OwnBytes, OwnSignal, event_run}
 use Rattle.njh_customer.specs.Outgoing.{Outgoing, outgoing, has_file, record_numbered, stream_at}
 use Rattle.njh_customer.specs.Moves.{Commands, Leads, Moves, Sends, Tells}
@@ -48,6 +48,12 @@ abbrev pub EventsMoveSo : Type 0
 EventsMoveSo =
     (p : Part) (event : OwnEvent)
     → Leads (Moves p.customer.entry (line_of event) (records_by p event)) (outgoing p.customer) (outgoing (event_run p event).after.customer)
+
+-- So does a step by bytes of a line, by the records of the bytes that it takes.
+abbrev pub TakesMoveSo : Type 0
+TakesMoveSo =
+    (p : Part) (l : ℕ) (piece : List ℕ) → l < length p.rests → let t = bytes_taken p l piece in
+    Leads (Moves p.customer.entry l (records_by p (OwnBytes l (take t.taken piece)))) (outgoing p.customer) (outgoing t.after.customer)
 
 -- ---- how a file leaves
 

@@ -4,10 +4,9 @@ ghost use Rattle.std.specs.Prelude.{◌≤◌, All};
 ghost use Rattle.njh_table.specs.Entries.{CustomerEntry};
 ghost use Rattle.njh_customer.specs.Customer.{IsCoherent, fresh_customer};
 ghost use Rattle.njh_customer.specs.Disregarding.{BadBlocksAreDisregarded, GarbledIsDisregarded, SpoiledIsDisregarded};
-ghost use Rattle.njh_customer.specs.Doing.{AgainMovesNothing};
 ghost use Rattle.njh_customer.specs.Laws.{CutsAreLike, FirstBytesSendFirst, NoBytesDoNothing, StepsFollowBytes};
 ghost use Rattle.njh_customer.specs.MovingLaws.{EventsMoveSo, FilesLeaveSo, FilesLeaveSoBetween, FramesDoSo, IdleStreamsTakeFiles};
-ghost use Rattle.njh_customer.specs.MovingLaws.{RecordsChangeSo, SignalsDoSo, StreamsMoveSo};
+ghost use Rattle.njh_customer.specs.MovingLaws.{RecordsChangeSo, SignalsDoSo, StreamsMoveSo, TakesMoveSo};
 
 use njh_header::redirected_by_records;
 use njh_sched::{
@@ -45,12 +44,11 @@ pub fn opened_is_coherent()
 
 /// What each frame and each signal does to the customer's whole files and to its streams from the hub: its records act, a frame goes out,
 /// and the session goes on or ends. A frame that is a new block carries, under each stream's RCB, the stream's file in order from its place before
-/// the block to its place behind it, and the end of file only behind the last record. Any other moves nothing, nor does the last transmission
-/// that goes out again.
+/// the block to its place behind it, and the end of file only behind the last record. Any other frame moves nothing,
+/// nor does the last transmission that goes out again.
 pub fn frames_do_so()
     ensures frames { FramesDoSo }
     ensures signals { SignalsDoSo }
-    ensures again { AgainMovesNothing }
 {
     blocks_carry_files_in_order();
     sources_move_streams_so();
@@ -58,9 +56,10 @@ pub fn frames_do_so()
     nothing_where_all_is_suspended();
 }
 
-/// An event moves the customer's whole files and its streams from the hub by a few kinds of moves and no others.
+/// An event, and a step by bytes, move the customer's whole files and its streams from the hub by a few kinds of moves and no others.
 pub fn events_move_so()
-    ensures { EventsMoveSo }
+    ensures events { EventsMoveSo }
+    ensures takes { TakesMoveSo }
 {
     blocks_carry_files_in_order();
     sources_move_streams_so();

@@ -1,5 +1,5 @@
 use Rattle.njh_customer.proofs.BlocksCarry.{blocks_carry}
-use Rattle.njh_customer.proofs.DoingLaws.{again_moves_nothing, frame_does, signal_does}
+use Rattle.njh_customer.proofs.DoingLaws.{frame_does, signal_does}
 use Rattle.njh_customer.proofs.law.frames_do_so.Goals as goal
 
 pub returns-clause-frames : goal.returns-clause-frames
@@ -15,6 +15,3 @@ returns-clause-signals c l signal customer =
     (blocks_carry c.blocks_carry_files_in_order.ensures.carried c.blocks_carry_files_in_order.ensures.quiet c.sources_move_streams_so.ensures.each
     c.sources_fill_the_block.ensures c.nothing_where_all_is_suspended.ensures)
     l signal customer
-
-pub returns-clause-again : goal.returns-clause-again
-returns-clause-again c = again_moves_nothing
