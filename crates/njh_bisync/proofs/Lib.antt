@@ -2,4 +2,5 @@ pub mod WrittenLaws
 pub mod KeptLaws
 pub mod UnitReader
 pub mod FedLaws
+pub mod PlainLaws
 pub mod ReadBack

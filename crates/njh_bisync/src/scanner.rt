@@ -1,12 +1,14 @@
 //! One byte after another through the frame grammar.
-ghost use Rattle.std.specs.Prelude.{◌≡◌, ◌≤◌, [], false, IfOk, option_map, vec_len, vec_capacity};
+ghost use Rattle.std.specs.Prelude.{◌≡◌, ◌<◌, ◌≤◌, [], false, length, IfOk, option_map, vec_len, vec_capacity};
 ghost use Rattle.njh_bisync.specs.Fed.{turn, fed, kept_with};
+ghost use Rattle.njh_bisync.specs.Plain.{fed_on, kept_all};
 ghost use Rattle.njh_bisync.specs.Frames.{text_or_spoiled, IsShort};
 ghost use Rattle.njh_bisync.specs.Reading.{Nothing, InText};
 ghost use Rattle.njh_bisync.specs.declared.frame.TheConstants.{LONGEST_TEXT};
 
 use crate::frame::{Frame, LONGEST_TEXT};
 use crate::line_byte::{ACK_0, DLE, ENQ, EOT, ETB, ETX, NAK, SOH, STX, SYN};
+use crate::plain::plain_len;
 use std::alloc::{AllocError, Global};
 
 /// Where in the grammar the bytes so far end.
@@ -73,12 +75,15 @@ impl Scanner {
             ≡ (fed (rest_in self.old) piece.now).frame }
         ensures rest { rest_in self.new ≡ (fed (rest_in self.old) piece.now).rest }
     {
-        for (index, byte) in piece.iter().enumerate() {
-            if let Some(ended) = self.take(*byte) {
-                return (index + 1, Some(ended));
+        let mut taken = 0;
+        while taken < piece.len() {
+            let (count, ended) = self.take_some(&piece[taken..]);
+            taken += count;
+            if let Some(ended) = ended {
+                return (taken, Some(ended));
             }
         }
-        (piece.len(), None)
+        (taken, None)
     }
 
     /// The frame that the last byte ended.
@@ -101,6 +106,27 @@ impl Scanner {
         ensures { rest_in self.new ≡ Nothing }
     {
         self.place = Place::Between;
+    }
+
+    /// Takes one byte, or in a text all that stand before the next DLE: how many, and the frame that they end.
+    fn take_some(&mut self, bytes: &[u8]) -> (usize, Option<Ended>)
+        requires { 0 < length bytes.now }
+        ensures some { 0 < result.0 }
+        ensures within { result.0 ≤ length bytes.now }
+        ensures goes_on { fed (rest_in self.old) bytes.now
+            ≡ fed_on result.0 (option_map (frame_in self.new.held.items) result.1) (rest_in self.new) bytes.now }
+    {
+        match self.place {
+            Place::Inside => {
+                let count = plain_len(bytes);
+                if count == 0 {
+                    return (1, self.take(bytes[0]));
+                }
+                self.keep_all(&bytes[..count]);
+                (count, None)
+            }
+            _ => (1, self.take(bytes[0])),
+        }
     }
 
     /// Takes one byte; where it ends a frame, that frame.
@@ -169,6 +195,19 @@ impl Scanner {
         self.place = Place::Inside;
         self.held.push_reserved(byte);
         None
+    }
+
+    /// Spoils the text where it has no room for the bytes.
+    fn keep_all(&mut self, bytes: &[u8])
+        requires { self.old.place ≡ Place.Inside }
+        ensures rest { rest_in self.new
+            ≡ InText (kept_all (good_data self.old.spoiled self.old.held.items) bytes.now) false }
+    {
+        if LONGEST_TEXT - self.held.len() < bytes.len() {
+            self.spoiled = true;
+            return;
+        }
+        self.held.extend_from_slice(bytes).unwrap();
     }
 
     fn spoil(&mut self) -> Option<Ended>

@@ -4,7 +4,12 @@ ghost use Rattle.njh_bisync.specs.Written.{bytes_of_data, text_bytes, control_by
 
 use crate::frame::{Control, LONGEST_FRAME, LONGEST_TEXT};
 use crate::line_byte::{ACK_0, DLE, ENQ, ETB, NAK, SOH, STX};
+use crate::plain::plain_len;
 use std::alloc::AllocError;
+use std::mem;
+
+/// How many bytes stand around the data of a text.
+const FRAMING: usize = 4;
 
 /// Appends a text of these 0 to 4,096 bytes, each DLE doubled (IBM GA27-3004, transparent text).
 ///
@@ -23,7 +28,7 @@ pub fn put_text(data: &[u8], out: &mut Vec<u8>) -> Result<(), AllocError>
     ensures short { length (text_bytes «data».now) ≤ 4 + 2 * length «data».now }
     ensures longest { length (text_bytes «data».now) ≤ LONGEST_FRAME }
 {
-    make_room(out, text_len(data))?;
+    make_text_room(data, out)?;
     put_bytes(&[DLE, STX], out);
     put_data(data, out);
     put_bytes(&[DLE, ETB], out);
@@ -60,7 +65,26 @@ fn text_len(data: &[u8]) -> usize
     ensures short { result ≤ 4 + 2 * length «data».now }
 {
     let doubled = data.iter().filter(|byte| **byte == DLE).count();
-    4 + data.len() + doubled
+    FRAMING + data.len() + doubled
+}
+
+/// Makes room for a text, whose bytes are counted only where the room for as many DLE might be missing.
+#[tactic(auto, using(crate::proofs::WrittenLaws::lengths))]
+fn make_text_room(data: &[u8], out: &mut Vec<u8>) -> Result<(), AllocError>
+    requires { length «data».now ≤ LONGEST_TEXT }
+    ensures items { out.new.items ≡ out.old.items }
+    ensures room { OnOk result (vec_len out.new + length (text_bytes «data».now) ≤ vec_capacity out.new) }
+    ensures err { OnErr result (vec_capacity out.new ≡ vec_capacity out.old) }
+    ensures succeeds { vec_len out.old + length (text_bytes «data».now) ≤ vec_capacity out.old → IsOk result }
+    ensures in_place { vec_len out.old + length (text_bytes «data».now) ≤ vec_capacity out.old
+        → vec_capacity out.new ≡ vec_capacity out.old }
+    ensures capacity { vec_capacity out.old ≤ vec_capacity out.new }
+    ensures short { length (text_bytes «data».now) ≤ 4 + 2 * length «data».now }
+{
+    if FRAMING + 2 * data.len() <= out.capacity() - out.len() {
+        return Ok(());
+    }
+    make_room(out, text_len(data))
 }
 
 /// Asks for memory only where the room is missing.
@@ -85,9 +109,12 @@ fn put_bytes(bytes: &[u8], out: &mut Vec<u8>)
     ensures items { out.new.items ≡ out.old.items ++ bytes.now }
     ensures capacity { vec_capacity out.new ≡ vec_capacity out.old }
 {
+    // While it is filled it stands apart, where no byte that is written can change its length or its place.
+    let mut filled = mem::replace(out, Vec::new(*out.allocator()));
     for byte in bytes {
-        out.push_reserved(*byte);
+        filled.push_reserved(*byte);
     }
+    *out = filled;
 }
 
 /// Appends bytes with each DLE doubled, in room that is there.
@@ -96,10 +123,14 @@ fn put_data(data: &[u8], out: &mut Vec<u8>)
     ensures items { out.new.items ≡ out.old.items ++ flat_map bytes_of_data «data».now }
     ensures capacity { vec_capacity out.new ≡ vec_capacity out.old }
 {
-    for byte in data {
-        if *byte == DLE {
-            out.push_reserved(DLE);
-        }
-        out.push_reserved(*byte);
+    let mut rest = data;
+    'runs: loop {
+        let (run, after) = rest.split_at(plain_len(rest));
+        put_bytes(run, out);
+        let Some((byte, after)) = after.split_first() else {
+            return;
+        };
+        put_bytes(&[DLE, *byte], out);
+        rest = after;
     }
 }

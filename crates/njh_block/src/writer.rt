@@ -42,6 +42,21 @@ fn written_len(out: &Out<'_>) -> usize
     }
 }
 
+/// A bound on how many bytes a record takes, which looks at none of its bytes.
+fn most_written(out: &Out<'_>) -> usize
+    requires { IsWritable out.now }
+    ensures enough { length (written_bytes (outgoing_item out.now)) ≤ result }
+    ensures bound { result ≤ 512 }
+{
+    njh_record::spelling_bounds();
+    match out {
+        // A literal has a byte in front of 63 of its own at most.
+        Out::Data { bytes, .. } => 2 + bytes.len() + (bytes.len() + 125) / 63,
+        Out::Abort { .. } | Out::Control { .. } => 3,
+        Out::General { bytes, .. } => 2 + bytes.len(),
+    }
+}
+
 fn is_general(out: &Out<'_>) -> bool
     ensures { result ≡ is_general (outgoing_item out.now) }
 {
@@ -133,7 +148,11 @@ impl BlockWriter {
         ensures exact { result ≡ has_room self.now (outgoing_item out.now) }
         ensures first { self.now.items ≡ [] → IsTrue result }
     {
-        !self.ended && self.text.len() + written_len(out) <= self.limit
+        if self.ended {
+            return false;
+        }
+        let len = self.text.len();
+        len + most_written(out) <= self.limit || len + written_len(out) <= self.limit
     }
 
     /// Adds a record that has room.

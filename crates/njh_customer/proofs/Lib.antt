@@ -9,3 +9,17 @@ pub mod OpenLaws
 pub mod TakingLaws
 pub mod PieceLaws
 pub mod OpenedLaws
+pub mod OutgoingLaws
+pub mod ActingMoves
+pub mod SendingMoves
+pub mod EndingMoves
+pub mod KeptLines
+pub mod RecordsMoves
+pub mod DoingLaws
+pub mod BlocksCarry
+pub mod EventMoves
+pub mod FileListLaws
+pub mod LeavingLaws
+pub mod StreamMoveLaws
+pub mod RecordsChange
+pub mod DisregardingLaws

@@ -8,3 +8,8 @@ pub mod Part
 pub mod Runs
 pub mod Laws
 pub mod Leading
+pub mod Outgoing
+pub mod Moves
+pub mod Doing
+pub mod MovingLaws
+pub mod Disregarding

@@ -3,8 +3,16 @@
 ghost use Rattle.std.specs.Prelude.{◌≤◌, All};
 ghost use Rattle.njh_table.specs.Entries.{CustomerEntry};
 ghost use Rattle.njh_customer.specs.Customer.{IsCoherent, fresh_customer};
+ghost use Rattle.njh_customer.specs.Disregarding.{BadBlocksAreDisregarded, GarbledIsDisregarded, SpoiledIsDisregarded};
 ghost use Rattle.njh_customer.specs.Laws.{CutsAreLike, FirstBytesSendFirst, NoBytesDoNothing, StepsFollowBytes};
+ghost use Rattle.njh_customer.specs.MovingLaws.{EventsMoveSo, FilesLeaveSo, FilesLeaveSoBetween, FramesDoSo, IdleStreamsTakeFiles};
+ghost use Rattle.njh_customer.specs.MovingLaws.{RecordsChangeSo, SignalsDoSo, StreamsMoveSo, TakesMoveSo};
 
+use njh_header::redirected_by_records;
+use njh_sched::{
+    blocks_carry_files_in_order, nothing_where_all_is_suspended, sources_fill_the_block,
+    sources_move_streams_so,
+};
 use njh_stream::streams_stay_tied;
 
 /// It doesn't matter how the bytes of a line are cut into pieces.
@@ -33,3 +41,58 @@ pub fn opened_is_coherent()
 {
     streams_stay_tied();
 }
+
+/// What each frame and each signal does to the customer's whole files and to its streams from the hub: its records act, a frame goes out,
+/// and the session goes on or ends. A frame that is a new block carries, under each stream's RCB, the stream's file in order from its place before
+/// the block to its place behind it, and the end of file only behind the last record. Any other frame moves nothing,
+/// nor does the last transmission that goes out again.
+pub fn frames_do_so()
+    ensures frames { FramesDoSo }
+    ensures signals { SignalsDoSo }
+{
+    blocks_carry_files_in_order();
+    sources_move_streams_so();
+    sources_fill_the_block();
+    nothing_where_all_is_suspended();
+}
+
+/// An event, and a step by bytes, move the customer's whole files and its streams from the hub by a few kinds of moves and no others.
+pub fn events_move_so()
+    ensures events { EventsMoveSo }
+    ensures takes { TakesMoveSo }
+{
+    blocks_carry_files_in_order();
+    sources_move_streams_so();
+    sources_fill_the_block();
+    nothing_where_all_is_suspended();
+}
+
+/// A whole file leaves the spool only by the command CANCEL of its owner by its name, or by C0 to the stream that has sent its end of file.
+pub fn files_leave_so()
+    ensures one { FilesLeaveSo }
+    ensures between { FilesLeaveSoBetween }
+{}
+
+/// How a stream from the hub moves. It takes a file only where it is idle. A0 makes it send the file it asked for, from place 0 on. From then
+/// on its place moves only by the file's record at it going out in a new block, by one; and where there is no record at it the end of file
+/// goes out, and that alone makes it wait for C0.
+pub fn streams_move_so()
+    ensures each { StreamsMoveSo }
+    ensures taken { IdleStreamsTakeFiles }
+{}
+
+/// A whole file's records change by the command REROUTE of its owner by its name alone, in the eight bytes of a destination's node, and not
+/// while it is being sent.
+pub fn records_change_so()
+    ensures { RecordsChangeSo }
+{
+    redirected_by_records();
+}
+
+/// A text that is spoiled or is no block, and a block whose check failed, change no file, no stream and nothing that waits, on no line; but
+/// where five tries were made before, the line's session ends.
+pub fn bad_texts_change_nothing()
+    ensures spoiled { SpoiledIsDisregarded }
+    ensures bad { BadBlocksAreDisregarded }
+    ensures garbled { GarbledIsDisregarded }
+{}

@@ -15,8 +15,9 @@ mod signal;
 
 pub use frame_buffer::FrameBuffer;
 pub use law::{
-    cuts_are_like, first_bytes_send_first, no_bytes_do_nothing, opened_is_coherent,
-    steps_follow_bytes,
+    bad_texts_change_nothing, cuts_are_like, events_move_so, files_leave_so,
+    first_bytes_send_first, frames_do_so, no_bytes_do_nothing, opened_is_coherent,
+    records_change_so, steps_follow_bytes, streams_move_so,
 };
 pub use lines::Lines;
 pub use signal::Signal;

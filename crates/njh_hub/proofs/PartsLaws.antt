@@ -1,6 +1,6 @@
 -- The parts that a table, the files of all customers and their lines make.
 use Rattle.std.proofs.Common.{◌≡◌, ◌≢◌, ℕ, eqb, true, false, ◌<◌, ◌≤◌, List, length, set, get_or, slice_set}
-use Rattle.std.proofs.Common.{ap, ap₂, sym, subst, ◌∙◌, ⊎_elim, arith}
+use Rattle.std.proofs.Common.{refl, ap, ap₂, sym, subst, ◌∙◌, ⊎_elim, arith}
 use Rattle.std.proofs.lemmas.List.{get_or_read, get_or_past, get_or-set_same, get_or-set_other, length-set, ext_get_or}
 use Rattle.std.proofs.lemmas.List.FromFn.{length-map-range_with_len, get_or-map-range_with_len}
 use Rattle.std.proofs.lemmas.Bool.{cases_lt}
@@ -186,3 +186,12 @@ pub step-lines : (table : TableFile) (files : List CustomerSpool) (lines : List 
 step-lines table files lines parts line x f after y m d =
     ap (λ (ps : List Part). length (part d ps).customer.lines) (parts-moved table files lines line.customer after y m)
     ∙ same_lines table files lines line.customer after y m d ∙ ap (λ (ps : List Part). length (part d ps).customer.lines) f.are
+
+-- and each other customer's part stays
+pub step-others : (table : TableFile) (files : List CustomerSpool) (lines : List Lines) (parts : List Part) (line : LineId) (x : Lines)
+    → Found table files lines parts line x → (after : List CustomerSpool) (y : Lines) → Moves table files lines line.customer after y
+    → (d : ℕ) → d ≢ line.customer → part d (parts_of table after (set lines line.customer y)) ≡ part d parts
+step-others table files lines parts line x f after y m d apart =
+    ap (part d) (step-leads table files lines parts line x f after y m _ refl)
+    ∙ get_or-set_other parts line.customer d (part_with (entry_of (customer_at table line.customer)) (spools.part line.customer after) y)
+    no_part apart

@@ -8,8 +8,13 @@ mod headline;
 mod hub;
 mod law;
 mod opening;
+mod reading;
 mod run;
+mod serve;
 mod sink;
+mod turn;
+mod wire;
+mod wire_law;
 
 pub use event::{Event, Piece};
 pub use fault::{Cause, HubFault, RunFault};
@@ -21,4 +26,9 @@ pub use law::{
     two_lists_are_like,
 };
 pub use njh_customer::{Signal, cuts_are_like};
+pub use reading::{Reading, WireFault};
+pub use serve::serve_turns;
 pub use sink::{Sink, SinkFault};
+pub use turn::wire_turn;
+pub use wire::Wire;
+pub use wire_law::own_wires_decide;

@@ -1,4 +1,6 @@
 mod ArgumentLaws
+mod FileLaws
+mod FoundLines
 mod LineForms
 mod Lines
 mod PrintedParts

@@ -1,16 +1,16 @@
 -- A script read line by line.
 use Rattle.std.proofs.Common.{◌≡◌, ℕ, ◌+◌, ◌<◌, ◌≤◌, true, false, not, eqb, List, [], ◌∷◌, ◌++◌}
-use Rattle.std.proofs.Common.{length, get_or, take, Option, Some, None, Ok, Err, refl, sym, ap, ◌∙◌, subst, arith, inl}
+use Rattle.std.proofs.Common.{length, get_or, take, Option, Ok, Err, refl, sym, ap, ◌∙◌, arith, inl}
 use Rattle.std.proofs.Common.{inr}
 use Rattle.std.specs.List.{position_or_len, filter_map, cons_option}
 use Rattle.std.proofs.lemmas.Bool.{cases_eq, lt-ltb, le-ltb}
-use Rattle.std.proofs.lemmas.List.{take_more, take_all, get_or_read, append-nil}
+use Rattle.std.proofs.lemmas.List.{take_more, take_all, get_or_read}
 use Rattle.std.proofs.lemmas.List.Elements.{filter_map-append}
 use Rattle.std.proofs.lemmas.List.Splits.{length-slice_split}
 use Rattle.std.proofs.lemmas.List.Sums.{position_or_len_is, count_by-le-length}
 use Rattle.njh_table.specs.declared.LineId.{LineId}
 use Rattle.njh_hub.specs.declared.event.Event.{Event}
-use Rattle.njh_program.specs.Script.{lines_of, is_skipped, event_of, can_stand, event_in, events_of}
+use Rattle.njh_program.specs.Script.{lines_of, can_stand, event_in, events_of}
 use Rattle.njh_program.specs.Script.{script_of_lines}
 
 -- there is at most one line more than the text has bytes
@@ -26,7 +26,7 @@ pub Reads-none : (names : List ℕ → Option LineId) (lines : List (List ℕ)) 
 Reads-none names lines = record { tell = refl; good = λ k d below. absurd (omega arith) }
 
 -- one line more
-Reads-more : (names : List ℕ → Option LineId) (lines : List (List ℕ)) (n : ℕ) (events more : List Event) (line : List ℕ)
+pub Reads-more : (names : List ℕ → Option LineId) (lines : List (List ℕ)) (n : ℕ) (events more : List Event) (line : List ℕ)
     → Reads names lines n events → n < length lines → line ≡ get_or lines n line
     → can_stand names line ≡ true → more ≡ cons_option (event_in names line) [] → Reads names lines (n + 1) (events ++ more)
 Reads-more names lines n events more line so_far within at good said = record {
@@ -42,21 +42,6 @@ Reads-more names lines n events more line so_far within at good said = record {
       ];
 }
 
-pub Reads-skip : (names : List ℕ → Option LineId) (lines : List (List ℕ)) (n : ℕ) (events : List Event) (line : List ℕ)
-    → Reads names lines n events → n < length lines → line ≡ get_or lines n line
-    → is_skipped line ≡ true → Reads names lines (n + 1) events
-unfolding can_stand event_in
-Reads-skip names lines n events line so_far within at skipped =
-    let P : List Event → Type 0 = λ xs. Reads names lines (n + 1) xs in
-    subst P (append-nil events) (Reads-more names lines n events [] line so_far within at (rw skipped refl) (rw skipped refl))
-
-pub Reads-event : (names : List ℕ → Option LineId) (lines : List (List ℕ)) (n : ℕ) (events : List Event) (line : List ℕ) (event : Event)
-    → Reads names lines n events → n < length lines → line ≡ get_or lines n line
-    → is_skipped line ≡ false → Some event ≡ event_of names line → Reads names lines (n + 1) (events ++ event ∷ [])
-unfolding can_stand event_in
-Reads-event names lines n events line event so_far within at spoken tells =
-    Reads-more names lines n events (event ∷ []) line so_far within at (rw (spoken, ← tells) refl) (rw (spoken, ← tells) refl)
-
 -- a bad line after good ones is the first
 first_bad-at : (names : List ℕ → Option LineId) (lines : List (List ℕ)) (n : ℕ) (d : List ℕ)
     → n ≤ length lines → ((k : ℕ) → k < n → can_stand names (get_or lines k d) ≡ true)
@@ -67,10 +52,8 @@ first_bad-at names lines n d within good bad =
 
 pub Reads-bad : (names : List ℕ → Option LineId) (lines : List (List ℕ)) (n : ℕ) (events : List Event) (line : List ℕ)
     → Reads names lines n events → n < length lines → line ≡ get_or lines n line
-    → is_skipped line ≡ false → None ≡ event_of names line → script_of_lines names lines ≡ Err (n + 1)
-unfolding can_stand
-Reads-bad names lines n events line so_far within at spoken tells =
-    let bad : can_stand names line ≡ false = rw (spoken, ← tells) refl in
+    → can_stand names line ≡ false → script_of_lines names lines ≡ Err (n + 1)
+Reads-bad names lines n events line so_far within at bad =
     let place = first_bad-at names lines n line (omega arith) (λ k below. so_far.good k line below) (λ below. rw (← at) bad) in
     rw (place, lt-ltb n (length lines) within) refl
 

@@ -6,7 +6,7 @@ use Rattle.std.specs.Io.KnownBytes.{Appends, Keeps}
 use Rattle.std.proofs.lemmas.List.{length-map}
 use Rattle.std.proofs.lemmas.Option.{slice_get_within, get_or_from_slice_get}
 use Rattle.njh_table.specs.declared.LineId.{LineId}
-use Rattle.njh_table.specs.TableFile.{TableFile, NamedLine, no_customer, customer_at, entry_of, HasLine}
+use Rattle.njh_table.specs.TableFile.{TableFile, NamedCustomer, NamedLine, no_customer, customer_at, entry_of, HasLine}
 use Rattle.njh_hub.specs.declared.event.Event.{Event}
 use Rattle.njh_hub.specs.declared.fault.Cause.{Cause}
 use Rattle.njh_hub.specs.declared.fault.Cause.TheVariants as cause
@@ -18,11 +18,11 @@ use Rattle.njh_hub.specs.Whole.{Part, opened}
 use Rattle.njh_hub.specs.Laws.{Begins}
 use Rattle.njh_hub.specs.Stops.{CanStop, HandedUntil}
 use Rattle.njh_hub.specs.Whole as hub
-use Rattle.njh_program.specs.Names.{names_of}
+use Rattle.njh_program.specs.Names.{customers_of, names_of}
 use Rattle.njh_program.specs.declared.fault.ReplayFault.TheVariants.{Hub}
 use Rattle.njh_program.specs.Printed.{text_of, AppendsBeginning, IsPrinted}
 use Rattle.njh_program.specs.PrintedLaws.{text_of-append}
-use Rattle.njh_program.specs.Replayed.{MayEnd, fault_after, text_of_run}
+use Rattle.njh_program.specs.Replayed.{MayEnd, fault_after, text_by, text_with}
 
 get_or-map_default : {X Y : Type 0} (f : X → Y) (xs : List X) (k : ℕ) (d : X) → get_or (map f xs) k (f d) ≡ f (get_or xs k d)
 get_or-map_default f [] k d = refl
@@ -107,12 +107,21 @@ Keeps-none (Some x) None written = absurd written
 Keeps-none (Some x) (Some y) written = written ∙ append-nil x
 
 -- what a hub that was just opened prints
-pub fresh_text : (t : TableFile) (names : List (List (List ℕ))) (parts : List Part) (events : List Event)
-    → names ≡ names_of t → parts ≡ map opened (entries_of t)
-    → text_of names (hub.hub_run parts events).sent ≡ text_of_run t events
-fresh_text t names parts events named fresh =
-    ap (λ (ns : List (List (List ℕ))). text_of ns (hub.hub_run parts events).sent) named
-    ∙ ap (λ (ps : List Part). text_of (names_of t) (hub.hub_run ps events).sent) fresh
+pub fresh_text : (t : TableFile) (names : List (List (List ℕ))) (parts : List Part) (events : List Event) (customers : List (List ℕ))
+    → names ≡ names_of t → parts ≡ map opened (entries_of t) → customers ≡ customers_of t
+    → (P : (List (List ℕ) → List ℕ) → List (List ℕ) → Type 0) → P (text_by names parts events) customers
+    → P (text_with t events) (customers_of t)
+fresh_text t names parts events customers named fresh called P so =
+    let first = subst (λ (ns : List (List (List ℕ))). P (text_by ns parts events) customers) named so in
+    let second = subst (λ (ps : List Part). P (text_by (names_of t) ps events) customers) fresh first in
+    subst (P (text_with t events)) called second
+
+-- it has as many customers as its tables
+pub opened_customers : (t : TableFile) (parts : List Part) (customers : List (List ℕ)) → parts ≡ map opened (entries_of t)
+    → customers ≡ customers_of t → length customers ≡ length parts
+opened_customers t parts customers fresh called =
+    ap (λ (xs : List (List ℕ)). length xs) called ∙ length-map t.customers (λ (c : NamedCustomer). c.name)
+    ∙ sym (ap (λ (ps : List Part). length ps) fresh ∙ length-map (entries_of t) opened ∙ length-map t.customers entry_of)
 
 -- on Ok alone
 pub on_ok_then : {A E : Type 0} (r : Result A E) (P Q : Type 0) → (P → Q) → OnOk r P → OnOk r Q

@@ -5,5 +5,6 @@ pub mod Printed
 pub mod PrintedLaws
 pub mod Replayed
 pub mod Script
+pub mod Found
 pub mod Status
 pub mod TableBytes

@@ -1,7 +1,11 @@
--- The names of the lines.
+-- The names of the customers and of the lines.
 use Rattle.std.specs.Prelude.{ℕ, List, map, Option, option_and_then, slice_get}
 use Rattle.njh_table.specs.declared.LineId.{LineId}
 use Rattle.njh_table.specs.TableFile.{TableFile, NamedCustomer}
+
+-- the names of the customers, in their order
+abbrev pub customers_of : TableFile → List (List ℕ)
+customers_of tables = map (λ customer. customer.name) tables.customers
 
 -- the names of a customer's lines, in their order
 abbrev pub names_in : NamedCustomer → List (List ℕ)

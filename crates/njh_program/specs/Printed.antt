@@ -1,8 +1,13 @@
 -- What is printed.
-use Rattle.std.specs.Prelude.{◌≡◌, ℕ, List, [], ◌∷◌, ◌++◌, Option, unwrap_or}
+use Rattle.std.specs.Prelude.{◌≡◌, ℕ, ◌+◌, ◌<◌, List, [], ◌∷◌, ◌++◌, length, take, Option, unwrap_or}
+use Rattle.std.specs.List.{flat_map}
 use Rattle.std.specs.Io.KnownBytes.{Appends}
 use Rattle.hex.specs.Hex.{encode_lower}
 use Rattle.njh_table.specs.declared.LineId.{LineId}
+use Rattle.njh_ebcdic.specs.Characters.{shown_text}
+use Rattle.njh_ebcdic.specs.Names.{trimmed}
+use Rattle.njh_hub.specs.Files.{FileView, files_at, line_of}
+use Rattle.njh_hub.specs.Whole.{Part}
 use Rattle.njh_program.specs.Names.{name_at}
 
 -- a frame: the name of its line, a blank, its bytes in lower-case hex, and the end of the line
@@ -18,9 +23,26 @@ abbrev pub text_of : List (List (List ℕ)) → List (LineId × List ℕ) → Li
 text_of names [] = []
 text_of names (pair ∷ pairs) = pair_text names pair ++ text_of names pairs
 
+-- a file: the name of its customer, a blank, what NJH001 says of it behind its number, and the end of the line
+unfoldable pub file_text : List ℕ → FileView → List ℕ
+file_text name file = shown_text (trimmed name) ++ 32 ∷ [] ++ shown_text (line_of file) ++ 10 ∷ []
+
+-- files of one customer
+abbrev pub files_text : List ℕ → List FileView → List ℕ
+files_text name files = flat_map (file_text name) files
+
+-- the files of customers of these names, of which the first is the hub's customer of a number
+abbrev pub files_from : ℕ → List (List ℕ) → List Part → List ℕ
+files_from c [] parts = []
+files_from c (name ∷ names) parts = files_text name (files_at c parts) ++ files_from (c + 1) names parts
+
 -- A beginning of this text came after what had been written, where that is known.
 abbrev pub AppendsBeginning : (old new : Option (List ℕ)) (whole : List ℕ) → Type 0
 AppendsBeginning old new whole = (text : List ℕ) × (rest : List ℕ) × (text ++ rest ≡ whole) × Appends old new text
+
+-- A text with the files of customers came after what had been written, but for the files from some customer on.
+abbrev pub IsPrintedUpTo : (customers : List (List ℕ)) (old new : Option (List ℕ)) (text : List (List ℕ) → List ℕ) → Type 0
+IsPrintedUpTo customers old new text = (count : ℕ) × (count < length customers) × Appends old new (text (take count customers))
 
 -- The text of these frames came after what had been written; the names of the lines stayed.
 abbrev pub IsPrinted : (names later : List (List (List ℕ))) (old new : Option (List ℕ)) (pairs : List (LineId × List ℕ)) → Type 0

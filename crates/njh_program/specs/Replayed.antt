@@ -1,11 +1,10 @@
 -- What a replay answers.
-use Rattle.std.specs.Prelude.{◌≡◌, ℕ, ◌<◌, ◌≤◌, List, length, map, Option, IfSome, Ok, Err, ⊤}
+use Rattle.std.specs.Prelude.{◌≡◌, ℕ, ◌<◌, ◌≤◌, List, ◌++◌, length, map, Option, IfSome, Ok, Err, ⊤}
 use Rattle.std.specs.Io.KnownBytes.{Appends}
 use Rattle.njh_table.specs.declared.LineId.{LineId}
 use Rattle.njh_table.specs.TableFile.{TableFile, owner_of}
 use Rattle.njh_hub.specs.Parts.{entries_of}
-use Rattle.njh_hub.specs.Whole.{opened}
-use Rattle.njh_hub.specs.Whole.{hub_run}
+use Rattle.njh_hub.specs.Whole.{Part, opened, part, hub_run}
 use Rattle.njh_hub.specs.declared.event.Event.{Event}
 use Rattle.njh_hub.specs.declared.fault.Cause.{Cause}
 use Rattle.njh_hub.specs.declared.fault.Cause.TheVariants as cause
@@ -13,8 +12,8 @@ use Rattle.njh_program.specs.declared.fault.ReplayFault.{ReplayFault}
 use Rattle.njh_program.specs.declared.fault.ReplayFault.TheVariants.{TooLong, Script, Device, Hub}
 use Rattle.njh_program.specs.declared.script.TheConstants.{LIMIT}
 use Rattle.njh_hub.specs.declared.fault.HubFault.TheVariants.{Memory}
-use Rattle.njh_program.specs.Names.{names_of}
-use Rattle.njh_program.specs.Printed.{text_of, AppendsBeginning}
+use Rattle.njh_program.specs.Names.{customers_of, names_of}
+use Rattle.njh_program.specs.Printed.{files_from, text_of, AppendsBeginning, IsPrintedUpTo}
 use Rattle.njh_program.specs.Script.{script_of}
 
 -- what a reader has left, where that is known, is a good script of these events
@@ -29,9 +28,23 @@ HasTooLong left = IfSome left (λ text. LIMIT < length text)
 abbrev pub HasBadLine : (List ℕ → Option LineId) → Option (List ℕ) → ℕ → Type 0
 HasBadLine names left number = IfSome left (λ text. (length text ≤ LIMIT) × (script_of names text ≡ Err number))
 
--- the text of the frames that a hub of these tables, just opened, sends over these events, with its lines' names
+-- the text of what a hub sends and then holds by these events: the frames with their lines' names, and the files of the customers of
+-- these names, from the first on
+abbrev pub text_by : List (List (List ℕ)) → List Part → List Event → List (List ℕ) → List ℕ
+text_by names parts events customers =
+    let x = hub_run parts events in text_of names x.sent ++ files_from 0 customers x.parts
+
+-- of a hub of these tables that was just opened
+abbrev pub text_with : TableFile → List Event → List (List ℕ) → List ℕ
+text_with tables events customers = text_by (names_of tables) (map opened (entries_of tables)) events customers
+
+-- with the files of all customers
 abbrev pub text_of_run : TableFile → List Event → List ℕ
-text_of_run tables events = text_of (names_of tables) (hub_run (map opened (entries_of tables)) events).sent
+text_of_run tables events = text_with tables events (customers_of tables)
+
+-- the customers of numbers below a count stand alike
+abbrev pub SameParts : (parts others : List Part) → ℕ → Type 0
+SameParts parts others count = (c : ℕ) → c < count → part c others ≡ part c parts
 
 -- A script was replayed: what a reader had left is a good script, and the text of the run over its events came after what had
 -- been written; each where that is known.
@@ -44,6 +57,12 @@ IsReplayed tables left old new = (events : List Event) × HasScript (owner_of ta
 abbrev pub IsBegun : (tables : TableFile) (left old new : Option (List ℕ)) → Type 0
 IsBegun tables left old new = (events : List Event) × HasScript (owner_of tables) left events
     × AppendsBeginning old new (text_of_run tables events)
+
+-- A script was replayed up to a customer's files: it is a good script, and the text of the run over its events came after what had been
+-- written, with the files of the customers before that one; each where that is known.
+abbrev pub IsReplayedUpTo : (tables : TableFile) (left old new : Option (List ℕ)) → Type 0
+IsReplayedUpTo tables left old new = (events : List Event) × HasScript (owner_of tables) left events
+    × IsPrintedUpTo (customers_of tables) old new (text_with tables events)
 
 -- the faults by which a script is refused
 abbrev pub IsRefusal : ReplayFault → Type 0

@@ -2,7 +2,7 @@
 use Rattle.std.specs.Prelude.{◌≡◌, ◌≢◌, ◌⊎◌, ℕ, List, Option, Some, None, Result, Ok, Err, if◌then◌else◌}
 use Rattle.std.specs.Str.{is_utf8}
 use Rattle.njh_table.specs.declared.fault.TableFault.{TableFault}
-use Rattle.njh_table.specs.declared.fault.TableFault.TheVariants.{BadToml, Memory}
+use Rattle.njh_table.specs.declared.fault.TableFault.TheVariants.{BadToml, Memory, TooMany}
 use Rattle.njh_table.specs.Base.{base_tables}
 use Rattle.njh_table.specs.TableFile.{TableFile}
 use Rattle.njh_table.specs.Walk.{tables_of}
@@ -20,8 +20,12 @@ abbrev pub AreGiven : {Path : Type 0} → Option Path → TableFile → Type 0
 AreGiven None tables = tables ≡ base_tables
 AreGiven (Some path) tables = (bytes : List ℕ) × (tables_in bytes ≡ Ok tables)
 
--- why there are none: out of memory, or a file that can't be read, or one whose bytes give this fault
+-- why a file isn't read: it can't be, or memory ran out, or it is longer than any tables need
+abbrev pub IsUnread : Failure → Type 0
+IsUnread failure = (failure ≡ Replay Device) ⊎ (failure ≡ no_memory) ⊎ (failure ≡ Tables TooMany)
+
+-- why there are no tables: out of memory, or a file that isn't read, or one whose bytes give this fault
 abbrev pub AreRefused : {Path : Type 0} → Option Path → Failure → Type 0
 AreRefused None failure = failure ≡ Tables Memory
-AreRefused (Some path) failure = (failure ≡ Replay Device) ⊎ (failure ≡ no_memory)
+AreRefused (Some path) failure = IsUnread failure
     ⊎ ((fault : TableFault) × (bytes : List ℕ) × (failure ≡ Tables fault) × (fault ≢ Memory → tables_in bytes ≡ Err fault))

@@ -93,7 +93,7 @@ fn replay_command<'a>(alloc: Global) -> Result<Command<'a>, AllocError>
 {
     Command::new(alloc, "replay")
         .about(
-            "Runs a script of events from standard input, and prints the frames that the hub sends",
+            "Runs a script of events from standard input, and prints the frames that the hub sends and the files that it then has",
         )
         .arg(tables_option(alloc))
 }

@@ -1,9 +1,12 @@
-//! All of the program: replays a script of events through the hub, and prints the frames that the hub sends.
+//! All of the program: replays a script of events through the hub, and prints the frames that the hub sends and then the files that it
+//! holds.
 #![tactic(auto)]
 
 mod arguments;
+mod cutting;
 mod failure;
 mod fault;
+mod files;
 mod input;
 mod line;
 mod names;

@@ -42,7 +42,7 @@ fn print_hex<W: Write>(out: &mut W, bytes: &[u8]) -> io::Result<()>
 }
 
 /// Writes all of the bytes. After a fault a beginning of them was written.
-fn write_bytes<W: Write>(out: &mut W, bytes: &[u8]) -> io::Result<()>
+pub fn write_bytes<W: Write>(out: &mut W, bytes: &[u8]) -> io::Result<()>
     ensures ok { OnOk result (Appends (W.contents out.old) (W.contents out.new) bytes.now) }
     ensures err { OnErr result (AppendsBeginning (W.contents out.old) (W.contents out.new) bytes.now) }
 {

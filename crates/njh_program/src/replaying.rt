@@ -1,25 +1,29 @@
 //! Replays a script through a hub.
 
-ghost use Rattle.std.specs.Prelude.{◌≡◌, ◌⊎◌, ℕ, All, IfOk, IfErr, OnOk, OnErr};
+ghost use Rattle.std.specs.Prelude.{◌≡◌, ◌≤◌, ◌⊎◌, ℕ, length, All, IfOk, IfErr, OnOk, OnErr};
 ghost use Rattle.std.specs.Io.KnownBytes.{Appends, Keeps};
-ghost use Rattle.njh_program.specs.Printed.{text_of, AppendsBeginning};
-ghost use Rattle.njh_program.specs.Replayed.{fault_after, text_of_run, HasScript, HasTooLong, HasBadLine};
-ghost use Rattle.njh_program.specs.Replayed.{IsBegun, IsReplayed, IsRefusal, MayEnd};
+ghost use Rattle.njh_program.specs.Names.{customers_of};
+ghost use Rattle.njh_program.specs.Printed.{text_of, AppendsBeginning, IsPrintedUpTo};
+ghost use Rattle.njh_program.specs.Replayed.{fault_after, text_by, text_of_run, text_with, HasScript, HasTooLong, HasBadLine};
+ghost use Rattle.njh_program.specs.Replayed.{IsBegun, IsReplayed, IsReplayedUpTo, IsRefusal, MayEnd, SameParts};
 ghost use Rattle.njh_table.specs.TableFile.{owner_of, HasLine};
 ghost use Rattle.njh_hub.specs.Own.{line_of};
 ghost use Rattle.njh_hub.specs.Whole.{hub_run, HasLine as HubHasLine};
 
 use crate::fault::ReplayFault;
+use crate::files::{customer_names, print_files};
 use crate::input::read_text;
 use crate::names::LineNames;
 use crate::printer::Printer;
-use crate::script::events_of;
-use njh_hub::{Cause, Event, Hub, HubFault, sent_in_order};
+use crate::script::{LIMIT, events_of};
+use njh_ebcdic::Name;
+use njh_hub::{Cause, Event, Hub, HubFault, each_is_alone, sent_in_order};
 use njh_table::Tables;
 use std::alloc::Global;
 use std::io::{Read, Write};
 
-/// Reads a whole script and checks it, then runs its events through a hub of these tables and prints what the hub sends.
+/// Reads a whole script and checks it, then runs its events through a hub of these tables, and prints the frames that the hub sends and
+/// then the files that it holds.
 pub fn replay<R: Read, W: Write>(
     alloc: Global,
     tables: Tables,
@@ -27,7 +31,7 @@ pub fn replay<R: Read, W: Write>(
     out: &mut W,
 ) -> Result<(), ReplayFault>
     // What is written is the text of the frames that a hub of these tables sends over the events of the script, which is good
-    // from its first line to its last.
+    // from its first line to its last, and then of the files that each customer has.
     ensures replayed { OnOk result (IsReplayed tables (R.remaining script.old) (W.contents out.old) (W.contents out.new)) }
 
     // It is refused where it is too long, or else at its first bad line, and then nothing is written.
@@ -36,17 +40,19 @@ pub fn replay<R: Read, W: Write>(
         HasBadLine (owner_of tables) (R.remaining script.old) number }
     ensures silent { IfErr result (λ fault. IsRefusal fault → out.new ≡ out.old) }
 
-    // Else a device failed, and a beginning of that text is written, or nothing; or memory ran out, and nothing is written.
+    // Else a device failed, and a beginning of that text is written, or nothing; or memory ran out, before anything was written or when
+    // the text was written up to the files of some customer.
     ensures faults { IfErr result MayEnd }
     ensures begun { OnErr result (Keeps (W.contents out.old) (W.contents out.new)
         ⊎ IsBegun tables (R.remaining script.old) (W.contents out.old) (W.contents out.new)) }
-    ensures memory { result ≡ Err (ReplayFault.Hub HubFault.Memory) → Keeps (W.contents out.old) (W.contents out.new) }
+    ensures memory { result ≡ Err (ReplayFault.Hub HubFault.Memory) → Keeps (W.contents out.old) (W.contents out.new)
+        ⊎ IsReplayedUpTo tables (R.remaining script.old) (W.contents out.old) (W.contents out.new) }
 {
     let events = read_events(alloc, &tables, script)?;
     print_events(alloc, tables, &events, out)
 }
 
-/// Runs events through a hub of these tables, and prints each frame that it sends.
+/// Runs events through a hub of these tables, and prints each frame that it sends and then each file that it holds.
 fn print_events<W: Write>(
     alloc: Global,
     tables: Tables,
@@ -56,13 +62,43 @@ fn print_events<W: Write>(
     requires { All (λ event. HasLine tables (line_of event)) events.now }
     ensures printed { OnOk result (Appends (W.contents out.old) (W.contents out.new) (text_of_run tables events.now)) }
     ensures begun { OnErr result (AppendsBeginning (W.contents out.old) (W.contents out.new) (text_of_run tables events.now)) }
-    ensures memory { result ≡ Err (ReplayFault.Hub HubFault.Memory) → Keeps (W.contents out.old) (W.contents out.new) }
+    ensures memory { result ≡ Err (ReplayFault.Hub HubFault.Memory) → Keeps (W.contents out.old) (W.contents out.new)
+        ⊎ IsPrintedUpTo (customers_of tables) (W.contents out.old) (W.contents out.new) (text_with tables events.now) }
     ensures faults { IfErr result MayEnd }
     ensures refuses_no_script { IfErr result (λ fault. ¬ IsRefusal fault) }
 {
     let names = LineNames::of(alloc, &tables)?;
+    let customers = customer_names(alloc, &tables)?;
     let mut hub = Hub::open(alloc, tables)?;
-    print_run(&mut hub, events, &names, out)
+    print_all(&mut hub, events, &names, &customers, out)
+}
+
+/// Runs events through a hub, and prints each frame that it sends and then each file that it holds.
+fn print_all<W: Write>(
+    hub: &mut Hub,
+    events: &[Event],
+    names: &LineNames,
+    customers: &[Name],
+    out: &mut W,
+) -> Result<(), ReplayFault>
+    requires lines { All (λ event. HubHasLine hub.old (line_of event)) events.now }
+    requires all { length customers.now ≡ length hub.old }
+    requires few { length customers.now ≤ 64 }
+    ensures printed { OnOk result (Appends (W.contents out.old) (W.contents out.new)
+        (text_by names.now hub.old events.now customers.now)) }
+    ensures begun { OnErr result (AppendsBeginning (W.contents out.old) (W.contents out.new)
+        (text_by names.now hub.old events.now customers.now)) }
+    ensures memory { result ≡ Err (ReplayFault.Hub HubFault.Memory) → Keeps (W.contents out.old) (W.contents out.new)
+        ⊎ IsPrintedUpTo customers.now (W.contents out.old) (W.contents out.new) (text_by names.now hub.old events.now) }
+    ensures faults { IfErr result MayEnd }
+    ensures refuses_no_script { IfErr result (λ fault. ¬ IsRefusal fault) }
+{
+    print_run(hub, events, names, out)?;
+    print_files(hub, customers, out)?;
+    match out.flush() {
+        Ok(()) => Ok(()),
+        Err(_) => Err(ReplayFault::Device),
+    }
 }
 
 /// Runs events through a hub, and prints each frame that it sends.
@@ -75,9 +111,11 @@ fn print_run<W: Write>(
     requires { All (λ event. HubHasLine hub.old (line_of event)) events.now }
     ensures printed { OnOk result (Appends (W.contents out.old) (W.contents out.new)
         (text_of names.now (hub_run hub.old events.now).sent)) }
+    ensures after { OnOk result (SameParts (hub_run hub.old events.now).parts hub.new (length hub.old)) }
     ensures begun { OnErr result (AppendsBeginning (W.contents out.old) (W.contents out.new)
         (text_of names.now (hub_run hub.old events.now).sent)) }
     ensures memory { result ≡ Err (ReplayFault.Hub HubFault.Memory) → Keeps (W.contents out.old) (W.contents out.new) }
+    ensures customers { length hub.new ≡ length hub.old }
     ensures faults { IfErr result MayEnd }
     ensures refuses_no_script { IfErr result (λ fault. ¬ IsRefusal fault) }
 {
@@ -87,15 +125,14 @@ fn print_run<W: Write>(
         failures: 0,
     };
     match hub.run(events, &mut printer) {
-        Ok(()) => {}
+        Ok(()) => {
+            each_is_alone();
+            Ok(())
+        }
         Err(fault) => {
             sent_in_order();
-            return Err(fault_after(fault.cause));
+            Err(fault_after(fault.cause))
         }
-    }
-    match out.flush() {
-        Ok(()) => Ok(()),
-        Err(_) => Err(ReplayFault::Device),
     }
 }
 
@@ -112,7 +149,7 @@ fn read_events<R: Read>(
         HasBadLine (owner_of tables.now) (R.remaining script.old) number }
     ensures faults { IfErr result MayEnd }
 {
-    let text = read_text(alloc, script)?;
+    let text = read_text(alloc, LIMIT, script)?;
     events_of(alloc, tables, &text)
 }
 

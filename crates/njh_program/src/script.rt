@@ -1,15 +1,17 @@
 //! The events of a script.
 
-ghost use Rattle.std.specs.Prelude.{◌≡◌, ℕ, ◌≤◌, ◌⊎◌, length, All, IfOk, IfErr};
+ghost use Rattle.std.specs.Prelude.{◌≡◌, ℕ, ◌≤◌, ◌⊎◌, ◌++◌, [], length, All, IfOk, IfErr, OnOk};
+ghost use Rattle.std.specs.List.{cons_option};
 ghost use Rattle.njh_table.specs.TableFile.{owner_of, HasLine};
 ghost use Rattle.njh_hub.specs.Own.{line_of};
-ghost use Rattle.njh_program.specs.Script.{is_skipped, script_of};
+ghost use Rattle.njh_program.specs.Script.{can_stand, event_in, is_skipped, script_of};
 
+use crate::cutting::first_line;
 use crate::fault::ReplayFault;
 use crate::line::event_of;
 use njh_hub::{Event, HubFault};
 use njh_table::Tables;
-use std::alloc::Global;
+use std::alloc::{AllocError, Global};
 
 /// How many bytes a script has at most.
 pub const LIMIT: usize = 1_048_576;
@@ -26,17 +28,44 @@ pub fn events_of(alloc: Global, tables: &Tables, text: &[u8]) -> Result<Vec<Even
 {
     let mut events = Vec::new(alloc);
     let mut number = 0;
-    for line in text.split(|byte| *byte == b'\n') {
+    let mut rest = text;
+    'lines: loop {
+        let (line, behind) = first_line(rest);
         number += 1;
-        if is_skipped(line) {
-            continue;
+        if !add_event(alloc, tables, line, &mut events)? {
+            return Err(ReplayFault::Script { line: number });
         }
-        match event_of(alloc, tables, line)? {
-            Some(event) => events.push(event)?,
-            None => return Err(ReplayFault::Script { line: number }),
+        match behind {
+            Some(behind) => rest = behind,
+            None => return Ok(events),
         }
     }
-    Ok(events)
+}
+
+/// Adds the event of a line that isn't skipped. Says whether the line may stand in a script; if not, nothing was added.
+#[tactic(auto, unfolding(crate::specs::Script::can_stand, crate::specs::Script::event_in))]
+fn add_event(
+    alloc: Global,
+    tables: &Tables,
+    line: &[u8],
+    events: &mut Vec<Event>,
+) -> Result<bool, AllocError>
+    ensures stands { IfOk result (λ stands. stands ≡ can_stand (owner_of tables.now) line.now) }
+    ensures added { OnOk result (events.new.items
+        ≡ events.old.items ++ cons_option (event_in (owner_of tables.now) line.now) []) }
+    ensures lines { All (λ event. HasLine tables.now (line_of event)) events.old.items
+        → OnOk result (All (λ event. HasLine tables.now (line_of event)) events.new.items) }
+{
+    if is_skipped(line) {
+        return Ok(true);
+    }
+    match event_of(alloc, tables, line)? {
+        Some(event) => {
+            events.push(event)?;
+            Ok(true)
+        }
+        None => Ok(false),
+    }
 }
 
 /// Whether a line is empty or a comment.

@@ -1,24 +1,42 @@
 //! The tables that the program goes by.
 
 ghost use Rattle.std.specs.Prelude.{◌≡◌, ◌≢◌, option_map, IfOk, IfErr};
-ghost use Rattle.njh_program.specs.TableBytes.{tables_in, AreGiven, AreRefused};
+ghost use Rattle.njh_program.specs.TableBytes.{tables_in, AreGiven, AreRefused, IsUnread};
 
 use crate::failure::Failure;
+use crate::fault::ReplayFault;
+use crate::input::read_text;
 use njh_table::{TableFault, Tables};
 use std::alloc::Global;
-use std::fs;
+use std::fs::File;
 use std::rt::Files;
+
+/// The most bytes of a table file, 16 MiB: ten times what the largest tables need.
+const MOST_TABLE_BYTES: usize = 16_777_216;
 
 /// The tables of a file, or the base tables where none is named.
 ///
-/// No clause says which bytes a file holds, so of a file no more is known than that its tables are those of some bytes.
+/// No clause says which bytes a file holds, so of a file no more is known than that its tables are those of some bytes. It is read to a
+/// bound; one that is longer is `TooMany`.
 pub fn tables_of<R: Files + AllocGlobal>(rt: &R, file: Option<&str>) -> Result<Tables, Failure>
     ensures given { IfOk result (AreGiven (option_map (λ path. path.now) file.entry)) }
     ensures refused { IfErr result (AreRefused (option_map (λ path. path.now) file.entry)) }
 {
     match file {
-        Some(path) => Ok(tables_in(rt.alloc(), &fs::read(rt, path)?)?),
+        Some(path) => Ok(tables_in(rt.alloc(), &table_bytes(rt, path)?)?),
         None => Ok(Tables::base(rt.alloc())?),
+    }
+}
+
+/// The bytes of a table file.
+fn table_bytes<R: Files + AllocGlobal>(rt: &R, path: &str) -> Result<Vec<u8>, Failure>
+    ensures { IfErr result IsUnread }
+{
+    let mut file = File::open(rt, path)?;
+    match read_text(rt.alloc(), MOST_TABLE_BYTES, &mut file) {
+        Ok(bytes) => Ok(bytes),
+        Err(ReplayFault::TooLong) => Err(Failure::Tables(TableFault::TooMany)),
+        Err(fault) => Err(Failure::Replay(fault)),
     }
 }
 

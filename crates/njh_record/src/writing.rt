@@ -2,7 +2,7 @@
 
 ghost use Rattle.std.specs.Prelude.{◌≡◌, ◌≤◌, ◌<◌, length, take};
 ghost use Rattle.njh_record.specs.Parts.{item_of};
-ghost use Rattle.njh_record.specs.Writing.{run_of, is_run, before_run, run_item, first_item, spelling_of};
+ghost use Rattle.njh_record.specs.Writing.{run_of, is_run, begins_run, before_run, run_item, first_item, spelling_of};
 ghost use Rattle.njh_record.specs.Written.{SpellsFront};
 
 use crate::Spelled;
@@ -33,6 +33,17 @@ fn is_run(byte: u8, count: usize) -> bool
     }
 }
 
+/// Whether a run that is worth an item of its own begins the bytes.
+fn begins_run(bytes: &[u8]) -> bool
+    requires { 0 < length bytes.now }
+    ensures { result ≡ begins_run bytes.now }
+{
+    match bytes {
+        [first, second, ..] if *first == *second => is_run(*first, run_len(bytes)),
+        _ => false,
+    }
+}
+
 /// How many bytes stand before the first run, 63 at most.
 fn literal_len(bytes: &[u8]) -> usize
     ensures within { result ≤ length bytes.now }
@@ -40,8 +51,7 @@ fn literal_len(bytes: &[u8]) -> usize
 {
     let limit = bytes.len().min(LONGEST_LITERAL);
     for place in 0..limit {
-        let rest = &bytes[place..];
-        if is_run(rest[0], run_len(rest)) {
+        if begins_run(&bytes[place..]) {
             return place;
         }
     }

@@ -1,24 +1,43 @@
-use Rattle.std.proofs.Common.{ℕ, List, subst}
+use Rattle.std.proofs.Common.{◌≡◌, ◌⊎◌, Err, ◌∙◌}
 use Rattle.std.specs.Prelude.{OnOk, OnErr}
-use Rattle.std.specs.Io.KnownBytes.{Appends}
-use Rattle.njh_program.specs.Printed.{AppendsBeginning}
-use Rattle.njh_program.proofs.ReplayLaws.{fresh_text, opened_lines}
+use Rattle.std.specs.Io.KnownBytes.{Appends, Keeps}
+use Rattle.njh_hub.specs.declared.fault.HubFault.TheVariants.{Memory}
+use Rattle.njh_program.specs.declared.fault.ReplayFault.TheVariants.{Hub}
+use Rattle.njh_program.specs.Printed.{AppendsBeginning, IsPrintedUpTo}
+use Rattle.njh_program.proofs.ReplayLaws.{fresh_text, opened_customers, opened_lines}
 use Rattle.njh_program.proofs.replaying.print_events.Goals as goal
 
-pub print_run-requires : goal.print_run-requires
-print_run-requires g c = opened_lines c.args.tables c.in_ok-hub.hub c.args.events.now c.in_ok-hub.ensures.opened c.requires
+pub print_all-requires-clause-lines : goal.print_all-requires-clause-lines
+print_all-requires-clause-lines g c =
+    opened_lines c.args.tables c.in_ok-hub.hub c.args.events.now c.in_ok-hub.ensures.opened c.requires
+
+pub print_all-requires-clause-all : goal.print_all-requires-clause-all
+print_all-requires-clause-all g c =
+    opened_customers c.args.tables c.in_ok-hub.hub c.deref.result.now c.in_ok-hub.ensures.opened
+    (c.deref.ensures.value ∙ c.in_ok-customers.ensures.names)
 
 pub returns-clause-printed : goal.returns-clause-printed
 returns-clause-printed g c =
     let contents = g.W.Write.contents in
-    let P : List ℕ → Type 0 = λ text. OnOk c.print_run.result (Appends (contents c.args.out.now) (contents c.print_run.new.out) text) in
-    subst P (fresh_text c.args.tables c.in_ok-names.names c.in_ok-hub.hub c.args.events.now c.in_ok-names.ensures
-    c.in_ok-hub.ensures.opened) c.print_run.ensures.printed
+    fresh_text c.args.tables c.in_ok-names.names c.in_ok-hub.hub c.args.events.now c.deref.result.now c.in_ok-names.ensures
+    c.in_ok-hub.ensures.opened (c.deref.ensures.value ∙ c.in_ok-customers.ensures.names)
+    (λ text customers. OnOk c.print_all.result (Appends (contents c.args.out.now) (contents c.print_all.new.out) (text customers)))
+    c.print_all.ensures.printed
 
 pub returns-clause-begun : goal.returns-clause-begun
 returns-clause-begun g c =
     let contents = g.W.Write.contents in
-    let P : List ℕ → Type 0 = λ text. OnErr c.print_run.result
-    (AppendsBeginning (contents c.args.out.now) (contents c.print_run.new.out) text) in
-    subst P (fresh_text c.args.tables c.in_ok-names.names c.in_ok-hub.hub c.args.events.now c.in_ok-names.ensures
-    c.in_ok-hub.ensures.opened) c.print_run.ensures.begun
+    fresh_text c.args.tables c.in_ok-names.names c.in_ok-hub.hub c.args.events.now c.deref.result.now c.in_ok-names.ensures
+    c.in_ok-hub.ensures.opened (c.deref.ensures.value ∙ c.in_ok-customers.ensures.names)
+    (λ text customers. OnErr c.print_all.result
+    (AppendsBeginning (contents c.args.out.now) (contents c.print_all.new.out) (text customers)))
+    c.print_all.ensures.begun
+
+pub returns-clause-memory : goal.returns-clause-memory
+returns-clause-memory g c =
+    let contents = g.W.Write.contents in
+    fresh_text c.args.tables c.in_ok-names.names c.in_ok-hub.hub c.args.events.now c.deref.result.now c.in_ok-names.ensures
+    c.in_ok-hub.ensures.opened (c.deref.ensures.value ∙ c.in_ok-customers.ensures.names)
+    (λ text customers. c.print_all.result ≡ Err (Hub Memory) → Keeps (contents c.args.out.now) (contents c.print_all.new.out)
+    ⊎ IsPrintedUpTo customers (contents c.args.out.now) (contents c.print_all.new.out) text)
+    c.print_all.ensures.memory

@@ -1,4 +1,4 @@
-use Rattle.std.proofs.Common.{◌≡◌, length}
+use Rattle.std.proofs.Common.{◌≡◌, ◌+◌, ◌≤◌, length, drop}
 use Rattle.std.specs.Prelude.{All}
 use Rattle.njh_table.specs.TableFile.{owner_of, HasLine}
 use Rattle.njh_hub.specs.Own.{line_of}
@@ -6,11 +6,13 @@ use Rattle.njh_program.specs.Script.{lines_of}
 use Rattle.njh_program.proofs.Lines.{Reads}
 use Rattle.njh_program.proofs.script.events_of.Given as goal
 
-abbrev pub invariant-loop-line : goal.invariant-loop-line
-invariant-loop-line l = record {
-  reads : Reads (owner_of l.tables) (lines_of l.text) (length l.yielded) l.events.items;
+abbrev pub invariant-lines : goal.invariant-lines
+invariant-lines l = record {
+  reads : Reads (owner_of l.tables) (lines_of l.text) l.number l.events.items;
   lines : All (λ event. HasLine l.tables (line_of event)) l.events.items;
-  counted : l.number ≡ length l.yielded;
-  can_next : (goal.iterator-loop-line).can_next l.line-iterator;
-  is_finite : (goal.iterator-loop-line).is_finite l.line-iterator;
+  left : drop l.number (lines_of l.text) ≡ lines_of l.rest;
+  few : l.number + length l.rest ≤ length l.text;
 }
+
+abbrev pub decreases-lines : goal.decreases-lines
+decreases-lines l = length l.rest

@@ -1,18 +1,17 @@
-use Rattle.std.proofs.Common.{◌≡◌, ℕ, subst, arith}
+use Rattle.std.proofs.Common.{◌≡◌, ℕ, true, false, drop, sym, ◌∙◌, subst, arith}
 use Rattle.std.proofs.lemmas.List.{take_rest}
-use Rattle.njh_record.proofs.Runs.{NoRunBefore, NoRunBefore-more, NoRunBefore-at, NoRunBefore-limit, begins_run-tested}
+use Rattle.njh_record.proofs.Runs.{NoRunBefore, NoRunBefore-more, NoRunBefore-at, NoRunBefore-limit}
+use Rattle.njh_record.specs.Writing.{begins_run}
 use Rattle.njh_record.proofs.writing.literal_len.Goals as goal
 
-pub returns-then-is_run-clause-front : goal.returns-then-is_run-clause-front
-returns-then-is_run-clause-front c =
-    let at = begins_run-tested _ _ _ _ _
-    (take_rest c.args.bytes.now c.loop-place.place) c.run_len.ensures c.is_run.ensures c.if-is_run.true in
+pub returns-then-begins_run-clause-front : goal.returns-then-begins_run-clause-front
+returns-then-begins_run-clause-front c =
+    let at : begins_run (drop c.loop-place.place c.args.bytes.now) ≡ true = rw (← take_rest c.args.bytes.now c.loop-place.place) (sym c.begins_run.ensures ∙ c.if-begins_run.true) in
     NoRunBefore-at _ _ (omega arith) at c.loop-place.invariant
 
 pub loop-place-preserved : goal.loop-place-preserved
 loop-place-preserved c =
-    let past = begins_run-tested _ _ _ _ _
-    (take_rest c.args.bytes.now c.loop-place.place) c.run_len.ensures c.is_run.ensures c.if-is_run.false in
+    let past : begins_run (drop c.loop-place.place c.args.bytes.now) ≡ false = rw (← take_rest c.args.bytes.now c.loop-place.place) (sym c.begins_run.ensures ∙ c.if-begins_run.false) in
     NoRunBefore-more _ _ (omega arith) past c.loop-place.invariant
 
 pub returns-clause-front : goal.returns-clause-front

@@ -2,7 +2,7 @@ use Rattle.std.proofs.Common.{◌≡◌, ℕ, ◌∙◌, List, length, get_or, s
 use Rattle.njh_customer.specs.Part.{bytes_taken}
 use Rattle.njh_hub.specs.Parts.{IsHub, parts_of}
 use Rattle.njh_hub.specs.Whole.{Part, HasLine, part}
-use Rattle.njh_hub.proofs.PartsLaws.{found, hub-moved, line-there, step-leads, step-lines, stepped}
+use Rattle.njh_hub.proofs.PartsLaws.{found, hub-moved, line-there, step-leads, step-lines, step-others, stepped}
 use Rattle.njh_hub.proofs.hub.Hub.take.Goals as goal
 
 pub index_mut-lines-requires : goal.index_mut-lines-requires
@@ -54,6 +54,8 @@ returns-clause-step c =
     record {
       hub = at ∙ step-leads s.tables s.spool s.lines.items c.args.self.now line x f t.new.spool t.new.self m
           (steps (part line.customer c.args.self.now)).after (t.ensures.part ∙ ap (λ (p : Part). (steps p).after) f.part_is);
+      others = λ d apart. ap (part d) at
+          ∙ step-others s.tables s.spool s.lines.items c.args.self.now line x f t.new.spool t.new.self m d apart;
       frame = c.into_bytes.ensures.bytes ∙ t.ensures.frame ∙ ap (λ (p : Part). (steps p).frame) f.part_is;
       lines = λ d. ap (λ (ps : List Part). length (part d ps).customer.lines) at
           ∙ step-lines s.tables s.spool s.lines.items c.args.self.now line x f t.new.spool t.new.self m d;

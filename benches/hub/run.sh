@@ -1,0 +1,49 @@
+#!/bin/bash
+# Builds the program, makes the scripts, runs it on them and prints what a byte of each costs. See README.md.
+#
+# run.sh [PROGRAM]: with PROGRAM nothing is built.
+set -e
+here=$(cd "$(dirname "$0")" && pwd)
+top=$(cd "$here/../.." && pwd)
+work=$(mktemp -d)
+trap 'rm -rf "$work"' EXIT
+program=$1
+if [ -z "$program" ]; then
+  cd "$top/crates/njehub"
+  rt run -- replay < /dev/null > "$work/build" 2>&1 || { cat "$work/build"; exit 1; }
+  program=$top/crates/njehub/out/njehub
+fi
+program=$(realpath "$program")
+cd "$work"
+
+# The instructions of a whole run, for each byte of its script.
+cost() {
+  python3 "$here/scripts.py" . "$1" "$2"
+  valgrind --tool=callgrind --callgrind-out-file=/dev/null "$program" replay --tables "$1.toml" < "$1.script" \
+    2> told > /dev/null || { cat told; exit 1; }
+  awk -v bytes="$(wc -c < "$1.script")" '/Collected/ { printf "%.1f", $NF / bytes }' told
+}
+
+# Whether what is printed has all of some texts.
+has() {
+  "$program" replay --tables "$1.toml" < "$1.script" > printed
+  for text in "${@:2}"; do
+    grep -q "$text" printed || return 1
+  done
+}
+
+row() {
+  large=$(cost "$1" 1048000)
+  small=$(cost "$1" 250000)
+  note=
+  has "$1" "${@:4}" || note='not yet: the hub does not do all of it'
+  printf '%-9s %8s %8s %8s %8s   %s\n' "$1" "$large" "$small" "$2" "$3" "$note"
+}
+
+printf '%-9s %8s %8s %8s %8s\n' row '1 MB' '250 kB' 'at most' plain
+# A block of records on the other line; the reply of LIST; both; a block without records or ACK0; B0 to SYSIN 2.
+row cards 28 18 '^a2 1002.\{1000\}'
+row commands 280 186 d5d1c8f0f0f140
+row mixed 38 25 d5d1c8f0f0f140 '^c0x2 1002.\{300\}'
+row empty 65 43 '^a1 1070'
+row ignored 25 11 '^a1 1002....cfb0a8'

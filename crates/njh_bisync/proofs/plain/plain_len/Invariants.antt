@@ -1,0 +1,13 @@
+use Rattle.std.proofs.Common.{◌≡◌, ◌-◌, ◌+◌, ◌≤◌, length}
+use Rattle.njh_bisync.specs.Plain.{plain_len}
+use Rattle.njh_bisync.proofs.plain.plain_len.Given as goal
+
+-- What was passed over is plain.
+abbrev pub invariant-groups : goal.invariant-groups
+invariant-groups l = record {
+  within : length l.rest ≤ length l.bytes;
+  plain : plain_len l.bytes ≡ (length l.bytes - length l.rest) + plain_len l.rest;
+}
+
+abbrev pub decreases-groups : goal.decreases-groups
+decreases-groups l = length l.rest

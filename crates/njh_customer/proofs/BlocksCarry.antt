@@ -1,0 +1,210 @@
+-- What a block carries of each stream's file, wherever the stream stands.
+use Rattle.std.proofs.Common.{◌≡◌, ◌<◌, ◌≤◌, ℕ, ◌-◌, Bool, true, false, cond, ◌==◌, ◌⊎◌, inl, inr, List, [], ◌∷◌, ◌++◌, length, map, take, drop, get_or, find}
+use Rattle.std.proofs.Common.{Option, Some, None, slice_get, nat_le, refl, sym, ap, subst, ◌∙◌, arith, eq-eqb}
+use Rattle.std.proofs.lemmas.Bool.{leb-true, leb-false}
+use Rattle.std.proofs.lemmas.List.{drop_all, length-drop, length-take-le}
+use Rattle.std.proofs.lemmas.List.Elements.{filter-append}
+use Rattle.std.proofs.lemmas.Option.{slice_get_cases}
+use Rattle.njh_block.specs.Blocks.{Item, all_suspended, rcb_of}
+use Rattle.njh_spool.specs.CustomerSpool.{CustomerSpool, WholeFile, whole_numbered}
+use Rattle.njh_spool.specs.declared.State.{State}
+use Rattle.njh_table.specs.Entries.{CustomerEntry}
+use Rattle.njh_record.specs.Stored.{Stored}
+use Rattle.njh_stream.specs.declared.sender.Sender.{Sender}
+use Rattle.njh_stream.specs.declared.sender.Sender.TheVariants.{Idle, Requested, Sending, EofSent, Aborting}
+use Rattle.njh_stream.specs.Sending.{goes_by, next_at, next_of, record_at}
+use Rattle.njh_sched.specs.NextBlock.{Filling, Source, after_source, after_sources, data_item, filled, is_sending, sender_at, sources}
+use Rattle.njh_sched.specs.Laws.{Does, EachDoes, left, gives_up, asks, sends, is_under, records_under}
+use Rattle.njh_sched.specs.Carrying.{end_of_file, file_records, record_item, records_of}
+use Rattle.njh_sched.specs.Carrying as carrying
+use Rattle.njh_customer.specs.Outgoing.{Outgoing, marked, records_numbered}
+use Rattle.njh_customer.specs.Moves as moves
+use Rattle.njh_customer.specs.Moves.{Sends}
+use Rattle.njh_customer.specs.Doing.{Carries, nothing, on_its_way, to_its_end}
+use Rattle.njh_customer.proofs.SendingMoves.{GivesOne, out_of, stream_now, gives}
+use Rattle.njh_customer.proofs.SendingMoves as sending
+use Rattle.njh_customer.proofs.DoingLaws.{BlocksCarry}
+
+-- ---- no record that goes out changes a file's records
+
+marked_records : (n m : ℕ) (state : State) (fs : List WholeFile) →
+    records_of (find (λ f. f.number == n) (marked m state fs)) ≡ records_of (find (λ f. f.number == n) fs)
+marked_records n m state [] = refl
+marked_records n m state (f ∷ fs) = at_mark (f.number == m) (f.number == n) (marked_records n m state fs)
+  where
+    found : Bool → WholeFile → List WholeFile → List Stored
+    found b g gs = records_of (cond b (Some g) (find (λ x. x.number == n) gs))
+
+    at_number :
+        (c : Bool) (g : WholeFile) → g.records ≡ f.records
+        → records_of (find (λ x. x.number == n) (marked m state fs)) ≡ records_of (find (λ x. x.number == n) fs)
+        → found c g (marked m state fs) ≡ found c f fs
+    at_number true g same rest = same
+    at_number false g same rest = rest
+
+    at_mark :
+        (b c : Bool) → records_of (find (λ x. x.number == n) (marked m state fs)) ≡ records_of (find (λ x. x.number == n) fs)
+        → records_of (find (λ x. x.number == n) (cond b (record f { state = state }) f ∷ marked m state fs)) ≡ records_of (cond (f.number == n) (Some f) (find (λ x. x.number == n) fs))
+    at_mark true c rest = at_number (f.number == n) (record f { state = state }) refl rest
+    at_mark false c rest = at_number (f.number == n) f refl rest
+
+pub sends_keep_records : (entry : CustomerEntry) (l n : ℕ) (x y : Outgoing) → Sends entry l x y → records_numbered n y ≡ records_numbered n x
+sends_keep_records entry l n x y (moves.gives_up k at e) = ap (records_numbered n) e
+sends_keep_records entry l n x y (moves.asks k f at found e) = ap (records_numbered n) e ∙ marked_records n f.number _ x.files
+sends_keep_records entry l n x y (moves.goes_on k m place r at found e) = ap (records_numbered n) e
+sends_keep_records entry l n x y (moves.ends k m place at found e) = ap (records_numbered n) e
+
+gives_keep_records :
+    (entry : CustomerEntry) (l n : ℕ) (base : List (List Sender)) (x y : Filling) → GivesOne entry l base x y
+    → file_records n y.spool ≡ file_records n x.spool
+gives_keep_records entry l n base x y (sending.nothing e more items) = ap (records_numbered n) e
+gives_keep_records entry l n base x y (sending.a_record s i items) = sends_keep_records entry l n (out_of l base x) (out_of l base y) s
+
+-- ---- a place behind the last record
+
+-- of a stream there nothing goes out, or the end of file alone
+data Behind (k n p : ℕ) (y : Filling) : Type 0 where
+  stays : sender_at k y.outlet ≡ Sending n p → records_under (rcb_of k) y.block.items ≡ [] → Behind k n p y
+  ended : sender_at k y.outlet ≡ EofSent n → records_under (rcb_of k) y.block.items ≡ end_of_file k ∷ [] → Behind k n p y
+
+abbrev record_where : ℕ → Option WholeFile → Option Stored
+record_where p o = elim o [ Some f ↦ slice_get f.records p | None ↦ None ]
+
+no_record : (n p : ℕ) (s : CustomerSpool) → length (file_records n s) ≤ p → record_at n p s ≡ None
+no_record n p s past = at_file (whole_numbered n s) past
+  where
+    none : (records : List Stored) → length records ≤ p → slice_get records p ≡ None
+    none records h = at_place (slice_get_cases records p).1
+      where
+        at_place :
+            ((r : Stored) × (p < length records) × (slice_get records p ≡ Some r) × (get_or records p r ≡ r)) ⊎ ((length records ≤ p) × (slice_get records p ≡ None))
+            → slice_get records p ≡ None
+        at_place (inl found) = absurd (omega (arith, found.1, h))
+        at_place (inr past) = past.1
+
+    at_file : (o : Option WholeFile) → length (records_of o) ≤ p → record_where p o ≡ None
+    at_file None h = refl
+    at_file (Some f) h = none f.records h
+
+one_end : (k : ℕ) (items : List Item) → records_under (rcb_of k) items ≡ [] → records_under (rcb_of k) (items ++ end_of_file k ∷ []) ≡ end_of_file k ∷ []
+one_end k items e =
+    filter-append (is_under (rcb_of k)) items (end_of_file k ∷ [])
+    ∙ ap (λ front. front ++ records_under (rcb_of k) (end_of_file k ∷ [])) e
+    ∙ ap (λ b. cond b (end_of_file k ∷ []) []) (eq-eqb (rcb_of k) (rcb_of k) refl)
+
+behind_still : (goes : WholeFile → Bool) (k n p : ℕ) (x y : Filling) → length (file_records n x.spool) ≤ p → Behind k n p x → Does goes k x y → Behind k n p y
+behind_still goes k n p x y past (stays at none) (left h) = stays (h.sender ∙ at) (h.items ∙ none)
+behind_still goes k n p x y past (stays at none) (gives_up h) = absurd (cc (sym h.before ∙ at))
+behind_still goes k n p x y past (stays at none) (asks h) = absurd (cc (sym h.before ∙ at))
+behind_still goes k n p x y past (stays at none) (sends h) =
+    let next : next_of (sender_at k x.outlet) x.spool ≡ next_at n p None = ap (λ s. next_of s x.spool) at ∙ ap (next_at n p) (no_record n p x.spool past) in
+    ended (h.after ∙ ap (λ t. t.sender) next)
+    (ap (records_under (rcb_of k)) (h.item ∙ ap (λ t. x.block.items ++ data_item k t.stored ∷ []) next) ∙ one_end k x.block.items none)
+behind_still goes k n p x y past (ended at one) (left h) = ended (h.sender ∙ at) (h.items ∙ one)
+behind_still goes k n p x y past (ended at one) (gives_up h) = absurd (cc (sym h.before ∙ at))
+behind_still goes k n p x y past (ended at one) (asks h) = absurd (cc (sym h.before ∙ at))
+behind_still goes k n p x y past (ended at one) (sends h) = absurd (cc (sym h.before ∙ ap is_sending at))
+
+-- ---- the laws of the crate of blocks
+
+abbrev pub CarriesInOrder : Type 0
+CarriesInOrder =
+    (goes : WholeFile → Bool) (k n p : ℕ) (x : Filling) → k < 8 → k < length x.outlet.senders → sender_at k x.outlet ≡ Sending n p
+    → p ≤ length (file_records n x.spool)
+    → carrying.Carries k n p (file_records n x.spool) (records_under (rcb_of k) x.block.items) (filled goes x)
+
+abbrev pub IsQuiet : Type 0
+IsQuiet =
+    (goes : WholeFile → Bool) (k : ℕ) (x : Filling) → k < 8 → k < length x.outlet.senders → is_sending (sender_at k x.outlet) ≡ false
+    → records_under (rcb_of k) (filled goes x).block.items ≡ records_under (rcb_of k) x.block.items
+
+abbrev pub SourcesMove : Type 0
+SourcesMove =
+    (goes : WholeFile → Bool) (k : ℕ) (sources : List Source) (x : Filling) → k < 8 → k < length x.outlet.senders → EachDoes goes k sources x
+
+abbrev pub SourcesFill : Type 0
+SourcesFill =
+    (goes : WholeFile → Bool) (x : Filling) → all_suspended x.outlet.peer ≡ false
+    → filled goes x ≡ after_sources goes (sources x.block.limit x.outlet) x
+
+abbrev pub NothingGoes : Type 0
+NothingGoes = (goes : WholeFile → Bool) (x : Filling) → all_suspended x.outlet.peer ≡ true → filled goes x ≡ x
+
+module _ (in_order : CarriesInOrder) (quiet : IsQuiet) (each : SourcesMove) (fill : SourcesFill) (nothing_goes : NothingGoes) where
+  behind_all :
+      (entry : CustomerEntry) (l k n p : ℕ) (base : List (List Sender)) (inside : l < length base) (more : List Source) (x : Filling)
+      → length (file_records n x.spool) ≤ p → Behind k n p x → EachDoes (goes_by entry l) k more x
+      → Behind k n p (after_sources (goes_by entry l) more x)
+  unfolding after_sources
+  behind_all entry l k n p base inside [] x past behind does = behind
+  behind_all entry l k n p base inside (source ∷ more) x past behind does =
+      let y = after_source (goes_by entry l) source x in
+      let same = gives_keep_records entry l n base x y (gives entry l base inside source x) in
+      behind_all entry l k n p base inside more y (omega (arith, past, ap length same))
+      (behind_still (goes_by entry l) k n p x y past behind does.0) does.1
+
+  behind_filled :
+      (entry : CustomerEntry) (l k n p : ℕ) (base : List (List Sender)) (x : Filling) → l < length base → k < 8 → k < length x.outlet.senders
+      → x.block.items ≡ [] → sender_at k x.outlet ≡ Sending n p → length (file_records n x.spool) ≤ p → Behind k n p (filled (goes_by entry l) x)
+  behind_filled entry l k n p base x inside few in_line none at past = at_suspended (all_suspended x.outlet.peer) refl
+    where
+      begins : Behind k n p x
+      begins = stays at (ap (records_under (rcb_of k)) none)
+
+      at_suspended : (b : Bool) → all_suspended x.outlet.peer ≡ b → Behind k n p (filled (goes_by entry l) x)
+      at_suspended true e = subst (Behind k n p) (sym (nothing_goes (goes_by entry l) x e)) begins
+      at_suspended false e =
+          let all = sources x.block.limit x.outlet in
+          subst (Behind k n p) (sym (fill (goes_by entry l) x e))
+          (behind_all entry l k n p base inside all x past begins (each (goes_by entry l) k all x few in_line))
+
+  pub blocks_carry : BlocksCarry
+  blocks_carry entry l k base x inside few in_line none = at_sender (sender_at k x.outlet) refl
+    where
+      y : Filling
+      y = filled (goes_by entry l) x
+
+      before_is : records_under (rcb_of k) x.block.items ≡ []
+      before_is = ap (records_under (rcb_of k)) none
+
+      still : (s : Sender) → sender_at k x.outlet ≡ s → is_sending s ≡ false → Carries l k y.block.items (out_of l base x) (out_of l base y)
+      still s at isnt =
+          nothing (ap is_sending (stream_now entry l base inside k x ∙ at) ∙ isnt)
+          (quiet (goes_by entry l) k x few in_line (ap is_sending at ∙ isnt) ∙ before_is)
+
+      within : (n p : ℕ) → sender_at k x.outlet ≡ Sending n p → p ≤ length (file_records n x.spool)
+          → carrying.Carries k n p (file_records n x.spool) (records_under (rcb_of k) x.block.items) y
+          → Carries l k y.block.items (out_of l base x) (out_of l base y)
+      within n p at fits (carrying.on_its_way m some now items) =
+          on_its_way n p m (stream_now entry l base inside k x ∙ at)
+          (let size : length (drop p (file_records n x.spool)) ≡ length (file_records n x.spool) - p = length-drop p (file_records n x.spool) in
+          length-take-le m (drop p (file_records n x.spool)) (omega (arith, size, some)))
+          (stream_now entry l base inside k y ∙ now)
+          (items ∙ ap (λ front. front ++ map (record_item k) (take m (drop p (file_records n x.spool)))) before_is)
+      within n p at fits (carrying.at_its_end now items) =
+          to_its_end n p (stream_now entry l base inside k x ∙ at) (stream_now entry l base inside k y ∙ now)
+          (items ∙ ap (λ front. front ++ (map (record_item k) (drop p (file_records n x.spool)) ++ end_of_file k ∷ [])) before_is)
+
+      past : (n p : ℕ) → sender_at k x.outlet ≡ Sending n p → length (file_records n x.spool) ≤ p → Behind k n p y
+          → Carries l k y.block.items (out_of l base x) (out_of l base y)
+      past n p at over (stays now items) =
+          on_its_way n p 0 (stream_now entry l base inside k x ∙ at) refl (stream_now entry l base inside k y ∙ now ∙ ap (Sending n) (omega arith)) items
+      past n p at over (ended now items) =
+          to_its_end n p (stream_now entry l base inside k x ∙ at) (stream_now entry l base inside k y ∙ now)
+          (items ∙ ap (λ rs. map (record_item k) rs ++ end_of_file k ∷ []) (sym (drop_all p (file_records n x.spool) over)))
+
+      at_place : (n p : ℕ) → sender_at k x.outlet ≡ Sending n p → (b : Bool) → nat_le p (length (file_records n x.spool)) ≡ b
+          → Carries l k y.block.items (out_of l base x) (out_of l base y)
+      at_place n p at true e =
+          let fits = leb-true p (length (file_records n x.spool)) e in
+          within n p at fits (in_order (goes_by entry l) k n p x few in_line at fits)
+      at_place n p at false e =
+          let over : length (file_records n x.spool) ≤ p = omega (arith, leb-false p (length (file_records n x.spool)) e) in
+          past n p at over (behind_filled entry l k n p base x inside few in_line none at over)
+
+      at_sender : (s : Sender) → sender_at k x.outlet ≡ s → Carries l k y.block.items (out_of l base x) (out_of l base y)
+      at_sender Idle at = still Idle at refl
+      at_sender (Requested n) at = still (Requested n) at refl
+      at_sender (Sending n p) at = at_place n p at (nat_le p (length (file_records n x.spool))) refl
+      at_sender (EofSent n) at = still (EofSent n) at refl
+      at_sender Aborting at = still Aborting at refl

@@ -1,0 +1,145 @@
+-- What a line disregards changes nothing but its session, or ends it.
+use Rattle.std.proofs.Common.{◌≡◌, ℕ, ◌+◌, ◌<◌, Bool, true, false, cond, ◌==◌, List, length, set, get_or, nat_lt, refl, sym, ap, subst, ◌∙◌, arith}
+use Rattle.std.proofs.lemmas.Bool.{eqb-true, eqb-false, ltb-true, ltb-false}
+use Rattle.std.proofs.lemmas.List.{get_or-set_same, set-get_or, set-set}
+use Rattle.njh_bisync.specs.declared.frame.Control.TheVariants as control
+use Rattle.njh_block.specs.Blocks.{read_block}
+use Rattle.njh_line.specs.LineTable as input
+use Rattle.njh_line.specs.LineTable.{Input, accepted, cell, end, none, try_nak, with_reply}
+use Rattle.njh_line.specs.Laws.{is_disregarded}
+use Rattle.njh_line.specs.Lines.{with_session, without_turn}
+use Rattle.njh_line.specs.Sessions.{in_session}
+use Rattle.njh_line.specs.declared.Phase.{Phase}
+use Rattle.njh_line.specs.declared.Phase.TheVariants.{Down, Calling, Answered, SentI, Up}
+use Rattle.njh_line.specs.declared.config.Config.{Config}
+use Rattle.njh_line.specs.declared.session.Session.{Session}
+use Rattle.njh_line.specs.declared.verdict.Reply.TheVariants as reply
+use Rattle.njh_line.specs.declared.verdict.Verdict.{Verdict}
+use Rattle.njh_customer.specs.Customer.{Customer, CustomerLine, no_line, line_at, on_line, in_state}
+use Rattle.njh_customer.specs.Alone.{Step, silent, session_over, session_ended, carried_out, input_came, text_read, frame_came, signal_came}
+use Rattle.njh_customer.specs.Disregarding.{session_on, IsButSession, IsDisregarded, SpoiledIsDisregarded, BadBlocksAreDisregarded, GarbledIsDisregarded}
+
+-- by what the line table says
+abbrev by_parts : ℕ → Session → Verdict → Customer → Step
+by_parts l s v c = carried_out l v (record c { lines = on_line l (in_state (with_session s)) c.lines })
+
+abbrev lines_as : Customer → List CustomerLine → Customer
+lines_as c lines = record c { lines = lines }
+
+-- nothing is disregarded but in a session, where it is a try
+table_is : (config : Config) (came : Input) (s : Session) → is_disregarded came ≡ true
+    → accepted config came s ≡ cell s.phase (none s) (none s) (try_nak s) (try_nak s) (try_nak s)
+unfolding accepted
+table_is config input.Spoiled s e = refl
+table_is config input.Bad s e = refl
+table_is config input.Garbled s e = refl
+table_is config input.Enquiry s e = absurd (cc e)
+table_is config input.Ack0 s e = absurd (cc e)
+table_is config input.Nak s e = absurd (cc e)
+table_is config input.Eot s e = absurd (cc e)
+table_is config input.Lost s e = absurd (cc e)
+table_is config input.Tick s e = absurd (cc e)
+table_is config (input.Block bcb fcs first) s e = absurd (cc e)
+
+module _ (l : ℕ) (c : Customer) where
+  -- the line with the session that it has
+  same_lines : set c.lines l (get_or c.lines l no_line) ≡ c.lines
+  same_lines = set-get_or c.lines l no_line
+
+  again : (xs : List CustomerLine) → set xs l (get_or xs l no_line) ≡ xs
+  again xs = set-get_or xs l no_line
+
+  nothing : by_parts l (none (session_on l c)).session (none (session_on l c)).verdict c ≡ silent c
+  nothing = ap (λ lines. silent (lines_as c lines)) (again (set c.lines l (line_at l c.lines)) ∙ same_lines)
+
+  ends : by_parts l (end (session_on l c)).session (end (session_on l c)).verdict c ≡ silent (session_ended l c)
+  ends =
+      ap (λ lines. silent (session_over l (lines_as c lines)))
+      (again (on_line l (in_state (with_session (end (session_on l c)).session)) c.lines))
+
+  try_is : (b : Bool) → ((session_on l c).tries == 5) ≡ b
+      → try_nak (session_on l c) ≡ cond b (end (session_on l c)) (with_reply (reply.Control control.Nak) (record (session_on l c) { tries = (session_on l c).tries + 1 }))
+  try_is b e =
+      ap (λ t. cond t (end (session_on l c)) (with_reply (reply.Control control.Nak) (record (session_on l c) { tries = (session_on l c).tries + 1 }))) e
+
+  -- NAK goes out
+  one_try : (s : Session) → l < length c.lines → IsButSession l c (by_parts l s (with_reply (reply.Control control.Nak) s).verdict c).after
+  one_try s there =
+      record {
+        session = without_turn s;
+        after = ap (lines_as c)
+            (ap (λ x. set (on_line l (in_state (with_session s)) c.lines) l (in_state (with_session (without_turn x.state.session)) x))
+            (get_or-set_same c.lines l (in_state (with_session s) (line_at l c.lines)) no_line there)
+            ∙ set-set c.lines l (in_state (with_session s) (line_at l c.lines)) (in_state (with_session (without_turn s)) (line_at l c.lines)));
+      }
+
+  unchanged : IsButSession l c c
+  unchanged = record { session = session_on l c; after = ap (lines_as c) (sym same_lines) }
+
+  where_down : (s : Step) → in_session (session_on l c).phase ≡ false → s ≡ silent c → IsDisregarded l c s
+  where_down s e same =
+      record {
+        down = λ _. same;
+        goes_on = λ _. subst (λ t. IsButSession l c t.after) (sym same) unchanged;
+        over = λ there up tries. absurd (cc (sym up ∙ e));
+      }
+
+  tried_or_over : (b : Bool) → ((session_on l c).tries == 5) ≡ b → l < length c.lines → in_session (session_on l c).phase ≡ true
+      → (s : Step) → s ≡ by_parts l (try_nak (session_on l c)).session (try_nak (session_on l c)).verdict c → IsDisregarded l c s
+  tried_or_over true e there up s is =
+      record {
+        down = λ down. absurd (cc (sym up ∙ down));
+        goes_on = λ few. absurd (few (eqb-true (session_on l c).tries 5 e));
+        over = λ _ _ _. is ∙ ap (λ o. by_parts l o.session o.verdict c) (try_is true e) ∙ ends;
+      }
+  tried_or_over false e there up s is =
+      let tried : Session = record (session_on l c) { tries = (session_on l c).tries + 1 } in
+      record {
+        down = λ down. absurd (cc (sym up ∙ down));
+        goes_on = λ few. subst (λ t. IsButSession l c t.after) (sym (is ∙ ap (λ o. by_parts l o.session o.verdict c) (try_is false e))) (one_try tried there);
+        over = λ _ _ tries. absurd (eqb-false (session_on l c).tries 5 e tries);
+      }
+
+  by_phase : (p : Phase) → (session_on l c).phase ≡ p → l < length c.lines → (s : Step)
+      → (let o = cell p (none (session_on l c)) (none (session_on l c)) (try_nak (session_on l c)) (try_nak (session_on l c)) (try_nak (session_on l c)) in
+      s ≡ by_parts l o.session o.verdict c)
+      → IsDisregarded l c s
+  by_phase Down e there s is = where_down s (ap in_session e) (is ∙ nothing)
+  by_phase Calling e there s is = where_down s (ap in_session e) (is ∙ nothing)
+  by_phase Answered e there s is = tried_or_over ((session_on l c).tries == 5) refl there (ap in_session e) s is
+  by_phase SentI e there s is = tried_or_over ((session_on l c).tries == 5) refl there (ap in_session e) s is
+  by_phase Up e there s is = tried_or_over ((session_on l c).tries == 5) refl there (ap in_session e) s is
+
+  input_disregarded : (came : Input) → is_disregarded came ≡ true → l < length c.lines → IsDisregarded l c (input_came l came c)
+  input_disregarded came e there =
+      by_phase (session_on l c).phase refl there (input_came l came c)
+      (ap (λ o. by_parts l o.session o.verdict c) (table_is (line_at l c.lines).state.config came (session_on l c) e))
+
+  -- a line that isn't there
+  not_there : nat_lt l (length c.lines) ≡ false → IsDisregarded l c (silent c)
+  not_there e =
+      record {
+        down = λ _. refl;
+        goes_on = λ _. unchanged;
+        over = λ there up tries. absurd (omega (arith, ltb-false l (length c.lines) e, there));
+      }
+
+  where_it_is : (s : Step) (b : Bool) → nat_lt l (length c.lines) ≡ b → (l < length c.lines → IsDisregarded l c s) → IsDisregarded l c (cond b s (silent c))
+  where_it_is s true e there = there (ltb-true l (length c.lines) e)
+  where_it_is s false e there = not_there e
+
+pub spoiled : SpoiledIsDisregarded
+unfolding frame_came
+spoiled l c =
+    where_it_is l c (input_came l input.Spoiled c) (nat_lt l (length c.lines)) refl (input_disregarded l c input.Spoiled refl)
+
+pub bad_blocks : BadBlocksAreDisregarded
+unfolding frame_came
+bad_blocks l text fault c e =
+    where_it_is l c (text_read l (read_block text) c) (nat_lt l (length c.lines)) refl
+    (λ there. subst (λ b. IsDisregarded l c (text_read l b c)) (sym e) (input_disregarded l c input.Bad refl there))
+
+pub garbled : GarbledIsDisregarded
+unfolding signal_came
+garbled l c =
+    where_it_is l c (input_came l input.Garbled c) (nat_lt l (length c.lines)) refl (input_disregarded l c input.Garbled refl)

@@ -1,0 +1,273 @@
+-- What a frame or a signal on a line does to a customer's whole files and to its streams from the hub.
+use Rattle.std.proofs.Common.{◌≡◌, ℕ, ◌<◌, ◌||◌, Bool, true, false, cond, ◌⊎◌, inl, inr, List, [], ◌∷◌, length, set, get_or, Result, Ok, Err, nat_lt}
+use Rattle.std.proofs.Common.{refl, sym, ap, subst, ◌∙◌, arith}
+use Rattle.std.proofs.Math.ListN.{get_or-map}
+use Rattle.std.proofs.Math.Seq.{map-set_same}
+use Rattle.std.proofs.lemmas.Bool.{ltb-true}
+use Rattle.std.proofs.lemmas.List.{length-map, map-set, set-get_or}
+use Rattle.njh_bisync.specs.Frames as frame
+use Rattle.njh_bisync.specs.Frames.{Received}
+use Rattle.njh_bisync.specs.Written.{text_bytes}
+use Rattle.njh_bisync.specs.declared.frame.Control.{Control}
+use Rattle.njh_bisync.specs.declared.frame.Control.TheVariants.{Enquiry, Ack0, Nak}
+use Rattle.njh_block.specs.Blocks.{Block, Item, all_suspended, read_block, same_fcs, text_of}
+use Rattle.njh_block.specs.Writing.{Writing}
+use Rattle.njh_block.specs.declared.fault.BlockFault.{BlockFault}
+use Rattle.njh_table.specs.Entries.{CustomerEntry}
+use Rattle.njh_stream.specs.declared.sender.Sender.{Sender}
+use Rattle.njh_stream.specs.Sending.{goes_by}
+use Rattle.njh_sched.specs.NextBlock.{Filling, filled, filling}
+use Rattle.njh_sched.specs.Tight.{own_fcs}
+use Rattle.njh_line.specs.LineTable as input
+use Rattle.njh_line.specs.LineTable.{Input}
+use Rattle.njh_line.specs.Lines.{LineState, after_end, after_input}
+use Rattle.njh_line.specs.Openings.{opening}
+use Rattle.njh_line.specs.declared.verdict.Reply.{Reply}
+use Rattle.njh_line.specs.declared.verdict.Reply.TheVariants as reply
+use Rattle.njh_line.specs.declared.verdict.Verdict.{Verdict}
+use Rattle.njh_customer.specs.declared.signal.Signal.{Signal}
+use Rattle.njh_customer.specs.Customer.{Customer, CustomerLine, no_line, line_at, on_line, in_state}
+use Rattle.njh_customer.specs.Acting.{acted_where}
+use Rattle.njh_customer.specs.Sending.{LineSent, Sending, control_sent, no_block_sent, empty_sent, block_sent, next_block, outlet_of, own_block, reply_sent, with_outlet}
+use Rattle.njh_customer.specs.Alone.{Step, silent, replied, replied_to, session_over_where, session_ended, carried_out, verdict_on}
+use Rattle.njh_customer.specs.Alone.{accepted_on, input_came, block_input, behind_records, block_came, text_read, text_came, received_on, signal_input, frame_came, signal_came}
+use Rattle.njh_customer.specs.Outgoing.{Outgoing, outgoing, streams_from_hub, streams_of}
+use Rattle.njh_customer.specs.Moves.{Leads, nowhere, OneActs, Over, Sends}
+use Rattle.njh_customer.specs.Doing.{Carries, GoesOut, no_block, new_block, Does, block_records, records_in}
+use Rattle.njh_customer.specs.Doing.{IsNoNewBlock, nothing_sent, control, again, sign_on, count, without_records}
+use Rattle.njh_customer.proofs.OutgoingLaws.{of_parts, on_line_senders}
+use Rattle.njh_customer.proofs.SendingMoves.{out_of, filled_leads, filled_with_none}
+use Rattle.njh_customer.proofs.EndingMoves.{over_so}
+use Rattle.njh_customer.proofs.RecordsMoves.{Acting, acting_where, lines_of}
+use Rattle.njh_customer.proofs.KeptLines.{kept, kepts, on_line_kepts}
+
+-- ---- what goes out
+
+-- what a block carries of each stream's file
+abbrev pub BlocksCarry : Type 0
+BlocksCarry =
+    (entry : CustomerEntry) (l k : ℕ) (base : List (List Sender)) (x : Filling) → l < length base → k < 8 → k < length x.outlet.senders
+    → x.block.items ≡ []
+    → Carries l k (filled (goes_by entry l) x).block.items (out_of l base x) (out_of l base (filled (goes_by entry l) x))
+
+-- a line sent what moves no stream
+sent_unmoved :
+    (l : ℕ) (x : LineSent) (c : Customer) → x.line.senders ≡ (line_at l c.lines).senders → x.spool.whole ≡ c.spool.whole
+    → IsNoNewBlock (line_at l c.lines).state x.frame
+    → GoesOut c.entry l (line_at l c.lines).state (outgoing c) (outgoing (replied l x c).after) x.frame
+sent_unmoved l x c same files no_new =
+    no_block
+    (ap (λ whole. of_parts whole (streams_from_hub (set c.lines l x.line))) files
+    ∙ ap (of_parts c.spool.whole) (map-set_same (λ y. y.senders) c.lines l x.line no_line same)) no_new
+
+control_is : (line x : LineState) (which : Control) → IsNoNewBlock line (control_sent which x).frame
+control_is line x Enquiry = control Enquiry refl
+control_is line x Ack0 = control Ack0 refl
+control_is line x Nak = control Nak refl
+
+-- in the place of a new block
+in_its_place : (line x : LineState) (or_ack0 : Bool) → IsNoNewBlock line (no_block_sent or_ack0 x).frame
+in_its_place line x true = control Ack0 refl
+in_its_place line x false = nothing_sent refl
+
+abbrev empty_where : Bool → Bool → Writing → LineState → Sending
+empty_where b or_ack0 w x = elim b [ true ↦ no_block_sent or_ack0 x | false ↦ block_sent w x ]
+
+empty_is : (line x : LineState) (or_ack0 : Bool) (w : Writing) → w.items ≡ [] → IsNoNewBlock line (empty_sent or_ack0 w x).frame
+empty_is line x or_ack0 w none = at_test (all_suspended x.session.peer_fcs || same_fcs w.fcs x.session.own_fcs)
+  where
+    at_test : (b : Bool) → IsNoNewBlock line (empty_where b or_ack0 w x).frame
+    at_test true = in_its_place line x or_ack0
+    at_test false = without_records w.bcb w.fcs (ap (λ items. text_bytes (text_of w.bcb w.fcs items)) none)
+
+-- by how a line is set up, and its last transmission
+as_set_up : (x y : LineState) (sent : List ℕ) → x.config ≡ y.config → x.last ≡ y.last → IsNoNewBlock x sent → IsNoNewBlock y sent
+as_set_up x y sent config last (nothing_sent e) = nothing_sent e
+as_set_up x y sent config last (control which e) = control which e
+as_set_up x y sent config last (again e) = again (e ∙ last)
+as_set_up x y sent config last (sign_on kind e) = sign_on kind (e ∙ ap (λ config. text_bytes (opening kind config)) config)
+as_set_up x y sent config last (count bcb fcs expected e) = count bcb fcs expected e
+as_set_up x y sent config last (without_records bcb fcs e) = without_records bcb fcs e
+
+goes_out_as :
+    (entry : CustomerEntry) (l : ℕ) (x y : LineState) (u v : Outgoing) (sent : List ℕ) → x.config ≡ y.config → x.last ≡ y.last
+    → GoesOut entry l x u v sent → GoesOut entry l y u v sent
+goes_out_as entry l x y u v sent config last (no_block same no_new) = no_block same (as_set_up x y sent config last no_new)
+goes_out_as entry l x y u v sent config last (new_block bcb fcs items e leads carries) = new_block bcb fcs items e leads carries
+
+-- by a block's records
+abbrev sent_where : Bool → Writing → LineState → List Item → Sending
+sent_where or_ack0 w x is = elim is [ [] ↦ empty_sent or_ack0 w x | i ∷ js ↦ block_sent w x ]
+
+module _ (carry : BlocksCarry) where
+  -- a new block, or what is sent in its place
+  next_goes_out : (l : ℕ) (or_ack0 : Bool) (c : Customer) → l < length c.lines
+      → GoesOut c.entry l (line_at l c.lines).state (outgoing c) (outgoing (replied_to l (reply.Next or_ack0) c).after) (replied_to l (reply.Next or_ack0) c).frame
+  next_goes_out l or_ack0 c there = by_items (next_block c.entry l c.spool (line_at l c.lines)).block.items refl
+    where
+      first : Filling
+      first = filling (own_block (own_fcs c.spool) (line_at l c.lines).state) (outlet_of (line_at l c.lines)) c.spool
+
+      full : Filling
+      full = next_block c.entry l c.spool (line_at l c.lines)
+
+      base : List (List Sender)
+      base = streams_from_hub c.lines
+
+      inside : l < length base
+      inside = omega (arith, there, length-map c.lines (λ x. x.senders))
+
+      begins : out_of l base first ≡ outgoing c
+      begins =
+          ap (of_parts c.spool.whole)
+          (ap (set base l) (sym (get_or-map (λ y. y.senders) c.lines l no_line)) ∙ set-get_or base l [])
+
+      -- however the line's state is
+      after_is :
+          (line : CustomerLine) → line.senders ≡ full.outlet.senders → of_parts full.spool.whole (streams_from_hub (set c.lines l line)) ≡ out_of l base full
+      after_is line same =
+          ap (of_parts full.spool.whole) (map-set (λ y. y.senders) c.lines l line ∙ ap (set base l) same)
+
+      leads : Leads (Sends c.entry l) (outgoing c) (out_of l base full)
+      leads = subst (λ x. Leads (Sends c.entry l) x (out_of l base full)) begins (filled_leads c.entry l base inside first)
+
+      carries : (k : ℕ) → k < 8 → k < length (streams_of l (outgoing c)) → Carries l k full.block.items (outgoing c) (out_of l base full)
+      carries k few in_line =
+          let here : streams_of l (outgoing c) ≡ (line_at l c.lines).senders = get_or-map (λ y. y.senders) c.lines l no_line in
+          let in_outlet : k < length first.outlet.senders = omega (arith, in_line, ap length here) in
+          subst (λ x. Carries l k full.block.items x (out_of l base full)) begins (carry c.entry l k base first inside few in_outlet refl)
+
+      sent : CustomerLine
+      sent = (reply_sent c.entry l (reply.Next or_ack0) c.spool (line_at l c.lines)).line
+
+      by_items :
+          (is : List Item) → full.block.items ≡ is
+          → GoesOut c.entry l (line_at l c.lines).state (outgoing c) (outgoing (replied_to l (reply.Next or_ack0) c).after)
+          (sent_where or_ack0 full.block (with_outlet full.outlet (line_at l c.lines)).state is).frame
+      by_items [] none =
+          no_block (after_is sent refl ∙ filled_with_none c.entry l base inside first none ∙ begins)
+          (empty_is (line_at l c.lines).state (with_outlet full.outlet (line_at l c.lines)).state or_ack0 full.block none)
+      by_items (i ∷ is) some =
+          subst (λ y. GoesOut c.entry l (line_at l c.lines).state (outgoing c) y (block_sent full.block (with_outlet full.outlet (line_at l c.lines)).state).frame)
+          (sym (after_is sent refl)) (new_block full.block.bcb full.block.fcs full.block.items refl leads carries)
+
+  reply_goes_out :
+      (l : ℕ) (r : Reply) (c : Customer) → l < length c.lines
+      → GoesOut c.entry l (line_at l c.lines).state (outgoing c) (outgoing (replied_to l r c).after) (replied_to l r c).frame
+  reply_goes_out l reply.Nothing c there = sent_unmoved l (reply_sent c.entry l reply.Nothing c.spool (line_at l c.lines)) c refl refl (nothing_sent refl)
+  reply_goes_out l (reply.Control which) c there =
+      sent_unmoved l (reply_sent c.entry l (reply.Control which) c.spool (line_at l c.lines)) c refl refl
+      (control_is (line_at l c.lines).state (line_at l c.lines).state which)
+  reply_goes_out l reply.Again c there = sent_unmoved l (reply_sent c.entry l reply.Again c.spool (line_at l c.lines)) c refl refl (again refl)
+  reply_goes_out l (reply.SignOn kind) c there = sent_unmoved l (reply_sent c.entry l (reply.SignOn kind) c.spool (line_at l c.lines)) c refl refl (sign_on kind refl)
+  reply_goes_out l (reply.Sequence expected) c there =
+      let line = (line_at l c.lines).state in
+      sent_unmoved l (reply_sent c.entry l (reply.Sequence expected) c.spool (line_at l c.lines)) c refl refl
+      (count (own_block (own_fcs c.spool) line).bcb (own_fcs c.spool) expected refl)
+  reply_goes_out l (reply.Next or_ack0) c there = next_goes_out l or_ack0 c there
+
+  -- ---- a step, behind its records
+
+  -- what goes out, and then the session goes on or ends
+  ended_so :
+      (l : ℕ) (ended : Bool) (d : Customer) → (outgoing (session_over_where ended l d) ≡ outgoing d) ⊎ Over l (outgoing d) (outgoing (session_over_where ended l d))
+  ended_so l true d = inr (over_so l d)
+  ended_so l false d = inl refl
+
+  over_entry : (l : ℕ) (ended : Bool) (d : Customer) → (session_over_where ended l d).entry ≡ d.entry
+  over_entry l true d = refl
+  over_entry l false d = refl
+
+  kept_at : (l : ℕ) (c d : Customer) → kepts d.lines ≡ kepts c.lines → kept (line_at l d.lines) ≡ kept (line_at l c.lines)
+  kept_at l c d e =
+      sym (get_or-map kept d.lines l no_line) ∙ ap (λ ps. get_or ps l (kept no_line)) e ∙ get_or-map kept c.lines l no_line
+
+  carried_does :
+      (l : ℕ) (items : List Item) (v : Verdict) (c d : Customer) → Acting l items c d → l < length d.lines → Does l items c (carried_out l v d)
+  carried_does l items v c d acting there =
+      let sent = (replied_to l v.reply d).after in
+      record {
+        acted = outgoing d;
+        records = acting.records;
+        answered = outgoing sent;
+        answer = subst (λ entry. GoesOut entry l (line_at l c.lines).state (outgoing d) (outgoing sent) (replied_to l v.reply d).frame) acting.entry
+            (goes_out_as d.entry l (line_at l d.lines).state (line_at l c.lines).state (outgoing d) (outgoing sent) (replied_to l v.reply d).frame
+            (ap (λ p. p.0) (kept_at l c d acting.kept)) (ap (λ p. p.1) (kept_at l c d acting.kept)) (reply_goes_out l v.reply d there));
+        end = ended_so l v.ended sent;
+        entry = over_entry l v.ended sent ∙ acting.entry;
+      }
+
+  accepted_is : (l : ℕ) (came : Input) (c : Customer) → outgoing (accepted_on l came c) ≡ outgoing c
+  accepted_is l came c = ap (of_parts c.spool.whole) (on_line_senders l (in_state (after_input came)) c.lines (λ x. refl))
+
+  accepted_acting : (l : ℕ) (items : List Item) (came : Input) (c d : Customer) → Acting l items (accepted_on l came c) d → Acting l items c d
+  accepted_acting l items came c d acting =
+      record {
+        entry = acting.entry;
+        records = subst (λ x. Leads (OneActs c.entry l items) x (outgoing d)) (accepted_is l came c) acting.records;
+        kept = acting.kept ∙ on_line_kepts l (in_state (after_input came)) c.lines (λ x. refl);
+      }
+
+  input_does : (l : ℕ) (items : List Item) (came : Input) (c : Customer) → l < length c.lines → Does l items c (input_came l came c)
+  input_does l items came c there =
+      let d = accepted_on l came c in
+      let acting = accepted_acting l items came c d (acting_where false l items d) in
+      carried_does l items (verdict_on l came c) c d acting (omega (arith, there, lines_of c d acting.kept))
+
+  ended_does : (l : ℕ) (items : List Item) (c d : Customer) → Acting l items c d → Does l items c (silent (session_ended l d))
+  ended_does l items c d acting =
+      let e : Customer = record d { lines = on_line l (in_state after_end) d.lines } in
+      record {
+        acted = outgoing d;
+        records = acting.records;
+        answered = outgoing e;
+        answer = no_block (ap (of_parts d.spool.whole) (on_line_senders l (in_state after_end) d.lines (λ x. refl))) (nothing_sent refl);
+        end = inr (over_so l e);
+        entry = acting.entry;
+      }
+
+  behind_does :
+      (l : ℕ) (items : List Item) (ended : Bool) (v : Verdict) (c d : Customer) → Acting l items c d → l < length d.lines
+      → Does l items c (behind_records ended l v d)
+  behind_does l items true v c d acting there = ended_does l items c d acting
+  behind_does l items false v c d acting there = carried_does l items v c d acting there
+
+  block_does : (l : ℕ) (b : Block) (c : Customer) → l < length c.lines → Does l b.items c (block_came l b c)
+  block_does l b c there =
+      let v = verdict_on l (block_input b) c in
+      let a = acted_where v.acts l b.items (accepted_on l (block_input b) c) in
+      let acting = accepted_acting l b.items (block_input b) c a.customer (acting_where v.acts l b.items (accepted_on l (block_input b) c)) in
+      behind_does l b.items a.ended v c a.customer acting (omega (arith, there, lines_of c a.customer acting.kept))
+
+  text_does : (l : ℕ) (text : List ℕ) (c : Customer) → l < length c.lines → Does l (records_in (frame.Text text)) c (text_came l text c)
+  text_does l text c there = at_block (read_block text)
+    where
+      at_block : (b : Result Block BlockFault) → Does l (block_records b) c (text_read l b c)
+      at_block (Ok b) = block_does l b c there
+      at_block (Err e) = input_does l [] input.Bad c there
+
+  received_does : (l : ℕ) (x : Received) (c : Customer) → l < length c.lines → Does l (records_in x) c (received_on l x c)
+  received_does l frame.Enquiry c there = input_does l [] input.Enquiry c there
+  received_does l frame.Ack0 c there = input_does l [] input.Ack0 c there
+  received_does l frame.Nak c there = input_does l [] input.Nak c there
+  received_does l frame.Eot c there = input_does l [] input.Eot c there
+  received_does l (frame.Text text) c there = text_does l text c there
+  received_does l frame.Spoiled c there = input_does l [] input.Spoiled c there
+
+  silent_does : (l : ℕ) (items : List Item) (c : Customer) → Does l items c (silent c)
+  silent_does l items c =
+      record { acted = outgoing c; records = nowhere (outgoing c); answered = outgoing c; answer = no_block refl (nothing_sent refl); end = inl refl; entry = refl }
+
+  there_does :
+      (l : ℕ) (items : List Item) (b : Bool) (x : Step) (c : Customer) → nat_lt l (length c.lines) ≡ b → (l < length c.lines → Does l items c x)
+      → Does l items c (cond b x (silent c))
+  there_does l items true x c e does = does (ltb-true l (length c.lines) e)
+  there_does l items false x c e does = silent_does l items c
+
+  pub frame_does : (l : ℕ) (x : Received) (c : Customer) → Does l (records_in x) c (frame_came l x c)
+  unfolding frame_came
+  frame_does l x c = there_does l (records_in x) (nat_lt l (length c.lines)) (received_on l x c) c refl (received_does l x c)
+
+  pub signal_does : (l : ℕ) (x : Signal) (c : Customer) → Does l [] c (signal_came l x c)
+  unfolding signal_came
+  signal_does l x c = there_does l [] (nat_lt l (length c.lines)) (input_came l (signal_input x) c) c refl (input_does l [] (signal_input x) c)

@@ -1,0 +1,105 @@
+-- All moves of a step, and of an event.
+use Rattle.std.proofs.Common.{◌≡◌, ℕ, ◌⊎◌, inl, inr, List, [], ◌∷◌, ◌++◌, Option, Some, None, length, take, refl, sym, ap, subst, ◌∙◌, arith}
+use Rattle.std.proofs.lemmas.List.Elements.{Contains-append_left, Contains-append_right}
+use Rattle.std.specs.Prelude.{flat_map}
+use Rattle.std.specs.List.{Contains, cons_option}
+use Rattle.njh_bisync.specs.Fed.{frames_after, turn}
+use Rattle.njh_bisync.specs.Frames.{Received}
+use Rattle.njh_bisync.specs.Reading.{Rest}
+use Rattle.njh_block.specs.Blocks.{Item}
+use Rattle.njh_table.specs.Entries.{CustomerEntry}
+use Rattle.njh_customer.specs.Customer.{Customer, line_at}
+use Rattle.njh_customer.specs.Alone.{Step, signal_came}
+use Rattle.njh_customer.specs.Feeding.{acted_on, bytes_run}
+use Rattle.njh_customer.specs.Part.{bytes_taken, rest_on}
+use Rattle.njh_customer.specs.Runs.{OwnBytes, OwnSignal, Run, event_run}
+use Rattle.njh_customer.specs.Outgoing.{Outgoing, outgoing}
+use Rattle.njh_customer.specs.Moves.{Leads, nowhere, onward, Moves, by_record, by_sending, by_end, OneActs, Over, Sends}
+use Rattle.njh_customer.specs.Doing.{Does, GoesOut, no_block, new_block, records_in}
+use Rattle.njh_customer.specs.MovingLaws.{EventsMoveSo, TakesMoveSo, records_by}
+use Rattle.njh_customer.specs.Laws.{followed_by}
+use Rattle.njh_customer.proofs.PieceLaws.{no_bytes_do_nothing, steps_follow_bytes}
+use Rattle.njh_customer.proofs.DoingLaws.{BlocksCarry, frame_does, signal_does}
+
+pub leads_as :
+    (M N : Outgoing → Outgoing → Type 0) (x z : Outgoing) → ((u v : Outgoing) → M u v → N u v) → Leads M x z → Leads N x z
+leads_as M N _ _ each (nowhere x) = nowhere x
+leads_as M N _ _ each (onward x y z move later) = onward x y z (each x y move) (leads_as M N y z each later)
+
+pub leads_then : (M : Outgoing → Outgoing → Type 0) (x y z : Outgoing) → Leads M x y → Leads M y z → Leads M x z
+leads_then M _ _ z (nowhere x) second = second
+leads_then M _ _ z (onward x u y move later) second = onward x u z move (leads_then M u y z later second)
+
+more_records :
+    (entry : CustomerEntry) (l : ℕ) (some items : List Item) (x y : Outgoing) → ((i : Item) → Contains some i → Contains items i)
+    → Moves entry l some x y → Moves entry l items x y
+more_records entry l some items x y among (by_record (i, there, acts)) = by_record (i, among i there, acts)
+more_records entry l some items x y among (by_sending sends) = by_sending sends
+more_records entry l some items x y among (by_end over) = by_end over
+
+-- all moves of a step
+pub does_moves : (l : ℕ) (items : List Item) (c : Customer) (s : Step) → Does l items c s → Leads (Moves c.entry l items) (outgoing c) (outgoing s.after)
+does_moves l items c s does =
+    leads_then (Moves c.entry l items) (outgoing c) does.acted (outgoing s.after)
+    (leads_as (OneActs c.entry l items) (Moves c.entry l items) (outgoing c) does.acted (λ u v acts. by_record acts) does.records)
+    (leads_then (Moves c.entry l items) does.acted does.answered (outgoing s.after) (at_answer does.answer) (at_end does.end))
+  where
+    at_answer : GoesOut c.entry l (line_at l c.lines).state does.acted does.answered s.frame → Leads (Moves c.entry l items) does.acted does.answered
+    at_answer (no_block same no_new) = subst (Leads (Moves c.entry l items) does.acted) (sym same) (nowhere does.acted)
+    at_answer (new_block bcb fcs is frame sends carries) =
+        leads_as (Sends c.entry l) (Moves c.entry l items) does.acted does.answered (λ u v send. by_sending send) sends
+
+    at_end : (outgoing s.after ≡ does.answered) ⊎ Over l does.answered (outgoing s.after) → Leads (Moves c.entry l items) does.answered (outgoing s.after)
+    at_end (inl same) = subst (Leads (Moves c.entry l items) does.answered) (sym same) (nowhere does.answered)
+    at_end (inr over) = onward does.answered (outgoing s.after) (outgoing s.after) (by_end over) (nowhere (outgoing s.after))
+
+record Moved (l : ℕ) (items : List Item) (c d : Customer) : Type 0 where
+  entry : d.entry ≡ c.entry
+  moves : Leads (Moves c.entry l items) (outgoing c) (outgoing d)
+
+module _ (carry : BlocksCarry) where
+  bytes_move : (rest : Rest) (c : Customer) (l : ℕ) (bytes : List ℕ) → Moved l (flat_map records_in (frames_after rest bytes)) c (bytes_run rest c l bytes).after
+  bytes_move rest c l [] = record { entry = refl; moves = nowhere (outgoing c) }
+  bytes_move rest c l (byte ∷ bytes) = at_frame (turn rest byte).frame (λ d. bytes_move (turn rest byte).rest d l bytes)
+    where
+      next : Rest
+      next = (turn rest byte).rest
+
+      later : List Item
+      later = flat_map records_in (frames_after next bytes)
+
+      at_frame :
+          (o : Option Received) → ((d : Customer) → Moved l later d (bytes_run next d l bytes).after)
+          → Moved l (flat_map records_in (cons_option o (frames_after next bytes))) c (bytes_run next (acted_on l o c).after l bytes).after
+      at_frame None rest_moves = rest_moves c
+      at_frame (Some received) rest_moves =
+          let items = records_in received ++ later in
+          let step = acted_on l (Some received) c in
+          let does = frame_does carry l received c in
+          let behind = rest_moves step.after in
+          let end = (bytes_run next step.after l bytes).after in
+          record {
+            entry = behind.entry ∙ does.entry;
+            moves = leads_then (Moves c.entry l items) (outgoing c) (outgoing step.after) (outgoing end)
+                (leads_as (Moves c.entry l (records_in received)) (Moves c.entry l items) (outgoing c) (outgoing step.after)
+                (λ u v. more_records c.entry l (records_in received) items u v (λ i. Contains-append_left (records_in received) later i))
+                (does_moves l (records_in received) c step does))
+                (leads_as (Moves c.entry l later) (Moves c.entry l items) (outgoing step.after) (outgoing end)
+                (λ u v. more_records c.entry l later items u v (λ i. Contains-append_right (records_in received) later i))
+                (subst (λ entry. Leads (Moves entry l later) (outgoing step.after) (outgoing end)) does.entry behind.moves));
+          }
+
+  pub events_move : EventsMoveSo
+  events_move p (OwnBytes l piece) = (bytes_move (rest_on l p) p.customer l piece).moves
+  events_move p (OwnSignal signal l) = does_moves l [] p.customer (signal_came l signal p.customer) (signal_does carry l signal p.customer)
+
+  pub takes_move : TakesMoveSo
+  takes_move p l piece there =
+      let t = bytes_taken p l piece in
+      let front = take t.taken piece in
+      let nothing : event_run p (OwnBytes l []) ≡ record { after = p; sent = [] } = no_bytes_do_nothing p l in
+      let some : event_run p (OwnBytes l front) ≡ followed_by (record { after = p; sent = [] }) l piece =
+      subst (λ (r : Run). event_run p (OwnBytes l (take (bytes_taken r.after l piece).taken piece)) ≡ followed_by r l piece) nothing
+      (steps_follow_bytes p l [] piece (omega (arith, there, ap (λ (r : Run). length r.after.rests) nothing))) in
+      subst (Leads (Moves p.customer.entry l (records_by p (OwnBytes l front))) (outgoing p.customer))
+      (ap (λ (r : Run). outgoing r.after.customer) some) (events_move p (OwnBytes l front))

@@ -1,0 +1,198 @@
+-- What goes out in a new block moves a line's streams, and what each stream's file has under its RCB.
+use Rattle.std.proofs.Common.{◌≡◌, ◌<◌, ℕ, ◌+◌, Bool, true, false, List, [], ◌∷◌, ◌++◌, length, set, get_or}
+use Rattle.std.proofs.Common.{◌%◌, ◌&&◌, nat_lt, Option, Some, None, option_map, slice_get, refl, sym, ap, subst, ◌∙◌}
+use Rattle.std.proofs.lemmas.List.{append-nil, get_or-set_same, set-get_or, set-set}
+use Rattle.njh_block.specs.Blocks.{Item, all_suspended}
+use Rattle.njh_block.specs.Codes.{kind_of}
+use Rattle.njh_block.specs.Writing.{has_room}
+use Rattle.njh_block.specs.declared.answer.Answer.{Answer}
+use Rattle.njh_record.specs.Stored.{Stored}
+use Rattle.njh_spool.specs.CustomerSpool.{WholeFile, whole_numbered}
+use Rattle.njh_table.specs.Entries.{CustomerEntry}
+use Rattle.njh_stream.specs.declared.sender.Sender.{Sender}
+use Rattle.njh_stream.specs.declared.sender.Sender.TheVariants.{Idle, Requested, Sending, EofSent, Aborting}
+use Rattle.njh_stream.specs.Sending.{goes_by, next_at, next_of, record_at}
+use Rattle.njh_sched.specs.NextBlock.{Candidate, Filling, Source, WaitingAnswer, StreamAbort, StreamRequest, WaitingMessage, StreamTurn}
+use Rattle.njh_sched.specs.NextBlock.{abort_where, answering, asking, candidate, is_idle, may_ask, next_served, oldest, sender_at, serving, telling}
+use Rattle.njh_sched.specs.NextBlock.{added_where, after_candidate, after_source, after_source_where, after_sources, filled, filled_where, sources}
+use Rattle.njh_sched.specs.Carrying.{records_of}
+use Rattle.njh_customer.specs.Outgoing.{Outgoing, record_numbered, stream_at, with_stream}
+use Rattle.njh_customer.specs.Moves as moves
+use Rattle.njh_customer.specs.Moves.{Leads, nowhere, onward, Sends}
+use Rattle.njh_customer.proofs.OutgoingLaws.{of_parts}
+
+-- ---- a line's streams while its block is filled
+
+-- the customer's files, and its streams, of which the line's are the block's
+abbrev pub out_of : ℕ → List (List Sender) → Filling → Outgoing
+out_of l base x = of_parts x.spool.whole (set base l x.outlet.senders)
+
+-- a candidate moves nothing, or one stream, as its record says
+data OffersOne (entry : CustomerEntry) (l : ℕ) (base : List (List Sender)) (x : Filling) (c : Candidate) : Type 0 where
+  same : out_of l base (record x { outlet = c.outlet; spool = c.spool }) ≡ out_of l base x → OffersOne entry l base x c
+  one : Sends entry l (out_of l base x) (out_of l base (record x { outlet = c.outlet; spool = c.spool })) → OffersOne entry l base x c
+
+-- a source moves nothing, or one stream, and then the block has one record more
+pub data GivesOne (entry : CustomerEntry) (l : ℕ) (base : List (List Sender)) (x y : Filling) : Type 0 where
+  nothing : out_of l base y ≡ out_of l base x → (more : List Item) → y.block.items ≡ x.block.items ++ more → GivesOne entry l base x y
+  a_record :
+      Sends entry l (out_of l base x) (out_of l base y) → (i : Item) → y.block.items ≡ x.block.items ++ i ∷ []
+      → GivesOne entry l base x y
+
+module _ (entry : CustomerEntry) (l : ℕ) (base : List (List Sender)) (inside : l < length base) where
+  pub stream_now : (k : ℕ) (x : Filling) → stream_at l k (out_of l base x) ≡ sender_at k x.outlet
+  stream_now k x = ap (λ senders. get_or senders k Idle) (get_or-set_same base l x.outlet.senders [] inside)
+
+  -- the line's streams with another
+  set_again : (senders : List Sender) (k : ℕ) (s : Sender) → set base l (set senders k s) ≡ set (set base l senders) l (set (get_or (set base l senders) l []) k s)
+  set_again senders k s =
+      sym (set-set base l senders (set senders k s))
+      ∙ ap (λ now. set (set base l senders) l (set now k s)) (sym (get_or-set_same base l senders [] inside))
+
+  abbrev Offers : Filling → Candidate → Type 0
+  Offers x c = OffersOne entry l base x c
+
+  abbrev OffersIf : Filling → Option Candidate → Type 0
+  OffersIf x None = Unit {0}
+  OffersIf x (Some c) = Offers x c
+
+  offers_map : {A : Type 0} (x : Filling) (f : A → Candidate) (o : Option A) → ((a : A) → o ≡ Some a → Offers x (f a)) → OffersIf x (option_map f o)
+  offers_map x f None each = tt
+  offers_map x f (Some a) each = each a refl
+
+  moved_is : (x : Filling) (k : ℕ) (s : Sender) (files : List WholeFile) → of_parts files (set base l (set x.outlet.senders k s)) ≡ with_stream l k s (of_parts files (set base l x.outlet.senders))
+  moved_is x k s files = ap (of_parts files) (set_again x.outlet.senders k s)
+
+  offers_abort : (x : Filling) (k : ℕ) (s : Sender) → sender_at k x.outlet ≡ s → OffersIf x (abort_where s x.outlet x.spool k)
+  offers_abort x k Idle e = tt
+  offers_abort x k (Requested n) e = tt
+  offers_abort x k (Sending n place) e = tt
+  offers_abort x k (EofSent n) e = tt
+  offers_abort x k Aborting e = one (moves.gives_up k (stream_now k x ∙ e) (moved_is x k Idle x.spool.whole))
+
+  idle_is : (s : Sender) → is_idle s ≡ true → s ≡ Idle
+  idle_is Idle e = refl
+  idle_is (Requested n) e = absurd (cc e)
+  idle_is (Sending n place) e = absurd (cc e)
+  idle_is (EofSent n) e = absurd (cc e)
+  idle_is Aborting e = absurd (cc e)
+
+  both_right : (a b : Bool) → (a && b) ≡ true → b ≡ true
+  both_right true b e = e
+  both_right false b e = absurd (cc e)
+
+  offers_request : (x : Filling) (k : ℕ) (b : Bool) → may_ask x.outlet k ≡ b
+      → OffersIf x (elim b [ false ↦ None | true ↦ option_map (λ f. asking x.outlet x.spool k f.number) (oldest (goes_by entry l) (kind_of k) x.spool) ])
+  offers_request x k false e = tt
+  offers_request x k true e =
+      offers_map {A = WholeFile} x (λ f. asking x.outlet x.spool k f.number) (oldest (goes_by entry l) (kind_of k) x.spool)
+      (λ f found. one (moves.asks k f (stream_now k x ∙ idle_is (sender_at k x.outlet) (both_right (nat_lt (k % 4) x.outlet.streams) (is_idle (sender_at k x.outlet)) e)) found
+      (moved_is x k (Requested f.number) (asking x.outlet x.spool k f.number).spool.whole)))
+
+  at_place : (n place : ℕ) (x : Filling) → record_at n place x.spool ≡ record_numbered n place (out_of l base x)
+  at_place n place x = at_file (whole_numbered n x.spool)
+    where
+      at_file : (o : Option WholeFile) → elim o [ Some f ↦ slice_get f.records place | None ↦ None ] ≡ slice_get (records_of o) place
+      at_file None = refl
+      at_file (Some f) = refl
+
+  -- a stream that isn't sending stays
+  left_as_it_is : (x : Filling) (k : ℕ) (s : Sender) → sender_at k x.outlet ≡ s → out_of l base (record x { outlet = record x.outlet { senders = set x.outlet.senders k s } }) ≡ out_of l base x
+  left_as_it_is x k s e =
+      ap (λ t. of_parts x.spool.whole (set base l (set x.outlet.senders k t))) (sym e)
+      ∙ ap (λ senders. of_parts x.spool.whole (set base l senders)) (set-get_or x.outlet.senders k Idle)
+
+  offers_next : (x : Filling) (k n place : ℕ) (o : Option Stored) → sender_at k x.outlet ≡ Sending n place → record_at n place x.spool ≡ o
+      → Offers x (serving x.outlet x.spool k (next_at n place o))
+  offers_next x k n place (Some r) e found =
+      one (moves.goes_on k n place r (stream_now k x ∙ e) (sym (at_place n place x) ∙ found) (moved_is x k (Sending n (place + 1)) x.spool.whole))
+  offers_next x k n place None e found =
+      one (moves.ends k n place (stream_now k x ∙ e) (sym (at_place n place x) ∙ found) (moved_is x k (EofSent n) x.spool.whole))
+
+  offers_turn : (x : Filling) (k : ℕ) (s : Sender) → sender_at k x.outlet ≡ s → Offers x (serving x.outlet x.spool k (next_of s x.spool))
+  offers_turn x k Idle e = same (left_as_it_is x k Idle e)
+  offers_turn x k (Requested n) e = same (left_as_it_is x k (Requested n) e)
+  offers_turn x k (Sending n place) e = offers_next x k n place (record_at n place x.spool) e refl
+  offers_turn x k (EofSent n) e = same (left_as_it_is x k (EofSent n) e)
+  offers_turn x k Aborting e = same (left_as_it_is x k Aborting e)
+
+  offers : (source : Source) (x : Filling) → OffersIf x (candidate (goes_by entry l) source x.outlet x.spool)
+  offers WaitingAnswer x = offers_map {A = Answer} x (answering x.outlet x.spool) (slice_get x.outlet.answers 0) (λ a found. same refl)
+  offers (StreamAbort k) x = offers_abort x k (sender_at k x.outlet) refl
+  offers (StreamRequest k) x = offers_request x k (may_ask x.outlet k) refl
+  offers WaitingMessage x = offers_map {A = List ℕ} x (telling x.outlet x.spool) (slice_get x.outlet.messages 0) (λ m found. same refl)
+  offers StreamTurn x =
+      offers_map {A = ℕ} x (λ k. serving x.outlet x.spool k (next_of (sender_at k x.outlet) x.spool)) (next_served x.outlet)
+      (λ k found. offers_turn x k (sender_at k x.outlet) refl)
+
+  abbrev Gives : Filling → Filling → Type 0
+  Gives x y = GivesOne entry l base x y
+
+  gives_candidate : (x : Filling) (o : Option Candidate) → OffersIf x o → Gives x (after_candidate o x)
+  gives_candidate x None h = nothing refl [] (sym (append-nil x.block.items))
+  gives_candidate x (Some c) h = at_room (has_room x.block c.item) h
+    where
+      at_room : (b : Bool) → Offers x c → Gives x (added_where b c x)
+      at_room true (same e) = nothing e (c.item ∷ []) refl
+      at_room true (one s) = a_record s c.item refl
+      at_room false h = nothing refl [] (sym (append-nil x.block.items))
+
+  pub gives : (source : Source) (x : Filling) → Gives x (after_source (goes_by entry l) source x)
+  unfolding after_source
+  gives source x = at_full x.full
+    where
+      at_full : (b : Bool) → Gives x (after_source_where b (goes_by entry l) source x)
+      at_full true = nothing refl [] (sym (append-nil x.block.items))
+      at_full false = gives_candidate x (candidate (goes_by entry l) source x.outlet x.spool) (offers source x)
+
+  -- all sources, one after the other
+  step_on : (x y : Filling) (z : Outgoing) → Gives x y → Leads (Sends entry l) (out_of l base y) z → Leads (Sends entry l) (out_of l base x) z
+  step_on x y z (nothing e more items) later = subst (λ w. Leads (Sends entry l) w z) e later
+  step_on x y z (a_record s i items) later = onward (out_of l base x) (out_of l base y) z s later
+
+  all_lead : (more : List Source) (x : Filling) → Leads (Sends entry l) (out_of l base x) (out_of l base (after_sources (goes_by entry l) more x))
+  unfolding after_sources
+  all_lead [] x = nowhere (out_of l base x)
+  all_lead (source ∷ more) x =
+      let y = after_source (goes_by entry l) source x in
+      step_on x y (out_of l base (after_sources (goes_by entry l) more y)) (gives source x) (all_lead more y)
+
+  -- a block without records has moved nothing
+  no_records : (xs ys : List Item) → xs ++ ys ≡ [] → xs ≡ []
+  no_records [] ys e = refl
+  no_records (x ∷ xs) ys e = absurd (cc e)
+
+  not_one_more : (xs : List Item) (i : Item) → xs ++ i ∷ [] ≡ [] → ⊥
+  not_one_more [] i e = cc e
+  not_one_more (x ∷ xs) i e = cc e
+
+  gave_none : (x y : Filling) → Gives x y → y.block.items ≡ [] → (x.block.items ≡ []) × (out_of l base y ≡ out_of l base x)
+  gave_none x y (nothing e more items) none = (no_records x.block.items more (sym items ∙ none), e)
+  gave_none x y (a_record s i items) none = absurd (not_one_more x.block.items i (sym items ∙ none))
+
+  all_gave_none :
+      (more : List Source) (x : Filling) → (after_sources (goes_by entry l) more x).block.items ≡ []
+      → (x.block.items ≡ []) × (out_of l base (after_sources (goes_by entry l) more x) ≡ out_of l base x)
+  unfolding after_sources
+  all_gave_none [] x none = (none, refl)
+  all_gave_none (source ∷ more) x none =
+      let y = after_source (goes_by entry l) source x in
+      let later = all_gave_none more y none in
+      let first = gave_none x y (gives source x) later.0 in
+      (first.0, later.1 ∙ first.1)
+
+  pub filled_leads : (x : Filling) → Leads (Sends entry l) (out_of l base x) (out_of l base (filled (goes_by entry l) x))
+  unfolding filled
+  filled_leads x = at_suspended (all_suspended x.outlet.peer)
+    where
+      at_suspended : (b : Bool) → Leads (Sends entry l) (out_of l base x) (out_of l base (filled_where b (goes_by entry l) x))
+      at_suspended true = nowhere (out_of l base x)
+      at_suspended false = all_lead (sources x.block.limit x.outlet) x
+
+  pub filled_with_none : (x : Filling) → (filled (goes_by entry l) x).block.items ≡ [] → out_of l base (filled (goes_by entry l) x) ≡ out_of l base x
+  unfolding filled
+  filled_with_none x = at_suspended (all_suspended x.outlet.peer)
+    where
+      at_suspended : (b : Bool) → (filled_where b (goes_by entry l) x).block.items ≡ [] → out_of l base (filled_where b (goes_by entry l) x) ≡ out_of l base x
+      at_suspended true none = refl
+      at_suspended false none = (all_gave_none (sources x.block.limit x.outlet) x none).1

@@ -1,0 +1,131 @@
+-- What may happen to a customer's whole files and to its streams from the hub, one small thing at a time. All that comes on a line leads
+-- from what they were to what they are by such moves and no others.
+use Rattle.std.specs.Prelude.{◌≡◌, ℕ, ◌+◌, Bool, true, List, [], ◌∷◌, ◌++◌, length, map, filter, find, replicate, Some, None, Ok, fold, not}
+use Rattle.std.specs.List.{Contains}
+use Rattle.njh_block.specs.Blocks.{Item, Data, Control, stream_of}
+use Rattle.njh_block.specs.Codes.{kind_of}
+use Rattle.njh_nmr.specs.Nodal.{Nodal, nodal_of, is_user_command}
+use Rattle.njh_record.specs.Stored.{Stored}
+use Rattle.njh_spool.specs.CustomerSpool.{WholeFile}
+use Rattle.njh_spool.specs.declared.State.TheVariants as state
+use Rattle.njh_table.specs.Entries.{CustomerEntry, route_of}
+use Rattle.njh_table.specs.declared.Route.TheVariants.{Here, Line}
+use Rattle.njh_stream.specs.declared.sender.Sender.{Sender}
+use Rattle.njh_stream.specs.declared.sender.Sender.TheVariants.{Idle, Requested, Sending, EofSent, Aborting}
+use Rattle.njh_stream.specs.Sending.{file_in, goes_by, ready}
+use Rattle.njh_stream.specs.Transmissions.{is_whole}
+use Rattle.njh_sched.specs.NextBlock.{may_go}
+use Rattle.njh_command.specs.declared.command.Command.{Command}
+use Rattle.njh_command.specs.declared.command.Command.TheVariants.{Hold, Release, Cancel, Reroute}
+use Rattle.njh_command.specs.Words.{command_of}
+use Rattle.njh_command.specs.Commands.{changed_file, chosen, is_busy, rerouted, with_state, without_file}
+use Rattle.njh_customer.specs.Outgoing.{Outgoing, each_stream, marked, record_numbered, stream_at, streams_of, with_files, with_stream, with_streams, without}
+
+-- ---- by a record that comes
+
+-- A record is A0, B0 or C0 to stream k of its line, which has so many of each kind.
+pub record Tells (answer streams k : ℕ) (i : Item) : Type 0 where
+  pub srcb : ℕ
+  pub is_control : i ≡ Control answer srcb
+  pub names : stream_of streams srcb ≡ Some k
+
+-- A record is a nodal message in which a user, by node and name, commands the hub.
+pub record Commands (entry : CustomerEntry) (who : List ℕ × List ℕ) (command : Command) (i : Item) : Type 0 where
+  pub srcb : ℕ
+  pub bytes : List ℕ
+  pub is_message : i ≡ Data 0x9a srcb bytes
+  pub nodal : Nodal
+  pub reads : nodal_of bytes ≡ Ok nodal
+  pub to_hub : route_of entry nodal.to ≡ Here
+  pub is_command : is_user_command nodal ≡ true
+  pub sender : who ≡ (nodal.origin, nodal.user)
+  pub says : command_of nodal.message ≡ Some command
+
+-- The numbers of the files that pass a test and are being sent.
+abbrev pub busy_numbers : (WholeFile → Bool) → List WholeFile → List ℕ
+busy_numbers p files = map (λ f. f.number) (filter (is_busy p) files)
+
+-- the streams that were about one of some files have none
+abbrev pub without_files : List ℕ → Outgoing → Outgoing
+without_files numbers x = fold (λ y n. each_stream (without_file n) y) x numbers
+
+-- the files that pass a test are gone
+abbrev pub cancelled : (WholeFile → Bool) → Outgoing → Outgoing
+cancelled p x = without_files (busy_numbers p x.files) (with_files (filter (λ f. not (p f)) x.files) x)
+
+-- those that pass a test and aren't being sent are changed
+abbrev pub changed : (WholeFile → Bool) → (WholeFile → WholeFile) → Outgoing → Outgoing
+changed p change x = with_files (map (changed_file p change) x.files) x
+
+pub data Acts (entry : CustomerEntry) (l : ℕ) (i : Item) (x y : Outgoing) : Type 0 where
+  -- an end of file: a file has come whole, and is the last one
+  comes :
+      (rcb srcb : ℕ) (f : WholeFile) → i ≡ Data rcb srcb [] → f.state ≡ state.Ready → is_whole f.records ≡ true
+      → y ≡ with_files (x.files ++ f ∷ []) x → Acts entry l i x y
+  -- A0 to a stream that asked: it sends the file, from its first record on
+  permitted :
+      (streams k n : ℕ) → Tells 0xa0 streams k i → stream_at l k x ≡ Requested n → y ≡ with_stream l k (Sending n 0) x
+      → Acts entry l i x y
+  -- B0: the file is refused, and the stream has none
+  refused :
+      (streams k n : ℕ) (after : Sender) → Tells 0xb0 streams k i → file_in (stream_at l k x) ≡ Some n → file_in after ≡ None
+      → y ≡ with_stream l k after (with_files (marked n state.Refused x.files) x) → Acts entry l i x y
+  -- C0 to a stream that sent its end of file: the peer has the file, and it is gone
+  completed :
+      (streams k n : ℕ) → Tells 0xc0 streams k i → stream_at l k x ≡ EofSent n
+      → y ≡ with_stream l k Idle (with_files (without n x.files) x) → Acts entry l i x y
+  -- commands of the files' owner
+  holds :
+      (who : List ℕ × List ℕ) (name : List ℕ × ℕ) → Commands entry who (Hold name) i
+      → y ≡ changed (chosen who name) (with_state state.Held) x → Acts entry l i x y
+  releases :
+      (who : List ℕ × List ℕ) (name : List ℕ × ℕ) → Commands entry who (Release name) i
+      → y ≡ changed (chosen who name) (with_state state.Ready) x → Acts entry l i x y
+  reroutes :
+      (who : List ℕ × List ℕ) (name : List ℕ × ℕ) (node : List ℕ) (line : ℕ) → Commands entry who (Reroute name node) i
+      → route_of entry node ≡ Line line → y ≡ changed (chosen who name) (rerouted node) x → Acts entry l i x y
+  cancels :
+      (who : List ℕ × List ℕ) (name : List ℕ × ℕ) → Commands entry who (Cancel name) i → y ≡ cancelled (chosen who name) x
+      → Acts entry l i x y
+
+-- ---- by a record that goes out in a new block
+
+pub data Sends (entry : CustomerEntry) (l : ℕ) (x y : Outgoing) : Type 0 where
+  -- an abort: the stream's file was given up
+  gives_up : (k : ℕ) → stream_at l k x ≡ Aborting → y ≡ with_stream l k Idle x → Sends entry l x y
+  -- a request: an idle stream asks for the oldest file that may go
+  asks :
+      (k : ℕ) (f : WholeFile) → stream_at l k x ≡ Idle → find (may_go (goes_by entry l) (kind_of k)) x.files ≡ Some f
+      → y ≡ with_stream l k (Requested f.number) (with_files (marked f.number state.Sending x.files) x) → Sends entry l x y
+  -- the file's record at the stream's place
+  goes_on :
+      (k n place : ℕ) (r : Stored) → stream_at l k x ≡ Sending n place → record_numbered n place x ≡ Some r
+      → y ≡ with_stream l k (Sending n (place + 1)) x → Sends entry l x y
+  -- the end of file, where there is no record at the stream's place
+  ends :
+      (k n place : ℕ) → stream_at l k x ≡ Sending n place → record_numbered n place x ≡ None → y ≡ with_stream l k (EofSent n) x
+      → Sends entry l x y
+
+-- ---- by the end of the line's session
+
+-- Its streams are idle, and no file changes but in its state.
+pub record Over (l : ℕ) (x y : Outgoing) : Type 0 where
+  pub streams : y.streams ≡ (with_streams l (replicate (length (streams_of l x)) Idle) x).streams
+  pub files : map ready y.files ≡ map ready x.files
+
+-- ---- all
+
+-- one of these records acts
+abbrev pub OneActs : CustomerEntry → ℕ → List Item → Outgoing → Outgoing → Type 0
+OneActs entry l items x y = (i : Item) × Contains items i × Acts entry l i x y
+
+-- A move on a line on which these records come.
+pub data Moves (entry : CustomerEntry) (l : ℕ) (items : List Item) (x y : Outgoing) : Type 0 where
+  by_record : OneActs entry l items x y → Moves entry l items x y
+  by_sending : Sends entry l x y → Moves entry l items x y
+  by_end : Over l x y → Moves entry l items x y
+
+-- Moves of a kind lead from one to the other.
+pub data Leads (Move : Outgoing → Outgoing → Type 0) : Outgoing → Outgoing → Type 0 where
+  nowhere : (x : Outgoing) → Leads Move x x
+  onward : (x y z : Outgoing) → Move x y → Leads Move y z → Leads Move x z

@@ -1,0 +1,134 @@
+-- What is said of how a customer's whole files and its streams from the hub move.
+use Rattle.std.specs.Prelude.{◌≡◌, ℕ, ◌+◌, ◌<◌, ◌⊎◌, true, false, List, [], find, flat_map, length, take, Some, None}
+use Rattle.std.specs.List.{Contains}
+use Rattle.njh_bisync.specs.Fed.{frames_after}
+use Rattle.njh_bisync.specs.Frames.{Received}
+use Rattle.njh_block.specs.Blocks.{Item, Data}
+use Rattle.njh_block.specs.Codes.{kind_of}
+use Rattle.njh_header.specs.Redirecting.{redirected}
+use Rattle.njh_record.specs.Stored.{Stored}
+use Rattle.njh_spool.specs.CustomerSpool.{WholeFile}
+use Rattle.njh_spool.specs.declared.State.TheVariants.{Ready}
+use Rattle.njh_table.specs.Entries.{CustomerEntry}
+use Rattle.njh_stream.specs.declared.sender.Sender.TheVariants.{Idle, Requested, Sending, EofSent}
+use Rattle.njh_stream.specs.Sending.{file_in, goes_by}
+use Rattle.njh_stream.specs.Transmissions.{is_whole}
+use Rattle.njh_sched.specs.NextBlock.{may_go}
+use Rattle.njh_command.specs.declared.command.Command.TheVariants.{Cancel, Reroute}
+use Rattle.njh_command.specs.Commands.{chosen, is_sending}
+use Rattle.njh_customer.specs.declared.signal.Signal.{Signal}
+use Rattle.njh_customer.specs.Customer.{Customer}
+use Rattle.njh_customer.specs.Alone.{frame_came, signal_came}
+use Rattle.njh_customer.specs.Part.{Part, bytes_taken, rest_on}
+use Rattle.njh_customer.specs.Runs.{OwnEvent, OwnBytes, OwnSignal, event_run}
+use Rattle.njh_customer.specs.Outgoing.{Outgoing, outgoing, has_file, record_numbered, stream_at}
+use Rattle.njh_customer.specs.Moves.{Commands, Leads, Moves, Sends, Tells}
+use Rattle.njh_customer.specs.Doing.{Does, records_in}
+
+-- ---- what comes
+
+-- What each frame and each signal on a line does.
+abbrev pub FramesDoSo : Type 0
+FramesDoSo = (l : ℕ) (received : Received) (c : Customer) → Does l (records_in received) c (frame_came l received c)
+
+abbrev pub SignalsDoSo : Type 0
+SignalsDoSo = (l : ℕ) (signal : Signal) (c : Customer) → Does l [] c (signal_came l signal c)
+
+-- the line of an event, and the records that come by it
+abbrev pub line_of : OwnEvent → ℕ
+line_of (OwnBytes l piece) = l
+line_of (OwnSignal signal l) = l
+
+abbrev pub records_by : Part → OwnEvent → List Item
+records_by p (OwnBytes l piece) = flat_map records_in (frames_after (rest_on l p) piece)
+records_by p (OwnSignal signal l) = []
+
+-- An event moves files and streams only so.
+abbrev pub EventsMoveSo : Type 0
+EventsMoveSo =
+    (p : Part) (event : OwnEvent)
+    → Leads (Moves p.customer.entry (line_of event) (records_by p event)) (outgoing p.customer) (outgoing (event_run p event).after.customer)
+
+-- So does a step by bytes of a line, by the records of the bytes that it takes.
+abbrev pub TakesMoveSo : Type 0
+TakesMoveSo =
+    (p : Part) (l : ℕ) (piece : List ℕ) → l < length p.rests → let t = bytes_taken p l piece in
+    Leads (Moves p.customer.entry l (records_by p (OwnBytes l (take t.taken piece)))) (outgoing p.customer) (outgoing t.after.customer)
+
+-- ---- how a file leaves
+
+-- A file of number n leaves by the command CANCEL of its owner by its name, or by C0 to the stream that sent its end of file.
+pub data Leaves (entry : CustomerEntry) (l : ℕ) (items : List Item) (n : ℕ) (x : Outgoing) : Type 0 where
+  cancelled :
+      (i : Item) (who : List ℕ × List ℕ) (name : List ℕ × ℕ) (f : WholeFile) → Contains items i → Commands entry who (Cancel name) i
+      → Contains x.files f → f.number ≡ n → chosen who name f ≡ true → Leaves entry l items n x
+  completed :
+      (i : Item) (streams k : ℕ) → Contains items i → Tells 0xc0 streams k i → stream_at l k x ≡ EofSent n → Leaves entry l items n x
+
+abbrev pub FilesLeaveSo : Type 0
+FilesLeaveSo =
+    (entry : CustomerEntry) (l : ℕ) (items : List Item) (x y : Outgoing) (n : ℕ) → Moves entry l items x y → has_file n x ≡ true
+    → has_file n y ≡ false → Leaves entry l items n x
+
+-- and so in all that moves lead to, at some moment between
+abbrev pub FilesLeaveSoBetween : Type 0
+FilesLeaveSoBetween =
+    (entry : CustomerEntry) (l : ℕ) (items : List Item) (x y : Outgoing) (n : ℕ) → Leads (Moves entry l items) x y → has_file n x ≡ true
+    → has_file n y ≡ false → (z : Outgoing) × Leads (Moves entry l items) x z × Leaves entry l items n z × Leads (Moves entry l items) z y
+
+-- ---- how a stream moves
+
+-- What a move does to stream k of line j.
+pub data StreamMoves (entry : CustomerEntry) (l : ℕ) (items : List Item) (j k : ℕ) (x y : Outgoing) : Type 0 where
+  stays : stream_at j k y ≡ stream_at j k x → StreamMoves entry l items j k x y
+  -- it is about no file then
+  has_none : file_in (stream_at j k y) ≡ None → StreamMoves entry l items j k x y
+  -- an idle one asks for the oldest file that may go
+  asks :
+      (f : WholeFile) → Sends entry l x y → stream_at j k x ≡ Idle → find (may_go (goes_by entry l) (kind_of k)) x.files ≡ Some f
+      → stream_at j k y ≡ Requested f.number → StreamMoves entry l items j k x y
+  -- A0 to one that asked: its place is 0
+  permitted :
+      (i : Item) (streams n : ℕ) → Contains items i → Tells 0xa0 streams k i → stream_at j k x ≡ Requested n
+      → stream_at j k y ≡ Sending n 0 → StreamMoves entry l items j k x y
+  -- the record at its place goes out, and the next is behind it
+  goes_on :
+      (n place : ℕ) (r : Stored) → Sends entry l x y → stream_at j k x ≡ Sending n place → record_numbered n place x ≡ Some r
+      → stream_at j k y ≡ Sending n (place + 1) → StreamMoves entry l items j k x y
+  -- there is none at its place: the end of file goes out
+  ends :
+      (n place : ℕ) → Sends entry l x y → stream_at j k x ≡ Sending n place → record_numbered n place x ≡ None
+      → stream_at j k y ≡ EofSent n → StreamMoves entry l items j k x y
+
+abbrev pub StreamsMoveSo : Type 0
+StreamsMoveSo =
+    (entry : CustomerEntry) (l : ℕ) (items : List Item) (x y : Outgoing) (j k : ℕ) → Moves entry l items x y
+    → StreamMoves entry l items j k x y
+
+-- A stream takes a file only when it is idle.
+abbrev pub IdleStreamsTakeFiles : Type 0
+IdleStreamsTakeFiles =
+    (entry : CustomerEntry) (l : ℕ) (items : List Item) (x y : Outgoing) (j k n : ℕ) → Moves entry l items x y
+    → file_in (stream_at j k y) ≡ Some n → (file_in (stream_at j k x) ≡ Some n) ⊎ (stream_at j k x ≡ Idle)
+
+-- ---- what becomes of a file's records
+
+-- A whole file after a move is one that was there, with its records; or it has just come; or it is one that was there and wasn't being sent,
+-- and a command REROUTE of its owner by its name gave it another destination: each of its records is what it was, or has the eight bytes
+-- of the node in the place of the destination's.
+pub data FileMoves (entry : CustomerEntry) (items : List Item) (x : Outgoing) (g : WholeFile) : Type 0 where
+  stays :
+      (f : WholeFile) → Contains x.files f → g.number ≡ f.number → g.kind ≡ f.kind → g.records ≡ f.records → FileMoves entry items x g
+  comes :
+      (i : Item) (rcb srcb : ℕ) → Contains items i → i ≡ Data rcb srcb [] → is_whole g.records ≡ true → g.state ≡ Ready
+      → FileMoves entry items x g
+  rerouted :
+      (i : Item) (who : List ℕ × List ℕ) (name : List ℕ × ℕ) (node : List ℕ) (f : WholeFile) → Contains items i
+      → Commands entry who (Reroute name node) i → Contains x.files f → chosen who name f ≡ true → is_sending f.state ≡ false
+      → g.number ≡ f.number → g.kind ≡ f.kind → length node ≡ 8 → g.records ≡ redirected f.kind node None f.records
+      → FileMoves entry items x g
+
+abbrev pub RecordsChangeSo : Type 0
+RecordsChangeSo =
+    (entry : CustomerEntry) (l : ℕ) (items : List Item) (x y : Outgoing) (g : WholeFile) → Moves entry l items x y → Contains y.files g
+    → FileMoves entry items x g

@@ -1,0 +1,196 @@
+-- An event of a wire: its steps, the frames that are written, and a write that fails.
+use Rattle.std.proofs.Common.{◌≡◌, ℕ, zero, suc, ◌+◌, ◌-◌, ◌<◌, ◌≤◌, List, [], ◌∷◌, ◌++◌, length, map, take, set, refl}
+use Rattle.std.proofs.Common.{ap, sym, subst, ◌∙◌, arith, append-nil}
+use Rattle.std.proofs.lemmas.List.{get_or-set_same, length-set, length-append, map-append}
+use Rattle.std.proofs.Math.Seq.{take-add}
+use Rattle.njh_bisync.specs.Reading.{Rest}
+use Rattle.njh_table.specs.declared.LineId.{LineId}
+use Rattle.njh_customer.specs.Customer.{Customer}
+use Rattle.njh_customer.specs.declared.signal.Signal.{Signal}
+use Rattle.njh_customer.specs.declared.signal.Signal.TheVariants as signal
+use Rattle.njh_customer.specs.Feeding.{Taking, take_step, byte_step, or_later, bytes_run, sent_on}
+use Rattle.njh_customer.specs.Laws.{CutsAreLike}
+use Rattle.njh_customer.specs.Part.{rest_on, signal_taken}
+use Rattle.njh_customer.specs.Runs.{OwnBytes, OwnSignal, Run, event_run}
+use Rattle.njh_hub.specs.declared.event.Event.{Event}
+use Rattle.njh_hub.specs.declared.event.Event.TheVariants.{Bytes, Lost}
+use Rattle.njh_hub.specs.Own.{line_of, own}
+use Rattle.njh_hub.specs.Whole.{Part, no_part, part, HubRun, sent_by, hub_run}
+use Rattle.njh_hub.specs.Wires.{WireAct, Unsent, sent_act, frame_acts, last_unsent, run_until, cut_to, event_by, SendsAt}
+use Rattle.njh_hub.proofs.PieceLaws.{after_bytes}
+use Rattle.njh_hub.proofs.RunningLaws.{GoesOn, step_done, whole_done, known-there, sent_pair, signal_done}
+
+-- ---- the last byte of a step
+
+first_silent : (frame : List ℕ) (rest : Rest) (after : Customer) (l : ℕ) (later : Taking) (sent : List (ℕ × List ℕ)) (k : ℕ) →
+    suc k < (or_later 1 rest (record { after = after; frame = frame }) later).taken → (k < later.taken → sent ≡ []) →
+    sent_on l frame ++ sent ≡ []
+first_silent [] rest after l later sent k within silent = silent (omega arith)
+first_silent (b ∷ frame) rest after l later sent k within silent = absurd (omega arith)
+
+-- of the bytes of a step only the last sends a frame
+pub silent_before : (rest : Rest) (c : Customer) (l : ℕ) (bytes : List ℕ) (k : ℕ) → k < (take_step rest c l bytes).taken →
+    (bytes_run rest c l (take k bytes)).sent ≡ []
+silent_before rest c l [] k within = absurd (omega arith)
+silent_before rest c l (byte ∷ bytes) zero within = refl
+silent_before rest c l (byte ∷ bytes) (suc k) within =
+    let x = byte_step rest c l byte in
+    first_silent x.frame x.rest x.after l (take_step x.rest x.after l bytes) (bytes_run x.rest x.after l (take k bytes)).sent k within
+    (silent_before x.rest x.after l bytes k)
+
+-- a byte less than a step takes sends no frame of it
+pub byte_less : CutsAreLike → {start now after : List Part} {line : LineId} {piece left : List ℕ} {before used : ℕ} {frame : List ℕ} →
+    GoesOn start now after line piece left before used frame → 0 < used →
+    (after_bytes start line (take (before + used - 1) piece)).sent ≡ (after_bytes start line (take before piece)).sent
+byte_less cuts {start} {now} {after} {line} {piece} {left} {before} {used} {frame} h some =
+    let c = line.customer in
+    let l = line.line in
+    let p = part c start in
+    let front = take before piece in
+    let x = event_run p (OwnBytes l front) in
+    let k = used - 1 in
+    let moved : part c now ≡ x.after = ap (part c) h.now_is ∙ get_or-set_same start c x.after no_part (known-there start line h.known) in
+    let inside : l < length p.rests = omega (
+      arith,
+      h.rests,
+      ap (λ (q : Part). length q.rests) moved,
+      length-set p.rests l (bytes_run (rest_on l p) p.customer l front).rest,
+    ) in
+    let same : before + used - 1 ≡ before + k = omega arith in
+    let cut : take (before + used - 1) piece ≡ front ++ take k left =
+    ap (λ (n : ℕ). take n piece) same ∙ take-add before k piece ∙ ap (λ (bs : List ℕ). front ++ take k bs) (sym h.left_is) in
+    let silent : (event_run (part c now) (OwnBytes l (take k left))).sent ≡ [] =
+    silent_before (rest_on l (part c now)) (part c now).customer l left k (omega (arith, h.used_is, some)) in
+    let P : Part → Type 0 = λ q. (event_run q (OwnBytes l (take k left))).sent ≡ [] in
+    let none : (event_run x.after (OwnBytes l (take k left))).sent ≡ [] = subst P moved silent in
+    let sent : (event_run p (OwnBytes l (front ++ take k left))).sent ≡ x.sent =
+    sym (append-nil (event_run p (OwnBytes l (front ++ take k left))).sent)
+    ∙ ap (λ (r : Run). r.sent) (cuts p l front (take k left) [] inside)
+    ∙ ap (λ (s : List (ℕ × List ℕ)). x.sent ++ (s ++ [])) none ∙ append-nil x.sent in
+    ap (λ (bs : List ℕ). sent_by c (event_run p (OwnBytes l bs)).sent) cut ∙ ap (sent_by c) sent
+
+-- ---- what is written
+
+pub frame_acts-sent : (line : LineId) (frame : List ℕ) → map sent_act (sent_by line.customer (sent_on line.line frame)) ≡ frame_acts frame
+frame_acts-sent line [] = refl
+frame_acts-sent line (b ∷ frame) = refl
+
+pub last_unsent-append : (front : List (LineId × List ℕ)) (pair : LineId × List ℕ) →
+    last_unsent (front ++ pair ∷ []) ≡ map sent_act front ++ Unsent pair.1 ∷ []
+last_unsent-append [] pair = refl
+last_unsent-append (x ∷ []) pair = refl
+last_unsent-append (x ∷ y ∷ front) pair = ap (λ (s : List WireAct). sent_act x ∷ s) (last_unsent-append (y ∷ front) pair)
+
+-- a step's frame is written behind those before it
+pub step_written : {start now after : List Part} {line : LineId} {piece left : List ℕ} {before used : ℕ} {frame : List ℕ} →
+    GoesOn start now after line piece left before used frame →
+    map sent_act (after_bytes start line (take (before + used) piece)).sent
+    ≡ map sent_act (after_bytes start line (take before piece)).sent ++ frame_acts frame
+step_written {start} {now} {after} {line} {piece} {left} {before} {used} {frame} h =
+    let sent = (after_bytes start line (take before piece)).sent in
+    ap (λ (r : HubRun). map sent_act r.sent) (step_done h)
+    ∙ map-append sent_act sent (sent_by line.customer (sent_on line.line frame))
+    ∙ ap (λ (s : List WireAct). map sent_act sent ++ s) (frame_acts-sent line frame)
+
+-- the frames up to a step that sends one
+pub step_sends : {start now after : List Part} {line : LineId} {piece left : List ℕ} {before used : ℕ} {frame : List ℕ} →
+    GoesOn start now after line piece left before used frame → 0 < length frame →
+    (run_until start (before + used) (Bytes line piece)).sent ≡ (after_bytes start line (take before piece)).sent ++ (line, frame) ∷ []
+step_sends {start} {now} {after} {line} {piece} {left} {before} {used} {frame} h some =
+    let sent = (after_bytes start line (take before piece)).sent in
+    ap (λ (r : HubRun). r.sent) (whole_done start (Bytes line (take (before + used) piece)) ∙ step_done h)
+    ∙ ap (λ (s : List (LineId × List ℕ)). sent ++ s) (sent_pair line frame some)
+
+-- the write of a step's frame fails
+pub step_unsent : {start now after : List Part} {line : LineId} {piece left : List ℕ} {before used : ℕ} {frame : List ℕ} →
+    GoesOn start now after line piece left before used frame → 0 < length frame →
+    last_unsent (run_until start (before + used) (Bytes line piece)).sent
+    ≡ map sent_act (after_bytes start line (take before piece)).sent ++ Unsent frame ∷ []
+step_unsent {start} {now} {after} {line} {piece} {left} {before} {used} {frame} h some =
+    ap last_unsent (step_sends h some) ∙ last_unsent-append (after_bytes start line (take before piece)).sent (line, frame)
+
+pub step_stops : CutsAreLike → {start now after : List Part} {line : LineId} {piece left : List ℕ} {before used : ℕ} {frame : List ℕ} →
+    GoesOn start now after line piece left before used frame → 0 < length frame → 0 < used → before + used ≤ length piece →
+    SendsAt start (Bytes line piece) (before + used)
+step_stops cuts {start} {now} {after} {line} {piece} {left} {before} {used} {frame} h some any within =
+    let sent = (after_bytes start line (take before piece)).sent in
+    let whole : length (run_until start (before + used) (Bytes line piece)).sent ≡ length sent + 1 =
+    ap (λ (s : List (LineId × List ℕ)). length s) (step_sends h some) ∙ length-append sent ((line, frame) ∷ []) in
+    let less : length (run_until start (before + used - 1) (Bytes line piece)).sent ≡ length sent =
+    ap (λ (r : HubRun). length r.sent) (whole_done start (Bytes line (take (before + used - 1) piece)))
+    ∙ ap (λ (s : List (LineId × List ℕ)). length s) (byte_less cuts h any) in
+    record { within = within; some = omega (arith, whole); last = λ _. omega (arith, whole, less) }
+
+-- ---- signals
+
+pub own-event_by : (s : Signal) (line : LineId) → own (event_by s line) ≡ OwnSignal s line.line
+own-event_by signal.Tick line = refl
+own-event_by signal.Garbled line = refl
+own-event_by signal.Lost line = refl
+
+pub line-event_by : (s : Signal) (line : LineId) → line ≡ line_of (event_by s line)
+line-event_by signal.Tick line = refl
+line-event_by signal.Garbled line = refl
+line-event_by signal.Lost line = refl
+
+pub cut_to-event_by : (n : ℕ) (s : Signal) (line : LineId) → cut_to n (event_by s line) ≡ event_by s line
+cut_to-event_by n signal.Tick line = refl
+cut_to-event_by n signal.Garbled line = refl
+cut_to-event_by n signal.Lost line = refl
+
+-- a signal as the only event
+pub signal_came : (parts : List Part) (s : Signal) (line : LineId) →
+    (let t = signal_taken (part line.customer parts) line.line s in
+    hub_run parts (event_by s line ∷ []) ≡ record {
+      parts = set parts line.customer t.after;
+      sent = sent_by line.customer (sent_on line.line t.frame);
+    })
+signal_came parts s line =
+    signal_done parts (event_by s line) line s (line-event_by s line)
+    (own-event_by s line ∙ ap (λ (l : LineId). OwnSignal s l.line) (line-event_by s line))
+
+-- an event, and then the loss of its line
+pub lost_next : (start now new : List Part) (event : Event) (line : LineId) → line ≡ line_of event →
+    now ≡ (hub_run start (event ∷ [])).parts → new ≡ set now line.customer (signal_taken (part line.customer now) line.line signal.Lost).after →
+    new ≡ (hub_run start (event ∷ Lost (line_of event) ∷ [])).parts
+lost_next start now new event line on before after =
+    after ∙ sym (ap (λ (h : HubRun). h.parts) (signal_came now signal.Lost line))
+    ∙ ap (λ (ps : List Part). (hub_run ps (Lost line ∷ [])).parts) before
+    ∙ ap (λ (l : LineId). (hub_run (hub_run start (event ∷ [])).parts (Lost l ∷ [])).parts) on
+
+-- a signal, and then the loss of its line
+pub lost_after : (start now new : List Part) (s : Signal) (line : LineId) →
+    now ≡ (hub_run start (cut_to 0 (event_by s line) ∷ [])).parts →
+    new ≡ set now line.customer (signal_taken (part line.customer now) line.line signal.Lost).after →
+    new ≡ (hub_run start (cut_to 0 (event_by s line) ∷ Lost (line_of (event_by s line)) ∷ [])).parts
+lost_after start now new s line before after =
+    let on : line ≡ line_of (cut_to 0 (event_by s line)) = line-event_by s line ∙ sym (ap line_of (cut_to-event_by 0 s line)) in
+    lost_next start now new (cut_to 0 (event_by s line)) line on before after
+    ∙ ap (λ (e : Event). (hub_run start (cut_to 0 (event_by s line) ∷ Lost (line_of e) ∷ [])).parts) (cut_to-event_by 0 s line)
+
+-- a signal whose frame could not be written
+pub signal_stops : (parts : List Part) (s : Signal) (line : LineId) (frame : List ℕ) →
+    frame ≡ (signal_taken (part line.customer parts) line.line s).frame → 0 < length frame → SendsAt parts (event_by s line) 0
+signal_stops parts s line frame is some =
+    let sent : (run_until parts 0 (event_by s line)).sent ≡ (line, frame) ∷ [] =
+    ap (λ (e : Event). (hub_run parts (e ∷ [])).sent) (cut_to-event_by 0 s line)
+    ∙ ap (λ (h : HubRun). h.sent) (signal_came parts s line)
+    ∙ ap (λ (b : List ℕ). sent_by line.customer (sent_on line.line b)) (sym is) ∙ sent_pair line frame some in
+    let one : length (run_until parts 0 (event_by s line)).sent ≡ 1 = ap (λ (s : List (LineId × List ℕ)). length s) sent in
+    record { within = omega arith; some = omega (arith, one); last = λ none. absurd (omega (arith, none)) }
+
+pub signal_unsent : (parts : List Part) (s : Signal) (line : LineId) (frame : List ℕ) →
+    frame ≡ (signal_taken (part line.customer parts) line.line s).frame → 0 < length frame →
+    last_unsent (run_until parts 0 (event_by s line)).sent ≡ Unsent frame ∷ []
+signal_unsent parts s line frame is some =
+    ap (λ (e : Event). last_unsent (hub_run parts (e ∷ [])).sent) (cut_to-event_by 0 s line)
+    ∙ ap (λ (h : HubRun). last_unsent h.sent) (signal_came parts s line)
+    ∙ ap (λ (b : List ℕ). last_unsent (sent_by line.customer (sent_on line.line b))) (sym is)
+    ∙ ap last_unsent (sent_pair line frame some)
+
+pub signal_written : (parts : List Part) (s : Signal) (line : LineId) (frame : List ℕ) →
+    frame ≡ (signal_taken (part line.customer parts) line.line s).frame →
+    map sent_act (hub_run parts (event_by s line ∷ [])).sent ≡ frame_acts frame
+signal_written parts s line frame is =
+    ap (λ (h : HubRun). map sent_act h.sent) (signal_came parts s line)
+    ∙ ap (λ (b : List ℕ). map sent_act (sent_by line.customer (sent_on line.line b))) (sym is) ∙ frame_acts-sent line frame

@@ -1,0 +1,21 @@
+use Rattle.std.proofs.Common.{◌≡◌, ◌≤◌, ◌-◌, length, map, take}
+use Rattle.std.specs.Vec.{vec_capacity}
+use Rattle.njh_bisync.specs.declared.frame.TheConstants.{LONGEST_FRAME}
+use Rattle.njh_hub.specs.Whole.{SameLines}
+use Rattle.njh_hub.specs.Wires.{sent_act}
+use Rattle.njh_hub.proofs.PieceLaws.{after_bytes}
+use Rattle.njh_hub.proofs.turn.pass_bytes.Given as goal
+
+-- so many bytes were used, and each frame was written
+abbrev pub invariant-loop-taken : goal.invariant-loop-taken
+invariant-loop-taken g l = record {
+  within : l.taken ≤ length l.piece;
+  parts : l.hub ≡ (after_bytes l.fn.hub l.line (take l.taken l.piece)).parts;
+  acts : g.W.Wire.passed l.fn.wire l.wire (map sent_act (after_bytes l.fn.hub l.line (take l.taken l.piece)).sent);
+  same : SameLines l.fn.hub l.hub;
+  room : LONGEST_FRAME ≤ vec_capacity l.out;
+  counts : g.W.Wire.count l.fn.wire ≤ g.W.Wire.count l.wire;
+}
+
+abbrev pub decreases-loop-taken : goal.decreases-loop-taken
+decreases-loop-taken g l = length l.piece - l.taken

@@ -1,0 +1,113 @@
+-- One turn of a wire: what its read answered, what the hub hears of that, and what passes on the wire.
+use Rattle.std.specs.Prelude.{◌≡◌, ℕ, ◌-◌, ◌<◌, ◌≤◌, List, [], ◌∷◌, length, map, take, Option, Some, None}
+use Rattle.std.specs.Prelude.{Result, Ok, Err, IsSome, ⊤, Vec, vec_capacity, slice_set}
+use Rattle.njh_bisync.specs.declared.frame.TheConstants.{LONGEST_FRAME}
+use Rattle.njh_table.specs.declared.LineId.{LineId}
+use Rattle.njh_customer.specs.declared.signal.Signal.{Signal}
+use Rattle.njh_customer.specs.declared.signal.Signal.TheVariants as signal
+use Rattle.njh_hub.specs.declared.event.Event.{Event}
+use Rattle.njh_hub.specs.declared.event.Event.TheVariants.{Bytes, Tick, Garbled, Lost}
+use Rattle.njh_hub.specs.declared.reading.Reading.{Reading}
+use Rattle.njh_hub.specs.declared.reading.Reading.TheVariants as reading
+use Rattle.njh_hub.specs.declared.reading.WireFault.{WireFault}
+use Rattle.njh_hub.specs.Own.{line_of, bytes_in_event}
+use Rattle.njh_hub.specs.Sent.{IsCounted}
+use Rattle.njh_hub.specs.Whole.{Part, HubRun, SameLines, hub_run}
+
+-- ---- what a wire does
+
+-- What a read of a wire answered.
+pub data Heard : Type 0 where
+  Came : (piece : List ℕ) → Heard
+  Quiet : Heard
+  Closed : Heard
+  Absent : Heard
+  Failed : Heard
+
+abbrev pub heard_of : Result Reading WireFault → List ℕ → Heard
+heard_of (Ok (reading.Bytes n)) buffer = Came (take n buffer)
+heard_of (Ok reading.Quiet) buffer = Quiet
+heard_of (Ok reading.Closed) buffer = Closed
+heard_of (Ok reading.Absent) buffer = Absent
+heard_of (Err fault) buffer = Failed
+
+-- at least one byte came, and no more than there was room for
+abbrev pub IsReading : ℕ → Reading → Type 0
+IsReading room (reading.Bytes n) = (0 < n) × (n ≤ room)
+IsReading room reading.Quiet = ⊤
+IsReading room reading.Closed = ⊤
+IsReading room reading.Absent = ⊤
+
+-- What passes on a wire: the answer of a read, a frame that went out, and one whose write failed.
+pub data WireAct : Type 0 where
+  Answered : (heard : Heard) → WireAct
+  Sent : (frame : List ℕ) → WireAct
+  Unsent : (frame : List ℕ) → WireAct
+
+-- ---- an event of a wire
+
+-- the first bytes of an event; one that brings no bytes is whole
+abbrev pub cut_to : ℕ → Event → Event
+cut_to n (Bytes line piece) = Bytes line (take n piece)
+cut_to n (Tick line) = Tick line
+cut_to n (Garbled line) = Garbled line
+cut_to n (Lost line) = Lost line
+
+-- the hub after the first bytes of an event
+abbrev pub run_until : List Part → ℕ → Event → HubRun
+run_until parts n event = hub_run parts (cut_to n event ∷ [])
+
+-- What the hub hears of an event. Where a write failed, the bytes behind it are dropped and the line is lost.
+abbrev pub told : Option ℕ → Event → List Event
+told None event = event ∷ []
+told (Some n) event = cut_to n event ∷ Lost (line_of event) ∷ []
+
+abbrev pub sent_act : LineId × List ℕ → WireAct
+sent_act pair = Sent pair.1
+
+-- a frame of a step, where one was sent
+abbrev pub frame_acts : List ℕ → List WireAct
+frame_acts [] = []
+frame_acts (b ∷ frame) = Sent (b ∷ frame) ∷ []
+
+-- frames of which the last could not be written
+abbrev pub last_unsent : List (LineId × List ℕ) → List WireAct
+last_unsent [] = []
+last_unsent (pair ∷ pairs) = elim pairs [ [] ↦ Unsent pair.1 ∷ [] | next ∷ more ↦ sent_act pair ∷ last_unsent pairs ]
+
+-- Each frame that the hub sends is written, up to one whose write fails.
+abbrev pub written : List Part → Option ℕ → Event → List WireAct
+written parts None event = map sent_act (hub_run parts (event ∷ [])).sent
+written parts (Some n) event = last_unsent (run_until parts n event).sent
+
+-- A frame is sent when so many bytes of an event are used: the last of them sends it.
+pub record SendsAt (parts : List Part) (event : Event) (n : ℕ) : Type 0 where
+  pub within : n ≤ bytes_in_event event
+  pub some : 0 < length (run_until parts n event).sent
+  pub last : 0 < n → length (run_until parts (n - 1) event).sent < length (run_until parts n event).sent
+
+abbrev pub IsStop : List Part → Option ℕ → Event → Type 0
+IsStop parts None event = ⊤
+IsStop parts (Some n) event = SendsAt parts event n
+
+abbrev pub event_by : Signal → LineId → Event
+event_by signal.Tick line = Tick line
+event_by signal.Garbled line = Garbled line
+event_by signal.Lost line = Lost line
+
+-- A step on a line in the room that `out` has: it leads that line's customer to `after` and no other anywhere.
+pub record IsTaken {Z : Type 0} (parts : List Part) (line : LineId) (after : Part) (sent : List ℕ) (new : List Part)
+    (new_out : Vec ℕ Z) : Type 0 where
+  pub hub : new ≡ slice_set parts line.customer after
+  pub frame : new_out.items ≡ sent
+  pub lines : SameLines parts new
+  pub room : LONGEST_FRAME ≤ vec_capacity new_out
+
+-- What came of an event of a wire. `cut` says whether a write failed, and how many bytes of the event were used then.
+pub record IsDone {S : Type 0} (passed : S → S → List WireAct → Type 0) (count : S → ℕ) (parts : List Part) (event : Event)
+    (cut : Option ℕ) (wire : S) (new : List Part) (new_wire : S) : Type 0 where
+  pub hub : new ≡ (hub_run parts (told cut event)).parts
+  pub acts : passed wire new_wire (written parts cut event)
+  pub stop : IsStop parts cut event
+  pub counts : count wire ≤ count new_wire
+  pub counted : IsSome cut → IsCounted (count wire) (count new_wire)

@@ -1,0 +1,18 @@
+//! What a wire answers.
+
+/// A wire could not be read, or took no frame.
+#[derive(Clone, Copy, Debug, PartialEq, Eq)]
+pub struct WireFault;
+
+/// What the read of a wire answers.
+#[derive(Clone, Copy, Debug, PartialEq, Eq)]
+pub enum Reading {
+    /// So many bytes came, at least 1, and stand at the front of the buffer.
+    Bytes(usize),
+    /// Nothing came.
+    Quiet,
+    /// The other end is gone.
+    Closed,
+    /// Nobody is connected.
+    Absent,
+}

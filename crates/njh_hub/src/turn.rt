@@ -1,0 +1,188 @@
+//! One turn of a wire.
+
+ghost use Rattle.std.specs.Prelude.{◌≡◌, ℕ, ◌<◌, ◌≤◌, [], ◌∷◌, length, Option, OnOk, OnErr, IfOk};
+ghost use Rattle.std.specs.Vec.{vec_capacity};
+ghost use Rattle.njh_customer.specs.Part.{bytes_taken, signal_taken};
+ghost use Rattle.njh_hub.specs.declared.event.Event.TheVariants.{Bytes, Lost};
+ghost use Rattle.njh_hub.specs.Sent.{IsCounted};
+ghost use Rattle.njh_hub.specs.Turns.{Turn, IsTurn, IsHeard, event_of, quiet_after};
+ghost use Rattle.njh_hub.specs.Whole.{part, HasLine, SameLines, hub_run};
+ghost use Rattle.njh_hub.specs.Wires.{IsDone, Unsent, IsReading, heard_of, frame_acts, event_by, IsTaken};
+
+use crate::hub::Hub;
+use crate::reading::{Reading, WireFault};
+use crate::wire::Wire;
+use njh_bisync::LONGEST_FRAME;
+use njh_customer::{Signal, cuts_are_like, no_bytes_do_nothing, steps_follow_bytes};
+use njh_table::LineId;
+
+/// How many bytes are asked for at once.
+const PIECE: usize = 4096;
+
+/// How many quiets in a row are no tick.
+const QUIETS: u8 = 9;
+
+/// One turn of a wire of a line: reads it once, hands the hub what came of that, and writes each frame that the hub sends.
+///
+/// Bytes that came are handed over until they are used. Each tenth quiet in a row is a tick; `quiet` is how many came before,
+/// and the answer how many there are now. A wire that is closed or can't be read loses its line. So does one that can't be written,
+/// and what was left of the bytes is dropped. Takes no memory: `out` has the room of the longest frame, and has it again.
+pub fn wire_turn<W: Wire>(
+    hub: &mut Hub,
+    line: LineId,
+    wire: &mut W,
+    quiet: u8,
+    out: &mut Vec<u8>,
+) -> u8
+    requires known { HasLine hub.old line }
+    requires few { quiet < 10 }
+    requires empty { out.old.items ≡ [] }
+    requires room { LONGEST_FRAME ≤ vec_capacity out.old }
+    ensures turn { (turn : Turn) × IsTurn W.passed W.count hub.old line quiet turn wire.old hub.new wire.new × (result ≡ quiet_after quiet turn.heard) }
+    ensures few { result < 10 }
+    ensures lines { SameLines hub.old hub.new }
+    ensures empty { out.new.items ≡ [] }
+    ensures room { LONGEST_FRAME ≤ vec_capacity out.new }
+{
+    let mut buffer = [0; PIECE];
+    let answer = wire.read(&mut buffer);
+    let quiets = act_on(answer, &buffer, hub, line, wire, quiet, out);
+    out.clear();
+    quiets
+}
+
+/// Hands the hub what a read answered, of bytes that stand at the front of the buffer. Answers the quiets in a row.
+fn act_on<W: Wire>(
+    answer: Result<Reading, WireFault>,
+    buffer: &[u8],
+    hub: &mut Hub,
+    line: LineId,
+    wire: &mut W,
+    quiet: u8,
+    out: &mut Vec<u8>,
+) -> u8
+    requires within { IfOk answer (IsReading (length buffer.now)) }
+    requires known { HasLine hub.old line }
+    requires few { quiet < 10 }
+    requires room { LONGEST_FRAME ≤ vec_capacity out.old }
+    ensures heard { (cut : Option ℕ) ×
+        IsHeard W.passed W.count hub.old (event_of line quiet (heard_of answer buffer.now)) cut wire.old hub.new wire.new }
+    ensures quiets { result ≡ quiet_after quiet (heard_of answer buffer.now) }
+    ensures few { result < 10 }
+    ensures lines { SameLines hub.old hub.new }
+    ensures room { LONGEST_FRAME ≤ vec_capacity out.new }
+{
+    match answer {
+        Ok(Reading::Bytes(count)) => {
+            pass_bytes(hub, line, &buffer[..count], wire, out);
+            0
+        }
+        Ok(Reading::Quiet) => {
+            if quiet < QUIETS {
+                return quiet + 1;
+            }
+            pass_signal(hub, line, Signal::Tick, wire, out);
+            0
+        }
+        Ok(Reading::Closed) => {
+            pass_signal(hub, line, Signal::Lost, wire, out);
+            0
+        }
+        Ok(Reading::Absent) => 0,
+        Err(_) => {
+            pass_signal(hub, line, Signal::Lost, wire, out);
+            0
+        }
+    }
+}
+
+/// Hands the hub bytes of a line and writes each frame that it sends. Where a write fails the line is lost.
+fn pass_bytes<W: Wire>(hub: &mut Hub, line: LineId, piece: &[u8], wire: &mut W, out: &mut Vec<u8>)
+    requires known { HasLine hub.old line }
+    requires room { LONGEST_FRAME ≤ vec_capacity out.old }
+    ensures done { (cut : Option ℕ) × IsDone W.passed W.count hub.old (Bytes line piece.now) cut wire.old hub.new wire.new }
+    ensures lines { SameLines hub.old hub.new }
+    ensures room { LONGEST_FRAME ≤ vec_capacity out.new }
+{
+    no_bytes_do_nothing();
+    steps_follow_bytes();
+    cuts_are_like();
+    let mut taken = 0;
+    while taken < piece.len() {
+        let (_, left) = piece.split_at(taken);
+        taken += take_bytes(hub, line, left, out);
+        match send(wire, out) {
+            Ok(()) => {}
+            Err(_) => {
+                take_signal(hub, line, Signal::Lost, out);
+                return;
+            }
+        }
+    }
+}
+
+/// Hands the hub a signal on a line and writes the frame that it sends. Where the write fails the line is lost.
+fn pass_signal<W: Wire>(
+    hub: &mut Hub,
+    line: LineId,
+    signal: Signal,
+    wire: &mut W,
+    out: &mut Vec<u8>,
+)
+    requires known { HasLine hub.old line }
+    requires room { LONGEST_FRAME ≤ vec_capacity out.old }
+    ensures done { (cut : Option ℕ) × IsDone W.passed W.count hub.old (event_by signal line) cut wire.old hub.new wire.new }
+    ensures lines { SameLines hub.old hub.new }
+    ensures room { LONGEST_FRAME ≤ vec_capacity out.new }
+{
+    take_signal(hub, line, signal, out);
+    match send(wire, out) {
+        Ok(()) => {}
+        Err(_) => take_signal(hub, line, Signal::Lost, out),
+    }
+}
+
+/// A step by bytes, in the room that `out` has.
+fn take_bytes(hub: &mut Hub, line: LineId, piece: &[u8], out: &mut Vec<u8>) -> usize
+    requires known { HasLine hub.old line }
+    requires room { LONGEST_FRAME ≤ vec_capacity out.old }
+    ensures taken { result ≡ (bytes_taken (part line.customer hub.old) line.line piece.now).taken }
+    ensures progress { 0 < length piece.now → 0 < result }
+    ensures within { result ≤ length piece.now }
+    ensures rests { line.line < length (part line.customer hub.old).rests }
+    ensures step { let t = bytes_taken (part line.customer hub.old) line.line piece.now in
+        IsTaken hub.old line t.after t.frame hub.new out.new }
+{
+    out.clear();
+    match hub.take(line, piece, out) {
+        Ok(taken) => taken,
+        Err(_) => unreachable!(),
+    }
+}
+
+/// A step by a signal, in the room that `out` has.
+fn take_signal(hub: &mut Hub, line: LineId, signal: Signal, out: &mut Vec<u8>)
+    requires known { HasLine hub.old line }
+    requires room { LONGEST_FRAME ≤ vec_capacity out.old }
+    ensures { let t = signal_taken (part line.customer hub.old) line.line signal in
+        IsTaken hub.old line t.after t.frame hub.new out.new }
+{
+    out.clear();
+    match hub.signal(line, signal, out) {
+        Ok(()) => {}
+        Err(_) => unreachable!(),
+    }
+}
+
+/// Writes the frame of a step, where one was sent.
+fn send<W: Wire>(wire: &mut W, frame: &[u8]) -> Result<(), WireFault>
+    ensures ok { OnOk result (W.passed wire.old wire.new (frame_acts frame.now)) }
+    ensures err { OnErr result (W.passed wire.old wire.new (Unsent frame.now ∷ []) × (0 < length frame.now)) }
+    ensures counts { W.count wire.old ≤ W.count wire.new }
+    ensures counted { OnErr result (IsCounted (W.count wire.old) (W.count wire.new)) }
+{
+    if frame.is_empty() {
+        return Ok(());
+    }
+    wire.write(frame)
+}
