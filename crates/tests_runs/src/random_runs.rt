@@ -2,7 +2,7 @@
 
 use crate::peers::{Numbers, Peer, bytes_at};
 use crate::steps::{bytes_of, of_hub};
-use njh_hub::{Event, FileView, Hub, Sink, SinkFault};
+use njh_hub::{Cause, Event, FileView, Hub, RunFault, Sink, SinkFault};
 use njh_program::Failure;
 use njh_table::{LineId, Tables};
 use std::alloc::{AllocError, Global};
@@ -119,12 +119,11 @@ fn events_of(
     let mut numbers = Numbers::from_seed(seed);
     let mut events = Vec::new(alloc);
     for _ in 0..ACTS {
-        let peer = if numbers.below(2) == 0 {
-            &mut first
+        if numbers.below(2) == 0 {
+            first.act(alloc, &mut numbers, records, &mut events)?;
         } else {
-            &mut second
-        };
-        peer.act(alloc, &mut numbers, records, &mut events)?;
+            second.act(alloc, &mut numbers, records, &mut events)?;
+        }
     }
     Ok(events)
 }
@@ -153,6 +152,14 @@ fn merged(
     Ok(events)
 }
 
+/// The program's failure where a run stops.
+fn of_run(fault: RunFault) -> Failure {
+    match fault.cause {
+        Cause::Hub(fault) => of_hub(fault),
+        Cause::Sink => Failure::from(AllocError),
+    }
+}
+
 /// What ACME is sent in a run and what its files are after it, in bytes; and how many files.
 #[derive(Drop)]
 struct Ending {
@@ -172,7 +179,7 @@ fn end_run(alloc: Global, tables: &str, events: &[Event]) -> Result<Ending, Fail
     };
     match hub.run(events, &mut sink) {
         Ok(()) => {}
-        Err(_) => return Err(Failure::from(AllocError)),
+        Err(fault) => return Err(of_run(fault)),
     }
     let mut bytes = sink.bytes;
     match hub.files(ACME) {
