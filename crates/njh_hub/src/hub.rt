@@ -1,8 +1,9 @@
 //! The hub: each customer's files and lines, and a step for each event on one of these lines.
 
-ghost use Rattle.std.specs.Prelude.{◌≡◌, ℕ, ◌+◌, ◌<◌, ◌≤◌, ◌↔◌, length, IsTrue, OnOk, OnErr, IfOk, Err};
+ghost use Rattle.std.specs.Prelude.{◌≡◌, ℕ, ◌+◌, ◌<◌, ◌≤◌, ◌↔◌, length, IsTrue, OnOk, OnErr, IfOk, IsOk, Err};
 ghost use Rattle.std.specs.Vec.{vec_len, vec_capacity};
 ghost use Rattle.njh_customer.specs.Part.{bytes_taken, signal_taken};
+ghost use Rattle.njh_spool.specs.CustomerSpool.{used};
 ghost use Rattle.njh_hub.specs.Files.{files_at};
 ghost use Rattle.njh_hub.specs.Steps.{IsStep};
 ghost use Rattle.njh_hub.specs.Whole.{part, HasLine};
@@ -86,6 +87,20 @@ impl Hub {
         }
         let files = files_of(self.alloc, &self.spool, customer)?;
         Ok(files)
+    }
+
+    /// How many blocks a customer's files take, partial ones too: at most its quota. `UnknownCustomer` where the hub has no such customer.
+    pub fn used(&self, customer: u16) -> Result<u32, HubFault>
+        ensures used { IfOk result (λ blocks. blocks ≡ used (part customer self.now).customer.spool) }
+        ensures quota { IfOk result (λ blocks. blocks ≤ (part customer self.now).customer.entry.quota) }
+        ensures known { IsOk result ↔ (customer < length self.now) }
+        ensures unknown { OnErr result (result ≡ Err HubFault.UnknownCustomer) }
+    {
+        if usize::from(customer) >= self.lines.len() {
+            return Err(HubFault::UnknownCustomer);
+        }
+        self.spool.quota_holds(customer);
+        Ok(self.spool.used(customer))
     }
 
     /// Where the hub's memory comes from.
