@@ -1,9 +1,12 @@
 //! Tries the whole program and the hub on what is stored, and prints what they did; the file `stdout` has that, written by hand.
 //!
-//! First come the stored scripts, then streams that fail, the steps of a hub and the names of faults. Last it is the program
-//! itself on its own arguments, whose tables are refused, and ends as the program ends then.
+//! First come the stored scripts, then what runs have of one customer beside others, streams that fail, the steps of a hub and the
+//! names of faults. Last it is the program itself on its own arguments, whose tables are refused, and ends as the program ends then.
 #![tactic(auto)]
 
+mod customers;
+mod peers;
+mod random_runs;
 mod scripts;
 mod steps;
 mod streams;
@@ -16,8 +19,11 @@ use std::rt::Files;
 /// Tries all but the end of the program.
 fn tried<R: Files + Print + AllocGlobal>(rt: &R) -> Result<(), Failure> {
     scripts::compare_all(rt)?;
+    customers::compare(rt)?;
+    random_runs::compare(rt)?;
     streams::fail(rt)?;
     steps::take(rt)?;
+    steps::keep(rt)?;
     steps::refuse(rt)
 }
 

@@ -40,7 +40,7 @@ fn compare<R: Files + Print + AllocGlobal>(
 
 /// Runs the program with a stored script, and gives its status; the line of its failure follows what it prints. The text for
 /// arguments that are refused is that of `clap`, and isn't compared.
-fn print_run<R: Files + AllocGlobal>(
+pub fn print_run<R: Files + AllocGlobal>(
     rt: &R,
     name: &str,
     arguments: &[&str],

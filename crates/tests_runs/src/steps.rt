@@ -1,9 +1,11 @@
 //! Single steps of a hub, a sink that refuses, and the printed names of the faults.
 
-use njh_hub::{Cause, Event, Hub, HubFault, Piece, RunFault, Sink, SinkFault};
+use njh_hub::{Cause, Event, FileView, Hub, HubFault, Piece, RunFault, Sink, SinkFault};
 use njh_program::{Failure, ReplayFault};
 use njh_table::{LineId, Tables};
 use std::alloc::{AllocError, Global};
+use std::fs;
+use std::rt::Files;
 
 const A1: LineId = LineId {
     customer: 0,
@@ -28,6 +30,20 @@ const SIGN_ON: &str =
 /// LIST of ANNA at LYON.
 const LIST: &str =
     "1002808fcf9a80caa0770004c2e4d9c5c1e482c500c1d5d5c184c4d3e8d6d584c500d3c9e2e300001026";
+
+/// A request for SYSOUT 1.
+const REQUEST: &str = "1002808fcf909900001026";
+
+/// Job 42 of ANNA at LYON to PAUL at METZ: job header, data set header, HELLO, trailer, end of file.
+const FILE: &str = concat!(
+    "1002818fcf",
+    "99c0c20064a300c160a300c12ab200ccd7c1e8d9d6d3d340c1d5d5c184b800c4d3e8d6d584c4c1d5d5c184c4d4c5e3e98c00",
+    "99e0c20018a300c7140000d4c5e3e984c4d7c1e4d38400",
+    "9980c605c8c5d3d3d600",
+    "99d0c40004000000",
+    "99800000",
+    "1026"
+);
 
 /// Takes so many frames, and refuses every other.
 #[derive(Drop)]
@@ -73,12 +89,12 @@ fn open(alloc: Global) -> Result<Hub, Failure> {
 }
 
 /// The program's failure for a fault of the hub.
-fn of_hub(fault: HubFault) -> Failure {
+pub fn of_hub(fault: HubFault) -> Failure {
     Failure::from(ReplayFault::from(fault))
 }
 
 /// The bytes that hex digits spell.
-fn bytes_of(alloc: Global, digits: &str) -> Result<Vec<u8>, AllocError> {
+pub fn bytes_of(alloc: Global, digits: &str) -> Result<Vec<u8>, AllocError> {
     match hex::decode(alloc, digits) {
         Ok(bytes) => Ok(bytes),
         Err(_) => Err(AllocError),
@@ -139,6 +155,44 @@ fn count_files<R: Print>(rt: &R, hub: &Hub, customer: u16) -> Result<(), Failure
         Err(fault) => println!(rt; "files: {fault}")?,
     }
     Ok(())
+}
+
+/// What is said of each of a customer's files, and its records.
+fn show_files<R: Print + AllocGlobal>(rt: &R, hub: &Hub, customer: u16) -> Result<(), Failure> {
+    match hub.files(customer) {
+        Ok(files) => {
+            for file in files.iter() {
+                show_file(rt, file)?;
+            }
+        }
+        Err(fault) => println!(rt; "files: {fault}")?,
+    }
+    Ok(())
+}
+
+fn show_file<R: Print + AllocGlobal>(rt: &R, file: &FileView) -> Result<(), Failure> {
+    let line = hex::encode(rt.alloc(), &file.line())?;
+    println!(rt; "file: {line}")?;
+    for record in file.records() {
+        let bytes = hex::encode(rt.alloc(), record.bytes())?;
+        println!(rt; "record: {:02x} {bytes}", record.srcb())?;
+    }
+    Ok(())
+}
+
+/// A file comes in: its customer has it, with its records, and the other has none.
+pub fn keep<R: Files + Print + AllocGlobal>(rt: &R) -> Result<(), Failure> {
+    let tables = fs::read_to_string(rt, "two_networks.toml")?;
+    let mut hub = match Hub::open(rt.alloc(), Tables::read(rt.alloc(), tables.as_str())?) {
+        Ok(hub) => hub,
+        Err(fault) => return Err(of_hub(fault)),
+    };
+    for digits in [CONTACT, SIGN_ON, REQUEST, FILE] {
+        take_bytes(rt, &mut hub, digits)?;
+    }
+    show_files(rt, &hub, 0)?;
+    show_files(rt, &hub, 1)?;
+    show_files(rt, &hub, 2)
 }
 
 /// The event that a line has these bytes.

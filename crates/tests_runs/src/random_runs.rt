@@ -1,0 +1,237 @@
+//! Random runs of two customers, in pairs: what ACME is sent, and its files, are the same whatever BOLT does.
+
+use crate::peers::{Numbers, Peer, bytes_at};
+use crate::steps::{bytes_of, of_hub};
+use njh_hub::{Event, FileView, Hub, Sink, SinkFault};
+use njh_program::Failure;
+use njh_table::{LineId, Tables};
+use std::alloc::{AllocError, Global};
+use std::fs;
+use std::rt::Files;
+
+/// The numbers of the customers in the tables.
+const ACME: u16 = 0;
+
+const BOLT: u16 = 1;
+
+/// How many pairs of runs, and how many times each customer's peers act.
+const PAIRS: u64 = 200;
+
+const ACTS: u32 = 40;
+
+/// Keeps the frames on one customer's lines, each with its line and its length before it.
+#[derive(Drop)]
+struct Kept {
+    customer: u16,
+    bytes: Vec<u8>,
+    failures: u64,
+}
+
+impl Sink for Kept {
+    ghost use Rattle.std.specs.Prelude.{⊤};
+
+    // What it takes is of no matter here.
+    ghost took = { λ before after pairs. ⊤ };
+
+    ghost refused = { λ before after pair. ⊤ };
+
+    ghost count = { λ sink. sink.failures };
+
+    ghost none = { λ s. tt };
+
+    ghost more = { λ a b c xs ys first then. tt };
+
+    fn failures(&self) -> u64 {
+        self.failures
+    }
+
+    fn send(&mut self, line: LineId, frame: &[u8]) -> Result<(), SinkFault> {
+        if line.customer != self.customer {
+            return Ok(());
+        }
+        match put_frame(&mut self.bytes, line.line, frame) {
+            Ok(()) => Ok(()),
+            Err(_) => {
+                self.failures = self.failures.saturating_add(1);
+                Err(SinkFault)
+            }
+        }
+    }
+}
+
+fn put_frame(bytes: &mut Vec<u8>, line: u16, frame: &[u8]) -> Result<(), AllocError> {
+    bytes.extend_from_slice(&line.to_be_bytes())?;
+    bytes.extend_from_slice(&frame.len().to_be_bytes())?;
+    bytes.extend_from_slice(frame)
+}
+
+/// What the hub says of a file, and all its records.
+fn put_file(bytes: &mut Vec<u8>, file: &FileView) -> Result<(), AllocError> {
+    bytes.extend_from_slice(&file.line())?;
+    for record in file.records() {
+        bytes.push(record.srcb())?;
+        bytes.extend_from_slice(&record.bytes().len().to_be_bytes())?;
+        bytes.extend_from_slice(record.bytes())?;
+    }
+    Ok(())
+}
+
+/// The lists of records that blocks may have, and the sign-ons of the peers: hex, a line each.
+#[derive(Drop)]
+struct Texts {
+    records: Vec<Vec<u8>>,
+    sign_ons: Vec<Vec<u8>>,
+}
+
+fn lines_of<R: Files + AllocGlobal>(rt: &R, file: &str) -> Result<Vec<Vec<u8>>, Failure> {
+    let text = fs::read_to_string(rt, file)?;
+    let mut lines = Vec::new(rt.alloc());
+    for line in text.as_str().lines() {
+        put_line(rt.alloc(), &mut lines, line)?;
+    }
+    Ok(lines)
+}
+
+/// The bytes that hex digits spell are one more.
+fn put_line(alloc: Global, lines: &mut Vec<Vec<u8>>, digits: &str) -> Result<(), AllocError> {
+    Ok(lines.push(bytes_of(alloc, digits)?)?)
+}
+
+/// The peers of a customer's two lines, the first of LYON, the second by its place among the sign-ons.
+fn peers_of(texts: &Texts, customer: u16, second: usize) -> [Peer<'_>; 2] {
+    [
+        Peer::new(LineId { customer, line: 0 }, bytes_at(&texts.sign_ons, 0)),
+        Peer::new(
+            LineId { customer, line: 1 },
+            bytes_at(&texts.sign_ons, second),
+        ),
+    ]
+}
+
+/// What comes on a customer's lines.
+fn events_of(
+    alloc: Global,
+    seed: u64,
+    records: &[Vec<u8>],
+    peers: [Peer<'_>; 2],
+) -> Result<Vec<Event>, AllocError> {
+    let [mut first, mut second] = peers;
+    let mut numbers = Numbers::from_seed(seed);
+    let mut events = Vec::new(alloc);
+    for _ in 0..ACTS {
+        let peer = if numbers.below(2) == 0 {
+            &mut first
+        } else {
+            &mut second
+        };
+        peer.act(alloc, &mut numbers, records, &mut events)?;
+    }
+    Ok(events)
+}
+
+/// Both lists in one, each in its order.
+fn merged(
+    alloc: Global,
+    seed: u64,
+    own: Vec<Event>,
+    others: Vec<Event>,
+) -> Result<Vec<Event>, AllocError> {
+    let mut numbers = Numbers::from_seed(seed);
+    let mut events = Vec::new(alloc);
+    let mut others = others.into_iter();
+    for event in own {
+        for _ in 0..numbers.below(3) {
+            if let Some(other) = others.next() {
+                events.push(other)?;
+            }
+        }
+        events.push(event)?;
+    }
+    for other in others {
+        events.push(other)?;
+    }
+    Ok(events)
+}
+
+/// What ACME is sent in a run and what its files are after it, in bytes; and how many files.
+#[derive(Drop)]
+struct Ending {
+    bytes: Vec<u8>,
+    files: u64,
+}
+
+fn end_run(alloc: Global, tables: &str, events: &[Event]) -> Result<Ending, Failure> {
+    let mut hub = match Hub::open(alloc, Tables::read(alloc, tables)?) {
+        Ok(hub) => hub,
+        Err(fault) => return Err(of_hub(fault)),
+    };
+    let mut sink = Kept {
+        customer: ACME,
+        bytes: Vec::new(alloc),
+        failures: 0,
+    };
+    match hub.run(events, &mut sink) {
+        Ok(()) => {}
+        Err(_) => return Err(Failure::from(AllocError)),
+    }
+    let mut bytes = sink.bytes;
+    match hub.files(ACME) {
+        Ok(views) => {
+            for view in views.iter() {
+                put_file(&mut bytes, view)?;
+            }
+            Ok(Ending {
+                bytes,
+                files: views.len() as u64,
+            })
+        }
+        Err(fault) => Err(of_hub(fault)),
+    }
+}
+
+/// How ACME ends over its own events of a seed, among BOLT's of another.
+fn among_others(
+    alloc: Global,
+    tables: &str,
+    texts: &Texts,
+    seed: u64,
+    other: u64,
+) -> Result<Ending, Failure> {
+    let own = events_of(alloc, seed, &texts.records, peers_of(texts, ACME, 1))?;
+    let others = events_of(alloc, other, &texts.records, peers_of(texts, BOLT, 2))?;
+    let events = merged(alloc, other, own, others)?;
+    end_run(alloc, tables, &events)
+}
+
+/// How ACME ends over the same events, on a hub of its own.
+fn alone(alloc: Global, tables: &str, texts: &Texts, seed: u64) -> Result<Ending, Failure> {
+    let events = events_of(alloc, seed, &texts.records, peers_of(texts, ACME, 1))?;
+    end_run(alloc, tables, &events)
+}
+
+/// Runs all pairs, and ACME alone, and says how many aren't alike; and whether files were left in most.
+pub fn compare<R: Files + Print + AllocGlobal>(rt: &R) -> Result<(), Failure> {
+    let alloc = rt.alloc();
+    let both = fs::read_to_string(rt, "two_networks.toml")?;
+    let one = fs::read_to_string(rt, "acme_alone.toml")?;
+    let texts = Texts {
+        records: lines_of(rt, "random_records")?,
+        sign_ons: lines_of(rt, "random_sign_ons")?,
+    };
+    let mut unlike = 0u64;
+    let mut with_files = 0u64;
+    for seed in 0..PAIRS {
+        let first = among_others(alloc, both.as_str(), &texts, seed, 1000 + seed)?;
+        let second = among_others(alloc, both.as_str(), &texts, seed, 2000 + seed)?;
+        let third = alone(alloc, one.as_str(), &texts, seed)?;
+        if first.bytes != second.bytes || first.bytes != third.bytes {
+            unlike = unlike.saturating_add(1);
+        }
+        if first.files > 0 {
+            with_files = with_files.saturating_add(1);
+        }
+    }
+    println!(rt; "of {PAIRS} pairs of random runs {unlike} aren't alike")?;
+    println!(rt; "files are left in most: {}", with_files > PAIRS / 2)?;
+    Ok(())
+}
