@@ -1,6 +1,7 @@
 -- The numbers of some files in order, with holes where files were.
 use Rattle.std.specs.Prelude.{◌≡◌, ℕ, ◌+◌, ◌*◌, ◌<◌, ◌≤◌, Bool, List, length, take, filter, nat_lt, slice_index_or}
 use Rattle.njh_spool.specs.declared.quota.TheConstants.{MOST_FILES}
+use Rattle.njh_spool.specs.declared.entries.Entries.{Entries}
 
 -- a hole is no file's number
 abbrev pub is_number : ℕ → Bool
@@ -22,3 +23,7 @@ pub record IsIndex (entries places counts : List ℕ) (count : ℕ) : Type 0 whe
   pub placed : (p : ℕ) → p < length entries → slice_index_or entries p 0 < MOST_FILES
       → slice_index_or places (slice_index_or entries p 0) 0 ≡ p
   pub grouped : (g : ℕ) → g < 32 → slice_index_or counts g 0 + before (32 * g) entries ≡ before (32 * g + 32) entries
+
+-- what always holds of some entries
+abbrev pub IsIndexed : Entries → Type 0
+IsIndexed e = IsIndex e.entries.items e.places e.counts e.count

@@ -1,8 +1,9 @@
 //! The numbers of some files in order, with holes where files were.
 
-ghost use Rattle.std.specs.Prelude.{◌≡◌, ℕ, ◌+◌, ◌*◌, ◌==◌, ◌<◌, ◌≤◌, [], ◌∷◌, ◌++◌, not, filter, length, slice_index, slice_index_or, false, MatchOption};
+ghost use Rattle.std.specs.Prelude.{◌≡◌, ℕ, ◌+◌, ◌*◌, ◌==◌, ◌<◌, ◌≤◌, [], ◌∷◌, ◌++◌, not, filter, length};
+ghost use Rattle.std.specs.Prelude.{slice_index, slice_index_or, false, MatchOption};
 ghost use Rattle.std.specs.List.{list_any};
-ghost use Rattle.njh_spool.specs.Entries.{is_number, numbers_in, before, IsIndex};
+ghost use Rattle.njh_spool.specs.Entries.{is_number, numbers_in, before, IsIndexed};
 
 use crate::quota::MOST_FILES;
 use arrayvec::ArrayVec;
@@ -40,7 +41,7 @@ fn is_number(entry: u16) -> bool
 
 impl Entries {
     pub fn new() -> Self
-        ensures index { IsIndex result.entries.items result.places result.counts result.count }
+        ensures index { IsIndexed result }
         ensures none { result.entries.items ≡ [] }
     {
         Entries {
@@ -53,7 +54,7 @@ impl Entries {
 
     /// The place where the group of a number begins, and how many numbers of the group are before it, by its index.
     fn group_of(&self, index: usize) -> (usize, usize)
-        requires index { IsIndex self.now.entries.items self.now.places self.now.counts self.now.count }
+        requires index { IsIndexed self.now }
         requires within { index < length (numbers_in self.now.entries.items) }
         ensures { before result.0 self.now.entries.items + result.1 ≡ index }
     {
@@ -86,7 +87,7 @@ impl Entries {
 
     /// A number by its index.
     pub fn at(&self, index: usize) -> u16
-        requires index { IsIndex self.now.entries.items self.now.places self.now.counts self.now.count }
+        requires index { IsIndexed self.now }
         requires within { index < length (numbers_in self.now.entries.items) }
         ensures { result ≡ slice_index (numbers_in self.now.entries.items) index }
     {
@@ -99,7 +100,7 @@ impl Entries {
 
     /// Where a number stands.
     fn place_of(&self, number: u16) -> Option<usize>
-        requires { IsIndex self.now.entries.items self.now.places self.now.counts self.now.count }
+        requires { IsIndexed self.now }
         ensures { MatchOption result
             ((p : ℕ) → p < length self.now.entries.items → slice_index_or self.now.entries.items p 0 ≡ number → MOST_FILES ≤ number)
             (λ place. (place < length self.now.entries.items) × (slice_index_or self.now.entries.items place 0 ≡ number)
@@ -117,10 +118,10 @@ impl Entries {
 
     /// Leaves a hole at a place where a number stands.
     fn clear(&mut self, place: usize)
-        requires index { IsIndex self.old.entries.items self.old.places self.old.counts self.old.count }
+        requires index { IsIndexed self.old }
         requires within { place < length self.old.entries.items }
         requires number { slice_index_or self.old.entries.items place 0 < MOST_FILES }
-        ensures index { IsIndex self.new.entries.items self.new.places self.new.counts self.new.count }
+        ensures index { IsIndexed self.new }
         ensures others { numbers_in self.new.entries.items
             ≡ filter (λ m. not (m == slice_index_or self.old.entries.items place 0)) (numbers_in self.old.entries.items) }
     {
@@ -131,8 +132,8 @@ impl Entries {
 
     /// Takes a number away, if it stands there.
     pub fn remove(&mut self, number: u16)
-        requires { IsIndex self.old.entries.items self.old.places self.old.counts self.old.count }
-        ensures index { IsIndex self.new.entries.items self.new.places self.new.counts self.new.count }
+        requires { IsIndexed self.old }
+        ensures index { IsIndexed self.new }
         ensures others { numbers_in self.new.entries.items ≡ filter (λ m. not (m == number)) (numbers_in self.old.entries.items) }
     {
         if let Some(place) = self.place_of(number) {
@@ -142,11 +143,11 @@ impl Entries {
 
     /// Puts a number last.
     pub fn push(&mut self, number: u16)
-        requires index { IsIndex self.old.entries.items self.old.places self.old.counts self.old.count }
+        requires index { IsIndexed self.old }
         requires room { length self.old.entries.items < MOST_FILES }
         requires number { number < MOST_FILES }
         requires absent { list_any (λ m. m == number) self.old.entries.items ≡ false }
-        ensures index { IsIndex self.new.entries.items self.new.places self.new.counts self.new.count }
+        ensures index { IsIndexed self.new }
         ensures entries { self.new.entries.items ≡ self.old.entries.items ++ number ∷ [] }
     {
         let place = self.entries.len();
@@ -158,8 +159,8 @@ impl Entries {
 
     /// The same numbers without holes.
     fn closed(&self) -> Self
-        requires { IsIndex self.now.entries.items self.now.places self.now.counts self.now.count }
-        ensures index { IsIndex result.entries.items result.places result.counts result.count }
+        requires { IsIndexed self.now }
+        ensures index { IsIndexed result }
         ensures entries { result.entries.items ≡ numbers_in self.now.entries.items }
     {
         let mut closed = Entries::new();
@@ -174,8 +175,8 @@ impl Entries {
 
     /// Closes the holes.
     pub fn close(&mut self)
-        requires { IsIndex self.old.entries.items self.old.places self.old.counts self.old.count }
-        ensures index { IsIndex self.new.entries.items self.new.places self.new.counts self.new.count }
+        requires { IsIndexed self.old }
+        ensures index { IsIndexed self.new }
         ensures entries { self.new.entries.items ≡ numbers_in self.old.entries.items }
     {
         if usize::from(self.count) < self.entries.len() {

@@ -15,13 +15,13 @@ pub struct Numbers {
 
 impl Model for Numbers {
     ghost use Rattle.std.specs.Prelude.{List, ℕ};
-    ghost use Rattle.njh_spool.specs.Entries.{numbers_in, IsIndex};
+    ghost use Rattle.njh_spool.specs.Entries.{numbers_in, IsIndexed};
 
     ghost Value = { List ℕ };
 
     ghost view = { λ n. numbers_in n.entries.entries.items };
 
-    ghost invariant = { λ n. IsIndex n.entries.entries.items n.entries.places n.entries.counts n.entries.count };
+    ghost invariant = { λ n. IsIndexed n.entries };
 }
 
 impl Numbers {
