@@ -30,31 +30,69 @@ pub fn serve<R: Net + AllocGlobal>(rt: &R, tables: Tables, turns: u32) -> Result
 {
     let ports = ports_of(rt.alloc(), &tables)?;
     let mut hub = opened(rt.alloc(), tables)?;
-    serve_ports(rt, &mut hub, &ports, turns)
+    let known = known_ports(rt.alloc(), &hub, &ports)?;
+    serve_ports(rt, &mut hub, &known, turns)
 }
 
-/// Serves these lines; those that the hub doesn't have are left out.
+/// Serves these lines.
 fn serve_ports<R: Net + AllocGlobal>(
     rt: &R,
     hub: &mut Hub,
     ports: &[Port],
     turns: u32,
 ) -> Result<(), Failure>
+    requires { All (λ port. HasLine hub.old port.line) ports.now }
     ensures { IfErr result (λ failure. (failure ≡ Replay Device) ⊎ (failure ≡ no_memory)) }
 {
     let connected = Cell::new(0);
-    let mut lines = Vec::new(rt.alloc());
-    let mut wires = Vec::new(rt.alloc());
-    for port in ports {
-        if hub.is_line(port.line) {
-            wires.push(wire_on(rt, port.port, &connected)?)?;
-            lines.push(port.line)?;
-        }
-    }
+    let lines = lines_in(rt.alloc(), hub, ports)?;
+    let mut wires = wires_on(rt, ports, &connected)?;
     match serve_turns(rt.alloc(), hub, &mut wires, &lines, turns) {
         Ok(()) => Ok(()),
         Err(fault) => Err(Failure::from(ReplayFault::from(fault))),
     }
+}
+
+/// The ports of lines that the hub has.
+fn known_ports(alloc: Global, hub: &Hub, ports: &[Port]) -> Result<Vec<Port>, AllocError>
+    ensures { IfOk result (λ known. All (λ port. HasLine hub.now port.line) known.items) }
+{
+    let mut known = Vec::new(alloc);
+    for port in ports {
+        if hub.is_line(port.line) {
+            known.push(*port)?;
+        }
+    }
+    Ok(known)
+}
+
+/// The lines of ports.
+fn lines_in(alloc: Global, hub: &Hub, ports: &[Port]) -> Result<Vec<LineId>, AllocError>
+    requires { All (λ port. HasLine hub.now port.line) ports.now }
+    ensures count { IfOk result (λ lines. length lines.items ≡ length ports.now) }
+    ensures known { IfOk result (λ lines. All (HasLine hub.now) lines.items) }
+{
+    let mut lines = Vec::new(alloc);
+    for port in ports {
+        lines.push(port.line)?;
+    }
+    Ok(lines)
+}
+
+/// A wire on each port.
+fn wires_on<'a, R: Net + AllocGlobal>(
+    rt: &R,
+    ports: &[Port],
+    connected: &'a Cell<u32>,
+) -> Result<Vec<SocketWire<'a, R::Listener, R::Stream>>, Failure>
+    ensures count { IfOk result (λ wires. length wires.items ≡ length ports.now) }
+    ensures refused { IfErr result (λ failure. (failure ≡ Replay Device) ⊎ (failure ≡ no_memory)) }
+{
+    let mut wires = Vec::new(rt.alloc());
+    for port in ports {
+        wires.push(wire_on(rt, port.port, connected)?)?;
+    }
+    Ok(wires)
 }
 
 /// A wire on a port.
