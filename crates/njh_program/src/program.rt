@@ -19,7 +19,10 @@ use std::rt::{Env, Files};
 use std::{env, io};
 
 /// Runs the program, and answers the status to end with. Why it failed, if it did, goes to `errors`.
-pub fn run<R: Env + Files + Net + Input + Print + AllocGlobal, E: Print>(rt: &R, errors: &E) -> ExitCode
+pub fn run<R: Env + Files + Net + Input + Print + AllocGlobal, E: Print>(
+    rt: &R,
+    errors: &E,
+) -> ExitCode
     ensures { exit_status result ≤ 2 }
 {
     end(outcome_of(rt), errors)

@@ -122,7 +122,10 @@ fn ports_of(alloc: Global, tables: &Tables) -> Result<Vec<Port>, AllocError> {
     for customer in tables.customers() {
         for line in customer.lines() {
             match tables.line_owner(line.name()) {
-                Some(owner) if line.port() != 0 => ports.push(Port { line: owner, port: line.port() })?,
+                Some(owner) if line.port() != 0 => ports.push(Port {
+                    line: owner,
+                    port: line.port(),
+                })?,
                 _ => {}
             }
         }

@@ -41,7 +41,11 @@ pub fn listen<'a, R: Net>(
     })
 }
 
-impl<'a, S: OpenStream + Read + Write + Drop, L: OpenListener<Stream = S> + Drop> SocketWire<'a, L, S> {
+impl<'a, S: OpenStream + Read + Write + Drop, L: OpenListener<Stream = S> + Drop> SocketWire<
+    'a,
+    L,
+    S,
+> {
     /// The port on which it listens.
     pub fn port(&self) -> io::Result<u16> {
         Ok(self.listener.local_addr()?.port())
@@ -102,7 +106,8 @@ impl<'a, S: OpenStream + Read + Write + Drop, L: OpenListener<Stream = S> + Drop
     }
 }
 
-impl<'a, S: OpenStream + Read + Write + Drop, L: OpenListener<Stream = S> + Drop> Wire for SocketWire<'a, L, S> {
+impl<'a, S: OpenStream + Read + Write + Drop, L: OpenListener<Stream = S> + Drop> Wire
+    for SocketWire<'a, L, S> {
     ghost use Rattle.std.specs.Prelude.{⊤};
 
     // A socket keeps nothing of what passed.
