@@ -1,8 +1,8 @@
 """Plays worked frames over four real connections at once, and compares the bytes.
 
-    python3 examples/four_connections.py crates/njehub/out/njehub
+    python3 examples/four_connections.py sh -c 'cd crates/njehub && exec rt run -- "$@"' njehub
 
-The argument is the built program, and what else is needed to start it. It is started with two customers of two lines each, on
+The arguments are a command that starts the program; those of the program are put behind them. It is started with two customers of two lines each, on
 ports of this machine that are free; each line has a connection, and all four play at the same time. It is run by hand: the gate
 knows nothing of it.
 """
@@ -13,6 +13,9 @@ import sys
 import tempfile
 import threading
 import time
+
+# While nobody is connected a turn takes no time, so there are many; the program ends soon after the peers have gone.
+TURNS = "1000000"
 
 LINES = [("ACME", "a1", "LYON"), ("ACME", "a2", "METZ"), ("BOLT", "b1", "LYON"), ("BOLT", "b2", "PARIS")]
 
@@ -68,7 +71,7 @@ def exchange(peer, sent, wanted, size):
 
 def play(name, node, port, size, results):
     peer = None
-    for _ in range(100):
+    for _ in range(3000):
         try:
             peer = socket.create_connection(("127.0.0.1", port), timeout=10)
             break
@@ -99,7 +102,7 @@ def main():
     with tempfile.NamedTemporaryFile("w", suffix=".toml") as file:
         file.write(table(ports))
         file.flush()
-        program = subprocess.Popen(sys.argv[1:] + ["serve", "--tables", file.name, "--turns", "60"])
+        program = subprocess.Popen(sys.argv[1:] + ["serve", "--tables", file.name, "--turns", TURNS])
         results = {}
         players = [
             threading.Thread(target=play, args=(name, node, port, 1 + 6 * at, results))
