@@ -6,7 +6,7 @@ use Rattle.njh_bisync.specs.Frames.{kept}
 use Rattle.njh_bisync.specs.Written.{text_bytes}
 use Rattle.njh_record.specs.Writing.{before_run, first_item, items_past, spelling_of}
 use Rattle.njh_sched.specs.NextBlock.{streams, after_source, after_sources, filled}
-use Rattle.njh_command.specs.Replies.{line_of}
+use Rattle.njh_command.specs.Replies.{file_text}
 use Rattle.njh_line.specs.LineTable.{accepted}
 use Rattle.njh_table.specs.Entries.{CustomerEntry}
 use Rattle.njh_customer.specs.declared.signal.Signal.{Signal}
@@ -33,6 +33,6 @@ signal kind l frame = record { event = OwnSignal kind l; sent = sent_on l frame 
 -- A customer of this entry that was just opened sends these frames over these events, and no others.
 unfoldable pub Plays : CustomerEntry → List Turn → Type 0
 unfolding
-    character_of byte_of_character turn kept text_bytes before_run first_item items_past spelling_of streams after_source after_sources filled line_of accepted frame_came
+    character_of byte_of_character turn kept text_bytes before_run first_item items_past spelling_of streams after_source after_sources filled file_text accepted frame_came
     signal_came
 Plays entry turns = (alone_run (opened entry) (map (λ t. t.event) turns)).sent ≡ flat_map (λ t. t.sent) turns
