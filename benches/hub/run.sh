@@ -34,9 +34,9 @@ has() {
 
 row() {
   large=$(cost "$1" 1048000)
-  small=$(cost "$1" 250000)
   note=
   has "$1" "${@:4}" || note='not yet: the hub does not do all of it'
+  small=$(cost "$1" 250000)
   printf '%-9s %8s %8s %8s %8s   %s\n' "$1" "$large" "$small" "$2" "$3" "$note"
 }
 
@@ -46,4 +46,4 @@ row cards 28 18 '^a2 1002.\{1000\}'
 row commands 280 186 d5d1c8f0f0f140
 row mixed 38 25 d5d1c8f0f0f140 '^c0x2 1002.\{300\}'
 row empty 65 43 '^a1 1070'
-row ignored 25 11 '^a1 1002....cfb0a8'
+row ignored 25 11 '^a1 1002.*b0a800'

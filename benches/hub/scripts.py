@@ -13,6 +13,8 @@ LETTERS.update({chr(74 + n): 0xD1 + n for n in range(9)})
 LETTERS.update({chr(83 + n): 0xE2 + n for n in range(8)})
 LETTERS.update({chr(48 + n): 0xF0 + n for n in range(10)})
 
+QUOTA = 2000
+
 HEADER, CARD, TRAILER = 0xC0, 0x80, 0xD0
 SYSIN = [0x98, 0xA8, 0xB8, 0xC8]
 MESSAGE = 0x9A
@@ -182,9 +184,9 @@ def in_turn(*parts):
 
 def table(customers):
     """customers: pairs of a name and the lines of the customer."""
-    rows = [f"capacity = {65535 * len(customers)}"]
+    rows = [f"capacity = {QUOTA * len(customers)}"]
     for customer, lines in customers:
-        rows += ["[[customer]]", f'name = "{customer}"', 'hub = "BUREAU"', "quota = 65535", "files = 1024"]
+        rows += ["[[customer]]", f'name = "{customer}"', 'hub = "BUREAU"', f"quota = {QUOTA}", "files = 1024"]
         for line in lines:
             rows += ["[[customer.line]]", f'name = "{line.name}"', f'node = "{line.node}"']
             rows += ['role = "answer"', "block = 1024", "streams = 4"]

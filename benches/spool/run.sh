@@ -10,7 +10,7 @@ cp "$top/HANDLES" "$work"
 cp -r "$top/crates/njh_record" "$top/crates/njh_spool" "$work/crates"
 grep -E '^(njh_record|njh_spool):' "$top/crates.txt" > "$work/crates.txt"
 echo 'spool_bench: njh_record njh_spool anyhow' >> "$work/crates.txt"
-for name in main calls removing; do
+for name in main calls looking removing; do
   cp "$here/$name.txt" "$work/crates/spool_bench/src/$name.rt"
 done
 cd "$work/crates/spool_bench"
@@ -35,6 +35,10 @@ done
 echo 'nanoseconds to remove the first and the last of so many files of a customer:'
 for files in 1 128 1024; do
   echo "$files: $("$bench" remove $files 100 | tr '\n' ' ')"
+done
+echo 'nanoseconds to look at one of so many files, all there, and every other one gone:'
+for files in 2 128 1024; do
+  echo "$files: $("$bench" look $files 1000 | tr '\n' ' ')"
 done
 echo 'opening 64 customers of 65,535 blocks:'
 time "$bench" open 64 65535

@@ -1,8 +1,9 @@
 //! Laws of the frame grammar, each the contract of a function that does nothing.
-ghost use Rattle.std.specs.Prelude.{◌≡◌, ℕ, ◌≤◌, List, [], ◌∷◌, ◌++◌, length, Option, Some, None};
+ghost use Rattle.std.specs.Prelude.{◌≡◌, ◌≢◌, ℕ, ◌<◌, ◌≤◌, false, All, List, [], ◌∷◌, ◌++◌, length, Option, Some, None};
 ghost use Rattle.njh_bisync.specs.Frames.{Received, Text, LineUnit, Partial, Splits};
-ghost use Rattle.njh_bisync.specs.Reading.{Rest, Nothing, Reads};
+ghost use Rattle.njh_bisync.specs.Reading.{Rest, Nothing, InText, Reads};
 ghost use Rattle.njh_bisync.specs.Fed.{ahead, fed, frames_after, rest_after, GoesOn};
+ghost use Rattle.njh_bisync.specs.Plain.{kept_all};
 ghost use Rattle.njh_bisync.specs.Written.{text_bytes, control_bytes, control_frame};
 ghost use Rattle.njh_bisync.specs.declared.frame.Control.{Control};
 
@@ -48,6 +49,13 @@ pub fn fed_in_parts()
         → fed rest (front ++ back) ≡ ahead (length front) (fed (fed rest front).rest back) }
     ensures ended { (rest : Rest) (front back : List ℕ) (frame : Received)
         → (fed rest front).frame ≡ Some frame → fed rest (front ++ back) ≡ fed rest front }
+{}
+
+/// In a text bytes other than DLE are taken together as they are one by one.
+pub fn data_taken_together()
+    ensures { (held : Option (List ℕ)) (run more : List ℕ) → 0 < length run → All (λ byte. byte ≢ 0x10) run
+        → fed (InText held false) (run ++ more)
+        ≡ ahead (length run) (fed (InText (kept_all held run) false) more) }
 {}
 
 /// A text that was written is read back as that text and nothing else, whatever follows.

@@ -38,12 +38,13 @@ replied_to l reply c = replied l (reply_sent c.entry l reply c.spool (line_at l 
 
 -- ---- the end of a line's session
 
--- its answers are gone, and its streams are about nothing
+-- its answers are gone, its streams are about nothing, and SYSOUT 4 counts as served last
 abbrev pub quiet : CustomerLine → CustomerLine
 quiet x = record x {
   state = without_answers x.state;
   receivers = replicate (length x.receivers) receiver.Idle;
   senders = replicate (length x.senders) sender.Idle;
+  served = 7;
 }
 
 -- The files that it was sending may go again, and so may those that were refused and go by it; the files that came in on it are gone.

@@ -66,6 +66,8 @@ pub data GoesOut (entry : CustomerEntry) (l : ℕ) (line : LineState) (x y : Out
       (bcb : ℕ) (fcs : ℕ × ℕ) (items : List Item) → sent ≡ text_bytes (text_of bcb fcs items) → Leads (Sends entry l) x y
       → ((k : ℕ) → k < 8 → k < length (streams_of l x) → Carries l k items x y) → GoesOut entry l line x y sent
 
+-- What a step on line l does by these records: they act, or none does; then what goes out, of the line as it was; and at last the line's
+-- session goes on or ends.
 pub record Does (l : ℕ) (items : List Item) (c : Customer) (s : Step) : Type 0 where
   pub acted : Outgoing
   pub records : Leads (OneActs c.entry l items) (outgoing c) acted

@@ -209,7 +209,7 @@ impl CustomerLine {
     }
 
     /// The end of a session: the files that were being sent may go again, and so may those that were refused and go by this line; the
-    /// files that came in are gone, and so are the answers.
+    /// files that came in are gone, and so are the answers; SYSOUT 4 counts as served last.
     pub(crate) fn end_session(&mut self, line: LineId, tables: &Tables, spool: &mut Spool)
         requires known { line.customer < length tables.now.customers }
         requires spooled { line.customer < length spool.old }
@@ -226,6 +226,7 @@ impl CustomerLine {
         );
         end_receivers(&mut self.receivers, line.customer, spool);
         self.line.clear_answers();
+        self.served = Stream::at(7);
     }
 }
 

@@ -43,9 +43,9 @@ pub fn opened_is_coherent()
 }
 
 /// What each frame and each signal does to the customer's whole files and to its streams from the hub: its records act, a frame goes out,
-/// and the session goes on or ends. A frame that is a new block carries, under each stream's RCB, the stream's file in order from its place before
-/// the block to its place behind it, and the end of file only behind the last record. Any other frame moves nothing,
-/// nor does the last transmission that goes out again.
+/// and the session goes on or ends. A new block carries, under each stream's RCB, the stream's file from its place before the block to its
+/// place behind it, each record once and in order, and the end of file only behind the last. Any other frame moves nothing, the last
+/// transmission that goes out again among them.
 pub fn frames_do_so()
     ensures frames { FramesDoSo }
     ensures signals { SignalsDoSo }

@@ -1,7 +1,7 @@
 -- What the arguments name, from the matches of a parse.
 use Rattle.std.proofs.Common.{◌≡◌, Result, Ok, Err, OnOk, IfErr, Bool, true, false, cond, List, [], ◌∷◌, map, Option}
-use Rattle.std.proofs.Common.{Some, None, option_and_then, refl, sym, ap, ◌∙◌}
-use Rattle.std.specs.Prelude.{find, option_map, slice_get, bytes_eq}
+use Rattle.std.proofs.Common.{Some, None, option_and_then, refl, sym, ap, subst, ◌∙◌}
+use Rattle.std.specs.Prelude.{IfSome, IsSomeAnd, codes, find, option_map, slice_get, bytes_eq}
 use Rattle.std.proofs.lemmas.Option.{slice_get-map}
 use Rattle.std.specs.Box.{box_value}
 use Rattle.clap.proofs.OnLiterals.{clap_on_literals}
@@ -13,7 +13,10 @@ use Rattle.clap.specs.Kinds.{FailsBy, Kinds, HasKind}
 use Rattle.clap.specs.declared.error.Error.{Error}
 use Rattle.clap.specs.declared.parser.matches.ArgMatches.{ArgMatches}
 use Rattle.clap.specs.declared.parser.matches.ArgMatches.TheViews.{out-ArgMatches, out-SubCommand}
-use Rattle.njh_program.specs.Arguments.{program_app}
+use Rattle.njh_program.specs.declared.arguments.Request.{Request}
+use Rattle.njh_program.specs.declared.arguments.Request.TheVariants.{Replay, Serve}
+use Rattle.njh_program.specs.Arguments.{CountsTurns, ServesBy, Spells, choice_in, choice_of, choice_of_rows, program_app, turns_in}
+use Rattle.njh_program.specs.Arguments.{turns_of_rows}
 
 cond-map : {X Y : Type 0} (f : X → Y) (b : Bool) (x : X) (o : Option Y) (later : Option X) → o ≡ option_map f later
     → cond b (Some (f x)) o ≡ option_map f (cond b (Some x) later)
@@ -73,3 +76,19 @@ FailsBy-ok kinds (Err e) fails = tt
 pub FailsBy-err : {A : Type 0} (kinds : Kinds) (r : Result A Error) → FailsBy kinds r → IfErr r (HasKind kinds)
 FailsBy-err kinds (Ok x) fails = tt
 FailsBy-err kinds (Err e) fails = fails
+
+-- what is asked for by the rows of `serve`
+pub serves_asked : (m : ArgMatches) (rows : List Row) → subcommand_rows_of m ≡ Some (codes "serve", rows) → (r : Option Request) →
+    IfSome r (ServesBy rows) → IfSome r (λ request. choice_in m ≡ Some (choice_of request))
+serves_asked m rows named None serves = tt
+serves_asked m rows named (Some (Replay tables)) serves = absurd serves
+serves_asked m rows named (Some (Serve tables turns)) serves =
+    ap choice_of_rows named ∙ ap (λ (t : Option Text). Some (codes "serve", t)) serves.0
+
+pub serves_turns : (m : ArgMatches) (rows : List Row) → subcommand_rows_of m ≡ Some (codes "serve", rows) → (r : Option Request) →
+    IfSome r (ServesBy rows) → IfSome r (CountsTurns (turns_in m))
+serves_turns m rows named None serves = tt
+serves_turns m rows named (Some (Replay tables)) serves = tt
+serves_turns m rows named (Some (Serve tables turns)) serves =
+    let P : Option Text → Type 0 = λ o. IsSomeAnd o (λ t. Spells t turns) in
+    subst P (sym (ap turns_of_rows named)) serves.1

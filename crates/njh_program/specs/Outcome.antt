@@ -1,5 +1,6 @@
 -- What the program did, and why it failed.
-use Rattle.std.specs.Prelude.{◌≡◌, ◌∷◌, ℕ, List, codes, Option, Some, ⊤}
+use Rattle.std.specs.Prelude.{◌≡◌, ◌∷◌, ◌⊎◌, ℕ, List, codes, Option, Some, ⊤}
+use Rattle.std.specs.Io.KnownBytes.{Keeps}
 use Rattle.clap.specs.Words.{Text, HasKind, fault_of}
 use Rattle.clap.specs.declared.error.kind.ErrorKind.TheVariants.{MissingSubcommand}
 use Rattle.njh_table.specs.TableFile.{TableFile, owner_of}
@@ -11,16 +12,22 @@ use Rattle.njh_program.specs.Arguments.{choice_by, program_app}
 use Rattle.njh_program.specs.Replayed.{HasTooLong, HasBadLine, IsBegun, IsReplayed}
 use Rattle.njh_program.specs.TableBytes.{AreGiven, AreRefused}
 
--- the arguments ask for a replay by these tables, or by some that are refused so
+-- the arguments ask for a replay by these tables, or name some that are refused so
 abbrev pub Chooses : List Text → TableFile → Type 0
 Chooses arguments tables = (file : Option Text) × (choice_by arguments ≡ Some (codes "replay", file)) × AreGiven file tables
 
 abbrev pub ChoosesRefused : List Text → Failure → Type 0
-ChoosesRefused arguments failure = (file : Option Text) × (choice_by arguments ≡ Some (codes "replay", file)) × AreRefused file failure
+ChoosesRefused arguments failure =
+    (word : Text) × (file : Option Text) × (choice_by arguments ≡ Some (word, file)) × AreRefused file failure
 
--- What the arguments ask for was done: the script that a reader had left was replayed.
+-- the arguments ask to serve, which writes nothing
+abbrev pub IsServed : (arguments : List Text) (old new : Option (List ℕ)) → Type 0
+IsServed arguments old new = (file : Text) × (choice_by arguments ≡ Some (codes "serve", Some file)) × Keeps old new
+
+-- What the arguments ask for was done: the script that a reader had left was replayed, or lines were served.
 abbrev pub IsDone : (arguments : List Text) (left old new : Option (List ℕ)) → Type 0
-IsDone arguments left old new = (tables : TableFile) × Chooses arguments tables × IsReplayed tables left old new
+IsDone arguments left old new = ((tables : TableFile) × Chooses arguments tables × IsReplayed tables left old new)
+    ⊎ IsServed arguments old new
 
 -- It was done in part.
 abbrev pub IsBegunFor : (arguments : List Text) (left old new : Option (List ℕ)) → Type 0

@@ -1,10 +1,12 @@
 //! The arguments of the command line.
 
-ghost use Rattle.std.specs.Prelude.{◌≡◌, [], ◌∷◌, false, map, IfOk, IfErr, IfSome, OnOk};
-ghost use Rattle.clap.specs.Words.{app_of, fault_of, kind_of, rule_of, HasKind};
+ghost use Rattle.std.specs.Prelude.{◌≡◌, [], ◌∷◌, false, map, codes, IfOk, IfErr, IfSome, OnOk};
+ghost use Rattle.clap.specs.Words.{app_of, fault_of, found_of, kind_of, new_app, rows_of, rule_of, HasKind};
 ghost use Rattle.clap.specs.declared.builder.command.Command.TheViews.{out-Command};
-ghost use Rattle.njh_program.specs.Arguments.{bare_app, choice_by, choice_in, choice_of, program_app, replay_app, tables_rule};
+ghost use Rattle.njh_program.specs.Arguments.{CountsTurns, ServesBy, turns_by, turns_in};
+ghost use Rattle.njh_program.specs.Arguments.{bare_app, choice_by, choice_in, choice_of, program_app, replay_app, replaying_app, serve_app, tables_rule, turns_rule};
 
+use clap::builder::ValueParser;
 use clap::error::ErrorKind;
 use clap::{Arg, ArgAction, ArgMatches, Command, Error};
 use std::alloc::{AllocError, Global};
@@ -18,12 +20,20 @@ pub enum Request<'a> {
         /// The table file; the built-in tables where none is named.
         tables: Option<&'a str>,
     },
+    /// To serve lines on sockets.
+    Serve {
+        /// The table file.
+        tables: &'a str,
+        /// For how many turns.
+        turns: u32,
+    },
 }
 
 /// What the arguments ask for, of which the first is the program's name. A refusal has the text for the user, and
 /// `--help` is one. Both are as `clap`'s definitions say of this program.
 pub fn request_of<'a, S: AsStr>(alloc: Global, arguments: &'a [S]) -> Result<Request<'a>, Error>
     ensures asked { IfOk result (λ request. choice_by (map S.text arguments.entry.now) ≡ Some (choice_of request)) }
+    ensures turns { IfOk result (CountsTurns (turns_by (map S.text arguments.entry.now))) }
     ensures taken { OnOk result (fault_of program_app (map S.text arguments.entry.now) ≡ []) }
     // Out of memory, or of a kind that these arguments give.
     ensures refused { IfErr result (HasKind (ErrorKind.MissingSubcommand ∷ fault_of program_app (map S.text arguments.entry.now))) }
@@ -50,6 +60,7 @@ fn matches_of<'a, S: AsStr>(
 ) -> Result<ArgMatches<'a>, Error>
     requires { app_of program.old ≡ program_app }
     ensures asked { IfOk result (λ found. choice_in found ≡ choice_by (map S.text arguments.entry.now)) }
+    ensures turns { IfOk result (λ found. turns_in found ≡ turns_by (map S.text arguments.entry.now)) }
     ensures taken { OnOk result (fault_of program_app (map S.text arguments.entry.now) ≡ []) }
     ensures refused { IfErr result (HasKind (fault_of program_app (map S.text arguments.entry.now))) }
 {
@@ -58,19 +69,41 @@ fn matches_of<'a, S: AsStr>(
 
 /// What a parse asks for, if it found a subcommand.
 fn request_in<'a>(found: &ArgMatches<'a>) -> Option<Request<'a>>
-    ensures { IfSome result (λ request. choice_in found.now ≡ Some (choice_of request)) }
+    ensures asked { IfSome result (λ request. choice_in found.now ≡ Some (choice_of request)) }
+    ensures turns { IfSome result (CountsTurns (turns_in found.now)) }
 {
     match found.subcommand() {
         Some(("replay", options)) => Some(Request::Replay {
             tables: options.get_str("tables"),
         }),
+        Some(("serve", options)) => served_in(options),
         _ => None,
+    }
+}
+
+/// What the options of `serve` ask for, which `clap` has seen to be there.
+fn served_in<'a>(options: &ArgMatches<'a>) -> Option<Request<'a>>
+    ensures { IfSome result (ServesBy (rows_of (found_of options.now))) }
+{
+    let tables = options.get_str("tables")?;
+    match options.get_str("turns")?.parse::<u32>() {
+        Ok(turns) => Some(Request::Serve { tables, turns }),
+        Err(_) => None,
     }
 }
 
 /// The program and its subcommands.
 fn program_command<'a>(alloc: Global) -> Result<Command<'a>, AllocError>
     ensures { IfOk result (λ command. app_of command ≡ program_app) }
+{
+    let serve = serve_command(alloc)?;
+    let program = replaying_command(alloc)?;
+    program.subcommand(serve)
+}
+
+/// The program and its first subcommand.
+fn replaying_command<'a>(alloc: Global) -> Result<Command<'a>, AllocError>
+    ensures { IfOk result (λ command. app_of command ≡ replaying_app) }
 {
     let replay = replay_command(alloc)?;
     bare_command(alloc).subcommand(replay)
@@ -96,6 +129,39 @@ fn replay_command<'a>(alloc: Global) -> Result<Command<'a>, AllocError>
             "Runs a script of events from standard input, and prints the frames that the hub sends and the files that it then has",
         )
         .arg(tables_option(alloc))
+}
+
+/// `serve`, with its two options.
+fn serve_command<'a>(alloc: Global) -> Result<Command<'a>, AllocError>
+    ensures app { IfOk result (λ command. app_of command ≡ serve_app) }
+    ensures local { IfOk result (λ command. (out-Command command).has_globals ≡ false) }
+{
+    let tables = tables_option(alloc).required(true);
+    bare_serve(alloc).arg(tables)?.arg(turns_option(alloc))
+}
+
+/// `serve` without its options.
+fn bare_serve<'a>(alloc: Global) -> Command<'a>
+    ensures app { app_of result ≡ new_app (codes "serve") }
+    ensures local { (out-Command result).has_globals ≡ false }
+{
+    Command::new(alloc, "serve").about(
+        "Serves the lines that have a port on sockets of this machine, for so many turns",
+    )
+}
+
+/// `--turns N`.
+fn turns_option<'a>(alloc: Global) -> Arg<'a>
+    ensures rule { rule_of result ≡ turns_rule }
+    ensures local { result.global ≡ false }
+{
+    Arg::new(alloc, "turns")
+        .long("turns")
+        .value_name("N")
+        .help("How many turns, 1 to 1000000; in each turn each line is read once")
+        .action(ArgAction::Set)
+        .required(true)
+        .value_parser(ValueParser::Signed(1, 1_000_000))
 }
 
 /// `--tables F`.

@@ -9,7 +9,7 @@ use crate::fault::ReplayFault;
 use clap::error::ErrorKind;
 use njh_hub::HubFault;
 use njh_table::TableFault;
-use std::alloc::AllocError;
+use std::alloc::{AllocError, AllocFailed};
 use std::{fmt, io};
 
 /// What ended the program. A device that fails, or memory that runs out, outside a replay counts as that of one.
@@ -91,6 +91,14 @@ impl From<AllocError> for Failure {
 
     fn from(_error: AllocError) -> Failure {
         Failure::Replay(ReplayFault::Hub(HubFault::Memory))
+    }
+}
+
+impl<T: Drop> From<AllocFailed<T>> for Failure {
+    ghost from_gives = { λ _ failure. failure ≡ no_memory };
+
+    fn from(_error: AllocFailed<T>) -> Failure {
+        Failure::from(AllocError)
     }
 }
 

@@ -9,15 +9,20 @@ ghost use Rattle.njh_program.specs.Status.{status_after, status_of};
 use crate::arguments::{Request, not_utf8, request_of};
 use crate::failure::Failure;
 use crate::replaying::replay;
+use crate::serving::serve;
 use crate::table_file::tables_of;
 use std::convert::AsStr;
 use std::io::{BufWriter, ErrorKind, Read, Write};
+use std::net::Net;
 use std::process::ExitCode;
 use std::rt::{Env, Files};
 use std::{env, io};
 
 /// Runs the program, and answers the status to end with. Why it failed, if it did, goes to `errors`.
-pub fn run<R: Env + Files + Input + Print + AllocGlobal, E: Print>(rt: &R, errors: &E) -> ExitCode
+pub fn run<R: Env + Files + Net + Input + Print + AllocGlobal, E: Print>(
+    rt: &R,
+    errors: &E,
+) -> ExitCode
     ensures { exit_status result ≤ 2 }
 {
     end(outcome_of(rt), errors)
@@ -38,7 +43,7 @@ pub fn end<E: Print>(outcome: Result<(), Failure>, errors: &E) -> ExitCode
 }
 
 /// Does what the program's own arguments ask for, over its own streams.
-fn outcome_of<R: Env + Files + Input + Print + AllocGlobal>(rt: &R) -> Result<(), Failure> {
+fn outcome_of<R: Env + Files + Net + Input + Print + AllocGlobal>(rt: &R) -> Result<(), Failure> {
     let arguments = arguments_of(rt)?;
     let mut out = BufWriter::new(rt.alloc(), io::writer(rt))?;
     carry_out(rt, &arguments, &mut rt.reader(), &mut out)
@@ -56,7 +61,7 @@ fn arguments_of<R: Env + AllocGlobal>(rt: &R) -> Result<Vec<String>, Failure> {
 }
 
 /// Does what the arguments ask for: the arguments are checked first, then the tables, then the script.
-pub fn carry_out<F: Files + AllocGlobal, S: AsStr, R: Read, W: Write>(
+pub fn carry_out<F: Files + Net + AllocGlobal, S: AsStr, R: Read, W: Write>(
     rt: &F,
     arguments: &[S],
     script: &mut R,
@@ -74,5 +79,6 @@ pub fn carry_out<F: Files + AllocGlobal, S: AsStr, R: Read, W: Write>(
             replay(rt.alloc(), tables, script, out)?;
             Ok(())
         }
+        Request::Serve { tables, turns } => serve(rt, tables_of(rt, Some(tables))?, turns),
     }
 }

@@ -14,7 +14,9 @@ pub mod ChainRemoves
 pub mod ChainSlots
 pub mod ChainWrites
 pub mod CostLaws
+pub mod EntryLaws
 pub mod FileLaws
+pub mod HoleLaws
 pub mod IndexLaws
 pub mod KeptLaws
 pub mod NumberLaws

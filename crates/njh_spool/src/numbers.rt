@@ -1,32 +1,27 @@
 //! The numbers of some files of one customer, in order.
 
-ghost use Rattle.std.specs.Prelude.{◌≡◌, ℕ, ◌==◌, ◌<◌, ◌≤◌, [], ◌∷◌, ◌++◌, not, filter, count_by, position, length, slice_index};
+ghost use Rattle.std.specs.Prelude.{◌≡◌, ℕ, ◌==◌, ◌<◌, [], ◌∷◌, ◌++◌, not, filter, count_by, length, slice_index};
 
+use crate::entries::Entries;
 use crate::quota::MOST_FILES;
-use arrayvec::ArrayVec;
 use std::marker::Model;
 
-const ROOM: usize = MOST_FILES as usize;
-
-/// At most as many as a customer may have files.
+/// At most as many as a customer may have files. A number that is taken away leaves a hole, which is closed when a number is put
+/// last.
 #[derive(Drop)]
 pub struct Numbers {
-    numbers: ArrayVec<u16, ROOM>,
+    entries: Entries,
 }
 
 impl Model for Numbers {
     ghost use Rattle.std.specs.Prelude.{List, ℕ};
+    ghost use Rattle.njh_spool.specs.Entries.{numbers_in, IsIndexed};
 
     ghost Value = { List ℕ };
 
-    ghost view = { λ n. n.numbers.items };
-}
+    ghost view = { λ n. numbers_in n.entries.entries.items };
 
-/// Where a number is among some.
-fn place_in(numbers: &[u16], number: u16) -> Option<usize>
-    ensures { result ≡ position (λ m. m == number) numbers.now }
-{
-    numbers.iter().position(|other| *other == number)
+    ghost invariant = { λ n. IsIndexed n.entries };
 }
 
 impl Numbers {
@@ -34,38 +29,38 @@ impl Numbers {
         ensures { result ≡ [] }
     {
         Numbers {
-            numbers: ArrayVec::new(),
+            entries: Entries::new(),
         }
     }
 
     pub fn len(&self) -> usize
         ensures { result ≡ length self.now }
     {
-        self.numbers.len()
+        usize::from(self.entries.count)
     }
 
     pub fn at(&self, index: usize) -> u16
         requires { index < length self.now }
         ensures { result ≡ slice_index self.now index }
     {
-        self.numbers[index]
+        self.entries.at(index)
     }
 
     /// Puts a number last.
     pub fn push(&mut self, number: u16)
-        requires { length self.old < MOST_FILES }
+        requires room { length self.old < MOST_FILES }
+        requires number { number < MOST_FILES }
+        requires absent { count_by (λ m. m == number) self.old ≡ 0 }
         ensures { self.new ≡ self.old ++ number ∷ [] }
     {
-        self.numbers.push(number);
+        self.entries.close();
+        self.entries.push(number);
     }
 
     /// Takes a number away.
     pub fn remove(&mut self, number: u16)
-        requires { count_by (λ m. m == number) self.old ≤ 1 }
         ensures { self.new ≡ filter (λ m. not (m == number)) self.old }
     {
-        if let Some(index) = place_in(&self.numbers, number) {
-            self.numbers.remove(index);
-        }
+        self.entries.remove(number);
     }
 }

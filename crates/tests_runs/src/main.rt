@@ -13,11 +13,12 @@ mod streams;
 
 use njh_program::Failure;
 use std::alloc::Global;
+use std::net::Net;
 use std::process::ExitCode;
 use std::rt::Files;
 
 /// Tries all but the end of the program.
-fn tried<R: Files + Print + AllocGlobal>(rt: &R) -> Result<(), Failure> {
+fn tried<R: Files + Net + Print + AllocGlobal>(rt: &R) -> Result<(), Failure> {
     scripts::compare_all(rt)?;
     customers::compare(rt)?;
     random_runs::compare(rt)?;

@@ -2,7 +2,7 @@
 
 use crate::peers::{Numbers, Peer, bytes_at};
 use crate::steps::{bytes_of, of_hub};
-use njh_hub::{Cause, Event, FileView, Hub, RunFault, Sink, SinkFault};
+use njh_hub::{Cause, Event, FileView, Sink, SinkFault, outcome, two_runs};
 use njh_program::Failure;
 use njh_table::{LineId, Tables};
 use std::alloc::{AllocError, Global};
@@ -119,11 +119,12 @@ fn events_of(
     let mut numbers = Numbers::from_seed(seed);
     let mut events = Vec::new(alloc);
     for _ in 0..ACTS {
-        if numbers.below(2) == 0 {
-            first.act(alloc, &mut numbers, records, &mut events)?;
+        let peer = if numbers.below(2) == 0 {
+            &mut first
         } else {
-            second.act(alloc, &mut numbers, records, &mut events)?;
-        }
+            &mut second
+        };
+        peer.act(alloc, &mut numbers, records, &mut events)?;
     }
     Ok(events)
 }
@@ -153,8 +154,8 @@ fn merged(
 }
 
 /// The program's failure where a run stops.
-fn of_run(fault: RunFault) -> Failure {
-    match fault.cause {
+fn of_cause(cause: Cause) -> Failure {
+    match cause {
         Cause::Hub(fault) => of_hub(fault),
         Cause::Sink => Failure::from(AllocError),
     }
@@ -167,53 +168,80 @@ struct Ending {
     files: u64,
 }
 
-fn end_run(alloc: Global, tables: &str, events: &[Event]) -> Result<Ending, Failure> {
-    let mut hub = match Hub::open(alloc, Tables::read(alloc, tables)?) {
-        Ok(hub) => hub,
-        Err(fault) => return Err(of_hub(fault)),
-    };
-    let mut sink = Kept {
+/// A sink that keeps ACME's frames.
+fn kept(alloc: Global) -> Kept {
+    Kept {
         customer: ACME,
         bytes: Vec::new(alloc),
         failures: 0,
-    };
-    match hub.run(events, &mut sink) {
-        Ok(()) => {}
-        Err(fault) => return Err(of_run(fault)),
-    }
-    let mut bytes = sink.bytes;
-    match hub.files(ACME) {
-        Ok(views) => {
-            for view in views.iter() {
-                put_file(&mut bytes, view)?;
-            }
-            Ok(Ending {
-                bytes,
-                files: views.len() as u64,
-            })
-        }
-        Err(fault) => Err(of_hub(fault)),
     }
 }
 
-/// How ACME ends over its own events of a seed, among BOLT's of another.
-fn among_others(
+fn ending(sink: Kept, views: &[FileView]) -> Result<Ending, AllocError> {
+    let mut bytes = sink.bytes;
+    for view in views {
+        put_file(&mut bytes, view)?;
+    }
+    Ok(Ending {
+        bytes,
+        files: views.len() as u64,
+    })
+}
+
+/// How ACME ends where these events come.
+fn end_run(alloc: Global, tables: &str, events: &[Event]) -> Result<Ending, Failure> {
+    let mut sink = kept(alloc);
+    match outcome(alloc, Tables::read(alloc, tables)?, ACME, events, &mut sink) {
+        Ok(views) => Ok(ending(sink, &views)?),
+        Err(cause) => Err(of_cause(cause)),
+    }
+}
+
+/// How ACME ends in two runs, each with its tables and events.
+fn end_both(
     alloc: Global,
     tables: &str,
+    events: &[Event],
+    others: &str,
+    more: &[Event],
+) -> Result<(Ending, Ending), Failure> {
+    let mut sink = kept(alloc);
+    let mut other_sink = kept(alloc);
+    let tables = Tables::read(alloc, tables)?;
+    let others = Tables::read(alloc, others)?;
+    match two_runs(
+        alloc,
+        tables,
+        ACME,
+        events,
+        &mut sink,
+        others,
+        ACME,
+        more,
+        &mut other_sink,
+    ) {
+        Ok((views, other_views)) => {
+            Ok((ending(sink, &views)?, ending(other_sink, &other_views)?))
+        }
+        Err(cause) => Err(of_cause(cause)),
+    }
+}
+
+/// ACME's events of a seed, among BOLT's of another.
+fn among_others(
+    alloc: Global,
     texts: &Texts,
     seed: u64,
     other: u64,
-) -> Result<Ending, Failure> {
-    let own = events_of(alloc, seed, &texts.records, peers_of(texts, ACME, 1))?;
+) -> Result<Vec<Event>, Failure> {
+    let own = own_events(alloc, texts, seed)?;
     let others = events_of(alloc, other, &texts.records, peers_of(texts, BOLT, 2))?;
-    let events = merged(alloc, other, own, others)?;
-    end_run(alloc, tables, &events)
+    Ok(merged(alloc, other, own, others)?)
 }
 
-/// How ACME ends over the same events, on a hub of its own.
-fn alone(alloc: Global, tables: &str, texts: &Texts, seed: u64) -> Result<Ending, Failure> {
-    let events = events_of(alloc, seed, &texts.records, peers_of(texts, ACME, 1))?;
-    end_run(alloc, tables, &events)
+/// ACME's events of a seed.
+fn own_events(alloc: Global, texts: &Texts, seed: u64) -> Result<Vec<Event>, Failure> {
+    Ok(events_of(alloc, seed, &texts.records, peers_of(texts, ACME, 1))?)
 }
 
 /// Runs all pairs, and ACME alone, and says how many aren't alike; and whether files were left in most.
@@ -228,9 +256,11 @@ pub fn compare<R: Files + Print + AllocGlobal>(rt: &R) -> Result<(), Failure> {
     let mut unlike = 0u64;
     let mut with_files = 0u64;
     for seed in 0..PAIRS {
-        let first = among_others(alloc, both.as_str(), &texts, seed, 1000 + seed)?;
-        let second = among_others(alloc, both.as_str(), &texts, seed, 2000 + seed)?;
-        let third = alone(alloc, one.as_str(), &texts, seed)?;
+        let events = among_others(alloc, &texts, seed, 1000 + seed)?;
+        let more = among_others(alloc, &texts, seed, 2000 + seed)?;
+        let alone = own_events(alloc, &texts, seed)?;
+        let (first, second) = end_both(alloc, both.as_str(), &events, both.as_str(), &more)?;
+        let third = end_run(alloc, one.as_str(), &alone)?;
         if first.bytes != second.bytes || first.bytes != third.bytes {
             unlike = unlike.saturating_add(1);
         }

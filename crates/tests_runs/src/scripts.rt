@@ -5,11 +5,12 @@
 
 use njh_program::{Failure, carry_out};
 use std::alloc::Global;
+use std::net::Net;
 use std::rt::Files;
 use std::{fs, io};
 
 /// Compares what each script prints with what is stored.
-pub fn compare_all<R: Files + Print + AllocGlobal>(rt: &R) -> Result<(), Failure> {
+pub fn compare_all<R: Files + Net + Print + AllocGlobal>(rt: &R) -> Result<(), Failure> {
     let index = fs::read_to_string(rt, "index")?;
     for line in index.as_str().lines() {
         let words: Vec<&str> = line.split(' ').collect(rt.alloc())?;
@@ -22,7 +23,7 @@ pub fn compare_all<R: Files + Print + AllocGlobal>(rt: &R) -> Result<(), Failure
 }
 
 /// Says whether a script prints what is stored, and the program's status.
-fn compare<R: Files + Print + AllocGlobal>(
+fn compare<R: Files + Net + Print + AllocGlobal>(
     rt: &R,
     name: &str,
     arguments: &[&str],
@@ -40,7 +41,7 @@ fn compare<R: Files + Print + AllocGlobal>(
 
 /// Runs the program with a stored script, and gives its status; the line of its failure follows what it prints. The text for
 /// arguments that are refused is that of `clap`, and isn't compared.
-pub fn print_run<R: Files + AllocGlobal>(
+pub fn print_run<R: Files + Net + AllocGlobal>(
     rt: &R,
     name: &str,
     arguments: &[&str],

@@ -3,11 +3,11 @@ use Rattle.clap.specs.Matches.{found_of, subcommand_name_of}
 use Rattle.clap.specs.Simple.{subcommand_rows_of}
 use Rattle.clap.specs.Walk.{Row, Text, first_of, rows_of}
 use Rattle.njh_program.specs.Arguments.{choice_of_rows}
-use Rattle.njh_program.proofs.ArgumentLaws.{first_value-rows, subcommand_is}
+use Rattle.njh_program.proofs.ArgumentLaws.{first_value-rows, serves_asked, serves_turns, subcommand_is}
 use Rattle.njh_program.proofs.arguments.request_in.Goals as goal
 
-pub returns-in-Some-replay-default : goal.returns-in-Some-replay-default
-returns-in-Some-replay-default c =
+pub returns-in-Some-replay-default-clause-asked : goal.returns-in-Some-replay-default-clause-asked
+returns-in-Some-replay-default-clause-asked c =
     let name = c.in-Some-replay-default.field-0-0.now in
     let rows = rows_of (found_of c.in-Some-replay-default.options.now) in
     let named : Some name ≡ subcommand_name_of c.args.found.now = c.in-Some-replay-default.ensures.name in
@@ -17,3 +17,23 @@ returns-in-Some-replay-default c =
     sym (first_value-rows c.in-Some-replay-default.options.now (codes "tables")) ∙ sym c.get_str.ensures in
     let replay : name ≡ codes "replay" = search rules in
     ap choice_of_rows (subcommand_is c.args.found.now name rows named rowed) ∙ ap₂ (λ (n : Text) (t : Option Text). Some (n, t)) replay file
+
+pub returns-in-Some-serve-default-clause-asked : goal.returns-in-Some-serve-default-clause-asked
+returns-in-Some-serve-default-clause-asked c =
+    let name = c.in-Some-serve-default.field-0-0.now in
+    let rows = rows_of (found_of c.in-Some-serve-default.options.now) in
+    let serve : name ≡ codes "serve" = search rules in
+    let named : subcommand_rows_of c.args.found.now ≡ Some (codes "serve", rows) =
+    subcommand_is c.args.found.now name rows c.in-Some-serve-default.ensures.name c.in-Some-serve-default.ensures.rows
+    ∙ ap (λ (n : Text). Some (n, rows)) serve in
+    serves_asked c.args.found.now rows named c.served_in.result c.served_in.ensures
+
+pub returns-in-Some-serve-default-clause-turns : goal.returns-in-Some-serve-default-clause-turns
+returns-in-Some-serve-default-clause-turns c =
+    let name = c.in-Some-serve-default.field-0-0.now in
+    let rows = rows_of (found_of c.in-Some-serve-default.options.now) in
+    let serve : name ≡ codes "serve" = search rules in
+    let named : subcommand_rows_of c.args.found.now ≡ Some (codes "serve", rows) =
+    subcommand_is c.args.found.now name rows c.in-Some-serve-default.ensures.name c.in-Some-serve-default.ensures.rows
+    ∙ ap (λ (n : Text). Some (n, rows)) serve in
+    serves_turns c.args.found.now rows named c.served_in.result c.served_in.ensures

@@ -1,9 +1,10 @@
 use Rattle.std.proofs.Common.{◌≡◌, ℕ, ◌+◌, ◌*◌, ◌<◌, ◌≤◌, List, [], ◌∷◌, ◌++◌, length, set}
-use Rattle.std.proofs.Common.{refl, sym, ap, ◌∙◌, arith}
+use Rattle.std.proofs.Common.{refl, sym, ap, ◌∙◌, arith, Bool, true, cond, eqb, count_by}
 use Rattle.njh_spool.specs.declared.customer_files.CustomerFiles.{CustomerFiles}
 use Rattle.njh_spool.specs.CustomerSpool.{CustomerSpool, begun}
 use Rattle.njh_spool.specs.Spools.{part}
-use Rattle.njh_spool.specs.Slots.{contents, spools_of}
+use Rattle.njh_spool.specs.Slots.{contents, slot_of, is_free, spools_of}
+use Rattle.njh_spool.proofs.ReadLaws.{not_partial_free}
 use Rattle.njh_spool.proofs.KeptLaws.{own_of, own_is, Moves}
 use Rattle.njh_spool.proofs.CallFinds as finds
 use Rattle.njh_spool.proofs.CallLaws as call
@@ -118,10 +119,26 @@ free_number-number-requires-clause-some c =
       rw c.deref.ensures.value free.1,
     )
 
-pub push-requires : goal.push-requires
-push-requires c =
-    let n = few (goal.at.push-requires c).After-index_mut-own in
+pub push-requires-clause-room : goal.push-requires-clause-room
+push-requires-clause-room c =
+    let n = few (goal.at.push-requires-clause-room c).After-index_mut-own in
     omega (arith, n.whole, n.partial, n.limit, n.limit_bound, c.len.ensures, c.len-2.ensures, c.if-len-own.false)
+
+pub push-requires-clause-number : goal.push-requires-clause-number
+push-requires-clause-number c =
+    let n = few (goal.at.push-requires-clause-number c).After-index_mut-own in
+    omega (arith, c.free_number-number.ensures.below, n.limit, n.limit_bound)
+
+pub push-requires-clause-absent : goal.push-requires-clause-absent
+push-requires-clause-absent c =
+    let has = finds.has c.self.inside.store c.self.inside.slots.items c.self.inside.customers.items c.args.customer 0
+    c.self.invariant (rw c.self.view_is c.requires) in
+    let number = c.free_number-number.result in
+    let own = own_same (goal.at.push-requires-clause-absent c).After-index_mut-own in
+    let free : is_free (slot_of c.self.inside.slots.items c.args.customer number).stage ≡ true =
+    rw (← c.deref.ensures.value) c.free_number-number.ensures.free in
+    ap (λ (o : CustomerFiles). count_by (λ m. eqb m number) o.partial) own ∙ has.own.partial_once number
+    ∙ ap (λ (b : Bool). cond {A = ℕ} b 1 0) (not_partial_free (slot_of c.self.inside.slots.items c.args.customer number).stage free)
 
 pub index_mut-requires : goal.index_mut-requires
 index_mut-requires c =

@@ -1,5 +1,5 @@
-use Rattle.std.proofs.Common.{◌≡◌, ℕ, ◌+◌, ◌-◌, ◌*◌, ◌≤◌, not, eqb, List, length, set}
-use Rattle.std.proofs.Common.{filter, refl, sym, ap, subst, ◌∙◌, arith}
+use Rattle.std.proofs.Common.{◌≡◌, ℕ, ◌+◌, ◌-◌, ◌*◌, not, eqb, List, length, set}
+use Rattle.std.proofs.Common.{filter, refl, sym, ap, ◌∙◌, arith}
 use Rattle.njh_spool.specs.declared.file_slot.FileSlot.{FileSlot}
 use Rattle.njh_spool.specs.declared.customer_files.CustomerFiles.{CustomerFiles}
 use Rattle.njh_spool.specs.Chains.{Chain, chain_at, empty_chain}
@@ -9,9 +9,8 @@ use Rattle.njh_spool.specs.Slots.{contents, slot_of, chain_of, is_whole, spools_
 use Rattle.njh_spool.proofs.KeptLaws.{own_of, own_is, Moves}
 use Rattle.njh_spool.proofs.CallFinds as finds
 use Rattle.njh_spool.proofs.CallLaws as call
-use Rattle.std.proofs.Common.{◌/◌, count_by}
+use Rattle.std.proofs.Common.{◌/◌}
 use Rattle.njh_spool.specs.Chains.{with_chain, blocks_of}
-use Rattle.njh_spool.proofs.SlotLaws.{at_most_once}
 use Rattle.njh_spool.proofs.spool.Spool.remove.Goals as goal
 use Rattle.njh_spool.proofs.spool.Spool.remove.Goals.{After-index_mut, After-is_whole, After-index_mut-own}
 
@@ -68,17 +67,6 @@ overflow_sub-left c =
       finds.enough_whole c.self.inside.store c.self.inside.slots.items c.self.inside.customers.items c.args.customer c.args.id
           c.self.invariant (rw c.self.view_is c.requires) there,
     )
-
-pub remove-requires : goal.remove-requires
-remove-requires c =
-    let has = finds.has c.self.inside.store c.self.inside.slots.items c.self.inside.customers.items c.args.customer c.args.id
-    c.self.invariant (rw c.self.view_is c.requires) in
-    let most = at_most_once (is_whole ((contents c.self.inside.slots.items c.self.inside.store.chains c.args.customer)
-    c.args.id).stage) (count_by (λ m. eqb m c.args.id) (own_of c.self.inside.customers.items c.args.customer).whole)
-    (has.own.whole_once c.args.id) in
-    subst (λ (k : ℕ). count_by (λ m. eqb m k) c.index_mut-own.result.now.whole ≤ 1) (sym c.number.ensures)
-    (subst (λ (o : CustomerFiles). count_by (λ m. eqb m c.args.id) o.whole ≤ 1)
-    (sym (own_same (goal.at.remove-requires c).After-index_mut-own)) most)
 
 moved : (c : After-index_mut) → Moves c.self.inside.store c.self.inside.slots.items c.self.inside.customers.items
     c.clear.new.self (set c.self.inside.slots.items c.place-at.result c.empty.result)
