@@ -119,12 +119,11 @@ fn events_of(
     let mut numbers = Numbers::from_seed(seed);
     let mut events = Vec::new(alloc);
     for _ in 0..ACTS {
-        let peer = if numbers.below(2) == 0 {
-            &mut first
+        if numbers.below(2) == 0 {
+            first.act(alloc, &mut numbers, records, &mut events)?;
         } else {
-            &mut second
-        };
-        peer.act(alloc, &mut numbers, records, &mut events)?;
+            second.act(alloc, &mut numbers, records, &mut events)?;
+        }
     }
     Ok(events)
 }
