@@ -82,11 +82,11 @@ fn serve<R: Abort>(
     Ok(())
 }
 
-/// The frames on a1 of a wire with these steps, over so many turns; the others are absent.
-fn check_one<R: Abort>(
+/// The frames on a1 of a wire with these steps, over so many turns; the others are quiet.
+fn check_one<'a, R: Abort>(
     rt: &R,
     alloc: Global,
-    steps: &[Step<'_>],
+    steps: &'a [Step<'a>],
     piece: usize,
     turns: u32,
     frames: &[u8],
