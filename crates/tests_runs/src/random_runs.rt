@@ -168,7 +168,7 @@ struct Ending {
 }
 
 /// A sink that keeps ACME's frames.
-fn kept(alloc: Global) -> Kept {
+fn own_sink(alloc: Global) -> Kept {
     Kept {
         customer: ACME,
         bytes: Vec::new(alloc),
@@ -176,7 +176,7 @@ fn kept(alloc: Global) -> Kept {
     }
 }
 
-fn ending(sink: Kept, views: &[FileView]) -> Result<Ending, AllocError> {
+fn what_came(sink: Kept, views: &[FileView]) -> Result<Ending, AllocError> {
     let mut bytes = sink.bytes;
     for view in views {
         put_file(&mut bytes, view)?;
@@ -189,9 +189,9 @@ fn ending(sink: Kept, views: &[FileView]) -> Result<Ending, AllocError> {
 
 /// How ACME ends where these events come.
 fn end_run(alloc: Global, tables: &str, events: &[Event]) -> Result<Ending, Failure> {
-    let mut sink = kept(alloc);
+    let mut sink = own_sink(alloc);
     match outcome(alloc, Tables::read(alloc, tables)?, ACME, events, &mut sink) {
-        Ok(views) => Ok(ending(sink, &views)?),
+        Ok(views) => Ok(what_came(sink, &views)?),
         Err(cause) => Err(of_cause(cause)),
     }
 }
@@ -204,8 +204,8 @@ fn end_both(
     others: &str,
     more: &[Event],
 ) -> Result<(Ending, Ending), Failure> {
-    let mut sink = kept(alloc);
-    let mut other_sink = kept(alloc);
+    let mut sink = own_sink(alloc);
+    let mut other_sink = own_sink(alloc);
     let tables = Tables::read(alloc, tables)?;
     let others = Tables::read(alloc, others)?;
     match two_runs(
@@ -220,7 +220,10 @@ fn end_both(
         &mut other_sink,
     ) {
         Ok((views, other_views)) => {
-            Ok((ending(sink, &views)?, ending(other_sink, &other_views)?))
+            Ok((
+                what_came(sink, &views)?,
+                what_came(other_sink, &other_views)?,
+            ))
         }
         Err(cause) => Err(of_cause(cause)),
     }
