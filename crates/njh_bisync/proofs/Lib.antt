@@ -4,3 +4,4 @@ pub mod UnitReader
 pub mod FedLaws
 pub mod PlainLaws
 pub mod ReadBack
+pub mod CallsLaws
