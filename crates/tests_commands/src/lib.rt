@@ -6,6 +6,10 @@ mod streams;
 pub use streams::Streams;
 
 #[cfg(test)]
-mod bench;
+mod calls;
 #[cfg(test)]
 mod command_tests;
+#[cfg(test)]
+mod playing;
+#[cfg(test)]
+mod samples;

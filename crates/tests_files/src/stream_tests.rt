@@ -3,5 +3,6 @@
 mod bench;
 mod bytes;
 mod cases;
+mod playing;
 mod receiving;
 mod sending;

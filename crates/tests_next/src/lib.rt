@@ -1,9 +1,13 @@
 //! Tests of the next block, over the public items of njh_sched.
-#![tactic(auto, using(crate::proofs::KeptLaws::kept, crate::proofs::KeptLaws::finished_quota, crate::proofs::KeptLaws::kept_again))]
+#![tactic(auto)]
 
 #[cfg(test)]
-mod desk;
+mod calls;
 #[cfg(test)]
 mod memory;
+#[cfg(test)]
+mod playing;
+#[cfg(test)]
+mod samples;
 #[cfg(test)]
 mod sched_tests;

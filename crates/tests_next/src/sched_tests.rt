@@ -1,339 +1,332 @@
 //! The next block: worked examples, its limits, and whose turn it is.
 
-use crate::desk::{Desk, Row, next_block};
-use crate::memory::Memory;
-use arrayvec::ArrayVec;
-use njh_block::{BlockText, Fcs};
+ghost use Rattle.std.specs.Prelude.{◌<◌, length};
+ghost use Rattle.tests_next.specs.Kept.{IsKept};
+
+use crate::calls;
+use crate::playing::play;
+use crate::samples::TABLES;
+use njh_block::Fcs;
 use njh_record::Kind;
-use njh_spool::{FileId, SpoolFault, State};
-use njh_stream::Sender;
+use njh_sched::own_fcs;
+use njh_spool::{FileId, Spool, SpoolFault, State};
+use njh_table::Tables;
+use std::alloc::Global;
 use std::process::Abort;
 use std::test::Fail;
 
-/// PAYROLL, job 42 of ANNA at LYON, to be run at METZ.
-static JOB: [u8; 100] = *b"\x00\x64\x00\x00\
-    \x00\x60\x00\x00\x00\x2a\
-    \0\0\0\0\0\0\0\0\0\0\0\0\0\0\0\0\0\0\
-    \xd7\xc1\xe8\xd9\xd6\xd3\xd3\x40\
-    \xc1\xd5\xd5\xc1\x40\x40\x40\x40\
-    \0\0\0\0\0\0\0\0\0\0\0\0\0\0\0\0\0\0\0\0\0\0\0\0\
-    \xd3\xe8\xd6\xd5\x40\x40\x40\x40\
-    \xc1\xd5\xd5\xc1\x40\x40\x40\x40\
-    \xd4\xc5\xe3\xe9\x40\x40\x40\x40\
-    \x40\x40\x40\x40\x40\x40\x40\x40";
-
-static TO_METZ: [u8; 24] = *b"\x00\x18\x00\x00\x00\x14\x00\x00\
-    \xd4\xc5\xe3\xe9\x40\x40\x40\x40\xd7\xc1\xe4\xd3\x40\x40\x40\x40";
-
-static HELLO: [u8; 6] = *b"\x05\xc8\xc5\xd3\xd3\xd6";
-
-static TRAILER: [u8; 4] = *b"\x00\x04\x00\x00";
-
-/// The sample file's records.
-fn sample() -> [Row; 4] {
-    [
-        (0xc0, &JOB),
-        (0xe0, &TO_METZ),
-        (0x80, &HELLO),
-        (0xd0, &TRAILER),
-    ]
-}
-
-/// The line that leads to LYON.
-const LYON: u16 = 0;
-
-/// The line that leads to METZ.
-const METZ: u16 = 1;
-
-fn is_text<R: Abort>(rt: &R, given: Option<BlockText>, text: &[u8]) {
-    match given {
-        Some(given) => assert_eq!(rt; given.as_slice(), text),
-        None => assert!(rt; text.is_empty(), "nothing was added"),
-    }
-}
-
-fn peer<R: Abort>(rt: &R, first: u8, second: u8) -> Fcs {
-    assert!(rt; first >= 0x80);
-    assert!(rt; second >= 0x80);
-    Fcs::read(first, second).unwrap_or(Fcs::nothing_suspended())
-}
-
 /// Four SYSOUT streams with a trailer left each, and the first of them suspended; then all is.
-#[test]
-fn four_trailers(rt: HostRuntime) -> Result<(), Fail> {
-    for (first, second, text) in [
-        (
-            0x8f,
-            0xc7,
-            b"\x83\x8f\xcf\xa9\xd0\xc4\x00\x04\x00\x00\x00\xb9\xd0\xc4\x00\x04\x00\x00\x00\xc9\xd0\xc4\x00\x04\
-                \x00\x00\x00\xa9\x80\x00\xb9\x80\x00\xc9\x80\x00\x00"
-                .as_slice(),
-        ),
-        (0xcf, 0xcf, b"".as_slice()),
-    ] {
-        let mut desk = Desk::open(&rt, rt.alloc())?;
-        let mut memory = Memory::new(rt.alloc(), METZ)?;
-        memory.peer = peer(&rt, first, second);
-        for place in 4..8usize {
-            let file = desk.store(&rt, Kind::Out, &sample())?;
-            memory.senders[place] = Sender::Sending(file, 3);
-        }
-        let (tables, mut spool) = desk.into_parts();
-        is_text(
-            &rt,
-            next_block(&rt, &mut memory, &mut spool, &tables, 1024),
-            text,
-        );
-    }
-    Ok(())
-}
+const FOUR_TRAILERS: &str = "
+METZ
+peer 8f c7
+out JOB TO_METZ HELLO TRAILER
+set 4 Sending 0 3
+out JOB TO_METZ HELLO TRAILER
+set 5 Sending 1 3
+out JOB TO_METZ HELLO TRAILER
+set 6 Sending 2 3
+out JOB TO_METZ HELLO TRAILER
+set 7 Sending 3 3
+next 1024 = 83 8f cf a9 d0 c4 00 04 00 00 00 b9 d0 c4 00 04 00 00 00 c9 d0 c4 00 04 00 00 00 a9 80 00 b9 80 \
+    00 c9 80 00 00
+
+METZ
+peer cf cf
+out JOB TO_METZ HELLO TRAILER
+set 4 Sending 0 3
+out JOB TO_METZ HELLO TRAILER
+set 5 Sending 1 3
+out JOB TO_METZ HELLO TRAILER
+set 6 Sending 2 3
+out JOB TO_METZ HELLO TRAILER
+set 7 Sending 3 3
+next 1024 = none
+";
 
 /// A file is asked for, waits while its stream is suspended, goes out whole, and is given up.
-#[test]
-fn a_file_goes_out(rt: HostRuntime) -> Result<(), Fail> {
-    let mut desk = Desk::open(&rt, rt.alloc())?;
-    let mut memory = Memory::new(rt.alloc(), METZ)?;
-    let file = desk.store(&rt, Kind::Out, &sample())?;
-    let (tables, mut spool) = desk.into_parts();
-    is_text(
-        &rt,
-        next_block(&rt, &mut memory, &mut spool, &tables, 1024),
-        b"\x83\x8f\xcf\x90\x99\x00\x00",
-    );
-    assert_eq!(rt; memory.senders[4], Sender::Requested(file));
-    memory.senders[4] = Sender::Sending(file, 0);
-    memory.peer = peer(&rt, 0x8f, 0xc7);
-    is_text(
-        &rt,
-        next_block(&rt, &mut memory, &mut spool, &tables, 1024),
-        b"",
-    );
-    memory.peer = Fcs::nothing_suspended();
-    is_text(
-        &rt,
-        next_block(&rt, &mut memory, &mut spool, &tables, 1024),
-        b"\x83\x8f\xcf\x99\xc0\xc2\x00\x64\xa3\x00\xc1\x60\xa3\x00\xc1\x2a\xb2\x00\xcc\xd7\xc1\xe8\xd9\xd6\
-            \xd3\xd3\x40\xc1\xd5\xd5\xc1\x84\xb8\x00\xc4\xd3\xe8\xd6\xd5\x84\xc4\xc1\xd5\xd5\xc1\x84\xc4\xd4\
-            \xc5\xe3\xe9\x8c\x00\x99\xe0\xc2\x00\x18\xa3\x00\xc7\x14\x00\x00\xd4\xc5\xe3\xe9\x84\xc4\xd7\xc1\
-            \xe4\xd3\x84\x00\x99\x80\xc6\x05\xc8\xc5\xd3\xd3\xd6\x00\x99\xd0\xc4\x00\x04\x00\x00\x00\x99\x80\
-            \x00\x00",
-    );
-    assert_eq!(rt; memory.senders[4], Sender::EofSent(file));
-    memory.senders[4] = Sender::Aborting;
-    is_text(
-        &rt,
-        next_block(&rt, &mut memory, &mut spool, &tables, 1024),
-        b"\x83\x8f\xcf\x99\x80\x40\x00",
-    );
-    assert_eq!(rt; memory.senders[4], Sender::Idle);
-    Ok(())
-}
+const A_FILE: &str = "
+METZ
+out JOB TO_METZ HELLO TRAILER
+next 1024 = 83 8f cf 90 99 00 00
+is 4 Requested 0
+set 4 Sending 0 0
+peer 8f c7
+next 1024 = none
+peer 8f cf
+next 1024 = 83 8f cf 99 c0 c2 00 64 a3 00 c1 60 a3 00 c1 2a b2 00 cc d7 c1 e8 d9 d6 d3 d3 40 c1 d5 d5 c1 84 \
+    b8 00 c4 d3 e8 d6 d5 84 c4 c1 d5 d5 c1 84 c4 d4 c5 e3 e9 8c 00 99 e0 c2 00 18 a3 00 c7 14 00 00 \
+    d4 c5 e3 e9 84 c4 d7 c1 e4 d3 84 00 99 80 c6 05 c8 c5 d3 d3 d6 00 99 d0 c4 00 04 00 00 00 99 80 \
+    00 00
+is 4 EofSent 0
+set 4 Aborting
+next 1024 = 83 8f cf 99 80 40 00
+is 4 Idle
+";
 
-/// What waits behind 98 answers, which make a text of 298 bytes.
-#[derive(Clone, Copy, Debug)]
-enum Last {
-    Answer,
-    Abort,
-    Request,
-    Message,
-    Record,
-}
+/// Behind 98 answers, which make a text of 298 bytes, waits an answer, an abort, a request, a message or a record. Three bytes more
+/// are 301: one source's record has room there, and none in 300.
+const ROOM: &str = "
+METZ
+answers 98
+in JOB
+state 0 Held
+answers 1
+ends 300 = 298 a0 99 00 00
 
-/// Three bytes more are 301: one source's record has room there, and none in 300.
-#[test]
-fn one_byte_more_has_no_room(rt: HostRuntime) -> Result<(), Fail> {
-    for (last, bytes) in [
-        (Last::Answer, b"\xa0\x99\x00\x00"),
-        (Last::Abort, b"\x98\x80\x40\x00"),
-        (Last::Request, b"\x90\x98\x00\x00"),
-        (Last::Message, b"\x9a\x80\x00\x00"),
-        (Last::Record, b"\x98\x80\x00\x00"),
-    ] {
-        for (size, len) in [(300usize, 298usize), (301, 301)] {
-            let mut desk = Desk::open(&rt, rt.alloc())?;
-            let mut memory = Memory::new(rt.alloc(), METZ)?;
-            memory.answer(98);
-            let file = desk.store(&rt, Kind::In, &[(0xc0, &JOB)])?;
-            desk.set_state(file, State::Held)?;
-            match last {
-                Last::Answer => memory.answer(1),
-                Last::Abort => memory.senders[0] = Sender::Aborting,
-                Last::Request => desk.set_state(file, State::Ready)?,
-                Last::Message => memory.tell(b""),
-                Last::Record => memory.senders[0] = Sender::Sending(file, 1),
-            }
-            let (tables, mut spool) = desk.into_parts();
-            let text = next_block(&rt, &mut memory, &mut spool, &tables, size).unwrap_or(
-                ArrayVec::new(),
-            );
-            assert_eq!(rt; text.len(), len, "{last:?} in {size}");
-            let end: &[u8] = if size == 301 {
-                bytes
-            } else {
-                b"\xa0\x99\x00\x00"
-            };
-            assert!(rt; text.ends_with(end), "{last:?} in {size}");
-        }
-    }
-    Ok(())
-}
+METZ
+answers 98
+in JOB
+state 0 Held
+answers 1
+ends 301 = 301 a0 99 00 00
+
+METZ
+answers 98
+in JOB
+state 0 Held
+set 0 Aborting
+ends 300 = 298 a0 99 00 00
+
+METZ
+answers 98
+in JOB
+state 0 Held
+set 0 Aborting
+ends 301 = 301 98 80 40 00
+
+METZ
+answers 98
+in JOB
+state 0 Held
+state 0 Ready
+ends 300 = 298 a0 99 00 00
+
+METZ
+answers 98
+in JOB
+state 0 Held
+state 0 Ready
+ends 301 = 301 90 98 00 00
+
+METZ
+answers 98
+in JOB
+state 0 Held
+message none
+ends 300 = 298 a0 99 00 00
+
+METZ
+answers 98
+in JOB
+state 0 Held
+message none
+ends 301 = 301 9a 80 00 00
+
+METZ
+answers 98
+in JOB
+state 0 Held
+set 0 Sending 0 1
+ends 300 = 298 a0 99 00 00
+
+METZ
+answers 98
+in JOB
+state 0 Held
+set 0 Sending 0 1
+ends 301 = 301 98 80 00 00
+";
 
 /// Eight streams of five records of ten bytes each, and their ends of file: 29 records have room in 300 bytes.
-#[test]
-fn eight_streams_in_turn(rt: HostRuntime) -> Result<(), Fail> {
-    let mut desk = Desk::open(&rt, rt.alloc())?;
-    let mut memory = Memory::new(rt.alloc(), METZ)?;
-    for place in 0..8usize {
-        let records: [Row; 5] = [(0x80, &HELLO); 5];
-        let file = desk.store(&rt, Kind::Out, &records)?;
-        memory.senders[place] = Sender::Sending(file, 0);
-    }
-    let (tables, mut spool) = desk.into_parts();
-    let mut next = 0usize;
-    let rcbs = [0x98, 0xa8, 0xb8, 0xc8, 0x99, 0xa9, 0xb9, 0xc9];
-    for (records, ends) in [(29usize, 0usize), (11, 8)] {
-        let text = next_block(&rt, &mut memory, &mut spool, &tables, 300).unwrap_or(
-            ArrayVec::new(),
-        );
-        assert_eq!(rt; text.len(), 4 + 10 * records + 3 * ends);
-        for index in 0..records {
-            assert_eq!(rt;
-                text.get(3 + 10 * index).copied(),
-                rcbs.get(next % 8).copied()
-            );
-            next = next % 8 + 1;
-        }
-        for index in 0..ends {
-            assert_eq!(rt;
-                text.get(3 + 10 * records + 3 * index).copied(),
-                rcbs.get(next % 8).copied()
-            );
-            next = next % 8 + 1;
-        }
-    }
-    is_text(
-        &rt,
-        next_block(&rt, &mut memory, &mut spool, &tables, 300),
-        b"",
-    );
-    Ok(())
-}
+const TURNS: &str = "
+METZ
+out HELLO HELLO HELLO HELLO HELLO
+set 0 Sending 0 0
+out HELLO HELLO HELLO HELLO HELLO
+set 1 Sending 1 0
+out HELLO HELLO HELLO HELLO HELLO
+set 2 Sending 2 0
+out HELLO HELLO HELLO HELLO HELLO
+set 3 Sending 3 0
+out HELLO HELLO HELLO HELLO HELLO
+set 4 Sending 4 0
+out HELLO HELLO HELLO HELLO HELLO
+set 5 Sending 5 0
+out HELLO HELLO HELLO HELLO HELLO
+set 6 Sending 6 0
+out HELLO HELLO HELLO HELLO HELLO
+set 7 Sending 7 0
+rcbs 300 29 0 = 294 98 a8 b8 c8 99 a9 b9 c9 98 a8 b8 c8 99 a9 b9 c9 98 a8 b8 c8 99 a9 b9 c9 98 a8 b8 c8 99
+rcbs 300 11 8 = 138 a9 b9 c9 98 a8 b8 c8 99 a9 b9 c9 98 a8 b8 c8 99 a9 b9 c9
+next 300 = none
+";
 
 /// Messages wait where T is off; all is sent in the order of its sources.
+const SOURCES: &str = "
+METZ
+peer 8f cf
+in JOB
+set 4 Sending 0 9
+message 42
+set 1 Aborting
+answers 1
+next 1024 = 83 8f cf a0 99 00 a8 80 40 90 98 00 9a 80 c1 42 00 99 80 00 00
+
+METZ
+peer 8f 8f
+in JOB
+set 4 Sending 0 9
+message 42
+set 1 Aborting
+answers 1
+next 1024 = 83 8f cf a0 99 00 a8 80 40 90 98 00 99 80 00 00
+";
+
+/// Two files of each kind with equal names; the first of them is Ready or isn't; a line of two streams of each kind, or of one.
+const OLDEST: &str = "
+METZ
+streams 2
+out JOB TO_METZ HELLO TRAILER
+in JOB TO_METZ HELLO TRAILER
+out JOB TO_METZ HELLO TRAILER
+in JOB TO_METZ HELLO TRAILER
+state 0 Ready
+next 1024 = 83 8f cf 90 98 00 90 a8 00 90 99 00 90 a9 00 00
+is 0 Requested 1
+is 4 Requested 0
+is 1 Requested 3
+
+METZ
+streams 1
+out JOB TO_METZ HELLO TRAILER
+in JOB TO_METZ HELLO TRAILER
+out JOB TO_METZ HELLO TRAILER
+in JOB TO_METZ HELLO TRAILER
+state 0 Ready
+next 1024 = 83 8f cf 90 98 00 90 99 00 00
+is 0 Requested 1
+is 4 Requested 0
+is 1 Idle
+
+METZ
+streams 2
+out JOB TO_METZ HELLO TRAILER
+in JOB TO_METZ HELLO TRAILER
+out JOB TO_METZ HELLO TRAILER
+in JOB TO_METZ HELLO TRAILER
+state 0 Held
+next 1024 = 83 8f cf 90 98 00 90 a8 00 90 99 00 00
+is 0 Requested 1
+is 4 Requested 2
+is 1 Requested 3
+";
+
+/// As many files as a customer may have are Ready, and go by another line.
+const FOR_ANOTHER: &str = "
+LYON
+in*1024 JOB
+next 4096 = none
+is 0 Idle
+";
+
+#[test]
+fn four_trailers(rt: HostRuntime) -> Result<(), Fail> {
+    play(&rt, rt.alloc(), FOUR_TRAILERS)
+}
+
+#[test]
+fn a_file_goes_out(rt: HostRuntime) -> Result<(), Fail> {
+    play(&rt, rt.alloc(), A_FILE)
+}
+
+#[test]
+fn one_byte_more_has_no_room(rt: HostRuntime) -> Result<(), Fail> {
+    play(&rt, rt.alloc(), ROOM)
+}
+
+#[test]
+fn eight_streams_in_turn(rt: HostRuntime) -> Result<(), Fail> {
+    play(&rt, rt.alloc(), TURNS)
+}
+
 #[test]
 fn five_sources_in_order(rt: HostRuntime) -> Result<(), Fail> {
-    for (second, text) in [
-        (
-            0xcf,
-            b"\x83\x8f\xcf\xa0\x99\x00\xa8\x80\x40\x90\x98\x00\x9a\x80\xc1\x42\x00\x99\x80\x00\x00".as_slice(),
-        ),
-        (
-            0x8f,
-            b"\x83\x8f\xcf\xa0\x99\x00\xa8\x80\x40\x90\x98\x00\x99\x80\x00\x00".as_slice(),
-        ),
-    ] {
-        let mut desk = Desk::open(&rt, rt.alloc())?;
-        let mut memory = Memory::new(rt.alloc(), METZ)?;
-        memory.peer = peer(&rt, 0x8f, second);
-        let file = desk.store(&rt, Kind::In, &[(0xc0, &JOB)])?;
-        memory.senders[4] = Sender::Sending(file, 9);
-        memory.tell(b"\x42");
-        memory.senders[1] = Sender::Aborting;
-        memory.answer(1);
-        let (tables, mut spool) = desk.into_parts();
-        is_text(
-            &rt,
-            next_block(&rt, &mut memory, &mut spool, &tables, 1024),
-            text,
-        );
+    play(&rt, rt.alloc(), SOURCES)
+}
+
+#[test]
+fn the_oldest_ready_file_of_each_kind(rt: HostRuntime) -> Result<(), Fail> {
+    play(&rt, rt.alloc(), OLDEST)
+}
+
+#[test]
+fn files_for_another_line(rt: HostRuntime) -> Result<(), Fail> {
+    play(&rt, rt.alloc(), FOR_ANOTHER)
+}
+
+/// A file of so many records of a block each.
+#[tactic(auto, using(crate::proofs::KeptLaws::kept_again))]
+fn append_many<R: Abort>(
+    rt: &R,
+    spool: &mut Spool,
+    file: FileId,
+    count: u32,
+) -> Result<(), SpoolFault>
+    ensures { IsKept spool.old spool.new }
+{
+    for _ in 0..count {
+        calls::append(rt, spool, file, 0x80, &[0xc1; 249])?;
     }
     Ok(())
 }
 
-/// Two files of each kind with equal names; the first of them is Ready or isn't; a line of two streams of each kind, or of one.
-#[test]
-fn the_oldest_ready_file_of_each_kind(rt: HostRuntime) -> Result<(), Fail> {
-    for (streams, state, text) in [
-        (
-            2,
-            State::Ready,
-            b"\x83\x8f\xcf\x90\x98\x00\x90\xa8\x00\x90\x99\x00\x90\xa9\x00\x00".as_slice(),
-        ),
-        (
-            1,
-            State::Ready,
-            b"\x83\x8f\xcf\x90\x98\x00\x90\x99\x00\x00".as_slice(),
-        ),
-        (
-            2,
-            State::Held,
-            b"\x83\x8f\xcf\x90\x98\x00\x90\xa8\x00\x90\x99\x00\x00".as_slice(),
-        ),
-    ] {
-        let mut desk = Desk::open(&rt, rt.alloc())?;
-        let mut memory = Memory::new(rt.alloc(), METZ)?;
-        memory.streams = streams;
-        let first_out = desk.store(&rt, Kind::Out, &sample())?;
-        let first_in = desk.store(&rt, Kind::In, &sample())?;
-        let second_out = desk.store(&rt, Kind::Out, &sample())?;
-        let second_in = desk.store(&rt, Kind::In, &sample())?;
-        desk.set_state(first_out, state)?;
-        let (tables, mut spool) = desk.into_parts();
-        is_text(
-            &rt,
-            next_block(&rt, &mut memory, &mut spool, &tables, 1024),
-            text,
-        );
-        let out = if state == State::Held {
-            second_out
-        } else {
-            first_out
-        };
-        assert_eq!(rt; memory.senders[0], Sender::Requested(first_in));
-        assert_eq!(rt; memory.senders[4], Sender::Requested(out));
-        let other = if streams == 2 {
-            Sender::Requested(second_in)
-        } else {
-            Sender::Idle
-        };
-        assert_eq!(rt; memory.senders[1], other);
-    }
-    Ok(())
+/// ACME has a file of so many blocks, in this state.
+#[tactic(auto, using(crate::proofs::KeptLaws::kept_again))]
+fn store_blocks<R: Abort>(
+    rt: &R,
+    spool: &mut Spool,
+    count: u32,
+    state: State,
+) -> Result<(), SpoolFault>
+    ensures { IsKept spool.old spool.new }
+{
+    let file = calls::begun(rt, spool, Kind::Out)?;
+    append_many(rt, spool, file, count)?;
+    calls::finish(rt, spool, file)?;
+    calls::set_state(rt, spool, file, state)
+}
+
+/// The hub's FCS to ACME's peers.
+fn fcs_of<R: Abort>(
+    rt: &R,
+    alloc: Global,
+    tables: &Tables,
+    used: u32,
+    state: State,
+) -> Result<Fcs, SpoolFault> {
+    assert!(rt; !tables.customers().is_empty());
+    let mut spool = calls::opened(rt, alloc, tables.customer(0).quota())?;
+    let stored = store_blocks(rt, &mut spool, used, state).is_ok();
+    assert!(rt; stored);
+    Ok(own_fcs(0, &spool, tables))
 }
 
 /// Of 1,100 blocks 15, 16 or 17 are left, with a file that is being sent or without.
 #[test]
 fn tight_below_sixteen(rt: HostRuntime) -> Result<(), Fail> {
-    for (used, state, tight) in [
-        (1085, State::Sending, true),
-        (1084, State::Sending, false),
-        (1083, State::Sending, false),
-        (1085, State::Ready, false),
-    ] {
-        let mut desk = Desk::open(&rt, rt.alloc())?;
-        let file = desk.store_blocks(used)?;
-        desk.set_state(file, state)?;
-        let fcs = if tight {
-            Fcs::streams_suspended()
-        } else {
-            Fcs::nothing_suspended()
-        };
-        assert_eq!(rt; desk.own_fcs(), fcs, "{used} {state:?}");
-    }
-    Ok(())
+    let tables = Tables::read(rt.alloc(), TABLES)?;
+    are_tight(&rt, rt.alloc(), &tables)
 }
 
-/// As many files as a customer may have are Ready, and go by another line.
-#[test]
-fn files_for_another_line(rt: HostRuntime) -> Result<(), Fail> {
-    let mut desk = Desk::open(&rt, rt.alloc())?;
-    for _ in 0..1024u32 {
-        let _file = desk.store(&rt, Kind::In, &[(0xc0, &JOB)])?;
+fn are_tight<R: Abort>(rt: &R, alloc: Global, tables: &Tables) -> Result<(), Fail> {
+    for (used, state, fcs) in [
+        (1085, State::Sending, Fcs::streams_suspended()),
+        (1084, State::Sending, Fcs::nothing_suspended()),
+        (1083, State::Sending, Fcs::nothing_suspended()),
+        (1085, State::Ready, Fcs::nothing_suspended()),
+    ] {
+        let found = fcs_of(rt, alloc, tables, used, state)?;
+        assert_eq!(rt; found, fcs, "{used} {state:?}");
     }
-    let mut memory = Memory::new(rt.alloc(), LYON)?;
-    let (tables, mut spool) = desk.into_parts();
-    let given = next_block(&rt, &mut memory, &mut spool, &tables, 4096);
-    is_text(&rt, given, b"");
-    assert_eq!(rt; memory.senders[0], Sender::Idle);
     Ok(())
 }

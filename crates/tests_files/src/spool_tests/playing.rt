@@ -12,11 +12,15 @@ use std::test::Fail;
 /// files of each.
 pub fn play<R: Abort>(rt: &R, alloc: Global, cases: &str) -> Result<(), Fail> {
     for case in cases.trim().split("\n\n") {
-        let (head, lines) = case.split_once("\n").ok_or("an empty case")?;
-        let mut bench = Bench::open(rt, alloc, head)?;
-        bench.go(rt, alloc, lines)?;
+        play_case(rt, alloc, case)?;
     }
     Ok(())
+}
+
+fn play_case<R: Abort>(rt: &R, alloc: Global, case: &str) -> Result<(), Fail> {
+    let (head, lines) = case.split_once("\n").ok_or("an empty case")?;
+    let mut bench = Bench::open(rt, alloc, head)?;
+    bench.go(rt, alloc, lines)
 }
 
 /// A spool, and the numbers of files: each stands where it was first given.

@@ -4,16 +4,15 @@ ghost use Rattle.std.specs.Prelude.{◌<◌, length, IsTrue};
 ghost use Rattle.njh_stream.specs.Arrivals.{arrival_of, IsShort};
 
 use njh_block::Stream;
-use njh_spool::{Quota, Spool};
+use njh_spool::{Quota, Spool, SpoolFault};
 use njh_stream::{Arrival, Receiver, Step, end_receivers};
 use njh_table::{LineId, Tables};
 use std::alloc::Global;
 use std::marker::Model;
 use std::process::Abort;
-use std::test::Fail;
 
 /// Line a1 leads to LYON and a2 to METZ, and nobody has a node PARIS.
-const TABLES: &str = r#"
+pub const TABLES: &str = r#"
 capacity = 200
 [[customer]]
 name = "ACME"
@@ -54,10 +53,9 @@ node = "PARIS"
 line = "b1"
 "#;
 
-/// A stream of line a1 to the hub.
+/// A stream of line a1 to the hub, and ACME's files.
 #[derive(Drop)]
 pub struct Bench {
-    tables: Tables,
     spool: Spool,
     stream: Stream,
     receiver: Receiver,
@@ -74,7 +72,7 @@ impl Model for Bench {
 
     ghost view = { λ b. b.receiver };
 
-    ghost invariant = { λ b. (0 < length b.tables.customers) × (0 < length b.spool)
+    ghost invariant = { λ b. (0 < length b.spool)
         × Agrees (kind_of b.stream) b.receiver (part 0 b.spool) };
 }
 
@@ -94,28 +92,26 @@ impl Bench {
         alloc: Global,
         blocks: u32,
         stream: Stream,
-    ) -> Result<Self, Fail> {
-        let tables = Tables::read(alloc, TABLES)?;
-        assert!(rt; !tables.customers().is_empty());
+    ) -> Result<Self, SpoolFault> {
         let quota = Quota { blocks, files: 2 };
         assert!(rt; quota.is_within_limits());
         let spool = Spool::open(alloc, &[quota])?;
         Ok(Bench {
-            tables,
             spool,
             stream,
             receiver: Receiver::Idle,
         })
     }
 
-    pub fn come<R: Abort>(&mut self, rt: &R, arrival: Arrival<'_>) -> Step {
+    pub fn come<R: Abort>(&mut self, rt: &R, tables: &Tables, arrival: Arrival<'_>) -> Step {
+        assert!(rt; !tables.customers().is_empty());
         assert!(rt; is_short(arrival));
         let line = LineId {
             customer: 0,
             line: 0,
         };
         self.receiver
-            .step(arrival, self.stream, line, &self.tables, &mut self.spool)
+            .step(arrival, self.stream, line, tables, &mut self.spool)
     }
 
     /// The line's session ends.
@@ -135,10 +131,7 @@ impl Bench {
         self.receiver
     }
 
-    pub fn into_parts(self) -> (Tables, Spool)
-        ensures tables { 0 < length result.0.customers }
-        ensures spool { 0 < length result.1 }
-    {
-        (self.tables, self.spool)
+    pub fn into_spool(self) -> Spool {
+        self.spool
     }
 }

@@ -3,37 +3,59 @@
 use super::bench::Bench;
 use super::bytes::bytes_of;
 use super::cases;
+use super::playing::play;
 use njh_block::Stream;
 use njh_header::MessageText;
 use njh_stream::{Arrival, Receiver, Step};
+use njh_table::Tables;
 use std::alloc::Global;
 use std::process::Abort;
 use std::test::Fail;
 
-/// Plays a case and gives what it leaves. The first line has the stream's place (SYSIN 1 to 4, then SYSOUT 1 to 4) and the
-/// customer's blocks. Each other line is what comes, the answer behind `=` and what is told behind `:`.
-pub fn played<R: Abort>(rt: &R, alloc: Global, case: &str) -> Result<Bench, Fail> {
-    let (head, lines) = case.trim().split_once("\n").ok_or("an empty case")?;
+/// Plays a case. The first line has the stream's place (SYSIN 1 to 4, then SYSOUT 1 to 4) and the customer's blocks. Each other
+/// line is what comes, the answer behind `=` and what is told behind `:`.
+pub fn play_case<R: Abort>(
+    rt: &R,
+    alloc: Global,
+    tables: &Tables,
+    head: &str,
+    lines: &str,
+) -> Result<(), Fail> {
     let (place, blocks) = head.split_once(" ").ok_or("no stream and blocks")?;
-    let place = place.parse::<u8>()?;
+    let stream = stream_at(rt, place.parse::<u8>()?);
+    let mut bench = Bench::open(rt, alloc, blocks.parse::<u32>()?, stream)?;
+    go(rt, alloc, tables, &mut bench, lines)
+}
+
+fn stream_at<R: Abort>(rt: &R, place: u8) -> Stream {
     assert!(rt; place < 8);
-    let mut bench = Bench::open(rt, alloc, blocks.parse::<u32>()?, Stream::at(place))?;
-    go(rt, alloc, &mut bench, lines)?;
-    Ok(bench)
+    Stream::at(place)
 }
 
 /// The lines of a case.
-fn go<R: Abort>(rt: &R, alloc: Global, bench: &mut Bench, lines: &str) -> Result<(), Fail> {
+pub fn go<R: Abort>(
+    rt: &R,
+    alloc: Global,
+    tables: &Tables,
+    bench: &mut Bench,
+    lines: &str,
+) -> Result<(), Fail> {
     for line in lines.lines() {
-        goes(rt, alloc, bench, line)?;
+        goes(rt, alloc, tables, bench, line)?;
     }
     Ok(())
 }
 
 /// A line of a case.
-fn goes<R: Abort>(rt: &R, alloc: Global, bench: &mut Bench, line: &str) -> Result<(), Fail> {
+fn goes<R: Abort>(
+    rt: &R,
+    alloc: Global,
+    tables: &Tables,
+    bench: &mut Bench,
+    line: &str,
+) -> Result<(), Fail> {
     let (what, want) = line.split_once(" = ").unwrap_or((line, ""));
-    let found = given(rt, alloc, bench, what)?;
+    let found = given(rt, alloc, tables, bench, what)?;
     is_wanted(rt, alloc, found.as_str(), want, line)
 }
 
@@ -51,7 +73,13 @@ pub fn is_wanted<R: Abort>(
 }
 
 /// What a line gives.
-fn given<R: Abort>(rt: &R, alloc: Global, bench: &mut Bench, what: &str) -> Result<String, Fail> {
+fn given<R: Abort>(
+    rt: &R,
+    alloc: Global,
+    tables: &Tables,
+    bench: &mut Bench,
+    what: &str,
+) -> Result<String, Fail> {
     match what {
         "state" => Ok(String::from_str(alloc, state(bench.receiver()))?),
         "size" => size(alloc, bench.size()),
@@ -59,7 +87,7 @@ fn given<R: Abort>(rt: &R, alloc: Global, bench: &mut Bench, what: &str) -> Resu
             bench.end(rt);
             Ok(String::new(alloc))
         }
-        _ => came(rt, alloc, bench, what),
+        _ => came(rt, alloc, tables, bench, what),
     }
 }
 
@@ -76,17 +104,24 @@ fn size(alloc: Global, (files, blocks): (u32, u32)) -> Result<String, Fail> {
 }
 
 /// What comes, and what is answered and told.
-fn came<R: Abort>(rt: &R, alloc: Global, bench: &mut Bench, what: &str) -> Result<String, Fail> {
+fn came<R: Abort>(
+    rt: &R,
+    alloc: Global,
+    tables: &Tables,
+    bench: &mut Bench,
+    what: &str,
+) -> Result<String, Fail> {
     let step = match what {
-        "request" => bench.come(rt, Arrival::Request),
-        "long" => bench.come(rt, Arrival::TooLong),
-        "abort" => bench.come(rt, Arrival::Abort),
+        "request" => bench.come(rt, tables, Arrival::Request),
+        "long" => bench.come(rt, tables, Arrival::TooLong),
+        "abort" => bench.come(rt, tables, Arrival::Abort),
         _ => {
             let (srcb, names) = what.split_once(" ").unwrap_or((what, ""));
             let srcb = byte(alloc, srcb)?;
             let bytes = bytes_of(alloc, names)?;
             bench.come(
                 rt,
+                tables,
                 Arrival::Record {
                     srcb,
                     bytes: bytes.as_slice(),
@@ -145,14 +180,6 @@ fn wanted(alloc: Global, want: &str) -> Result<String, Fail> {
         }
         None => Ok(String::from_str(alloc, want)?),
     }
-}
-
-/// Plays each of the cases, which are parted by empty lines.
-fn play<R: Abort>(rt: &R, alloc: Global, cases: &str) -> Result<(), Fail> {
-    for case in cases.split("\n\n") {
-        played(rt, alloc, case)?;
-    }
-    Ok(())
 }
 
 #[test]

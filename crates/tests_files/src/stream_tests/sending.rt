@@ -1,6 +1,9 @@
 //! Files that go out.
 
-use super::receiving::{is_wanted, played};
+use super::bench::Bench;
+use super::playing::play;
+use super::receiving::{go, is_wanted};
+use njh_block::Stream;
 use njh_record::Record;
 use njh_spool::{FileId, Spool, State};
 use njh_stream::{Sender, end_senders, goes_by, retry_refused};
@@ -11,7 +14,6 @@ use std::test::Fail;
 
 /// The file that goes out, to METZ by line a2.
 const FILE: &str = "
-4 100
 request = a0 99
 c0 JOB+LYON+ANNA+METZ+BLANK
 e0 DATA+METZ+PAUL
@@ -156,25 +158,43 @@ hold = idle Held
 retry 1 = idle Held
 ";
 
-/// A stream, its file, and what it is sent from.
-#[derive(Drop)]
+/// A stream and its file.
+#[derive(Clone, Copy)]
 struct Way {
-    tables: Tables,
-    spool: Spool,
     sender: Sender,
     file: FileId,
 }
 
-fn opened<R: Abort>(rt: &R, alloc: Global, state: &str) -> Result<Way, Fail> {
-    let (tables, mut spool) = played(rt, alloc, FILE)?.into_parts();
-    let file = first(rt, &spool);
-    set_state(rt, &mut spool, file, State::Sending);
-    Ok(Way {
-        tables,
-        spool,
-        sender: sender_in(state, file)?,
-        file,
-    })
+/// Plays a case over a spool to which the file came.
+pub fn play_case<R: Abort>(
+    rt: &R,
+    alloc: Global,
+    tables: &Tables,
+    state: &str,
+    lines: &str,
+) -> Result<(), Fail> {
+    let mut bench = Bench::open(rt, alloc, 100, Stream::sysout(0))?;
+    go(rt, alloc, tables, &mut bench, FILE.trim())?;
+    let mut spool = bench.into_spool();
+    go_out(rt, alloc, tables, &mut spool, state, lines)
+}
+
+fn go_out<R: Abort>(
+    rt: &R,
+    alloc: Global,
+    tables: &Tables,
+    spool: &mut Spool,
+    state: &str,
+    lines: &str,
+) -> Result<(), Fail> {
+    let file = first(rt, spool);
+    set_state(rt, spool, file, State::Sending);
+    let sender = sender_in(state, file)?;
+    let mut way = Way { sender, file };
+    for line in lines.lines() {
+        goes_on(rt, alloc, tables, spool, &mut way, line)?;
+    }
+    Ok(())
 }
 
 fn first<R: Abort>(rt: &R, spool: &Spool) -> FileId {
@@ -200,8 +220,8 @@ fn sender_in(state: &str, file: FileId) -> Result<Sender, Fail> {
 }
 
 /// The states of a stream and of its file.
-fn states<R: Abort>(rt: &R, alloc: Global, way: &Way) -> Result<String, Fail> {
-    let file = file_state(rt, &way.spool, way.file);
+fn states<R: Abort>(rt: &R, alloc: Global, spool: &Spool, way: &Way) -> Result<String, Fail> {
+    let file = file_state(rt, spool, way.file);
     let text = match way.sender {
         Sender::Idle => format!(in alloc; "idle {file}")?,
         Sender::Requested(_) => format!(in alloc; "requested {file}")?,
@@ -280,10 +300,10 @@ fn next<R: Abort>(
 }
 
 /// Whether the file goes by a line.
-fn goes<R: Abort>(rt: &R, way: &Way, line: u16) -> &'static str {
-    assert!(rt; !way.tables.customers().is_empty());
-    assert!(rt; 0 < way.spool.customers());
-    if goes_by(way.tables.customer(0), line, 0, way.file, &way.spool) {
+fn goes<R: Abort>(rt: &R, tables: &Tables, spool: &Spool, file: FileId, line: u16) -> &'static str {
+    assert!(rt; !tables.customers().is_empty());
+    assert!(rt; 0 < spool.customers());
+    if goes_by(tables.customer(0), line, 0, file, spool) {
         "yes"
     } else {
         "no"
@@ -297,48 +317,44 @@ fn retry<R: Abort>(rt: &R, tables: &Tables, spool: &mut Spool, line: u16) {
 }
 
 /// What a line of a case gives.
-fn given<R: Abort>(rt: &R, alloc: Global, way: &mut Way, what: &str) -> Result<String, Fail> {
+fn given<R: Abort>(
+    rt: &R,
+    alloc: Global,
+    tables: &Tables,
+    spool: &mut Spool,
+    way: &mut Way,
+    what: &str,
+) -> Result<String, Fail> {
     match what {
-        "next" => next(rt, alloc, &mut way.sender, &mut way.spool),
-        "goes by 0" => Ok(String::from_str(alloc, goes(rt, way, 0))?),
-        "goes by 1" => Ok(String::from_str(alloc, goes(rt, way, 1))?),
+        "next" => next(rt, alloc, &mut way.sender, spool),
+        "goes by 0" => Ok(String::from_str(alloc, goes(rt, tables, spool, way.file, 0))?),
+        "goes by 1" => Ok(String::from_str(alloc, goes(rt, tables, spool, way.file, 1))?),
         "retry 0" => {
-            retry(rt, &way.tables, &mut way.spool, 0);
-            states(rt, alloc, way)
+            retry(rt, tables, spool, 0);
+            states(rt, alloc, spool, way)
         }
         "retry 1" => {
-            retry(rt, &way.tables, &mut way.spool, 1);
-            states(rt, alloc, way)
+            retry(rt, tables, spool, 1);
+            states(rt, alloc, spool, way)
         }
         _ => {
-            act(rt, &mut way.sender, &mut way.spool, way.file, what)?;
-            states(rt, alloc, way)
+            act(rt, &mut way.sender, spool, way.file, what)?;
+            states(rt, alloc, spool, way)
         }
     }
-}
-
-/// Plays each of the cases, which are parted by empty lines.
-fn play<R: Abort>(rt: &R, alloc: Global, cases: &str) -> Result<(), Fail> {
-    for case in cases.trim().split("\n\n") {
-        let (state, lines) = case.split_once("\n").ok_or("an empty case")?;
-        let mut way = opened(rt, alloc, state)?;
-        go(rt, alloc, &mut way, lines)?;
-    }
-    Ok(())
-}
-
-/// The lines of a case.
-fn go<R: Abort>(rt: &R, alloc: Global, way: &mut Way, lines: &str) -> Result<(), Fail> {
-    for line in lines.lines() {
-        goes_on(rt, alloc, way, line)?;
-    }
-    Ok(())
 }
 
 /// A line of a case.
-fn goes_on<R: Abort>(rt: &R, alloc: Global, way: &mut Way, line: &str) -> Result<(), Fail> {
+fn goes_on<R: Abort>(
+    rt: &R,
+    alloc: Global,
+    tables: &Tables,
+    spool: &mut Spool,
+    way: &mut Way,
+    line: &str,
+) -> Result<(), Fail> {
     let (what, want) = line.split_once(" = ").ok_or("a line without =")?;
-    let found = given(rt, alloc, way, what)?;
+    let found = given(rt, alloc, tables, spool, way, what)?;
     is_wanted(rt, alloc, found.as_str(), want, line)
 }
 
