@@ -4,6 +4,8 @@ use Rattle.njh_program.specs.declared.failure.Failure.{Failure}
 use Rattle.njh_program.specs.declared.failure.Failure.TheVariants.{Arguments, Tables, Replay}
 use Rattle.njh_program.specs.declared.fault.ReplayFault.TheVariants.{TooLong, Script, Device, Hub}
 use Rattle.njh_hub.specs.declared.fault.HubFault.TheVariants as hub
+use Rattle.njh_serve.specs.declared.fault.ServeFault.{ServeFault}
+use Rattle.njh_serve.specs.declared.fault.ServeFault.TheVariants as serve
 use Rattle.njh_table.specs.declared.fault.TableFault.{TableFault}
 use Rattle.njh_table.specs.declared.fault.TableFault.TheVariants.{Memory}
 
@@ -29,6 +31,11 @@ status_after (Err failure) = status_of failure
 -- out of memory, outside a replay
 abbrev pub no_memory : Failure
 no_memory = Replay (Hub hub.Memory)
+
+-- why lines weren't served
+abbrev pub failure_of : ServeFault → Failure
+failure_of serve.Device = Replay Device
+failure_of serve.Memory = no_memory
 
 -- an error becomes this failure, but out of memory where its kind says that
 abbrev pub Becomes : {Kind : Type 0} → (kind memory : Kind) → Failure → Failure → Type 0

@@ -3,11 +3,12 @@
 ghost use Rattle.std.specs.Prelude.{◌≡◌};
 ghost use Rattle.std.specs.IoError.{error_kind};
 ghost use Rattle.clap.specs.Words.{kind_of};
-ghost use Rattle.njh_program.specs.Status.{status_of, no_memory, Becomes};
+ghost use Rattle.njh_program.specs.Status.{status_of, no_memory, failure_of, Becomes};
 
 use crate::fault::ReplayFault;
 use clap::error::ErrorKind;
 use njh_hub::HubFault;
+use njh_serve::ServeFault;
 use njh_table::TableFault;
 use std::alloc::{AllocError, AllocFailed};
 use std::{fmt, io};
@@ -83,6 +84,17 @@ impl From<ReplayFault> for Failure {
 
     fn from(fault: ReplayFault) -> Failure {
         Failure::Replay(fault)
+    }
+}
+
+impl From<ServeFault> for Failure {
+    ghost from_gives = { λ fault failure. failure ≡ failure_of fault };
+
+    fn from(fault: ServeFault) -> Failure {
+        match fault {
+            ServeFault::Device => Failure::Replay(ReplayFault::Device),
+            ServeFault::Memory => Failure::from(AllocError),
+        }
     }
 }
 

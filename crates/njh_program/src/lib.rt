@@ -15,8 +15,6 @@ mod printer;
 mod program;
 mod replaying;
 mod script;
-mod serving;
-mod socket_wire;
 mod table_file;
 
 pub use arguments::{Request, request_of};
@@ -25,6 +23,4 @@ pub use fault::ReplayFault;
 pub use program::{carry_out, end, run};
 pub use replaying::replay;
 pub use script::LIMIT;
-pub use serving::serve;
-pub use socket_wire::{SocketWire, listen};
 pub use table_file::tables_of;

@@ -9,8 +9,8 @@ ghost use Rattle.njh_program.specs.Status.{status_after, status_of};
 use crate::arguments::{Request, not_utf8, request_of};
 use crate::failure::Failure;
 use crate::replaying::replay;
-use crate::serving::serve;
 use crate::table_file::tables_of;
+use njh_serve::serve;
 use std::convert::AsStr;
 use std::io::{BufWriter, ErrorKind, Read, Write};
 use std::net::Net;
@@ -79,6 +79,10 @@ pub fn carry_out<F: Files + Net + AllocGlobal, S: AsStr, R: Read, W: Write>(
             replay(rt.alloc(), tables, script, out)?;
             Ok(())
         }
-        Request::Serve { tables, turns } => serve(rt, tables_of(rt, Some(tables))?, turns),
+        Request::Serve { tables, turns } => {
+            let tables = tables_of(rt, Some(tables))?;
+            serve(rt, tables, turns)?;
+            Ok(())
+        }
     }
 }

@@ -1,42 +1,41 @@
 //! A wire on a socket.
 
-ghost use Rattle.std.specs.Prelude.{◌≡◌, ◌≤◌, OnOk, IfOk, length};
+ghost use Rattle.std.specs.Prelude.{◌≡◌, ◌≤◌, IfOk, length};
 ghost use Rattle.std.specs.Io.{ReadsAtMost};
+ghost use Rattle.njh_hub.specs.Sent.{IsCounted};
+ghost use Rattle.njh_hub.specs.Wires.{IsReading};
 
+use crate::stream::{is_wait, read_within, set_up, write_whole};
+use crate::waits::Waits;
 use njh_hub::{Reading, Wire, WireFault};
-use std::cell::Cell;
 use std::io;
 use std::io::{ErrorKind, Read, Write};
 use std::net::{Net, OpenListener, OpenStream, TcpListener};
-use std::time::Duration;
-
-/// How long all lines wait for bytes in a turn, and how long a write may stand still, in milliseconds.
-const WAIT: u32 = 100;
 
 /// A wire on a port of this machine, with one connection at a time.
 ///
-/// A read takes a waiting connection where there is none. All wires share how many are connected, since a turn's wait is parted
-/// among these. A connection that fails or is closed is dropped, and the next read may take another.
+/// A read takes a waiting connection where there is none. A connection that fails or is closed is dropped, and the next read may
+/// take another.
 #[derive(Drop)]
 pub struct SocketWire<'a, L: Drop, S: Drop> {
     listener: L,
     stream: Option<S>,
-    connected: &'a Cell<u32>,
+    waits: &'a Waits,
     failures: u64,
 }
 
-/// Listens on a port of 127.0.0.1. Nobody is connected yet.
+/// Listens on a port of 127.0.0.1, or on any that is free where that is 0. Nobody is connected yet.
 pub fn listen<'a, R: Net>(
     net: &R,
     port: u16,
-    connected: &'a Cell<u32>,
+    waits: &'a Waits,
 ) -> io::Result<SocketWire<'a, R::Listener, R::Stream>> {
     let listener = TcpListener::bind(net, ("127.0.0.1", port))?;
     listener.set_nonblocking(true)?;
     Ok(SocketWire {
         listener,
         stream: None,
-        connected,
+        waits,
         failures: 0,
     })
 }
@@ -51,6 +50,25 @@ impl<'a, S: OpenStream + Read + Write + Drop, L: OpenListener<Stream = S> + Drop
         Ok(self.listener.local_addr()?.port())
     }
 
+    /// Reads once, from a connection that is taken first where there is none. One that is closed is dropped.
+    fn receive(&mut self, into: &mut [u8]) -> io::Result<Reading>
+        ensures same { self.new.failures ≡ self.old.failures }
+        ensures within { IfOk result (IsReading (length into.new)) }
+    {
+        if !self.connect()? {
+            return Ok(Reading::Absent);
+        }
+        match self.read_stream(into) {
+            Ok(0) => {
+                self.hang_up();
+                Ok(Reading::Closed)
+            }
+            Ok(count) => Ok(Reading::Bytes(count)),
+            Err(error) if is_wait(error.kind()) => Ok(Reading::Quiet),
+            Err(error) => Err(error),
+        }
+    }
+
     /// Takes a waiting connection where there is none. Answers whether there is one then.
     fn connect(&mut self) -> io::Result<bool>
         ensures { self.new.failures ≡ self.old.failures }
@@ -59,40 +77,51 @@ impl<'a, S: OpenStream + Read + Write + Drop, L: OpenListener<Stream = S> + Drop
             return Ok(true);
         }
         match self.listener.accept() {
-            Ok((stream, _)) => {
-                stream.set_write_timeout(Some(Duration::from_millis(u64::from(WAIT))))?;
-                self.stream = Some(stream);
-                self.connected.set(self.connected.get().saturating_add(1));
-                Ok(true)
-            }
+            Ok((stream, _)) => self.admit(stream),
             Err(error) if is_wait(error.kind()) => Ok(false),
             Err(error) => Err(error),
         }
     }
 
-    /// Waits for bytes, for this wire's part of a turn's wait, which is a millisecond at least.
-    fn receive(&mut self, into: &mut [u8]) -> io::Result<usize>
+    /// Keeps a connection.
+    fn admit(&mut self, stream: S) -> io::Result<bool>
+        ensures { self.new.failures ≡ self.old.failures }
+    {
+        set_up(&stream)?;
+        self.stream = Some(stream);
+        self.waits.connected();
+        Ok(true)
+    }
+
+    /// Reads once from the connection, for as long as this wire is to wait.
+    fn read_stream(&mut self, into: &mut [u8]) -> io::Result<usize>
         ensures same { self.new.failures ≡ self.old.failures }
         ensures within { ReadsAtMost result into.new }
     {
-        let wait = (WAIT / self.connected.get().max(1)).max(1);
+        let wait = self.waits.take();
         match &mut self.stream {
-            Some(stream) => {
-                stream.set_read_timeout(Some(Duration::from_millis(u64::from(wait))))?;
-                stream.read(into)
-            }
+            Some(stream) => read_within(stream, wait, into),
             None => Err(io::Error::from(ErrorKind::NotConnected)),
         }
     }
 
-    /// Sends all bytes. A write that stands still for too long fails.
-    fn send(&mut self, frame: &[u8]) -> io::Result<()>
+    /// Writes all bytes to the connection.
+    fn write_stream(&mut self, frame: &[u8]) -> io::Result<()>
         ensures { self.new.failures ≡ self.old.failures }
     {
         match &mut self.stream {
-            Some(stream) => stream.write_all(frame),
+            Some(stream) => write_whole(stream, frame),
             None => Err(io::Error::from(ErrorKind::NotConnected)),
         }
+    }
+
+    /// Counts a failure and drops the connection.
+    fn fail(&mut self)
+        ensures counts { self.old.failures ≤ self.new.failures }
+        ensures counted { IsCounted self.old.failures self.new.failures }
+    {
+        self.hang_up();
+        self.failures = self.failures.saturating_add(1);
     }
 
     /// Drops the connection, if there is one.
@@ -100,7 +129,7 @@ impl<'a, S: OpenStream + Read + Write + Drop, L: OpenListener<Stream = S> + Drop
         ensures { self.new.failures ≡ self.old.failures }
     {
         if self.stream.is_some() {
-            self.connected.set(self.connected.get().saturating_sub(1));
+            self.waits.gone();
         }
         self.stream = None;
     }
@@ -124,45 +153,22 @@ impl<'a, S: OpenStream + Read + Write + Drop, L: OpenListener<Stream = S> + Drop
     }
 
     fn read(&mut self, into: &mut [u8]) -> Result<Reading, WireFault> {
-        match self.connect() {
-            Ok(true) => {}
-            Ok(false) => return Ok(Reading::Absent),
-            Err(_) => {
-                self.failures = self.failures.saturating_add(1);
-                return Err(WireFault);
-            }
-        }
         match self.receive(into) {
-            Ok(0) => {
-                self.hang_up();
-                Ok(Reading::Closed)
-            }
-            Ok(count) => Ok(Reading::Bytes(count)),
-            Err(error) if is_wait(error.kind()) => Ok(Reading::Quiet),
+            Ok(reading) => Ok(reading),
             Err(_) => {
-                self.hang_up();
-                self.failures = self.failures.saturating_add(1);
+                self.fail();
                 Err(WireFault)
             }
         }
     }
 
     fn write(&mut self, frame: &[u8]) -> Result<(), WireFault> {
-        match self.send(frame) {
+        match self.write_stream(frame) {
             Ok(()) => Ok(()),
             Err(_) => {
-                self.hang_up();
-                self.failures = self.failures.saturating_add(1);
+                self.fail();
                 Err(WireFault)
             }
         }
-    }
-}
-
-/// Nothing came in time, or nobody was there; a later call may find more.
-fn is_wait(kind: ErrorKind) -> bool {
-    match kind {
-        ErrorKind::WouldBlock | ErrorKind::TimedOut | ErrorKind::Interrupted => true,
-        _ => false,
     }
 }

@@ -1,0 +1,16 @@
+//! Serves the lines of tables on sockets of this machine.
+#![tactic(auto)]
+
+mod fault;
+mod listening;
+mod ports;
+mod serving;
+mod socket_wire;
+mod stream;
+mod waits;
+
+pub use fault::ServeFault;
+pub use ports::{Port, ports_of};
+pub use serving::{serve, serve_ports};
+pub use socket_wire::{SocketWire, listen};
+pub use waits::Waits;

@@ -1,0 +1,120 @@
+//! A hub with four lines, served over any wires.
+
+ghost use Rattle.std.specs.Prelude.{All, IfOk};
+ghost use Rattle.njh_hub.specs.Whole.{HasLine};
+
+use njh_hub::{Hub, Wire, serve_turns};
+use njh_table::{LineId, Tables};
+use std::alloc::{AllocError, Global};
+use std::process::Abort;
+use std::test::Fail;
+
+/// Two customers with two lines each: the first to LYON, the second to METZ and to PARIS.
+const TABLES: &str = r#"
+capacity = 200
+[[customer]]
+name = "ACME"
+hub = "BUREAU"
+quota = 100
+files = 8
+line = [
+  { name = "a1", node = "LYON", role = "answer", block = 1024, streams = 4, port = 2 },
+  { name = "a2", node = "METZ", role = "answer", block = 1024, streams = 4 },
+]
+route = [{ node = "LYON", line = "a1" }, { node = "METZ", line = "a2" }]
+[[customer]]
+name = "BOLT"
+hub = "BUREAU"
+quota = 100
+files = 8
+line = [
+  { name = "b1", node = "LYON", role = "answer", block = 1024, streams = 4 },
+  { name = "b2", node = "PARIS", role = "answer", block = 1024, streams = 4, port = 7 },
+]
+route = [{ node = "LYON", line = "b1" }, { node = "PARIS", line = "b2" }]
+"#;
+
+/// Their lines.
+pub const LINES: [LineId; 4] = [
+    LineId {
+        customer: 0,
+        line: 0,
+    },
+    LineId {
+        customer: 0,
+        line: 1,
+    },
+    LineId {
+        customer: 1,
+        line: 0,
+    },
+    LineId {
+        customer: 1,
+        line: 1,
+    },
+];
+
+/// A peer makes contact, LYON signs on, and ANNA there asks for LIST.
+pub static ASKED: [u8; 93] =
+    *b"\x01\x2d\x10\x02\xa0\x8f\xcf\xf0\xc9\x29\xd3\xe8\xd6\xd5\x40\x40\x40\x40\x01\x00\x00\x00\x00\x00\
+    \x00\x04\x00\x40\x40\x40\x40\x40\x40\x40\x40\x40\x40\x40\x40\x40\x40\x40\x40\x00\x00\x00\x00\x00\
+    \x00\x10\x26\x10\x02\x80\x8f\xcf\x9a\x80\xca\xa0\x77\x00\x04\xc2\xe4\xd9\xc5\xc1\xe4\x82\xc5\x00\
+    \xc1\xd5\xd5\xc1\x84\xc4\xd3\xe8\xd6\xd5\x84\xc5\x00\xd3\xc9\xe2\xe3\x00\x00\x10\x26";
+
+/// ACK0, the sign-on of the hub, and that there are no files.
+pub static TOLD: [u8; 103] =
+    *b"\x10\x70\x10\x02\xa0\x8f\xcf\xf0\xd1\x29\xc2\xe4\xd9\xc5\xc1\xe4\x40\x40\x01\x00\x00\x00\x00\x00\
+    \x00\x04\x00\x40\x40\x40\x40\x40\x40\x40\x40\x40\x40\x40\x40\x40\x40\x40\x40\x00\x00\x00\x00\x00\
+    \x00\x10\x26\x10\x02\x80\x8f\xcf\x9a\x80\xc8\x20\x77\x00\x0e\xd3\xe8\xd6\xd5\x84\xc5\x00\xc1\xd5\
+    \xd5\xc1\x84\xc6\xc2\xe4\xd9\xc5\xc1\xe4\x82\xcf\x00\xd5\xd1\xc8\xf0\xf0\xf2\x40\xf0\x40\xc6\xc9\
+    \xd3\xc5\xe2\x00\x00\x10\x26";
+
+/// The tables.
+pub fn tables(alloc: Global) -> Result<Tables, Fail> {
+    Ok(Tables::read(alloc, TABLES)?)
+}
+
+/// A hub of these tables.
+fn opened(alloc: Global) -> Result<Hub, Fail> {
+    let tables = tables(alloc)?;
+    Ok(Hub::open(alloc, tables)?)
+}
+
+/// So many turns of wires of the first lines, on a hub that is opened for them.
+pub fn serve<W: Wire, R: Abort>(
+    rt: &R,
+    alloc: Global,
+    wires: &mut [W],
+    turns: u32,
+) -> Result<(), Fail> {
+    let mut hub = opened(alloc)?;
+    serve_on(rt, alloc, &mut hub, wires, turns)
+}
+
+/// So many turns of wires of a hub's first lines.
+fn serve_on<W: Wire, R: Abort>(
+    rt: &R,
+    alloc: Global,
+    hub: &mut Hub,
+    wires: &mut [W],
+    turns: u32,
+) -> Result<(), Fail> {
+    assert!(rt; wires.len() <= LINES.len());
+    let known = known_lines(alloc, hub, &LINES[..wires.len()])?;
+    assert_eq!(rt; known.len(), wires.len());
+    serve_turns(alloc, hub, wires, &known, turns)?;
+    Ok(())
+}
+
+/// Those of some lines that a hub has.
+fn known_lines(alloc: Global, hub: &Hub, lines: &[LineId]) -> Result<Vec<LineId>, AllocError>
+    ensures { IfOk result (λ known. All (HasLine hub.now) known.items) }
+{
+    let mut known = Vec::new(alloc);
+    for line in lines {
+        if hub.is_line(*line) {
+            known.push(*line)?;
+        }
+    }
+    Ok(known)
+}
