@@ -3,7 +3,7 @@
 ghost use Rattle.std.specs.Prelude.{◌<◌, ◌≤◌, length};
 
 use crate::Streams;
-use njh_command::obey;
+use njh_command::{Replies, obey};
 use njh_ebcdic::{Name, byte_of, text_of};
 use njh_record::{Kind, Record};
 use njh_spool::{FileId, Quota, Spool, State};
@@ -297,7 +297,8 @@ impl Bench {
     ) -> Result<String, Fail> {
         assert!(rt; customer < 2);
         let message = ebcdic(alloc, message)?;
-        let replies = obey(
+        let mut replies = Replies::new();
+        obey(
             &message,
             Name::of_text("LYON")?,
             user,
@@ -305,6 +306,7 @@ impl Bench {
             &self.tables,
             &mut self.spool,
             &mut self.streams,
+            &mut replies,
         );
         let mut shown = String::new(alloc);
         for text in replies.texts() {
