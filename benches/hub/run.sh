@@ -40,6 +40,27 @@ row() {
   printf '%-9s %8s %8s %8s %8s   %s\n' "$1" "$large" "$small" "$2" "$3" "$note"
 }
 
+# The instructions of a whole run of a row's script of so many bytes, and how many lines the script has.
+whole() {
+  python3 "$here/scripts.py" . "$1" "$2"
+  valgrind --tool=callgrind --callgrind-out-file=/dev/null "$program" replay --tables "$1.toml" < "$1.script" \
+    2> told > /dev/null || { cat told; exit 1; }
+  echo "$(awk '/Collected/ { print $NF }' told) $(wc -l < "$1.script")"
+}
+
+# What a block without records costs while 1,024 files are Ready for a line that is down.
+waiting() {
+  read -r few_cost few_lines <<< "$(whole waiting 280000)"
+  read -r many_cost many_lines <<< "$(whole waiting 290000)"
+  echo "a block beside 1,024 waiting files: $(((many_cost - few_cost) / (many_lines - few_lines))) instructions"
+}
+
+# How long it takes to start with the largest tables, and how much memory is touched.
+starting() {
+  python3 "$here/scripts.py" . largest 0
+  /usr/bin/time -f 'the largest tables: %e s, %M kB' "$program" replay --tables largest.toml < /dev/null
+}
+
 printf '%-9s %8s %8s %8s %8s\n' row '1 MB' '250 kB' 'at most' plain
 # A block of records on the other line; the reply of LIST; both; a block without records or ACK0; B0 to SYSIN 2.
 row cards 28 18 '^a2 1002.\{1000\}'
@@ -47,3 +68,5 @@ row commands 280 186 d5d1c8f0f0f140
 row mixed 38 25 d5d1c8f0f0f140 '^c0x2 1002.\{300\}'
 row empty 65 43 '^a1 1070'
 row ignored 25 11 '^a1 1002.*b0a800'
+waiting
+starting 2>&1

@@ -1,11 +1,15 @@
 #!/usr/bin/env python3
 """Writes the script of a row, and the table file that it is for, into a folder: scripts.py FOLDER ROW BYTES.
 
-A row is one of ROWS below. A script has the bytes that are asked for, to within a line.
+A row is one of ROWS below. A script has the bytes that are asked for, to within a line. Of the row `largest` there is a
+table file alone, with as much in it as may be.
 """
 import sys
 
-ROWS = ["cards", "commands", "mixed", "empty", "ignored"]
+ROWS = ["cards", "commands", "mixed", "empty", "ignored", "waiting"]
+
+# How many files wait for a line that is down, in the row `waiting`.
+WAITING = 1024
 
 LETTERS = {"@": 0x7C, "#": 0x7B, "$": 0x5B, " ": 0x40, ".": 0x4B}
 LETTERS.update({chr(65 + n): 0xC1 + n for n in range(9)})
@@ -202,6 +206,20 @@ def customer_lines(customer):
     return [Line(f"{customer}{n + 1}", NODES[n]) for n in range(4)]
 
 
+def largest():
+    """A table file of 64 customers, 256 lines and 32,768 routes, and quotas of 65,535 blocks each."""
+    rows = ["capacity = 4194240"]
+    for customer in range(64):
+        rows += ["[[customer]]", f'name = "C{customer}"', 'hub = "BUREAU"', "quota = 65535", "files = 1024"]
+        for line in range(4):
+            rows += ["[[customer.line]]", f'name = "c{customer}x{line}"', f'node = "N{line}"']
+            rows += ['role = "answer"', "block = 4096", "streams = 4"]
+        for route in range(512):
+            node = f"N{route}" if route < 4 else f"R{route}"
+            rows += ["[[customer.route]]", f'node = "{node}"', f'line = "c{customer}x{route % 4}"']
+    return "\n".join(rows) + "\n"
+
+
 def script(row):
     """The customers of a row, the events at first, and those that follow without end."""
     a = customer_lines("a")
@@ -232,10 +250,16 @@ def script(row):
         return one, a[0].sign_on(), empty(a[0])
     if row == "ignored":
         return one, a[0].sign_on(), ignored(a[0])
+    if row == "waiting":
+        return one, a[0].sign_on() + stored(a[0], "ANNA", "METZ", WAITING), empty(a[0])
     raise SystemExit(f"no such row: {row}")
 
 
 def main(folder, row, size):
+    if row == "largest":
+        with open(f"{folder}/{row}.toml", "w", encoding="ascii") as out:
+            out.write(largest())
+        return
     customers, first, then = script(row)
     written = 0
     with open(f"{folder}/{row}.script", "w", encoding="ascii") as out:

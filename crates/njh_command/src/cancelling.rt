@@ -20,17 +20,18 @@ pub(crate) fn cancel_files<S: Senders>(
     spool: &mut Spool,
     customer: u16,
     senders: &mut S,
-) -> Replies
+    replies: &mut Replies,
+)
     requires { customer < length spool.old }
-    ensures replies { result ≡ (cancelling (chosen choice.now.who choice.now.name) choice.now.name (part customer spool.old)).replies }
+    ensures replies { replies.new ≡ (cancelling (chosen choice.now.who choice.now.name) choice.now.name (part customer spool.old)).replies }
     ensures spool { spool.new ≡ slice_set spool.old customer
         (cancelling (chosen choice.now.who choice.now.name) choice.now.name (part customer spool.old)).spool }
     ensures senders { senders.new ≡ fold (λ x n. S.each x (without_file n)) senders.old
         (cancelling (chosen choice.now.who choice.now.name) choice.now.name (part customer spool.old)).cancelled }
 {
     match cancel_each(choice, spool, customer, senders) {
-        0 => Replies::one(not_found(choice.name)),
-        count => Replies::one(cancelled(choice.name, count)),
+        0 => replies.put_one(not_found(choice.name)),
+        count => replies.put_one(cancelled(choice.name, count)),
     }
 }
 

@@ -50,27 +50,28 @@ pub(crate) fn change_files(
     choice: &Choice,
     spool: &mut Spool,
     customer: u16,
-) -> Replies
+    replies: &mut Replies,
+)
     requires { customer < length spool.old }
-    ensures replies { result ≡ change_replies (text_of change.now choice.now.name) choice.now.name
+    ensures replies { replies.new ≡ change_replies (text_of change.now choice.now.name) choice.now.name
         (count (is_idle (chosen choice.now.who choice.now.name)) (part customer spool.old))
         (count (is_busy (chosen choice.now.who choice.now.name)) (part customer spool.old)) }
     ensures spool { spool.new ≡ slice_set spool.old customer
         (changed (chosen choice.now.who choice.now.name) (change_by change.now) (part customer spool.old)) }
 {
     let counts = change_each(change, choice, spool, customer);
-    replies_to(change, choice.name, counts)
+    reply_to(change, choice.name, counts, replies);
 }
 
 /// What is said where so many files were changed and left.
-fn replies_to(change: &Change, name: FileName, counts: Counts) -> Replies
-    ensures { result ≡ change_replies (text_of change.now name) name counts.idle counts.busy }
+fn reply_to(change: &Change, name: FileName, counts: Counts, replies: &mut Replies)
+    ensures { replies.new ≡ change_replies (text_of change.now name) name counts.idle counts.busy }
 {
     match (counts.idle, counts.busy) {
-        (0, 0) => Replies::one(not_found(name)),
-        (0, _) => Replies::one(being_sent(name)),
-        (idle, 0) => Replies::one(done(change, name, idle)),
-        (idle, _) => Replies::two(done(change, name, idle), being_sent(name)),
+        (0, 0) => replies.put_one(not_found(name)),
+        (0, _) => replies.put_one(being_sent(name)),
+        (idle, 0) => replies.put_one(done(change, name, idle)),
+        (idle, _) => replies.put_two(done(change, name, idle), being_sent(name)),
     }
 }
 

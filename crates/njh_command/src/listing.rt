@@ -19,11 +19,11 @@ use njh_record::Kind;
 use njh_spool::Spool;
 
 /// Tells of each of a user's files, and then of how many they are.
-pub(crate) fn list_files(who: User, spool: &Spool, customer: u16) -> Replies
+pub(crate) fn list_files(who: User, spool: &Spool, customer: u16, replies: &mut Replies)
     requires { customer < length spool.now }
-    ensures { result ≡ kept (listing who (part customer spool.now)) }
+    ensures { replies.new ≡ kept (listing who (part customer spool.now)) }
 {
-    let mut replies = Replies::new();
+    replies.clear();
     let mut count = 0;
     for index in 0..spool.files(customer) {
         if let Some(text) = line_at(who, spool, customer, index) {
@@ -32,7 +32,6 @@ pub(crate) fn list_files(who: User, spool: &Spool, customer: u16) -> Replies
         }
     }
     replies.add(files_line(count));
-    replies
 }
 
 /// Tells of the file at a place, where it is the user's own. Of the file the headers alone are read.

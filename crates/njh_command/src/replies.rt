@@ -25,7 +25,8 @@ impl Model for Replies {
 }
 
 impl Replies {
-    pub(crate) fn new() -> Self
+    /// No replies yet. They take ten thousand bytes, so a caller makes room for them once, and lends it to each command.
+    pub fn new() -> Self
         ensures { result ≡ [] }
     {
         Replies {
@@ -33,23 +34,28 @@ impl Replies {
         }
     }
 
-    /// One reply.
-    pub(crate) fn one(text: MessageText) -> Self
-        ensures { result ≡ text.items ∷ [] }
+    /// None, in the place of those that there were.
+    pub(crate) fn clear(&mut self)
+        ensures { self.new ≡ [] }
     {
-        let mut texts = ArrayVec::new();
-        texts.push(text);
-        Replies { texts }
+        self.texts.clear();
     }
 
-    /// Two replies.
-    pub(crate) fn two(first: MessageText, second: MessageText) -> Self
-        ensures { result ≡ first.items ∷ second.items ∷ [] }
+    /// One reply, in the place of those that there were.
+    pub(crate) fn put_one(&mut self, text: MessageText)
+        ensures { self.new ≡ text.items ∷ [] }
     {
-        let mut texts = ArrayVec::new();
-        texts.push(first);
-        texts.push(second);
-        Replies { texts }
+        self.texts.clear();
+        self.texts.push(text);
+    }
+
+    /// Two replies, in the place of those that there were.
+    pub(crate) fn put_two(&mut self, first: MessageText, second: MessageText)
+        ensures { self.new ≡ first.items ∷ second.items ∷ [] }
+    {
+        self.texts.clear();
+        self.texts.push(first);
+        self.texts.push(second);
     }
 
     /// One reply more, where there is room.

@@ -27,10 +27,11 @@ pub fn obey<S: Senders>(
     tables: &Tables,
     spool: &mut Spool,
     senders: &mut S,
-) -> Replies
+    replies: &mut Replies,
+)
     requires known { customer < length tables.now.customers }
     requires range { customer < length spool.old }
-    ensures replies { result
+    ensures replies { replies.new
         ≡ (commanded (entry_of (customer_at tables.now customer)) (from, user) message.now (part customer spool.old)).replies }
     ensures spool { spool.new ≡ slice_set spool.old customer
         (commanded (entry_of (customer_at tables.now customer)) (from, user) message.now (part customer spool.old)).spool }
@@ -38,8 +39,10 @@ pub fn obey<S: Senders>(
         (commanded (entry_of (customer_at tables.now customer)) (from, user) message.now (part customer spool.old)).cancelled }
 {
     match Command::read(message) {
-        Ok(command) => run(command, from, user, customer, tables, spool, senders),
-        Err(_) => Replies::one(bad_command()),
+        Ok(command) => run(
+            command, from, user, customer, tables, spool, senders, replies,
+        ),
+        Err(_) => replies.put_one(bad_command()),
     }
 }
 
@@ -53,10 +56,11 @@ pub fn run<S: Senders>(
     tables: &Tables,
     spool: &mut Spool,
     senders: &mut S,
-) -> Replies
+    replies: &mut Replies,
+)
     requires known { customer < length tables.now.customers }
     requires range { customer < length spool.old }
-    ensures replies { result
+    ensures replies { replies.new
         ≡ (obeyed (entry_of (customer_at tables.now customer)) (from, user) command (part customer spool.old)).replies }
     ensures spool { spool.new ≡ slice_set spool.old customer
         (obeyed (entry_of (customer_at tables.now customer)) (from, user) command (part customer spool.old)).spool }
@@ -65,14 +69,37 @@ pub fn run<S: Senders>(
 {
     let who = User { node: from, user };
     match command {
-        Command::List => list_files(who, spool, customer),
-        Command::Hold(name) => change_files(&Change::Hold, &Choice { who, name }, spool, customer),
-        Command::Release(name) => {
-            change_files(&Change::Release, &Choice { who, name }, spool, customer)
+        Command::List => list_files(who, spool, customer, replies),
+        Command::Hold(name) => {
+            change_files(
+                &Change::Hold,
+                &Choice { who, name },
+                spool,
+                customer,
+                replies,
+            )
         }
-        Command::Cancel(name) => cancel_files(&Choice { who, name }, spool, customer, senders),
+        Command::Release(name) => {
+            change_files(
+                &Change::Release,
+                &Choice { who, name },
+                spool,
+                customer,
+                replies,
+            )
+        }
+        Command::Cancel(name) => {
+            cancel_files(&Choice { who, name }, spool, customer, senders, replies)
+        }
         Command::Reroute(name, node) => {
-            reroute_files(&Choice { who, name }, node, customer, tables, spool)
+            reroute_files(
+                &Choice { who, name },
+                node,
+                customer,
+                tables,
+                spool,
+                replies,
+            )
         }
     }
 }
@@ -84,10 +111,11 @@ fn reroute_files(
     customer: u16,
     tables: &Tables,
     spool: &mut Spool,
-) -> Replies
+    replies: &mut Replies,
+)
     requires known { customer < length tables.now.customers }
     requires range { customer < length spool.old }
-    ensures replies { result
+    ensures replies { replies.new
         ≡ (rerouted_by (entry_of (customer_at tables.now customer)) node choice.now.who choice.now.name (part customer spool.old)).replies }
     ensures spool { spool.new ≡ slice_set spool.old customer
         (rerouted_by (entry_of (customer_at tables.now customer)) node choice.now.who choice.now.name (part customer spool.old)).spool }
@@ -95,22 +123,22 @@ fn reroute_files(
     match tables.route(customer, node) {
         Route::Here => {
             let hub = tables.customer(customer).hub();
-            refused(choice, no_files_for(hub), spool, customer)
+            refused(choice, no_files_for(hub), spool, customer, replies)
         }
-        Route::Line(_) => change_files(&Change::Reroute(node), choice, spool, customer),
-        Route::Unknown => refused(choice, node_unknown(node), spool, customer),
+        Route::Line(_) => { change_files(&Change::Reroute(node), choice, spool, customer, replies) }
+        Route::Unknown => refused(choice, node_unknown(node), spool, customer, replies),
     }
 }
 
 /// Why the files don't go there, or that there are none.
-fn refused(choice: &Choice, text: MessageText, spool: &Spool, customer: u16) -> Replies
+fn refused(choice: &Choice, text: MessageText, spool: &Spool, customer: u16, replies: &mut Replies)
     requires { customer < length spool.now }
-    ensures { result ≡ where_found (count (chosen choice.now.who choice.now.name) (part customer spool.now))
+    ensures { replies.new ≡ where_found (count (chosen choice.now.who choice.now.name) (part customer spool.now))
         choice.now.name (text.items ∷ []) }
 {
     match count_files(choice, spool, customer) {
-        0 => Replies::one(not_found(choice.name)),
-        _ => Replies::one(text),
+        0 => replies.put_one(not_found(choice.name)),
+        _ => replies.put_one(text),
     }
 }
 

@@ -17,7 +17,7 @@ ghost use Rattle.njh_customer.specs.Waiting.{said, waits};
 
 use crate::customer_lines::CustomerLines;
 use njh_block::{Answer, Block, ControlRcb, Item, Rcb, Stream};
-use njh_command::obey;
+use njh_command::{Replies, obey};
 use njh_header::node_unknown;
 use njh_nmr::Nmr;
 use njh_record::Record;
@@ -171,6 +171,7 @@ fn take_message(
     tables: &Tables,
     spool: &mut Spool,
     lines: &mut CustomerLines,
+    replies: &mut Replies,
 )
     requires ready { IsReady tables.now line spool.old lines.old }
     ensures { Leads tables.now line.customer spool.old spool.new lines.new
@@ -179,7 +180,7 @@ fn take_message(
     match Nmr::read(bytes) {
         Ok(message) => {
             let route = tables.route(line.customer, message.to());
-            route_message(line, &message, route, tables, spool, lines);
+            route_message(line, &message, route, tables, spool, lines, replies);
         }
         Err(_) => {}
     }
@@ -193,6 +194,7 @@ fn route_message(
     tables: &Tables,
     spool: &mut Spool,
     lines: &mut CustomerLines,
+    replies: &mut Replies,
 )
     requires ready { IsReady tables.now line spool.old lines.old }
     ensures { (bytes : List ℕ) → record_of message.now ≡ cut_after_message bytes →
@@ -202,7 +204,7 @@ fn route_message(
     match route {
         Route::Here => {
             if message.is_user_command() {
-                command(line.customer, message, tables, spool, lines);
+                command(line.customer, message, tables, spool, lines, replies);
             }
         }
         Route::Line(other) => {
@@ -236,13 +238,14 @@ fn tell_unknown(customer: &Customer, message: &Nmr, lines: &mut CustomerLines)
     lines.say(customer, message.origin(), message.user(), &text);
 }
 
-/// A command of a user to the hub: the user is replied to.
+/// A command of a user to the hub: the user is replied to. `replies` is room for what is said.
 fn command(
     customer: u16,
     message: &Nmr,
     tables: &Tables,
     spool: &mut Spool,
     lines: &mut CustomerLines,
+    replies: &mut Replies,
 )
     requires known { customer < length tables.now.customers }
     requires spooled { customer < length spool.old }
@@ -251,7 +254,7 @@ fn command(
 {
     let node = message.origin();
     let user = message.user();
-    let replies = obey(
+    obey(
         message.message(),
         node,
         user,
@@ -259,8 +262,9 @@ fn command(
         tables,
         spool,
         lines,
+        replies,
     );
-    lines.say_all(tables.customer(customer), node, user, &replies);
+    lines.say_all(tables.customer(customer), node, user, replies);
 }
 
 /// A record that ends no session acts.
@@ -271,6 +275,7 @@ fn act(
     tables: &Tables,
     spool: &mut Spool,
     lines: &mut CustomerLines,
+    replies: &mut Replies,
 )
     requires ready { IsReady tables.now line spool.old lines.old }
     requires short { length bytes.now ≤ 256 }
@@ -280,7 +285,7 @@ fn act(
     match item {
         Item::Data { rcb, srcb } => {
             if rcb == Rcb::MESSAGE {
-                take_message(line, bytes, tables, spool, lines);
+                take_message(line, bytes, tables, spool, lines, replies);
             } else {
                 let stream = stream_at(line.line, rcb, lines);
                 arrive_where(
@@ -328,6 +333,7 @@ fn act_one(
     tables: &Tables,
     spool: &mut Spool,
     lines: &mut CustomerLines,
+    replies: &mut Replies,
 )
     requires ready { IsReady tables.now line spool.old lines.old }
     requires short { length bytes.now ≤ 256 }
@@ -336,7 +342,7 @@ fn act_one(
     ensures ready { IsReady tables.now line spool.new lines.new }
 {
     streams_stay_tied();
-    act(line, item, bytes, tables, spool, lines);
+    act(line, item, bytes, tables, spool, lines, replies);
 }
 
 /// The records of a block act in their order, up to one that ends the session. Says whether one did.
@@ -346,6 +352,7 @@ pub(crate) fn all_act(
     tables: &Tables,
     spool: &mut Spool,
     lines: &mut CustomerLines,
+    replies: &mut Replies,
 ) -> bool
     requires ready { IsReady tables.now line spool.old lines.old }
     ensures ended { result
@@ -360,7 +367,7 @@ pub(crate) fn all_act(
         if ends_session(&item) {
             return true;
         }
-        act_one(line, item, &record, tables, spool, lines);
+        act_one(line, item, &record, tables, spool, lines, replies);
     }
     false
 }

@@ -16,6 +16,7 @@ use crate::frame_buffer::FrameBuffer;
 use crate::signal::Signal;
 use njh_bisync::Frame;
 use njh_block::{Block, BlockWriter};
+use njh_command::Replies;
 use njh_line::{Input, Verdict};
 use njh_spool::Spool;
 use njh_stream::streams_stay_tied;
@@ -29,6 +30,7 @@ pub(crate) fn take_frame(
     spool: &mut Spool,
     lines: &mut CustomerLines,
     block: &mut BlockWriter,
+    replies: &mut Replies,
     out: &mut FrameBuffer,
 )
     requires ready { IsReady tables.now line spool.old lines.old }
@@ -40,7 +42,7 @@ pub(crate) fn take_frame(
     ensures count { length lines.new ≡ length lines.old }
 {
     streams_stay_tied();
-    frame_came(line, frame, tables, spool, lines, block, out);
+    frame_came(line, frame, tables, spool, lines, block, replies, out);
 }
 
 /// A signal comes on a line. The line is ready for more.
@@ -74,6 +76,7 @@ fn frame_came(
     spool: &mut Spool,
     lines: &mut CustomerLines,
     block: &mut BlockWriter,
+    replies: &mut Replies,
     out: &mut FrameBuffer,
 )
     requires ready { IsReady tables.now line spool.old lines.old }
@@ -90,7 +93,7 @@ fn frame_came(
         Some(Frame::Eot) => input_came(line, &Input::Eot, tables, spool, lines, block, out),
         Some(Frame::Spoiled) => input_came(line, &Input::Spoiled, tables, spool, lines, block, out),
         Some(Frame::Text(text)) => match Block::read(text) {
-            Ok(read) => block_came(line, read, tables, spool, lines, block, out),
+            Ok(read) => block_came(line, read, tables, spool, lines, block, replies, out),
             Err(_) => input_came(line, &Input::Bad, tables, spool, lines, block, out),
         },
     }
@@ -182,6 +185,7 @@ fn block_came(
     spool: &mut Spool,
     lines: &mut CustomerLines,
     block: &mut BlockWriter,
+    replies: &mut Replies,
     out: &mut FrameBuffer,
 )
     requires ready { IsReady tables.now line spool.old lines.old }
@@ -196,7 +200,7 @@ fn block_came(
         first: read.first_general(),
     };
     let verdict = accept(line, &input, tables, spool, lines);
-    if act_where(verdict.acts, line, read, tables, spool, lines) {
+    if act_where(verdict.acts, line, read, tables, spool, lines, replies) {
         end_session(line, tables, spool, lines);
         out.clear();
     } else {
@@ -212,6 +216,7 @@ fn act_where(
     tables: &Tables,
     spool: &mut Spool,
     lines: &mut CustomerLines,
+    replies: &mut Replies,
 ) -> bool
     requires ready { IsReady tables.now line spool.old lines.old }
     ensures ended { result
@@ -221,7 +226,7 @@ fn act_where(
     ensures ready { IsReady tables.now line spool.new lines.new }
 {
     if acts {
-        all_act(line, read, tables, spool, lines)
+        all_act(line, read, tables, spool, lines, replies)
     } else {
         false
     }

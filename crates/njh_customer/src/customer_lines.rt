@@ -3,6 +3,7 @@
 ghost use Rattle.std.specs.Prelude.{◌≡◌, ◌<◌, ◌≤◌, ◌++◌, ◌∷◌, [], IfOk, length, map};
 ghost use Rattle.njh_block.specs.declared.answer.Answer.{Answer as WaitingAnswer};
 ghost use Rattle.njh_stream.specs.declared.sender.Sender.{Sender};
+ghost use Rattle.njh_nmr.specs.Nodal.{notice_record};
 ghost use Rattle.njh_table.specs.TableFile.{entry_of};
 ghost use Rattle.njh_command.specs.Commands.{without_file};
 ghost use Rattle.njh_customer.specs.Acting.{given_up, with_senders_by};
@@ -182,10 +183,18 @@ impl CustomerLines {
         requires { length text.now ≤ 148 }
         ensures { self.new ≡ said (entry_of customer.now) (node, user) text.now self.old }
     {
-        let notice = Nmr::notice(customer.hub(), node, user, text);
+        self.say_by(customer.route(node), customer.hub(), node, user, text);
+    }
+
+    /// The hub says something to a user at a node, by the node's route.
+    fn say_by(&mut self, route: Route, hub: Name, node: Name, user: [u8; FIELD], text: &[u8])
+        requires { length text.now ≤ 148 }
+        ensures { self.new ≡ goes route (notice_record hub (node, user) text.now) self.old }
+    {
+        let notice = Nmr::notice(hub, node, user, text);
         let mut record = Record::new();
         notice.write(&mut record);
-        self.send(customer.route(node), &record);
+        self.send(route, &record);
     }
 
     /// The hub replies to a user's command.
@@ -198,8 +207,10 @@ impl CustomerLines {
     )
         ensures { self.new ≡ all_said (entry_of customer.now) (node, user) replies.now self.old }
     {
+        let route = customer.route(node);
+        let hub = customer.hub();
         for text in replies.texts() {
-            self.say(customer, node, user, text);
+            self.say_by(route, hub, node, user, text);
         }
     }
 

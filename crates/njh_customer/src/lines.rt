@@ -17,6 +17,7 @@ use crate::frame_buffer::FrameBuffer;
 use crate::signal::Signal;
 use njh_bisync::Deframer;
 use njh_block::{Bcb, BlockWriter, Fcs};
+use njh_command::Replies;
 use njh_ebcdic::Name;
 use njh_line::Config;
 use njh_spool::Spool;
@@ -24,7 +25,8 @@ use njh_table::{Customer, LineId, Role, Tables};
 use std::alloc::{AllocError, Global};
 use std::marker::Model;
 
-/// The lines of one customer, each with what has come of its next frame, and room for the block that is being written.
+/// The lines of one customer, each with what has come of its next frame, and room for the block that is being written and for
+/// the replies to a command.
 ///
 /// The deframers stand beside the lines, so that a text may stay lent from one while its records act on any line.
 #[derive(Drop)]
@@ -32,6 +34,7 @@ pub struct Lines {
     deframers: Vec<Deframer>,
     lines: CustomerLines,
     block: BlockWriter,
+    replies: Replies,
 }
 
 impl Model for Lines {
@@ -66,6 +69,7 @@ impl Lines {
             deframers,
             lines,
             block: BlockWriter::new(300, Bcb::normal(0), Fcs::nothing_suspended()),
+            replies: Replies::new(),
         })
     }
 
@@ -145,6 +149,7 @@ impl Lines {
             spool,
             &mut self.lines,
             &mut self.block,
+            &mut self.replies,
             out,
         );
         taken

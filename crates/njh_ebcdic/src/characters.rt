@@ -5,7 +5,6 @@ ghost use Rattle.njh_ebcdic.specs.Characters.{byte_of_character, is_plain, shown
 ghost use Rattle.njh_ebcdic.specs.Names.{ebcdic_byte, upper};
 
 use crate::fields::BLANK;
-use crate::laws::characters_and_bytes;
 
 /// What is shown of a byte that has no character.
 const NONE: char = '?';
@@ -55,8 +54,15 @@ pub fn plain_byte(character: u8) -> u8
     requires { IsTrue (is_plain character) }
     ensures { result ≡ ebcdic_byte character }
 {
-    characters_and_bytes();
-    byte_of(char::from(character)).unwrap_or(BLANK)
+    // The letters from A to I follow one another, those from J to R, those from S to Z, and the digits.
+    match character {
+        b'A'..=b'I' => character - b'A' + 0xc1,
+        b'J'..=b'R' => character - b'J' + 0xd1,
+        b'S'..=b'Z' => character - b'S' + 0xe2,
+        b'0'..=b'9' => character - b'0' + 0xf0,
+        b'.' => 0x4b,
+        _ => BLANK,
+    }
 }
 
 /// Where a character stands first in the chart.

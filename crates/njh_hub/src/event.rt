@@ -30,6 +30,13 @@ impl Piece {
         })
     }
 
+    /// These very bytes.
+    pub fn of_vec(bytes: Vec<u8>) -> Piece
+        ensures { result ≡ bytes.items }
+    {
+        Piece { bytes }
+    }
+
     /// The bytes.
     pub fn bytes(&self) -> &[u8]
         ensures { result.now ≡ self.now }

@@ -81,7 +81,7 @@ fn piece_of(alloc: Global, digits: &str) -> Result<Option<Piece>, AllocError>
 {
     match hex::decode(alloc, digits) {
         Ok(bytes) if bytes.is_empty() => Ok(None),
-        Ok(bytes) => Ok(Some(Piece::of(alloc, &bytes)?)),
+        Ok(bytes) => Ok(Some(Piece::of_vec(bytes))),
         Err(FromHexError::OutOfMemory) => Err(AllocError),
         Err(_) => Ok(None),
     }

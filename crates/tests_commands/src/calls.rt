@@ -88,7 +88,18 @@ pub fn replies<R: Abort>(
 ) -> Replies {
     assert!(rt; usize::from(customer) < tables.customers().len());
     assert!(rt; customer < spool.customers());
-    obey(message, node, user, customer, tables, spool, streams)
+    let mut replies = Replies::new();
+    obey(
+        message,
+        node,
+        user,
+        customer,
+        tables,
+        spool,
+        streams,
+        &mut replies,
+    );
+    replies
 }
 
 /// A stream is about something.
