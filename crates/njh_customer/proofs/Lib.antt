@@ -23,3 +23,4 @@ pub mod LeavingLaws
 pub mod StreamMoveLaws
 pub mod RecordsChange
 pub mod DisregardingLaws
+pub mod NewRouteLaws

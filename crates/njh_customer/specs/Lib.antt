@@ -13,3 +13,4 @@ pub mod Moves
 pub mod Doing
 pub mod MovingLaws
 pub mod Disregarding
+pub mod NewRoutes

@@ -10,6 +10,7 @@ mod customer_lines;
 mod frame_buffer;
 mod law;
 mod lines;
+mod new_routes;
 mod sending;
 mod signal;
 
@@ -20,4 +21,5 @@ pub use law::{
     records_change_so, steps_follow_bytes, streams_move_so,
 };
 pub use lines::Lines;
+pub use new_routes::{routes_keep_coherent, unrouted_files_stay};
 pub use signal::Signal;

@@ -1,21 +1,19 @@
--- Refused files go again, one after the other.
+-- Files that pass a test get a state, one after the other.
 use Rattle.std.proofs.Common.{◌≡◌, ◌<◌, ◌≤◌, ℕ, zero, suc, Bool, true, false, cond, List, [], ◌∷◌, ◌++◌, length, take, drop, map}
 use Rattle.std.proofs.Common.{set, get_or, count_by, Option, Some, None, ◌==◌, slice_get, refl, sym, ap, subst, ◌∙◌, arith, IsSomeAnd, zero-lt-suc, suc-le-suc, eq-eqb}
 use Rattle.std.proofs.lemmas.List.{set-get_or}
 use Rattle.njh_spool.specs.Spools.{IsSound}
-use Rattle.njh_spool.specs.declared.State.TheVariants.{Ready}
-use Rattle.njh_stream.specs.Routing.{retried}
+use Rattle.njh_spool.specs.declared.State.{State}
 use Rattle.njh_stream.proofs.OnlyOneLaws.{only_found, only_changed, changed_more, not_yet, as_long}
-use Rattle.njh_table.specs.Entries.{CustomerEntry}
 use Rattle.njh_spool.specs.CustomerSpool.{CustomerSpool, WholeFile, whole_numbered, with_state}
-use Rattle.njh_stream.specs.Sending.{may_go_again, ready, holds_of}
+use Rattle.njh_stream.specs.Sending.{holds_of}
 
 -- the first so many files were looked at
-abbrev pub again : CustomerEntry → ℕ → WholeFile → WholeFile
-again entry l f = cond (may_go_again entry l f) (ready f) f
+abbrev pub restated : (WholeFile → Bool) → State → WholeFile → WholeFile
+restated p state f = cond (p f) (record f { state = state }) f
 
-abbrev pub tried_up_to : CustomerEntry → ℕ → ℕ → CustomerSpool → CustomerSpool
-tried_up_to entry l i s = record s { whole = map (again entry l) (take i s.whole) ++ drop i s.whole }
+abbrev pub restated_up_to : (WholeFile → Bool) → State → ℕ → CustomerSpool → CustomerSpool
+restated_up_to p state i s = record s { whole = map (restated p state) (take i s.whole) ++ drop i s.whole }
 
 pub got : (xs : List WholeFile) (i : ℕ) (y d : WholeFile) → slice_get xs i ≡ Some y → (i < length xs) × (get_or xs i d ≡ y)
 got [] i y d h = absurd (cc h)
@@ -28,22 +26,26 @@ got (x ∷ xs) zero y d h = (zero-lt-suc (length xs), some_is h)
     some_is e = ap (λ o. elim o [ Some f ↦ f | None ↦ d ]) e
 got (x ∷ xs) (suc i) y d h = (suc-le-suc (got xs i y d h).0, (got xs i y d h).1)
 
-abbrev pub retried_where : ℕ → Bool → CustomerSpool → CustomerSpool
-retried_where n b x = elim b [ true ↦ with_state n Ready x | false ↦ x ]
+abbrev pub restated_where : State → ℕ → Bool → CustomerSpool → CustomerSpool
+restated_where state n b x = elim b [ true ↦ with_state n state x | false ↦ x ]
+
+-- the whole file of a number, where it passes
+abbrev pub restated_numbered : (WholeFile → Bool) → State → ℕ → CustomerSpool → CustomerSpool
+restated_numbered p state n s = restated_where state n (holds_of p (whole_numbered n s)) s
 
 -- the file at an index has a number of its own
 pub one_more :
-    (entry : CustomerEntry) (l : ℕ) (s : CustomerSpool) (i n : ℕ) (y : WholeFile) → IsSound (tried_up_to entry l i s)
-    → slice_get (tried_up_to entry l i s).whole i ≡ Some y → n ≡ y.number
-    → retried entry l n (tried_up_to entry l i s) ≡ tried_up_to entry l (suc i) s
-one_more entry l s i n y sound at number =
-    ap (λ o. retried_where n (holds_of (may_go_again entry l) o) x) (found ∙ ap Some at_y)
-    ∙ by_test (may_go_again entry l y) refl
+    (p : WholeFile → Bool) (state : State) (s : CustomerSpool) (i n : ℕ) (y : WholeFile) → IsSound (restated_up_to p state i s)
+    → slice_get (restated_up_to p state i s).whole i ≡ Some y → n ≡ y.number
+    → restated_numbered p state n (restated_up_to p state i s) ≡ restated_up_to p state (suc i) s
+one_more p state s i n y sound at number =
+    ap (λ o. restated_where state n (holds_of p o) x) (found ∙ ap Some at_y)
+    ∙ by_test (p y) refl
     ∙ sym (ap (λ files. record s { whole = files })
-    (changed_more (again entry l) i s.whole y inside ∙ ap (λ f. set x.whole i (again entry l f)) (sym first ∙ at_y)))
+    (changed_more (restated p state) i s.whole y inside ∙ ap (λ f. set x.whole i (restated p state f)) (sym first ∙ at_y)))
   where
     x : CustomerSpool
-    x = tried_up_to entry l i s
+    x = restated_up_to p state i s
 
     there : (i < length x.whole) × (get_or x.whole i y ≡ y)
     there = got x.whole i y y at
@@ -52,10 +54,10 @@ one_more entry l s i n y sound at number =
     at_y = there.1
 
     inside : i < length s.whole
-    inside = subst (λ k. i < k) (as_long (again entry l) i s.whole) there.0
+    inside = subst (λ k. i < k) (as_long (restated p state) i s.whole) there.0
 
     first : get_or x.whole i y ≡ get_or s.whole i y
-    first = not_yet (again entry l) i s.whole y inside
+    first = not_yet (restated p state) i s.whole y inside
 
     passes : (get_or x.whole i y).number == n ≡ true
     passes = eq-eqb (get_or x.whole i y).number n (ap (λ f. f.number) at_y ∙ sym number)
@@ -66,20 +68,21 @@ one_more entry l s i n y sound at number =
     found : whole_numbered n x ≡ Some (get_or x.whole i y)
     found = only_found (λ f. f.number == n) x.whole i y there.0 passes few
 
-    by_test : (b : Bool) → may_go_again entry l y ≡ b → retried_where n b x ≡ record s { whole = set x.whole i (cond b (ready y) y) }
+    by_test : (b : Bool) → p y ≡ b → restated_where state n b x ≡ record s { whole = set x.whole i (cond b (record y { state = state }) y) }
     by_test true e =
         ap (λ files. record s { whole = files })
-        (only_changed (λ f. f.number == n) ready x.whole i y there.0 passes few ∙ ap (λ f. set x.whole i (ready f)) at_y)
+        (only_changed (λ f. f.number == n) (λ f. record f { state = state }) x.whole i y there.0 passes few
+        ∙ ap (λ (f : WholeFile). set x.whole i (record f { state = state })) at_y)
     by_test false e = ap (λ files. record s { whole = files }) (sym (ap (λ f. set x.whole i f) (sym at_y) ∙ set-get_or x.whole i y))
 
 pub one_more_at :
-    (entry : CustomerEntry) (l : ℕ) (s : CustomerSpool) (i n : ℕ) → IsSound (tried_up_to entry l i s)
-    → IsSomeAnd (slice_get (tried_up_to entry l i s).whole i) (λ f. n ≡ f.number)
-    → retried entry l n (tried_up_to entry l i s) ≡ tried_up_to entry l (suc i) s
-one_more_at entry l s i n sound at = at_file (slice_get (tried_up_to entry l i s).whole i) refl at
+    (p : WholeFile → Bool) (state : State) (s : CustomerSpool) (i n : ℕ) → IsSound (restated_up_to p state i s)
+    → IsSomeAnd (slice_get (restated_up_to p state i s).whole i) (λ f. n ≡ f.number)
+    → restated_numbered p state n (restated_up_to p state i s) ≡ restated_up_to p state (suc i) s
+one_more_at p state s i n sound at = at_file (slice_get (restated_up_to p state i s).whole i) refl at
   where
     at_file :
-        (o : Option WholeFile) → slice_get (tried_up_to entry l i s).whole i ≡ o → IsSomeAnd o (λ f. n ≡ f.number)
-        → retried entry l n (tried_up_to entry l i s) ≡ tried_up_to entry l (suc i) s
+        (o : Option WholeFile) → slice_get (restated_up_to p state i s).whole i ≡ o → IsSomeAnd o (λ f. n ≡ f.number)
+        → restated_numbered p state n (restated_up_to p state i s) ≡ restated_up_to p state (suc i) s
     at_file None e is = absurd (search is)
-    at_file (Some y) e is = one_more entry l s i n y sound e (search is)
+    at_file (Some y) e is = one_more p state s i n y sound e (search is)

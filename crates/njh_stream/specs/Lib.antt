@@ -2,6 +2,7 @@ pub mod Transmissions
 pub mod Receiving
 pub mod Sending
 pub mod SpoolFiles
+pub mod Holding
 pub mod Judging
 pub mod Arrivals
 pub mod Routing

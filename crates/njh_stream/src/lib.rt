@@ -4,6 +4,7 @@
 
 mod arrival;
 mod ending;
+mod holding;
 mod judging;
 mod laws;
 mod notice;
@@ -15,6 +16,7 @@ mod storing;
 
 pub use arrival::Arrival;
 pub use ending::{end_receivers, end_senders};
+pub use holding::hold_unrouted;
 pub use laws::{one_outcome, streams_end_so, streams_stay_tied};
 pub use notice::Notice;
 pub use receiver::{Progress, Receiver, Step};

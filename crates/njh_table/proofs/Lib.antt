@@ -5,6 +5,7 @@ pub mod Gives
 pub mod LineOwners
 pub mod Loops
 pub mod MapLaws
+pub mod NewRouteLaws
 pub mod OwnersLaws
 pub mod RouteLaws
 pub mod WalkedLines

@@ -59,7 +59,7 @@ pub record AreRoutes (hub : List ℕ) (lines : ℕ) (routes : List RouteEntry) :
   pub each : All (IsRoute lines) routes
   pub nodes : AreDistinct (hub ∷ map (λ r. r.node) routes)
 
-AreRoutes-push : (hub : List ℕ) (lines : ℕ) (done : List RouteEntry) (r : RouteEntry) → AreRoutes hub lines done
+pub AreRoutes-push : (hub : List ℕ) (lines : ℕ) (done : List RouteEntry) (r : RouteEntry) → AreRoutes hub lines done
     → IsNewRoute hub lines done r → AreRoutes hub lines (done ++ r ∷ [])
 AreRoutes-push hub lines done r routes new =
     let (not_hub, not_routed) = or_parts (bytes_eq hub r.node) (is_some (line_to done r.node)) new.absent in

@@ -34,6 +34,13 @@ impl Routes {
         }
     }
 
+    /// No routes, in memory from where these have theirs.
+    pub(crate) fn emptied(&self) -> Routes
+        ensures { result ≡ [] }
+    {
+        Routes::new(*self.lines.allocator())
+    }
+
     pub(crate) fn len(&self) -> usize
         ensures { result ≡ length self.now }
     {

@@ -1,6 +1,7 @@
 //! Tables that are read, and tables that are refused.
 
 mod changes;
+mod new_routes;
 mod reading;
 mod sizes;
 

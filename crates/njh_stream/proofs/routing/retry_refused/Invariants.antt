@@ -1,9 +1,11 @@
 use Rattle.std.proofs.Common.{◌≡◌, slice_set}
 use Rattle.njh_spool.specs.Spools.{part}
 use Rattle.njh_table.specs.TableFile.{entry_of}
-use Rattle.njh_stream.proofs.RoutingLaws.{tried_up_to}
+use Rattle.njh_spool.specs.declared.State.TheVariants.{Ready}
+use Rattle.njh_stream.specs.Sending.{may_go_again}
+use Rattle.njh_stream.proofs.RoutingLaws.{restated_up_to}
 use Rattle.njh_stream.proofs.routing.retry_refused.Given as goal
 
 abbrev pub invariant-loop-index : goal.invariant-loop-index
 invariant-loop-index l =
-    l.spool ≡ slice_set l.initial.spool l.customer (tried_up_to (entry_of l.entry) l.line l.index (part l.customer l.initial.spool))
+    l.spool ≡ slice_set l.initial.spool l.customer (restated_up_to (may_go_again (entry_of l.entry) l.line) Ready l.index (part l.customer l.initial.spool))

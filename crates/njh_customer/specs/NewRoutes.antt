@@ -1,0 +1,35 @@
+-- A customer that is given new routes.
+use Rattle.std.specs.Prelude.{◌≡◌, ℕ, true, false, List}
+use Rattle.njh_header.specs.FileHeaders.{destination_of}
+use Rattle.njh_spool.specs.CustomerSpool.{WholeFile}
+use Rattle.njh_stream.specs.Holding.{destination_unrouted, unrouted_held}
+use Rattle.njh_stream.specs.Sending.{goes_by}
+use Rattle.njh_table.specs.Entries.{CustomerEntry, RouteEntry}
+use Rattle.njh_customer.specs.Customer.{Customer, IsCoherent}
+use Rattle.njh_customer.specs.Part.{Part}
+
+abbrev pub entry_with : List RouteEntry → CustomerEntry → CustomerEntry
+entry_with routes entry = record entry { routes = routes }
+
+-- Its files that are Ready or Refused and whose node has no route now are Held. All else stays: the files that are being sent, the partial
+-- files, which were judged by the routes that there were, and what waits on its lines.
+abbrev pub given : List RouteEntry → Customer → Customer
+given routes c =
+    let entry = entry_with routes c.entry in
+    record c { entry = entry; spool = unrouted_held entry c.spool }
+
+-- and of no line what has come of its next frame
+abbrev pub routes_taken : List RouteEntry → Part → Part
+routes_taken routes p = record p { customer = given routes p.customer }
+
+-- ---- what is said of it
+
+-- It stays coherent.
+abbrev pub RoutesKeepCoherent : Type 0
+RoutesKeepCoherent = (routes : List RouteEntry) (c : Customer) → IsCoherent c → IsCoherent (given routes c)
+
+-- A file whose node has no route goes by no line, so none asks for it, whatever state it is in.
+abbrev pub UnroutedFilesStay : Type 0
+UnroutedFilesStay =
+    (entry : CustomerEntry) (l : ℕ) (f : WholeFile) → destination_unrouted entry (destination_of f.kind f.records) ≡ true
+    → goes_by entry l f ≡ false

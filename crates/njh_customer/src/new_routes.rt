@@ -1,0 +1,39 @@
+//! A customer that is given new routes.
+
+ghost use Rattle.std.specs.Prelude.{◌≡◌, ◌<◌, length, slice_set};
+ghost use Rattle.njh_spool.specs.Spools.{part};
+ghost use Rattle.njh_table.specs.TableFile.{customer_at, entry_of};
+ghost use Rattle.njh_customer.specs.Part.{part_with};
+ghost use Rattle.njh_customer.specs.NewRoutes.{RoutesKeepCoherent, UnroutedFilesStay, routes_taken};
+
+use crate::lines::Lines;
+use njh_spool::Spool;
+use njh_stream::{hold_unrouted, streams_stay_tied};
+use njh_table::Tables;
+
+impl Lines {
+    /// The tables have new routes for the customer: its files that are Ready or Refused and whose node has no route now are Held. Its
+    /// lines stay as they are, and no frame goes out.
+    pub fn take_routes(&self, customer: u16, tables: &Tables, spool: &mut Spool)
+        requires known { customer < length tables.now.customers }
+        requires spooled { customer < length spool.old }
+        ensures part { part_with (entry_of (customer_at tables.now customer)) (part customer spool.new) self.now
+            ≡ routes_taken (entry_of (customer_at tables.now customer)).routes
+            (part_with (entry_of (customer_at tables.now customer)) (part customer spool.old) self.now) }
+        ensures others { spool.new ≡ slice_set spool.old customer (part customer spool.new) }
+    {
+        hold_unrouted(tables.customer(customer), customer, spool);
+    }
+}
+
+/// A customer that is given new routes stays coherent.
+pub fn routes_keep_coherent()
+    ensures { RoutesKeepCoherent }
+{
+    streams_stay_tied();
+}
+
+/// A file whose node has no route goes by no line: none asks for it, also where its session ends and it is Ready again.
+pub fn unrouted_files_stay()
+    ensures { UnroutedFilesStay }
+{}

@@ -1,0 +1,147 @@
+//! New routes for a customer, while the hub runs.
+
+ghost use Rattle.std.specs.Prelude.{◌≡◌, ◌<◌, [], ◌∷◌, length, map, bytes_eq, slice_index_or, slice_set, vec_len, Ok, Err, IfOk, OnErr};
+ghost use Rattle.std.specs.List.{list_any};
+ghost use Rattle.njh_table.specs.Accepted.{AreDistinct};
+ghost use Rattle.njh_table.specs.NewRoutes.{checked_from, is_own, own_number, own_route, own_routes, route_checked};
+ghost use Rattle.njh_table.specs.TableFile.{no_customer, route_entry};
+
+use crate::LineId;
+use crate::customer::Customer;
+use crate::fault::TableFault;
+use crate::limits::MAX_ROUTES;
+use crate::routes::Routes;
+use crate::tables::Tables;
+use njh_ebcdic::Name;
+
+/// A route that a customer is given: a node, and the line that leads to it.
+#[derive(Clone, Copy, Debug, PartialEq, Eq)]
+pub struct RouteEntry {
+    /// The node.
+    pub node: Name,
+    /// The line, which has to be the customer's own.
+    pub line: LineId,
+}
+
+impl Tables {
+    ghost use Rattle.std.specs.Prelude.{OnOk};
+    ghost use Rattle.njh_table.specs.NewRoutes.{routes_checked, with_routes};
+    ghost use Rattle.njh_table.specs.TableFile.{customer_at, entry_of};
+
+    /// Whether a customer may have these routes in place of its own. `TooMany` comes where there are more than 512; then, from the left
+    /// and at each route in this order, `DoubleNode` where an earlier one has its node or that is the hub's own name, and `UnknownLine`
+    /// where its line isn't the customer's. Takes no memory.
+    pub fn check_routes(&self, customer: u16, routes: &[RouteEntry]) -> Result<(), TableFault>
+        requires { customer < length self.now.customers }
+        ensures { result ≡ routes_checked (entry_of (customer_at self.now customer)) (own_routes customer routes.now) }
+    {
+        if routes.len() > MAX_ROUTES {
+            return Err(TableFault::TooMany);
+        }
+        check_each(customer, self.customer(customer), routes)
+    }
+
+    /// Gives a customer these routes in place of its own. Want of memory is the only refusal, and then nothing has changed.
+    pub fn set_routes(&mut self, customer: u16, routes: &[RouteEntry]) -> Result<(), TableFault>
+        requires known { customer < length self.old.customers }
+        requires checked { routes_checked (entry_of (customer_at self.old customer)) (own_routes customer routes.now) ≡ Ok tt }
+        ensures routes { OnOk result (self.new ≡ with_routes customer (own_routes customer routes.now) self.old) }
+        ensures memory { OnErr result ((result ≡ Err TableFault.Memory) × (self.new ≡ self.old)) }
+    {
+        let new = self.customer(customer).routes.replaced_by(routes)?;
+        give_routes(&mut self.customers, customer, new);
+        Ok(())
+    }
+}
+
+impl Routes {
+    /// These routes alone.
+    fn replaced_by(&self, routes: &[RouteEntry]) -> Result<Routes, TableFault>
+        requires { AreDistinct (map (λ r. r.node) routes.now) }
+        ensures routes { IfOk result (λ new. new ≡ map (λ r. route_entry (r.node, r.line.line)) routes.now) }
+        ensures memory { OnErr result (result ≡ Err TableFault.Memory) }
+    {
+        let mut new = self.emptied();
+        for route in routes {
+            new.insert(route.node, route.line.line)?;
+        }
+        Ok(new)
+    }
+}
+
+/// A customer has these routes, and nothing else of it changes.
+fn give_routes(customers: &mut Vec<Customer>, customer: u16, routes: Routes)
+    requires { customer < vec_len customers.old }
+    ensures { customers.new.items
+        ≡ slice_set customers.old.items customer (record (slice_index_or customers.old.items customer no_customer) { routes = routes }) }
+{
+    customers[usize::from(customer)].set_routes(routes);
+}
+
+impl Customer {
+    fn set_routes(&mut self, routes: Routes)
+        ensures { self.new ≡ record self.old { routes = routes } }
+    {
+        self.routes = routes;
+    }
+}
+
+/// The first fault of a customer's new routes, from the left.
+fn check_each(number: u16, customer: &Customer, routes: &[RouteEntry]) -> Result<(), TableFault>
+    ensures { result ≡ checked_from (length customer.now.lines) (customer.now.hub ∷ []) (own_routes number routes.now) }
+{
+    for index in 0..routes.len() {
+        check_one(number, customer, &routes[..index], routes[index])?;
+    }
+    Ok(())
+}
+
+/// The fault of a new route behind those before it.
+#[tactic(auto, unfolding(crate::specs::NewRoutes::route_checked))]
+fn check_one(
+    number: u16,
+    customer: &Customer,
+    before: &[RouteEntry],
+    route: RouteEntry,
+) -> Result<(), TableFault>
+    ensures { result
+        ≡ route_checked (length customer.now.lines) (customer.now.hub ∷ map (λ r. r.node) before.now) (own_route number route) }
+{
+    if is_taken(customer.hub(), before, route.node) {
+        return Err(TableFault::DoubleNode);
+    }
+    if !is_own(number, customer, route.line) {
+        return Err(TableFault::UnknownLine);
+    }
+    Ok(())
+}
+
+/// Whether a node is the hub's own name, or that of one of these routes.
+fn is_taken(hub: Name, before: &[RouteEntry], node: Name) -> bool
+    ensures { result ≡ list_any (bytes_eq node) (hub ∷ map (λ r. r.node) before.now) }
+{
+    if node == hub {
+        return true;
+    }
+    have_node(before, node)
+}
+
+/// Whether one of these routes is for a node.
+fn have_node(routes: &[RouteEntry], node: Name) -> bool
+    ensures { result ≡ list_any (λ r. bytes_eq node r.node) routes.now }
+{
+    routes.iter().any(|route| is_for(route, node))
+}
+
+fn is_for(route: &RouteEntry, node: Name) -> bool
+    ensures { result ≡ bytes_eq node route.now.node }
+{
+    node == route.node
+}
+
+/// Whether a line is one of a customer's own.
+fn is_own(number: u16, customer: &Customer, line: LineId) -> bool
+    ensures { result ≡ is_own (length customer.now.lines) (own_number number line) }
+{
+    line.customer == number && usize::from(line.line) < customer.lines().len()
+}

@@ -1,0 +1,131 @@
+//! New routes for a customer while the hub runs: which it may have, and what it has then.
+
+use super::*;
+use njh_ebcdic::Name;
+use njh_table::{Customer, LineId, RouteEntry};
+use std::process::Abort;
+use std::test::Fail;
+
+/// Routes for the first customer of the base tables, each a node with the customer and the number of its line, and what comes of them:
+/// both customers' routes, or the fault.
+const GIVEN: &str = "
+- = ACME; BOLT LYON by 0;
+LYON 0 0 = ACME LYON by 0; BOLT LYON by 0;
+PARIS 0 0, METZ 0 0 = ACME PARIS by 0 METZ by 0; BOLT LYON by 0;
+LYON 0 0, LYON 0 0 = K5 DoubleNode
+PARIS 0 0, METZ 0 0, PARIS 1 0 = K5 DoubleNode
+BUREAU 0 0 = K5 DoubleNode
+BUREAU 1 0 = K5 DoubleNode
+METZ 0 0, BUREAU 0 0, LYON 1 0 = K5 DoubleNode
+LYON 1 0 = K6 UnknownLine
+LYON 0 1 = K6 UnknownLine
+LYON 2 0 = K6 UnknownLine
+LYON 1 0, LYON 0 0 = K6 UnknownLine
+METZ 0 0, LYON 0 7, BUREAU 0 0 = K6 UnknownLine
+";
+
+fn name_of(word: Option<&str>) -> Result<Name, Fail> {
+    Ok(Name::of_text(word.ok_or("a node is missing")?)?)
+}
+
+fn number_of(word: Option<&str>) -> Result<u16, Fail> {
+    Ok(word.ok_or("a number is missing")?.parse::<u16>()?)
+}
+
+fn route_of(text: &str) -> Result<RouteEntry, Fail> {
+    let mut words = text.split(" ");
+    let node = name_of(words.next())?;
+    let customer = number_of(words.next())?;
+    let line = number_of(words.next())?;
+    Ok(RouteEntry {
+        node,
+        line: LineId { customer, line },
+    })
+}
+
+fn routes_of(alloc: Global, text: &str) -> Result<Vec<RouteEntry>, Fail> {
+    let mut routes = Vec::new(alloc);
+    if text != "-" {
+        for route in text.split(", ") {
+            routes.push(route_of(route)?)?;
+        }
+    }
+    Ok(routes)
+}
+
+/// So many routes by the first customer's first line, each for a node of its own.
+fn many(alloc: Global, count: u32) -> Result<Vec<RouteEntry>, Fail> {
+    let mut routes = Vec::new(alloc);
+    for number in 0..count {
+        let node = Name::of_text(format!(in alloc; "N{number}")?.as_str())?;
+        let line = LineId {
+            customer: 0,
+            line: 0,
+        };
+        routes.push(RouteEntry { node, line })?;
+    }
+    Ok(routes)
+}
+
+/// The first customer is given the routes, if it may have them.
+fn give(tables: &mut Tables, routes: &[RouteEntry]) -> Result<(), TableFault> {
+    if tables.customers().is_empty() {
+        return Err(TableFault::MissingKey);
+    }
+    tables.check_routes(0, routes)?;
+    tables.set_routes(0, routes)
+}
+
+fn push_customer(alloc: Global, text: &mut String, customer: &Customer) -> Result<(), AllocError> {
+    text.push_str(format!(in alloc; " {}", customer.name())?.as_str())?;
+    for index in 0..customer.routes() {
+        let (node, line) = customer.route_at(index);
+        text.push_str(format!(in alloc; " {node} by {line}")?.as_str())?;
+    }
+    text.push_str(";")
+}
+
+/// All customers, each with its routes.
+fn text_of(alloc: Global, tables: &Tables) -> Result<String, AllocError> {
+    let mut text = String::new(alloc);
+    for customer in tables.customers() {
+        push_customer(alloc, &mut text, customer)?;
+    }
+    Ok(text)
+}
+
+/// What comes of routes.
+fn given(alloc: Global, tables: &mut Tables, routes: &[RouteEntry]) -> Result<String, AllocError> {
+    match give(tables, routes) {
+        Ok(()) => text_of(alloc, tables),
+        Err(TableFault::Memory) => Err(AllocError),
+        Err(fault) => fault.to_string(alloc),
+    }
+}
+
+fn comes<R: Abort>(rt: &R, alloc: Global, case: &str) -> Result<(), Fail> {
+    let (routes, want) = case.split_once(" = ").ok_or("a case without =")?;
+    let routes = routes_of(alloc, routes)?;
+    let mut tables = Tables::base(alloc)?;
+    let found = given(alloc, &mut tables, &routes)?;
+    assert_eq!(rt; found.trim(), want, "{case}");
+    Ok(())
+}
+
+#[test]
+fn what_comes_of_new_routes(rt: HostRuntime) -> Result<(), Fail> {
+    for case in GIVEN.trim().lines() {
+        comes(&rt, rt.alloc(), case)?;
+    }
+    Ok(())
+}
+
+#[test]
+fn a_route_too_many(rt: HostRuntime) -> Result<(), Fail> {
+    let mut tables = Tables::base(rt.alloc())?;
+    let most = many(rt.alloc(), 512)?;
+    assert_eq!(rt; give(&mut tables, &most), Ok(()));
+    let past = many(rt.alloc(), 513)?;
+    assert_eq!(rt; give(&mut tables, &past), Err(TableFault::TooMany));
+    Ok(())
+}
