@@ -8,3 +8,4 @@ pub mod WireLaws
 pub mod TurnLaws
 pub mod RoundLaws
 pub mod OwnWires
+pub mod RetableLaws

@@ -20,7 +20,7 @@ use Rattle.njh_hub.specs.Own.{line_of, own, first_bytes, first_of}
 use Rattle.njh_hub.specs.declared.fault.Cause.{Cause}
 use Rattle.njh_hub.specs.declared.fault.Cause.TheVariants.{Hub, Sink}
 use Rattle.njh_hub.specs.declared.fault.HubFault.{HubFault}
-use Rattle.njh_hub.specs.declared.fault.HubFault.TheVariants.{UnknownLine, UnknownCustomer, Memory}
+use Rattle.njh_hub.specs.declared.fault.HubFault.TheVariants.{UnknownLine, UnknownCustomer, Memory, BadRoutes}
 use Rattle.njh_hub.specs.declared.fault.RunFault.{RunFault}
 use Rattle.njh_hub.specs.Stops.{CanStop, HandedUntil, IsWithinOne}
 use Rattle.njh_hub.specs.Whole.{Part, no_part, part, HasLine, SameLines, sent_by, HubRun, own_event, hub_event, hub_run}
@@ -149,6 +149,7 @@ first_of-later events i n bytes event within found stop =
 pub CanStop-step : (fault : HubFault) (P : Type 0) → ((P → ⊥) → fault ≡ UnknownLine) → (P → fault ≡ Memory) → CanStop (Hub fault)
 CanStop-step UnknownLine P unknown memory = tt
 CanStop-step UnknownCustomer P unknown memory = let never : P → ⊥ = λ p. cc (memory p) in cc (unknown never)
+CanStop-step (BadRoutes cause) P unknown memory = let never : P → ⊥ = λ p. cc (memory p) in cc (unknown never)
 CanStop-step Memory P unknown memory = tt
 
 -- What a sink took before, and then up to a stop.

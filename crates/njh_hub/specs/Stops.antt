@@ -3,7 +3,7 @@ use Rattle.std.specs.Prelude.{◌≡◌, ℕ, ◌<◌, ◌≤◌, ◌⊎◌, Lis
 use Rattle.njh_bisync.specs.declared.frame.TheConstants.{LONGEST_FRAME}
 use Rattle.njh_table.specs.declared.LineId.{LineId}
 use Rattle.njh_hub.specs.declared.event.Event.{Event}
-use Rattle.njh_hub.specs.declared.fault.HubFault.TheVariants.{UnknownLine, UnknownCustomer, Memory}
+use Rattle.njh_hub.specs.declared.fault.HubFault.TheVariants.{UnknownLine, UnknownCustomer, Memory, BadRoutes}
 use Rattle.njh_hub.specs.declared.fault.Cause.{Cause}
 use Rattle.njh_hub.specs.declared.fault.Cause.TheVariants.{Hub, Sink}
 use Rattle.njh_hub.specs.declared.fault.RunFault.{RunFault}
@@ -21,6 +21,7 @@ abbrev pub CanStop : Cause → Type 0
 CanStop (Hub UnknownLine) = ⊤
 CanStop (Hub UnknownCustomer) = ⊥
 CanStop (Hub Memory) = ⊤
+CanStop (Hub (BadRoutes cause)) = ⊥
 CanStop Sink = ⊤
 
 -- A sink took all of these frames but the last, and refused that one.

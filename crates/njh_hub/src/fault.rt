@@ -2,6 +2,7 @@
 
 ghost use Rattle.std.specs.Prelude.{◌≡◌, ◌+◌, ◌<◌, ◌^◌};
 
+use njh_table::TableFault;
 use std::alloc::{AllocError, AllocFailed};
 use thiserror::Error;
 
@@ -17,6 +18,12 @@ pub enum HubFault {
     /// There was no memory.
     #[error("U3 Memory")]
     Memory,
+    /// The customer can't have these routes.
+    #[error("U5 BadRoutes: {cause}")]
+    BadRoutes {
+        /// The first fault in them.
+        cause: TableFault,
+    },
 }
 
 impl From<AllocError> for HubFault {

@@ -8,6 +8,8 @@ ghost use Rattle.njh_hub.specs.Files.{files_at};
 ghost use Rattle.njh_hub.specs.Steps.{IsStep};
 ghost use Rattle.njh_hub.specs.Whole.{part, HasLine};
 
+mod retable;
+
 use crate::fault::HubFault;
 use crate::file_view::{FileView, files_of};
 use crate::opening::{open_lines, open_spool};

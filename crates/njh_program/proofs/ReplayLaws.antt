@@ -11,7 +11,7 @@ use Rattle.njh_hub.specs.declared.event.Event.{Event}
 use Rattle.njh_hub.specs.declared.fault.Cause.{Cause}
 use Rattle.njh_hub.specs.declared.fault.Cause.TheVariants as cause
 use Rattle.njh_hub.specs.declared.fault.HubFault.{HubFault}
-use Rattle.njh_hub.specs.declared.fault.HubFault.TheVariants.{UnknownLine, UnknownCustomer, Memory}
+use Rattle.njh_hub.specs.declared.fault.HubFault.TheVariants.{UnknownLine, UnknownCustomer, Memory, BadRoutes}
 use Rattle.njh_hub.specs.Own.{line_of}
 use Rattle.njh_hub.specs.Parts.{entries_of}
 use Rattle.njh_hub.specs.Whole.{Part, opened}
@@ -71,6 +71,7 @@ pub MayEnd-stopped : (why : Cause) → CanStop why → (why ≡ cause.Hub Unknow
 MayEnd-stopped (cause.Hub UnknownLine) can known = absurd (known refl)
 MayEnd-stopped (cause.Hub UnknownCustomer) can known = absurd can
 MayEnd-stopped (cause.Hub Memory) can known = refl
+MayEnd-stopped (cause.Hub (BadRoutes fault)) can known = absurd can
 MayEnd-stopped cause.Sink can known = tt
 
 -- A run that stopped printed a beginning of the text of all frames: the frames of what happened, or all but the last and that in part.

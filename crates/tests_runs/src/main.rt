@@ -5,6 +5,7 @@
 #![tactic(auto)]
 
 mod customers;
+mod new_routes;
 mod peers;
 mod random_runs;
 mod scripts;
@@ -25,6 +26,7 @@ fn tried<R: Files + Net + Print + AllocGlobal>(rt: &R) -> Result<(), Failure> {
     streams::fail(rt)?;
     steps::take(rt)?;
     steps::keep(rt)?;
+    new_routes::change(rt)?;
     steps::refuse(rt)
 }
 

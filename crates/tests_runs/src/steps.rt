@@ -18,13 +18,13 @@ const NOWHERE: LineId = LineId {
 };
 
 /// ENQ, in hex as all frames here.
-const CONTACT: &str = "012d";
+pub const CONTACT: &str = "012d";
 
 /// SYN, ENQ, and ENQ again.
 const CONTACTS: &str = "32012d012d";
 
 /// The sign-on of LYON.
-const SIGN_ON: &str =
+pub const SIGN_ON: &str =
     "1002a08fcff0c929d3e8d6d540404040010000000000000400404040404040404040404040404040400000000000001026";
 
 /// LIST of ANNA at LYON.
@@ -32,10 +32,10 @@ const LIST: &str =
     "1002808fcf9a80caa0770004c2e4d9c5c1e482c500c1d5d5c184c4d3e8d6d584c500d3c9e2e300001026";
 
 /// A request for SYSOUT 1.
-const REQUEST: &str = "1002808fcf909900001026";
+pub const REQUEST: &str = "1002808fcf909900001026";
 
 /// Job 42 of ANNA at LYON to PAUL at METZ: job header, data set header, HELLO, trailer, end of file.
-const FILE: &str = concat!(
+pub const FILE: &str = concat!(
     "1002818fcf",
     "99c0c20064a300c160a300c12ab200ccd7c1e8d9d6d3d340c1d5d5c184b800c4d3e8d6d584c4c1d5d5c184c4d4c5e3e98c00",
     "99e0c20018a300c7140000d4c5e3e984c4d7c1e4d38400",

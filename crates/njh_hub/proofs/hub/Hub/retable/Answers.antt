@@ -1,0 +1,136 @@
+use Rattle.std.proofs.Common.{◌≡◌, ◌<◌, ◌∙◌, List, length, slice_set, Ok, Err, ap, subst, sym, rules, arith}
+use Rattle.std.proofs.lemmas.List.{get_or_read}
+use Rattle.njh_spool.specs.Spools as spools
+use Rattle.njh_table.specs.Entries.{RouteEntry}
+use Rattle.njh_table.specs.NewRoutes.{own_routes, routes_checked, taken_routes}
+use Rattle.njh_table.specs.TableFile.{TableFile, customer_at, entry_of}
+use Rattle.njh_customer.specs.NewRoutes.{routes_taken}
+use Rattle.njh_customer.specs.Part.{Lines, part_with}
+use Rattle.njh_hub.specs.Parts.{IsHub, lines_at, no_lines, parts_of}
+use Rattle.njh_hub.specs.Whole.{Part, part}
+use Rattle.njh_hub.proofs.PartsLaws.{length-parts_of}
+use Rattle.njh_hub.proofs.RetableLaws.{Retabled, customer-known, entry-there, hub-retabled, parts-retabled, retabled-lines, retabled-others}
+use Rattle.njh_hub.proofs.hub.Hub.retable.Goals.{After-take_routes}
+use Rattle.njh_hub.proofs.hub.Hub.retable.Goals as goal
+
+abbrev given : (c : After-take_routes) → List RouteEntry
+given c = taken_routes (own_routes c.args.customer c.args.routes.now)
+
+there : (c : After-take_routes) → c.args.customer < length c.self.inside.tables.customers
+there c = omega (arith, c.self.inside.lines.ok.0, c.self.invariant.lined)
+
+known : (c : After-take_routes) → c.args.customer < length c.args.self.now
+known c =
+    let s = c.self.inside in
+    customer-known s.tables s.spool s.lines.items c.args.self.now c.args.customer c.self.view_is (there c)
+
+checked : (c : After-take_routes)
+    → routes_checked (part c.args.customer c.args.self.now).customer.entry (own_routes c.args.customer c.args.routes.now) ≡ Ok tt
+checked c =
+    let s = c.self.inside in
+    let n = c.args.customer in
+    subst (λ e. routes_checked e (own_routes n c.args.routes.now) ≡ Ok tt)
+    (sym (entry-there s.tables s.spool s.lines.items c.args.self.now n c.self.view_is (there c))) c.in-Ok.ensures.checked
+
+retabled : (c : After-take_routes) → Retabled c.self.inside.tables c.self.inside.spool c.self.inside.lines.items c.args.customer (given c)
+    c.set_routes.new.tables c.take_routes.new.spool
+retabled c =
+    let s = c.self.inside in
+    let n = c.args.customer in
+    let x = c.index-lines.result.now in
+    let is : x ≡ lines_at n s.lines.items =
+    get_or_read s.lines.items n x (omega (arith, s.lines.ok.0)) (search rules) no_lines in
+    let entry = entry_of (customer_at c.set_routes.new.tables n) in
+    let P : Lines → Type 0 = λ y. part_with entry (spools.part n c.take_routes.new.spool) y
+    ≡ routes_taken entry.routes (part_with entry (spools.part n s.spool) y) in
+    record {
+      hub = c.self.invariant;
+      there = there c;
+      tables = c.in-Ok.ensures.routes;
+      others = c.take_routes.ensures.others;
+      is = subst P is c.take_routes.ensures.part;
+    }
+
+leads : (c : After-take_routes) → parts_of c.set_routes.new.tables c.take_routes.new.spool c.self.inside.lines.items
+    ≡ slice_set c.args.self.now c.args.customer (routes_taken (given c) (part c.args.customer c.args.self.now))
+leads c =
+    let s = c.self.inside in
+    parts-retabled s.tables s.spool s.lines.items c.args.customer (given c) c.set_routes.new.tables c.take_routes.new.spool (retabled c)
+    ∙ ap (λ (ps : List Part). slice_set ps c.args.customer (routes_taken (given c) (part c.args.customer ps))) c.self.view_is
+
+pub invariant_of-self : goal.invariant_of-self
+invariant_of-self c =
+    let s = c.self.inside in
+    subst (λ (t : TableFile). IsHub t s.spool s.lines.items) (sym c.in-Err.ensures.err) c.self.invariant
+
+pub invariant_of-self-2 : goal.invariant_of-self-2
+invariant_of-self-2 c =
+    let s = c.self.inside in
+    hub-retabled s.tables s.spool s.lines.items c.args.customer (given c) c.set_routes.new.tables c.take_routes.new.spool (retabled c)
+    c.routes_keep_coherent.ensures
+
+-- ---- where the hub has no such customer
+
+pub returns-then-from-len-clause-refused : goal.returns-then-from-len-clause-refused
+returns-then-from-len-clause-refused c =
+    let s = c.self.inside in
+    let count = length-parts_of s.tables s.spool s.lines.items in
+    λ here cause told. absurd (omega (arith, here, count, ap (λ (ps : List Part). length ps) c.self.view_is, s.lines.ok.0, c.self.invariant.lined))
+
+pub returns-then-from-len-clause-memory : goal.returns-then-from-len-clause-memory
+returns-then-from-len-clause-memory c =
+    let s = c.self.inside in
+    let count = length-parts_of s.tables s.spool s.lines.items in
+    λ here checked. absurd (omega (arith, here, count, ap (λ (ps : List Part). length ps) c.self.view_is, s.lines.ok.0, c.self.invariant.lined))
+
+-- ---- where it can't have the routes, or there is no memory for them
+
+pub returns-in-Err-clause-unknown : goal.returns-in-Err-clause-unknown
+returns-in-Err-clause-unknown c =
+    let s = c.self.inside in
+    let is : c.args.customer < length s.tables.customers = omega (arith, s.lines.ok.0, c.self.invariant.lined) in
+    λ nowhere. absurd (nowhere (customer-known s.tables s.spool s.lines.items c.args.self.now c.args.customer c.self.view_is is))
+
+pub returns-in-Err-clause-refused : goal.returns-in-Err-clause-refused
+returns-in-Err-clause-refused c =
+    let s = c.self.inside in
+    let n = c.args.customer in
+    let is : n < length s.tables.customers = omega (arith, s.lines.ok.0, c.self.invariant.lined) in
+    λ here cause told. c.in-Err.ensures.refused cause
+    (subst (λ e. routes_checked e (own_routes n c.args.routes.now) ≡ Err cause)
+    (entry-there s.tables s.spool s.lines.items c.args.self.now n c.self.view_is is) told)
+
+pub returns-in-Err-clause-memory : goal.returns-in-Err-clause-memory
+returns-in-Err-clause-memory c =
+    let s = c.self.inside in
+    let n = c.args.customer in
+    let is : n < length s.tables.customers = omega (arith, s.lines.ok.0, c.self.invariant.lined) in
+    λ here checked. c.in-Err.ensures.memory
+    (subst (λ e. routes_checked e (own_routes n c.args.routes.now) ≡ Ok tt)
+    (entry-there s.tables s.spool s.lines.items c.args.self.now n c.self.view_is is) checked)
+
+-- ---- where it has them
+
+pub returns-clause-hub : goal.returns-clause-hub
+returns-clause-hub c = leads c
+
+pub returns-clause-others : goal.returns-clause-others
+returns-clause-others c = λ d apart.
+    ap (part d) (leads c) ∙ retabled-others c.args.self.now c.args.customer (given c) d apart
+
+pub returns-clause-lines : goal.returns-clause-lines
+returns-clause-lines c = λ d.
+    ap (λ (ps : List Part). length (part d ps).customer.lines) (leads c)
+    ∙ retabled-lines c.args.self.now c.args.customer (given c) (known c) d
+
+pub returns-clause-known : goal.returns-clause-known
+returns-clause-known c = known c
+
+pub returns-clause-unknown : goal.returns-clause-unknown
+returns-clause-unknown c = λ nowhere. absurd (nowhere (known c))
+
+pub returns-clause-checked : goal.returns-clause-checked
+returns-clause-checked c = checked c
+
+pub returns-clause-refused : goal.returns-clause-refused
+returns-clause-refused c = λ here cause told. let both : Ok tt ≡ Err cause = sym (checked c) ∙ told in absurd (cc both)
