@@ -52,7 +52,13 @@ fn outcome_of<R: Env + Files + Net + Input + Print + AllocGlobal>(rt: &R) -> Res
 /// The program's arguments.
 fn arguments_of<R: Env + AllocGlobal>(rt: &R) -> Result<Vec<String>, Failure> {
     match env::args(rt) {
-        Ok(arguments) => Ok(arguments.collect(rt.alloc())?),
+        Ok(words) => {
+            let mut arguments = Vec::new(rt.alloc());
+            for word in words {
+                arguments.push(word)?;
+            }
+            Ok(arguments)
+        }
         Err(error) if error.kind() == ErrorKind::InvalidData => {
             Err(Failure::Arguments(not_utf8(rt.alloc())?))
         }
