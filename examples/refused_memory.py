@@ -8,7 +8,7 @@ the C library and has one call go amiss. It is run by hand: the gate knows nothi
 Of each stored script the program is run once for each of its calls, and must end so:
 
 - where a request for memory is refused, with status 2 and `njehub: U3 Memory` or `njehub: K9 Memory`, and a beginning of the
-  whole output, in whole lines; but for one, room for all arguments at once, which the program can do without;
+  whole output, in whole lines;
 - where a read or a write fails, with status 2 and `njehub: device`, and a beginning of the whole output;
 - where a read or a write moves one byte alone, with status 0 and the whole output;
 - run again with nothing amiss, with status 0 and the whole output.
@@ -148,8 +148,6 @@ def tried(case, amiss):
         ends[line] = ends.get(line, 0) + 1
         if "short" in amiss:
             good = line == WHOLE
-        elif amiss == MEMORY and line == WHOLE:
-            good = ends[WHOLE] == 1
         else:
             good = case.is_refused(ended, NO_MEMORY if amiss == MEMORY else DEVICE)
         again, _ = case.run(amiss, 0)
