@@ -172,6 +172,6 @@ fn tables_option<'a>(alloc: Global) -> Arg<'a>
     Arg::new(alloc, "tables")
         .long("tables")
         .value_name("F")
-        .help("The table file; the built-in tables where none is named")
+        .help("The table file; replay has built-in tables where none is named")
         .action(ArgAction::Set)
 }

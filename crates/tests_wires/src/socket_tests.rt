@@ -1,4 +1,4 @@
-//! A turn over a socket.
+//! A turn over a socket, and which ports are served.
 
 use crate::serving::{LINES, serve, tables};
 use njh_serve::{Port, Waits, listen, ports_of};
