@@ -1,5 +1,5 @@
--- What may happen to a customer's whole files and to its streams from the hub, one small thing at a time. All that comes on a line leads
--- from what they were to what they are by such moves and no others.
+-- What may happen to a customer's whole files and to its streams from the hub, one small thing at a time. All that comes on a line, and new
+-- routes, lead from what they were to what they are by such moves and no others.
 use Rattle.std.specs.Prelude.{◌≡◌, ℕ, ◌+◌, Bool, true, List, [], ◌∷◌, ◌++◌, length, map, filter, find, replicate, Some, None, Ok, fold, cond, not}
 use Rattle.std.specs.List.{Contains}
 use Rattle.njh_block.specs.Blocks.{Item, Data, Control, stream_of}
@@ -135,7 +135,7 @@ abbrev pub routeless_held : CustomerEntry → Outgoing → Outgoing
 routeless_held entry x = with_files (map (λ f. cond (has_lost_route entry f) (held f) f) x.files) x
 
 -- Routes without a fault are the customer's from then on.
-pub record Reroutes (entry : CustomerEntry) (routes : List NewRoute) (x y : Outgoing) : Type 0 where
+pub record RoutesMove (entry : CustomerEntry) (routes : List NewRoute) (x y : Outgoing) : Type 0 where
   pub faultless : routes_checked entry routes ≡ Ok tt
   pub holds : y ≡ routeless_held (entry_with (taken_routes routes) entry) x
 
@@ -147,7 +147,7 @@ pub data Coming : Type 0 where
 -- a move by what comes
 abbrev pub MovesBy : CustomerEntry → Coming → Outgoing → Outgoing → Type 0
 MovesBy entry (Records l items) x y = Moves entry l items x y
-MovesBy entry (Routes routes) x y = Reroutes entry routes x y
+MovesBy entry (Routes routes) x y = RoutesMove entry routes x y
 
 -- Moves of a kind lead from one to the other.
 pub data Leads (Move : Outgoing → Outgoing → Type 0) : Outgoing → Outgoing → Type 0 where

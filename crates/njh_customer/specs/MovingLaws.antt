@@ -26,7 +26,7 @@ use Rattle.njh_customer.specs.Part.{Part, bytes_taken, rest_on}
 use Rattle.njh_customer.specs.NewRoutes.{entry_with}
 use Rattle.njh_customer.specs.Runs.{OwnEvent, OwnBytes, OwnSignal, OwnRoutes, Run, event_run}
 use Rattle.njh_customer.specs.Outgoing.{Outgoing, outgoing, has_file, record_numbered, stream_at}
-use Rattle.njh_customer.specs.Moves.{Coming, Records, Routes, Commands, Leads, Moves, MovesBy, Sends, Tells}
+use Rattle.njh_customer.specs.Moves.{Coming, Records, Routes, Commands, Leads, MovesBy, Sends, Tells}
 use Rattle.njh_customer.specs.Doing.{Does, records_in}
 
 -- ---- what comes
@@ -38,7 +38,8 @@ FramesDoSo = (l : ℕ) (received : Received) (c : Customer) → Does l (records_
 abbrev pub SignalsDoSo : Type 0
 SignalsDoSo = (l : ℕ) (signal : Signal) (c : Customer) → Does l [] c (signal_came l signal c)
 
--- What new routes do. They move no line, send nothing, and leave the partial files as they are; and with a fault in them they do nothing.
+-- What new routes do. They send nothing, and leave all lines as they are, what waits on them, and the partial files. Without a fault they are
+-- the customer's from then on; else nothing is changed.
 pub record RoutesDo (p : Part) (routes : List NewRoute) (r : Run) : Type 0 where
   pub sent : r.sent ≡ []
   pub rests : r.after.rests ≡ p.rests
@@ -150,14 +151,14 @@ pub data FileMoves (entry : CustomerEntry) (items : List Item) (x : Outgoing) (g
       → g.number ≡ f.number → g.kind ≡ f.kind → length node ≡ 8 → g.records ≡ redirected f.kind node None f.records
       → FileMoves entry items x g
 
--- By new routes a file is what it was, or it was Ready or Refused, its node has no route now, and it is Held.
-pub data FileRerouted (entry : CustomerEntry) (x : Outgoing) (g : WholeFile) : Type 0 where
-  is_as_before : Contains x.files g → has_lost_route entry g ≡ false → FileRerouted entry x g
-  is_held : (f : WholeFile) → Contains x.files f → has_lost_route entry f ≡ true → g ≡ held f → FileRerouted entry x g
+-- By new routes a file is what it was; or it was Ready or Refused, its node has no route now, and it is Held.
+pub data RoutesMoveFile (entry : CustomerEntry) (x : Outgoing) (g : WholeFile) : Type 0 where
+  is_as_before : Contains x.files g → has_lost_route entry g ≡ false → RoutesMoveFile entry x g
+  is_held : (f : WholeFile) → Contains x.files f → has_lost_route entry f ≡ true → g ≡ held f → RoutesMoveFile entry x g
 
 abbrev pub FileMovesBy : CustomerEntry → Coming → Outgoing → WholeFile → Type 0
 FileMovesBy entry (Records l items) x g = FileMoves entry items x g
-FileMovesBy entry (Routes routes) x g = FileRerouted (entry_with (taken_routes routes) entry) x g
+FileMovesBy entry (Routes routes) x g = RoutesMoveFile (entry_with (taken_routes routes) entry) x g
 
 abbrev pub RecordsChangeSo : Type 0
 RecordsChangeSo =
