@@ -22,6 +22,7 @@ customer_of_quota quota = record {
   lines =
       record { node = field "LYON"; role = Answer; block = 1024; streams = 4; password = [] }
       ∷ record { node = field "METZ"; role = Answer; block = 1024; streams = 4; password = [] } ∷ [];
+  up = false ∷ false ∷ [];
   routes =
       record { node = field "LYON"; line = 0; second = None }
       ∷ record { node = field "METZ"; line = 1; second = None } ∷ [];
