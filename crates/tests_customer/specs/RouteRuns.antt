@@ -2,7 +2,7 @@
 use Prim.Native.String.{String}
 use Rattle.std.specs.Prelude.{ℕ, List, [], ◌∷◌, ◌++◌, Some, None, refl}
 use Rattle.njh_customer.specs.declared.signal.Signal.TheVariants.{Tick, Lost}
-use Rattle.njh_table.specs.NewRoutes.{NewRoute}
+use Rattle.njh_table.specs.NewRoutes.{NewRoute, NoSecond}
 use Rattle.tests_customer.specs.Spelled.{ebcdic, field, nodal_message, job_header, data_set_header, hello, trailer, file_end, says, hears, block}
 use Rattle.tests_customer.specs.Played.{Plays, on, routes, signal}
 use Rattle.tests_customer.specs.Samples.{
@@ -20,11 +20,11 @@ use Rattle.tests_customer.specs.Samples.{
 }
 
 abbrev to : String → ℕ → NewRoute
-to node line = record { node = field node; line = Some line }
+to node line = record { node = field node; line = Some line; second = NoSecond }
 
 -- by a line that isn't the customer's
 abbrev to_foreign : String → NewRoute
-to_foreign node = record { node = field node; line = None }
+to_foreign node = record { node = field node; line = None; second = NoSecond }
 
 -- what ANNA is told of her file when she lists her files
 abbrev one_file : String → List ℕ

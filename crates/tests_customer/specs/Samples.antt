@@ -1,6 +1,6 @@
 -- A customer with two lines, and what its peers send at first.
 use Prim.Native.String.{String}
-use Rattle.std.specs.Prelude.{◌≡◌, ℕ, ◌+◌, List, [], ◌∷◌, ◌++◌, None, refl}
+use Rattle.std.specs.Prelude.{◌≡◌, ℕ, ◌+◌, false, List, [], ◌∷◌, ◌++◌, None, refl}
 use Rattle.njh_table.specs.Entries.{CustomerEntry}
 use Rattle.njh_table.specs.declared.Role.TheVariants.{Answer}
 use Rattle.tests_customer.specs.Spelled.{hex, field, text, block, job_header, data_set_header, hello, trailer, file_end, says, hears}
