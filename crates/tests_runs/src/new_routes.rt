@@ -116,7 +116,11 @@ fn push_frame(alloc: Global, text: &mut String, frame: &[u8]) -> Result<(), Allo
 
 fn route(node: &str, line: LineId) -> Result<RouteEntry, Failure> {
     match Name::of_text(node) {
-        Ok(node) => Ok(RouteEntry { node, line }),
+        Ok(node) => Ok(RouteEntry {
+            node,
+            line,
+            second: None,
+        }),
         Err(_) => Err(of_hub(HubFault::UnknownCustomer)),
     }
 }
