@@ -5,3 +5,4 @@ pub mod SessionRuns
 pub mod ReceivingRuns
 pub mod CommandRuns
 pub mod SendingRuns
+pub mod RouteRuns

@@ -1,6 +1,6 @@
 -- A customer with two lines, and what its peers send at first.
 use Prim.Native.String.{String}
-use Rattle.std.specs.Prelude.{◌≡◌, ℕ, ◌+◌, List, [], ◌∷◌, ◌++◌, None, refl}
+use Rattle.std.specs.Prelude.{◌≡◌, ℕ, ◌+◌, false, List, [], ◌∷◌, ◌++◌, None, refl}
 use Rattle.njh_table.specs.Entries.{CustomerEntry}
 use Rattle.njh_table.specs.declared.Role.TheVariants.{Answer}
 use Rattle.tests_customer.specs.Spelled.{hex, field, text, block, job_header, data_set_header, hello, trailer, file_end, says, hears}
@@ -22,6 +22,7 @@ customer_of_quota quota = record {
   lines =
       record { node = field "LYON"; role = Answer; block = 1024; streams = 4; password = [] }
       ∷ record { node = field "METZ"; role = Answer; block = 1024; streams = 4; password = [] } ∷ [];
+  up = false ∷ false ∷ [];
   routes =
       record { node = field "LYON"; line = 0; second = None }
       ∷ record { node = field "METZ"; line = 1; second = None } ∷ [];

@@ -49,26 +49,22 @@ enum When {
 
 /// A hub of two customers, what was sent to ACME, and when BOLT is given routes.
 #[derive(Drop)]
-struct Play {
-    hub: Hub,
+struct Play<'a> {
+    hub: &'a mut Hub,
     when: When,
     sent: String,
 }
 
-impl Play {
-    fn open<R: Files + AllocGlobal>(rt: &R, when: When) -> Result<Play, Failure> {
-        let tables = fs::read_to_string(rt, "two_networks.toml")?;
-        let hub = match Hub::open(rt.alloc(), Tables::read(rt.alloc(), tables.as_str())?) {
-            Ok(hub) => hub,
-            Err(fault) => return Err(of_hub(fault)),
-        };
-        Ok(Play {
-            hub,
-            when,
-            sent: String::new(rt.alloc()),
-        })
+/// A hub of ACME and BOLT.
+fn open<R: Files + AllocGlobal>(rt: &R) -> Result<Hub, Failure> {
+    let tables = fs::read_to_string(rt, "two_networks.toml")?;
+    match Hub::open(rt.alloc(), Tables::read(rt.alloc(), tables.as_str())?) {
+        Ok(hub) => Ok(hub),
+        Err(fault) => Err(of_hub(fault)),
     }
+}
 
+impl Play<'_> {
     /// BOLT is given no routes, if now is when.
     fn others(&mut self, when: When) -> Result<(), Failure> {
         if self.when != when {
@@ -83,17 +79,8 @@ impl Play {
     /// Bytes come on a line of ACME's; without any it is a tick.
     fn step(&mut self, alloc: Global, line: LineId, digits: &str) -> Result<(), Failure> {
         self.others(When::Before)?;
-        let piece = bytes_of(alloc, digits)?;
-        let mut out = Vec::new(alloc);
-        let answer = match piece.is_empty() {
-            true => self.hub.tick(line, &mut out),
-            false => self.hub.take(line, &piece, &mut out).map(|_| ()),
-        };
-        match answer {
-            Ok(()) => {}
-            Err(fault) => return Err(of_hub(fault)),
-        }
-        push_frame(alloc, &mut self.sent, &out)?;
+        let frame = answer(alloc, self.hub, line, digits)?;
+        push_frame(alloc, &mut self.sent, &frame)?;
         self.others(When::Behind)
     }
 
@@ -107,6 +94,20 @@ impl Play {
     }
 }
 
+/// The frame that a line of ACME's is sent for bytes, or for a tick.
+fn answer(alloc: Global, hub: &mut Hub, line: LineId, digits: &str) -> Result<Vec<u8>, Failure> {
+    let piece = bytes_of(alloc, digits)?;
+    let mut out = Vec::new(alloc);
+    let answer = match piece.is_empty() {
+        true => hub.tick(line, &mut out),
+        false => hub.take(line, &piece, &mut out).map(|_| ()),
+    };
+    match answer {
+        Ok(()) => Ok(out),
+        Err(fault) => Err(of_hub(fault)),
+    }
+}
+
 fn push_frame(alloc: Global, text: &mut String, frame: &[u8]) -> Result<(), AllocError> {
     let digits = hex::encode(alloc, frame)?;
     let line = format!(in alloc; "routes: [{digits}]\n")?;
@@ -115,27 +116,50 @@ fn push_frame(alloc: Global, text: &mut String, frame: &[u8]) -> Result<(), Allo
 
 fn route(node: &str, line: LineId) -> Result<RouteEntry, Failure> {
     match Name::of_text(node) {
-        Ok(node) => Ok(RouteEntry { node, line }),
+        Ok(node) => Ok(RouteEntry {
+            node,
+            line,
+            second: None,
+        }),
         Err(_) => Err(of_hub(HubFault::UnknownCustomer)),
     }
 }
 
 /// A file comes in on a1 for METZ. The node loses its route, and has it again; then the file is released, and a2 asks for it.
 fn sent_to_acme<R: Files + AllocGlobal>(rt: &R, when: When) -> Result<String, Failure> {
-    let alloc = rt.alloc();
-    let mut play = Play::open(rt, when)?;
-    for digits in [CONTACT, SIGN_ON, REQUEST, FILE] {
-        play.step(alloc, A1, digits)?;
+    let mut hub = open(rt)?;
+    sent_by(rt.alloc(), &mut hub, when)
+}
+
+fn sent_by(alloc: Global, hub: &mut Hub, when: When) -> Result<String, Failure> {
+    let mut play = Play {
+        hub,
+        when,
+        sent: String::new(alloc),
+    };
+    play_all(alloc, &mut play)?;
+    Ok(play.sent)
+}
+
+fn play_all(alloc: Global, play: &mut Play<'_>) -> Result<(), Failure> {
+    let both = [route("LYON", A1)?, route("METZ", A2)?];
+    let [lyon, _] = both;
+    for (line, digits) in [
+        (A1, CONTACT),
+        (A1, SIGN_ON),
+        (A1, REQUEST),
+        (A1, FILE),
+        (A2, CONTACT),
+        (A2, METZ),
+    ] {
+        play.step(alloc, line, digits)?;
     }
-    play.step(alloc, A2, CONTACT)?;
-    play.step(alloc, A2, METZ)?;
-    play.retable(&[route("LYON", A1)?])?;
+    play.retable(&[lyon])?;
     play.step(alloc, A1, LIST)?;
     play.step(alloc, A2, "1070")?;
-    play.retable(&[route("LYON", A1)?, route("METZ", A2)?])?;
+    play.retable(&both)?;
     play.step(alloc, A1, RELEASE)?;
-    play.step(alloc, A2, "")?;
-    Ok(play.sent)
+    play.step(alloc, A2, "")
 }
 
 /// What comes of routes that a customer can't have.
@@ -144,8 +168,12 @@ fn refuse<R: Files + Print + AllocGlobal>(
     customer: u16,
     routes: &[RouteEntry],
 ) -> Result<(), Failure> {
-    let mut play = Play::open(rt, When::Never)?;
-    match play.hub.retable(customer, routes) {
+    let mut hub = open(rt)?;
+    say_answer(rt, hub.retable(customer, routes))
+}
+
+fn say_answer<R: Print>(rt: &R, answer: Result<(), HubFault>) -> Result<(), Failure> {
+    match answer {
         Ok(()) => println!(rt; "routes: taken")?,
         Err(fault) => println!(rt; "routes: {fault}")?,
     }

@@ -1,7 +1,6 @@
 //! What is read of tables, and the tables without a file.
 
 use super::*;
-use njh_ebcdic::Name;
 use njh_table::{Customer, Line, Role};
 use std::process::Abort;
 use std::test::Fail;
@@ -57,8 +56,8 @@ fn push_customer(alloc: Global, text: &mut String, customer: &Customer) -> Resul
         push_line(alloc, text, line)?;
     }
     for index in 0..customer.routes() {
-        let (node, line) = customer.route_at(index);
-        text.push_str(format!(in alloc; "{node} by {line}\n")?.as_str())?;
+        let route = text_of_route(alloc, customer.route_at(index))?;
+        text.push_str(format!(in alloc; "{route}\n")?.as_str())?;
     }
     Ok(())
 }

@@ -2,7 +2,7 @@ use Rattle.std.proofs.Common.{◌≡◌, Ok, Some, sym, ◌∙◌}
 use Rattle.njh_block.specs.Blocks.{first_record}
 use Rattle.njh_block.specs.Shown.{shown}
 use Rattle.njh_block.proofs.ReadingLaws.{first_leaves_less, fault_in-first}
-use Rattle.njh_block.proofs.reading.check_records.Goals as goal
+use Rattle.njh_block.proofs.reading.check_each.Goals as goal
 
 pub loop-after-smaller : goal.loop-after-smaller
 loop-after-smaller c =

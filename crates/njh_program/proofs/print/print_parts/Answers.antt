@@ -4,7 +4,7 @@ use Rattle.std.proofs.KnownBytes.{Appends-nil, Appends-trans}
 use Rattle.hex.specs.Hex.{encode_lower}
 use Rattle.njh_program.specs.Printed.{frame_text}
 use Rattle.njh_program.proofs.PrintedParts.{beginning-after, frame-parts, on_err_of, on_err_then}
-use Rattle.njh_program.proofs.print.print_frame.Goals as goal
+use Rattle.njh_program.proofs.print.print_parts.Goals as goal
 
 pub returns-in_err-write_bytes-clause-err : goal.returns-in_err-write_bytes-clause-err
 returns-in_err-write_bytes-clause-err g c =
