@@ -2,9 +2,9 @@
 
 ghost use Rattle.std.specs.Prelude.{◌≡◌, ◌<◌, ◌≤◌, length, IfOk};
 ghost use Rattle.njh_spool.specs.Spools.{part};
-ghost use Rattle.tests_next.specs.Kept.{IsKept};
+ghost use Rattle.tests_customer.specs.Kept.{IsKept};
 
-use crate::memory::Memory;
+use super::memory::Memory;
 use njh_block::{Bcb, BlockText, BlockWriter, Fcs};
 use njh_record::Kind;
 use njh_sched::fill;

@@ -1,6 +1,6 @@
 //! What another node changes in a file.
 
-use crate::playing::play;
+use crate::commands::playing::play;
 use std::test::Fail;
 
 /// The first data set header's node lies across two blocks, and a continuation follows it.

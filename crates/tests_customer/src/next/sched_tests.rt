@@ -1,11 +1,11 @@
 //! The next block: worked examples, its limits, and whose turn it is.
 
 ghost use Rattle.std.specs.Prelude.{◌<◌, length};
-ghost use Rattle.tests_next.specs.Kept.{IsKept};
+ghost use Rattle.tests_customer.specs.Kept.{IsKept};
 
-use crate::calls;
-use crate::playing::play;
-use crate::samples::TABLES;
+use super::calls;
+use super::playing::play;
+use super::samples::TABLES;
 use njh_block::Fcs;
 use njh_record::Kind;
 use njh_sched::own_fcs;

@@ -1,12 +1,13 @@
 //! Scripts of what a line has to send, and of its next blocks.
 
-use crate::calls;
-use crate::memory::Memory;
-use crate::samples::{TABLES, record_of};
+use super::calls;
+use super::memory::Memory;
+use super::samples::TABLES;
+use crate::samples::record_of;
+use crate::words::{id_in, sender_in, state_in};
 use njh_block::Fcs;
 use njh_record::Kind;
-use njh_spool::{FileId, Spool, State};
-use njh_stream::Sender;
+use njh_spool::{FileId, Spool};
 use njh_table::Tables;
 use std::alloc::{AllocError, Global};
 use std::process::Abort;
@@ -208,28 +209,6 @@ fn look<R: Abort>(
     Ok(())
 }
 
-fn sender_in(files: &[FileId], what: &str) -> Result<Sender, Fail> {
-    let (state, places) = what.split_once(" ").unwrap_or((what, ""));
-    match state {
-        "Idle" => Ok(Sender::Idle),
-        "Aborting" => Ok(Sender::Aborting),
-        "Requested" => Ok(Sender::Requested(id_in(files, places)?)),
-        "EofSent" => Ok(Sender::EofSent(id_in(files, places)?)),
-        "Sending" => {
-            let (place, n) = places.split_once(" ").ok_or("no record")?;
-            Ok(Sender::Sending(id_in(files, place)?, n.parse::<u32>()?))
-        }
-        _ => Err("no such sender".into()),
-    }
-}
-
-fn id_in(files: &[FileId], place: &str) -> Result<FileId, Fail> {
-    match files.get(place.parse::<usize>()?) {
-        Some(file) => Ok(*file),
-        None => Err("no such file".into()),
-    }
-}
-
 /// What is done with files.
 fn act<R: Abort>(
     rt: &R,
@@ -271,14 +250,4 @@ fn store<R: Abort>(
     calls::finish(rt, spool, file)?;
     files.push(file)?;
     Ok(())
-}
-
-fn state_in(word: &str) -> Result<State, Fail> {
-    match word {
-        "Ready" => Ok(State::Ready),
-        "Held" => Ok(State::Held),
-        "Refused" => Ok(State::Refused),
-        "Sending" => Ok(State::Sending),
-        _ => Err("no such state".into()),
-    }
 }

@@ -1,9 +1,9 @@
 -- Whole runs: files that go out, and what keeps them from it.
 use Rattle.std.specs.Prelude.{ℕ, List, [], ◌∷◌, ◌++◌, refl}
 use Rattle.njh_customer.specs.declared.signal.Signal.TheVariants.{Tick, Lost}
-use Rattle.tests_customer.specs.Spelled.{hex, ebcdic, nodal_message, job_header, data_set_header, trailer, file_end, says, hears, text, block}
-use Rattle.tests_customer.specs.Played.{Plays, Turn, on, signal}
-use Rattle.tests_customer.specs.Samples.{
+use Rattle.tests_played.specs.Spelled.{hex, ebcdic, nodal_message, job_header, data_set_header, trailer, file_end, says, hears, text, block}
+use Rattle.tests_played.specs.Played.{Plays, Turn, on, signal}
+use Rattle.tests_played.specs.Samples.{
   a1,
   a2,
   acme,

@@ -1,13 +1,14 @@
 //! Scripts of files, and of what users say to the hub.
 
+use super::calls;
+use crate::Streams;
 use crate::samples::{TABLES, customer_and_user, job, record_of};
-use crate::{Streams, calls};
+use crate::words::{id_in, sender_in, state_in};
 use njh_command::Replies;
 use njh_ebcdic::{FIELD, Name, byte_of, text_of};
 use njh_header::MessageText;
 use njh_record::Kind;
-use njh_spool::{FileId, Spool, State};
-use njh_stream::Sender;
+use njh_spool::{FileId, Spool};
 use njh_table::Tables;
 use std::alloc::{AllocError, Global};
 use std::process::Abort;
@@ -173,33 +174,6 @@ fn look<R: Abort>(
     Ok(())
 }
 
-fn sender_in(files: &[FileId], what: &str) -> Result<Sender, Fail> {
-    match what.split_once(" ") {
-        None => idle_or_aborting(what),
-        Some(("EofSent", place)) => Ok(Sender::EofSent(id_in(files, place)?)),
-        Some(("Sending", places)) => {
-            let (place, n) = places.split_once(" ").ok_or("no record")?;
-            Ok(Sender::Sending(id_in(files, place)?, n.parse::<u32>()?))
-        }
-        Some(_) => Err("no such sender".into()),
-    }
-}
-
-fn idle_or_aborting(what: &str) -> Result<Sender, Fail> {
-    match what {
-        "Idle" => Ok(Sender::Idle),
-        "Aborting" => Ok(Sender::Aborting),
-        _ => Err("no such sender".into()),
-    }
-}
-
-fn id_in(files: &[FileId], place: &str) -> Result<FileId, Fail> {
-    match files.get(place.parse::<usize>()?) {
-        Some(file) => Ok(*file),
-        None => Err("no such file".into()),
-    }
-}
-
 /// What is done with files.
 fn act<R: Abort>(
     rt: &R,
@@ -256,16 +230,6 @@ fn store<R: Abort>(
     }
     calls::finish(rt, spool, customer, file)?;
     Ok(file)
-}
-
-fn state_in(word: &str) -> Result<State, Fail> {
-    match word {
-        "Ready" => Ok(State::Ready),
-        "Held" => Ok(State::Held),
-        "Refused" => Ok(State::Refused),
-        "Sending" => Ok(State::Sending),
-        _ => Err("no such state".into()),
-    }
 }
 
 /// A file of ACME begins with these records.

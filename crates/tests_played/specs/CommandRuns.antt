@@ -1,9 +1,9 @@
 -- Whole runs: what users command about their files.
 use Prim.Native.String.{String}
 use Rattle.std.specs.Prelude.{ℕ, List, [], ◌∷◌, ◌++◌, refl}
-use Rattle.tests_customer.specs.Spelled.{hex, job_header, data_set_header, trailer, file_end, says, hears, block}
-use Rattle.tests_customer.specs.Played.{Plays, on}
-use Rattle.tests_customer.specs.Samples.{a1, acme, request, permission, completion, lyon_is_up, file_comes}
+use Rattle.tests_played.specs.Spelled.{hex, job_header, data_set_header, trailer, file_end, says, hears, block}
+use Rattle.tests_played.specs.Played.{Plays, on}
+use Rattle.tests_played.specs.Samples.{a1, acme, request, permission, completion, lyon_is_up, file_comes}
 
 -- ANNA and EVA have a file of the same name each.
 users_hold_their_own_files :

@@ -4,7 +4,7 @@ use Rattle.std.proofs.Math.ListN.{length-set}
 use Rattle.std.proofs.lemmas.List.{get_or-set_same}
 use Rattle.njh_spool.specs.CustomerSpool.{CustomerSpool, PartialFile, partial_numbered, finished, abandoned, as_whole}
 use Rattle.njh_spool.specs.Spools.{part, no_spool}
-use Rattle.tests_next.specs.Kept.{IsKept}
+use Rattle.tests_customer.specs.Kept.{IsKept}
 
 pub kept : (old new : List CustomerSpool) (s : CustomerSpool) → 0 < length old → new ≡ slice_set old 0 s → s.quota ≡ (part 0 old).quota
     → IsKept old new

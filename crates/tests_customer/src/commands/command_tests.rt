@@ -3,7 +3,7 @@
 mod rerouting;
 mod words;
 
-use crate::playing::play;
+use super::playing::play;
 use njh_command::BadCommand;
 use std::test::Fail;
 

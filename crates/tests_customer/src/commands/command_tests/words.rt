@@ -1,6 +1,6 @@
 //! Which messages are commands.
 
-use crate::playing::play;
+use crate::commands::playing::play;
 use std::test::Fail;
 
 /// Each a message that is a command, and what is replied where there are no files.
