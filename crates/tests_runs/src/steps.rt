@@ -131,7 +131,7 @@ fn take_signal<R: Print + AllocGlobal>(rt: &R, hub: &mut Hub, event: Event) -> R
         Event::Tick(line) => ("tick", hub.tick(line, &mut out)),
         Event::Garbled(line) => ("garbled", hub.garbled(line, &mut out)),
         Event::Lost(line) => ("lost", hub.lost(line, &mut out)),
-        Event::Bytes(..) => ("", Ok(())),
+        Event::Bytes(..) | Event::Routes(..) => ("", Ok(())),
     };
     show(rt, step, answer.map(|_| 0), &out)
 }
