@@ -3,17 +3,50 @@
 ghost use Rattle.std.specs.Prelude.{◌≡◌, ◌<◌, ◌==◌, ◌∷◌, length, option_map, position, bytes_eq, IfOk, IfSome};
 ghost use Rattle.std.specs.List.{slice_split};
 ghost use Rattle.njh_program.specs.Found.{parts_behind};
-
-ghost use Rattle.njh_program.specs.ScriptRoutes.{customer_of, route_of, route_to, routes_of};
+ghost use Rattle.njh_program.specs.Script.{words_of};
+ghost use Rattle.njh_program.specs.ScriptRoutes.{customer_named, routes_for, route_of_pair, route_by, routes_event, routes_of_pairs, IsNamedIn};
 
 use njh_ebcdic::Name;
-
+use njh_hub::{Event, RouteList};
 use njh_table::{Customer, RouteEntry, Tables};
 use std::alloc::{AllocError, Global};
 
+/// The event of the words behind `ROUTES`, if they have one: a customer's name and then a pair for each route, which the customer may
+/// have all together. Out of memory is the only refusal.
+pub fn routes_event(alloc: Global, tables: &Tables, words: &str) -> Result<Option<Event>, AllocError>
+    ensures event { IfOk result (λ event. event ≡ routes_event tables.now (words_of words.now)) }
+    ensures named { IfOk result (λ event. IfSome event (IsNamedIn tables.now)) }
+{
+    let (name, pairs) = first_part(words, ' ');
+    let Some(customer) = customer_named(tables, name) else {
+        return Ok(None);
+    };
+    match routes_of_pairs(alloc, tables, pairs)? {
+        Some(routes) => routes_for(alloc, tables, customer, &routes),
+        None => Ok(None),
+    }
+}
+
+/// The event that a customer is given routes, where it may have them.
+fn routes_for(
+    alloc: Global,
+    tables: &Tables,
+    customer: u16,
+    routes: &[RouteEntry],
+) -> Result<Option<Event>, AllocError>
+    requires { customer < length tables.now.customers }
+    ensures event { IfOk result (λ event. event ≡ routes_for tables.now customer routes.now) }
+    ensures named { IfOk result (λ event. IfSome event (IsNamedIn tables.now)) }
+{
+    match tables.check_routes(customer, routes) {
+        Ok(()) => Ok(Some(Event::Routes(customer, RouteList::of(alloc, routes)?))),
+        Err(_) => Ok(None),
+    }
+}
+
 /// The number of the customer that a word names.
-fn customer_of(tables: &Tables, word: &str) -> Option<u16>
-    ensures number { result ≡ customer_of tables.now word.now }
+fn customer_named(tables: &Tables, word: &str) -> Option<u16>
+    ensures number { result ≡ customer_named tables.now word.now }
     ensures known { IfSome result (λ customer. customer < length tables.now.customers) }
 {
     let name = Name::of_text(word).ok()?;
@@ -38,18 +71,18 @@ fn is_named(customer: &Customer, name: Name) -> bool
 }
 
 /// The routes of pairs, where each is one.
-fn routes_of(
+fn routes_of_pairs(
     alloc: Global,
     tables: &Tables,
     pairs: Option<&str>,
 ) -> Result<Option<Vec<RouteEntry>>, AllocError>
-    ensures { IfOk result (λ routes. option_map (λ r. r.items) routes ≡ routes_of tables.now (parts_behind 32 pairs.entry)) }
+    ensures { IfOk result (λ routes. option_map (λ r. r.items) routes ≡ routes_of_pairs tables.now (parts_behind 32 pairs.entry)) }
 {
     let mut routes = Vec::new(alloc);
     let mut left = pairs;
     'pairs: while let Some(text) = left {
         let (pair, behind) = first_part(text, ' ');
-        match route_of(tables, pair) {
+        match route_of_pair(tables, pair) {
             Some(route) => routes.push(route)?,
             None => return Ok(None),
         }
@@ -59,19 +92,19 @@ fn routes_of(
 }
 
 /// The route of a pair: a node, a colon and the name of a line.
-fn route_of(tables: &Tables, pair: &str) -> Option<RouteEntry>
-    ensures { result ≡ route_of tables.now pair.now }
+fn route_of_pair(tables: &Tables, pair: &str) -> Option<RouteEntry>
+    ensures { result ≡ route_of_pair tables.now pair.now }
 {
     let (node, behind) = first_part(pair, ':');
     match first_part(behind?, ':') {
-        (line, None) => route_to(tables, node, line),
+        (line, None) => route_by(tables, node, line),
         (_, Some(_)) => None,
     }
 }
 
 /// The route of a node and the name of a line, whoever's line that is.
-fn route_to(tables: &Tables, node: &str, line: &str) -> Option<RouteEntry>
-    ensures { result ≡ route_to tables.now node.now line.now }
+fn route_by(tables: &Tables, node: &str, line: &str) -> Option<RouteEntry>
+    ensures { result ≡ route_by tables.now node.now line.now }
 {
     let node = Name::of_text(node).ok()?;
     let line = tables.line_owner(line)?;

@@ -17,9 +17,9 @@ returns-in_err-print_files-clause-begun g c =
 
 pub returns-in_err-print_files-clause-memory : goal.returns-in_err-print_files-clause-memory
 returns-in_err-print_files-clause-memory g c = λ memory.
-    inr (up_to_printed c.args.names.now c.args.hub.now c.print_run.new.hub c.args.events.now c.args.customers.now _ _ _
+    inr (inr (up_to_printed c.args.names.now c.args.hub.now c.print_run.new.hub c.args.events.now c.args.customers.now _ _ _
     c.in_ok-print_run.ensures.after (omega (arith, c.requires.all)) c.in_ok-print_run.ensures.printed
-    (c.in_err-print_files.ensures.memory (search rules)))
+    (c.in_err-print_files.ensures.memory (search rules))))
 
 pub returns-in-Ok-clause-printed : goal.returns-in-Ok-clause-printed
 returns-in-Ok-clause-printed g c =

@@ -1,8 +1,6 @@
-use Rattle.std.proofs.Common.{ℕ, List, ◌∷◌, ap, ◌∙◌}
+use Rattle.std.proofs.Common.{refl}
 use Rattle.njh_program.proofs.Parting.{parts-some}
-use Rattle.njh_program.specs.ScriptRoutes.{route_of_parts}
-use Rattle.njh_program.specs.Found.{parts_behind}
-use Rattle.njh_program.proofs.script_routes.route_of.Goals as goal
+use Rattle.njh_program.proofs.script_routes.route_of_pair.Goals as goal
 
 pub returns-in_default-Some : goal.returns-in_default-Some
 returns-in_default-Some c =
