@@ -45,12 +45,15 @@ customer_of-cut n (Garbled line) = refl
 customer_of-cut n (Lost line) = refl
 customer_of-cut n (Routes c routes) = refl
 
+same_customer : (l line : LineId) → Some l ≡ Some line → l.customer ≡ line.customer
+same_customer l line is = let same : l ≡ line = cc is in ap (λ (x : LineId). x.customer) same
+
 -- an event on a line is of that line's customer
 customer_of-on : (event : Event) (line : LineId) → line_of event ≡ Some line → customer_of event ≡ line.customer
-customer_of-on (Bytes l piece) line on = ap (λ (x : LineId). x.customer) (cc on)
-customer_of-on (Tick l) line on = ap (λ (x : LineId). x.customer) (cc on)
-customer_of-on (Garbled l) line on = ap (λ (x : LineId). x.customer) (cc on)
-customer_of-on (Lost l) line on = ap (λ (x : LineId). x.customer) (cc on)
+customer_of-on (Bytes l piece) line on = same_customer l line on
+customer_of-on (Tick l) line on = same_customer l line on
+customer_of-on (Garbled l) line on = same_customer l line on
+customer_of-on (Lost l) line on = same_customer l line on
 customer_of-on (Routes c routes) line on = cc on
 
 told-other : (c : ℕ) (line : LineId) (cut : Option ℕ) (event : Event) → line_of event ≡ Some line → eqb line.customer c ≡ false →

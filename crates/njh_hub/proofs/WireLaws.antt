@@ -1,6 +1,6 @@
 -- An event of a wire: its steps, the frames that are written, and a write that fails.
 use Rattle.std.proofs.Common.{◌≡◌, ℕ, zero, suc, ◌+◌, ◌-◌, ◌<◌, ◌≤◌, List, [], ◌∷◌, ◌++◌, length, map, take, set, refl}
-use Rattle.std.proofs.Common.{ap, sym, subst, ◌∙◌, arith, append-nil}
+use Rattle.std.proofs.Common.{Option, Some, ap, sym, subst, ◌∙◌, arith, append-nil}
 use Rattle.std.proofs.lemmas.List.{get_or-set_same, length-set, length-append, map-append}
 use Rattle.std.proofs.Math.Seq.{take-add}
 use Rattle.njh_bisync.specs.Reading.{Rest}

@@ -1,7 +1,7 @@
 use Rattle.std.proofs.Common.{◌≡◌, ◌∙◌, sym, List, [], ℕ, ap, rules}
 use Rattle.njh_customer.specs.Feeding.{sent_on}
 use Rattle.njh_hub.specs.Whole.{HubRun, sent_by}
-use Rattle.njh_hub.proofs.RunningLaws.{line-event_by, named-event_by, sent_pair, signal_done}
+use Rattle.njh_hub.proofs.RunningLaws.{named-event_by, sent_pair, signal_done}
 use Rattle.njh_hub.proofs.hub.Hub.run_signal.Goals as goal
 
 pub returns-in-Err-hand_over : goal.returns-in-Err-hand_over
