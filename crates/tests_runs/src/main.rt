@@ -8,6 +8,7 @@ mod customers;
 mod new_routes;
 mod peers;
 mod random_runs;
+mod route_lines;
 mod scripts;
 mod steps;
 mod streams;
@@ -27,6 +28,7 @@ fn tried<R: Files + Net + Print + AllocGlobal>(rt: &R) -> Result<(), Failure> {
     steps::take(rt)?;
     steps::keep(rt)?;
     new_routes::change(rt)?;
+    route_lines::try_each(rt)?;
     steps::refuse(rt)
 }
 

@@ -113,7 +113,8 @@ fn push_frame(alloc: Global, text: &mut String, frame: &[u8]) -> Result<(), Allo
     text.push_str(line.as_str())
 }
 
-fn route(node: &str, line: LineId) -> Result<RouteEntry, Failure> {
+/// A route to a node by a line.
+pub fn route(node: &str, line: LineId) -> Result<RouteEntry, Failure> {
     match Name::of_text(node) {
         Ok(node) => Ok(RouteEntry { node, line }),
         Err(_) => Err(of_hub(HubFault::UnknownCustomer)),
