@@ -6,9 +6,10 @@
 //! whole ones. A script with a `CUT` is played on a new hub for each place behind which the piece is cut. What all these do is
 //! said once where the steps do the same behind several places: `from N` begins what they do from the place N on.
 
+use crate::steps::{bytes_of, of_hub};
 use njh_ebcdic::text_of;
 use njh_hub::{FileView, Hub, HubFault};
-use njh_program::{Failure, ReplayFault};
+use njh_program::Failure;
 use njh_table::{LineId, Tables};
 use std::alloc::{AllocError, Global};
 use std::fs;
@@ -90,11 +91,6 @@ fn play(
     }
 }
 
-/// The program's failure for a fault of the hub.
-fn of_hub(fault: HubFault) -> Failure {
-    Failure::from(ReplayFault::from(fault))
-}
-
 /// What the steps of a script do.
 fn take_steps(
     alloc: Global,
@@ -154,14 +150,6 @@ fn take_bytes(
 /// So many of the first bytes, or all.
 fn beginning(piece: &[u8], count: usize) -> &[u8] {
     &piece[..count.min(piece.len())]
-}
-
-/// The bytes that hex digits spell.
-fn bytes_of(alloc: Global, digits: &str) -> Result<Vec<u8>, AllocError> {
-    match hex::decode(alloc, digits) {
-        Ok(bytes) => Ok(bytes),
-        Err(_) => Err(AllocError),
-    }
 }
 
 /// Tells a frame that was sent, if one was.
