@@ -1,12 +1,12 @@
 -- How a line falls into words, and the event of each form of line.
-use Rattle.std.proofs.Common.{◌≡◌, ℕ, ◌<◌, ◌≤◌, eqb, Bool, true, false, cond, codes, List, [], ◌∷◌, length, get_or}
+use Rattle.std.proofs.Common.{◌≡◌, ℕ, ◌<◌, ◌≤◌, eqb, Bool, true, false, cond, codes, List, ◌∷◌, length, get_or}
 use Rattle.std.proofs.Common.{Option, Some, None, option_and_then, Result, Ok, Err, ◌⊎◌, inl, inr, refl, sym, ap, subst, ◌∙◌}
-use Rattle.std.proofs.Common.{arith, lit<, Bor}
+use Rattle.std.proofs.Common.{lit<, Bor}
 use Rattle.std.proofs.lemmas.Bool.{cases_lt, eqb-true}
-use Rattle.std.proofs.lemmas.List.Splits.{slice_split_none, slice_split_first}
-use Rattle.std.proofs.lemmas.Str.Pattern.{IsSplitOnceResult, split_once_first}
-use Rattle.std.proofs.lemmas.List.Sums.{fails_before_first, passes_at_first}
-use Rattle.std.specs.List.{position_or_len, before_first, after_first, onto_first}
+use Rattle.std.proofs.lemmas.List.Splits.{slice_split_first}
+use Rattle.std.proofs.lemmas.Str.Pattern.{IsSplitOnceResult}
+use Rattle.std.proofs.lemmas.List.Sums.{passes_at_first}
+use Rattle.std.specs.List.{position_or_len, before_first, after_first}
 use Rattle.std.specs.Str.{bytes_eq}
 use Rattle.hex.specs.Hex.{decode_of, is_hex_digit}
 use Rattle.hex.specs.declared.error.FromHexError.{FromHexError}
@@ -67,20 +67,19 @@ event_of_words-routes tables line word rest split same =
     ap (event_of_words tables) (parts-first 32 line word rest (lit< tt) split).0
     ∙ ap (λ test. cond test (routes_event tables (words_of rest.now)) (event_on_line (owner_of tables) (word.now ∷ words_of rest.now))) same
 
-other_word : (tables : TableFile) (line : List ℕ) (word rest : Bor (List ℕ))
+-- any other word
+pub event_of_words-other : (tables : TableFile) (line : List ℕ) (word rest : Bor (List ℕ))
     → IsSplitOnceResult 32 line (Some (word, rest)) → bytes_eq word.now (codes "ROUTES") ≡ false
     → event_of_words tables (words_of line) ≡ event_on_line (owner_of tables) (word.now ∷ words_of rest.now)
-other_word tables line word rest split other =
+event_of_words-other tables line word rest split other =
     ap (event_of_words tables) (parts-first 32 line word rest (lit< tt) split).0
     ∙ ap (λ test. cond test (routes_event tables (words_of rest.now)) (event_on_line (owner_of tables) (word.now ∷ words_of rest.now))) other
 
 -- the event of a word and the name of a line
-pub event_of_words-two : (tables : TableFile) (line : List ℕ) (word name : Bor (List ℕ))
-    → IsSplitOnceResult 32 line (Some (word, name)) → bytes_eq word.now (codes "ROUTES") ≡ false → IsSplitOnceResult 32 name.now None
-    → event_of_words tables (words_of line) ≡ option_and_then (signal_of word.now) (owner_of tables name.now)
-event_of_words-two tables line word name split other whole =
-    other_word tables line word name split other
-    ∙ ap (λ (words : List (List ℕ)). event_on_line (owner_of tables) (word.now ∷ words)) (parts-whole 32 name.now (lit< tt) whole)
+pub event_on_line-two : (names : List ℕ → Option LineId) (word name : List ℕ) → IsSplitOnceResult 32 name None
+    → event_on_line names (word ∷ words_of name) ≡ option_and_then (signal_of word) (names name)
+event_on_line-two names word name whole =
+    ap (λ (words : List (List ℕ)). event_on_line names (word ∷ words)) (parts-whole 32 name (lit< tt) whole)
 
 -- the event of a word, the name of a line and digits
 digits_event : (names : List ℕ → Option LineId) (word name digits : List ℕ)
@@ -95,15 +94,12 @@ digits_event names word name digits = by (cases_lt (position_or_len is_blank dig
       ∙ sym (no_line (names name) (bytes_on word digits) (λ line. bytes_on-blank word digits line below))
   by (inr past) = ap (λ (words : List (List ℕ)). event_on_line names (word ∷ name ∷ words)) (parts-none 32 digits past)
 
-pub event_of_words-three : (tables : TableFile) (line : List ℕ) (word rest name digits : Bor (List ℕ)) (found : Option LineId)
-    → IsSplitOnceResult 32 line (Some (word, rest)) → bytes_eq word.now (codes "ROUTES") ≡ false
-    → IsSplitOnceResult 32 rest.now (Some (name, digits)) → found ≡ owner_of tables name.now
-    → event_of_words tables (words_of line) ≡ option_and_then (bytes_on word.now digits.now) found
-event_of_words-three tables line word rest name digits found split other again known =
-    other_word tables line word rest split other
-    ∙ ap (λ (words : List (List ℕ)). event_on_line (owner_of tables) (word.now ∷ words)) (parts-first 32 rest.now name digits (lit< tt) again).0
-    ∙ digits_event (owner_of tables) word.now name.now digits.now
-    ∙ ap (option_and_then (bytes_on word.now digits.now)) (sym known)
+pub event_on_line-three : (names : List ℕ → Option LineId) (word rest : List ℕ) (name digits : Bor (List ℕ)) (found : Option LineId)
+    → IsSplitOnceResult 32 rest (Some (name, digits)) → found ≡ names name.now
+    → event_on_line names (word ∷ words_of rest) ≡ option_and_then (bytes_on word digits.now) found
+event_on_line-three names word rest name digits found split known =
+    ap (λ (words : List (List ℕ)). event_on_line names (word ∷ words)) (parts-first 32 rest name digits (lit< tt) split).0
+    ∙ digits_event names word name.now digits.now ∙ ap (option_and_then (bytes_on word digits.now)) (sym known)
 
 -- an event on a line of the tables names what they have
 pub named_on : (tables : TableFile) (event : Event) (line : LineId) → HasLine tables line → line_of event ≡ Some line → IsNamedIn tables event

@@ -1,10 +1,10 @@
 -- A text that a mark parts: what stands before the first one, and the parts behind that.
-use Rattle.std.proofs.Common.{◌≡◌, ℕ, ◌<◌, ◌≤◌, ◌+◌, eqb, Bool, true, false, cond, List, [], ◌∷◌, length, Option, Some, None}
+use Rattle.std.proofs.Common.{◌≡◌, ℕ, ◌<◌, ◌≤◌, ◌+◌, eqb, Bool, true, false, cond, List, [], ◌∷◌, length, Some, None}
 use Rattle.std.proofs.Common.{refl, arith, length-drop, Bor}
 use Rattle.std.proofs.lemmas.List.Splits.{slice_split_none, slice_split_first}
 use Rattle.std.proofs.lemmas.List.Sums.{fails_before_first}
 use Rattle.std.proofs.lemmas.Str.Pattern.{IsSplitOnceResult, split_once_first}
-use Rattle.std.specs.List.{position_or_len, before_first, after_first, onto_first, slice_split}
+use Rattle.std.specs.List.{position_or_len, after_first, onto_first, slice_split}
 
 -- a text without the mark is one part
 pub parts-none : (c : ℕ) (text : List ℕ) → length text ≤ position_or_len (λ b. eqb b c) text
@@ -25,7 +25,7 @@ pub parts-first : (c : ℕ) (text : List ℕ) (part rest : Bor (List ℕ)) → c
 parts-first c text part rest ascii split =
     let cut = split_once_first c text (Some (part, rest)) split ascii in
     let shorter : length (after_first (λ b. eqb b c) text) < length text =
-        omega (arith, cut.0, length-drop (position_or_len (λ b. eqb b c) text + 1) text) in
+    omega (arith, cut.0, length-drop (position_or_len (λ b. eqb b c) text + 1) text) in
     (rw (cut.1, cut.2) (slice_split_first (λ b. eqb b c) text 0 cut.0), rw cut.2 shorter)
 
 -- there is always a first part

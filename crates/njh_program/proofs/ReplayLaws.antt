@@ -1,5 +1,5 @@
 -- A hub that was just opened on tables, a run of it over a script, and what is printed.
-use Rattle.std.proofs.Common.{◌≡◌, ℕ, zero, suc, List, [], ◌∷◌, ◌++◌, length, map, get_or, take, Option, Some, None, ◌⊎◌, inl, inr, refl}
+use Rattle.std.proofs.Common.{◌≡◌, ◌<◌, ℕ, zero, suc, List, [], ◌∷◌, ◌++◌, length, map, get_or, take, Option, Some, None, ◌⊎◌, inl, inr, refl}
 use Rattle.std.proofs.Common.{sym, ap, subst, ◌∙◌, append-nil, arith}
 use Rattle.std.specs.Prelude.{All, IsSomeAnd, OnOk, Result, Ok, Err, slice_get}
 use Rattle.std.specs.Io.KnownBytes.{Appends, Keeps}
@@ -153,7 +153,9 @@ printed_begins names later a b front more whole printed all =
 pub stopped_whole : {S : Type 0} (took : S → S → List (LineId × List ℕ) → Type 0) (refused : S → S → LineId × List ℕ → Type 0) (why : Cause)
     (before after : S) (sent : List (LineId × List ℕ)) → HandedUntil took refused why before after sent → fault_after why ≡ Hub Memory
     → (why ≡ cause.Hub Memory) × took before after sent
-stopped_whole took refused (cause.Hub fault) before after sent handed memory = (ap (λ (f : HubFault). cause.Hub f) (cc memory), handed)
+stopped_whole took refused (cause.Hub fault) before after sent handed memory =
+    let is_memory : fault ≡ Memory = cc memory in
+    (ap (λ (f : HubFault). cause.Hub f) is_memory, handed)
 stopped_whole took refused cause.Sink before after sent handed memory = absurd (cc memory)
 
 pub Keeps-none : (a b : Option (List ℕ)) → Appends a b [] → Keeps a b

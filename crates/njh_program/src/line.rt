@@ -1,8 +1,9 @@
 //! The event of one line of a script.
 
-ghost use Rattle.std.specs.Prelude.{◌≡◌, Some, IfOk, IfSome};
+ghost use Rattle.std.specs.Prelude.{◌≡◌, ◌∷◌, Some, IfOk, IfSome};
+ghost use Rattle.njh_table.specs.TableFile.{owner_of};
 ghost use Rattle.njh_hub.specs.Own.{line_of};
-ghost use Rattle.njh_program.specs.Script.{bytes_on, event_of, event_of_words, piece_of, signal_of, words_of};
+ghost use Rattle.njh_program.specs.Script.{bytes_on, event_of, event_of_words, event_on_line, piece_of, signal_of, words_of};
 ghost use Rattle.njh_program.specs.ScriptRoutes.{IsNamedIn};
 
 use crate::script_routes::routes_event;
@@ -24,7 +25,6 @@ pub fn event_of(alloc: Global, tables: &Tables, line: &[u8]) -> Result<Option<Ev
 }
 
 /// The event of a line that is text.
-#[tactic(auto, using(crate::proofs::LineForms::named_on))]
 fn event_of_text(alloc: Global, tables: &Tables, line: &str) -> Result<Option<Event>, AllocError>
     ensures event { IfOk result (λ event. event ≡ event_of_words tables.now (words_of line.now)) }
     ensures named { IfOk result (λ event. IfSome event (IsNamedIn tables.now)) }
@@ -35,6 +35,20 @@ fn event_of_text(alloc: Global, tables: &Tables, line: &str) -> Result<Option<Ev
     if word == "ROUTES" {
         return routes_event(alloc, tables, rest);
     }
+    event_on_line(alloc, tables, word, rest)
+}
+
+/// The event of a word and what stands behind it: the name of a line, and digits where it is `BYTES`.
+#[tactic(auto, using(crate::proofs::LineForms::named_on))]
+fn event_on_line(
+    alloc: Global,
+    tables: &Tables,
+    word: &str,
+    rest: &str,
+) -> Result<Option<Event>, AllocError>
+    ensures event { IfOk result (λ event. event ≡ event_on_line (owner_of tables.now) (word.now ∷ words_of rest.now)) }
+    ensures named { IfOk result (λ event. IfSome event (IsNamedIn tables.now)) }
+{
     match rest.split_once(' ') {
         None => Ok(
             tables

@@ -13,7 +13,11 @@ use std::alloc::{AllocError, Global};
 
 /// The event of the words behind `ROUTES`, if they have one: a customer's name and then a pair for each route, which the customer may
 /// have all together. Out of memory is the only refusal.
-pub fn routes_event(alloc: Global, tables: &Tables, words: &str) -> Result<Option<Event>, AllocError>
+pub fn routes_event(
+    alloc: Global,
+    tables: &Tables,
+    words: &str,
+) -> Result<Option<Event>, AllocError>
     ensures event { IfOk result (λ event. event ≡ routes_event tables.now (words_of words.now)) }
     ensures named { IfOk result (λ event. IfSome event (IsNamedIn tables.now)) }
 {

@@ -1,4 +1,4 @@
-use Rattle.std.proofs.Common.{inr, rules, arith}
+use Rattle.std.proofs.Common.{inl, inr, rules, arith}
 use Rattle.njh_program.proofs.FileLaws.{all_printed, files_begun, frames_begun, up_to_printed}
 use Rattle.njh_program.proofs.PrintedParts.{beginning-all, on_err_of}
 use Rattle.std.proofs.KnownBytes.{Appends-kept}
@@ -8,6 +8,13 @@ pub returns-in_err-print_run-clause-begun : goal.returns-in_err-print_run-clause
 returns-in_err-print_run-clause-begun g c =
     on_err_of c.from_residual.result _
     (frames_begun c.args.names.now c.args.hub.now c.args.events.now c.args.customers.now _ _ c.in_err-print_run.ensures.begun)
+
+pub returns-in_err-print_run-clause-memory : goal.returns-in_err-print_run-clause-memory
+returns-in_err-print_run-clause-memory g c = λ memory.
+    elim (c.in_err-print_run.ensures.memory (search rules)) [
+      | inl kept ↦ inl kept
+      | inr sent ↦ inr (inl sent)
+    ]
 
 pub returns-in_err-print_files-clause-begun : goal.returns-in_err-print_files-clause-begun
 returns-in_err-print_files-clause-begun g c =

@@ -34,11 +34,13 @@ returns-clause-begun g c =
 pub returns-clause-memory : goal.returns-clause-memory
 returns-clause-memory g c = λ memory.
     let contents = g.W.Write.contents in
+    let fresh = c.in_ok-hub.ensures.opened in
     elim (c.print_all.ensures.memory memory) [
       | inl kept ↦ inl kept
-      | inr (inl sent) ↦ inr (inl (fresh_sent c.args.tables c.in_ok-names.names c.in_ok-hub.hub c.args.events.now _ _ c.in_ok-names.ensures
-          c.in_ok-hub.ensures.opened sent))
-      | inr (inr printed) ↦ inr (inr (fresh_text c.args.tables c.in_ok-names.names c.in_ok-hub.hub c.args.events.now c.deref.result.now
-          c.in_ok-names.ensures c.in_ok-hub.ensures.opened (c.deref.ensures.value ∙ c.in_ok-customers.ensures.names)
-          (λ text customers. IsPrintedUpTo customers (contents c.args.out.now) (contents c.print_all.new.out) text) printed))
+      | inr later ↦ inr (elim later [
+        | inl sent ↦ inl (fresh_sent c.args.tables c.in_ok-names.names c.in_ok-hub.hub c.args.events.now _ _ c.in_ok-names.ensures fresh sent)
+        | inr printed ↦ inr (fresh_text c.args.tables c.in_ok-names.names c.in_ok-hub.hub c.args.events.now c.deref.result.now
+            c.in_ok-names.ensures fresh (c.deref.ensures.value ∙ c.in_ok-customers.ensures.names)
+            (λ text customers. IsPrintedUpTo customers (contents c.args.out.now) (contents c.print_all.new.out) text) printed)
+      ])
     ]
