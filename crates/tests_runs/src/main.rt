@@ -11,6 +11,7 @@ mod devices;
 mod new_routes;
 mod peers;
 mod random_runs;
+mod route_lines;
 mod scripts;
 mod steps;
 mod streams;
@@ -31,7 +32,8 @@ fn tried<R: Files + Net + Print + AllocGlobal>(rt: &R) -> Result<(), Failure> {
     streams::fail(rt)?;
     steps::take(rt)?;
     steps::keep(rt)?;
-    new_routes::change(rt)?;
+    new_routes::refuse(rt)?;
+    route_lines::try_each(rt)?;
     steps::refuse(rt)
 }
 

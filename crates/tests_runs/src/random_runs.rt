@@ -1,10 +1,12 @@
-//! Random runs of two customers, in pairs: what ACME is sent, and its files, are the same whatever BOLT does.
+//! Random runs of two customers, in pairs: what ACME is sent, and its files, are the same whatever BOLT does. Both are given other
+//! routes now and then.
 
+use crate::new_routes::route;
 use crate::peers::{Numbers, Peer, bytes_at};
 use crate::steps::{bytes_of, of_hub};
-use njh_hub::{Cause, Event, FileView, Sink, SinkFault, outcome, two_runs};
+use njh_hub::{Cause, Event, FileView, RouteList, Sink, SinkFault, outcome, two_runs};
 use njh_program::Failure;
-use njh_table::{LineId, Tables};
+use njh_table::{LineId, RouteEntry, Tables};
 use std::alloc::{AllocError, Global};
 use std::fs;
 use std::rt::Files;
@@ -76,11 +78,12 @@ fn put_file(bytes: &mut Vec<u8>, file: &FileView) -> Result<(), AllocError> {
     Ok(())
 }
 
-/// The lists of records that blocks may have, and the sign-ons of the peers: hex, a line each.
+/// The lists of records that blocks may have, and the sign-ons of the peers: hex, a line each. Of each customer the routes of its table.
 #[derive(Drop)]
 struct Texts {
     records: Vec<Vec<u8>>,
     sign_ons: Vec<Vec<u8>>,
+    routes: [[RouteEntry; 2]; 2],
 }
 
 fn lines_of<R: Files + AllocGlobal>(rt: &R, file: &str) -> Result<Vec<Vec<u8>>, Failure> {
@@ -108,21 +111,49 @@ fn peers_of(texts: &Texts, customer: u16, second: usize) -> [Peer<'_>; 2] {
     ]
 }
 
-/// What comes on a customer's lines.
+/// A customer's routes: LYON by its first line, and another node by its second.
+fn routes_of(customer: u16, second: &str) -> Result<[RouteEntry; 2], Failure> {
+    Ok([
+        route("LYON", LineId { customer, line: 0 })?,
+        route(second, LineId { customer, line: 1 })?,
+    ])
+}
+
+/// Which of its routes a customer has from now on.
+fn give_routes(
+    alloc: Global,
+    customer: u16,
+    routes: &[RouteEntry; 2],
+    numbers: &mut Numbers,
+    events: &mut Vec<Event>,
+) -> Result<(), AllocError> {
+    let given = match numbers.below(4) {
+        0 => &routes[..0],
+        1 => &routes[..1],
+        2 => &routes[1..],
+        _ => &routes[..],
+    };
+    Ok(events.push(Event::Routes(customer, RouteList::of(alloc, given)?))?)
+}
+
+/// What comes on a customer's lines, and the routes that it is given.
 fn events_of(
     alloc: Global,
     seed: u64,
-    records: &[Vec<u8>],
-    peers: [Peer<'_>; 2],
+    texts: &Texts,
+    customer: u16,
+    second: usize,
 ) -> Result<Vec<Event>, AllocError> {
-    let [mut first, mut second] = peers;
+    let records = texts.records.as_slice();
+    let routes = &texts.routes[usize::from(customer % 2)];
+    let [mut first, mut second] = peers_of(texts, customer, second);
     let mut numbers = Numbers::from_seed(seed);
     let mut events = Vec::new(alloc);
     for _ in 0..ACTS {
-        if numbers.below(2) == 0 {
-            first.act(alloc, &mut numbers, records, &mut events)?;
-        } else {
-            second.act(alloc, &mut numbers, records, &mut events)?;
+        match numbers.below(16) {
+            0 => give_routes(alloc, customer, routes, &mut numbers, &mut events)?,
+            1..=7 => first.act(alloc, &mut numbers, records, &mut events)?,
+            _ => second.act(alloc, &mut numbers, records, &mut events)?,
         }
     }
     Ok(events)
@@ -214,13 +245,13 @@ fn among_others(
     other: u64,
 ) -> Result<Vec<Event>, Failure> {
     let own = own_events(alloc, texts, seed)?;
-    let others = events_of(alloc, other, &texts.records, peers_of(texts, BOLT, 2))?;
+    let others = events_of(alloc, other, texts, BOLT, 2)?;
     Ok(merged(alloc, other, own, others)?)
 }
 
 /// ACME's events of a seed.
 fn own_events(alloc: Global, texts: &Texts, seed: u64) -> Result<Vec<Event>, Failure> {
-    Ok(events_of(alloc, seed, &texts.records, peers_of(texts, ACME, 1))?)
+    Ok(events_of(alloc, seed, texts, ACME, 1)?)
 }
 
 /// What was found of the pairs.
@@ -308,5 +339,6 @@ fn read_texts<R: Files + AllocGlobal>(rt: &R) -> Result<Texts, Failure> {
     Ok(Texts {
         records: lines_of(rt, "random_records")?,
         sign_ons: lines_of(rt, "random_sign_ons")?,
+        routes: [routes_of(ACME, "METZ")?, routes_of(BOLT, "PARIS")?],
     })
 }
