@@ -4,7 +4,7 @@ use Rattle.std.proofs.Common.{refl, sym, ap, subst, ◌∙◌, arith}
 use Rattle.std.proofs.Math.ListN.{get_or-map}
 use Rattle.std.proofs.Math.Seq.{map-set_same}
 use Rattle.std.proofs.lemmas.Bool.{ltb-true}
-use Rattle.std.proofs.lemmas.List.{length-map, map-set, set-get_or}
+use Rattle.std.proofs.lemmas.List.{length-map, length-set, map-set, set-get_or}
 use Rattle.njh_bisync.specs.Frames as frame
 use Rattle.njh_bisync.specs.Frames.{Received}
 use Rattle.njh_bisync.specs.Written.{text_bytes}
@@ -29,7 +29,7 @@ use Rattle.njh_customer.specs.declared.signal.Signal.{Signal}
 use Rattle.njh_customer.specs.Customer.{Customer, CustomerLine, no_line, line_at, on_line, in_state}
 use Rattle.njh_customer.specs.Acting.{acted_where}
 use Rattle.njh_customer.specs.Sending.{LineSent, Sending, control_sent, no_block_sent, empty_sent, block_sent, next_block, outlet_of, own_block, reply_sent, with_outlet}
-use Rattle.njh_customer.specs.Alone.{Step, silent, replied, replied_to, session_over_where, session_ended, carried_out, verdict_on}
+use Rattle.njh_customer.specs.Alone.{Step, silent, quiet, replied, replied_to, session_over_where, session_ended, carried_out, verdict_on}
 use Rattle.njh_customer.specs.Alone.{accepted_on, input_came, block_input, behind_records, block_came, text_read, text_came, received_on, signal_input, frame_came, signal_came}
 use Rattle.njh_customer.specs.Outgoing.{Outgoing, outgoing, streams_from_hub, streams_of}
 use Rattle.njh_customer.specs.Moves.{Leads, nowhere, OneActs, Over, Sends}
@@ -178,6 +178,10 @@ module _ (carry : BlocksCarry) where
   over_entry l true d = refl
   over_entry l false d = refl
 
+  over_lines : (l : ℕ) (ended : Bool) (d : Customer) → length (session_over_where ended l d).lines ≡ length d.lines
+  over_lines l true d = length-set d.lines l (quiet (line_at l d.lines))
+  over_lines l false d = refl
+
   kept_at : (l : ℕ) (c d : Customer) → kepts d.lines ≡ kepts c.lines → kept (line_at l d.lines) ≡ kept (line_at l c.lines)
   kept_at l c d e =
       sym (get_or-map kept d.lines l no_line) ∙ ap (λ ps. get_or ps l (kept no_line)) e ∙ get_or-map kept c.lines l no_line
@@ -195,6 +199,9 @@ module _ (carry : BlocksCarry) where
             (ap (λ p. p.0) (kept_at l c d acting.kept)) (ap (λ p. p.1) (kept_at l c d acting.kept)) (reply_goes_out l v.reply d there));
         end = ended_so l v.ended sent;
         entry = over_entry l v.ended sent ∙ acting.entry;
+        lines = over_lines l v.ended sent
+            ∙ length-set d.lines l (reply_sent d.entry l v.reply d.spool (line_at l d.lines)).line
+            ∙ lines_of c d acting.kept;
       }
 
   accepted_is : (l : ℕ) (came : Input) (c : Customer) → outgoing (accepted_on l came c) ≡ outgoing c
@@ -224,6 +231,7 @@ module _ (carry : BlocksCarry) where
         answer = no_block (ap (of_parts d.spool.whole) (on_line_senders l (in_state after_end) d.lines (λ x. refl))) (nothing_sent refl);
         end = inr (over_so l e);
         entry = acting.entry;
+        lines = over_lines l true e ∙ length-set d.lines l (in_state after_end (line_at l d.lines)) ∙ lines_of c d acting.kept;
       }
 
   behind_does :
@@ -256,7 +264,15 @@ module _ (carry : BlocksCarry) where
 
   silent_does : (l : ℕ) (items : List Item) (c : Customer) → Does l items c (silent c)
   silent_does l items c =
-      record { acted = outgoing c; records = nowhere (outgoing c); answered = outgoing c; answer = no_block refl (nothing_sent refl); end = inl refl; entry = refl }
+      record {
+        acted = outgoing c;
+        records = nowhere (outgoing c);
+        answered = outgoing c;
+        answer = no_block refl (nothing_sent refl);
+        end = inl refl;
+        entry = refl;
+        lines = refl;
+      }
 
   there_does :
       (l : ℕ) (items : List Item) (b : Bool) (x : Step) (c : Customer) → nat_lt l (length c.lines) ≡ b → (l < length c.lines → Does l items c x)

@@ -12,14 +12,14 @@ use Rattle.njh_customer.specs.Customer.{Customer, line_at}
 use Rattle.njh_customer.specs.Alone.{Step, signal_came}
 use Rattle.njh_customer.specs.Feeding.{acted_on, bytes_run}
 use Rattle.njh_customer.specs.Part.{bytes_taken, rest_on}
-use Rattle.njh_customer.specs.Runs.{OwnBytes, OwnSignal, Run, event_run}
+use Rattle.njh_customer.specs.Runs.{OwnBytes, OwnSignal, OwnRoutes, Run, event_run}
 use Rattle.njh_customer.specs.Outgoing.{Outgoing, outgoing}
-use Rattle.njh_customer.specs.Moves.{Leads, nowhere, onward, Moves, by_record, by_sending, by_end, OneActs, Over, Sends}
+use Rattle.njh_customer.specs.Moves.{Leads, nowhere, onward, Moves, MovesBy, by_record, by_sending, by_end, OneActs, Over, Sends}
 use Rattle.njh_customer.specs.Doing.{Does, GoesOut, no_block, new_block, records_in}
-use Rattle.njh_customer.specs.MovingLaws.{EventsMoveSo, TakesMoveSo, records_by}
+use Rattle.njh_customer.specs.MovingLaws.{EventsMoveSo, FramesDoSo, SignalsDoSo, TakesMoveSo, coming}
 use Rattle.njh_customer.specs.Laws.{followed_by}
 use Rattle.njh_customer.proofs.PieceLaws.{no_bytes_do_nothing, steps_follow_bytes}
-use Rattle.njh_customer.proofs.DoingLaws.{BlocksCarry, frame_does, signal_does}
+use Rattle.njh_customer.proofs.RoutesMoves.{routes_move}
 
 pub leads_as :
     (M N : Outgoing → Outgoing → Type 0) (x z : Outgoing) → ((u v : Outgoing) → M u v → N u v) → Leads M x z → Leads N x z
@@ -53,13 +53,15 @@ does_moves l items c s does =
     at_end (inl same) = subst (Leads (Moves c.entry l items) does.answered) (sym same) (nowhere does.answered)
     at_end (inr over) = onward does.answered (outgoing s.after) (outgoing s.after) (by_end over) (nowhere (outgoing s.after))
 
-record Moved (l : ℕ) (items : List Item) (c d : Customer) : Type 0 where
-  entry : d.entry ≡ c.entry
-  moves : Leads (Moves c.entry l items) (outgoing c) (outgoing d)
+-- a customer has come from another by moves, of the same entry, and with as many lines
+pub record Moved (l : ℕ) (items : List Item) (c d : Customer) : Type 0 where
+  pub entry : d.entry ≡ c.entry
+  pub lines : length d.lines ≡ length c.lines
+  pub moves : Leads (Moves c.entry l items) (outgoing c) (outgoing d)
 
-module _ (carry : BlocksCarry) where
-  bytes_move : (rest : Rest) (c : Customer) (l : ℕ) (bytes : List ℕ) → Moved l (flat_map records_in (frames_after rest bytes)) c (bytes_run rest c l bytes).after
-  bytes_move rest c l [] = record { entry = refl; moves = nowhere (outgoing c) }
+module _ (frames : FramesDoSo) where
+  pub bytes_move : (rest : Rest) (c : Customer) (l : ℕ) (bytes : List ℕ) → Moved l (flat_map records_in (frames_after rest bytes)) c (bytes_run rest c l bytes).after
+  bytes_move rest c l [] = record { entry = refl; lines = refl; moves = nowhere (outgoing c) }
   bytes_move rest c l (byte ∷ bytes) = at_frame (turn rest byte).frame (λ d. bytes_move (turn rest byte).rest d l bytes)
     where
       next : Rest
@@ -75,11 +77,12 @@ module _ (carry : BlocksCarry) where
       at_frame (Some received) rest_moves =
           let items = records_in received ++ later in
           let step = acted_on l (Some received) c in
-          let does = frame_does carry l received c in
+          let does = frames l received c in
           let behind = rest_moves step.after in
           let end = (bytes_run next step.after l bytes).after in
           record {
             entry = behind.entry ∙ does.entry;
+            lines = behind.lines ∙ does.lines;
             moves = leads_then (Moves c.entry l items) (outgoing c) (outgoing step.after) (outgoing end)
                 (leads_as (Moves c.entry l (records_in received)) (Moves c.entry l items) (outgoing c) (outgoing step.after)
                 (λ u v. more_records c.entry l (records_in received) items u v (λ i. Contains-append_left (records_in received) later i))
@@ -89,9 +92,10 @@ module _ (carry : BlocksCarry) where
                 (subst (λ entry. Leads (Moves entry l later) (outgoing step.after) (outgoing end)) does.entry behind.moves));
           }
 
-  pub events_move : EventsMoveSo
-  events_move p (OwnBytes l piece) = (bytes_move (rest_on l p) p.customer l piece).moves
-  events_move p (OwnSignal signal l) = does_moves l [] p.customer (signal_came l signal p.customer) (signal_does carry l signal p.customer)
+  pub events_move : SignalsDoSo → EventsMoveSo
+  events_move signals p (OwnBytes l piece) = (bytes_move (rest_on l p) p.customer l piece).moves
+  events_move signals p (OwnSignal signal l) = does_moves l [] p.customer (signal_came l signal p.customer) (signals l signal p.customer)
+  events_move signals p (OwnRoutes routes) = routes_move p routes
 
   pub takes_move : TakesMoveSo
   takes_move p l piece there =
@@ -101,5 +105,5 @@ module _ (carry : BlocksCarry) where
       let some : event_run p (OwnBytes l front) ≡ followed_by (record { after = p; sent = [] }) l piece =
       subst (λ (r : Run). event_run p (OwnBytes l (take (bytes_taken r.after l piece).taken piece)) ≡ followed_by r l piece) nothing
       (steps_follow_bytes p l [] piece (omega (arith, there, ap (λ (r : Run). length r.after.rests) nothing))) in
-      subst (Leads (Moves p.customer.entry l (records_by p (OwnBytes l front))) (outgoing p.customer))
-      (ap (λ (r : Run). outgoing r.after.customer) some) (events_move p (OwnBytes l front))
+      subst (Leads (MovesBy p.customer.entry (coming p (OwnBytes l front))) (outgoing p.customer))
+      (ap (λ (r : Run). outgoing r.after.customer) some) (bytes_move (rest_on l p) p.customer l front).moves

@@ -7,14 +7,17 @@ use Rattle.njh_block.specs.Blocks.{Item}
 use Rattle.njh_spool.specs.CustomerSpool.{WholeFile}
 use Rattle.njh_spool.specs.declared.State.TheVariants.{Held, Ready, Refused, Sending}
 use Rattle.njh_table.specs.Entries.{CustomerEntry}
+use Rattle.njh_table.specs.NewRoutes.{taken_routes}
 use Rattle.njh_stream.specs.declared.sender.Sender.TheVariants.{EofSent}
 use Rattle.njh_command.specs.Commands.{chosen, rerouted, with_state, without_file}
+use Rattle.njh_customer.specs.NewRoutes.{entry_with}
 use Rattle.njh_customer.specs.Outgoing.{Outgoing, each_stream, has_file, with_files}
 use Rattle.njh_customer.specs.Moves as moves
-use Rattle.njh_customer.specs.Moves.{Acts, Leads, nowhere, onward, Moves, by_record, by_sending, by_end, Sends, without_files}
+use Rattle.njh_customer.specs.Moves.{Acts, Records, Routes, Leads, nowhere, onward, Moves, MovesBy, by_record, by_sending, by_end, Sends, without_files}
 use Rattle.njh_customer.specs.MovingLaws as laws
-use Rattle.njh_customer.specs.MovingLaws.{Leaves, FilesLeaveSo, FilesLeaveSoBetween}
+use Rattle.njh_customer.specs.MovingLaws.{Leaves, LeavesBy, FilesLeaveSo, FilesLeaveSoBetween}
 use Rattle.njh_customer.proofs.FileListLaws.{any_numbered, one_gone, numbers, same_numbered, but_states, marked_numbers, changed_numbers}
+use Rattle.njh_customer.proofs.RoutesMoves.{held_numbers}
 
 -- the streams give files up, and no file changes
 pub without_files_files : (ns : List ℕ) (x : Outgoing) → (without_files ns x).files ≡ x.files
@@ -56,22 +59,29 @@ record_leaves entry l items x y n i at (moves.cancels who name given e) there go
     let left = one_gone (chosen who name) n x.files there (sym (ap (any_numbered n) files) ∙ gone) in
     laws.cancelled i who name left.0 at given left.1 left.2 left.3
 
-pub leaves_so : FilesLeaveSo
-leaves_so entry l items x y n (by_record (i, at, acts)) there gone = record_leaves entry l items x y n i at acts there gone
-leaves_so entry l items x y n (by_sending (moves.gives_up k before e)) there gone = stayed n x y (ap (has_file n) e) there gone
-leaves_so entry l items x y n (by_sending (moves.asks k f before found e)) there gone =
+leaves_on_line :
+    (entry : CustomerEntry) (l : ℕ) (items : List Item) (x y : Outgoing) (n : ℕ) → Moves entry l items x y → has_file n x ≡ true
+    → has_file n y ≡ false → Leaves entry l items n x
+leaves_on_line entry l items x y n (by_record (i, at, acts)) there gone = record_leaves entry l items x y n i at acts there gone
+leaves_on_line entry l items x y n (by_sending (moves.gives_up k before e)) there gone = stayed n x y (ap (has_file n) e) there gone
+leaves_on_line entry l items x y n (by_sending (moves.asks k f before found e)) there gone =
     stayed_all n x y (ap (λ z. numbers z.files) e ∙ marked_numbers f.number Sending x.files) there gone
-leaves_so entry l items x y n (by_sending (moves.goes_on k m place r before found e)) there gone = stayed n x y (ap (has_file n) e) there gone
-leaves_so entry l items x y n (by_sending (moves.ends k m place before found e)) there gone = stayed n x y (ap (has_file n) e) there gone
-leaves_so entry l items x y n (by_end over) there gone = stayed_all n x y (but_states y.files x.files over.files) there gone
+leaves_on_line entry l items x y n (by_sending (moves.goes_on k m place r before found e)) there gone = stayed n x y (ap (has_file n) e) there gone
+leaves_on_line entry l items x y n (by_sending (moves.ends k m place before found e)) there gone = stayed n x y (ap (has_file n) e) there gone
+leaves_on_line entry l items x y n (by_end over) there gone = stayed_all n x y (but_states y.files x.files over.files) there gone
+
+pub leaves_so : FilesLeaveSo
+leaves_so entry (Records l items) x y n move there gone = leaves_on_line entry l items x y n move there gone
+leaves_so entry (Routes routes) x y n given there gone =
+    stayed_all n x y (ap (λ z. numbers z.files) given.holds ∙ held_numbers (entry_with (taken_routes routes) entry) x.files) there gone
 
 pub leaves_so_between : FilesLeaveSoBetween
-leaves_so_between entry l items _ _ n (nowhere x) there gone = absurd (cc (sym there ∙ gone))
-leaves_so_between entry l items _ _ n (onward x y z move later) there gone = at_next (has_file n y) refl (leaves_so_between entry l items y z n later)
+leaves_so_between entry came _ _ n (nowhere x) there gone = absurd (cc (sym there ∙ gone))
+leaves_so_between entry came _ _ n (onward x y z move later) there gone = at_next (has_file n y) refl (leaves_so_between entry came y z n later)
   where
     Between : Outgoing → Type 0
-    Between x = (u : Outgoing) × Leads (Moves entry l items) x u × Leaves entry l items n u × Leads (Moves entry l items) u z
+    Between x = (u : Outgoing) × Leads (MovesBy entry came) x u × LeavesBy entry came n u × Leads (MovesBy entry came) u z
 
     at_next : (b : Bool) → has_file n y ≡ b → (has_file n y ≡ true → has_file n z ≡ false → Between y) → Between x
     at_next true e behind = let found = behind e gone in (found.0, onward x y found.0 move found.1, found.2, found.3)
-    at_next false e behind = (x, nowhere x, leaves_so entry l items x y n move there e, onward x y z move later)
+    at_next false e behind = (x, nowhere x, leaves_so entry came x y n move there e, onward x y z move later)

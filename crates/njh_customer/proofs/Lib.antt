@@ -24,3 +24,5 @@ pub mod StreamMoveLaws
 pub mod RecordsChange
 pub mod DisregardingLaws
 pub mod NewRouteLaws
+pub mod RoutesMoves
+pub mod KeepingLaws

@@ -20,19 +20,22 @@ use Rattle.njh_spool.specs.CustomerSpool.{WholeFile}
 use Rattle.njh_spool.specs.declared.State.{State}
 use Rattle.njh_spool.specs.declared.State.TheVariants as state
 use Rattle.njh_table.specs.Entries.{CustomerEntry}
+use Rattle.njh_table.specs.NewRoutes.{taken_routes}
 use Rattle.njh_stream.specs.Sending.{ready}
 use Rattle.njh_stream.specs.Transmissions.{is_whole}
 use Rattle.njh_command.specs.declared.command.Command.TheVariants as commands
 use Rattle.njh_command.specs.Words.{command_in, file_command, name_in, node_in, reroute_command, says, words}
 use Rattle.njh_command.specs.Commands.{changed_file, chosen, is_idle, is_sending, rerouted, with_state}
 use Rattle.njh_command.specs.Files.{no_file}
+use Rattle.njh_customer.specs.NewRoutes.{entry_with}
 use Rattle.njh_customer.specs.Outgoing.{Outgoing, marked, with_files}
 use Rattle.njh_customer.specs.Moves as moves
-use Rattle.njh_customer.specs.Moves.{Acts, Commands, Moves, by_record, by_sending, by_end, Over, Sends}
+use Rattle.njh_customer.specs.Moves.{Acts, Commands, Records, Routes, Moves, by_record, by_sending, by_end, Over, Sends}
 use Rattle.njh_customer.specs.MovingLaws as laws
 use Rattle.njh_customer.specs.MovingLaws.{FileMoves, RecordsChangeSo}
 use Rattle.njh_customer.proofs.FileListLaws.{from_map, into_map, from_filter}
 use Rattle.njh_customer.proofs.LeavingLaws.{without_files_files}
+use Rattle.njh_customer.proofs.RoutesMoves.{held_so}
 
 -- ---- the node of a command has eight bytes
 
@@ -208,4 +211,6 @@ module _ (by_records : (kind : Kind) (node : List ℕ) (records : List Stored) �
     changes (by_end over) there = was_there (but_state x.files y.files g over.files there)
 
   pub records_change : RecordsChangeSo
-  records_change entry l items x y g move there = changes entry l items x y g move there
+  records_change entry (Records l items) x y g move there = changes entry l items x y g move there
+  records_change entry (Routes routes) x y g given there =
+      held_so (entry_with (taken_routes routes) entry) x g (subst (λ z. Contains z.files g) given.holds there)

@@ -15,7 +15,7 @@ use Rattle.njh_sched.specs.NextBlock.{may_go}
 use Rattle.njh_command.specs.Commands.{aborted_where, chosen, is_about, without_file}
 use Rattle.njh_customer.specs.Outgoing.{Outgoing, each_stream, marked, stream_at, streams_of, with_files, with_stream, without}
 use Rattle.njh_customer.specs.Moves as moves
-use Rattle.njh_customer.specs.Moves.{Acts, Moves, by_record, by_sending, by_end, Sends, Tells, without_files}
+use Rattle.njh_customer.specs.Moves.{Acts, Records, Routes, Moves, by_record, by_sending, by_end, Sends, Tells, without_files}
 use Rattle.njh_customer.specs.MovingLaws as laws
 use Rattle.njh_customer.specs.MovingLaws.{StreamMoves, StreamsMoveSo, IdleStreamsTakeFiles}
 
@@ -164,13 +164,19 @@ module _ (entry : CustomerEntry) (l : ℕ) (items : List Item) (j k : ℕ) (x y 
           ∙ ap (λ senders. get_or senders k Idle) there.1
           ∙ all_idle (length (streams_of l x)) k))
 
+moves_on_line :
+    (entry : CustomerEntry) (l : ℕ) (items : List Item) (x y : Outgoing) (j k : ℕ) → Moves entry l items x y → StreamMoves entry l items j k x y
+moves_on_line entry l items x y j k (by_record (i, at, acts)) = record_moves entry l items j k x y i at acts
+moves_on_line entry l items x y j k (by_sending sends) = sending_moves entry l items j k x y sends
+moves_on_line entry l items x y j k (by_end over) = end_moves entry l items j k x y y.streams over.streams refl
+
 pub streams_move : StreamsMoveSo
-streams_move entry l items x y j k (by_record (i, at, acts)) = record_moves entry l items j k x y i at acts
-streams_move entry l items x y j k (by_sending sends) = sending_moves entry l items j k x y sends
-streams_move entry l items x y j k (by_end over) = end_moves entry l items j k x y y.streams over.streams refl
+streams_move entry (Records l items) x y j k move = moves_on_line entry l items x y j k move
+streams_move entry (Routes routes) x y j k given = ap (stream_at j k) given.holds
 
 pub idle_take : IdleStreamsTakeFiles
-idle_take entry l items x y j k n move has = at_move (streams_move entry l items x y j k move)
+idle_take entry (Routes routes) x y j k n given has = inl (sym (ap (λ s. file_in (stream_at j k s)) given.holds) ∙ has)
+idle_take entry (Records l items) x y j k n move has = at_move (moves_on_line entry l items x y j k move)
   where
     at_move : StreamMoves entry l items j k x y → (file_in (stream_at j k x) ≡ Some n) ⊎ (stream_at j k x ≡ Idle)
     at_move (laws.stays same) = inl (sym (ap (λ s. file_in s) same) ∙ has)

@@ -75,3 +75,4 @@ pub record Does (l : ℕ) (items : List Item) (c : Customer) (s : Step) : Type 0
   pub answer : GoesOut c.entry l (line_at l c.lines).state acted answered s.frame
   pub end : (outgoing s.after ≡ answered) ⊎ Over l answered (outgoing s.after)
   pub entry : s.after.entry ≡ c.entry
+  pub lines : length s.after.lines ≡ length c.lines

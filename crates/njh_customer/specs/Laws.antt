@@ -1,6 +1,8 @@
 -- What is said of all runs of a customer by itself, over the definitions alone.
 use Rattle.std.specs.Prelude.{◌≡◌, ℕ, ◌<◌, List, [], ◌∷◌, ◌++◌, length, take}
+use Rattle.njh_table.specs.NewRoutes.{NewRoute, routes_checked}
 use Rattle.njh_customer.specs.Feeding.{sent_on}
+use Rattle.njh_customer.specs.NewRoutes.{entry_with}
 use Rattle.njh_customer.specs.Part.{Part, bytes_taken}
 use Rattle.njh_customer.specs.Runs.{OwnEvent, OwnBytes, Run, event_run, alone_run}
 
@@ -29,3 +31,20 @@ abbrev pub FirstBytesSendFirst : Type 0
 FirstBytesSendFirst =
     (p : Part) (l : ℕ) (front back : List ℕ) →
     (more : List (ℕ × List ℕ)) × ((event_run p (OwnBytes l front)).sent ++ more ≡ (event_run p (OwnBytes l (front ++ back))).sent)
+
+-- ---- what no event changes
+
+-- Of a customer's entry an event changes the routes alone.
+abbrev pub EventsKeepEntries : Type 0
+EventsKeepEntries =
+    (p : Part) (event : OwnEvent) → let after = (event_run p event).after.customer.entry in after ≡ entry_with after.routes p.customer.entry
+
+-- So routes have the same first fault, or none, before an event and behind it.
+abbrev pub EventsKeepFaults : Type 0
+EventsKeepFaults =
+    (p : Part) (event : OwnEvent) (routes : List NewRoute) →
+    routes_checked (event_run p event).after.customer.entry routes ≡ routes_checked p.customer.entry routes
+
+-- The customer has as many lines.
+abbrev pub EventsKeepLines : Type 0
+EventsKeepLines = (p : Part) (event : OwnEvent) → length (event_run p event).after.customer.lines ≡ length p.customer.lines

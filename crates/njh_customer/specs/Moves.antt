@@ -1,6 +1,6 @@
--- What may happen to a customer's whole files and to its streams from the hub, one small thing at a time. All that comes on a line leads
--- from what they were to what they are by such moves and no others.
-use Rattle.std.specs.Prelude.{◌≡◌, ℕ, ◌+◌, Bool, true, List, [], ◌∷◌, ◌++◌, length, map, filter, find, replicate, Some, None, Ok, fold, not}
+-- What may happen to a customer's whole files and to its streams from the hub, one small thing at a time. All that comes on a line, and new
+-- routes, lead from what they were to what they are by such moves and no others.
+use Rattle.std.specs.Prelude.{◌≡◌, ℕ, ◌+◌, Bool, true, List, [], ◌∷◌, ◌++◌, length, map, filter, find, replicate, Some, None, Ok, fold, cond, not}
 use Rattle.std.specs.List.{Contains}
 use Rattle.njh_block.specs.Blocks.{Item, Data, Control, stream_of}
 use Rattle.njh_block.specs.Codes.{kind_of}
@@ -9,9 +9,11 @@ use Rattle.njh_record.specs.Stored.{Stored}
 use Rattle.njh_spool.specs.CustomerSpool.{WholeFile}
 use Rattle.njh_spool.specs.declared.State.TheVariants as state
 use Rattle.njh_table.specs.Entries.{CustomerEntry, route_of}
+use Rattle.njh_table.specs.NewRoutes.{NewRoute, routes_checked, taken_routes}
 use Rattle.njh_table.specs.declared.Route.TheVariants.{Here, Line}
 use Rattle.njh_stream.specs.declared.sender.Sender.{Sender}
 use Rattle.njh_stream.specs.declared.sender.Sender.TheVariants.{Idle, Requested, Sending, EofSent, Aborting}
+use Rattle.njh_stream.specs.Holding.{has_lost_route, held}
 use Rattle.njh_stream.specs.Sending.{file_in, goes_by, ready}
 use Rattle.njh_stream.specs.Transmissions.{is_whole}
 use Rattle.njh_sched.specs.NextBlock.{may_go}
@@ -19,6 +21,7 @@ use Rattle.njh_command.specs.declared.command.Command.{Command}
 use Rattle.njh_command.specs.declared.command.Command.TheVariants.{Hold, Release, Cancel, Reroute}
 use Rattle.njh_command.specs.Words.{command_of}
 use Rattle.njh_command.specs.Commands.{changed_file, chosen, is_busy, rerouted, with_state, without_file}
+use Rattle.njh_customer.specs.NewRoutes.{entry_with}
 use Rattle.njh_customer.specs.Outgoing.{Outgoing, each_stream, marked, record_numbered, stream_at, streams_of, with_files, with_stream, with_streams, without}
 
 -- ---- by a record that comes
@@ -124,6 +127,27 @@ pub data Moves (entry : CustomerEntry) (l : ℕ) (items : List Item) (x y : Outg
   by_record : OneActs entry l items x y → Moves entry l items x y
   by_sending : Sends entry l x y → Moves entry l items x y
   by_end : Over l x y → Moves entry l items x y
+
+-- ---- by new routes
+
+-- The files that are Ready or Refused and whose node has no route are Held. Each other file stays what it was, and each stream.
+abbrev pub routeless_held : CustomerEntry → Outgoing → Outgoing
+routeless_held entry x = with_files (map (λ f. cond (has_lost_route entry f) (held f) f) x.files) x
+
+-- Routes without a fault are the customer's from then on.
+pub record RoutesMove (entry : CustomerEntry) (routes : List NewRoute) (x y : Outgoing) : Type 0 where
+  pub faultless : routes_checked entry routes ≡ Ok tt
+  pub holds : y ≡ routeless_held (entry_with (taken_routes routes) entry) x
+
+-- What comes to a customer: records on a line, or new routes.
+pub data Coming : Type 0 where
+  Records : (line : ℕ) (items : List Item) → Coming
+  Routes : (routes : List NewRoute) → Coming
+
+-- a move by what comes
+abbrev pub MovesBy : CustomerEntry → Coming → Outgoing → Outgoing → Type 0
+MovesBy entry (Records l items) x y = Moves entry l items x y
+MovesBy entry (Routes routes) x y = RoutesMove entry routes x y
 
 -- Moves of a kind lead from one to the other.
 pub data Leads (Move : Outgoing → Outgoing → Type 0) : Outgoing → Outgoing → Type 0 where

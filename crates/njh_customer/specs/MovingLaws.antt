@@ -1,5 +1,5 @@
 -- What is said of how a customer's whole files and its streams from the hub move.
-use Rattle.std.specs.Prelude.{◌≡◌, ℕ, ◌+◌, ◌<◌, ◌⊎◌, true, false, List, [], find, flat_map, length, take, Some, None}
+use Rattle.std.specs.Prelude.{◌≡◌, ℕ, ◌+◌, ◌<◌, ◌⊎◌, true, false, List, [], find, flat_map, length, take, Some, None, Ok, Err}
 use Rattle.std.specs.List.{Contains}
 use Rattle.njh_bisync.specs.Fed.{frames_after}
 use Rattle.njh_bisync.specs.Frames.{Received}
@@ -10,7 +10,10 @@ use Rattle.njh_record.specs.Stored.{Stored}
 use Rattle.njh_spool.specs.CustomerSpool.{WholeFile}
 use Rattle.njh_spool.specs.declared.State.TheVariants.{Ready}
 use Rattle.njh_table.specs.Entries.{CustomerEntry}
+use Rattle.njh_table.specs.NewRoutes.{NewRoute, routes_checked, taken_routes}
+use Rattle.njh_table.specs.declared.fault.TableFault.{TableFault}
 use Rattle.njh_stream.specs.declared.sender.Sender.TheVariants.{Idle, Requested, Sending, EofSent}
+use Rattle.njh_stream.specs.Holding.{has_lost_route, held}
 use Rattle.njh_stream.specs.Sending.{file_in, goes_by}
 use Rattle.njh_stream.specs.Transmissions.{is_whole}
 use Rattle.njh_sched.specs.NextBlock.{may_go}
@@ -20,9 +23,10 @@ use Rattle.njh_customer.specs.declared.signal.Signal.{Signal}
 use Rattle.njh_customer.specs.Customer.{Customer}
 use Rattle.njh_customer.specs.Alone.{frame_came, signal_came}
 use Rattle.njh_customer.specs.Part.{Part, bytes_taken, rest_on}
-use Rattle.njh_customer.specs.Runs.{OwnEvent, OwnBytes, OwnSignal, event_run}
+use Rattle.njh_customer.specs.NewRoutes.{entry_with}
+use Rattle.njh_customer.specs.Runs.{OwnEvent, OwnBytes, OwnSignal, OwnRoutes, Run, event_run}
 use Rattle.njh_customer.specs.Outgoing.{Outgoing, outgoing, has_file, record_numbered, stream_at}
-use Rattle.njh_customer.specs.Moves.{Commands, Leads, Moves, Sends, Tells}
+use Rattle.njh_customer.specs.Moves.{Coming, Records, Routes, Commands, Leads, MovesBy, Sends, Tells}
 use Rattle.njh_customer.specs.Doing.{Does, records_in}
 
 -- ---- what comes
@@ -34,26 +38,36 @@ FramesDoSo = (l : ℕ) (received : Received) (c : Customer) → Does l (records_
 abbrev pub SignalsDoSo : Type 0
 SignalsDoSo = (l : ℕ) (signal : Signal) (c : Customer) → Does l [] c (signal_came l signal c)
 
--- the line of an event, and the records that come by it
-abbrev pub line_of : OwnEvent → ℕ
-line_of (OwnBytes l piece) = l
-line_of (OwnSignal signal l) = l
+-- What new routes do. They send nothing, and leave all lines as they are, what waits on them, and the partial files. Without a fault they are
+-- the customer's from then on; else nothing is changed.
+pub record RoutesDo (p : Part) (routes : List NewRoute) (r : Run) : Type 0 where
+  pub sent : r.sent ≡ []
+  pub rests : r.after.rests ≡ p.rests
+  pub lines : r.after.customer.lines ≡ p.customer.lines
+  pub partial : r.after.customer.spool.partial ≡ p.customer.spool.partial
+  pub faultless : routes_checked p.customer.entry routes ≡ Ok tt → r.after.customer.entry.routes ≡ taken_routes routes
+  pub faulty : (fault : TableFault) → routes_checked p.customer.entry routes ≡ Err fault → r.after ≡ p
 
-abbrev pub records_by : Part → OwnEvent → List Item
-records_by p (OwnBytes l piece) = flat_map records_in (frames_after (rest_on l p) piece)
-records_by p (OwnSignal signal l) = []
+abbrev pub RoutesDoSo : Type 0
+RoutesDoSo = (p : Part) (routes : List NewRoute) → RoutesDo p routes (event_run p (OwnRoutes routes))
+
+-- what comes by an event: the records of the frames that its bytes make whole, or new routes
+abbrev pub coming : Part → OwnEvent → Coming
+coming p (OwnBytes l piece) = Records l (flat_map records_in (frames_after (rest_on l p) piece))
+coming p (OwnSignal signal l) = Records l []
+coming p (OwnRoutes routes) = Routes routes
 
 -- An event moves files and streams only so.
 abbrev pub EventsMoveSo : Type 0
 EventsMoveSo =
     (p : Part) (event : OwnEvent)
-    → Leads (Moves p.customer.entry (line_of event) (records_by p event)) (outgoing p.customer) (outgoing (event_run p event).after.customer)
+    → Leads (MovesBy p.customer.entry (coming p event)) (outgoing p.customer) (outgoing (event_run p event).after.customer)
 
 -- So does a step by bytes of a line, by the records of the bytes that it takes.
 abbrev pub TakesMoveSo : Type 0
 TakesMoveSo =
     (p : Part) (l : ℕ) (piece : List ℕ) → l < length p.rests → let t = bytes_taken p l piece in
-    Leads (Moves p.customer.entry l (records_by p (OwnBytes l (take t.taken piece)))) (outgoing p.customer) (outgoing t.after.customer)
+    Leads (MovesBy p.customer.entry (coming p (OwnBytes l (take t.taken piece)))) (outgoing p.customer) (outgoing t.after.customer)
 
 -- ---- how a file leaves
 
@@ -65,16 +79,21 @@ pub data Leaves (entry : CustomerEntry) (l : ℕ) (items : List Item) (n : ℕ) 
   completed :
       (i : Item) (streams k : ℕ) → Contains items i → Tells 0xc0 streams k i → stream_at l k x ≡ EofSent n → Leaves entry l items n x
 
+-- by new routes none leaves
+abbrev pub LeavesBy : CustomerEntry → Coming → ℕ → Outgoing → Type 0
+LeavesBy entry (Records l items) n x = Leaves entry l items n x
+LeavesBy entry (Routes routes) n x = ⊥
+
 abbrev pub FilesLeaveSo : Type 0
 FilesLeaveSo =
-    (entry : CustomerEntry) (l : ℕ) (items : List Item) (x y : Outgoing) (n : ℕ) → Moves entry l items x y → has_file n x ≡ true
-    → has_file n y ≡ false → Leaves entry l items n x
+    (entry : CustomerEntry) (came : Coming) (x y : Outgoing) (n : ℕ) → MovesBy entry came x y → has_file n x ≡ true → has_file n y ≡ false
+    → LeavesBy entry came n x
 
 -- and so in all that moves lead to, at some moment between
 abbrev pub FilesLeaveSoBetween : Type 0
 FilesLeaveSoBetween =
-    (entry : CustomerEntry) (l : ℕ) (items : List Item) (x y : Outgoing) (n : ℕ) → Leads (Moves entry l items) x y → has_file n x ≡ true
-    → has_file n y ≡ false → (z : Outgoing) × Leads (Moves entry l items) x z × Leaves entry l items n z × Leads (Moves entry l items) z y
+    (entry : CustomerEntry) (came : Coming) (x y : Outgoing) (n : ℕ) → Leads (MovesBy entry came) x y → has_file n x ≡ true
+    → has_file n y ≡ false → (z : Outgoing) × Leads (MovesBy entry came) x z × LeavesBy entry came n z × Leads (MovesBy entry came) z y
 
 -- ---- how a stream moves
 
@@ -100,15 +119,19 @@ pub data StreamMoves (entry : CustomerEntry) (l : ℕ) (items : List Item) (j k 
       (n place : ℕ) → Sends entry l x y → stream_at j k x ≡ Sending n place → record_numbered n place x ≡ None
       → stream_at j k y ≡ EofSent n → StreamMoves entry l items j k x y
 
+-- by new routes none moves
+abbrev pub StreamMovesBy : CustomerEntry → Coming → ℕ → ℕ → Outgoing → Outgoing → Type 0
+StreamMovesBy entry (Records l items) j k x y = StreamMoves entry l items j k x y
+StreamMovesBy entry (Routes routes) j k x y = stream_at j k y ≡ stream_at j k x
+
 abbrev pub StreamsMoveSo : Type 0
 StreamsMoveSo =
-    (entry : CustomerEntry) (l : ℕ) (items : List Item) (x y : Outgoing) (j k : ℕ) → Moves entry l items x y
-    → StreamMoves entry l items j k x y
+    (entry : CustomerEntry) (came : Coming) (x y : Outgoing) (j k : ℕ) → MovesBy entry came x y → StreamMovesBy entry came j k x y
 
 -- A stream takes a file only when it is idle.
 abbrev pub IdleStreamsTakeFiles : Type 0
 IdleStreamsTakeFiles =
-    (entry : CustomerEntry) (l : ℕ) (items : List Item) (x y : Outgoing) (j k n : ℕ) → Moves entry l items x y
+    (entry : CustomerEntry) (came : Coming) (x y : Outgoing) (j k n : ℕ) → MovesBy entry came x y
     → file_in (stream_at j k y) ≡ Some n → (file_in (stream_at j k x) ≡ Some n) ⊎ (stream_at j k x ≡ Idle)
 
 -- ---- what becomes of a file's records
@@ -128,7 +151,16 @@ pub data FileMoves (entry : CustomerEntry) (items : List Item) (x : Outgoing) (g
       → g.number ≡ f.number → g.kind ≡ f.kind → length node ≡ 8 → g.records ≡ redirected f.kind node None f.records
       → FileMoves entry items x g
 
+-- By new routes a file is what it was; or it was Ready or Refused, its node has no route now, and it is Held.
+pub data RoutesMoveFile (entry : CustomerEntry) (x : Outgoing) (g : WholeFile) : Type 0 where
+  is_as_before : Contains x.files g → has_lost_route entry g ≡ false → RoutesMoveFile entry x g
+  is_held : (f : WholeFile) → Contains x.files f → has_lost_route entry f ≡ true → g ≡ held f → RoutesMoveFile entry x g
+
+abbrev pub FileMovesBy : CustomerEntry → Coming → Outgoing → WholeFile → Type 0
+FileMovesBy entry (Records l items) x g = FileMoves entry items x g
+FileMovesBy entry (Routes routes) x g = RoutesMoveFile (entry_with (taken_routes routes) entry) x g
+
 abbrev pub RecordsChangeSo : Type 0
 RecordsChangeSo =
-    (entry : CustomerEntry) (l : ℕ) (items : List Item) (x y : Outgoing) (g : WholeFile) → Moves entry l items x y → Contains y.files g
-    → FileMoves entry items x g
+    (entry : CustomerEntry) (came : Coming) (x y : Outgoing) (g : WholeFile) → MovesBy entry came x y → Contains y.files g
+    → FileMovesBy entry came x g

@@ -1,10 +1,12 @@
 -- A customer that is given new routes.
-use Rattle.std.specs.Prelude.{◌≡◌, ℕ, true, false, List}
+use Rattle.std.specs.Prelude.{◌≡◌, ℕ, true, false, List, Ok, Err}
 use Rattle.njh_header.specs.FileHeaders.{destination_of}
 use Rattle.njh_spool.specs.CustomerSpool.{WholeFile}
 use Rattle.njh_stream.specs.Holding.{destination_unrouted, unrouted_held}
 use Rattle.njh_stream.specs.Sending.{goes_by}
 use Rattle.njh_table.specs.Entries.{CustomerEntry, RouteEntry}
+use Rattle.njh_table.specs.Keys.{Walked}
+use Rattle.njh_table.specs.NewRoutes.{NewRoute, routes_checked, taken_routes}
 use Rattle.njh_customer.specs.Customer.{Customer, IsCoherent}
 use Rattle.njh_customer.specs.Part.{Part}
 
@@ -21,6 +23,14 @@ given routes c =
 -- and of no line what has come of its next frame
 abbrev pub routes_taken : List RouteEntry → Part → Part
 routes_taken routes p = record p { customer = given routes p.customer }
+
+-- Routes that are given are the customer's from then on, where there is no fault in them; else nothing changes.
+abbrev pub taken_where : Walked (Unit {0}) → List NewRoute → Part → Part
+taken_where (Ok faultless) routes p = routes_taken (taken_routes routes) p
+taken_where (Err fault) routes p = p
+
+abbrev pub routes_given : List NewRoute → Part → Part
+routes_given routes p = taken_where (routes_checked p.customer.entry routes) routes p
 
 -- ---- what is said of it
 

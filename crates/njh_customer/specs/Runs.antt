@@ -1,13 +1,16 @@
 -- One customer's part of a hub, alone, over a list of its own events.
 use Rattle.std.specs.Prelude.{ℕ, List, [], ◌∷◌, ◌++◌}
+use Rattle.njh_table.specs.NewRoutes.{NewRoute}
 use Rattle.njh_customer.specs.declared.signal.Signal.{Signal}
 use Rattle.njh_customer.specs.Feeding.{bytes_run, sent_on}
+use Rattle.njh_customer.specs.NewRoutes.{routes_given}
 use Rattle.njh_customer.specs.Part.{Part, rest_on, with_rest, signal_taken}
 
--- an event on a line, by the line's number within its customer
+-- an event on a line, by the line's number within its customer, or new routes for the customer
 pub data OwnEvent : Type 0 where
   OwnBytes : (line : ℕ) (piece : List ℕ) → OwnEvent
   OwnSignal : (signal : Signal) (line : ℕ) → OwnEvent
+  OwnRoutes : (routes : List NewRoute) → OwnEvent
 
 pub record Run : Type 0 where
   pub after : Part
@@ -20,6 +23,7 @@ event_run p (OwnBytes l piece) =
 event_run p (OwnSignal signal l) =
     let x = signal_taken p l signal in
     record { after = x.after; sent = sent_on l x.frame }
+event_run p (OwnRoutes routes) = record { after = routes_given routes p; sent = [] }
 
 abbrev pub alone_run : Part → List OwnEvent → Run
 alone_run p [] = record { after = p; sent = [] }

@@ -5,7 +5,7 @@ use Rattle.njh_table.specs.declared.LineId.{LineId}
 use Rattle.njh_customer.specs.Laws.{FirstBytesSendFirst}
 use Rattle.njh_customer.specs.Runs.{OwnBytes, event_run}
 use Rattle.njh_hub.specs.declared.event.Event.{Event}
-use Rattle.njh_hub.specs.declared.event.Event.TheVariants.{Bytes, Tick, Garbled, Lost}
+use Rattle.njh_hub.specs.declared.event.Event.TheVariants.{Bytes, Tick, Garbled, Lost, Routes}
 use Rattle.njh_hub.specs.Laws.{Begins, SentInOrder}
 use Rattle.njh_hub.specs.Own.{first_bytes, first_of}
 use Rattle.njh_hub.specs.Whole.{Part, part, sent_by, hub_event, hub_run}
@@ -31,6 +31,7 @@ event-begins first parts (Bytes line piece) (suc n) =
 event-begins first parts (Tick line) (suc n) = ((hub_event parts (Tick line)).sent, refl)
 event-begins first parts (Garbled line) (suc n) = ((hub_event parts (Garbled line)).sent, refl)
 event-begins first parts (Lost line) (suc n) = ((hub_event parts (Lost line)).sent, refl)
+event-begins first parts (Routes c routes) (suc n) = ((hub_event parts (Routes c routes)).sent, refl)
 
 pub sent_in_order : FirstBytesSendFirst → SentInOrder
 sent_in_order first parts [] zero zero = ([], refl)

@@ -4,9 +4,9 @@ use Rattle.std.proofs.Common.{ap, sym, ◌∙◌}
 use Rattle.njh_table.specs.declared.LineId.{LineId}
 use Rattle.njh_customer.specs.Runs.{OwnEvent}
 use Rattle.njh_hub.specs.declared.event.Event.{Event}
-use Rattle.njh_hub.specs.declared.event.Event.TheVariants.{Bytes, Tick, Garbled, Lost}
-use Rattle.njh_hub.specs.Own.{line_of, own, events_of}
-use Rattle.njh_hub.specs.Wires.{Heard, Came, Quiet, Closed, Absent, Failed, cut_to, told}
+use Rattle.njh_hub.specs.declared.event.Event.TheVariants.{Bytes, Tick, Garbled, Lost, Routes}
+use Rattle.njh_hub.specs.Own.{customer_of, line_of, own, events_of}
+use Rattle.njh_hub.specs.Wires.{Heard, Came, Quiet, Closed, Absent, Failed, cut_to, loss_of, told}
 use Rattle.njh_hub.specs.Turns.{Turn, event_of, told_where, turn_events, quiet_after, round_events, quiets_after, all_events, no_quiets}
 use Rattle.njh_hub.specs.WireLaws.{own_wires, OwnWiresDecide}
 use Rattle.njh_hub.proofs.RoundLaws.{round_events-none, quiets_after-none}
@@ -19,13 +19,13 @@ first-append false x xs ys zs e = e
 events_of-append : (c : ℕ) (xs ys : List Event) → events_of c (xs ++ ys) ≡ events_of c xs ++ events_of c ys
 events_of-append c [] ys = refl
 events_of-append c (x ∷ xs) ys =
-    first-append (eqb (line_of x).customer c) (own x) (events_of c (xs ++ ys)) (events_of c xs) (events_of c ys) (events_of-append c xs ys)
+    first-append (eqb (customer_of x) c) (own x) (events_of c (xs ++ ys)) (events_of c xs) (events_of c ys) (events_of-append c xs ys)
 
 -- ---- a turn of another customer's wire
 
 abbrev OnLine : LineId → Option Event → Type 0
 OnLine line None = Unit {0}
-OnLine line (Some event) = line_of event ≡ line
+OnLine line (Some event) = line_of event ≡ Some line
 
 tick_on : (line : LineId) (b : Bool) → OnLine line (cond b (Some (Tick line)) None)
 tick_on line true = refl
@@ -38,22 +38,34 @@ event_on line quiet Closed = refl
 event_on line quiet Absent = tt
 event_on line quiet Failed = refl
 
-line_of-cut : (n : ℕ) (event : Event) → line_of (cut_to n event) ≡ line_of event
-line_of-cut n (Bytes line piece) = refl
-line_of-cut n (Tick line) = refl
-line_of-cut n (Garbled line) = refl
-line_of-cut n (Lost line) = refl
+customer_of-cut : (n : ℕ) (event : Event) → customer_of (cut_to n event) ≡ customer_of event
+customer_of-cut n (Bytes line piece) = refl
+customer_of-cut n (Tick line) = refl
+customer_of-cut n (Garbled line) = refl
+customer_of-cut n (Lost line) = refl
+customer_of-cut n (Routes c routes) = refl
 
-told-other : (c : ℕ) (line : LineId) (cut : Option ℕ) (event : Event) → line_of event ≡ line → eqb line.customer c ≡ false →
+same_customer : (l line : LineId) → Some l ≡ Some line → l.customer ≡ line.customer
+same_customer l line is = let same : l ≡ line = cc is in ap (λ (x : LineId). x.customer) same
+
+-- an event on a line is of that line's customer
+customer_of-on : (event : Event) (line : LineId) → line_of event ≡ Some line → customer_of event ≡ line.customer
+customer_of-on (Bytes l piece) line on = same_customer l line on
+customer_of-on (Tick l) line on = same_customer l line on
+customer_of-on (Garbled l) line on = same_customer l line on
+customer_of-on (Lost l) line on = same_customer l line on
+customer_of-on (Routes c routes) line on = cc on
+
+told-other : (c : ℕ) (line : LineId) (cut : Option ℕ) (event : Event) → line_of event ≡ Some line → eqb line.customer c ≡ false →
     events_of c (told cut event) ≡ []
 told-other c line None event on other =
-    ap (λ (l : LineId). cond (eqb l.customer c) (own event ∷ []) []) on ∙ ap (λ (b : Bool). cond b (own event ∷ []) []) other
+    ap (λ (d : ℕ). cond (eqb d c) (own event ∷ []) []) (customer_of-on event line on) ∙ ap (λ (b : Bool). cond b (own event ∷ []) []) other
 told-other c line (Some n) event on other =
-    let last : List OwnEvent = cond (eqb (line_of event).customer c) (own (Lost (line_of event)) ∷ []) [] in
-    ap (λ (l : LineId). cond (eqb l.customer c) (own (cut_to n event) ∷ last) last) (line_of-cut n event ∙ on)
+    let last : List OwnEvent = events_of c (loss_of (line_of event)) in
+    ap (λ (d : ℕ). cond (eqb d c) (own (cut_to n event) ∷ last) last) (customer_of-cut n event ∙ customer_of-on event line on)
     ∙ ap (λ (b : Bool). cond b (own (cut_to n event) ∷ last) last) other
-    ∙ ap (λ (l : LineId). cond (eqb l.customer c) (own (Lost (line_of event)) ∷ []) []) on
-    ∙ ap (λ (b : Bool). cond b (own (Lost (line_of event)) ∷ []) []) other
+    ∙ ap (λ (o : Option LineId). events_of c (loss_of o)) on
+    ∙ ap (λ (b : Bool). cond b (own (Lost line) ∷ []) []) other
 
 where-other : (c : ℕ) (line : LineId) (cut : Option ℕ) (event : Option Event) → OnLine line event → eqb line.customer c ≡ false →
     events_of c (told_where cut event) ≡ []

@@ -8,7 +8,7 @@ use Rattle.njh_table.specs.Entries.{CustomerEntry}
 use Rattle.njh_table.specs.declared.LineId.{LineId}
 use Rattle.njh_hub.specs.declared.event.Event.{Event}
 use Rattle.njh_customer.specs.Runs.{OwnEvent, Run, event_run, alone_run}
-use Rattle.njh_hub.specs.Own.{line_of, own, events_of, sent_to}
+use Rattle.njh_hub.specs.Own.{customer_of, own, events_of, sent_to}
 use Rattle.njh_hub.specs.Whole.{Part, opened, no_entry, no_part, part, sent_by, own_event, hub_run}
 use Rattle.njh_hub.specs.Files.{files_of}
 use Rattle.njh_hub.specs.Laws.{IsAlone, EachIsAlone, TwoListsAreLike, CustomersNeverMeet, OthersStay, OwnStepIsOwn}
@@ -69,7 +69,7 @@ other_event-then c d parts event events other apart later =
 pub each_is_alone : EachIsAlone
 each_is_alone c parts [] within = record { after = refl; sent = refl }
 each_is_alone c parts (event ∷ events) within =
-    let d = (line_of event).customer in
+    let d = customer_of event in
     let x = event_run (part d parts) (own event) in
     let later = each_is_alone c (set parts d x.after) events (omega (arith, length-set parts d x.after)) in
     ⊎_elim (λ (w : (eqb d c ≡ true) × (d ≡ c)).
@@ -111,10 +111,10 @@ customers_never_meet c d entries others events more within there agree same =
 
 pub others_stay : OthersStay
 others_stay c parts event apart =
-    let d = (line_of event).customer in
+    let d = customer_of event in
     get_or-set_other parts d c (event_run (part d parts) (own event)).after no_part apart
 
 pub own_step_is_own : OwnStepIsOwn
 own_step_is_own parts event there =
-    let d = (line_of event).customer in
+    let d = customer_of event in
     get_or-set_same parts d (event_run (part d parts) (own event)).after no_part there

@@ -1,29 +1,29 @@
 -- A run in the middle: what has happened, and what the sink took of it.
 use Rattle.std.proofs.Common.{◌≡◌, ℕ, zero, suc, ◌+◌, ◌<◌, ◌≤◌, List, [], ◌∷◌, ◌++◌, length, take, drop, set, get_or}
-use Rattle.std.proofs.Common.{Option, Some, refl, ap, sym, subst, ◌∙◌, ⊎_elim, arith, append_assoc, append-nil, inl, inr}
+use Rattle.std.proofs.Common.{Option, Some, Ok, refl, ap, sym, ◌∙◌, ⊎_elim, arith, append_assoc, append-nil, inl, inr}
 use Rattle.std.proofs.Common.{◌⊎◌}
-use Rattle.std.proofs.lemmas.List.{get_or_past, length-set, length-append, take_all, take_more}
+use Rattle.std.proofs.lemmas.List.{get_or_past, length-append, take_all, take_more}
 use Rattle.std.proofs.lemmas.Option.{slice_get-get_or}
-use Rattle.std.proofs.lemmas.List.Elements.{All-push, All-same}
-use Rattle.std.specs.Prelude.{All}
 use Rattle.std.proofs.lemmas.Bool.{cases_lt}
 use Rattle.std.proofs.Math.Seq.{take-add}
 use Rattle.njh_table.specs.declared.LineId.{LineId}
+use Rattle.njh_table.specs.Keys.{Walked}
+use Rattle.njh_table.specs.NewRoutes.{own_routes, routes_checked, taken_routes}
+use Rattle.njh_table.specs.declared.new_routes.RouteEntry.{RouteEntry}
 use Rattle.njh_hub.specs.declared.event.Event.{Event}
-use Rattle.njh_hub.specs.declared.event.Event.TheVariants.{Bytes}
+use Rattle.njh_hub.specs.declared.event.Event.TheVariants.{Bytes, Tick, Garbled, Lost, Routes}
 use Rattle.njh_customer.specs.Feeding.{sent_on}
 use Rattle.njh_customer.specs.Laws.{NoBytesDoNothing, StepsFollowBytes}
 use Rattle.njh_customer.specs.declared.signal.Signal.{Signal}
+use Rattle.njh_customer.specs.declared.signal.Signal.TheVariants as signal
+use Rattle.njh_customer.specs.NewRoutes.{routes_taken, taken_where}
 use Rattle.njh_customer.specs.Part.{bytes_taken, signal_taken}
-use Rattle.njh_customer.specs.Runs.{OwnSignal, event_run}
-use Rattle.njh_hub.specs.Own.{line_of, own, first_bytes, first_of}
+use Rattle.njh_hub.specs.Own.{line_of, event_by, first_bytes, first_of}
 use Rattle.njh_hub.specs.declared.fault.Cause.{Cause}
 use Rattle.njh_hub.specs.declared.fault.Cause.TheVariants.{Hub, Sink}
-use Rattle.njh_hub.specs.declared.fault.HubFault.{HubFault}
-use Rattle.njh_hub.specs.declared.fault.HubFault.TheVariants.{UnknownLine, UnknownCustomer, Memory, BadRoutes}
 use Rattle.njh_hub.specs.declared.fault.RunFault.{RunFault}
-use Rattle.njh_hub.specs.Stops.{CanStop, HandedUntil, IsWithinOne}
-use Rattle.njh_hub.specs.Whole.{Part, no_part, part, HasLine, SameLines, sent_by, HubRun, own_event, hub_event, hub_run}
+use Rattle.njh_hub.specs.Stops.{HandedUntil, IsWithinOne}
+use Rattle.njh_hub.specs.Whole.{Part, no_part, part, HasLine, IsNamed, sent_by, HubRun, hub_event, hub_run}
 use Rattle.njh_hub.specs.Sent.{IsCounted}
 use Rattle.njh_hub.proofs.PieceLaws.{after_bytes, after_bytes-none, after_bytes-step}
 
@@ -145,13 +145,6 @@ first_of-later events i n bytes event within found stop =
     ∙ ap (λ (k : ℕ). take i events ++ first_of (event ∷ []) n k) (sym w.1))
     stop
 
--- a step on a line refuses for no customer
-pub CanStop-step : (fault : HubFault) (P : Type 0) → ((P → ⊥) → fault ≡ UnknownLine) → (P → fault ≡ Memory) → CanStop (Hub fault)
-CanStop-step UnknownLine P unknown memory = tt
-CanStop-step UnknownCustomer P unknown memory = let never : P → ⊥ = λ p. cc (memory p) in cc (unknown never)
-CanStop-step (BadRoutes cause) P unknown memory = let never : P → ⊥ = λ p. cc (memory p) in cc (unknown never)
-CanStop-step Memory P unknown memory = tt
-
 -- What a sink took before, and then up to a stop.
 pub HandedUntil-after : {S : Type 0} (took : S → S → List (LineId × List ℕ) → Type 0) (refused : S → S → LineId × List ℕ → Type 0)
     (cause : Cause) (a b c : S) (xs ys : List (LineId × List ℕ)) →
@@ -198,46 +191,37 @@ went_on start now events k event within found here =
     ∙ hub_run-append start (take k events) (event ∷ [])
     ∙ ap (λ (ps : List Part). later_than ps (hub_run start (take k events)).sent (event ∷ [])) (sym here)
 
-pub known-more : (start now : List Part) (line : LineId) → SameLines start now → HasLine now line → HasLine start line
-known-more start now line same known = omega (arith, known, same line.customer)
+-- the event of a signal on a line
+pub line-event_by : (s : Signal) (line : LineId) → line_of (event_by s line) ≡ Some line
+line-event_by signal.Tick line = refl
+line-event_by signal.Garbled line = refl
+line-event_by signal.Lost line = refl
 
--- a hub keeps its customers over a run
-pub hub_run-length : (parts : List Part) (events : List Event) → length (hub_run parts events).parts ≡ length parts
-hub_run-length parts [] = refl
-hub_run-length parts (event ∷ events) =
-    let c = (line_of event).customer in
-    let after = (event_run (part c parts) (own event)).after in
-    hub_run-length (set parts c after) events ∙ length-set parts c after
+pub named-event_by : (parts : List Part) (s : Signal) (line : LineId) → HasLine parts line → IsNamed parts (event_by s line)
+named-event_by parts signal.Tick line known = known
+named-event_by parts signal.Garbled line known = known
+named-event_by parts signal.Lost line known = known
 
-pub cases_zero : (n : ℕ) → (n ≡ 0) ⊎ (0 < n)
-cases_zero n = ⊎_elim (λ (w : n < 1). inl (omega arith)) (λ (w : 1 ≤ n). inr (omega arith)) (cases_lt n 1)
-
--- every event before a stop within the next one, or right after it, was on a line of the hub
-pub behind-known : (start : List Part) (events : List Event) (i n bytes : ℕ) (event : Event) → i < length events → event
-    ≡ get_or events i event →
-    ((n ≡ 0) ⊎ ((n ≡ 1) × (bytes ≡ 0))) → (n ≡ 1 → HasLine start (line_of event)) →
-    All (λ e. HasLine start (line_of e)) (take i events) → All (λ e. HasLine start (line_of e)) (take (i + n) events)
-behind-known start events i n bytes event within found stop behind known =
-    let P : ℕ → Type 0 = λ k. All (λ e. HasLine start (line_of e)) (take k events) in
-    ⊎_elim (λ (w : n ≡ 0). subst P (omega arith) known)
-    (λ (w : (n ≡ 1) × (bytes ≡ 0)).
-    let more : P (i + 1) = All-same (λ e. HasLine start (line_of e)) _ _
-    (take_more events i event within ∙ ap (λ (x : Event). take i events ++ x ∷ []) (sym found))
-    (All-push (λ e. HasLine start (line_of e)) (take i events) event known (behind w.0)) in
-    subst P (omega (arith, w.0)) more)
-    stop
-
--- a signal on a line as the only event
-pub signal_done : (parts : List Part) (event : Event) (line : LineId) (signal : Signal) → line ≡ line_of event → own event
-    ≡ OwnSignal signal (line_of event).line →
-    (let t = signal_taken (part line.customer parts) line.line signal in
-    hub_run parts (event ∷ []) ≡ record {
+-- and as the only event
+pub signal_done : (parts : List Part) (s : Signal) (line : LineId) →
+    (let t = signal_taken (part line.customer parts) line.line s in
+    hub_run parts (event_by s line ∷ []) ≡ record {
       parts = set parts line.customer t.after;
       sent = sent_by line.customer (sent_on line.line t.frame);
     })
-signal_done parts event line signal is same =
-    whole_done parts event ∙ ap (own_event parts (line_of event).customer) same
-    ∙ ap (λ (l : LineId). own_event parts l.customer (OwnSignal signal l.line)) (sym is)
+signal_done parts signal.Tick line = whole_done parts (Tick line)
+signal_done parts signal.Garbled line = whole_done parts (Garbled line)
+signal_done parts signal.Lost line = whole_done parts (Lost line)
+
+-- routes that aren't refused, as the only event
+pub routes_done : (parts : List Part) (c : ℕ) (routes : List RouteEntry) →
+    routes_checked (part c parts).customer.entry (own_routes c routes) ≡ Ok tt →
+    hub_run parts (Routes c routes ∷ []) ≡ record {
+      parts = set parts c (routes_taken (taken_routes (own_routes c routes)) (part c parts));
+      sent = [];
+    }
+routes_done parts c routes checked =
+    ap (λ (w : Walked (Unit {0})). record { parts = set parts c (taken_where w (own_routes c routes) (part c parts)); sent = [] }) checked
 
 -- a sink's stop is within the event
 pub is_within_one : (line : LineId) (piece : List ℕ) (taken : ℕ) (fault : RunFault) →

@@ -1,6 +1,6 @@
 -- An event of a wire: its steps, the frames that are written, and a write that fails.
 use Rattle.std.proofs.Common.{◌≡◌, ℕ, zero, suc, ◌+◌, ◌-◌, ◌<◌, ◌≤◌, List, [], ◌∷◌, ◌++◌, length, map, take, set, refl}
-use Rattle.std.proofs.Common.{ap, sym, subst, ◌∙◌, arith, append-nil}
+use Rattle.std.proofs.Common.{Option, Some, ap, sym, subst, ◌∙◌, arith, append-nil}
 use Rattle.std.proofs.lemmas.List.{get_or-set_same, length-set, length-append, map-append}
 use Rattle.std.proofs.Math.Seq.{take-add}
 use Rattle.njh_bisync.specs.Reading.{Rest}
@@ -11,14 +11,14 @@ use Rattle.njh_customer.specs.declared.signal.Signal.TheVariants as signal
 use Rattle.njh_customer.specs.Feeding.{Taking, take_step, byte_step, or_later, bytes_run, sent_on}
 use Rattle.njh_customer.specs.Laws.{CutsAreLike}
 use Rattle.njh_customer.specs.Part.{rest_on, signal_taken}
-use Rattle.njh_customer.specs.Runs.{OwnBytes, OwnSignal, Run, event_run}
+use Rattle.njh_customer.specs.Runs.{OwnBytes, Run, event_run}
 use Rattle.njh_hub.specs.declared.event.Event.{Event}
 use Rattle.njh_hub.specs.declared.event.Event.TheVariants.{Bytes, Lost}
-use Rattle.njh_hub.specs.Own.{line_of, own}
+use Rattle.njh_hub.specs.Own.{line_of, event_by}
 use Rattle.njh_hub.specs.Whole.{Part, no_part, part, HubRun, sent_by, hub_run}
-use Rattle.njh_hub.specs.Wires.{WireAct, Unsent, sent_act, frame_acts, last_unsent, run_until, cut_to, event_by, SendsAt}
+use Rattle.njh_hub.specs.Wires.{WireAct, Unsent, sent_act, frame_acts, last_unsent, run_until, cut_to, loss_of, SendsAt}
 use Rattle.njh_hub.proofs.PieceLaws.{after_bytes}
-use Rattle.njh_hub.proofs.RunningLaws.{GoesOn, step_done, whole_done, known-there, sent_pair, signal_done}
+use Rattle.njh_hub.proofs.RunningLaws.{GoesOn, step_done, whole_done, known-there, sent_pair, signal_done, line-event_by}
 
 -- ---- the last byte of a step
 
@@ -123,50 +123,29 @@ step_stops cuts {start} {now} {after} {line} {piece} {left} {before} {used} {fra
 
 -- ---- signals
 
-pub own-event_by : (s : Signal) (line : LineId) → own (event_by s line) ≡ OwnSignal s line.line
-own-event_by signal.Tick line = refl
-own-event_by signal.Garbled line = refl
-own-event_by signal.Lost line = refl
-
-pub line-event_by : (s : Signal) (line : LineId) → line ≡ line_of (event_by s line)
-line-event_by signal.Tick line = refl
-line-event_by signal.Garbled line = refl
-line-event_by signal.Lost line = refl
-
 pub cut_to-event_by : (n : ℕ) (s : Signal) (line : LineId) → cut_to n (event_by s line) ≡ event_by s line
 cut_to-event_by n signal.Tick line = refl
 cut_to-event_by n signal.Garbled line = refl
 cut_to-event_by n signal.Lost line = refl
 
--- a signal as the only event
-pub signal_came : (parts : List Part) (s : Signal) (line : LineId) →
-    (let t = signal_taken (part line.customer parts) line.line s in
-    hub_run parts (event_by s line ∷ []) ≡ record {
-      parts = set parts line.customer t.after;
-      sent = sent_by line.customer (sent_on line.line t.frame);
-    })
-signal_came parts s line =
-    signal_done parts (event_by s line) line s (line-event_by s line)
-    (own-event_by s line ∙ ap (λ (l : LineId). OwnSignal s l.line) (line-event_by s line))
-
 -- an event, and then the loss of its line
-pub lost_next : (start now new : List Part) (event : Event) (line : LineId) → line ≡ line_of event →
+pub lost_next : (start now new : List Part) (event : Event) (line : LineId) → Some line ≡ line_of event →
     now ≡ (hub_run start (event ∷ [])).parts → new ≡ set now line.customer (signal_taken (part line.customer now) line.line signal.Lost).after →
-    new ≡ (hub_run start (event ∷ Lost (line_of event) ∷ [])).parts
+    new ≡ (hub_run start (event ∷ loss_of (line_of event))).parts
 lost_next start now new event line on before after =
-    after ∙ sym (ap (λ (h : HubRun). h.parts) (signal_came now signal.Lost line))
+    after ∙ sym (ap (λ (h : HubRun). h.parts) (signal_done now signal.Lost line))
     ∙ ap (λ (ps : List Part). (hub_run ps (Lost line ∷ [])).parts) before
-    ∙ ap (λ (l : LineId). (hub_run (hub_run start (event ∷ [])).parts (Lost l ∷ [])).parts) on
+    ∙ ap (λ (o : Option LineId). (hub_run (hub_run start (event ∷ [])).parts (loss_of o)).parts) on
 
 -- a signal, and then the loss of its line
 pub lost_after : (start now new : List Part) (s : Signal) (line : LineId) →
     now ≡ (hub_run start (cut_to 0 (event_by s line) ∷ [])).parts →
     new ≡ set now line.customer (signal_taken (part line.customer now) line.line signal.Lost).after →
-    new ≡ (hub_run start (cut_to 0 (event_by s line) ∷ Lost (line_of (event_by s line)) ∷ [])).parts
+    new ≡ (hub_run start (cut_to 0 (event_by s line) ∷ loss_of (line_of (event_by s line)))).parts
 lost_after start now new s line before after =
-    let on : line ≡ line_of (cut_to 0 (event_by s line)) = line-event_by s line ∙ sym (ap line_of (cut_to-event_by 0 s line)) in
+    let on : Some line ≡ line_of (cut_to 0 (event_by s line)) = sym (ap line_of (cut_to-event_by 0 s line) ∙ line-event_by s line) in
     lost_next start now new (cut_to 0 (event_by s line)) line on before after
-    ∙ ap (λ (e : Event). (hub_run start (cut_to 0 (event_by s line) ∷ Lost (line_of e) ∷ [])).parts) (cut_to-event_by 0 s line)
+    ∙ ap (λ (e : Event). (hub_run start (cut_to 0 (event_by s line) ∷ loss_of (line_of e))).parts) (cut_to-event_by 0 s line)
 
 -- a signal whose frame could not be written
 pub signal_stops : (parts : List Part) (s : Signal) (line : LineId) (frame : List ℕ) →
@@ -174,7 +153,7 @@ pub signal_stops : (parts : List Part) (s : Signal) (line : LineId) (frame : Lis
 signal_stops parts s line frame is some =
     let sent : (run_until parts 0 (event_by s line)).sent ≡ (line, frame) ∷ [] =
     ap (λ (e : Event). (hub_run parts (e ∷ [])).sent) (cut_to-event_by 0 s line)
-    ∙ ap (λ (h : HubRun). h.sent) (signal_came parts s line)
+    ∙ ap (λ (h : HubRun). h.sent) (signal_done parts s line)
     ∙ ap (λ (b : List ℕ). sent_by line.customer (sent_on line.line b)) (sym is) ∙ sent_pair line frame some in
     let one : length (run_until parts 0 (event_by s line)).sent ≡ 1 = ap (λ (s : List (LineId × List ℕ)). length s) sent in
     record { within = omega arith; some = omega (arith, one); last = λ none. absurd (omega (arith, none)) }
@@ -184,7 +163,7 @@ pub signal_unsent : (parts : List Part) (s : Signal) (line : LineId) (frame : Li
     last_unsent (run_until parts 0 (event_by s line)).sent ≡ Unsent frame ∷ []
 signal_unsent parts s line frame is some =
     ap (λ (e : Event). last_unsent (hub_run parts (e ∷ [])).sent) (cut_to-event_by 0 s line)
-    ∙ ap (λ (h : HubRun). last_unsent h.sent) (signal_came parts s line)
+    ∙ ap (λ (h : HubRun). last_unsent h.sent) (signal_done parts s line)
     ∙ ap (λ (b : List ℕ). last_unsent (sent_by line.customer (sent_on line.line b))) (sym is)
     ∙ ap last_unsent (sent_pair line frame some)
 
@@ -192,5 +171,5 @@ pub signal_written : (parts : List Part) (s : Signal) (line : LineId) (frame : L
     frame ≡ (signal_taken (part line.customer parts) line.line s).frame →
     map sent_act (hub_run parts (event_by s line ∷ [])).sent ≡ frame_acts frame
 signal_written parts s line frame is =
-    ap (λ (h : HubRun). map sent_act h.sent) (signal_came parts s line)
+    ap (λ (h : HubRun). map sent_act h.sent) (signal_done parts s line)
     ∙ ap (λ (b : List ℕ). map sent_act (sent_by line.customer (sent_on line.line b))) (sym is) ∙ frame_acts-sent line frame

@@ -4,7 +4,7 @@ use Rattle.njh_table.specs.Entries.{CustomerEntry}
 use Rattle.njh_hub.specs.declared.event.Event.{Event}
 use Rattle.njh_customer.specs.Runs.{alone_run, event_run}
 use Rattle.njh_hub.specs.Outcome.{alone, entry_at, outcome_of}
-use Rattle.njh_hub.specs.Own.{events_of, first_of, line_of, own, sent_to}
+use Rattle.njh_hub.specs.Own.{customer_of, events_of, first_of, own, sent_to}
 use Rattle.njh_hub.specs.Whole.{Part, part, hub_event, hub_run}
 
 -- Events lead customer c's part of a hub, and what is sent on its lines, as its own events lead that part alone.
@@ -39,15 +39,15 @@ CustomersNeverMeet =
 
 -- ---- one step
 
--- A step on another customer's line leaves a customer's part as it is.
+-- A step on another customer's line, or new routes of another customer, leave a customer's part as it is.
 abbrev pub OthersStay : Type 0
-OthersStay = (c : ℕ) (parts : List Part) (event : Event) → c ≢ (line_of event).customer → part c (hub_event parts event).parts ≡ part c parts
+OthersStay = (c : ℕ) (parts : List Part) (event : Event) → c ≢ customer_of event → part c (hub_event parts event).parts ≡ part c parts
 
--- A step on a customer's own line does what it does on a hub of its own, whatever the others hold.
+-- A step on a customer's own line, or new routes of its own, do what they do on a hub of its own, whatever the others hold.
 abbrev pub OwnStepIsOwn : Type 0
 OwnStepIsOwn =
-    (parts : List Part) (event : Event) → (line_of event).customer < length parts →
-    part (line_of event).customer (hub_event parts event).parts ≡ (event_run (part (line_of event).customer parts) (own event)).after
+    (parts : List Part) (event : Event) → customer_of event < length parts →
+    part (customer_of event) (hub_event parts event).parts ≡ (event_run (part (customer_of event) parts) (own event)).after
 
 -- a list begins another
 abbrev pub Begins : {X : Type 0} → List X → List X → Type 0

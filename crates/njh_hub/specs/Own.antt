@@ -1,28 +1,56 @@
 -- What of a list of events is one customer's, and what of the frames that were sent.
 use Rattle.std.specs.Prelude.{ℕ, zero, suc, List, [], ◌∷◌, ◌++◌, ◌==◌, cond, take, length, Option, Some, None, slice_get}
 use Rattle.njh_table.specs.declared.LineId.{LineId}
+use Rattle.njh_table.specs.declared.new_routes.RouteEntry.{RouteEntry}
+use Rattle.njh_table.specs.NewRoutes.{own_routes}
 use Rattle.njh_hub.specs.declared.event.Event.{Event}
-use Rattle.njh_hub.specs.declared.event.Event.TheVariants.{Bytes, Tick, Garbled, Lost}
+use Rattle.njh_hub.specs.declared.event.Event.TheVariants.{Bytes, Tick, Garbled, Lost, Routes}
+use Rattle.njh_customer.specs.declared.signal.Signal.{Signal}
 use Rattle.njh_customer.specs.declared.signal.Signal.TheVariants as signal
-use Rattle.njh_customer.specs.Runs.{OwnEvent, OwnBytes, OwnSignal}
+use Rattle.njh_customer.specs.Runs.{OwnEvent, OwnBytes, OwnSignal, OwnRoutes}
 
-abbrev pub line_of : Event → LineId
-line_of (Bytes line piece) = line
-line_of (Tick line) = line
-line_of (Garbled line) = line
-line_of (Lost line) = line
+-- the customer whose event it is: that of its line, or the one that is given routes
+abbrev pub customer_of : Event → ℕ
+customer_of (Bytes line piece) = line.customer
+customer_of (Tick line) = line.customer
+customer_of (Garbled line) = line.customer
+customer_of (Lost line) = line.customer
+customer_of (Routes c routes) = c
 
--- the event, its line by the number within its customer
+-- the line that it comes on; new routes come on none
+abbrev pub line_of : Event → Option LineId
+line_of (Bytes line piece) = Some line
+line_of (Tick line) = Some line
+line_of (Garbled line) = Some line
+line_of (Lost line) = Some line
+line_of (Routes c routes) = None
+
+-- the customer that is given routes, and these
+abbrev pub routes_of : Event → Option (ℕ × List RouteEntry)
+routes_of (Bytes line piece) = None
+routes_of (Tick line) = None
+routes_of (Garbled line) = None
+routes_of (Lost line) = None
+routes_of (Routes c routes) = Some (c, routes)
+
+-- the event of a signal on a line
+abbrev pub event_by : Signal → LineId → Event
+event_by signal.Tick line = Tick line
+event_by signal.Garbled line = Garbled line
+event_by signal.Lost line = Lost line
+
+-- the event as its customer sees it: a line by its number within the customer, and any other line as none
 abbrev pub own : Event → OwnEvent
 own (Bytes line piece) = OwnBytes line.line piece
 own (Tick line) = OwnSignal signal.Tick line.line
 own (Garbled line) = OwnSignal signal.Garbled line.line
 own (Lost line) = OwnSignal signal.Lost line.line
+own (Routes c routes) = OwnRoutes (own_routes c routes)
 
 -- the events of customer c, in order
 abbrev pub events_of : ℕ → List Event → List OwnEvent
 events_of c [] = []
-events_of c (event ∷ events) = cond ((line_of event).customer == c) (own event ∷ events_of c events) (events_of c events)
+events_of c (event ∷ events) = cond (customer_of event == c) (own event ∷ events_of c events) (events_of c events)
 
 -- what was sent on the lines of customer c, in order
 abbrev pub sent_to : ℕ → List (LineId × List ℕ) → List (ℕ × List ℕ)
@@ -35,6 +63,7 @@ bytes_in_event (Bytes line piece) = length piece
 bytes_in_event (Tick line) = 0
 bytes_in_event (Garbled line) = 0
 bytes_in_event (Lost line) = 0
+bytes_in_event (Routes c routes) = 0
 
 -- the first bytes of an event, if there are any
 abbrev pub first_bytes : Option Event → ℕ → List Event
@@ -44,6 +73,7 @@ first_bytes (Some (Bytes line piece)) (suc n) = Bytes line (take (suc n) piece) 
 first_bytes (Some (Tick line)) (suc n) = []
 first_bytes (Some (Garbled line)) (suc n) = []
 first_bytes (Some (Lost line)) (suc n) = []
+first_bytes (Some (Routes c routes)) (suc n) = []
 
 -- the first so many events, and then the first so many bytes of the next
 abbrev pub first_of : List Event → ℕ → ℕ → List Event

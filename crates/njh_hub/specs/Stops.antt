@@ -1,28 +1,41 @@
 -- How far a run came, and why it stopped.
-use Rattle.std.specs.Prelude.{◌≡◌, ℕ, ◌<◌, ◌≤◌, ◌⊎◌, List, [], ◌∷◌, ◌++◌, Result, Ok, Err, OnOk, IfErr, Vec, vec_capacity, ⊤}
+use Rattle.std.specs.Prelude.{◌≡◌, ℕ, ◌<◌, ◌≤◌, ◌⊎◌, List, [], ◌∷◌, ◌++◌, length, Result, Ok, Err, OnOk, IfErr, Vec, vec_capacity, ⊤}
+use Rattle.std.specs.Prelude.{IsSome, IsSomeAnd}
 use Rattle.njh_bisync.specs.declared.frame.TheConstants.{LONGEST_FRAME}
 use Rattle.njh_table.specs.declared.LineId.{LineId}
+use Rattle.njh_table.specs.NewRoutes.{own_routes, routes_checked}
 use Rattle.njh_hub.specs.declared.event.Event.{Event}
+use Rattle.njh_hub.specs.declared.fault.HubFault.{HubFault}
 use Rattle.njh_hub.specs.declared.fault.HubFault.TheVariants.{UnknownLine, UnknownCustomer, Memory, BadRoutes}
 use Rattle.njh_hub.specs.declared.fault.Cause.{Cause}
 use Rattle.njh_hub.specs.declared.fault.Cause.TheVariants.{Hub, Sink}
 use Rattle.njh_hub.specs.declared.fault.RunFault.{RunFault}
-use Rattle.njh_hub.specs.Own.{line_of, first_of, bytes_in_event}
+use Rattle.njh_hub.specs.Own.{line_of, routes_of, first_of, bytes_in_event}
 use Rattle.njh_hub.specs.Sent.{IsCounted}
-use Rattle.njh_hub.specs.Whole.{Part, HasLine, SameLines, hub_run}
+use Rattle.njh_hub.specs.Whole.{Part, part, HasLine, IsNamed, SameLines, hub_run}
 
 -- the events that happened: all, or up to where the run stopped
 abbrev pub done : {A : Type 0} → List Event → Result A RunFault → List Event
 done events (Ok x) = events
 done events (Err fault) = first_of events fault.events fault.bytes
 
--- a run is stopped by a line that isn't there, by want of memory, or by its sink
-abbrev pub CanStop : Cause → Type 0
-CanStop (Hub UnknownLine) = ⊤
-CanStop (Hub UnknownCustomer) = ⊥
-CanStop (Hub Memory) = ⊤
-CanStop (Hub (BadRoutes cause)) = ⊥
-CanStop Sink = ⊤
+-- Why the hub refuses an event: it has no such line; it has no such customer; that customer can't have the routes; or there was no memory
+-- for an event that names what is there.
+abbrev pub IsRefused : List Part → Event → HubFault → Type 0
+IsRefused parts event UnknownLine = IsSomeAnd (line_of event) (λ line. HasLine parts line → ⊥)
+IsRefused parts event UnknownCustomer = IsSomeAnd (routes_of event) (λ given. given.0 < length parts → ⊥)
+IsRefused parts event (BadRoutes cause) = IsSomeAnd (routes_of event) (λ given. (given.0 < length parts) ×
+    (routes_checked (part given.0 parts).customer.entry (own_routes given.0 given.1) ≡ Err cause))
+IsRefused parts event Memory = IsNamed parts event
+
+-- where the hub is the cause, and not the sink, this is so of its refusal
+abbrev pub IfHub : Cause → (HubFault → Type 0) → Type 0
+IfHub (Hub why) P = P why
+IfHub Sink P = ⊤
+
+-- an event that gives a customer routes
+abbrev pub IsRoutes : Event → Type 0
+IsRoutes event = IsSome (routes_of event)
 
 -- A sink took all of these frames but the last, and refused that one.
 pub record RefusedLast {S : Type 0} (took : S → S → List (LineId × List ℕ) → Type 0) (refused : S → S → LineId × List ℕ → Type 0)
@@ -57,14 +70,13 @@ pub record IsEventRun {S A Z : Type 0} (took : S → S → List (LineId × List 
     (result : Result A RunFault) (new : List Part) (new_out : Vec ℕ Z) (new_sink : S) : Type 0 where
   pub leads : new ≡ (hub_run parts (done (event ∷ []) result)).parts
   pub handed : Handed took refused result sink new_sink (hub_run parts (done (event ∷ []) result)).sent
-  pub known : OnOk result (HasLine parts (line_of event))
+  pub known : OnOk result (IsNamed parts event)
   pub lines : SameLines parts new
-  pub room : OnOk result (LONGEST_FRAME ≤ vec_capacity new_out)
+  pub room : OnOk result (IsSome (line_of event) ⊎ (LONGEST_FRAME ≤ vec_capacity out) → LONGEST_FRAME ≤ vec_capacity new_out)
   pub one : IfErr result (IsWithinOne event)
-  pub behind : IfErr result (λ fault. fault.events ≡ 1 → HasLine parts (line_of event))
-  pub causes : IfErr result (λ fault. CanStop fault.cause)
-  pub unknown : IfErr result (λ fault. fault.cause ≡ Hub UnknownLine → (fault.events ≡ 0) × (HasLine parts (line_of event) → ⊥))
+  pub behind : IfErr result (λ fault. fault.events ≡ 1 → IsNamed parts event)
+  pub causes : IfErr result (λ fault. IfHub fault.cause (λ why. (fault.events ≡ 0) × IsRefused parts event why))
   pub memory : IfErr result (λ fault. fault.cause ≡ Hub Memory → (fault.events ≡ 0) × (fault.bytes ≡ 0) ×
-      HasLine parts (line_of event) × (vec_capacity out < LONGEST_FRAME))
+      (IsRoutes event ⊎ (vec_capacity out < LONGEST_FRAME)))
   pub counts : count sink ≤ count new_sink
   pub counted : IfErr result (λ fault. fault.cause ≡ Sink → IsCounted (count sink) (count new_sink))

@@ -3,10 +3,8 @@ use Rattle.std.specs.Prelude.{◌≡◌, ℕ, ◌-◌, ◌<◌, ◌≤◌, List,
 use Rattle.std.specs.Prelude.{Result, Ok, Err, IsSome, ⊤, Vec, vec_capacity, slice_set}
 use Rattle.njh_bisync.specs.declared.frame.TheConstants.{LONGEST_FRAME}
 use Rattle.njh_table.specs.declared.LineId.{LineId}
-use Rattle.njh_customer.specs.declared.signal.Signal.{Signal}
-use Rattle.njh_customer.specs.declared.signal.Signal.TheVariants as signal
 use Rattle.njh_hub.specs.declared.event.Event.{Event}
-use Rattle.njh_hub.specs.declared.event.Event.TheVariants.{Bytes, Tick, Garbled, Lost}
+use Rattle.njh_hub.specs.declared.event.Event.TheVariants.{Bytes, Tick, Garbled, Lost, Routes}
 use Rattle.njh_hub.specs.declared.reading.Reading.{Reading}
 use Rattle.njh_hub.specs.declared.reading.Reading.TheVariants as reading
 use Rattle.njh_hub.specs.declared.reading.WireFault.{WireFault}
@@ -52,15 +50,21 @@ cut_to n (Bytes line piece) = Bytes line (take n piece)
 cut_to n (Tick line) = Tick line
 cut_to n (Garbled line) = Garbled line
 cut_to n (Lost line) = Lost line
+cut_to n (Routes c routes) = Routes c routes
 
 -- the hub after the first bytes of an event
 abbrev pub run_until : List Part → ℕ → Event → HubRun
 run_until parts n event = hub_run parts (cut_to n event ∷ [])
 
+-- the loss of the line that an event came on
+abbrev pub loss_of : Option LineId → List Event
+loss_of None = []
+loss_of (Some line) = Lost line ∷ []
+
 -- What the hub hears of an event. Where a write failed, the bytes behind it are dropped and the line is lost.
 abbrev pub told : Option ℕ → Event → List Event
 told None event = event ∷ []
-told (Some n) event = cut_to n event ∷ Lost (line_of event) ∷ []
+told (Some n) event = cut_to n event ∷ loss_of (line_of event)
 
 abbrev pub sent_act : LineId × List ℕ → WireAct
 sent_act pair = Sent pair.1
@@ -89,11 +93,6 @@ pub record SendsAt (parts : List Part) (event : Event) (n : ℕ) : Type 0 where
 abbrev pub IsStop : List Part → Option ℕ → Event → Type 0
 IsStop parts None event = ⊤
 IsStop parts (Some n) event = SendsAt parts event n
-
-abbrev pub event_by : Signal → LineId → Event
-event_by signal.Tick line = Tick line
-event_by signal.Garbled line = Garbled line
-event_by signal.Lost line = Lost line
 
 -- A step on a line in the room that `out` has: it leads that line's customer to `after` and no other anywhere.
 pub record IsTaken {Z : Type 0} (parts : List Part) (line : LineId) (after : Part) (sent : List ℕ) (new : List Part)

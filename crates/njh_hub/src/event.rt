@@ -2,6 +2,7 @@
 
 ghost use Rattle.std.specs.Prelude.{◌≡◌, IfOk};
 
+use crate::route_list::RouteList;
 use njh_table::LineId;
 use std::alloc::{AllocError, Global};
 use std::marker::Model;
@@ -45,7 +46,7 @@ impl Piece {
     }
 }
 
-/// What comes to the hub, each on one line.
+/// What comes to the hub: on one line, or for one customer.
 #[derive(Drop)]
 pub enum Event {
     /// Some bytes.
@@ -56,18 +57,6 @@ pub enum Event {
     Garbled(LineId),
     /// The line is lost.
     Lost(LineId),
-}
-
-impl Event {
-    ghost use Rattle.njh_hub.specs.Own.{line_of};
-
-    /// The line that it comes on.
-    pub fn line(&self) -> LineId
-        ensures { result ≡ line_of self.now }
-    {
-        match self {
-            Event::Bytes(line, _) | Event::Tick(line) | Event::Garbled(line) | Event::Lost(line) =>
-                *line,
-        }
-    }
+    /// New routes for the customer of this number, in place of all that it has.
+    Routes(u16, RouteList),
 }

@@ -9,6 +9,7 @@ mod hub;
 mod law;
 mod opening;
 mod reading;
+mod route_list;
 mod run;
 mod serve;
 mod sink;
@@ -27,6 +28,7 @@ pub use law::{
 };
 pub use njh_customer::{Signal, cuts_are_like};
 pub use reading::{Reading, WireFault};
+pub use route_list::RouteList;
 pub use serve::serve_turns;
 pub use sink::{Sink, SinkFault};
 pub use turn::wire_turn;

@@ -1,19 +1,19 @@
 //! Runs over lists of events.
 
-ghost use Rattle.std.specs.Prelude.{◌≡◌, ℕ, ◌+◌, ◌<◌, ◌≤◌, List, [], ◌∷◌, length, slice_get, take, OnOk, OnErr, IfErr, IsSomeAnd, All};
+ghost use Rattle.std.specs.Prelude.{◌≡◌, ℕ, ◌+◌, ◌<◌, ◌≤◌, List, [], ◌∷◌, ◌⊎◌, length, slice_get, take, OnOk, OnErr, IfErr, IsSomeAnd, All};
 ghost use Rattle.njh_customer.specs.Feeding.{sent_on};
-ghost use Rattle.njh_customer.specs.Runs.{alone_run, OwnSignal};
-ghost use Rattle.njh_hub.specs.Own.{line_of, own, events_of, sent_to, bytes_in_event};
+ghost use Rattle.njh_customer.specs.Runs.{alone_run};
+ghost use Rattle.njh_hub.specs.Own.{events_of, event_by, sent_to, bytes_in_event};
 ghost use Rattle.njh_hub.specs.Sent.{IsCounted};
-ghost use Rattle.njh_hub.specs.Stops.{done, CanStop, Handed, IsEventRun};
-ghost use Rattle.njh_hub.specs.Whole.{part, HasLine, SameLines, sent_by, hub_run};
+ghost use Rattle.njh_hub.specs.Stops.{done, Handed, IfHub, IsEventRun, IsRefused, IsRoutes};
+ghost use Rattle.njh_hub.specs.Whole.{part, IsNamed, SameLines, sent_by, hub_run};
 ghost use Rattle.njh_hub.specs.declared.event.Event.TheVariants.{Bytes};
 
 use crate::event::Event;
 use crate::fault::{Cause, HubFault, RunFault};
 use crate::hub::Hub;
 use crate::sink::{Sink, SinkFault};
-use njh_customer::{Signal, no_bytes_do_nothing, steps_follow_bytes};
+use njh_customer::{Signal, events_keep_entries, no_bytes_do_nothing, steps_follow_bytes};
 use njh_table::LineId;
 
 impl Hub {
@@ -38,19 +38,19 @@ impl Hub {
         ensures customers { length self.new ≡ length self.old }
         ensures lines { SameLines self.old self.new }
 
-        // When it stops, and where: every event before the stop was on a line of the hub.
-        ensures known { OnOk result (All (λ event. HasLine self.old (line_of event)) events.now) }
-        ensures before { IfErr result (λ fault. All (λ event. HasLine self.old (line_of event)) (take fault.events events.now)) }
+        // When it stops, and where: every event before the stop names a line of the hub, or a customer of it with routes that aren't refused.
+        ensures known { OnOk result (All (IsNamed self.old) events.now) }
+        ensures before { IfErr result (λ fault. All (IsNamed self.old) (take fault.events events.now)) }
         ensures few { IfErr result (λ fault. fault.events ≤ length events.now) }
         ensures within { IfErr result (λ fault. 0 < fault.bytes →
             IsSomeAnd (slice_get events.now fault.events) (λ event. fault.bytes < bytes_in_event event)) }
-        ensures causes { IfErr result (λ fault. CanStop fault.cause) }
-        ensures unknown { IfErr result (λ fault. fault.cause ≡ Cause.Hub HubFault.UnknownLine →
-            IsSomeAnd (slice_get events.now fault.events) (λ event. ¬ HasLine self.old (line_of event))) }
-        ensures memory { IfErr result (λ fault. fault.cause ≡ Cause.Hub HubFault.Memory →
-            (fault.events ≡ 0) × (fault.bytes ≡ 0) × IsSomeAnd (slice_get events.now 0) (λ event. HasLine self.old (line_of event))) }
+        ensures causes { IfErr result (λ fault. IfHub fault.cause (λ why.
+            IsSomeAnd (slice_get events.now fault.events) (λ event. IsRefused self.old event why))) }
+        ensures memory { IfErr result (λ fault. fault.cause ≡ Cause.Hub HubFault.Memory → (fault.bytes ≡ 0) ×
+            (IsSomeAnd (slice_get events.now fault.events) IsRoutes ⊎ All IsRoutes (take fault.events events.now))) }
         ensures counted { IfErr result (λ fault. fault.cause ≡ Cause.Sink → IsCounted (S.count sink.old) (S.count sink.new)) }
     {
+        events_keep_entries();
         let mut out = Vec::new(self.allocator());
         for (index, event) in events.iter().enumerate() {
             match self.run_event(event, &mut out, sink) {
@@ -72,24 +72,30 @@ impl Hub {
     {
         match event {
             Event::Bytes(line, piece) => self.run_bytes(*line, piece.bytes(), out, sink),
-            Event::Tick(_) => self.run_signal(event, Signal::Tick, out, sink),
-            Event::Garbled(_) => self.run_signal(event, Signal::Garbled, out, sink),
-            Event::Lost(_) => self.run_signal(event, Signal::Lost, out, sink),
+            Event::Tick(line) => self.run_signal(*line, Signal::Tick, out, sink),
+            Event::Garbled(line) => self.run_signal(*line, Signal::Garbled, out, sink),
+            Event::Lost(line) => self.run_signal(*line, Signal::Lost, out, sink),
+            Event::Routes(customer, routes) => match self.retable(*customer, routes.routes()) {
+                Ok(()) => Ok(()),
+                Err(fault) => Err(RunFault {
+                    events: 0,
+                    bytes: 0,
+                    cause: Cause::Hub(fault),
+                }),
+            },
         }
     }
 
-    /// The signal of an event.
+    /// A signal on a line.
     fn run_signal<S: Sink>(
         &mut self,
-        event: &Event,
+        line: LineId,
         signal: Signal,
         out: &mut Vec<u8>,
         sink: &mut S,
     ) -> Result<(), RunFault>
-        requires { own event.now ≡ OwnSignal signal (line_of event.now).line }
-        ensures { IsEventRun S.took S.refused S.count self.old event.now out.old sink.old result self.new out.new sink.new }
+        ensures { IsEventRun S.took S.refused S.count self.old (event_by signal line) out.old sink.old result self.new out.new sink.new }
     {
-        let line = event.line();
         out.clear();
         match self.signal(line, signal, out) {
             Ok(()) => {}

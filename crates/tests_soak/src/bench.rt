@@ -159,6 +159,10 @@ impl<'a> Bench<'a> {
                 let answer = self.hub.lost(*line, &mut self.out);
                 self.look(peer, answer)
             }
+            Event::Routes(customer, routes) => {
+                let answer = self.hub.retable(*customer, routes.routes());
+                self.look(peer, answer)
+            }
         }
     }
 

@@ -1,8 +1,10 @@
 use Rattle.std.proofs.Common.{◌≡◌, ℕ, ◌<◌, List, [], ◌∷◌, length, Some, ap, sym, subst, ◌∙◌, arith}
 use Rattle.njh_hub.specs.declared.event.Event.{Event}
 use Rattle.njh_hub.specs.Whole.{HubRun, hub_run}
-use Rattle.njh_hub.specs.Wires.{WireAct, Unsent, event_by, cut_to}
-use Rattle.njh_hub.proofs.WireLaws.{signal_came, signal_unsent, signal_stops, lost_after, cut_to-event_by}
+use Rattle.njh_hub.specs.Own.{event_by}
+use Rattle.njh_hub.specs.Wires.{WireAct, Unsent, cut_to}
+use Rattle.njh_hub.proofs.RunningLaws.{signal_done}
+use Rattle.njh_hub.proofs.WireLaws.{signal_unsent, signal_stops, lost_after, cut_to-event_by}
 use Rattle.njh_hub.proofs.turn.pass_signal.Goals as goal
 
 pub returns-in-Err-clause-done : goal.returns-in-Err-clause-done
@@ -17,7 +19,7 @@ returns-in-Err-clause-done g c =
     let P : List WireAct → Type 0 = λ acts. g.W.Wire.passed c.args.wire.now c.send.new.wire acts in
     let some : 0 < length frame = omega (arith, c.in-Err.ensures.err.1, ap (λ (b : List ℕ). length b) c.deref.ensures.value) in
     let here : c.take_signal.new.hub ≡ (hub_run start (cut_to 0 (event_by s line) ∷ [])).parts =
-    did.hub ∙ sym (ap (λ (h : HubRun). h.parts) (signal_came start s line))
+    did.hub ∙ sym (ap (λ (h : HubRun). h.parts) (signal_done start s line))
     ∙ sym (ap (λ (e : Event). (hub_run start (e ∷ [])).parts) (cut_to-event_by 0 s line)) in (
       Some 0,
       record {

@@ -1,18 +1,18 @@
 use Rattle.std.proofs.Common.{◌≡◌, ℕ, ◌+◌, ◌<◌, List, [], ◌∷◌, ◌++◌, length, take, Option, Some, ap, sym, subst, ◌∙◌, arith}
-use Rattle.std.proofs.Common.{add-zero, ⊎_elim}
-use Rattle.std.specs.Prelude.{IsSomeAnd, slice_get, All}
-use Rattle.std.proofs.lemmas.List.{take_all, take_more, length-append}
-use Rattle.std.proofs.lemmas.List.Elements.{All-push, All-same}
-use Rattle.std.proofs.lemmas.Option.{slice_get-get_or}
+use Rattle.std.proofs.Common.{◌≤◌, ⊎_elim, inl, inr}
+use Rattle.std.specs.Prelude.{IsSomeAnd, slice_get, All, IsSome}
+use Rattle.std.specs.Vec.{vec_capacity}
+use Rattle.njh_bisync.specs.declared.frame.TheConstants.{LONGEST_FRAME}
+use Rattle.std.proofs.lemmas.List.{take_all, length-append}
 use Rattle.njh_customer.specs.Runs.{alone_run}
 use Rattle.njh_hub.specs.declared.event.Event.{Event}
 use Rattle.njh_hub.specs.declared.fault.RunFault.{RunFault}
 use Rattle.njh_hub.specs.Own.{line_of, events_of, bytes_in_event, first_of}
-use Rattle.njh_hub.specs.Stops.{HandedUntil}
-use Rattle.njh_hub.specs.Whole.{Part, part, HubRun, HasLine, hub_run}
+use Rattle.njh_hub.specs.Stops.{HandedUntil, IfHub, IsRefused, IsRoutes}
+use Rattle.njh_hub.specs.Whole.{Part, part, HubRun, IsNamed, hub_run}
 use Rattle.njh_hub.proofs.RunLaws.{each_is_alone}
-use Rattle.njh_hub.proofs.RunningLaws.{stopped_in, went_on, HandedUntil-after, HandedUntil-some, known-more, hub_run-length}
-use Rattle.njh_hub.proofs.RunningLaws.{behind-known, cases_zero}
+use Rattle.njh_hub.proofs.RunningLaws.{stopped_in, went_on, HandedUntil-after, HandedUntil-some}
+use Rattle.njh_hub.proofs.NamedLaws.{All-more, LedOn, behind-known, either_event, found_at, hub_run-length, led_on, named-before, refused_at}
 use Rattle.njh_hub.proofs.hub.Hub.run.Goals as goal
 
 pub returns-in-Err-clause-parts : goal.returns-in-Err-clause-parts
@@ -85,9 +85,10 @@ returns-in-Err-clause-before g c =
     let k = c.loop-index.index in
     let event = c.index-events-index.result in
     let within : k < length events = omega arith in
-    let P : RunFault → Type 0 = λ f. All (λ e. HasLine start (line_of e)) (take f.events events) in
-    let behind : c.in-Err.fault.events ≡ 1 →
-    HasLine start (line_of event) = λ one. known-more start c.loop-index.self (line_of event) c.loop-index.invariant.same
+    let P : RunFault → Type 0 = λ f. All (IsNamed start) (take f.events events) in
+    let on : LedOn start c.loop-index.self = led_on c.events_keep_entries.ensures.faults start c.loop-index.self (take k events)
+    c.loop-index.invariant.parts c.loop-index.invariant.same in
+    let behind : c.in-Err.fault.events ≡ 1 → IsNamed start event = λ one. named-before start c.loop-index.self on event
     (c.in-Err.ensures.behind one) in
     subst P (sym c.after.ensures) (behind-known start events k c.in-Err.fault.events c.in-Err.fault.bytes event within
     c.index-events-index.is c.in-Err.ensures.one.1 behind c.loop-index.invariant.known)
@@ -102,47 +103,45 @@ returns-in-Err-clause-within g c = λ some.
     let bytes : c.after.result.bytes ≡ fault.bytes = ap (λ (f : RunFault). f.bytes) c.after.ensures in
     let one = c.in-Err.ensures.one.0 (omega (arith, bytes, some)) in
     let at : slice_get events c.after.result.events ≡ Some event =
-    ap (λ (f : RunFault). slice_get events f.events) c.after.ensures ∙ ap (λ (n : ℕ). slice_get events (k + n)) one.0
-    ∙ ap (slice_get events) (add-zero k)
-    ∙ slice_get-get_or events k event within ∙ ap Some (sym c.index-events-index.is) in
+    ap (λ (f : RunFault). slice_get events f.events) c.after.ensures
+    ∙ found_at events k fault.events event within c.index-events-index.is one.0 in
     let P : Option Event → Type 0 = λ o. IsSomeAnd o (λ e. c.after.result.bytes < bytes_in_event e) in
     let here : c.after.result.bytes < bytes_in_event event = omega (arith, bytes, one.1) in
     subst P (sym at) here
 
-pub returns-in-Err-clause-unknown : goal.returns-in-Err-clause-unknown
-returns-in-Err-clause-unknown g c = λ unknown.
+pub returns-in-Err-clause-causes : goal.returns-in-Err-clause-causes
+returns-in-Err-clause-causes g c =
+    let start = c.args.self.now in
     let events = c.args.events.now in
     let k = c.loop-index.index in
     let fault = c.in-Err.fault in
     let event = c.index-events-index.result in
     let within : k < length events = omega arith in
-    let told = c.in-Err.ensures.unknown (sym (ap (λ (f : RunFault). f.cause) c.after.ensures) ∙ unknown) in
-    let at : slice_get events c.after.result.events ≡ Some event =
-    ap (λ (f : RunFault). slice_get events f.events) c.after.ensures ∙ ap (λ (n : ℕ). slice_get events (k + n)) told.0
-    ∙ ap (slice_get events) (add-zero k)
-    ∙ slice_get-get_or events k event within ∙ ap Some (sym c.index-events-index.is) in
-    let P : Option Event → Type 0 = λ o. IsSomeAnd o (λ e. HasLine c.args.self.now (line_of e) → ⊥) in
-    let here : HasLine c.args.self.now (line_of event) →
-    ⊥ = λ known. told.1 (omega (arith, known, c.loop-index.invariant.same (line_of event).customer)) in
-    subst P (sym at) here
+    let on : LedOn start c.loop-index.self = led_on c.events_keep_entries.ensures.faults start c.loop-index.self (take k events)
+    c.loop-index.invariant.parts c.loop-index.invariant.same in
+    let P : RunFault → Type 0 = λ f. IfHub f.cause (λ why. IsSomeAnd (slice_get events f.events) (λ e. IsRefused start e why)) in
+    subst P (sym c.after.ensures) (refused_at start c.loop-index.self on events k fault.events event within c.index-events-index.is
+    fault.cause c.in-Err.ensures.causes)
 
 pub returns-in-Err-clause-memory : goal.returns-in-Err-clause-memory
 returns-in-Err-clause-memory g c = λ memory.
-    let start = c.args.self.now in
     let events = c.args.events.now in
     let k = c.loop-index.index in
+    let fault = c.in-Err.fault in
     let event = c.index-events-index.result in
     let within : k < length events = omega arith in
     let told = c.in-Err.ensures.memory (sym (ap (λ (f : RunFault). f.cause) c.after.ensures) ∙ memory) in
-    let first : k ≡ 0 = ⊎_elim (λ (w : k ≡ 0). w) (λ (w : 0 < k). absurd (omega (arith, told.3, c.loop-index.invariant.room w)))
-    (cases_zero k) in
-    let at : slice_get events 0 ≡ Some event = ap (slice_get events) (sym first) ∙ slice_get-get_or events k event within
-    ∙ ap Some (sym c.index-events-index.is) in
-    let P : Option Event → Type 0 = λ o. IsSomeAnd o (λ e. HasLine start (line_of e)) in
-    let known : HasLine start (line_of event) = known-more start c.loop-index.self (line_of event) c.loop-index.invariant.same told.2 in (
-      ap (λ (f : RunFault). f.events) c.after.ensures ∙ omega (arith, told.0, first),
+    let at : slice_get events c.after.result.events ≡ Some event =
+    ap (λ (f : RunFault). slice_get events f.events) c.after.ensures
+    ∙ found_at events k fault.events event within c.index-events-index.is told.0 in
+    let P : Option Event → Type 0 = λ o. IsSomeAnd o IsRoutes in
+    let Q : ℕ → Type 0 = λ n. All IsRoutes (take n events) in
+    let here : k ≡ c.after.result.events = omega (arith, ap (λ (f : RunFault). f.events) c.after.ensures, told.0) in (
       ap (λ (f : RunFault). f.bytes) c.after.ensures ∙ told.1,
-      subst P (sym at) known,
+      ⊎_elim (λ (routes : IsRoutes event). inl (subst P (sym at) routes))
+          (λ (less : vec_capacity c.loop-index.out < LONGEST_FRAME). ⊎_elim
+          (λ (all : Q k). inr (subst Q here all))
+          (λ (enough : LONGEST_FRAME ≤ vec_capacity c.loop-index.out). absurd (omega arith)) c.loop-index.invariant.room) told.2,
     )
 
 pub loop-index-preserved : goal.loop-index-preserved
@@ -153,17 +152,20 @@ loop-index-preserved g c =
     let event = c.index-events-index.result in
     let within : k < length events = omega arith in
     let on = went_on start c.loop-index.self events k event within c.index-events-index.is c.loop-index.invariant.parts in
-    let known : HasLine start (line_of event) =
-    known-more start c.loop-index.self (line_of event) c.loop-index.invariant.same c.in-Ok.ensures.known in
+    let led : LedOn start c.loop-index.self = led_on c.events_keep_entries.ensures.faults start c.loop-index.self (take k events)
+    c.loop-index.invariant.parts c.loop-index.invariant.same in
+    let known : IsNamed start event = named-before start c.loop-index.self led event c.in-Ok.ensures.known in
     let P : HubRun → Type 0 = λ h. g.S.Sink.took c.args.sink.now c.run_event.new.sink h.sent in
     record {
       parts = c.in-Ok.ensures.leads ∙ ap (λ (h : HubRun). h.parts) (sym on);
       sent = subst P (sym on) (g.met.S.Sink.more _ _ _ _ _ c.loop-index.invariant.sent c.in-Ok.ensures.handed);
-      known = All-same (λ e. HasLine start (line_of e)) _ _
-          (take_more events k event within ∙ ap (λ (x : Event). take k events ++ x ∷ []) (sym c.index-events-index.is))
-          (All-push (λ e. HasLine start (line_of e)) (take k events) event c.loop-index.invariant.known known);
+      known = All-more (IsNamed start) events k event within c.index-events-index.is c.loop-index.invariant.known known;
       same = λ d. c.in-Ok.ensures.lines d ∙ c.loop-index.invariant.same d;
-      room = λ _. c.in-Ok.ensures.room;
+      room = ⊎_elim (λ (line : IsSome (line_of event)). inr (c.in-Ok.ensures.room (inl line)))
+          (λ (routes : IsRoutes event). ⊎_elim
+          (λ (all : All IsRoutes (take k events)). inl (All-more IsRoutes events k event within c.index-events-index.is all routes))
+          (λ (enough : LONGEST_FRAME ≤ vec_capacity c.loop-index.out). inr (c.in-Ok.ensures.room (inr enough))) c.loop-index.invariant.room)
+          (either_event event);
       counts = omega (arith, c.in-Ok.ensures.counts);
     }
 

@@ -1,9 +1,9 @@
-use Rattle.std.proofs.Common.{◌≡◌, ◌<◌, ◌≤◌, take}
+use Rattle.std.proofs.Common.{◌≡◌, ◌≤◌, ◌⊎◌, take}
 use Rattle.std.specs.Prelude.{All}
 use Rattle.std.specs.Vec.{vec_capacity}
 use Rattle.njh_bisync.specs.declared.frame.TheConstants.{LONGEST_FRAME}
-use Rattle.njh_hub.specs.Own.{line_of}
-use Rattle.njh_hub.specs.Whole.{HasLine, SameLines, hub_run}
+use Rattle.njh_hub.specs.Stops.{IsRoutes}
+use Rattle.njh_hub.specs.Whole.{IsNamed, SameLines, hub_run}
 use Rattle.njh_hub.proofs.hub.Hub.run.Given as goal
 
 -- so many events have happened
@@ -11,8 +11,8 @@ abbrev pub invariant-loop-index : goal.invariant-loop-index
 invariant-loop-index g l = record {
   parts : l.self ≡ (hub_run l.fn.self (take l.index l.events)).parts;
   sent : g.S.Sink.took l.fn.sink l.sink (hub_run l.fn.self (take l.index l.events)).sent;
-  known : All (λ event. HasLine l.fn.self (line_of event)) (take l.index l.events);
+  known : All (IsNamed l.fn.self) (take l.index l.events);
   same : SameLines l.fn.self l.self;
-  room : 0 < l.index → LONGEST_FRAME ≤ vec_capacity l.out;
+  room : All IsRoutes (take l.index l.events) ⊎ (LONGEST_FRAME ≤ vec_capacity l.out);
   counts : g.S.Sink.count l.fn.sink ≤ g.S.Sink.count l.sink;
 }

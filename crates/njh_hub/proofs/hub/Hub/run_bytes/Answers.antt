@@ -5,7 +5,7 @@ use Rattle.njh_customer.specs.Feeding.{sent_on}
 use Rattle.njh_hub.specs.declared.event.Event.TheVariants.{Bytes}
 use Rattle.njh_hub.specs.declared.fault.Cause.{Cause}
 use Rattle.njh_hub.specs.Own.{first_of}
-use Rattle.njh_hub.specs.Stops.{CanStop, HandedUntil}
+use Rattle.njh_hub.specs.Stops.{HandedUntil, IfHub, IsRefused}
 use Rattle.njh_hub.specs.Whole.{HubRun, HasLine, sent_by, hub_run}
 use Rattle.njh_hub.proofs.PieceLaws.{after_bytes}
 use Rattle.njh_hub.proofs.RunningLaws.{GoesOn, step_done, sink_done, whole_done, sent_pair, is_within_one, counted_from}
@@ -77,11 +77,10 @@ returns-then-taken-piece g c =
       handed = subst P on took;
       known = known;
       lines = λ d. did.lines d ∙ c.loop-used.invariant.same d;
-      room = did.room;
+      room = λ _. did.room;
       one = search rules;
       behind = search rules;
       causes = search rules;
-      unknown = search rules;
       memory = search rules;
       counts = omega (arith, c.in-Ok-hand_over.ensures.counts);
       counted = search rules;
@@ -113,7 +112,7 @@ returns-in-Err-hand_over g c =
     let sent = (after_bytes start line (take c.loop-used.taken c.args.piece.now)).sent in
     let all = (hub_run start (first_of (Bytes line c.args.piece.now ∷ []) fault.events fault.bytes)).sent in
     let Q : Cause → Type 0 = λ cause. HandedUntil g.S.Sink.took g.S.Sink.refused cause c.args.sink.now c.hand_over.new.sink all in
-    let C : Cause → Type 0 = λ cause. CanStop cause in
+    let C : Cause → Type 0 = λ cause. IfHub cause (λ why. (fault.events ≡ 0) × IsRefused start (Bytes line c.args.piece.now) why) in
     record {
       leads = sym (ap (λ (h : HubRun). h.parts) (stop ∙ there));
       handed = subst Q (sym c.after_sink.ensures.cause) (record {
@@ -133,7 +132,6 @@ returns-in-Err-hand_over g c =
       one = is_within_one line c.args.piece.now taken fault c.after_sink.ensures.whole c.after_sink.ensures.part;
       behind = λ _. known;
       causes = subst C (sym c.after_sink.ensures.cause) tt;
-      unknown = λ is. cc (is, c.after_sink.ensures.cause);
       memory = λ is. cc (is, c.after_sink.ensures.cause);
       counts = omega (arith, c.in-Err-hand_over.ensures.counts);
       counted = λ _. counted_from (g.S.Sink.count c.args.sink.now) (g.S.Sink.count c.loop-used.sink)

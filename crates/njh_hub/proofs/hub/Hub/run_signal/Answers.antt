@@ -1,14 +1,15 @@
 use Rattle.std.proofs.Common.{◌≡◌, ◌∙◌, sym, List, [], ℕ, ap, rules}
 use Rattle.njh_customer.specs.Feeding.{sent_on}
 use Rattle.njh_hub.specs.Whole.{HubRun, sent_by}
-use Rattle.njh_hub.proofs.RunningLaws.{signal_done, sent_pair}
+use Rattle.njh_hub.proofs.RunningLaws.{named-event_by, sent_pair, signal_done}
 use Rattle.njh_hub.proofs.hub.Hub.run_signal.Goals as goal
 
 pub returns-in-Err-hand_over : goal.returns-in-Err-hand_over
 returns-in-Err-hand_over g c =
-    let line = c.line-line.result in
+    let start = c.args.self.now in
+    let line = c.args.line in
     let frame = c.deref.result.now in
-    let there = signal_done c.args.self.now c.args.event.now line c.args.signal c.line-line.ensures c.requires in
+    let there = signal_done start c.args.signal line in
     let same : c.signal.new.out.items ≡ frame = sym c.deref.ensures.value in
     record {
       leads = c.in-Ok.ensures.hub ∙ ap (λ (h : HubRun). h.parts) (sym there);
@@ -26,9 +27,8 @@ returns-in-Err-hand_over g c =
       lines = c.in-Ok.ensures.lines;
       room = search rules;
       one = search rules;
-      behind = search rules;
+      behind = λ _. named-event_by start c.args.signal line c.in-Ok.ensures.known;
       causes = search rules;
-      unknown = search rules;
       memory = search rules;
       counts = c.in-Err-hand_over.ensures.counts;
       counted = λ _. c.in-Err-hand_over.ensures.counted;

@@ -1,0 +1,83 @@
+-- What new routes do to a customer.
+use Rattle.std.proofs.Common.{◌≡◌, ℕ, Bool, true, false, cond, List, [], ◌∷◌, map, Ok, Err, refl, sym, ap, subst, ◌∙◌}
+use Rattle.std.specs.List.{Contains}
+use Rattle.njh_spool.specs.CustomerSpool.{WholeFile}
+use Rattle.njh_table.specs.Entries.{CustomerEntry}
+use Rattle.njh_table.specs.Keys.{Walked}
+use Rattle.njh_table.specs.NewRoutes.{NewRoute, routes_checked}
+use Rattle.njh_stream.specs.Holding.{has_lost_route, held}
+use Rattle.njh_command.specs.Files.{no_file}
+use Rattle.njh_customer.specs.NewRoutes.{entry_with, taken_where, routes_given}
+use Rattle.njh_customer.specs.Outgoing.{Outgoing, outgoing}
+use Rattle.njh_customer.specs.Part.{Part}
+use Rattle.njh_customer.specs.Moves.{Leads, nowhere, onward, RoutesMove}
+use Rattle.njh_customer.specs.MovingLaws.{RoutesDo, RoutesDoSo, RoutesMoveFile, is_as_before, is_held}
+use Rattle.njh_customer.proofs.FileListLaws.{from_map, numbers}
+
+pub routes_do : RoutesDoSo
+routes_do p routes = at_check (routes_checked p.customer.entry routes) refl
+  where
+    at_check : (w : Walked (Unit {0})) → routes_checked p.customer.entry routes ≡ w
+        → RoutesDo p routes (record { after = taken_where w routes p; sent = [] })
+    at_check (Ok faultless) e = record {
+      sent = refl;
+      rests = refl;
+      lines = refl;
+      partial = refl;
+      faultless = λ is. refl;
+      faulty = λ fault is. absurd (cc (sym e ∙ is));
+    }
+    at_check (Err found) e = record {
+      sent = refl;
+      rests = refl;
+      lines = refl;
+      partial = refl;
+      faultless = λ is. absurd (cc (sym e ∙ is));
+      faulty = λ fault is. refl;
+    }
+
+pub routes_move :
+    (p : Part) (routes : List NewRoute) → Leads (RoutesMove p.customer.entry routes) (outgoing p.customer) (outgoing (routes_given routes p).customer)
+routes_move p routes = at_check (routes_checked p.customer.entry routes) refl
+  where
+    at_check : (w : Walked (Unit {0})) → routes_checked p.customer.entry routes ≡ w
+        → Leads (RoutesMove p.customer.entry routes) (outgoing p.customer) (outgoing (taken_where w routes p).customer)
+    at_check (Ok faultless) e =
+        let y = outgoing (taken_where (Ok faultless) routes p).customer in
+        onward (outgoing p.customer) y y (record { faultless = e; holds = refl }) (nowhere y)
+    at_check (Err found) e = nowhere (outgoing p.customer)
+
+pub routes_keep_entry :
+    (p : Part) (routes : List NewRoute) → let after = (routes_given routes p).customer.entry in after ≡ entry_with after.routes p.customer.entry
+routes_keep_entry p routes = at_check (routes_checked p.customer.entry routes)
+  where
+    at_check : (w : Walked (Unit {0})) → let after = (taken_where w routes p).customer.entry in after ≡ entry_with after.routes p.customer.entry
+    at_check (Ok faultless) = refl
+    at_check (Err found) = refl
+
+-- ---- a file
+
+abbrev held_where : CustomerEntry → WholeFile → WholeFile
+held_where entry f = cond (has_lost_route entry f) (held f) f
+
+pub held_numbers : (entry : CustomerEntry) (fs : List WholeFile) → numbers (map (held_where entry) fs) ≡ numbers fs
+held_numbers entry [] = refl
+held_numbers entry (f ∷ fs) = at_test (has_lost_route entry f) (held_numbers entry fs)
+  where
+    rest : List ℕ
+    rest = numbers (map (held_where entry) fs)
+
+    at_test : (b : Bool) → rest ≡ numbers fs → (cond b (held f) f).number ∷ rest ≡ f.number ∷ numbers fs
+    at_test true e = ap (λ more. f.number ∷ more) e
+    at_test false e = ap (λ more. f.number ∷ more) e
+
+pub held_so : (entry : CustomerEntry) (x : Outgoing) (g : WholeFile) → Contains (map (held_where entry) x.files) g → RoutesMoveFile entry x g
+held_so entry x g at = at_file (from_map (held_where entry) x.files no_file g at)
+  where
+    by_test : (b : Bool) (f : WholeFile) → Contains x.files f → has_lost_route entry f ≡ b → g ≡ cond b (held f) f → RoutesMoveFile entry x g
+    by_test true f there e is = is_held f there e is
+    by_test false f there e is =
+        is_as_before (subst (Contains x.files) (sym is) there) (ap (has_lost_route entry) is ∙ e)
+
+    at_file : (f : WholeFile) × Contains x.files f × (g ≡ held_where entry f) → RoutesMoveFile entry x g
+    at_file found = by_test (has_lost_route entry found.0) found.0 found.1 refl found.2
