@@ -10,7 +10,7 @@ use Rattle.njh_hub.specs.declared.event.Event.{Event}
 use Rattle.njh_hub.specs.declared.event.Event.TheVariants.{Bytes, Tick, Garbled, Lost, Routes}
 
 abbrev pub no_entry : CustomerEntry
-no_entry = record { hub = []; quota = 0; files = 0; lines = []; routes = [] }
+no_entry = record { hub = []; quota = 0; files = 0; lines = []; up = []; routes = [] }
 
 -- a customer that has no line
 abbrev pub no_part : Part

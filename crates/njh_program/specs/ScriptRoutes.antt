@@ -21,7 +21,7 @@ parts_of word = slice_split (λ b. b == 58) word
 -- the route of a node and the name of a line, whoever's line that is
 abbrev pub route_by : TableFile → List ℕ → List ℕ → Option RouteEntry
 route_by tables node line =
-    option_and_then (λ n. option_map (λ l. record { node = n; line = l }) (owner_of tables line)) (result_ok (name_of_text node))
+    option_and_then (λ n. option_map (λ l. record { node = n; line = l; second = None }) (owner_of tables line)) (result_ok (name_of_text node))
 
 -- the route of a pair: a node, a colon and the name of a line
 abbrev pub route_of_parts : TableFile → List (List ℕ) → Option RouteEntry

@@ -14,6 +14,7 @@ use crate::fault::ReplayFault;
 use crate::files::{customer_names, print_files};
 use crate::input::read_text;
 use crate::names::LineNames;
+use crate::print::FrameRoom;
 use crate::printer::Printer;
 use crate::script::{LIMIT, events_of};
 use njh_ebcdic::Name;
@@ -126,6 +127,7 @@ fn print_run<W: Write>(
     let mut printer = Printer {
         out,
         names,
+        room: FrameRoom::new(),
         failures: 0,
     };
     match hub.run(events, &mut printer) {

@@ -112,7 +112,11 @@ fn route_by(tables: &Tables, node: &str, line: &str) -> Option<RouteEntry>
 {
     let node = Name::of_text(node).ok()?;
     let line = tables.line_owner(line)?;
-    Some(RouteEntry { node, line })
+    Some(RouteEntry {
+        node,
+        line,
+        second: None,
+    })
 }
 
 /// What stands before the first mark in a text, or all; and what stands behind that mark.

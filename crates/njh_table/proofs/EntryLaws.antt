@@ -1,10 +1,9 @@
 -- Customers with the same entry.
-use Rattle.std.proofs.Common.{◌≡◌, ℕ, cond, bytes_eq, List, [], ◌∷◌, Some, All, refl, sym, ◌∙◌}
-use Rattle.std.proofs.lemmas.List.Elements.{same_from_all_zip, All-head, All-tail}
+use Rattle.std.proofs.Common.{◌≡◌, ℕ, cond, bytes_eq, List, [], ◌∷◌, Some, refl, sym, ◌∙◌}
+use Rattle.std.proofs.lemmas.List.Elements.{same_from_all_zip}
 use Rattle.std.specs.List.{AllZip}
 use Rattle.std.specs.Option.{option_map_or}
 use Rattle.njh_table.specs.declared.Route.TheVariants.{Here, Line, Unknown}
-use Rattle.njh_table.specs.Accepted.{IsRoute, IsCustomer}
 use Rattle.njh_table.specs.Entries.{RouteEntry, line_to, route_of}
 use Rattle.njh_table.specs.SameEntry.{SameLine, SameRoute, SameEntry}
 use Rattle.njh_table.specs.TableFile.{NamedLine, NamedCustomer, entry_of}
@@ -28,6 +27,7 @@ same_line : (l m : NamedLine) → SameLine l m → m ≡ l
 same_line l m same = λ i. record {
   name = sym same.name i;
   port = sym same.port i;
+  up = sym same.up i;
   entry = record {
     node = sym same.node i;
     role = sym same.role i;
@@ -37,17 +37,11 @@ same_line l m same = λ i. record {
   };
 }
 
-same_routes : (n k : ℕ) (rs ss : List RouteEntry) → All (IsRoute n) rs → All (IsRoute k) ss → AllZip SameRoute rs ss → rs ≡ ss
-same_routes n k [] [] rs_are ss_are same = refl
-same_routes n k [] (s ∷ ss) rs_are ss_are same = elim same [ ]
-same_routes n k (r ∷ rs) [] rs_are ss_are same = elim same [ ]
-same_routes n k (r ∷ rs) (s ∷ ss) rs_are ss_are same =
-    let second = (All-head (IsRoute n) r rs rs_are).second ∙ sym (All-head (IsRoute k) s ss ss_are).second in
-    let rest = same_routes n k rs ss (All-tail (IsRoute n) r rs rs_are) (All-tail (IsRoute k) s ss ss_are) same.1 in
-    λ i. record { node = same.0.node i; line = same.0.line i; second = second i } ∷ rest i
+same_route : (r s : RouteEntry) → SameRoute r s → s ≡ r
+same_route r s same = λ i. record { node = sym same.node i; line = sym same.line i; second = sym same.second i }
 
-pub same_entry-equal : (c d : NamedCustomer) → IsCustomer c → IsCustomer d → SameEntry c d → c ≡ d
-same_entry-equal c d c_is d_is same =
+pub same_entry-equal : (c d : NamedCustomer) → SameEntry c d → c ≡ d
+same_entry-equal c d same =
     let lines = sym (same_from_all_zip SameLine c.lines d.lines same.lines same_line) in
-    let routes = same_routes _ _ c.routes d.routes c_is.each_route d_is.each_route same.routes in
+    let routes = sym (same_from_all_zip SameRoute c.routes d.routes same.routes same_route) in
     λ i. record { name = same.name i; hub = same.hub i; quota = same.quota i; files = same.files i; lines = lines i; routes = routes i }

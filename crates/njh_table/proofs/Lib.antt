@@ -5,8 +5,10 @@ pub mod Gives
 pub mod LineOwners
 pub mod Loops
 pub mod MapLaws
+pub mod MarkLaws
 pub mod NewRouteLaws
 pub mod OwnersLaws
+pub mod Replaced
 pub mod RouteLaws
 pub mod WalkedLines
 pub mod WalkedRoutes

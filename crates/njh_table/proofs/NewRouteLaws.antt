@@ -1,29 +1,31 @@
 -- New routes that are checked: their nodes differ, their lines are the customer's, and the tables stay accepted.
-use Rattle.std.proofs.Common.{◌≡◌, ◌≢◌, ℕ, zero, suc, ◌+◌, ◌<◌, ◌≤◌, Bool, true, false, cond, not, ◌||◌, ◌==◌, nat_lt, List, [], ◌∷◌, ◌++◌, length, map, take, get_or, set}
-use Rattle.std.proofs.Common.{bytes_eq, All, Option, Some, None, Ok, Err, refl, sym, ap, ap₂, subst, ◌∙◌, arith, append_assoc}
+use Rattle.std.proofs.Common.{◌≡◌, ◌≢◌, ℕ, zero, suc, ◌<◌, ◌≤◌, Bool, true, false, cond, not, ◌||◌, ◌==◌, nat_lt, List, [], ◌∷◌, ◌++◌, length, map, take, get_or, set}
+use Rattle.std.proofs.Common.{bytes_eq, All, IfSome, Option, Some, None, option_map, Ok, Err, refl, sym, ap, subst, ◌∙◌, arith, append_assoc}
 use Rattle.std.specs.List.{list_any}
-use Rattle.std.proofs.lemmas.Bool.{ltb-true, ltb-false}
-use Rattle.std.proofs.lemmas.List.{length-set, length-map, length-take-le, append-nil, map-set, set-get_or, get_or-map, get_or-take}
+use Rattle.std.proofs.lemmas.Bool.{and_from, both_ways, eq-eqb, eqb-true, ltb-true, ltb-false}
+use Rattle.std.proofs.lemmas.List.{length-map, length-take-le, append-nil, get_or-map, get_or-take}
 use Rattle.std.proofs.lemmas.List.Elements.{All-set, All-nil, All-cons, All-get_or}
-use Rattle.std.proofs.lemmas.List.Sums.{sum_by-set}
 use Rattle.std.proofs.lemmas.Simd.{map-map}
 use Rattle.std.proofs.lemmas.Slice.Eq.{bytes_eq-Decides}
+use Rattle.njh_table.specs.declared.LineId.{LineId}
 use Rattle.njh_table.specs.declared.new_routes.RouteEntry.{RouteEntry as GivenRoute}
 use Rattle.njh_table.specs.declared.fault.TableFault.{TableFault}
-use Rattle.njh_table.specs.declared.fault.TableFault.TheVariants.{DoubleNode, UnknownLine, TooMany}
-use Rattle.njh_table.specs.declared.limits.TheConstants.{MAX_ROUTES, MAX_CUSTOMERS, MAX_LINES}
-use Rattle.njh_table.specs.Accepted.{IsBetween, AreDistinct, IsRoute, IsCustomer, IsAccepted}
+use Rattle.njh_table.specs.declared.fault.TableFault.TheVariants.{BadValue, DoubleNode, UnknownLine, TooMany}
+use Rattle.njh_table.specs.declared.limits.TheConstants.{MAX_ROUTES}
+use Rattle.njh_table.specs.Accepted.{AreDistinct, IsRoute, IsCustomer, IsAccepted}
 use Rattle.njh_table.specs.Entries.{RouteEntry, line_to}
 use Rattle.njh_table.specs.Keys.{Walked, ◌>>◌, fault_where}
-use Rattle.njh_table.specs.NewRoutes.{NewRoute, own_route, own_routes, is_own, route_checked, checked_from, routes_checked}
-use Rattle.njh_table.specs.NewRoutes.{number_or, taken_route, taken_routes, with_routes}
-use Rattle.njh_table.specs.TableFile.{NamedCustomer, TableFile, customer_at, entry_of, no_customer, route_entry, line_names, line_owners, owners_from}
+use Rattle.njh_table.specs.NewRoutes.{NewRoute, Again, own_number, own_or_foreign, other_second, own_second, own_route, own_routes, repeats, is_again, is_own}
+use Rattle.njh_table.specs.NewRoutes.{may_be_second, route_checked, checked_from, routes_checked, given_lines, number_or, taken_second, taken_route}
+use Rattle.njh_table.specs.NewRoutes.{taken_routes, with_routes}
+use Rattle.njh_table.specs.TableFile.{NamedCustomer, TableFile, customer_at, entry_of, no_customer, route_entry}
 use Rattle.njh_table.proofs.Distinct.{distinct_push}
+use Rattle.njh_table.proofs.Replaced.{accepted_again, reads_alike, same_line_names}
 use Rattle.njh_table.proofs.RouteLaws.{line_to-cons}
 
--- the node and the number of the line, whoever's that is
+-- the node and the numbers of the lines, whoever's they are
 abbrev pub as_given : GivenRoute → RouteEntry
-as_given r = route_entry (r.node, r.line.line)
+as_given r = route_entry (r.node, given_lines r)
 
 pub any_node : (node : List ℕ) (routes : List GivenRoute) → list_any (λ r. bytes_eq node r.node) routes
     ≡ list_any (bytes_eq node) (map (λ r. r.node) routes)
@@ -52,14 +54,18 @@ not_false false e = absurd (cc e)
 
 -- A route that was passed.
 record IsNew (lines : ℕ) (taken : List (List ℕ)) (r : NewRoute) : Type 0 where
+  pub once : is_again r.second ≡ false
   pub absent : list_any (bytes_eq r.node) taken ≡ false
   pub own : is_own lines r.line ≡ true
+  pub second : may_be_second lines r.second ≡ true
 
 checked-is : (lines : ℕ) (taken : List (List ℕ)) (r : NewRoute) → route_checked lines taken r ≡ Ok tt → IsNew lines taken r
 unfolding route_checked
 checked-is lines taken r e =
-    let (free, own) = passed (list_any (bytes_eq r.node) taken) DoubleNode _ tt e in
-    record { absent = free; own = not_false _ (passed_last _ UnknownLine own) }
+    let (once, first) = passed (is_again r.second) BadValue _ tt e in
+    let (absent, then) = passed (list_any (bytes_eq r.node) taken) DoubleNode _ tt first in
+    let (own, last) = passed (not (is_own lines r.line)) UnknownLine _ tt then in
+    record { once = once; absent = absent; own = not_false _ own; second = not_false _ (passed_last _ UnknownLine last) }
 
 -- the nodes that are taken, and those of the routes
 pub distinct : (lines : ℕ) (taken : List (List ℕ)) (routes : List NewRoute) → AreDistinct taken → checked_from lines taken routes ≡ Ok tt
@@ -71,32 +77,79 @@ distinct lines taken (r ∷ routes) were e =
     subst AreDistinct (append_assoc taken (r.node ∷ []) (map (λ r. r.node) routes))
     (distinct lines (taken ++ r.node ∷ []) routes (distinct_push taken r.node were is.absent) rest)
 
--- a line of the customer's own
-own-below : (lines : ℕ) (line : Option ℕ) → is_own lines line ≡ true → number_or line < lines
-own-below lines None e = absurd (cc e)
-own-below lines (Some line) e = ltb-true line lines e
+-- ---- the lines of routes
 
-each : (lines : ℕ) (taken : List (List ℕ)) (routes : List NewRoute) → checked_from lines taken routes ≡ Ok tt
-    → All (IsRoute lines) (taken_routes routes)
-each lines taken [] e = All-nil (IsRoute lines)
-each lines taken (r ∷ routes) e =
-    let (this, rest) = both_ok (route_checked lines taken r) _ tt e in
-    All-cons (IsRoute lines) (taken_route r) (taken_routes routes)
-    (record { line = own-below lines r.line (checked-is lines taken r this).own; second = refl })
-    (each lines (taken ++ r.node ∷ []) routes rest)
+-- a second line that isn't the first
+pub other-once : (c : ℕ) (second : Option LineId) → is_again (other_second c second) ≡ false
+other-once c None = refl
+other-once c (Some second) = by (own_number c second)
+  where
+    by : (n : Option ℕ) → is_again (own_or_foreign n) ≡ false
+    by None = refl
+    by (Some n) = refl
+
+pub may_be-own : (lines : ℕ) (n : Option ℕ) → may_be_second lines (own_or_foreign n) ≡ is_own lines n
+may_be-own lines None = refl
+may_be-own lines (Some n) = refl
+
+-- a line of the customer's own
+record IsMine (lines c : ℕ) (line : LineId) : Type 0 where
+  pub customer : line.customer ≡ c
+  pub below : line.line < lines
+  pub number : own_number c line ≡ Some line.line
+
+mine : (lines c : ℕ) (line : LineId) → is_own lines (own_number c line) ≡ true → IsMine lines c line
+mine lines c line = by (line.customer == c) refl
+  where
+    by : (b : Bool) → (line.customer == c) ≡ b → is_own lines (cond b (Some line.line) None) ≡ true → IsMine lines c line
+    by true same below = record {
+      customer = eqb-true line.customer c same;
+      below = ltb-true line.line lines below;
+      number = ap (λ b. cond b (Some line.line) None) same;
+    }
+    by false other below = absurd (cc below)
+
+-- what is taken of a second line that was passed: another line of the customer's
+second-taken : (lines c : ℕ) (line : LineId) (second : Option LineId) → IsMine lines c line → is_again (own_second c line second) ≡ false
+    → may_be_second lines (own_second c line second) ≡ true
+    → (taken_second (own_second c line second) ≡ option_map (λ l. l.line) second)
+    × IfSome (option_map (λ l. l.line) second) (λ n. (n < lines) × (n ≢ line.line))
+second-taken lines c line None first once may = (refl, tt)
+second-taken lines c line (Some second) first once may =
+    by (repeats line (Some second)) refl (own_number c second) refl once may
+  where
+    apart : IsMine lines c second → repeats line (Some second) ≡ false → second.line ≢ line.line
+    apart own other same =
+        both_ways (repeats line (Some second)) other (and_from _ _ (eq-eqb line.customer second.customer (first.customer ∙ sym own.customer))
+        (eq-eqb line.line second.line (sym same)))
+
+    told : (n : Option ℕ) → own_number c second ≡ n → repeats line (Some second) ≡ false → may_be_second lines (own_or_foreign n) ≡ true
+        → (taken_second (own_or_foreign n) ≡ Some second.line) × ((second.line < lines) × (second.line ≢ line.line))
+    told None is other may = absurd (cc may)
+    told (Some n) is other may =
+        let own = mine lines c second (ap (is_own lines) is ∙ may) in
+        (ap (λ o. taken_second (own_or_foreign o)) (sym is ∙ own.number), (own.below, apart own other))
+
+    by : (same : Bool) → repeats line (Some second) ≡ same → (n : Option ℕ) → own_number c second ≡ n
+        → is_again (cond same Again (own_or_foreign n)) ≡ false → may_be_second lines (cond same Again (own_or_foreign n)) ≡ true
+        → (taken_second (cond same Again (own_or_foreign n)) ≡ Some second.line) × ((second.line < lines) × (second.line ≢ line.line))
+    by true same n is once may = absurd (cc once)
+    by false other n is once may = told n is other may
 
 -- what is taken of routes of lines that are all the customer's
 pub taken-given : (lines c : ℕ) (taken : List (List ℕ)) (routes : List GivenRoute) → checked_from lines taken (own_routes c routes) ≡ Ok tt
-    → taken_routes (own_routes c routes) ≡ map as_given routes
-taken-given lines c taken [] e = refl
+    → (taken_routes (own_routes c routes) ≡ map as_given routes) × All (IsRoute lines) (map as_given routes)
+taken-given lines c taken [] e = (refl, All-nil (IsRoute lines))
 taken-given lines c taken (r ∷ routes) e =
     let (this, rest) = both_ok (route_checked lines taken (own_route c r)) _ tt e in
-    ap₂ (λ n rs. route_entry (r.node, n) ∷ rs) (number (r.line.customer == c) (checked-is lines taken (own_route c r) this).own)
-    (taken-given lines c (taken ++ r.node ∷ []) routes rest)
-  where
-    number : (b : Bool) → is_own lines (cond b (Some r.line.line) None) ≡ true → number_or (cond b (Some r.line.line) None) ≡ r.line.line
-    number true own = refl
-    number false own = absurd (cc own)
+    let (same, each) = taken-given lines c (taken ++ r.node ∷ []) routes rest in
+    let is = checked-is lines taken (own_route c r) this in
+    let own = mine lines c r.line is.own in
+    let (second, apart) = second-taken lines c r.line r.second own is.once is.second in
+    let line = ap number_or own.number in (
+      λ i. record { node = r.node; line = line i; second = second i } ∷ same i,
+      All-cons (IsRoute lines) (as_given r) (map as_given routes) (record { line = own.below; second = apart }) each,
+    )
 
 -- ---- the nodes of routes
 
@@ -145,7 +198,9 @@ checked-distinct t c routes e =
     λ i j d below within. given (suc i) (suc j) d (omega (arith, below)) (omega (arith, within))
 
 pub checked-given : (t : TableFile) (c : ℕ) (routes : List GivenRoute)
-    → routes_checked (entry_of (customer_at t c)) (own_routes c routes) ≡ Ok tt → taken_routes (own_routes c routes) ≡ map as_given routes
+    → routes_checked (entry_of (customer_at t c)) (own_routes c routes) ≡ Ok tt
+    → (taken_routes (own_routes c routes) ≡ map as_given routes)
+    × All (IsRoute (length (entry_of (customer_at t c)).lines)) (map as_given routes)
 checked-given t c routes e =
     let entry = entry_of (customer_at t c) in
     taken-given (length entry.lines) c (entry.hub ∷ []) routes
@@ -153,56 +208,36 @@ checked-given t c routes e =
 
 -- ---- the tables with them
 
--- what else a customer has stays
-same_of : {B : Type 0} (f : NamedCustomer → B) (customers : List NamedCustomer) (c : ℕ) (x : NamedCustomer)
-    → f x ≡ f (get_or customers c no_customer) → map f (set customers c x) ≡ map f customers
-same_of f customers c x same =
-    map-set f customers c x ∙ ap (set (map f customers) c) same ∙ sym (map-set f customers c (get_or customers c no_customer))
-    ∙ ap (map f) (set-get_or customers c no_customer)
-
-same_names : (customers : List NamedCustomer) (c : ℕ) (x : NamedCustomer) → x.lines ≡ (get_or customers c no_customer).lines
-    → line_names (set customers c x) ≡ line_names customers
-same_names [] c x same = refl
-same_names (y ∷ customers) zero x same = ap (λ ls. map (λ l. l.name) ls ++ line_names customers) same
-same_names (y ∷ customers) (suc c) x same = ap (λ ns. map (λ l. l.name) y.lines ++ ns) (same_names customers c x same)
-
-pub same_owners : (n : ℕ) (customers : List NamedCustomer) (c : ℕ) (x : NamedCustomer) → x.lines ≡ (get_or customers c no_customer).lines
-    → owners_from n (set customers c x) ≡ owners_from n customers
-same_owners n [] c x same = refl
-same_owners n (y ∷ customers) zero x same = ap (λ ls. line_owners n 0 ls ++ owners_from (n + 1) customers) same
-same_owners n (y ∷ customers) (suc c) x same = ap (λ os. line_owners n 0 y.lines ++ os) (same_owners (n + 1) customers c x same)
-
 entry_lines : (c : NamedCustomer) → length (entry_of c).lines ≡ length c.lines
 entry_lines c = length-map c.lines (λ l. l.entry)
 
-with_routes-is : (c : NamedCustomer) (routes : List NewRoute) → IsCustomer c → routes_checked (entry_of c) routes ≡ Ok tt
-    → IsCustomer (record c { routes = taken_routes routes })
-with_routes-is c routes was e =
+with_routes-is : (t : TableFile) (c : ℕ) (routes : List GivenRoute) → IsCustomer (customer_at t c)
+    → routes_checked (entry_of (customer_at t c)) (own_routes c routes) ≡ Ok tt
+    → IsCustomer (record (customer_at t c) { routes = taken_routes (own_routes c routes) })
+with_routes-is t c given was e =
+    let customer = customer_at t c in
+    let routes = own_routes c given in
     let (few, rest) = passed (nat_lt MAX_ROUTES (length routes)) TooMany _ tt e in
+    let (same, each) = checked-given t c given e in
     record {
       quota = was.quota;
       files = was.files;
       lines = was.lines;
       routes = subst (λ n. n ≤ MAX_ROUTES) (sym (length-map routes taken_route)) (ltb-false MAX_ROUTES (length routes) few);
-      each_route = subst (λ n. All (IsRoute n) (taken_routes routes)) (entry_lines c)
-          (each (length (entry_of c).lines) (c.hub ∷ []) routes rest);
-      nodes = subst (λ ns. AreDistinct (c.hub ∷ ns)) (sym (map-map (λ (r : RouteEntry). r.node) taken_route routes))
-          (distinct (length (entry_of c).lines) (c.hub ∷ []) routes (alone c.hub) rest);
+      each_route = subst (λ rs. All (IsRoute (length customer.lines)) rs) (sym same)
+          (subst (λ n. All (IsRoute n) (map as_given given)) (entry_lines customer) each);
+      nodes = subst (λ ns. AreDistinct (customer.hub ∷ ns)) (sym (map-map (λ (r : RouteEntry). r.node) taken_route routes))
+          (distinct (length (entry_of customer).lines) (customer.hub ∷ []) routes (alone customer.hub) rest);
     }
 
-pub still_accepted : (t : TableFile) (c : ℕ) (routes : List NewRoute) → IsAccepted t → c < length t.customers
-    → routes_checked (entry_of (customer_at t c)) routes ≡ Ok tt → IsAccepted (with_routes c routes t)
+pub still_accepted : (t : TableFile) (c : ℕ) (routes : List GivenRoute) → IsAccepted t → c < length t.customers
+    → routes_checked (entry_of (customer_at t c)) (own_routes c routes) ≡ Ok tt → IsAccepted (with_routes c (own_routes c routes) t)
 still_accepted t c routes accepted there e =
     let was : IsCustomer (customer_at t c) = All-get_or IsCustomer t.customers c no_customer there accepted.each in
-    let now : NamedCustomer = record (customer_at t c) { routes = taken_routes routes } in
-    let names = same_names t.customers c now refl in
-    let quotas = sum_by-set (λ (c : NamedCustomer). c.quota) t.customers c now no_customer there in
-    record {
-      capacity = accepted.capacity;
-      customers = subst (IsBetween 1 MAX_CUSTOMERS) (sym (length-set t.customers c now)) accepted.customers;
-      names = subst AreDistinct (sym (same_of (λ c. c.name) t.customers c now refl)) accepted.names;
-      each = All-set IsCustomer t.customers c now (with_routes-is (customer_at t c) routes was e) accepted.each;
-      lines = subst (λ ns. length ns ≤ MAX_LINES) (sym names) accepted.lines;
-      line_names = subst AreDistinct (sym names) accepted.line_names;
-      quotas = omega (arith, quotas, accepted.quotas);
-    }
+    let now : NamedCustomer = record (customer_at t c) { routes = taken_routes (own_routes c routes) } in
+    accepted_again t (set t.customers c now)
+    (reads_alike (λ (c : NamedCustomer). c.name) t.customers c now no_customer refl)
+    (reads_alike (λ (c : NamedCustomer). c.quota) t.customers c now no_customer refl)
+    (same_line_names t.customers c now refl)
+    (All-set IsCustomer t.customers c now (with_routes-is t c routes was e) accepted.each)
+    accepted

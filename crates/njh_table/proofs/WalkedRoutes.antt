@@ -1,28 +1,65 @@
 -- What the walk over a customer's routes gives.
-use Rattle.std.proofs.Common.{◌≡◌, ℕ, ◌+◌, ◌<◌, ◌≤◌, Bool, true, false, cond, ◌||◌, nat_le, List, [], ◌∷◌, ◌++◌}
+use Rattle.std.proofs.Common.{◌≡◌, ◌≢◌, ℕ, ◌+◌, ◌<◌, ◌≤◌, Bool, true, false, cond, ◌||◌, nat_le, List, [], ◌∷◌, ◌++◌}
 use Rattle.std.proofs.Common.{length, map, codes, bytes_eq, All}
-use Rattle.std.proofs.Common.{Option, Some, IfSome, is_some, ok_or, refl, sym, ap, subst, ◌∙◌, arith}
+use Rattle.std.proofs.Common.{Option, Some, None, IfSome, is_some, option_and_then, ok_or, refl, sym, ap, subst, ◌∙◌, arith}
 use Rattle.std.specs.List.{list_any, position_from}
 use Rattle.std.specs.Cmp.Lexicographic.{nat_list_eq_equiv}
-use Rattle.std.proofs.lemmas.Bool.{leb-false, or_parts, or_from}
+use Rattle.std.proofs.lemmas.Bool.{both_ways, leb-false, or_parts, or_from}
 use Rattle.std.proofs.lemmas.List.{length-append, map-append}
 use Rattle.std.proofs.lemmas.List.Elements.{All-push}
 use Rattle.std.proofs.lemmas.Option.{IfSome_then}
+use Rattle.std.proofs.lemmas.Slice.Eq.{bytes_eq-Decides}
 use Rattle.toml.specs.Data.{Data, Items, no_items, item, as_str}
 use Rattle.njh_table.specs.declared.fault.TableFault.TheVariants.{TooMany, DoubleNode, UnknownLine}
 use Rattle.njh_table.specs.declared.limits.TheConstants.{MAX_ROUTES}
 use Rattle.njh_table.specs.Accepted.{AreDistinct, IsRoute}
 use Rattle.njh_table.specs.Entries.{RouteEntry, line_to}
 use Rattle.njh_table.specs.TableFile.{NamedLine}
-use Rattle.njh_table.specs.Keys.{node_name}
-use Rattle.njh_table.specs.Walk.{line_number, is_routed, route_by, next_route, routes_onto}
-use Rattle.njh_table.proofs.Gives.{Gives, and_then, past, some_or, with_keys, with_any}
+use Rattle.njh_table.specs.Keys.{node_name, other_text, second_line}
+use Rattle.njh_table.specs.Walk.{line_number, is_routed, number_of_second, route_by, next_route, routes_onto}
+use Rattle.njh_table.proofs.Gives.{Gives, and_then, past, some_or, with_keys, with_any, with_value_or}
 use Rattle.njh_table.proofs.Distinct.{distinct_push}
 use Rattle.njh_table.proofs.RouteLaws.{line_to-cons}
 
--- what gives the number of a line gives one of so many
-abbrev pub Finds : ℕ → (List ℕ → Option ℕ) → Type 0
-Finds lines find = (name : List ℕ) → IfSome (find name) (λ l. l < lines)
+-- what gives the number of a line gives one of so many, and another for another name
+pub record Finds (lines : ℕ) (find : List ℕ → Option ℕ) : Type 0 where
+  pub below : (name : List ℕ) → IfSome (find name) (λ l. l < lines)
+  pub apart : (name other : List ℕ) (l : ℕ) → find name ≡ Some l → find other ≡ Some l → name ≡ other
+
+-- what there is
+there_is : {X : Type 0} (o : Option X) → IfSome o (λ x. o ≡ Some x)
+there_is None = tt
+there_is (Some x) = refl
+
+found-below : (lines : ℕ) (find : List ℕ → Option ℕ) (name : List ℕ) (l : ℕ) → Finds lines find → find name ≡ Some l → l < lines
+found-below lines find name l finds found = subst (λ o. IfSome o (λ l. l < lines)) found (finds.below name)
+
+-- a name that isn't another
+abbrev IsOther : List ℕ → Option (List ℕ) → Type 0
+IsOther first second = IfSome second (λ name. name ≢ first)
+
+second_line-is : (first : List ℕ) (value : Data) → IfSome (second_line first value) (IsOther first)
+second_line-is first value = by (as_str value)
+  where
+    told : (text : List ℕ) (same : Bool) → bytes_eq text first ≡ same → IfSome (cond same None (Some (Some text))) (IsOther first)
+    told text true same = tt
+    told text false other = λ same. both_ways (bytes_eq text first) other ((bytes_eq-Decides text first).1 same)
+
+    by : (text : Option (List ℕ)) → IfSome (option_and_then (other_text first) text) (IsOther first)
+    by None = tt
+    by (Some text) = told text (bytes_eq text first) refl
+
+-- the second line of a route, beside its first
+abbrev IsSecond : ℕ → ℕ → Option ℕ → Type 0
+IsSecond lines first second = IfSome second (λ line. (line < lines) × (line ≢ first))
+
+number_of_second-gives : (lines : ℕ) (find : List ℕ → Option ℕ) (line : List ℕ) (number : ℕ) (second : Option (List ℕ)) → Finds lines find
+    → find line ≡ Some number → IsOther line second → Gives (IsSecond lines number) (number_of_second find second)
+number_of_second-gives lines find line number None finds found other = tt
+number_of_second-gives lines find line number (Some name) finds found other =
+    and_then (λ l. find name ≡ Some l) (IsSecond lines number) (ok_or (find name) UnknownLine) _
+    (some_or _ (find name) UnknownLine tt (there_is (find name)))
+    (λ l second. (found-below lines find name l finds second, λ same. other (finds.apart name line l second (found ∙ ap Some (sym same)))))
 
 pub record IsNewRoute (hub : List ℕ) (lines : ℕ) (done : List RouteEntry) (r : RouteEntry) : Type 0 where
   pub room : length done < MAX_ROUTES
@@ -37,9 +74,17 @@ next_route-gives hub lines find done value finds =
     with_keys _ value _ (λ keys.
     with_any _ node_name (codes "node") keys _ (λ node.
     with_any _ as_str (codes "line") keys _ (λ line.
+    with_value_or (IsOther line) _ (second_line line) None (codes "second") keys _ tt (second_line-is line) (λ second other.
     past _ (is_routed hub done node) DoubleNode _ tt (λ absent.
-    and_then (λ l. l < lines) _ (ok_or (find line) UnknownLine) _ (some_or _ (find line) UnknownLine tt (finds line)) (λ number within.
-    record { room = leb-false MAX_ROUTES (length done) room; absent = absent; is = record { line = within; second = refl } }))))))
+    and_then (λ l. find line ≡ Some l) _ (ok_or (find line) UnknownLine) _ (some_or _ (find line) UnknownLine tt (there_is (find line)))
+    (λ number found.
+    and_then (IsSecond lines number) _ (number_of_second find second) _
+    (number_of_second-gives lines find line number second finds found other) (λ second_number is.
+    record {
+      room = leb-false MAX_ROUTES (length done) room;
+      absent = absent;
+      is = record { line = found-below lines find line number finds found; second = is };
+    }))))))))
 
 is_some-cond : (test : Bool) (x : ℕ) (rest : Option ℕ) → is_some (cond test (Some x) rest) ≡ (test || is_some rest)
 is_some-cond true x rest = refl
@@ -79,16 +124,44 @@ routes_onto-gives hub lines find done (item value more) finds routes =
     (next_route-gives hub lines find done value finds)
     (λ r new. routes_onto-gives hub lines find (done ++ r ∷ []) more finds (AreRoutes-push hub lines done r routes new))
 
-position_from-below : {X : Type 0} (test : X → Bool) (k : ℕ) (xs : List X) → IfSome (position_from test k xs) (λ i. i < k + length xs)
+position_from-below : {X : Type 0} (test : X → Bool) (k : ℕ) (xs : List X)
+    → IfSome (position_from test k xs) (λ i. (k ≤ i) × (i < k + length xs))
 position_from-below test k [] = tt
 position_from-below test k (x ∷ xs) =
-    by (test x) (IfSome_then (position_from test (k + 1) xs) (position_from-below test (k + 1) xs) (λ i below. omega arith))
+    by (test x) (IfSome_then (position_from test (k + 1) xs) (position_from-below test (k + 1) xs)
+    (λ i below. (omega (arith, below.0), omega (arith, below.1))))
   where
-    by : (b : Bool) → IfSome (position_from test (k + 1) xs) (λ i. i < k + length (x ∷ xs))
-        → IfSome (cond b (Some k) (position_from test (k + 1) xs)) (λ i. i < k + length (x ∷ xs))
-    by true later = omega arith
+    by : (b : Bool) → IfSome (position_from test (k + 1) xs) (λ i. (k ≤ i) × (i < k + length (x ∷ xs)))
+        → IfSome (cond b (Some k) (position_from test (k + 1) xs)) (λ i. (k ≤ i) × (i < k + length (x ∷ xs)))
+    by true later = (omega arith, omega arith)
     by false later = later
 
+-- a line that comes later has another number
+later : (lines : List NamedLine) (k n : ℕ) (name : List ℕ) → position_from (λ l. bytes_eq l.name name) (k + 1) lines ≡ Some n → k ≢ n
+later lines k n name found same =
+    let after = subst (λ o. IfSome o (λ i. (k + 1 ≤ i) × (i < (k + 1) + length lines))) found
+    (position_from-below (λ l. bytes_eq l.name name) (k + 1) lines) in
+    absurd (omega (arith, after.0, same))
+
+numbers_apart : (lines : List NamedLine) (k n : ℕ) (name other : List ℕ) → position_from (λ l. bytes_eq l.name name) k lines ≡ Some n
+    → position_from (λ l. bytes_eq l.name other) k lines ≡ Some n → name ≡ other
+numbers_apart [] k n name other found too = absurd (cc found)
+numbers_apart (l ∷ lines) k n name other found too =
+    by (bytes_eq l.name name) refl (bytes_eq l.name other) refl found too (numbers_apart lines (k + 1) n name other)
+  where
+    by : (this : Bool) → bytes_eq l.name name ≡ this → (that : Bool) → bytes_eq l.name other ≡ that
+        → cond this (Some k) (position_from (λ l. bytes_eq l.name name) (k + 1) lines) ≡ Some n
+        → cond that (Some k) (position_from (λ l. bytes_eq l.name other) (k + 1) lines) ≡ Some n
+        → (position_from (λ l. bytes_eq l.name name) (k + 1) lines ≡ Some n
+        → position_from (λ l. bytes_eq l.name other) (k + 1) lines ≡ Some n → name ≡ other) → name ≡ other
+    by true named true named_too found too rest = sym ((bytes_eq-Decides l.name name).0 named) ∙ (bytes_eq-Decides l.name other).0 named_too
+    by true named false unlike found too rest = absurd (later lines k n other too (cc found))
+    by false unlike true named found too rest = absurd (later lines k n name found (cc too))
+    by false unlike false unlike_too found too rest = rest found too
+
 pub line_number-finds : (lines : List NamedLine) → Finds (length lines) (line_number lines)
-line_number-finds lines name =
-    IfSome_then (line_number lines name) (position_from-below (λ l. bytes_eq l.name name) 0 lines) (λ i below. omega arith)
+line_number-finds lines = record {
+  below = λ name.
+      IfSome_then (line_number lines name) (position_from-below (λ l. bytes_eq l.name name) 0 lines) (λ i is. omega (arith, is.1));
+  apart = λ name other l. numbers_apart lines 0 l name other;
+}

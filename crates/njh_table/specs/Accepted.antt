@@ -1,5 +1,5 @@
 -- What holds of every table that is accepted: the limits, names that differ, and quotas that add to at most the capacity.
-use Rattle.std.specs.Prelude.{◌≡◌, ◌≢◌, ℕ, ◌<◌, ◌≤◌, List, ◌∷◌, length, map, sum_by, All, AllPairs, None, IsTrue}
+use Rattle.std.specs.Prelude.{◌≡◌, ◌≢◌, ℕ, ◌<◌, ◌≤◌, List, ◌∷◌, length, map, sum_by, All, AllPairs, IfSome, IsTrue}
 use Rattle.njh_table.specs.declared.limits.TheConstants.{MAX_CUSTOMERS, MAX_LINES, MAX_ROUTES, MAX_CAPACITY, MAX_QUOTA}
 use Rattle.njh_table.specs.declared.limits.TheConstants.{MAX_FILES, MIN_BLOCK, MAX_BLOCK, MAX_STREAMS, MAX_PORT}
 use Rattle.njh_table.specs.Entries.{RouteEntry}
@@ -18,10 +18,10 @@ pub record IsLine (l : NamedLine) : Type 0 where
   pub streams : IsBetween 1 MAX_STREAMS l.entry.streams
   pub port : l.port ≤ MAX_PORT
 
--- a route of a customer with so many lines
+-- a route of a customer with so many lines: its second line is another than its first
 pub record IsRoute (lines : ℕ) (r : RouteEntry) : Type 0 where
   pub line : r.line < lines
-  pub second : r.second ≡ None
+  pub second : IfSome r.second (λ line. (line < lines) × (line ≢ r.line))
 
 pub record IsCustomer (c : NamedCustomer) : Type 0 where
   pub quota : IsBetween 1 MAX_QUOTA c.quota

@@ -1,5 +1,5 @@
 -- The tables without a file: two customers with a line each.
-use Rattle.std.specs.Prelude.{List, ℕ, [], ◌∷◌, codes, None}
+use Rattle.std.specs.Prelude.{List, ℕ, false, [], ◌∷◌, codes, None}
 use Rattle.njh_ebcdic.specs.Names.{ebcdic, padded}
 use Rattle.njh_table.specs.declared.Role.TheVariants.{Answer}
 use Rattle.njh_table.specs.TableFile.{NamedCustomer, TableFile}
@@ -14,7 +14,13 @@ customer_with_a_line name line =
       quota = 100;
       files = 8;
       lines =
-          record { name = line; port = 0; entry = record { node = lyon; role = Answer; block = 1024; streams = 4; password = [] } } ∷ [];
+          record {
+            name = line;
+            port = 0;
+            up = false;
+            entry = record { node = lyon; role = Answer; block = 1024; streams = 4; password = [] };
+          }
+          ∷ [];
       routes = record { node = lyon; line = 0; second = None } ∷ [];
     }
 

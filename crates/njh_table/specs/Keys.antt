@@ -72,6 +72,13 @@ role_of text =
 abbrev pub role : Data → Option Role
 role value = option_and_then role_of (as_str value)
 
+-- the name of a route's second line: any text but the first one's
+abbrev pub other_text : List ℕ → List ℕ → Option (Option (List ℕ))
+other_text first text = if bytes_eq text first then None else Some (Some text)
+
+abbrev pub second_line : List ℕ → Data → Option (Option (List ℕ))
+second_line first value = option_and_then (other_text first) (as_str value)
+
 -- ---- keys
 
 -- the keys of an element of a list

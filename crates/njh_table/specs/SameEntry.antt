@@ -12,10 +12,12 @@ pub record SameLine (l m : NamedLine) : Type 0 where
   pub streams : l.entry.streams ≡ m.entry.streams
   pub password : l.entry.password ≡ m.entry.password
   pub port : l.port ≡ m.port
+  pub up : l.up ≡ m.up
 
 pub record SameRoute (r s : RouteEntry) : Type 0 where
   pub node : r.node ≡ s.node
   pub line : r.line ≡ s.line
+  pub second : r.second ≡ s.second
 
 -- lines and routes one by one, in their order
 pub record SameEntry (c d : NamedCustomer) : Type 0 where

@@ -1,16 +1,18 @@
 -- What a table file holds: the hub's capacity, and its customers with their lines and routes.
-use Rattle.std.specs.Prelude.{ℕ, ◌+◌, ◌<◌, ◌==◌, if◌then◌else◌, List, [], ◌∷◌, ◌++◌, length, map, slice_index_or, bytes_eq}
+use Rattle.std.specs.Prelude.{ℕ, Bool, false, ◌+◌, ◌<◌, ◌==◌, if◌then◌else◌, List, [], ◌∷◌, ◌++◌, length, map, slice_index_or, bytes_eq}
 use Rattle.std.specs.Prelude.{Option, Some, None, option_and_then}
 use Rattle.std.specs.List.{flat_map}
 use Rattle.std.specs.Map.{lookup}
 use Rattle.njh_table.specs.declared.LineId.{LineId}
 use Rattle.njh_table.specs.declared.Role.TheVariants.{Answer}
+use Rattle.njh_table.specs.declared.routes.RouteLines.{RouteLines}
 use Rattle.njh_table.specs.Entries.{LineEntry, RouteEntry, CustomerEntry}
 
--- a line: its name on the hub (text), its port, and what its customer's entry says of it
+-- a line: its name on the hub (text), its port, its mark, which the hub sets while it runs, and what its customer's entry says of it
 pub record NamedLine : Type 0 where
   pub name : List ℕ
   pub port : ℕ
+  pub up : Bool
   pub entry : LineEntry
 
 -- a customer: its name, and what its entry says
@@ -28,16 +30,23 @@ pub record TableFile : Type 0 where
 
 -- the entry by which a customer's files and messages go
 abbrev pub entry_of : NamedCustomer → CustomerEntry
-entry_of c = record { hub = c.hub; quota = c.quota; files = c.files; lines = map (λ l. l.entry) c.lines; routes = c.routes }
+entry_of c = record {
+  hub = c.hub;
+  quota = c.quota;
+  files = c.files;
+  lines = map (λ l. l.entry) c.lines;
+  up = map (λ l. l.up) c.lines;
+  routes = c.routes;
+}
 
 -- a password, where there is one, or no bytes
 abbrev pub password_bytes : Option (List ℕ) → List ℕ
 password_bytes None = []
 password_bytes (Some name) = name
 
--- the route for a node by the line of a number
-abbrev pub route_entry : List ℕ × ℕ → RouteEntry
-route_entry r = record { node = r.0; line = r.1; second = None }
+-- the route for a node by these lines
+abbrev pub route_entry : List ℕ × RouteLines → RouteEntry
+route_entry r = record { node = r.0; line = r.1.line; second = r.1.second }
 
 -- ---- the customers and lines of a table by their numbers
 
@@ -46,7 +55,7 @@ abbrev pub no_customer : NamedCustomer
 no_customer = record { name = []; hub = []; quota = 0; files = 0; lines = []; routes = [] }
 
 abbrev pub no_line : NamedLine
-no_line = record { name = []; port = 0; entry = record { node = []; role = Answer; block = 0; streams = 0; password = [] } }
+no_line = record { name = []; port = 0; up = false; entry = record { node = []; role = Answer; block = 0; streams = 0; password = [] } }
 
 abbrev pub customer_at : TableFile → ℕ → NamedCustomer
 customer_at t c = slice_index_or t.customers c no_customer

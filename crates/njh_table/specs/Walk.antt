@@ -2,7 +2,7 @@
 -- past its limit is refused before the element's keys, and keys that aren't named here are ignored.
 use Rattle.std.specs.Prelude.{◌≡◌, ◌≢◌, ℕ, Bool, true, false, ◌||◌, List, [], ◌∷◌, ◌++◌, length, map, codes, nat_le}
 use Rattle.std.specs.Prelude.{nat_lt, sum_by, bytes_eq}
-use Rattle.std.specs.Prelude.{Option, None, ok_or, is_some, Result, Ok, Err, MatchResult}
+use Rattle.std.specs.Prelude.{Option, Some, None, ok_or, is_some, Result, Ok, Err, MatchResult}
 use Rattle.std.specs.List.{list_any, position_from}
 use Rattle.toml.specs.Data.{Data, Items, no_items, item, Members, as_str, as_array}
 use Rattle.toml.specs.Parse.{parse_document}
@@ -13,7 +13,7 @@ use Rattle.njh_table.specs.declared.limits.TheConstants.{MAX_CUSTOMERS, MAX_LINE
 use Rattle.njh_table.specs.declared.limits.TheConstants.{MAX_FILES, MIN_BLOCK, MAX_BLOCK, MAX_STREAMS, MAX_PORT}
 use Rattle.njh_table.specs.Entries.{RouteEntry, line_to}
 use Rattle.njh_table.specs.Keys.{Walked, ◌>>=◌, ◌>>◌, fault_where, keys_in, at_key, at_key_or, number, node_name}
-use Rattle.njh_table.specs.Keys.{line_name, role, password}
+use Rattle.njh_table.specs.Keys.{line_name, role, password, second_line}
 use Rattle.njh_table.specs.TableFile.{NamedLine, NamedCustomer, TableFile, line_names}
 
 -- ---- lines
@@ -30,6 +30,7 @@ line_of name keys = do
   Ok (record {
     name = name;
     port = port;
+    up = false;
     entry = record { node = node; role = role; block = block; streams = streams; password = password };
   })
 
@@ -58,13 +59,21 @@ line_number lines name = position_from (λ l. bytes_eq l.name name) 0 lines
 abbrev pub is_routed : List ℕ → List RouteEntry → List ℕ → Bool
 is_routed hub routes node = bytes_eq hub node || is_some (line_to routes node)
 
--- a customer's route for a node by the line of a name, with its hub's name and what gives the number of a line of its own by name: the
--- hub's own name has no route, and another node one at most
-unfoldable pub route_by : List ℕ → (List ℕ → Option ℕ) → List RouteEntry → List ℕ → List ℕ → Walked RouteEntry
-route_by hub line_number done node line = do
+-- the number of the line of a name, where there is a name
+abbrev pub number_of_second : (List ℕ → Option ℕ) → Option (List ℕ) → Walked (Option ℕ)
+number_of_second line_number None = Ok None
+number_of_second line_number (Some name) = do
+  number ← ok_or (line_number name) UnknownLine
+  Ok (Some number)
+
+-- a customer's route for a node by the line of a name and perhaps a second, with its hub's name and what gives the number of a line of its
+-- own by name: the hub's own name has no route, and another node one at most
+unfoldable pub route_by : List ℕ → (List ℕ → Option ℕ) → List RouteEntry → List ℕ → List ℕ → Option (List ℕ) → Walked RouteEntry
+route_by hub line_number done node line second = do
   fault_where (is_routed hub done node) DoubleNode
   number ← ok_or (line_number line) UnknownLine
-  Ok (record { node = node; line = number; second = None })
+  second_number ← number_of_second line_number second
+  Ok (record { node = node; line = number; second = second_number })
 
 -- the next route of a customer, after those done
 unfoldable pub next_route : List ℕ → (List ℕ → Option ℕ) → List RouteEntry → Data → Walked RouteEntry
@@ -73,7 +82,8 @@ next_route hub line_number done value = do
   keys ← keys_in value
   node ← at_key node_name (codes "node") keys
   line ← at_key as_str (codes "line") keys
-  route_by hub line_number done node line
+  second ← at_key_or (second_line line) None (codes "second") keys
+  route_by hub line_number done node line second
 
 -- the routes of a customer, after those done
 abbrev pub routes_onto : List ℕ → (List ℕ → Option ℕ) → List RouteEntry → Items → Walked (List RouteEntry)

@@ -6,7 +6,7 @@ ghost use Rattle.njh_table.specs.TableFile.{entry_of, route_entry};
 
 use crate::Route;
 use crate::line::Line;
-use crate::routes::Routes;
+use crate::routes::{RouteLines, Routes};
 use njh_ebcdic::Name;
 use std::marker::Model;
 
@@ -79,8 +79,8 @@ impl Customer {
         self.routes.len()
     }
 
-    /// The node of a route and the number of its line, by the route's place in the file.
-    pub fn route_at(&self, index: usize) -> (Name, u16)
+    /// The node of a route and its lines, by the route's place in the file.
+    pub fn route_at(&self, index: usize) -> (Name, RouteLines)
         requires { index < length self.now.routes }
         ensures { slice_get self.now.routes index ≡ Some (route_entry result) }
     {
@@ -95,7 +95,7 @@ impl Customer {
             return Route::Here;
         }
         match self.routes.get(node) {
-            Some(line) => Route::Line(line),
+            Some(lines) => Route::Line(lines.line),
             None => Route::Unknown,
         }
     }

@@ -15,7 +15,7 @@ pub enum TableFault {
     /// A key that must be there isn't, or the list of customers is empty.
     #[error("K2 MissingKey")]
     MissingKey,
-    /// A value of another type or out of range, or a customer's name twice.
+    /// A value of another type or out of range, a customer's name twice, or a route's second line that is its line.
     #[error("K3 BadValue")]
     BadValue,
     /// A line's name twice on the whole hub.

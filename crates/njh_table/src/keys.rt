@@ -1,12 +1,12 @@
 //! The values of a table's keys. A key that must be there and isn't is `MissingKey`; a value of another type or out of range is `BadValue`.
 
-ghost use Rattle.std.specs.Prelude.{◌≡◌, ◌≤◌, [], IfOk, ok_or, option_map};
+ghost use Rattle.std.specs.Prelude.{◌≡◌, ◌≤◌, [], None, IfOk, ok_or, option_map};
 ghost use Rattle.std.specs.List.{list_all};
 ghost use Rattle.std.specs.Result.{result_map_both};
 ghost use Rattle.toml.specs.Data.{get_member, as_str, as_array, as_table, no_items};
 ghost use Rattle.toml.specs.View.{view, table_view, items_view};
 ghost use Rattle.njh_table.specs.Keys.{keys_in, at_key, at_key_or, number, node_name, role, password};
-ghost use Rattle.njh_table.specs.Keys.{line_name, is_line_name, is_letter_or_digit};
+ghost use Rattle.njh_table.specs.Keys.{line_name, second_line, is_line_name, is_letter_or_digit};
 ghost use Rattle.njh_table.specs.TableFile.{password_bytes};
 
 use crate::Role;
@@ -137,6 +137,21 @@ pub fn password_at(keys: &Table, key: &str) -> Result<Option<Name>, TableFault>
             Ok(name) => Ok(Some(name)),
             Err(_) => Err(TableFault::BadValue),
         },
+    }
+}
+
+/// The name of a route's second line, which may be missing: any text but the name of the first.
+pub fn second_at<'a>(keys: &'a Table, key: &str, first: &str) -> Result<Option<&'a str>, TableFault>
+    ensures { result_map_both (option_map (λ t. t.now)) (λ f. f) result
+        ≡ at_key_or (second_line first.now) None key.now (table_view keys.now) }
+{
+    let Some(value) = find(keys, key) else {
+        return Ok(None);
+    };
+    match value.as_str() {
+        None => Err(TableFault::BadValue),
+        Some(text) if text == first => Err(TableFault::BadValue),
+        Some(text) => Ok(Some(text)),
     }
 }
 

@@ -1,10 +1,12 @@
 //! Laws over the definitions.
 
-ghost use Rattle.std.specs.Prelude.{◌≡◌, ◌≢◌, ℕ, List, Ok, Err};
+ghost use Rattle.std.specs.Prelude.{◌≡◌, ◌≢◌, ℕ, ◌<◌, Bool, List, Ok, Err, length};
 ghost use Rattle.toml.specs.Data.{Members};
 ghost use Rattle.njh_table.specs.declared.fault.TableFault.{TableFault as Fault};
-ghost use Rattle.njh_table.specs.Accepted.{IsAccepted, IsCustomer};
+ghost use Rattle.njh_table.specs.Accepted.{IsAccepted};
 ghost use Rattle.njh_table.specs.Entries.{route_of};
+ghost use Rattle.njh_table.specs.declared.LineId.{LineId};
+ghost use Rattle.njh_table.specs.Marks.{entry_marked, entry_unmarked, unmarked, with_mark};
 ghost use Rattle.njh_table.specs.SameEntry.{SameEntry};
 ghost use Rattle.njh_table.specs.TableFile.{NamedCustomer, TableFile, customer_at, entry_of};
 ghost use Rattle.njh_table.specs.Walk.{tables_in, tables_of};
@@ -19,10 +21,19 @@ pub fn walk_keeps_limits()
         → (fault ≢ TableFault.BadToml) × (fault ≢ TableFault.Memory) }
 {}
 
-/// Customers with the same entry route alike, wherever each stands in its table; and where their tables are accepted, what
-/// can be read of an entry is all of it.
+/// Customers with the same entry route alike, wherever each stands in its table; and what can be read of an entry is all of it.
 pub fn same_entries_route_alike()
     ensures alike { (t u : TableFile) (c d : ℕ) → SameEntry (customer_at t c) (customer_at u d)
         → (node : List ℕ) → route_of (entry_of (customer_at t c)) node ≡ route_of (entry_of (customer_at u d)) node }
-    ensures equal { (c d : NamedCustomer) → IsCustomer c → IsCustomer d → SameEntry c d → c ≡ d }
+    ensures equal { (c d : NamedCustomer) → SameEntry c d → c ≡ d }
+{}
+
+/// The mark of a line is a part of its customer's entry, and of no other's; all else of that entry stays.
+pub fn marks_change_one_entry()
+    ensures own { (t : TableFile) (line : LineId) (up : Bool) → line.customer < length t.customers
+        → entry_of (customer_at (with_mark line up t) line.customer) ≡ entry_marked line.line up (entry_of (customer_at t line.customer)) }
+    ensures others { (t : TableFile) (line : LineId) (up : Bool) (c : ℕ) → c ≢ line.customer
+        → customer_at (with_mark line up t) c ≡ customer_at t c }
+    ensures all { (t : TableFile) (c : ℕ) → c < length t.customers
+        → entry_of (customer_at (unmarked t) c) ≡ entry_unmarked (entry_of (customer_at t c)) }
 {}

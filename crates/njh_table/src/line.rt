@@ -17,6 +17,7 @@ pub struct Line {
     pub(crate) streams: u8,
     pub(crate) password: Option<Name>,
     pub(crate) port: u16,
+    pub(crate) up: bool,
 }
 
 impl Model for Line {
@@ -28,6 +29,7 @@ impl Model for Line {
     ghost view = { λ l. record {
       name = string_bytes l.name;
       port = l.port;
+      up = l.up;
       entry = record {
         node = l.node;
         role = l.role;
@@ -86,5 +88,12 @@ impl Line {
         ensures { result ≡ self.now.port }
     {
         self.port
+    }
+
+    /// Whether the line is marked as up. The hub marks it while it runs; a table file gives no mark.
+    pub fn is_up(&self) -> bool
+        ensures { result ≡ self.now.up }
+    {
+        self.up
     }
 }

@@ -3,24 +3,27 @@
 ghost use Rattle.std.specs.Prelude.{◌≡◌, ◌<◌, [], ◌∷◌, length, map, bytes_eq, slice_index_or, slice_set, vec_len, Ok, Err, IfOk, OnErr};
 ghost use Rattle.std.specs.List.{list_any};
 ghost use Rattle.njh_table.specs.Accepted.{AreDistinct};
-ghost use Rattle.njh_table.specs.NewRoutes.{checked_from, is_own, own_number, own_route, own_routes, route_checked};
+ghost use Rattle.njh_table.specs.NewRoutes.{checked_from, given_lines, is_own, may_be_second, other_second, own_number, own_route};
+ghost use Rattle.njh_table.specs.NewRoutes.{own_routes, repeats, route_checked};
 ghost use Rattle.njh_table.specs.TableFile.{no_customer, route_entry};
 
 use crate::LineId;
 use crate::customer::Customer;
 use crate::fault::TableFault;
 use crate::limits::MAX_ROUTES;
-use crate::routes::Routes;
+use crate::routes::{RouteLines, Routes};
 use crate::tables::Tables;
 use njh_ebcdic::Name;
 
-/// A route that a customer is given: a node, and the line that leads to it.
+/// A route that a customer is given: a node, and the lines that lead to it.
 #[derive(Clone, Copy, Debug, PartialEq, Eq)]
 pub struct RouteEntry {
     /// The node.
     pub node: Name,
     /// The line, which has to be the customer's own.
     pub line: LineId,
+    /// Another line of the customer's own, if there is one.
+    pub second: Option<LineId>,
 }
 
 impl Tables {
@@ -29,8 +32,8 @@ impl Tables {
     ghost use Rattle.njh_table.specs.TableFile.{customer_at, entry_of};
 
     /// Whether a customer may have these routes in place of its own. `TooMany` comes where there are more than 512; then, from the left
-    /// and at each route in this order, `DoubleNode` where an earlier one has its node or that is the hub's own name, and `UnknownLine`
-    /// where its line isn't the customer's. Takes no memory.
+    /// and at each route in this order, `BadValue` where its second line is its line, `DoubleNode` where an earlier one has its node or
+    /// that is the hub's own name, and `UnknownLine` where its line, and then where its second line, isn't the customer's. Takes no memory.
     pub fn check_routes(&self, customer: u16, routes: &[RouteEntry]) -> Result<(), TableFault>
         requires { customer < length self.now.customers }
         ensures { result ≡ routes_checked (entry_of (customer_at self.now customer)) (own_routes customer routes.now) }
@@ -58,14 +61,24 @@ impl Routes {
     /// These routes alone.
     fn replaced_by(&self, routes: &[RouteEntry]) -> Result<Routes, TableFault>
         requires { AreDistinct (map (λ r. r.node) routes.now) }
-        ensures routes { IfOk result (λ new. new ≡ map (λ r. route_entry (r.node, r.line.line)) routes.now) }
+        ensures routes { IfOk result (λ new. new ≡ map (λ r. route_entry (r.node, given_lines r)) routes.now) }
         ensures memory { OnErr result (result ≡ Err TableFault.Memory) }
     {
         let mut new = self.emptied();
         for route in routes {
-            new.insert(route.node, route.line.line)?;
+            new.insert(route.node, given_lines(route))?;
         }
         Ok(new)
+    }
+}
+
+/// The lines of a route by their numbers, whoever's they are.
+fn given_lines(route: &RouteEntry) -> RouteLines
+    ensures { result ≡ given_lines route.now }
+{
+    RouteLines {
+        line: route.line.line,
+        second: route.second.map(|second| second.line),
     }
 }
 
@@ -107,13 +120,29 @@ fn check_one(
     ensures { result
         ≡ route_checked (length customer.now.lines) (customer.now.hub ∷ map (λ r. r.node) before.now) (own_route number route) }
 {
+    if repeats(route.line, route.second) {
+        return Err(TableFault::BadValue);
+    }
     if is_taken(customer.hub(), before, route.node) {
         return Err(TableFault::DoubleNode);
     }
     if !is_own(number, customer, route.line) {
         return Err(TableFault::UnknownLine);
     }
+    if !may_be_second(number, customer, route.second) {
+        return Err(TableFault::UnknownLine);
+    }
     Ok(())
+}
+
+/// Whether a route's second line is its line.
+fn repeats(line: LineId, second: Option<LineId>) -> bool
+    ensures { result ≡ repeats line second }
+{
+    match second {
+        Some(second) => line == second,
+        None => false,
+    }
 }
 
 /// Whether a node is the hub's own name, or that of one of these routes.
@@ -144,4 +173,14 @@ fn is_own(number: u16, customer: &Customer, line: LineId) -> bool
     ensures { result ≡ is_own (length customer.now.lines) (own_number number line) }
 {
     line.customer == number && usize::from(line.line) < customer.lines().len()
+}
+
+/// Whether there is no second line, or it is one of a customer's own.
+fn may_be_second(number: u16, customer: &Customer, second: Option<LineId>) -> bool
+    ensures { result ≡ may_be_second (length customer.now.lines) (other_second number second) }
+{
+    match second {
+        Some(second) => is_own(number, customer, second),
+        None => true,
+    }
 }

@@ -1,6 +1,6 @@
 //! A customer's routes.
 
-ghost use Rattle.std.specs.Prelude.{◌≡◌, ◌<◌, ◌++◌, [], ◌∷◌, length, slice_get, None, Some, OnOk};
+ghost use Rattle.std.specs.Prelude.{◌≡◌, ◌<◌, ◌++◌, [], ◌∷◌, length, slice_get, None, Some, option_map, OnOk};
 ghost use Rattle.njh_table.specs.Entries.{line_to};
 ghost use Rattle.njh_table.specs.TableFile.{route_entry};
 
@@ -9,10 +9,19 @@ use njh_ebcdic::Name;
 use std::alloc::{AllocError, Global};
 use std::marker::Model;
 
-/// The nodes that a customer has routes for, each with the number of the line, in the order of the file.
+/// The lines of a route, by their numbers within the customer.
+#[derive(Clone, Copy, Debug, PartialEq, Eq)]
+pub struct RouteLines {
+    /// The line that leads to the route's node.
+    pub line: u16,
+    /// Another that does so too, if there is one.
+    pub second: Option<u16>,
+}
+
+/// The nodes that a customer has routes for, each with its lines, in the order of the file.
 #[derive(Drop)]
 pub(crate) struct Routes {
-    lines: IndexMap<Name, u16>,
+    lines: IndexMap<Name, RouteLines>,
 }
 
 impl Model for Routes {
@@ -47,28 +56,28 @@ impl Routes {
         self.lines.len()
     }
 
-    /// The node and the number of its line, by their place in the file.
-    pub(crate) fn at(&self, index: usize) -> (Name, u16)
+    /// A node and its lines, by their place in the file.
+    pub(crate) fn at(&self, index: usize) -> (Name, RouteLines)
         requires { index < length self.now }
         ensures { slice_get self.now index ≡ Some (route_entry result) }
     {
-        let (node, line) = self.lines.get_index(index).unwrap();
-        (*node, *line)
+        let (node, lines) = self.lines.get_index(index).unwrap();
+        (*node, *lines)
     }
 
-    /// The number of a node's line.
-    pub(crate) fn get(&self, node: Name) -> Option<u16>
-        ensures { result ≡ line_to self.now node }
+    /// The lines of a node.
+    pub(crate) fn get(&self, node: Name) -> Option<RouteLines>
+        ensures { option_map (λ lines. lines.line) result ≡ line_to self.now node }
     {
         self.lines.get(&node).copied()
     }
 
     /// Adds a route for a node that has none.
-    pub(crate) fn insert(&mut self, node: Name, line: u16) -> Result<(), AllocError>
+    pub(crate) fn insert(&mut self, node: Name, lines: RouteLines) -> Result<(), AllocError>
         requires { line_to self.old node ≡ None }
-        ensures { OnOk result (self.new ≡ self.old ++ route_entry (node, line) ∷ []) }
+        ensures { OnOk result (self.new ≡ self.old ++ route_entry (node, lines) ∷ []) }
     {
-        self.lines.insert(node, line)?;
+        self.lines.insert(node, lines)?;
         Ok(())
     }
 }

@@ -30,7 +30,11 @@ fn open<R: Files + AllocGlobal>(rt: &R) -> Result<Hub, Failure> {
 /// A route to a node by a line.
 pub fn route(node: &str, line: LineId) -> Result<RouteEntry, Failure> {
     match Name::of_text(node) {
-        Ok(node) => Ok(RouteEntry { node, line }),
+        Ok(node) => Ok(RouteEntry {
+            node,
+            line,
+            second: None,
+        }),
         Err(_) => Err(of_hub(HubFault::UnknownCustomer)),
     }
 }

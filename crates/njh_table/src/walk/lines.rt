@@ -36,6 +36,7 @@ fn line_of(alloc: Global, name: &str, keys: &Table) -> Result<Line, TableFault>
         streams,
         password,
         port,
+        up: false,
     })
 }
 

@@ -1,17 +1,17 @@
 //! The walk over a customer's routes.
 
-ghost use Rattle.std.specs.Prelude.{◌≡◌, [], None, IfOk};
+ghost use Rattle.std.specs.Prelude.{◌≡◌, [], None, IfOk, option_map};
 ghost use Rattle.std.specs.Result.{result_map_both};
 ghost use Rattle.toml.specs.View.{view, items_view};
 ghost use Rattle.njh_table.specs.Entries.{line_to};
 ghost use Rattle.njh_table.specs.TableFile.{own_line, route_entry};
-ghost use Rattle.njh_table.specs.Walk.{Walks, is_routed, route_by, next_route, routes_onto};
+ghost use Rattle.njh_table.specs.Walk.{Walks, is_routed, number_of_second, route_by, next_route, routes_onto};
 
 use crate::fault::TableFault;
-use crate::keys::{keys_in, name_at, text_at};
+use crate::keys::{keys_in, name_at, second_at, text_at};
 use crate::limits::MAX_ROUTES;
 use crate::owners::Owners;
-use crate::routes::Routes;
+use crate::routes::{RouteLines, Routes};
 use njh_ebcdic::Name;
 use std::alloc::Global;
 use toml::Value;
@@ -26,30 +26,49 @@ fn is_routed(hub: Name, routes: &Routes, node: Name) -> bool
     routes.get(node).is_some()
 }
 
-/// A route for a node by a line of its customer: the node and the line's number.
+/// The number of a second line of a customer, if a name is given.
+fn number_of_second(
+    second: Option<&str>,
+    customer: u16,
+    owners: &Owners,
+) -> Result<Option<u16>, TableFault>
+    ensures { result ≡ number_of_second (own_line owners.now customer) (option_map (λ s. s.now) second.entry) }
+{
+    let Some(name) = second else {
+        return Ok(None);
+    };
+    match owners.own_line(customer, name) {
+        Some(number) => Ok(Some(number)),
+        None => Err(TableFault::UnknownLine),
+    }
+}
+
+/// A route for a node by lines of its customer: the node and the lines' numbers.
 #[tactic(auto, unfolding(crate::specs::Walk::route_by))]
 fn route_by(
     node: Name,
     line: &str,
+    second: Option<&str>,
     customer: u16,
     hub: Name,
     owners: &Owners,
     routes: &Routes,
-) -> Result<(Name, u16), TableFault>
+) -> Result<(Name, RouteLines), TableFault>
     ensures walk { result_map_both route_entry (λ f. f) result
-        ≡ route_by hub (own_line owners.now customer) routes.now node line.now }
+        ≡ route_by hub (own_line owners.now customer) routes.now node line.now (option_map (λ s. s.now) second.entry) }
     ensures new { IfOk result (λ r. line_to routes.now r.0 ≡ None) }
 {
     if is_routed(hub, routes, node) {
         return Err(TableFault::DoubleNode);
     }
-    match owners.own_line(customer, line) {
-        Some(number) => Ok((node, number)),
-        None => Err(TableFault::UnknownLine),
-    }
+    let Some(line) = owners.own_line(customer, line) else {
+        return Err(TableFault::UnknownLine);
+    };
+    let second = number_of_second(second, customer, owners)?;
+    Ok((node, RouteLines { line, second }))
 }
 
-/// The node of the next route and the number of its line.
+/// The node of the next route and its lines' numbers.
 #[tactic(auto, unfolding(crate::specs::Walk::next_route))]
 fn next_route(
     value: &Value,
@@ -57,7 +76,7 @@ fn next_route(
     hub: Name,
     owners: &Owners,
     routes: &Routes,
-) -> Result<(Name, u16), TableFault>
+) -> Result<(Name, RouteLines), TableFault>
     ensures walk { result_map_both route_entry (λ f. f) result
         ≡ next_route hub (own_line owners.now customer) routes.now (view value.now) }
     ensures new { IfOk result (λ r. line_to routes.now r.0 ≡ None) }
@@ -68,7 +87,8 @@ fn next_route(
     let keys = keys_in(value)?;
     let node = name_at(keys, "node")?;
     let line = text_at(keys, "line")?;
-    route_by(node, line, customer, hub, owners, routes)
+    let second = second_at(keys, "second", line)?;
+    route_by(node, line, second, customer, hub, owners, routes)
 }
 
 pub(super) fn routes_in(
@@ -82,8 +102,8 @@ pub(super) fn routes_in(
 {
     let mut routes = Routes::new(alloc);
     for value in values {
-        let (node, line) = next_route(value, customer, hub, owners, &routes)?;
-        routes.insert(node, line)?;
+        let (node, lines) = next_route(value, customer, hub, owners, &routes)?;
+        routes.insert(node, lines)?;
     }
     Ok(routes)
 }

@@ -23,6 +23,7 @@ K2 MissingKey: block = 1024 > #
 K2 MissingKey: streams = 4 > #
 K2 MissingKey: node = "LYON"/line > line
 K2 MissingKey: line = "a1" > #
+K2 MissingKey: line = "a1" > second = 3
 K3 BadValue: files = 8 > files = 0
 K3 BadValue: files = 8 > files = 1025
 K3 BadValue: files = 8 > files = 8.0
@@ -46,6 +47,9 @@ K3 BadValue: name = "a1" > name = "a1a1a1a1a"
 K3 BadValue: name = "a1" > name = "a-1"
 K3 BadValue: name = "a1" > name = ""
 K3 BadValue: line = "a1" > line = 1
+K3 BadValue: line = "a1" > line = "a1"/second = 3
+K3 BadValue: line = "a1" > line = "a1"/second = "a1"
+K3 BadValue: line = "a1" > line = "no such!"/second = "no such!"
 K3 BadValue: files = 8/[[customer.line]] > files = 8/[customer.line]
 K3 BadValue: files = 8/[[customer.line]] > files = 8/line = [3]/[[customer.other]]
 K4 DoubleLine: name = "b1" > name = "a1"
@@ -55,6 +59,10 @@ K5 DoubleNode: line = "a1" > line = "a1"/[[customer.route]]/node = "LYON"/line =
 K6 UnknownLine: line = "a1" > line = "b1"
 K6 UnknownLine: line = "a1" > line = "A1"
 K6 UnknownLine: line = "a1" > line = "no such!"
+K6 UnknownLine: line = "a1" > line = "a1"/second = "b1"
+K6 UnknownLine: line = "b1" > line = "b1"/second = "a1"
+K6 UnknownLine: line = "a1" > line = "a1"/second = "A1"
+K6 UnknownLine: line = "a1" > line = "a1"/second = ""
 K7 QuotaOver: capacity = 200 > capacity = 199
 K7 QuotaOver: quota = 100 > quota = 3 | quota = 100 > quota = 2 | capacity = 200 > capacity = 4
 taken: quota = 100 > quota = 3 | quota = 100 > quota = 2 | capacity = 200 > capacity = 5
@@ -64,8 +72,8 @@ taken: block = 1024/streams = 4 > block = 300/streams = 1
 taken: block = 1024 > block = 4096/port = 65535
 taken: streams = 4 > streams = 4/password = "SECRET"
 taken: streams = 4 > streams = 4/password = ""/port = 0
+taken: [[customer.route]] > [[customer.line]]/name = "a2"/node = "METZ"/role = "answer"/block = 1024/streams = 4/[[customer.route]] | line = "a1" > line = "a1"/second = "a2"
 taken: role = "answer" > role = "call" | hub = "BUREAU" > hub = "PARIS"
-taken: line = "a1" > line = "a1"/second = 3
 taken: capacity = 200 > capacity = 200/colour = "red"
 taken: node = "LYON" > node = "METZ" | files = 8 > files = 8/route = [] | [[customer.route]]/node = "LYON"/line = "a1" > #
 "#;
@@ -89,6 +97,11 @@ K2 MissingKey: block = 1024 > # | streams = 4 > streams = 5
 K3 BadValue: streams = 4 > streams = 5 | line = "a1" > line = "b1"
 K2 MissingKey: node = "LYON"/line > line | line = "a1" > line = 1
 K3 BadValue: line = "a1" > line = 1 | node = "LYON"/line > node = "BUREAU"/line
+K3 BadValue: line = "a1" > line = "a1"/second = 3 | node = "LYON"/line > node = "BUREAU"/line
+K3 BadValue: line = "a1" > line = "a1"/second = "a1" | node = "LYON"/line > node = "BUREAU"/line
+K3 BadValue: line = "a1" > line = "b1" | line = "b1" > line = "b1"/second = "b1"
+K5 DoubleNode: line = "a1" > line = "a1"/second = "b1" | node = "LYON"/line > node = "BUREAU"/line
+K6 UnknownLine: line = "a1" > line = "a1"/second = "b1" | line = "b1" > line = "b1"/second = "b1"
 K5 DoubleNode: node = "LYON"/line > node = "BUREAU"/line | line = "a1" > line = "b1"
 K5 DoubleNode: node = "LYON"/line > node = "BUREAU"/line | name = "b1" > name = "a1"
 K6 UnknownLine: line = "a1" > line = "b1" | name = "b1" > name = "a1"

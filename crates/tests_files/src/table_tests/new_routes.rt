@@ -1,13 +1,12 @@
 //! New routes for a customer while the hub runs: which it may have, and what it has then.
 
 use super::*;
-use njh_ebcdic::Name;
 use njh_table::{Customer, LineId, RouteEntry};
 use std::process::Abort;
 use std::test::Fail;
 
-/// Routes for the first customer of the base tables, each a node with the customer and the number of its line, and what comes of them:
-/// both customers' routes, or the fault.
+/// Routes for the first customer, which has two lines, each a node with the customer and the number of its line, and then of its second
+/// line if it has one; and what comes of them: both customers' routes, or the fault.
 const GIVEN: &str = "
 - = ACME; BOLT LYON by 0;
 LYON 0 0 = ACME LYON by 0; BOLT LYON by 0;
@@ -18,10 +17,23 @@ BUREAU 0 0 = K5 DoubleNode
 BUREAU 1 0 = K5 DoubleNode
 METZ 0 0, BUREAU 0 0, LYON 1 0 = K5 DoubleNode
 LYON 1 0 = K6 UnknownLine
-LYON 0 1 = K6 UnknownLine
+LYON 0 2 = K6 UnknownLine
 LYON 2 0 = K6 UnknownLine
 LYON 1 0, LYON 0 0 = K6 UnknownLine
 METZ 0 0, LYON 0 7, BUREAU 0 0 = K6 UnknownLine
+LYON 0 0 0 1 = ACME LYON by 0 or 1; BOLT LYON by 0;
+LYON 0 1 0 0, METZ 0 1 = ACME LYON by 1 or 0 METZ by 1; BOLT LYON by 0;
+LYON 0 0 0 0 = K3 BadValue
+LYON 1 0 1 0 = K3 BadValue
+BUREAU 0 1 0 1 = K3 BadValue
+METZ 0 0, METZ 0 0 0 0 = K3 BadValue
+METZ 0 0, METZ 0 0 1 0 = K5 DoubleNode
+BUREAU 0 0 1 0 = K5 DoubleNode
+LYON 0 0 1 0 = K6 UnknownLine
+LYON 0 0 1 1 = K6 UnknownLine
+LYON 0 0 0 2 = K6 UnknownLine
+LYON 1 0 0 0 = K6 UnknownLine
+LYON 0 0 1 0, METZ 0 0 0 0 = K6 UnknownLine
 ";
 
 fn name_of(word: Option<&str>) -> Result<Name, Fail> {
@@ -35,12 +47,18 @@ fn number_of(word: Option<&str>) -> Result<u16, Fail> {
 fn route_of(text: &str) -> Result<RouteEntry, Fail> {
     let mut words = text.split(" ");
     let node = name_of(words.next())?;
-    let customer = number_of(words.next())?;
-    let line = number_of(words.next())?;
-    Ok(RouteEntry {
-        node,
-        line: LineId { customer, line },
-    })
+    let line = line_of(words.next(), words.next())?;
+    let second = match words.next() {
+        Some(customer) => Some(line_of(Some(customer), words.next())?),
+        None => None,
+    };
+    Ok(RouteEntry { node, line, second })
+}
+
+fn line_of(customer: Option<&str>, line: Option<&str>) -> Result<LineId, Fail> {
+    let customer = number_of(customer)?;
+    let line = number_of(line)?;
+    Ok(LineId { customer, line })
 }
 
 fn routes_of(alloc: Global, text: &str) -> Result<Vec<RouteEntry>, Fail> {
@@ -62,7 +80,8 @@ fn many(alloc: Global, count: u32) -> Result<Vec<RouteEntry>, Fail> {
             customer: 0,
             line: 0,
         };
-        routes.push(RouteEntry { node, line })?;
+        let second = None;
+        routes.push(RouteEntry { node, line, second })?;
     }
     Ok(routes)
 }
@@ -79,8 +98,8 @@ fn give(tables: &mut Tables, routes: &[RouteEntry]) -> Result<(), TableFault> {
 fn push_customer(alloc: Global, text: &mut String, customer: &Customer) -> Result<(), AllocError> {
     text.push_str(format!(in alloc; " {}", customer.name())?.as_str())?;
     for index in 0..customer.routes() {
-        let (node, line) = customer.route_at(index);
-        text.push_str(format!(in alloc; " {node} by {line}")?.as_str())?;
+        let route = text_of_route(alloc, customer.route_at(index))?;
+        text.push_str(format!(in alloc; " {route}")?.as_str())?;
     }
     text.push_str(";")
 }
@@ -106,7 +125,7 @@ fn given(alloc: Global, tables: &mut Tables, routes: &[RouteEntry]) -> Result<St
 fn comes<R: Abort>(rt: &R, alloc: Global, case: &str) -> Result<(), Fail> {
     let (routes, want) = case.split_once(" = ").ok_or("a case without =")?;
     let routes = routes_of(alloc, routes)?;
-    let mut tables = Tables::base(alloc)?;
+    let mut tables = with_a2(alloc)?;
     let found = given(alloc, &mut tables, &routes)?;
     assert_eq!(rt; found.trim(), want, "{case}");
     Ok(())

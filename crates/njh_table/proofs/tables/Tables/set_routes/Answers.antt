@@ -4,7 +4,8 @@ use Rattle.njh_table.specs.Accepted.{IsAccepted}
 use Rattle.njh_table.specs.Entries.{RouteEntry}
 use Rattle.njh_table.specs.NewRoutes.{own_routes, taken_routes, routes_checked, with_routes}
 use Rattle.njh_table.specs.TableFile.{NamedCustomer, TableFile, customer_at, entry_of, owners_from}
-use Rattle.njh_table.proofs.NewRouteLaws.{checked-distinct, still_accepted, same_owners, checked-given}
+use Rattle.njh_table.proofs.NewRouteLaws.{checked-distinct, still_accepted, checked-given}
+use Rattle.njh_table.proofs.Replaced.{same_owners}
 use Rattle.njh_table.proofs.tables.Tables.set_routes.Goals.{After-give_routes}
 use Rattle.njh_table.proofs.tables.Tables.set_routes.Goals as goal
 
@@ -27,7 +28,7 @@ now_are : (c : After-give_routes) → c.give_routes.new.customers.items ≡ slic
 now_are c =
     c.give_routes.ensures
     ∙ ap (λ (rs : List RouteEntry). slice_set (before c).customers c.args.customer (record (customer_at (before c) c.args.customer) { routes = rs }))
-    (c.in_ok-new.ensures.routes ∙ sym (checked-given (before c) c.args.customer c.args.routes.now (checked c)))
+    (c.in_ok-new.ensures.routes ∙ sym (checked-given (before c) c.args.customer c.args.routes.now (checked c)).0)
 
 pub invariant_of-self : goal.invariant_of-self
 invariant_of-self c =
@@ -35,7 +36,7 @@ invariant_of-self c =
     let n = c.args.customer in
     let there : n < length t.customers = subst (λ (t : TableFile). n < length t.customers) (sym c.self.view_is) c.requires.known in (
       subst (λ customers. IsAccepted (record t { customers = customers })) (sym (now_are c))
-          (still_accepted t n (own_routes n c.args.routes.now) c.self.invariant.0 there (checked c)),
+          (still_accepted t n c.args.routes.now c.self.invariant.0 there (checked c)),
       c.self.invariant.1 ∙ sym (ap (owners_from 0) (now_are c) ∙ same_owners 0 t.customers n (with_new c) refl),
     )
 

@@ -1,4 +1,4 @@
-use Rattle.std.proofs.Common.{Ok, ap, sym, ◌∙◌}
+use Rattle.std.proofs.Common.{false, Ok, ap, sym, ◌∙◌}
 use Rattle.njh_table.specs.TableFile.{password_bytes}
 use Rattle.njh_table.specs.Walk.{line_of}
 use Rattle.njh_table.proofs.Loops.{goes_on, ends, stops}
@@ -67,6 +67,7 @@ returns-clause-walk c =
     ∙ ap (λ name. Ok (record {
       name = name;
       port = c.in_ok-port.field-0;
+      up = false;
       entry = record {
         node = c.in_ok-node.node;
         role = c.in_ok-role.role;

@@ -32,6 +32,16 @@ returns-in_err-line-clause-walk c =
     ∙ goes_on _ _ _ (sym c.in_ok-node.ensures)
     ∙ ends _ _ _ (sym c.in_err-line.ensures))
 
+pub returns-in_err-second-clause-walk : goal.returns-in_err-second-clause-walk
+unfolding next_route
+returns-in_err-second-clause-walk c =
+    leaves_seen _ _ _ _ c.from_residual-in_err-second.ensures.1
+    (passes _ _ _ (room c.len.ensures c.if-len-ge-MAX_ROUTES.false)
+    ∙ goes_on _ _ _ (sym c.in_ok-keys.ensures)
+    ∙ goes_on _ _ _ (sym c.in_ok-node.ensures)
+    ∙ goes_on _ _ _ (sym c.in_ok-line.ensures)
+    ∙ ends _ _ _ (sym c.in_err-second.ensures))
+
 pub returns-clause-walk : goal.returns-clause-walk
 unfolding next_route
 returns-clause-walk c =
@@ -39,4 +49,5 @@ returns-clause-walk c =
     ∙ sym (passes _ _ _ (room c.len.ensures c.if-len-ge-MAX_ROUTES.false)
     ∙ goes_on _ _ _ (sym c.in_ok-keys.ensures)
     ∙ goes_on _ _ _ (sym c.in_ok-node.ensures)
-    ∙ goes_on _ _ _ (sym c.in_ok-line.ensures))
+    ∙ goes_on _ _ _ (sym c.in_ok-line.ensures)
+    ∙ goes_on _ _ _ (sym c.in_ok-second.ensures))
