@@ -83,7 +83,8 @@ fn put_file(bytes: &mut Vec<u8>, file: &FileView) -> Result<(), AllocError> {
 struct Texts {
     records: Vec<Vec<u8>>,
     sign_ons: Vec<Vec<u8>>,
-    routes: [[RouteEntry; 2]; 2],
+    own_routes: [RouteEntry; 2],
+    other_routes: [RouteEntry; 2],
 }
 
 fn lines_of<R: Files + AllocGlobal>(rt: &R, file: &str) -> Result<Vec<Vec<u8>>, Failure> {
@@ -123,15 +124,17 @@ fn routes_of(customer: u16, second: &str) -> Result<[RouteEntry; 2], Failure> {
 fn give_routes(
     alloc: Global,
     customer: u16,
-    routes: &[RouteEntry; 2],
+    routes: &[RouteEntry],
     numbers: &mut Numbers,
     events: &mut Vec<Event>,
 ) -> Result<(), AllocError> {
+    let (none, _) = routes.split_at(0);
+    let (front, back) = routes.split_at(routes.len() / 2);
     let given = match numbers.below(4) {
-        0 => &routes[..0],
-        1 => &routes[..1],
-        2 => &routes[1..],
-        _ => &routes[..],
+        0 => none,
+        1 => front,
+        2 => back,
+        _ => routes,
     };
     Ok(events.push(Event::Routes(customer, RouteList::of(alloc, given)?))?)
 }
@@ -143,9 +146,9 @@ fn events_of(
     texts: &Texts,
     customer: u16,
     second: usize,
+    routes: &[RouteEntry],
 ) -> Result<Vec<Event>, AllocError> {
     let records = texts.records.as_slice();
-    let routes = &texts.routes[usize::from(customer % 2)];
     let [mut first, mut second] = peers_of(texts, customer, second);
     let mut numbers = Numbers::from_seed(seed);
     let mut events = Vec::new(alloc);
@@ -245,13 +248,13 @@ fn among_others(
     other: u64,
 ) -> Result<Vec<Event>, Failure> {
     let own = own_events(alloc, texts, seed)?;
-    let others = events_of(alloc, other, texts, BOLT, 2)?;
+    let others = events_of(alloc, other, texts, BOLT, 2, &texts.other_routes)?;
     Ok(merged(alloc, other, own, others)?)
 }
 
 /// ACME's events of a seed.
 fn own_events(alloc: Global, texts: &Texts, seed: u64) -> Result<Vec<Event>, Failure> {
-    Ok(events_of(alloc, seed, texts, ACME, 1)?)
+    Ok(events_of(alloc, seed, texts, ACME, 1, &texts.own_routes)?)
 }
 
 /// What was found of the pairs.
@@ -339,6 +342,7 @@ fn read_texts<R: Files + AllocGlobal>(rt: &R) -> Result<Texts, Failure> {
     Ok(Texts {
         records: lines_of(rt, "random_records")?,
         sign_ons: lines_of(rt, "random_sign_ons")?,
-        routes: [routes_of(ACME, "METZ")?, routes_of(BOLT, "PARIS")?],
+        own_routes: routes_of(ACME, "METZ")?,
+        other_routes: routes_of(BOLT, "PARIS")?,
     })
 }
