@@ -7,8 +7,10 @@ work=$(mktemp -d)
 trap 'rm -rf "$work"' EXIT
 mkdir -p "$work/crates/spool_bench/src"
 cp "$top/HANDLES" "$work"
-cp -r "$top/crates/njh_record" "$top/crates/njh_spool" "$work/crates"
-grep -E '^(njh_record|njh_spool):' "$top/crates.txt" > "$work/crates.txt"
+for crate in njh_ebcdic njh_record njh_header njh_spool; do
+  cp -r "$top/crates/$crate" "$work/crates"
+  grep "^$crate:" "$top/crates.txt" >> "$work/crates.txt"
+done
 echo 'spool_bench: njh_record njh_spool anyhow' >> "$work/crates.txt"
 for name in main calls looking removing; do
   cp "$here/$name.txt" "$work/crates/spool_bench/src/$name.rt"
