@@ -51,7 +51,7 @@ impl<T: Drop> From<AllocFailed<T>> for HubFault {
 /// Who stopped a run.
 #[derive(Clone, Copy, Debug, PartialEq, Eq)]
 pub enum Cause {
-    /// The hub refused a step.
+    /// The hub refused a step, or new routes.
     Hub(HubFault),
     /// The sink refused a frame.
     Sink,

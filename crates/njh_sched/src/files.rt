@@ -41,7 +41,7 @@ const MOST_ELSEWHERE: usize = 8;
 /// Nodes that don't go by a line. Their files are passed without a look at the routes.
 type Elsewhere = ArrayVec<[u8; 8], MOST_ELSEWHERE>;
 
-/// Whether a node is one of some. It may miss none that it says is.
+/// Whether a node was found among some: where it says so, the node is one of them.
 fn is_among(nodes: &[[u8; 8]], node: &[u8; 8]) -> bool
     ensures { IsTrue result → (test : List ℕ → Bool) → list_any test nodes.now ≡ false → test node.now ≡ false }
 {

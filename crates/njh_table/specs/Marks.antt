@@ -1,4 +1,4 @@
--- The marks of lines: which of them are up. The hub sets them while it runs; a table file says nothing of them, and all are off at first.
+-- The marks of lines: which of them are up. A table file says nothing of them, and all are off at first.
 use Rattle.std.specs.Prelude.{ℕ, Bool, false, map, slice_set, slice_index_or}
 use Rattle.njh_table.specs.declared.LineId.{LineId}
 use Rattle.njh_table.specs.Entries.{CustomerEntry}

@@ -8,7 +8,7 @@ use Rattle.njh_table.specs.declared.Role.TheVariants.{Answer}
 use Rattle.njh_table.specs.declared.routes.RouteLines.{RouteLines}
 use Rattle.njh_table.specs.Entries.{LineEntry, RouteEntry, CustomerEntry}
 
--- a line: its name on the hub (text), its port, its mark, which the hub sets while it runs, and what its customer's entry says of it
+-- a line: its name on the hub (text), its port, its mark as up, and what its customer's entry says of it
 pub record NamedLine : Type 0 where
   pub name : List ℕ
   pub port : ℕ

@@ -90,7 +90,7 @@ impl Line {
         self.port
     }
 
-    /// Whether the line is marked as up. The hub marks it while it runs; a table file gives no mark.
+    /// Whether the line is marked as up, by `Tables::set_up`; a table file gives no mark.
     pub fn is_up(&self) -> bool
         ensures { result ≡ self.now.up }
     {
