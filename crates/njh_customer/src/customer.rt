@@ -5,12 +5,10 @@ ghost use Rattle.std.specs.Prelude.{◌≡◌, ◌<◌, ◌&&◌, length, not};
 ghost use Rattle.std.specs.Option.{option_map};
 ghost use Rattle.njh_customer.specs.Feeding.{acted_on};
 ghost use Rattle.njh_bisync.specs.Lent.{received};
-ghost use Rattle.njh_line.specs.Laws.{is_up};
 ghost use Rattle.njh_line.specs.LineTable.{shown};
 ghost use Rattle.njh_table.specs.TableFile.{HasLine, customer_at, entry_of};
 ghost use Rattle.njh_customer.specs.Acting.{acted_where};
 ghost use Rattle.njh_customer.specs.Alone as alone;
-ghost use Rattle.njh_customer.specs.Customer.{line_at};
 ghost use Rattle.njh_customer.specs.Leading.{Brings, IsReady, IsRetold, Leads, customer_of};
 
 use crate::acting::all_act;
@@ -142,7 +140,8 @@ fn accept_signal(
     streams_stay_tied();
     let was_up = lines.is_up(line.line);
     let verdict = lines.accept_signal(line.line, signal);
-    mark_up(line, was_up, tables, lines);
+    let is_up = lines.is_up(line.line);
+    raise(line, goes_up(was_up, is_up), tables);
     verdict
 }
 
@@ -184,20 +183,28 @@ fn accept(
     streams_stay_tied();
     let was_up = lines.is_up(line.line);
     let verdict = lines.accept(line.line, input);
-    mark_up(line, was_up, tables, lines);
+    let is_up = lines.is_up(line.line);
+    raise(line, goes_up(was_up, is_up), tables);
     verdict
 }
 
-/// Marks a line that is up and wasn't.
-fn mark_up(line: LineId, was_up: bool, tables: &mut Tables, lines: &CustomerLines)
-    requires known { HasLine tables.old line }
-    requires there { line.line < length lines.now }
-    ensures entry { entry_of (customer_at tables.new line.customer) ≡ alone.raised
-        (is_up (line_at line.line lines.now).state.session.phase && not was_up) line.line (entry_of (customer_at tables.old line.customer)) }
+/// Whether a line goes up that was up, or not, and is so now.
+fn goes_up(was_up: bool, is_up: bool) -> bool
+    ensures { result ≡ is_up && not was_up }
+{
+    is_up && !was_up
+}
+
+/// Marks a line that goes up.
+fn raise(line: LineId, goes_up: bool, tables: &mut Tables)
+    requires known { line.customer < length tables.old.customers }
+    requires line { HasLine tables.old line }
+    ensures entry { entry_of (customer_at tables.new line.customer)
+        ≡ alone.raised goes_up line.line (entry_of (customer_at tables.old line.customer)) }
     ensures entries { IsRetold line.customer tables.old tables.new }
 {
     marks_change_one_entry();
-    if lines.is_up(line.line) && !was_up {
+    if goes_up {
         tables.set_up(line, true);
     }
 }
@@ -291,7 +298,8 @@ fn end_session(line: LineId, tables: &mut Tables, spool: &mut Spool, lines: &mut
 
 /// The end of a line's session, and behind it the line counts as not up.
 fn close_session(line: LineId, tables: &mut Tables, spool: &mut Spool, lines: &mut CustomerLines)
-    requires known { HasLine tables.old line }
+    requires known { line.customer < length tables.old.customers }
+    requires line { HasLine tables.old line }
     requires spooled { line.customer < length spool.old }
     requires there { line.line < length lines.old }
     ensures { Brings tables.old tables.new line.customer spool.old spool.new lines.new
