@@ -145,18 +145,18 @@ marked_behind tables retold line up old new lines after leads there is own = rec
 
 -- The line table judged what came: the line's state, and its mark where it goes up.
 pub accepted_so :
-    (tables retold : TableFile) (line : LineId) (spools : List CustomerSpool) (old new : List CustomerLine) (came : Input) (was_up now_up : Bool)
+    (tables retold : TableFile) (line : LineId) (spools : List CustomerSpool) (old new : List CustomerLine) (came : Input) (was_up now_up up : Bool)
     → line.line < length old → new ≡ on_line line.line (in_state (after_input came)) old
     → was_up ≡ is_up (line_at line.line old).state.session.phase → now_up ≡ is_up (line_at line.line new).state.session.phase
-    → entry_of (customer_at retold line.customer) ≡ raised (now_up && not was_up) line.line (entry_of (customer_at tables line.customer))
+    → up ≡ (now_up && not was_up) → entry_of (customer_at retold line.customer) ≡ raised up line.line (entry_of (customer_at tables line.customer))
     → customer_of retold line.customer spools new ≡ accepted_on line.line came (customer_of tables line.customer spools old)
-accepted_so tables retold line spools old new came was_up now_up there lines was now entry =
+accepted_so tables retold line spools old new came was_up now_up up there lines was now goes entry =
     let x = line_at line.line old in
     let phase : is_up (line_at line.line new).state.session.phase ≡ is_up (after_input came x.state).session.phase =
     ap (λ ls. is_up (line_at line.line ls).state.session.phase) lines
     ∙ ap (λ y. is_up y.state.session.phase) (get_or-set_same old line.line (in_state (after_input came) x) no_line there) in
     ap (λ e. customer_with e (part line.customer spools) new)
-    (entry ∙ ap₂ (λ n w. raised (n && not w) line.line (entry_of (customer_at tables line.customer))) (now ∙ phase) was)
+    (entry ∙ ap (λ b. raised b line.line (entry_of (customer_at tables line.customer))) (goes ∙ ap₂ (λ n w. n && not w) (now ∙ phase) was))
     ∙ ap (customer_with (raised (goes_up_by line.line came (customer_of tables line.customer spools old)) line.line (entry_of (customer_at tables line.customer))) (part line.customer spools)) lines
 
 -- A good block: its verdict, its records, and what is behind them, where these ended the session or didn't.

@@ -70,8 +70,8 @@ pub data GoesOut (entry : CustomerEntry) (l : ℕ) (line : LineState) (x y : Out
 -- How a step ends that was judged by an entry: the line's session goes on, or it is over, and then the line counts as not up. Of the entry
 -- nothing else is changed.
 pub data Ends (entry : CustomerEntry) (l : ℕ) (x : Outgoing) (after : Customer) : Type 0 where
-  goes_on : outgoing after ≡ x → after.entry ≡ entry → Ends entry l x after
-  over : Over l x (outgoing after) → after.entry ≡ entry_marked l false entry → Ends entry l x after
+  still_on : outgoing after ≡ x → after.entry ≡ entry → Ends entry l x after
+  over_now : Over l x (outgoing after) → after.entry ≡ entry_marked l false entry → Ends entry l x after
 
 -- What a step on line l does by these records: where the line goes up by what came it counts as up from then on. The records act, or none does;
 -- then what goes out, of the line as it was; and at last the line's session goes on or ends.

@@ -190,7 +190,7 @@ fn accept(
 
 /// Whether a line goes up that was up, or not, and is so now.
 fn goes_up(was_up: bool, is_up: bool) -> bool
-    ensures { result ≡ is_up && not was_up }
+    ensures { result ≡ (is_up && not was_up) }
 {
     is_up && !was_up
 }
