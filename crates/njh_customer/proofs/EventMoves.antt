@@ -124,8 +124,11 @@ module _ (frames : FramesDoSo) where
             moves = leads_then (MovesBy c.entry (Records l items)) (outgoing c) (outgoing step.after) (outgoing end)
                 (does_moves_by l (records_in received) items c step (λ i. Contains-append_left (records_in received) later i) does)
                 (leads_as (MovesBy step.after.entry (Records l later)) (MovesBy c.entry (Records l items)) (outgoing step.after) (outgoing end)
-                (λ u v move. (move.0, subst (λ x. Moves x l items u v) (ap (with_marks move.0) entry)
-                (more_records (with_marks move.0 step.after.entry) l later items u v (λ i. Contains-append_right (records_in received) later i) move.1)))
+                (λ u v move. (
+                  move.0,
+                  subst (λ x. Moves x l items u v) (ap (with_marks move.0) entry)
+                      (more_records (with_marks move.0 step.after.entry) l later items u v (λ i. Contains-append_right (records_in received) later i) move.1),
+                ))
                 behind.moves);
           }
 

@@ -14,31 +14,19 @@ use Rattle.njh_bisync.specs.declared.frame.Control.TheVariants as control
 use Rattle.njh_block.specs.Blocks.{Block, Item, all_suspended, read_block, same_fcs}
 use Rattle.njh_block.specs.Writing.{Writing}
 use Rattle.njh_block.specs.declared.fault.BlockFault.{BlockFault}
-use Rattle.njh_header.specs.SignOns.{SignOn}
 use Rattle.njh_spool.specs.CustomerSpool.{CustomerSpool}
 use Rattle.njh_table.specs.Entries.{CustomerEntry}
 use Rattle.njh_table.specs.Keys.{Walked}
 use Rattle.njh_table.specs.NewRoutes.{NewRoute, routes_checked}
 use Rattle.njh_line.specs.declared.Phase.{Phase}
-use Rattle.njh_line.specs.declared.Phase.TheVariants.{Down, Calling, Answered, SentI, Up}
-use Rattle.njh_line.specs.declared.config.Config.{Config}
-use Rattle.njh_line.specs.declared.config.Role.{Role}
-use Rattle.njh_line.specs.declared.config.Role.TheVariants as role
-use Rattle.njh_line.specs.declared.counts.Counted.{Counted}
-use Rattle.njh_line.specs.declared.counts.Counted.TheVariants.{Acts, Repeats, OutOfSequence}
-use Rattle.njh_line.specs.declared.session.Session.{Session}
-use Rattle.njh_line.specs.declared.table.Outcome.{Outcome}
 use Rattle.njh_line.specs.declared.verdict.Reply.{Reply}
 use Rattle.njh_line.specs.declared.verdict.Reply.TheVariants as reply
 use Rattle.njh_line.specs.declared.verdict.Verdict.{Verdict}
-use Rattle.njh_line.specs.Counts.{counted, expected, after_acting}
 use Rattle.njh_line.specs.Laws.{is_up}
 use Rattle.njh_line.specs.LineTable as input
-use Rattle.njh_line.specs.LineTable.{Input, accepted, cell, none, enquiry, ack0, hang_up, end, end_with, end_and_contact, try_with, try_again, try_nak}
-use Rattle.njh_line.specs.LineTable.{with_reply, contact, call, i_block, next_or_turn, next_in_turn, by_count, signed_on, i_sign_on, j_sign_on, act}
+use Rattle.njh_line.specs.LineTable.{Input}
 use Rattle.njh_line.specs.Lines.{LineState, after_end, after_input}
-use Rattle.njh_line.specs.Openings.{First, fitting}
-use Rattle.njh_line.specs.declared.opening.Opening.TheVariants.{Initial, Response}
+use Rattle.njh_line.specs.Up.{InputsKeepUp, KeepsUp}
 use Rattle.njh_customer.specs.declared.signal.Signal.{Signal}
 use Rattle.njh_customer.specs.Customer.{Customer, CustomerLine, IsMarked, no_line, line_at, on_line, in_state, config_of, fresh_customer, quiet_line}
 use Rattle.njh_customer.specs.Acting.{Acted, acted_where}
@@ -53,122 +41,6 @@ use Rattle.njh_customer.specs.Runs.{OwnEvent, OwnBytes, OwnSignal, OwnRoutes, ev
 use Rattle.njh_customer.specs.Laws.{MarksAreRight}
 use Rattle.njh_customer.proofs.KeptLines.{kept, kepts}
 use Rattle.njh_customer.proofs.RecordsMoves.{Acting, acting_where}
-
--- ---- the line table: a line that is up stays so until its session ends, and then it isn't
-
-record Follows (p : Phase) (o : Outcome) : Type 0 where
-  pub over : o.verdict.ended ≡ true → is_up o.session.phase ≡ false
-  pub on : o.verdict.ended ≡ false → is_up p ≡ true → is_up o.session.phase ≡ true
-
-module _ (s : Session) where
-  -- a line that wasn't up
-  low : (o : Outcome) → o.verdict.ended ≡ false → is_up s.phase ≡ false → Follows s.phase o
-  low o e down = record { over = λ over. absurd (cc (sym e ∙ over)); on = λ _ up. absurd (cc (sym down ∙ up)) }
-
-  -- one that is as far as it was
-  as_far : (o : Outcome) → o.verdict.ended ≡ false → o.session.phase ≡ s.phase → Follows s.phase o
-  as_far o e same = record { over = λ over. absurd (cc (sym e ∙ over)); on = λ _ up. ap is_up same ∙ up }
-
-  ends : (o : Outcome) → o.verdict.ended ≡ true → is_up o.session.phase ≡ false → Follows s.phase o
-  ends o e down = record { over = λ _. down; on = λ on. absurd (cc (sym e ∙ on)) }
-
-  tries : (r : Reply) → Follows s.phase (try_with r s)
-  tries r = at (s.tries == 5)
-    where
-      at : (b : Bool) → Follows s.phase (cond b (end s) (with_reply r (record s { tries = s.tries + 1 })))
-      at true = ends (end s) refl refl
-      at false = as_far (with_reply r (record s { tries = s.tries + 1 })) refl refl
-
-  in_turn : Follows s.phase (next_in_turn s)
-  in_turn = at s.has_turn
-    where
-      at : (b : Bool) → Follows s.phase (cond b (with_reply (reply.Next true) s) (try_nak s))
-      at true = as_far (with_reply (reply.Next true) s) refl refl
-      at false = tries (reply.Control control.Nak)
-
-  by_role : (r : Role) → (contact r s).verdict.ended ≡ false
-  by_role role.Call = refl
-  by_role role.Answer = refl
-
-  call_by_role : (r : Role) → (call r s).verdict.ended ≡ false
-  call_by_role role.Call = refl
-  call_by_role role.Answer = refl
-
-  down_by_role : (r : Role) → is_up (end_and_contact r s).session.phase ≡ false
-  down_by_role role.Call = refl
-  down_by_role role.Answer = refl
-
-  signed : (r : Reply) (config : Config) (o : Option SignOn) (t : Session) → (signed_on r config o t).verdict.ended ≡ false
-  signed r config (Some x) t = refl
-  signed r config None t = refl
-
-  by_counts : (bcb : ℕ) (fcs : ℕ × ℕ) (acted : Session → Outcome) → Follows s.phase (acted (after_acting bcb fcs s)) → Follows s.phase (by_count bcb fcs acted s)
-  by_counts bcb fcs acted acts = at (counted s.last_bcb bcb)
-    where
-      at :
-          (n : Counted)
-          → Follows s.phase (elim n [
-            | Acts ↦ acted (after_acting bcb fcs s)
-            | Repeats ↦ try_again s
-            | OutOfSequence ↦ end_with (reply.Sequence (0x80 + expected s.last_bcb)) s
-          ])
-      at Acts = acts
-      at Repeats = tries reply.Again
-      at OutOfSequence = ends (end_with (reply.Sequence (0x80 + expected s.last_bcb)) s) refl refl
-
-  in_row :
-      (down calling answered sent_i up : Outcome) → (is_up s.phase ≡ false → Follows s.phase down) → (is_up s.phase ≡ false → Follows s.phase calling)
-      → (is_up s.phase ≡ false → Follows s.phase answered) → (is_up s.phase ≡ false → Follows s.phase sent_i) → Follows s.phase up
-      → Follows s.phase (cell s.phase down calling answered sent_i up)
-  in_row down calling answered sent_i up d c a i u = at s.phase refl
-    where
-      at : (p : Phase) → s.phase ≡ p → Follows s.phase (cell p down calling answered sent_i up)
-      at Down e = d (ap is_up e)
-      at Calling e = c (ap is_up e)
-      at Answered e = a (ap is_up e)
-      at SentI e = i (ap is_up e)
-      at Up e = u
-
-  tried : Follows s.phase (cell s.phase (none s) (none s) (try_nak s) (try_nak s) (try_nak s))
-  tried =
-      let nak = tries (reply.Control control.Nak) in
-      in_row (none s) (none s) (try_nak s) (try_nak s) (try_nak s) (low (none s) refl) (low (none s) refl) (λ _. nak) (λ _. nak) nak
-
-  hung_up : Follows s.phase (cell s.phase (none s) (hang_up s) (hang_up s) (hang_up s) (end s))
-  hung_up =
-      in_row (none s) (hang_up s) (hang_up s) (hang_up s) (end s) (low (none s) refl) (low (hang_up s) refl) (low (hang_up s) refl) (low (hang_up s) refl)
-      (ends (end s) refl refl)
-
-table_follows : (config : Config) (came : Input) (s : Session) → Follows s.phase (accepted config came s)
-unfolding accepted
-table_follows config input.Enquiry s =
-    in_row s (contact config.role s) (none s) (ack0 s) (none s) (end_and_contact config.role s)
-    (low s (contact config.role s) (by_role s config.role)) (low s (none s) refl) (low s (ack0 s) refl) (low s (none s) refl)
-    (ends s (end_and_contact config.role s) refl (down_by_role s config.role))
-table_follows config input.Ack0 s =
-    in_row s (none s) (i_block s) (none s) (none s) (next_or_turn s) (low s (none s) refl) (low s (i_block s) refl) (low s (none s) refl) (low s (none s) refl)
-    (as_far s (next_or_turn s) refl refl)
-table_follows config input.Nak s =
-    let again = tries s reply.Again in
-    in_row s (none s) (none s) (try_again s) (try_again s) (try_again s) (low s (none s) refl) (low s (none s) refl) (λ _. again) (λ _. again) again
-table_follows config input.Eot s = hung_up s
-table_follows config input.Lost s = hung_up s
-table_follows config (input.Block bcb fcs first) s =
-    let t = after_acting bcb fcs s in
-    in_row s (none s) (none s) (by_count bcb fcs (i_sign_on config first) s) (by_count bcb fcs (j_sign_on config first) s) (by_count bcb fcs act s)
-    (low s (none s) refl) (low s (none s) refl)
-    (λ down. by_counts s bcb fcs (i_sign_on config first)
-    (low s (i_sign_on config first t) (signed s (reply.SignOn Response) config (fitting Initial config first) t) down))
-    (λ down. by_counts s bcb fcs (j_sign_on config first)
-    (low s (j_sign_on config first t) (signed s (reply.Next true) config (fitting Response config first) t) down))
-    (by_counts s bcb fcs act (as_far s (act t) refl refl))
-table_follows config input.Spoiled s = tried s
-table_follows config input.Bad s = tried s
-table_follows config input.Garbled s = tried s
-table_follows config input.Tick s =
-    let nak = tries s (reply.Control control.Nak) in
-    in_row s (call config.role s) (enquiry s) (try_nak s) (try_nak s) (next_in_turn s) (low s (call config.role s) (call_by_role s config.role))
-    (low s (enquiry s) refl) (λ _. nak) (λ _. nak) (in_turn s)
 
 -- ---- which lines are up
 
@@ -239,15 +111,15 @@ marks_on p q l entry us marked has = at (is_up p) (is_up q) has
     at false true e on = ap (λ xs. set xs l true) marked
     at false false e on = stays false e
 
-module _ (l : ℕ) (came : Input) (c : Customer) (marked : IsMarked c) where
+module _ (keep : InputsKeepUp) (l : ℕ) (came : Input) (c : Customer) (marked : IsMarked c) where
   before : Phase
   before = (line_at l c.lines).state.session.phase
 
   after : Phase
   after = (after_input came (line_at l c.lines).state).session.phase
 
-  follows : Follows before (accepted (line_at l c.lines).state.config came (line_at l c.lines).state.session)
-  follows = table_follows (line_at l c.lines).state.config came (line_at l c.lines).state.session
+  keeps : KeepsUp (line_at l c.lines).state.config came (line_at l c.lines).state.session
+  keeps = keep (line_at l c.lines).state.config (line_at l c.lines).state.session came
 
   has_mark : get_or (ups c.lines) l false ≡ is_up before
   has_mark = get_or-map is_line_up c.lines l no_line
@@ -278,11 +150,11 @@ module _ (l : ℕ) (came : Input) (c : Customer) (marked : IsMarked c) where
       at : (b : Bool) → b ≡ (verdict_on l came c).ended → IsMarked (session_over_where b l sent)
       at true e =
           lowered d entry
-          ∙ ap (set (ups c.lines) l) (sym (follows.over (sym e)))
+          ∙ ap (set (ups c.lines) l) (sym (keeps.over (sym e)))
           ∙ sym sent_ups ∙ sym (map-set_same is_line_up sent.lines l (quiet (line_at l sent.lines)) no_line refl)
       at false e =
           ap (λ (x : CustomerEntry). x.up) entry
-          ∙ marks_on before after l c.entry (ups c.lines) marked has_mark (follows.on (sym e))
+          ∙ marks_on before after l c.entry (ups c.lines) marked has_mark (keeps.on (sym e))
           ∙ sym sent_ups
 
   -- a record ended the session
@@ -301,95 +173,96 @@ module _ (l : ℕ) (came : Input) (c : Customer) (marked : IsMarked c) where
 
 -- ---- a frame, and a signal
 
-block_marked : (l : ℕ) (b : Block) (c : Customer) → IsMarked c → IsMarked (block_came l b c).after
-block_marked l b c marked = at a.ended
-  where
-    v : Verdict
-    v = verdict_on l (block_input b) c
+module _ (keep : InputsKeepUp) where
+  block_marked : (l : ℕ) (b : Block) (c : Customer) → IsMarked c → IsMarked (block_came l b c).after
+  block_marked l b c marked = at a.ended
+    where
+      v : Verdict
+      v = verdict_on l (block_input b) c
 
-    a : Acted
-    a = acted_where v.acts l b.items (accepted_on l (block_input b) c)
+      a : Acted
+      a = acted_where v.acts l b.items (accepted_on l (block_input b) c)
 
-    acting : Acting l b.items (accepted_on l (block_input b) c) a.customer
-    acting = acting_where v.acts l b.items (accepted_on l (block_input b) c)
+      acting : Acting l b.items (accepted_on l (block_input b) c) a.customer
+      acting = acting_where v.acts l b.items (accepted_on l (block_input b) c)
 
-    at : (ended : Bool) → IsMarked (behind_records ended l v a.customer).after
-    at true = ended_marked l (block_input b) c marked a.customer acting.entry acting.kept
-    at false = carried_marked l (block_input b) c marked v a.customer acting.entry acting.kept refl
+      at : (ended : Bool) → IsMarked (behind_records ended l v a.customer).after
+      at true = ended_marked keep l (block_input b) c marked a.customer acting.entry acting.kept
+      at false = carried_marked keep l (block_input b) c marked v a.customer acting.entry acting.kept refl
 
-text_marked : (l : ℕ) (text : List ℕ) (c : Customer) → IsMarked c → IsMarked (text_came l text c).after
-text_marked l text c marked = at (read_block text)
-  where
-    at : (b : Result Block BlockFault) → IsMarked (text_read l b c).after
-    at (Ok b) = block_marked l b c marked
-    at (Err e) = input_marked l input.Bad c marked
+  text_marked : (l : ℕ) (text : List ℕ) (c : Customer) → IsMarked c → IsMarked (text_came l text c).after
+  text_marked l text c marked = at (read_block text)
+    where
+      at : (b : Result Block BlockFault) → IsMarked (text_read l b c).after
+      at (Ok b) = block_marked l b c marked
+      at (Err e) = input_marked keep l input.Bad c marked
 
-received_marked : (l : ℕ) (x : Received) (c : Customer) → IsMarked c → IsMarked (received_on l x c).after
-received_marked l frame.Enquiry c marked = input_marked l input.Enquiry c marked
-received_marked l frame.Ack0 c marked = input_marked l input.Ack0 c marked
-received_marked l frame.Nak c marked = input_marked l input.Nak c marked
-received_marked l frame.Eot c marked = input_marked l input.Eot c marked
-received_marked l (frame.Text text) c marked = text_marked l text c marked
-received_marked l frame.Spoiled c marked = input_marked l input.Spoiled c marked
+  received_marked : (l : ℕ) (x : Received) (c : Customer) → IsMarked c → IsMarked (received_on l x c).after
+  received_marked l frame.Enquiry c marked = input_marked keep l input.Enquiry c marked
+  received_marked l frame.Ack0 c marked = input_marked keep l input.Ack0 c marked
+  received_marked l frame.Nak c marked = input_marked keep l input.Nak c marked
+  received_marked l frame.Eot c marked = input_marked keep l input.Eot c marked
+  received_marked l (frame.Text text) c marked = text_marked l text c marked
+  received_marked l frame.Spoiled c marked = input_marked keep l input.Spoiled c marked
 
-where_marked : (b : Bool) (x : Step) (c : Customer) → IsMarked c → IsMarked x.after → IsMarked (cond b x (silent c)).after
-where_marked true x c marked step = step
-where_marked false x c marked step = marked
+  where_marked : (b : Bool) (x : Step) (c : Customer) → IsMarked c → IsMarked x.after → IsMarked (cond b x (silent c)).after
+  where_marked true x c marked step = step
+  where_marked false x c marked step = marked
 
-frame_marked : (l : ℕ) (x : Received) (c : Customer) → IsMarked c → IsMarked (frame_came l x c).after
-unfolding frame_came
-frame_marked l x c marked = where_marked (nat_lt l (length c.lines)) (received_on l x c) c marked (received_marked l x c marked)
+  frame_marked : (l : ℕ) (x : Received) (c : Customer) → IsMarked c → IsMarked (frame_came l x c).after
+  unfolding frame_came
+  frame_marked l x c marked = where_marked (nat_lt l (length c.lines)) (received_on l x c) c marked (received_marked l x c marked)
 
-signal_marked : (l : ℕ) (x : Signal) (c : Customer) → IsMarked c → IsMarked (signal_came l x c).after
-unfolding signal_came
-signal_marked l x c marked =
-    where_marked (nat_lt l (length c.lines)) (input_came l (signal_input x) c) c marked (input_marked l (signal_input x) c marked)
+  signal_marked : (l : ℕ) (x : Signal) (c : Customer) → IsMarked c → IsMarked (signal_came l x c).after
+  unfolding signal_came
+  signal_marked l x c marked =
+      where_marked (nat_lt l (length c.lines)) (input_came l (signal_input x) c) c marked (input_marked keep l (signal_input x) c marked)
 
--- ---- bytes
+  -- ---- bytes
 
-acted_marked : (l : ℕ) (o : Option Received) (c : Customer) → IsMarked c → IsMarked (acted_on l o c).after
-acted_marked l None c marked = marked
-acted_marked l (Some x) c marked = frame_marked l x c marked
+  acted_marked : (l : ℕ) (o : Option Received) (c : Customer) → IsMarked c → IsMarked (acted_on l o c).after
+  acted_marked l None c marked = marked
+  acted_marked l (Some x) c marked = frame_marked l x c marked
 
-run_marked : (rest : Rest) (c : Customer) (l : ℕ) (bytes : List ℕ) → IsMarked c → IsMarked (bytes_run rest c l bytes).after
-run_marked rest c l [] marked = marked
-run_marked rest c l (byte ∷ bytes) marked =
-    let x = byte_step rest c l byte in
-    run_marked x.rest x.after l bytes (acted_marked l (turn rest byte).frame c marked)
+  run_marked : (rest : Rest) (c : Customer) (l : ℕ) (bytes : List ℕ) → IsMarked c → IsMarked (bytes_run rest c l bytes).after
+  run_marked rest c l [] marked = marked
+  run_marked rest c l (byte ∷ bytes) marked =
+      let x = byte_step rest c l byte in
+      run_marked x.rest x.after l bytes (acted_marked l (turn rest byte).frame c marked)
 
-by_sent :
-    (rest : Rest) (d : Customer) (frame : List ℕ) (later : Taking) → IsMarked d → IsMarked later.after
-    → IsMarked (or_later 1 rest (record { after = d; frame = frame }) later).after
-by_sent rest d [] later first second = second
-by_sent rest d (b ∷ frame) later first second = first
+  by_sent :
+      (rest : Rest) (d : Customer) (frame : List ℕ) (later : Taking) → IsMarked d → IsMarked later.after
+      → IsMarked (or_later 1 rest (record { after = d; frame = frame }) later).after
+  by_sent rest d [] later first second = second
+  by_sent rest d (b ∷ frame) later first second = first
 
-take_marked : (rest : Rest) (c : Customer) (l : ℕ) (piece : List ℕ) → IsMarked c → IsMarked (take_step rest c l piece).after
-take_marked rest c l [] marked = marked
-take_marked rest c l (byte ∷ bytes) marked =
-    let x = byte_step rest c l byte in
-    let first = acted_marked l (turn rest byte).frame c marked in
-    by_sent x.rest x.after x.frame (take_step x.rest x.after l bytes) first (take_marked x.rest x.after l bytes first)
+  take_marked : (rest : Rest) (c : Customer) (l : ℕ) (piece : List ℕ) → IsMarked c → IsMarked (take_step rest c l piece).after
+  take_marked rest c l [] marked = marked
+  take_marked rest c l (byte ∷ bytes) marked =
+      let x = byte_step rest c l byte in
+      let first = acted_marked l (turn rest byte).frame c marked in
+      by_sent x.rest x.after x.frame (take_step x.rest x.after l bytes) first (take_marked x.rest x.after l bytes first)
 
--- ---- events
+  -- ---- events
 
-routes_marked : (routes : List NewRoute) (p : Part) → IsMarked p.customer → IsMarked (routes_given routes p).customer
-routes_marked routes p marked = at (routes_checked p.customer.entry routes)
-  where
-    at : (w : Walked (Unit {0})) → IsMarked (taken_where w routes p).customer
-    at (Ok faultless) = marked
-    at (Err fault) = marked
+  routes_marked : (routes : List NewRoute) (p : Part) → IsMarked p.customer → IsMarked (routes_given routes p).customer
+  routes_marked routes p marked = at (routes_checked p.customer.entry routes)
+    where
+      at : (w : Walked (Unit {0})) → IsMarked (taken_where w routes p).customer
+      at (Ok faultless) = marked
+      at (Err fault) = marked
 
-event_marked : (p : Part) (event : OwnEvent) → IsMarked p.customer → IsMarked (event_run p event).after.customer
-event_marked p (OwnBytes l piece) marked = run_marked (rest_on l p) p.customer l piece marked
-event_marked p (OwnSignal signal l) marked = signal_marked l signal p.customer marked
-event_marked p (OwnRoutes routes) marked = routes_marked routes p marked
+  event_marked : (p : Part) (event : OwnEvent) → IsMarked p.customer → IsMarked (event_run p event).after.customer
+  event_marked p (OwnBytes l piece) marked = run_marked (rest_on l p) p.customer l piece marked
+  event_marked p (OwnSignal signal l) marked = signal_marked l signal p.customer marked
+  event_marked p (OwnRoutes routes) marked = routes_marked routes p marked
 
 fresh_marked : (entry : CustomerEntry) → IsMarked (fresh_customer entry)
 fresh_marked entry = sym (map-map is_line_up (λ line. quiet_line (config_of entry line) line.streams) entry.lines)
 
-pub marks_right : MarksAreRight
-marks_right = record {
+pub marks_right : InputsKeepUp → MarksAreRight
+marks_right keep = record {
   fresh = fresh_marked;
-  events = event_marked;
-  takes = λ p l piece marked. take_marked (rest_on l p) p.customer l piece marked;
+  events = event_marked keep;
+  takes = λ p l piece marked. take_marked keep (rest_on l p) p.customer l piece marked;
 }

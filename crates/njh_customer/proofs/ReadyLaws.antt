@@ -91,10 +91,10 @@ pub next_brought :
     → Stays after (customer_of tables line.customer old lines_old) → IsReady retold line new lines_new
 next_brought tables retold line old new lines_old lines_new after ready brings stays = record {
   known = omega (
-      arith,
-      ready.known,
-      ap (λ t. length t.customers) brings.entries,
-      length-set tables.customers line.customer (customer_at retold line.customer),
+    arith,
+    ready.known,
+    ap (λ t. length t.customers) brings.entries,
+    length-set tables.customers line.customer (customer_at retold line.customer),
   );
   spooled = omega (arith, ready.spooled, ap length brings.others, length-set old line.customer (part line.customer new));
   there = omega (arith, ready.there, ap (λ c. length c.lines) brings.customer, stays.lines);

@@ -10,6 +10,7 @@ ghost use Rattle.njh_customer.specs.MovingLaws.{EventsMoveSo, FilesLeaveSo, File
 ghost use Rattle.njh_customer.specs.MovingLaws.{RecordsChangeSo, RoutesDoSo, SignalsDoSo, StreamsMoveSo, TakesMoveSo};
 
 use njh_header::redirected_by_records;
+use njh_line::inputs_keep_up;
 use njh_sched::{
     blocks_carry_files_in_order, nothing_where_all_is_suspended, sources_fill_the_block,
     sources_move_streams_so,
@@ -50,7 +51,9 @@ pub fn events_keep_entries()
 /// The lines that are marked as up are those that are up, when a customer is opened and whatever comes to it.
 pub fn marks_are_right()
     ensures { MarksAreRight }
-{}
+{
+    inputs_keep_up();
+}
 
 /// A customer that was just opened is coherent.
 pub fn opened_is_coherent()

@@ -5,8 +5,8 @@ use Rattle.njh_customer.specs.Leading.{Brings, customer_of}
 use Rattle.njh_customer.proofs.ReadyLaws.{as_brings, brought_on, known_line}
 use Rattle.njh_customer.proofs.customer.carry_out.Goals as goal
 
-pub close_session-requires-line : goal.close_session-requires-line
-close_session-requires-line c = known_line c.args.tables.now c.args.line c.args.spool.now c.args.lines.now c.requires.ready
+pub close_session-requires-clause-line : goal.close_session-requires-clause-line
+close_session-requires-clause-line c = known_line c.args.tables.now c.args.line c.args.spool.now c.args.lines.now c.requires.ready
 
 pub returns-then-verdict-clause-after : goal.returns-then-verdict-clause-after
 returns-then-verdict-clause-after c =
