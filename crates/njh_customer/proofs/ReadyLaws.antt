@@ -1,5 +1,7 @@
 -- A line is ready for what comes next.
-use Rattle.std.proofs.Common.{◌≡◌, ℕ, ◌<◌, Bool, false, ◌&&◌, not, List, [], ◌∷◌, length, drop, slice_get, slice_set, Some, sym, ap, ap₂, subst, ◌∙◌, arith}
+use Rattle.std.proofs.Common.{◌≡◌, ℕ, ◌<◌, Bool, true, false, cond, ◌&&◌, not, List, [], ◌∷◌, length, drop, slice_get, slice_set, nat_lt, Some}
+use Rattle.std.proofs.Common.{refl, sym, ap, ap₂, subst, ◌∙◌, arith}
+use Rattle.std.proofs.lemmas.Bool.{ltb-false}
 use Rattle.std.proofs.lemmas.List.{length-map, length-set, set-set, set-get_or, get_or-set_same}
 use Rattle.njh_spool.specs.CustomerSpool.{CustomerSpool}
 use Rattle.njh_spool.specs.Spools.{part, no_spool}
@@ -12,7 +14,8 @@ use Rattle.njh_line.specs.Lines.{after_input}
 use Rattle.njh_customer.specs.Customer.{Customer, CustomerLine, IsCoherent, customer_with, in_state, line_at, no_line, on_line}
 use Rattle.njh_block.specs.Blocks.{Block, Item}
 use Rattle.njh_line.specs.declared.verdict.Verdict.{Verdict}
-use Rattle.njh_customer.specs.Alone.{accepted_on, behind_records, block_came, block_input, goes_up_by, raised, verdict_on}
+use Rattle.njh_customer.specs.Alone.{Step, accepted_on, behind_records, block_came, block_input, carried_out, goes_up_by, input_came, raised, silent}
+use Rattle.njh_customer.specs.Alone.{verdict_on, where_there}
 use Rattle.njh_customer.specs.Acting.{acted, acted_where, all_acted, ended_or, ends_session}
 use Rattle.njh_customer.specs.Leading.{Brings, Leads, IsReady, IsRetold, customer_of, with_customer}
 use Rattle.njh_customer.proofs.StepLaws.{Stays}
@@ -158,6 +161,34 @@ accepted_so tables retold line spools old new came was_up now_up up there lines 
     ap (λ e. customer_with e (part line.customer spools) new)
     (entry ∙ ap (λ b. raised b line.line (entry_of (customer_at tables line.customer))) (goes ∙ ap₂ (λ n w. n && not w) (now ∙ phase) was))
     ∙ ap (customer_with (raised (goes_up_by line.line came (customer_of tables line.customer spools old)) line.line (entry_of (customer_at tables line.customer))) (part line.customer spools)) lines
+
+-- What comes but a good block: its verdict, and what that asks for.
+pub brought_by_verdict :
+    (tables accepted_tables retold : TableFile) (line : LineId) (old new : List CustomerSpool) (lines lines_accepted lines_new : List CustomerLine)
+    (came : Input) (v : Verdict) → v ≡ verdict_on line.line came (customer_of tables line.customer old lines)
+    → customer_of accepted_tables line.customer old lines_accepted ≡ accepted_on line.line came (customer_of tables line.customer old lines)
+    → IsRetold line.customer tables accepted_tables
+    → Brings accepted_tables retold line.customer old new lines_new (carried_out line.line v (customer_of accepted_tables line.customer old lines_accepted)).after
+    → Brings tables retold line.customer old new lines_new (input_came line.line came (customer_of tables line.customer old lines)).after
+brought_by_verdict tables accepted_tables retold line old new lines lines_accepted lines_new came v verdict accepted entries behind =
+    let l = line.line in
+    let c = customer_of tables line.customer old lines in
+    let d = customer_of accepted_tables line.customer old lines_accepted in
+    let all : Brings tables retold line.customer old new lines_new (carried_out l v d).after = record {
+      customer = behind.customer;
+      others = behind.others;
+      entries = retold_twice tables accepted_tables retold line.customer entries behind.entries;
+    } in
+    subst (λ w. Brings tables retold line.customer old new lines_new (carried_out l w (accepted_on l came c)).after) verdict
+    (subst (λ x. Brings tables retold line.customer old new lines_new (carried_out l v x).after) accepted all)
+
+-- a line that is there takes a step
+pub there_steps : (l : ℕ) (s : Step) (c : Customer) → l < length c.lines → where_there l s c ≡ s
+there_steps l s c there = by (nat_lt l (length c.lines)) refl
+  where
+    by : (b : Bool) → nat_lt l (length c.lines) ≡ b → cond b s (silent c) ≡ s
+    by true e = refl
+    by false e = absurd (omega (arith, ltb-false l (length c.lines) e, there))
 
 -- A good block: its verdict, its records, and what is behind them, where these ended the session or didn't.
 pub brought_by_block :
