@@ -64,17 +64,23 @@ no_block_phase : (or_ack0 : Bool) (x : LineState) → (no_block_sent or_ack0 x).
 no_block_phase true x = refl
 no_block_phase false x = refl
 
+abbrev empty_where : Bool → Bool → Writing → LineState → Sending
+empty_where b or_ack0 w x = elim b [ true ↦ no_block_sent or_ack0 x | false ↦ block_sent w x ]
+
 empty_phase : (or_ack0 : Bool) (w : Writing) (x : LineState) → (empty_sent or_ack0 w x).line.session.phase ≡ x.session.phase
 empty_phase or_ack0 w x = at (all_suspended x.session.peer_fcs || same_fcs w.fcs x.session.own_fcs)
   where
-    at : (b : Bool) → (elim b [ true ↦ no_block_sent or_ack0 x | false ↦ block_sent w x ]).line.session.phase ≡ x.session.phase
+    at : (b : Bool) → (empty_where b or_ack0 w x).line.session.phase ≡ x.session.phase
     at true = no_block_phase or_ack0 x
     at false = refl
+
+abbrev written_where : Bool → Writing → LineState → List Item → Sending
+written_where or_ack0 w x is = elim is [ [] ↦ empty_sent or_ack0 w x | i ∷ js ↦ block_sent w x ]
 
 written_phase : (or_ack0 : Bool) (w : Writing) (x : LineState) → (written_sent or_ack0 w x).line.session.phase ≡ x.session.phase
 written_phase or_ack0 w x = at w.items
   where
-    at : (is : List Item) → (elim is [ [] ↦ empty_sent or_ack0 w x | i ∷ js ↦ block_sent w x ]).line.session.phase ≡ x.session.phase
+    at : (is : List Item) → (written_where or_ack0 w x is).line.session.phase ≡ x.session.phase
     at [] = empty_phase or_ack0 w x
     at (i ∷ is) = refl
 

@@ -1,4 +1,4 @@
 pub mod CountLaws
 pub mod RowLaws
 pub mod TableLaws
-mod UpLaws
+pub mod UpLaws

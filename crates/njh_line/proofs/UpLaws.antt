@@ -19,7 +19,7 @@ use Rattle.njh_line.specs.Laws.{is_up}
 use Rattle.njh_line.specs.LineTable as input
 use Rattle.njh_line.specs.LineTable.{Input, accepted, cell, none, enquiry, ack0, hang_up, end, end_with, end_and_contact, try_with, try_again, try_nak}
 use Rattle.njh_line.specs.LineTable.{with_reply, contact, call, i_block, next_or_turn, next_in_turn, by_count, signed_on, i_sign_on, j_sign_on, act}
-use Rattle.njh_line.specs.Openings.{First, fitting}
+use Rattle.njh_line.specs.Openings.{fitting}
 use Rattle.njh_line.specs.Up.{InputsKeepUp}
 
 record Follows (p : Phase) (o : Outcome) : Type 0 where
