@@ -23,8 +23,6 @@ TOP = os.path.dirname(os.path.dirname(os.path.abspath(__file__)))
 
 RUNS = os.path.join(TOP, "crates", "tests_runs", "data")
 
-HOSTILE = os.path.join(TOP, "crates", "tests_hostile", "data")
-
 # Each script with its folder and its table file, if it has one: a sign-on; two contacts and a command; a file that goes out; one
 # whose customer has little room left; one that comes in, is listed, rerouted and sent back.
 SCRIPTS = [
@@ -32,7 +30,7 @@ SCRIPTS = [
     (RUNS, "contacts_and_list", None),
     (RUNS, "file_goes_out", "two_networks.toml"),
     (RUNS, "little_room", "quota_of_sixteen.toml"),
-    (HOSTILE, "taken_in_and_sent_back", "two_networks.toml"),
+    (RUNS, "taken_in_and_sent_back", "two_networks.toml"),
 ]
 
 NO_MEMORY = (b"njehub: U3 Memory\n", b"njehub: K9 Memory\n")

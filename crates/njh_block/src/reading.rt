@@ -7,7 +7,7 @@ ghost use Rattle.njh_block.specs.Shown.{first_shown, general_at, contents_after}
 
 use crate::fault::BlockFault;
 use crate::item::Item;
-use crate::rcb::{Form, GENERAL, OWN_ZERO, Rcb};
+use crate::rcb::{END, Form, GENERAL, OWN_ZERO, Rcb};
 use njh_record::{End, Record, RecordFault, one_reading, reads_spellings, unspell};
 
 /// A record, and the bytes behind it.
@@ -45,6 +45,8 @@ fn read_spelled<'a>(
 }
 
 /// A record by its RCB, the byte behind it, and what follows the two.
+// It stands apart, so that the end of a block is found without a call.
+#[inline(never)]
 fn read_formed<'a>(
     rcb: Rcb,
     srcb: u8,
@@ -67,6 +69,7 @@ fn read_formed<'a>(
 
 /// The record at the front of the bytes behind a function control sequence; none where the block ends. A record other than `Data`
 /// leaves `contents` empty.
+#[inline(always)]
 pub(crate) fn read_first<'a>(
     bytes: &'a [u8],
     contents: &mut Record,
@@ -88,6 +91,17 @@ pub(crate) fn read_first<'a>(
 
 /// Whether the bytes behind a function control sequence are whole records up to their end, or the first fault from the left.
 pub(crate) fn check_records(bytes: &[u8]) -> Result<(), BlockFault>
+    ensures { MatchResult result (λ _. IsOk (items_in bytes.now)) (λ e. items_in bytes.now ≡ Err e) }
+{
+    match bytes {
+        // A block without records needs no room for one.
+        [END] => Ok(()),
+        _ => check_each(bytes),
+    }
+}
+
+/// The same, record by record.
+fn check_each(bytes: &[u8]) -> Result<(), BlockFault>
     ensures { MatchResult result (λ _. IsOk (items_in bytes.now)) (λ e. items_in bytes.now ≡ Err e) }
 {
     let mut contents = Record::new();

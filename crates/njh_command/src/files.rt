@@ -5,13 +5,13 @@
 ghost use Rattle.std.specs.Prelude.{◌≡◌, ◌+◌, ◌<◌, ◌≤◌, ℕ, length, slice_set, slice_get, slice_index_or, Some, IsSomeAnd};
 ghost use Rattle.njh_record.specs.Bytes.{with_field};
 ghost use Rattle.njh_spool.specs.CustomerSpool.{WholeFile, whole_numbered, on_file, removed, at_index, rewritten_record};
+ghost use Rattle.njh_spool.specs.Headers.{summary};
 ghost use Rattle.njh_spool.specs.Spools.{part};
 ghost use Rattle.njh_command.specs.Commands as commands;
 ghost use Rattle.njh_command.specs.Files.{file_at, with_file, with_records, without};
 
 use njh_record::{Kind, Record};
-use njh_spool::{FileId, Spool, State};
-use njh_stream::SpoolFile;
+use njh_spool::{FileId, FileSummary, Spool, State};
 
 /// The number of the file at a place, which is no other file's.
 pub fn number_of(spool: &Spool, customer: u16, index: u32) -> FileId
@@ -55,14 +55,13 @@ pub(crate) fn count_records(spool: &Spool, customer: u16, index: u32) -> u32
     spool.records(customer, file).unwrap_or(0)
 }
 
-/// The file as the list of its records.
-pub(crate) fn records_of(spool: &Spool, customer: u16, index: u32) -> SpoolFile<'_>
+/// What is known of the file without a look at its records.
+pub(crate) fn summary_of(spool: &Spool, customer: u16, index: u32) -> FileSummary
     requires range { customer < length spool.now }
     requires within { index < length (part customer spool.now).whole }
-    ensures { result ≡ (file_at index (part customer spool.now)).records }
+    ensures { result ≡ summary (file_at index (part customer spool.now)) }
 {
-    let file = number_of(spool, customer, index);
-    SpoolFile::of(spool, customer, file)
+    spool.summary_at(customer, index)
 }
 
 /// Puts the bytes of the file's n-th record in place of what `into` held, and gives its SRCB. The next record is read on from there.

@@ -1,6 +1,6 @@
 //! The texts of the replies.
 
-ghost use Rattle.std.specs.Prelude.{◌≡◌, ◌+◌, ◌≤◌, ◌++◌, length, Some};
+ghost use Rattle.std.specs.Prelude.{◌≡◌, ◌+◌, ◌≤◌, ◌++◌, length};
 ghost use Rattle.njh_ebcdic.specs.Names.{trimmed};
 ghost use Rattle.njh_command.specs.Replies as replies;
 
@@ -9,7 +9,7 @@ use njh_header::{
     Destination, FileName, MessageText, push_ascii, push_digits, push_file_name, push_trimmed,
 };
 use njh_record::{Kind, put_bytes};
-use njh_spool::State;
+use njh_spool::{FileSummary, State};
 
 /// NJH002: so many files.
 pub(crate) fn files_line(count: u32) -> MessageText
@@ -104,20 +104,21 @@ pub(crate) fn being_sent(name: FileName) -> MessageText
 }
 
 /// NJH001: a file by its name, destination, kind, number of records and state.
-pub(crate) fn file_line(
-    name: FileName,
-    destination: Option<Destination>,
-    kind: Kind,
-    records: u32,
-    state: State,
-) -> MessageText
-    ensures { result.items ≡ replies.line_of (Some name) destination kind records state }
+pub(crate) fn file_line(file: &FileSummary) -> MessageText
+    ensures { result.items ≡ replies.line_of file.now.headers.name file.now.headers.destination file.now.kind file.now.records
+        file.now.state }
 {
     let mut text = MessageText::new();
     push_ascii(&mut text, "NJH001 ");
     put_bytes(
         &mut text,
-        &file_text(Some(name), destination, kind, records, state),
+        &file_text(
+            file.headers.name,
+            file.headers.destination,
+            file.kind,
+            file.records,
+            file.state,
+        ),
     );
     text
 }

@@ -43,7 +43,7 @@ fn arrive(
     let step = receiver.step(arrival, stream, line, tables, spool);
     lines.set_receiver(line.line, stream, receiver);
     lines.push_answer(line.line, step.answer);
-    lines.notify(tables.customer(line.customer), step.notice);
+    lines.notify(tables.customer(line.customer), &step.notice);
 }
 
 /// An arrival on a stream, where the RCB names one of the line.

@@ -179,7 +179,7 @@ impl CustomerLine {
             Reply::Nothing => out.clear(),
             Reply::Control(control) => send_control(&mut self.line, control, out),
             Reply::Again => send_again(&mut self.line, out),
-            Reply::SignOn(kind) => send_opening(&mut self.line, kind, out),
+            Reply::SignOn(kind) => send_opening(&mut self.line, kind, block, out),
             Reply::Sequence { expected } => {
                 let fcs = own_fcs(line.customer, spool, tables);
                 send_sequence(&mut self.line, expected, fcs, block, out);

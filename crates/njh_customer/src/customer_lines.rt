@@ -224,8 +224,8 @@ impl CustomerLines {
     }
 
     /// The owner of a file is told, if there is something to say.
-    pub(crate) fn notify(&mut self, customer: &Customer, notice: Option<Notice>)
-        ensures { self.new ≡ notified (entry_of customer.now) notice self.old }
+    pub(crate) fn notify(&mut self, customer: &Customer, notice: &Option<Notice>)
+        ensures { self.new ≡ notified (entry_of customer.now) notice.now self.old }
     {
         if let Some(notice) = notice {
             self.say(customer, notice.node, notice.user, &notice.text);

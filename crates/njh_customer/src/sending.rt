@@ -30,12 +30,18 @@ pub(crate) fn send_again(line: &mut Line, out: &mut FrameBuffer)
     line.sent(&Sent::Again);
 }
 
-/// Sends the I or the J block.
-pub(crate) fn send_opening(line: &mut Line, kind: Opening, out: &mut FrameBuffer)
+/// Sends the I or the J block. `block` is room for it.
+pub(crate) fn send_opening(
+    line: &mut Line,
+    kind: Opening,
+    block: &mut BlockWriter,
+    out: &mut FrameBuffer,
+)
     ensures line { line.new ≡ (sending.opening_sent kind line.old).line }
     ensures frame { out.new ≡ (sending.opening_sent kind line.old).frame }
 {
-    out.set_text(&line.config().opening(kind));
+    line.config().write_opening(kind, block);
+    out.set_text(block.text());
     line.sent(&Sent::Frame(out.bytes()));
 }
 

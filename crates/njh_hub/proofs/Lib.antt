@@ -4,6 +4,7 @@ pub mod PieceLaws
 pub mod RunLaws
 pub mod OrderLaws
 pub mod RunningLaws
+pub mod NamedLaws
 pub mod WireLaws
 pub mod TurnLaws
 pub mod RoundLaws

@@ -1,36 +1,30 @@
 -- A run in the middle: what has happened, and what the sink took of it.
 use Rattle.std.proofs.Common.{◌≡◌, ℕ, zero, suc, ◌+◌, ◌<◌, ◌≤◌, List, [], ◌∷◌, ◌++◌, length, take, drop, set, get_or}
-use Rattle.std.proofs.Common.{Option, None, Some, Ok, refl, ap, sym, subst, ◌∙◌, ⊎_elim, arith, append_assoc, append-nil, inl, inr}
+use Rattle.std.proofs.Common.{Option, Some, Ok, refl, ap, sym, ◌∙◌, ⊎_elim, arith, append_assoc, append-nil, inl, inr}
 use Rattle.std.proofs.Common.{◌⊎◌}
-use Rattle.std.proofs.lemmas.List.{get_or_past, length-set, length-append, take_all, take_more}
+use Rattle.std.proofs.lemmas.List.{get_or_past, length-append, take_all, take_more}
 use Rattle.std.proofs.lemmas.Option.{slice_get-get_or}
-use Rattle.std.proofs.lemmas.List.Elements.{All-push, All-same}
-use Rattle.std.specs.Prelude.{All, IsSome, IsSomeAnd, slice_get}
 use Rattle.std.proofs.lemmas.Bool.{cases_lt}
 use Rattle.std.proofs.Math.Seq.{take-add}
 use Rattle.njh_table.specs.declared.LineId.{LineId}
 use Rattle.njh_table.specs.Keys.{Walked}
-use Rattle.njh_table.specs.NewRoutes.{NewRoute, own_routes, routes_checked, taken_routes}
+use Rattle.njh_table.specs.NewRoutes.{own_routes, routes_checked, taken_routes}
 use Rattle.njh_table.specs.declared.new_routes.RouteEntry.{RouteEntry}
 use Rattle.njh_hub.specs.declared.event.Event.{Event}
 use Rattle.njh_hub.specs.declared.event.Event.TheVariants.{Bytes, Tick, Garbled, Lost, Routes}
 use Rattle.njh_customer.specs.Feeding.{sent_on}
-use Rattle.njh_customer.specs.Laws.{EventsKeepFaults, NoBytesDoNothing, StepsFollowBytes}
+use Rattle.njh_customer.specs.Laws.{NoBytesDoNothing, StepsFollowBytes}
 use Rattle.njh_customer.specs.declared.signal.Signal.{Signal}
 use Rattle.njh_customer.specs.declared.signal.Signal.TheVariants as signal
 use Rattle.njh_customer.specs.NewRoutes.{routes_taken, taken_where}
 use Rattle.njh_customer.specs.Part.{bytes_taken, signal_taken}
-use Rattle.njh_customer.specs.Runs.{OwnEvent, alone_run, event_run}
-use Rattle.njh_hub.specs.Own.{customer_of, line_of, routes_of, event_by, own, events_of, first_bytes, first_of}
+use Rattle.njh_hub.specs.Own.{line_of, event_by, first_bytes, first_of}
 use Rattle.njh_hub.specs.declared.fault.Cause.{Cause}
 use Rattle.njh_hub.specs.declared.fault.Cause.TheVariants.{Hub, Sink}
-use Rattle.njh_hub.specs.declared.fault.HubFault.{HubFault}
-use Rattle.njh_hub.specs.declared.fault.HubFault.TheVariants.{UnknownLine, UnknownCustomer, Memory, BadRoutes}
 use Rattle.njh_hub.specs.declared.fault.RunFault.{RunFault}
-use Rattle.njh_hub.specs.Stops.{HandedUntil, IfHub, IsRefused, IsRoutes, IsWithinOne}
-use Rattle.njh_hub.specs.Whole.{Part, no_part, part, HasLine, IsNamed, SameLines, sent_by, HubRun, hub_event, hub_run}
+use Rattle.njh_hub.specs.Stops.{HandedUntil, IsWithinOne}
+use Rattle.njh_hub.specs.Whole.{Part, no_part, part, HasLine, IsNamed, sent_by, HubRun, hub_event, hub_run}
 use Rattle.njh_hub.specs.Sent.{IsCounted}
-use Rattle.njh_hub.proofs.RunLaws.{each_is_alone}
 use Rattle.njh_hub.proofs.PieceLaws.{after_bytes, after_bytes-none, after_bytes-step}
 
 -- a customer with a line is there
@@ -151,22 +145,6 @@ first_of-later events i n bytes event within found stop =
     ∙ ap (λ (k : ℕ). take i events ++ first_of (event ∷ []) n k) (sym w.1))
     stop
 
--- why a step on a line is refused
-pub step-refused : (parts : List Part) (event : Event) (line : LineId) → line_of event ≡ Some line →
-    (HasLine parts line → IsNamed parts event) → (why : HubFault) → ((HasLine parts line → ⊥) → why ≡ UnknownLine) →
-    (HasLine parts line → why ≡ Memory) → IsRefused parts event why
-step-refused parts event line on named UnknownLine unknown memory =
-    let never : HasLine parts line → ⊥ = λ known. cc (memory known) in
-    subst (λ (o : Option LineId). IsSomeAnd o (λ l. HasLine parts l → ⊥)) (sym on) never
-step-refused parts event line on named UnknownCustomer unknown memory =
-    let never : HasLine parts line → ⊥ = λ known. cc (memory known) in cc (unknown never)
-step-refused parts event line on named (BadRoutes cause) unknown memory =
-    let never : HasLine parts line → ⊥ = λ known. cc (memory known) in cc (unknown never)
-step-refused parts event line on named Memory unknown memory =
-    ⊎_elim named (λ (w : length (part line.customer parts).customer.lines ≤ line.line). absurd (let never : HasLine parts line →
-    ⊥ = λ known. omega arith in cc (unknown never)))
-    (cases_lt line.line (length (part line.customer parts).customer.lines))
-
 -- What a sink took before, and then up to a stop.
 pub HandedUntil-after : {S : Type 0} (took : S → S → List (LineId × List ℕ) → Type 0) (refused : S → S → LineId × List ℕ → Type 0)
     (cause : Cause) (a b c : S) (xs ys : List (LineId × List ℕ)) →
@@ -212,107 +190,6 @@ went_on start now events k event within found here =
     ap (hub_run start) (take_more events k event within ∙ ap (λ (x : Event). take k events ++ x ∷ []) (sym found))
     ∙ hub_run-append start (take k events) (event ∷ [])
     ∙ ap (λ (ps : List Part). later_than ps (hub_run start (take k events)).sent (event ∷ [])) (sym here)
-
--- a hub keeps its customers over a run
-pub hub_run-length : (parts : List Part) (events : List Event) → length (hub_run parts events).parts ≡ length parts
-hub_run-length parts [] = refl
-hub_run-length parts (event ∷ events) =
-    let c = customer_of event in
-    let after = (event_run (part c parts) (own event)).after in
-    hub_run-length (set parts c after) events ∙ length-set parts c after
-
-alone_run-checked : EventsKeepFaults → (p : Part) (events : List OwnEvent) (routes : List NewRoute) →
-    routes_checked (alone_run p events).after.customer.entry routes ≡ routes_checked p.customer.entry routes
-alone_run-checked kept p [] routes = refl
-alone_run-checked kept p (event ∷ events) routes = alone_run-checked kept (event_run p event).after events routes ∙ kept p event routes
-
--- A hub that some events led on has the same lines and customers, and refuses the same routes.
-pub record LedOn (start now : List Part) : Type 0 where
-  pub many : length now ≡ length start
-  pub lines : SameLines start now
-  pub checked : (c : ℕ) → c < length start → (routes : List NewRoute)
-      → routes_checked (part c now).customer.entry routes ≡ routes_checked (part c start).customer.entry routes
-
-pub led_on : EventsKeepFaults → (start now : List Part) (events : List Event) → now ≡ (hub_run start events).parts → SameLines start now
-    → LedOn start now
-led_on kept start now events leads same = record {
-  many = ap (λ (ps : List Part). length ps) leads ∙ hub_run-length start events;
-  lines = same;
-  checked = λ c there routes. ap (λ (ps : List Part). routes_checked (part c ps).customer.entry routes) leads
-      ∙ ap (λ (p : Part). routes_checked p.customer.entry routes) (each_is_alone c start events there).after
-      ∙ alone_run-checked kept (part c start) (events_of c events) routes;
-}
-
--- so it names what it named before, and refuses what it refused
-pub named-before : (start now : List Part) → LedOn start now → (event : Event) → IsNamed now event → IsNamed start event
-named-before start now on (Bytes line piece) known = omega (arith, known, on.lines line.customer)
-named-before start now on (Tick line) known = omega (arith, known, on.lines line.customer)
-named-before start now on (Garbled line) known = omega (arith, known, on.lines line.customer)
-named-before start now on (Lost line) known = omega (arith, known, on.lines line.customer)
-named-before start now on (Routes c routes) known =
-    let there : c < length start = omega (arith, known.0, on.many) in (there, sym (on.checked c there (own_routes c routes)) ∙ known.1)
-
-IsSomeAnd-weaker : {X : Type 0} (P Q : X → Type 0) → ((x : X) → P x → Q x) → (o : Option X) → IsSomeAnd o P → IsSomeAnd o Q
-IsSomeAnd-weaker P Q weaker None is = is
-IsSomeAnd-weaker P Q weaker (Some x) is = weaker x is
-
-pub refused-before : (start now : List Part) → LedOn start now → (event : Event) (why : HubFault) → IsRefused now event why →
-    IsRefused start event why
-refused-before start now on event UnknownLine refused = IsSomeAnd-weaker _ _
-    (λ line nowhere known. nowhere (omega (arith, known, on.lines line.customer))) (line_of event) refused
-refused-before start now on event UnknownCustomer refused = IsSomeAnd-weaker _ _
-    (λ given nowhere there. nowhere (omega (arith, there, on.many))) (routes_of event) refused
-refused-before start now on event (BadRoutes cause) refused = IsSomeAnd-weaker _ _
-    (λ given bad. let there : given.0 < length start = omega (arith, bad.0, on.many) in
-    (there, sym (on.checked given.0 there (own_routes given.0 given.1)) ∙ bad.1)) (routes_of event) refused
-refused-before start now on event Memory refused = named-before start now on event refused
-
--- an event comes on a line or gives routes
-pub either_event : (event : Event) → IsSome (line_of event) ⊎ IsRoutes event
-either_event (Bytes line piece) = inl refl
-either_event (Tick line) = inl refl
-either_event (Garbled line) = inl refl
-either_event (Lost line) = inl refl
-either_event (Routes c routes) = inr refl
-
--- of one event more
-pub All-more : (P : Event → Type 0) (events : List Event) (i : ℕ) (event : Event) → i < length events → event ≡ get_or events i event →
-    All P (take i events) → P event → All P (take (i + 1) events)
-All-more P events i event within found before here = All-same P _ _
-    (take_more events i event within ∙ ap (λ (x : Event). take i events ++ x ∷ []) (sym found))
-    (All-push P (take i events) event before here)
-
--- the event at which a run stopped
-pub found_at : (events : List Event) (i n : ℕ) (event : Event) → i < length events → event ≡ get_or events i event → n ≡ 0 →
-    slice_get events (i + n) ≡ Some event
-found_at events i n event within found here =
-    let e : i + n ≡ i = omega arith in
-    ap (slice_get events) e ∙ slice_get-get_or events i event within ∙ ap Some (sym found)
-
-IfHub-weaker : (P Q : HubFault → Type 0) → ((why : HubFault) → P why → Q why) → (cause : Cause) → IfHub cause P → IfHub cause Q
-IfHub-weaker P Q weaker (Hub why) is = weaker why is
-IfHub-weaker P Q weaker Sink is = tt
-
--- it is refused, where the hub is the cause
-pub refused_at : (start now : List Part) → LedOn start now → (events : List Event) (i n : ℕ) (event : Event) → i < length events →
-    event ≡ get_or events i event → (cause : Cause) → IfHub cause (λ why. (n ≡ 0) × IsRefused now event why) →
-    IfHub cause (λ why. IsSomeAnd (slice_get events (i + n)) (λ e. IsRefused start e why))
-refused_at start now on events i n event within found cause stopped = IfHub-weaker _ _
-    (λ why told. subst (λ (o : Option Event). IsSomeAnd o (λ e. IsRefused start e why)) (sym (found_at events i n event within found told.0))
-    (refused-before start now on event why told.1)) cause stopped
-
--- every event before a stop within the next one, or right after it, was named
-pub behind-known : (start : List Part) (events : List Event) (i n bytes : ℕ) (event : Event) → i < length events → event
-    ≡ get_or events i event →
-    ((n ≡ 0) ⊎ ((n ≡ 1) × (bytes ≡ 0))) → (n ≡ 1 → IsNamed start event) →
-    All (IsNamed start) (take i events) → All (IsNamed start) (take (i + n) events)
-behind-known start events i n bytes event within found stop behind known =
-    let P : ℕ → Type 0 = λ k. All (IsNamed start) (take k events) in
-    ⊎_elim (λ (w : n ≡ 0). subst P (omega arith) known)
-    (λ (w : (n ≡ 1) × (bytes ≡ 0)).
-    let more : P (i + 1) = All-more (IsNamed start) events i event within found known (behind w.0) in
-    subst P (omega (arith, w.0)) more)
-    stop
 
 -- the event of a signal on a line
 pub line-event_by : (s : Signal) (line : LineId) → line_of (event_by s line) ≡ Some line

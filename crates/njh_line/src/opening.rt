@@ -1,6 +1,7 @@
 //! The sign-ons of a session (IBM SC23-0070, "I and J control records").
 
 ghost use Rattle.std.specs.Prelude.{◌≡◌, ◌≤◌, ◌<◌, IfSome};
+ghost use Rattle.njh_block.specs.Blocks.{text_of};
 ghost use Rattle.njh_line.specs.Openings.{fits, fitting, is_password, opening, own_sign_on, shown_first, srcb_of};
 
 use crate::config::Config;
@@ -59,15 +60,24 @@ impl Config {
     pub fn opening(&self, kind: Opening) -> BlockText
         ensures { result.items ≡ opening kind self.now }
     {
+        let size = usize::from(LEAST_SIZE);
+        let mut block = BlockWriter::new(size, Bcb::setting(0), Fcs::nothing_suspended());
+        self.write_opening(kind, &mut block);
+        block.finish()
+    }
+
+    /// Writes that block in place of what a writer held.
+    pub fn write_opening(&self, kind: Opening, block: &mut BlockWriter)
+        ensures { text_of block.new.bcb block.new.fcs block.new.items ≡ opening kind self.now }
+    {
         let mut sign_on = ArrayVec::new();
         self.sign_on().write(&mut sign_on);
         let size = usize::from(LEAST_SIZE);
-        let mut block = BlockWriter::new(size, Bcb::setting(0), Fcs::nothing_suspended());
+        block.restart(size, Bcb::setting(0), Fcs::nothing_suspended());
         block.add(Out::General {
             srcb: kind.srcb(),
             bytes: &sign_on,
         });
-        block.finish()
     }
 
     fn sign_on(&self) -> SignOn

@@ -1,32 +1,27 @@
 -- The first line of a text, and the lines behind it.
-use Rattle.std.proofs.Common.{◌≡◌, ℕ, suc, ◌+◌, ◌<◌, ◌≤◌, ◌==◌, not, false, List, [], ◌∷◌, ◌++◌, length, get_or, take, drop}
-use Rattle.std.proofs.Common.{sym, ap, ◌∙◌, arith, zero-add}
-use Rattle.std.specs.Prelude.{All}
-use Rattle.std.specs.List.{AllWithin}
-use Rattle.std.proofs.lemmas.List.{take-append-drop, take_all, length-take-le, length-drop, drop_more}
-use Rattle.std.proofs.lemmas.List.Sums.{fails_before_first, prefix_len-le-length}
+use Rattle.std.proofs.Common.{◌≡◌, ℕ, ◌+◌, ◌<◌, ◌≤◌, ◌==◌, not, List, [], ◌∷◌, Option, Some, None, length, get_or, take, drop}
+use Rattle.std.proofs.Common.{sym, ap, ◌∙◌, arith}
+use Rattle.std.specs.Prelude.{unwrap_or}
+use Rattle.std.proofs.lemmas.Bool.{false_from_ne_true}
+use Rattle.std.proofs.lemmas.List.{take_all, length-drop, drop_more}
+use Rattle.std.proofs.lemmas.List.Sums.{fails_before_first, position_or_len_is, prefix_len-le-length}
 use Rattle.std.proofs.lemmas.List.Splits.{slice_split_none, slice_split_first}
+use Rattle.memchr.specs.Find.{IsFirstByte, is_byte}
 use Rattle.njh_program.specs.Script.{lines_of}
 use Rattle.njh_program.specs.Found.{line_len}
 
 pub line_len_within : (text : List ℕ) → line_len text ≤ length text
 line_len_within text = prefix_len-le-length (λ b. not (b == 10)) text
 
--- bytes that end no line, before others
-line_len-append : (run more : List ℕ) → All (λ b. (b == 10) ≡ false) run → line_len (run ++ more) ≡ length run + line_len more
-line_len-append [] more none = sym (zero-add (line_len more))
-line_len-append (b ∷ run) more none =
-    let sum : 1 + (length run + line_len more) ≡ length (b ∷ run) + line_len more = omega arith in
-    rw (none 0 0 (omega arith))
-    (ap (λ n. 1 + n) (line_len-append run more (λ k d below. none (suc k) d (omega arith))) ∙ sum)
-
-pub line_len-group : (n : ℕ) (text : List ℕ) → n ≤ length text → AllWithin (λ b. (b == 10) ≡ false) (take n text) 0 n
-    → line_len text ≡ n + line_len (drop n text)
-line_len-group n text within none =
-    let size = length-take-le n text within in
-    ap line_len (sym (take-append-drop n text))
-    ∙ (line_len-append (take n text) (drop n text) (λ k d below. none k d (omega arith) (omega arith))
-    ∙ ap (λ m. m + line_len (drop n text)) size)
+-- where a search for the end of a line found it, or all where it found none
+pub line_len_found : (text : List ℕ) (found : Option ℕ) → IsFirstByte (is_byte 10) text found → unwrap_or found (length text) ≡ line_len text
+line_len_found text None nowhere =
+    sym (position_or_len_is (λ b. b == 10) text (length text) 0 (omega arith)
+    (λ k below. false_from_ne_true (get_or text k 0 == 10) (nowhere k (omega arith) below)) (λ past. absurd (omega arith)))
+line_len_found text (Some n) first =
+    let before = first.0 in
+    sym (position_or_len_is (λ b. b == 10) text n 0 (omega (arith, before.high))
+    (λ k below. false_from_ne_true (get_or text k 0 == 10) (before.before k (omega arith) below)) (λ within. first.1))
 
 -- the last line, and one with others behind it
 pub lines_of-last : (text : List ℕ) → length text ≤ line_len text → lines_of text ≡ take (line_len text) text ∷ []

@@ -3,6 +3,7 @@ mod FileLaws
 mod FoundLines
 mod LineForms
 mod Lines
+mod Parting
 mod PrintedParts
 mod Printing
 mod ReplayLaws

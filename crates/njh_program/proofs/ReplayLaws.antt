@@ -1,28 +1,33 @@
 -- A hub that was just opened on tables, a run of it over a script, and what is printed.
-use Rattle.std.proofs.Common.{◌≡◌, ℕ, zero, suc, List, [], ◌∷◌, ◌++◌, length, map, get_or, Option, Some, None, refl}
+use Rattle.std.proofs.Common.{◌≡◌, ◌<◌, ℕ, zero, suc, List, [], ◌∷◌, ◌++◌, length, map, get_or, take, Option, Some, None, ◌⊎◌, inl, inr, refl}
 use Rattle.std.proofs.Common.{sym, ap, subst, ◌∙◌, append-nil, arith}
 use Rattle.std.specs.Prelude.{All, IsSomeAnd, OnOk, Result, Ok, Err, slice_get}
 use Rattle.std.specs.Io.KnownBytes.{Appends, Keeps}
 use Rattle.std.proofs.lemmas.List.{length-map}
 use Rattle.std.proofs.lemmas.Option.{slice_get_within, get_or_from_slice_get}
 use Rattle.njh_table.specs.declared.LineId.{LineId}
+use Rattle.njh_table.specs.declared.fault.TableFault.{TableFault}
+use Rattle.njh_table.specs.Entries.{CustomerEntry}
+use Rattle.njh_table.specs.NewRoutes.{own_routes, routes_checked}
 use Rattle.njh_table.specs.TableFile.{TableFile, NamedCustomer, NamedLine, no_customer, customer_at, entry_of, HasLine}
 use Rattle.njh_hub.specs.declared.event.Event.{Event}
+use Rattle.njh_hub.specs.declared.event.Event.TheVariants.{Bytes, Tick, Garbled, Lost, Routes}
 use Rattle.njh_hub.specs.declared.fault.Cause.{Cause}
 use Rattle.njh_hub.specs.declared.fault.Cause.TheVariants as cause
 use Rattle.njh_hub.specs.declared.fault.HubFault.{HubFault}
 use Rattle.njh_hub.specs.declared.fault.HubFault.TheVariants.{UnknownLine, UnknownCustomer, Memory, BadRoutes}
-use Rattle.njh_hub.specs.Own.{line_of}
+use Rattle.njh_hub.specs.Own.{first_of}
 use Rattle.njh_hub.specs.Parts.{entries_of}
 use Rattle.njh_hub.specs.Whole.{Part, opened}
 use Rattle.njh_hub.specs.Laws.{Begins}
-use Rattle.njh_hub.specs.Stops.{CanStop, HandedUntil}
+use Rattle.njh_hub.specs.Stops.{HandedUntil, IfHub, IsRefused, IsRoutes}
 use Rattle.njh_hub.specs.Whole as hub
 use Rattle.njh_program.specs.Names.{customers_of, names_of}
 use Rattle.njh_program.specs.declared.fault.ReplayFault.TheVariants.{Hub}
 use Rattle.njh_program.specs.Printed.{text_of, AppendsBeginning, IsPrinted}
 use Rattle.njh_program.specs.PrintedLaws.{text_of-append}
-use Rattle.njh_program.specs.Replayed.{MayEnd, fault_after, text_by, text_with}
+use Rattle.njh_program.specs.Replayed.{MayEnd, fault_after, text_by, text_with, IsSentUpTo}
+use Rattle.njh_program.specs.ScriptRoutes.{IsNamedIn}
 
 get_or-map_default : {X Y : Type 0} (f : X → Y) (xs : List X) (k : ℕ) (d : X) → get_or (map f xs) k (f d) ≡ f (get_or xs k d)
 get_or-map_default f [] k d = refl
@@ -45,34 +50,85 @@ opened_line t line known =
     length-map (customer_at t line.customer).lines (λ (l : NamedLine). l.entry) in
     omega (arith, known, here, states, entries)
 
--- so the events of a script are all on lines of the hub
-pub opened_lines : (t : TableFile) (parts : List Part) (events : List Event) → parts ≡ map opened (entries_of t)
-    → All (λ event. HasLine t (line_of event)) events → All (λ event. hub.HasLine parts (line_of event)) events
-opened_lines t parts events fresh known = λ k event within.
-    let here = opened_line t (line_of (get_or events k event)) (known k event within) in
-    subst (λ (ps : List Part). hub.HasLine ps (line_of (get_or events k event))) (sym fresh) here
+-- and what an event names in the tables, it names in the hub
+opened_named : (t : TableFile) (event : Event) → IsNamedIn t event → hub.IsNamed (map opened (entries_of t)) event
+opened_named t (Bytes line piece) named = opened_line t line named
+opened_named t (Tick line) named = opened_line t line named
+opened_named t (Garbled line) named = opened_line t line named
+opened_named t (Lost line) named = opened_line t line named
+opened_named t (Routes c routes) named =
+    let parts : length (map opened (entries_of t)) ≡ length t.customers =
+    length-map (entries_of t) opened ∙ length-map t.customers entry_of in
+    let within : c < length (map opened (entries_of t)) = omega (arith, named.0, parts) in
+    let entry : (hub.part c (map opened (entries_of t))).customer.entry ≡ entry_of (customer_at t c) =
+    ap (λ (p : Part). p.customer.entry) (opened_part t c) in
+    (within, ap (λ (e : CustomerEntry). routes_checked e (own_routes c routes)) entry ∙ named.1)
+
+-- so do all events of a script
+pub all_named : (t : TableFile) (parts : List Part) (events : List Event) → parts ≡ map opened (entries_of t)
+    → All (IsNamedIn t) events → All (hub.IsNamed parts) events
+all_named t parts events fresh named = λ k event within.
+    let here = opened_named t (get_or events k event) (named k event within) in
+    subst (λ (ps : List Part). hub.IsNamed ps (get_or events k event)) (sym fresh) here
 
 IsSomeAnd-never : {X : Type 0} (o : Option X) (P : X → Type 0) → ((x : X) → o ≡ Some x → P x → ⊥) → IsSomeAnd o P → ⊥
 IsSomeAnd-never None P never some = some
 IsSomeAnd-never (Some x) P never some = never x refl some
 
--- and none stops a run
-pub never_unknown : (parts : List Part) (events : List Event) (k : ℕ) → All (λ event. hub.HasLine parts (line_of event)) events
-    → IsSomeAnd (slice_get events k) (λ event. hub.HasLine parts (line_of event) → ⊥) → ⊥
-never_unknown parts events k known some =
-    IsSomeAnd-never (slice_get events k) (λ event. hub.HasLine parts (line_of event) → ⊥) (λ event at unknown.
-    let there : hub.HasLine parts (line_of event) =
-    subst (λ (e : Event). hub.HasLine parts (line_of e)) (get_or_from_slice_get events k event event at)
-    (known k event (slice_get_within events k event at)) in
-    unknown there) some
+-- an event that names what is there is refused for want of memory alone
+not_unknown : (parts : List Part) (event : Event) → hub.IsNamed parts event → IsRefused parts event UnknownLine → ⊥
+not_unknown parts (Bytes line piece) named refused = refused named
+not_unknown parts (Tick line) named refused = refused named
+not_unknown parts (Garbled line) named refused = refused named
+not_unknown parts (Lost line) named refused = refused named
+not_unknown parts (Routes c routes) named refused = refused
 
--- what is left that stops a run
-pub MayEnd-stopped : (why : Cause) → CanStop why → (why ≡ cause.Hub UnknownLine → ⊥) → MayEnd (fault_after why)
-MayEnd-stopped (cause.Hub UnknownLine) can known = absurd (known refl)
-MayEnd-stopped (cause.Hub UnknownCustomer) can known = absurd can
-MayEnd-stopped (cause.Hub Memory) can known = refl
-MayEnd-stopped (cause.Hub (BadRoutes fault)) can known = absurd can
-MayEnd-stopped cause.Sink can known = tt
+not_foreign : (parts : List Part) (event : Event) → hub.IsNamed parts event → IsRefused parts event UnknownCustomer → ⊥
+not_foreign parts (Bytes line piece) named refused = refused
+not_foreign parts (Tick line) named refused = refused
+not_foreign parts (Garbled line) named refused = refused
+not_foreign parts (Lost line) named refused = refused
+not_foreign parts (Routes c routes) named refused = refused named.0
+
+not_bad : (parts : List Part) (event : Event) (fault : TableFault) → hub.IsNamed parts event → IsRefused parts event (BadRoutes fault) → ⊥
+not_bad parts (Bytes line piece) fault named refused = refused
+not_bad parts (Tick line) fault named refused = refused
+not_bad parts (Garbled line) fault named refused = refused
+not_bad parts (Lost line) fault named refused = refused
+not_bad parts (Routes c routes) fault named refused = cc (sym named.1 ∙ refused.1)
+
+module _ (parts : List Part) (events : List Event) (k : ℕ) (named : All (hub.IsNamed parts) events) where
+  never : (why : HubFault) → ((event : Event) → hub.IsNamed parts event → IsRefused parts event why → ⊥)
+      → IsSomeAnd (slice_get events k) (λ event. IsRefused parts event why) → ⊥
+  never why not refused =
+      IsSomeAnd-never (slice_get events k) (λ event. IsRefused parts event why) (λ event at is.
+      let there : hub.IsNamed parts event =
+      subst (hub.IsNamed parts) (get_or_from_slice_get events k event event at) (named k event (slice_get_within events k event at)) in
+      not event there is) refused
+
+  -- what is left that stops a run of such events
+  pub MayEnd-stopped : (why : Cause) → IfHub why (λ why. IsSomeAnd (slice_get events k) (λ event. IsRefused parts event why))
+      → MayEnd (fault_after why)
+  MayEnd-stopped (cause.Hub UnknownLine) refused = absurd (never UnknownLine (not_unknown parts) refused)
+  MayEnd-stopped (cause.Hub UnknownCustomer) refused = absurd (never UnknownCustomer (not_foreign parts) refused)
+  MayEnd-stopped (cause.Hub Memory) refused = refl
+  MayEnd-stopped (cause.Hub (BadRoutes fault)) refused = absurd (never (BadRoutes fault) (λ event. not_bad parts event fault) refused)
+  MayEnd-stopped cause.Sink refused = tt
+
+-- new routes send nothing
+routes_silent : (parts : List Part) (event : Event) → IsRoutes event → (hub.hub_event parts event).sent ≡ []
+routes_silent parts (Bytes line piece) routes = absurd (cc routes)
+routes_silent parts (Tick line) routes = absurd (cc routes)
+routes_silent parts (Garbled line) routes = absurd (cc routes)
+routes_silent parts (Lost line) routes = absurd (cc routes)
+routes_silent parts (Routes c given) routes = refl
+
+pub all_silent : (parts : List Part) (events : List Event) → All IsRoutes events → (hub.hub_run parts events).sent ≡ []
+all_silent parts [] all = refl
+all_silent parts (event ∷ events) all =
+    let later = hub.hub_run (hub.hub_event parts event).parts events in
+    ap (λ sent. sent ++ later.sent) (routes_silent parts event (all 0 event (omega arith)))
+    ∙ all_silent (hub.hub_event parts event).parts events (λ k d within. all (suc k) d (omega (arith, within)))
 
 -- A run that stopped printed a beginning of the text of all frames: the frames of what happened, or all but the last and that in part.
 pub stopped_begun : {S : Type 0} (took : S → S → List (LineId × List ℕ) → Type 0) (refused : S → S → LineId × List ℕ → Type 0) (why : Cause)
@@ -93,19 +149,34 @@ pub printed_begins : (names later : List (List (List ℕ))) (a b : Option (List 
 printed_begins names later a b front more whole printed all =
     (text_of names front, text_of names more, sym (text_of-append names front more) ∙ ap (text_of names) all, printed.1)
 
--- where memory ran out nothing had happened, and nothing was printed
-pub stopped_empty : {S : Type 0} (took : S → S → List (LineId × List ℕ) → Type 0) (refused : S → S → LineId × List ℕ → Type 0) (why : Cause)
+-- where memory ran out, the frames of all that had happened were printed
+pub stopped_whole : {S : Type 0} (took : S → S → List (LineId × List ℕ) → Type 0) (refused : S → S → LineId × List ℕ → Type 0) (why : Cause)
     (before after : S) (sent : List (LineId × List ℕ)) → HandedUntil took refused why before after sent → fault_after why ≡ Hub Memory
-    → (why ≡ cause.Hub Memory → sent ≡ []) → took before after []
-stopped_empty took refused (cause.Hub fault) before after sent handed memory none =
+    → (why ≡ cause.Hub Memory) × took before after sent
+stopped_whole took refused (cause.Hub fault) before after sent handed memory =
     let is_memory : fault ≡ Memory = cc memory in
-    subst (took before after) (none (ap (λ (f : HubFault). cause.Hub f) is_memory)) handed
-stopped_empty took refused cause.Sink before after sent handed memory none = cc memory
+    (ap (λ (f : HubFault). cause.Hub f) is_memory, handed)
+stopped_whole took refused cause.Sink before after sent handed memory = absurd (cc memory)
 
 pub Keeps-none : (a b : Option (List ℕ)) → Appends a b [] → Keeps a b
 Keeps-none None b written = tt
 Keeps-none (Some x) None written = absurd written
 Keeps-none (Some x) (Some y) written = written ∙ append-nil x
+
+-- A run that ran out of memory did so at an event that gives routes, or behind such events alone, which send nothing.
+pub stopped_at_routes : (names : List (List (List ℕ))) (parts : List Part) (events : List Event) (k n : ℕ) (a b : Option (List ℕ)) → n ≡ 0
+    → (IsSomeAnd (slice_get events k) IsRoutes ⊎ All IsRoutes (take k events))
+    → Appends a b (text_of names (hub.hub_run parts (first_of events k n)).sent) → Keeps a b ⊎ IsSentUpTo names parts events a b
+stopped_at_routes names parts events k n a b none which printed =
+    let whole : first_of events k n ≡ take k events = ap (λ (m : ℕ). first_of events k m) none ∙ append-nil (take k events) in
+    let sent : Appends a b (text_of names (hub.hub_run parts (take k events)).sent) =
+    subst (λ (es : List Event). Appends a b (text_of names (hub.hub_run parts es).sent)) whole printed in
+    elim which [
+      | inl here ↦ inr (k, here, sent)
+      | inr before ↦
+          let silent = all_silent parts (take k events) before in
+          inl (Keeps-none a b (subst (λ (s : List (LineId × List ℕ)). Appends a b (text_of names s)) silent sent))
+    ]
 
 -- what a hub that was just opened prints
 pub fresh_text : (t : TableFile) (names : List (List (List ℕ))) (parts : List Part) (events : List Event) (customers : List (List ℕ))
@@ -116,6 +187,13 @@ fresh_text t names parts events customers named fresh called P so =
     let first = subst (λ (ns : List (List (List ℕ))). P (text_by ns parts events) customers) named so in
     let second = subst (λ (ps : List Part). P (text_by (names_of t) ps events) customers) fresh first in
     subst (P (text_with t events)) called second
+
+pub fresh_sent : (t : TableFile) (names : List (List (List ℕ))) (parts : List Part) (events : List Event) (a b : Option (List ℕ))
+    → names ≡ names_of t → parts ≡ map opened (entries_of t) → IsSentUpTo names parts events a b
+    → IsSentUpTo (names_of t) (map opened (entries_of t)) events a b
+fresh_sent t names parts events a b named fresh sent =
+    subst (λ (ps : List Part). IsSentUpTo (names_of t) ps events a b) fresh
+    (subst (λ (ns : List (List (List ℕ))). IsSentUpTo ns parts events a b) named sent)
 
 -- it has as many customers as its tables
 pub opened_customers : (t : TableFile) (parts : List Part) (customers : List (List ℕ)) → parts ≡ map opened (entries_of t)

@@ -5,6 +5,7 @@ pub mod Printed
 pub mod PrintedLaws
 pub mod Replayed
 pub mod Script
+pub mod ScriptRoutes
 pub mod Found
 pub mod Status
 pub mod TableBytes

@@ -3,7 +3,7 @@ use Rattle.std.specs.Prelude.{◌≡◌, ◌∷◌, ◌⊎◌, ℕ, List, codes,
 use Rattle.std.specs.Io.KnownBytes.{Keeps}
 use Rattle.clap.specs.Words.{Text, HasKind, fault_of}
 use Rattle.clap.specs.declared.error.kind.ErrorKind.TheVariants.{MissingSubcommand}
-use Rattle.njh_table.specs.TableFile.{TableFile, owner_of}
+use Rattle.njh_table.specs.TableFile.{TableFile}
 use Rattle.njh_hub.specs.declared.fault.HubFault.TheVariants.{Memory}
 use Rattle.njh_program.specs.declared.failure.Failure.{Failure}
 use Rattle.njh_program.specs.declared.failure.Failure.TheVariants.{Arguments, Tables, Replay}
@@ -39,6 +39,6 @@ IsFailed arguments left (Arguments error) = HasKind (MissingSubcommand ∷ fault
 IsFailed arguments left (Tables fault) = ChoosesRefused arguments (Tables fault)
 IsFailed arguments left (Replay TooLong) = (tables : TableFile) × Chooses arguments tables × HasTooLong left
 IsFailed arguments left (Replay (Script number)) = (tables : TableFile) × Chooses arguments tables
-    × HasBadLine (owner_of tables) left number
+    × HasBadLine tables left number
 IsFailed arguments left (Replay Device) = ⊤
 IsFailed arguments left (Replay (Hub fault)) = fault ≡ Memory

@@ -1,9 +1,9 @@
 -- What a replay answers.
-use Rattle.std.specs.Prelude.{◌≡◌, ℕ, ◌<◌, ◌≤◌, List, ◌++◌, length, map, Option, IfSome, Ok, Err, ⊤}
+use Rattle.std.specs.Prelude.{◌≡◌, ℕ, ◌<◌, ◌≤◌, List, ◌++◌, length, map, take, slice_get, Option, IfSome, IsSomeAnd, Ok, Err, ⊤}
 use Rattle.std.specs.Io.KnownBytes.{Appends}
-use Rattle.njh_table.specs.declared.LineId.{LineId}
-use Rattle.njh_table.specs.TableFile.{TableFile, owner_of}
+use Rattle.njh_table.specs.TableFile.{TableFile}
 use Rattle.njh_hub.specs.Parts.{entries_of}
+use Rattle.njh_hub.specs.Stops.{IsRoutes}
 use Rattle.njh_hub.specs.Whole.{Part, opened, part, hub_run}
 use Rattle.njh_hub.specs.declared.event.Event.{Event}
 use Rattle.njh_hub.specs.declared.fault.Cause.{Cause}
@@ -17,16 +17,16 @@ use Rattle.njh_program.specs.Printed.{files_from, text_of, AppendsBeginning, IsP
 use Rattle.njh_program.specs.Script.{script_of}
 
 -- what a reader has left, where that is known, is a good script of these events
-abbrev pub HasScript : (List ℕ → Option LineId) → Option (List ℕ) → List Event → Type 0
-HasScript names left events = IfSome left (λ text. (length text ≤ LIMIT) × (script_of names text ≡ Ok events))
+abbrev pub HasScript : TableFile → Option (List ℕ) → List Event → Type 0
+HasScript tables left events = IfSome left (λ text. (length text ≤ LIMIT) × (script_of tables text ≡ Ok events))
 
 -- it is a script that is too long
 abbrev pub HasTooLong : Option (List ℕ) → Type 0
 HasTooLong left = IfSome left (λ text. LIMIT < length text)
 
 -- it is not, but this line of it is the first bad one
-abbrev pub HasBadLine : (List ℕ → Option LineId) → Option (List ℕ) → ℕ → Type 0
-HasBadLine names left number = IfSome left (λ text. (length text ≤ LIMIT) × (script_of names text ≡ Err number))
+abbrev pub HasBadLine : TableFile → Option (List ℕ) → ℕ → Type 0
+HasBadLine tables left number = IfSome left (λ text. (length text ≤ LIMIT) × (script_of tables text ≡ Err number))
 
 -- the text of what a hub sends and then holds by these events: the frames with their lines' names, and the files of the customers of
 -- these names, from the first on
@@ -49,19 +49,30 @@ SameParts parts others count = (c : ℕ) → c < count → part c others ≡ par
 -- A script was replayed: what a reader had left is a good script, and the text of the run over its events came after what had
 -- been written; each where that is known.
 abbrev pub IsReplayed : (tables : TableFile) (left old new : Option (List ℕ)) → Type 0
-IsReplayed tables left old new = (events : List Event) × HasScript (owner_of tables) left events
+IsReplayed tables left old new = (events : List Event) × HasScript tables left events
     × Appends old new (text_of_run tables events)
 
 -- A script was replayed in part: it is a good script, and a beginning of the text of the run over its events came after what had been
 -- written; each where that is known.
 abbrev pub IsBegun : (tables : TableFile) (left old new : Option (List ℕ)) → Type 0
-IsBegun tables left old new = (events : List Event) × HasScript (owner_of tables) left events
+IsBegun tables left old new = (events : List Event) × HasScript tables left events
     × AppendsBeginning old new (text_of_run tables events)
+
+-- The frames of the events before one that gives routes came after what had been written.
+abbrev pub IsSentUpTo : (names : List (List (List ℕ))) (parts : List Part) (events : List Event) (old new : Option (List ℕ)) → Type 0
+IsSentUpTo names parts events old new = (count : ℕ) × IsSomeAnd (slice_get events count) IsRoutes
+    × Appends old new (text_of names (hub_run parts (take count events)).sent)
+
+-- A script was replayed up to an event that gives routes: it is a good script, and the frames of the events before that one came after
+-- what had been written; each where that is known.
+abbrev pub IsReplayedToRoutes : (tables : TableFile) (left old new : Option (List ℕ)) → Type 0
+IsReplayedToRoutes tables left old new = (events : List Event) × HasScript tables left events
+    × IsSentUpTo (names_of tables) (map opened (entries_of tables)) events old new
 
 -- A script was replayed up to a customer's files: it is a good script, and the text of the run over its events came after what had been
 -- written, with the files of the customers before that one; each where that is known.
 abbrev pub IsReplayedUpTo : (tables : TableFile) (left old new : Option (List ℕ)) → Type 0
-IsReplayedUpTo tables left old new = (events : List Event) × HasScript (owner_of tables) left events
+IsReplayedUpTo tables left old new = (events : List Event) × HasScript tables left events
     × IsPrintedUpTo (customers_of tables) old new (text_with tables events)
 
 -- the faults by which a script is refused

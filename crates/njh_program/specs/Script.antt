@@ -1,4 +1,4 @@
--- The event script: lines of text, each of which has one event on one line of the hub.
+-- The event script: lines of text, each of which has one event, on one line of the hub or for one customer.
 use Rattle.std.specs.Prelude.{ℕ, ◌+◌, ◌==◌, ◌||◌, Bool, true, not, List, [], ◌∷◌, codes, if◌then◌else◌, Option, Some}
 use Rattle.std.specs.Prelude.{None, is_some, option_and_then, Result, Ok, Err}
 use Rattle.std.specs.List.{slice_split, position, filter_map}
@@ -7,8 +7,10 @@ use Rattle.std.specs.Str.{is_utf8, bytes_eq}
 use Rattle.hex.specs.Hex.{decode_of}
 use Rattle.hex.specs.declared.error.FromHexError.{FromHexError}
 use Rattle.njh_table.specs.declared.LineId.{LineId}
+use Rattle.njh_table.specs.TableFile.{TableFile, owner_of}
 use Rattle.njh_hub.specs.declared.event.Event.{Event}
 use Rattle.njh_hub.specs.declared.event.Event.TheVariants.{Bytes, Tick, Garbled, Lost}
+use Rattle.njh_program.specs.ScriptRoutes.{routes_event}
 
 -- the lines of a text, each ended by the byte 0A, the last by that or by the text's end
 abbrev pub lines_of : List ℕ → List (List ℕ)
@@ -46,39 +48,45 @@ abbrev pub bytes_on : List ℕ → List ℕ → LineId → Option Event
 bytes_on word digits line =
     if bytes_eq word (codes "BYTES") then option_map (λ piece. Bytes line piece) (piece_of digits) else None
 
--- the event of these words, where names gives the line of a name
-abbrev pub event_of_words : (List ℕ → Option LineId) → List (List ℕ) → Option Event
-event_of_words names (word ∷ name ∷ []) = option_and_then (signal_of word) (names name)
-event_of_words names (word ∷ name ∷ digits ∷ []) = option_and_then (bytes_on word digits) (names name)
-event_of_words names words = None
+-- the event of words on a line of the hub, where names gives the line of a name
+abbrev pub event_on_line : (List ℕ → Option LineId) → List (List ℕ) → Option Event
+event_on_line names (word ∷ name ∷ []) = option_and_then (signal_of word) (names name)
+event_on_line names (word ∷ name ∷ digits ∷ []) = option_and_then (bytes_on word digits) (names name)
+event_on_line names words = None
+
+-- the event of words, which give a customer routes or tell what comes on a line
+abbrev pub event_of_words : TableFile → List (List ℕ) → Option Event
+event_of_words tables [] = None
+event_of_words tables (word ∷ words) =
+    if bytes_eq word (codes "ROUTES") then routes_event tables words else event_on_line (owner_of tables) (word ∷ words)
 
 -- the event of a line, which is UTF-8
-unfoldable pub event_of : (List ℕ → Option LineId) → List ℕ → Option Event
-event_of names line = if is_utf8 line then event_of_words names (words_of line) else None
+unfoldable pub event_of : TableFile → List ℕ → Option Event
+event_of tables line = if is_utf8 line then event_of_words tables (words_of line) else None
 
 -- whether a line may stand in a script: it is skipped or has an event
-unfoldable pub can_stand : (List ℕ → Option LineId) → List ℕ → Bool
-can_stand names line = is_skipped line || is_some (event_of names line)
+unfoldable pub can_stand : TableFile → List ℕ → Bool
+can_stand tables line = is_skipped line || is_some (event_of tables line)
 
 -- the event of a line that isn't skipped, if it has one
-unfoldable pub event_in : (List ℕ → Option LineId) → List ℕ → Option Event
-event_in names line = if is_skipped line then None else event_of names line
+unfoldable pub event_in : TableFile → List ℕ → Option Event
+event_in tables line = if is_skipped line then None else event_of tables line
 
 -- the events of the lines, in order
-abbrev pub events_of : (List ℕ → Option LineId) → List (List ℕ) → List Event
-events_of names lines = filter_map (event_in names) lines
+abbrev pub events_of : TableFile → List (List ℕ) → List Event
+events_of tables lines = filter_map (event_in tables) lines
 
 -- the number of the first line that may not stand there, where the first line is 1
-abbrev pub first_bad : (List ℕ → Option LineId) → List (List ℕ) → Option ℕ
-first_bad names lines = option_map (λ place. place + 1) (position (λ line. not (can_stand names line)) lines)
+abbrev pub first_bad : TableFile → List (List ℕ) → Option ℕ
+first_bad tables lines = option_map (λ place. place + 1) (position (λ line. not (can_stand tables line)) lines)
 
 -- what a script comes to: its events, or the number of the first bad line
 abbrev pub events_or_bad : Option ℕ → List Event → Result (List Event) ℕ
 events_or_bad None events = Ok events
 events_or_bad (Some number) events = Err number
 
-abbrev pub script_of_lines : (List ℕ → Option LineId) → List (List ℕ) → Result (List Event) ℕ
-script_of_lines names lines = events_or_bad (first_bad names lines) (events_of names lines)
+abbrev pub script_of_lines : TableFile → List (List ℕ) → Result (List Event) ℕ
+script_of_lines tables lines = events_or_bad (first_bad tables lines) (events_of tables lines)
 
-abbrev pub script_of : (List ℕ → Option LineId) → List ℕ → Result (List Event) ℕ
-script_of names text = script_of_lines names (lines_of text)
+abbrev pub script_of : TableFile → List ℕ → Result (List Event) ℕ
+script_of tables text = script_of_lines tables (lines_of text)

@@ -15,6 +15,7 @@ mod printer;
 mod program;
 mod replaying;
 mod script;
+mod script_routes;
 mod table_file;
 
 pub use arguments::{Request, request_of};

@@ -1,20 +1,22 @@
 //! The event of one line of a script.
 
-ghost use Rattle.std.specs.Prelude.{◌≡◌, IfOk, IfSome};
-ghost use Rattle.njh_table.specs.TableFile.{owner_of, HasLine};
+ghost use Rattle.std.specs.Prelude.{◌≡◌, ◌∷◌, Some, IfOk, IfSome};
+ghost use Rattle.njh_table.specs.TableFile.{owner_of};
 ghost use Rattle.njh_hub.specs.Own.{line_of};
-ghost use Rattle.njh_program.specs.Script.{bytes_on, event_of, event_of_words, piece_of, signal_of, words_of};
+ghost use Rattle.njh_program.specs.Script.{bytes_on, event_of, event_of_words, event_on_line, piece_of, signal_of, words_of};
+ghost use Rattle.njh_program.specs.ScriptRoutes.{IsNamedIn};
 
+use crate::script_routes::routes_event;
 use hex::FromHexError;
 use njh_hub::{Event, Piece};
 use njh_table::{LineId, Tables};
 use std::alloc::{AllocError, Global};
 
-/// The event of a line, if it has one; it comes on a line of the tables. Out of memory is the only refusal.
+/// The event of a line, if it has one; it names what the tables have. Out of memory is the only refusal.
 #[tactic(auto, unfolding(crate::specs::Script::event_of))]
 pub fn event_of(alloc: Global, tables: &Tables, line: &[u8]) -> Result<Option<Event>, AllocError>
-    ensures event { IfOk result (λ event. event ≡ event_of (owner_of tables.now) line.now) }
-    ensures line { IfOk result (λ event. IfSome event (λ e. HasLine tables.now (line_of e))) }
+    ensures event { IfOk result (λ event. event ≡ event_of tables.now line.now) }
+    ensures named { IfOk result (λ event. IfSome event (IsNamedIn tables.now)) }
 {
     match str::from_utf8(line) {
         Ok(line) => event_of_text(alloc, tables, line),
@@ -24,12 +26,29 @@ pub fn event_of(alloc: Global, tables: &Tables, line: &[u8]) -> Result<Option<Ev
 
 /// The event of a line that is text.
 fn event_of_text(alloc: Global, tables: &Tables, line: &str) -> Result<Option<Event>, AllocError>
-    ensures event { IfOk result (λ event. event ≡ event_of_words (owner_of tables.now) (words_of line.now)) }
-    ensures line { IfOk result (λ event. IfSome event (λ e. HasLine tables.now (line_of e))) }
+    ensures event { IfOk result (λ event. event ≡ event_of_words tables.now (words_of line.now)) }
+    ensures named { IfOk result (λ event. IfSome event (IsNamedIn tables.now)) }
 {
     let Some((word, rest)) = line.split_once(' ') else {
         return Ok(None);
     };
+    if word == "ROUTES" {
+        return routes_event(alloc, tables, rest);
+    }
+    event_on_line(alloc, tables, word, rest)
+}
+
+/// The event of a word and what stands behind it: the name of a line, and digits where it is `BYTES`.
+#[tactic(auto, using(crate::proofs::LineForms::named_on))]
+fn event_on_line(
+    alloc: Global,
+    tables: &Tables,
+    word: &str,
+    rest: &str,
+) -> Result<Option<Event>, AllocError>
+    ensures event { IfOk result (λ event. event ≡ event_on_line (owner_of tables.now) (word.now ∷ words_of rest.now)) }
+    ensures named { IfOk result (λ event. IfSome event (IsNamedIn tables.now)) }
+{
     match rest.split_once(' ') {
         None => Ok(
             tables
@@ -46,7 +65,7 @@ fn event_of_text(alloc: Global, tables: &Tables, line: &str) -> Result<Option<Ev
 /// The event of a word alone on a line of the hub.
 fn signal_of(word: &str, line: LineId) -> Option<Event>
     ensures event { result ≡ signal_of word.now line }
-    ensures line { IfSome result (λ e. line_of e ≡ line) }
+    ensures line { IfSome result (λ e. line_of e ≡ Some line) }
 {
     match word {
         "TICK" => Some(Event::Tick(line)),
@@ -64,7 +83,7 @@ fn bytes_on(
     line: LineId,
 ) -> Result<Option<Event>, AllocError>
     ensures event { IfOk result (λ event. event ≡ bytes_on word.now digits.now line) }
-    ensures line { IfOk result (λ event. IfSome event (λ e. line_of e ≡ line)) }
+    ensures line { IfOk result (λ event. IfSome event (λ e. line_of e ≡ Some line)) }
 {
     if word != "BYTES" {
         return Ok(None);

@@ -6,7 +6,7 @@ ghost use Rattle.njh_program.specs.Printed.{IsPrinted, IsPrintedInPart};
 ghost use Rattle.njh_program.specs.PrintedLaws.{IsPrinted-none, IsPrinted-more, same_then};
 
 use crate::names::LineNames;
-use crate::print::print_frame;
+use crate::print::{FrameRoom, print_frame};
 use njh_hub::{Sink, SinkFault};
 use njh_table::LineId;
 use std::io::Write;
@@ -18,6 +18,8 @@ pub struct Printer<'a, W> {
     pub out: &'a mut W,
     /// The names of the lines.
     pub names: &'a LineNames,
+    /// Room for the text of a frame.
+    pub room: FrameRoom,
     /// How many frames it couldn't print.
     pub failures: u64,
 }
@@ -33,7 +35,7 @@ impl<W: Write> Printer<'_, W> {
         ensures failures { self.new.failures ≡ self.old.failures }
     {
         match self.names.get(line) {
-            Some(name) => match print_frame(self.out, name, frame) {
+            Some(name) => match print_frame(self.out, name, frame, &mut self.room) {
                 Ok(()) => true,
                 Err(_) => false,
             },

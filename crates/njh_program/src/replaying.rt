@@ -1,19 +1,20 @@
 //! Replays a script through a hub.
 
-ghost use Rattle.std.specs.Prelude.{◌≡◌, ◌≤◌, ◌⊎◌, ℕ, length, All, IfOk, IfErr, OnOk, OnErr};
+ghost use Rattle.std.specs.Prelude.{◌≡◌, ◌≤◌, ◌⊎◌, ℕ, length, map, All, IfOk, IfErr, OnOk, OnErr};
 ghost use Rattle.std.specs.Io.KnownBytes.{Appends, Keeps};
-ghost use Rattle.njh_program.specs.Names.{customers_of};
+ghost use Rattle.njh_program.specs.Names.{customers_of, names_of};
 ghost use Rattle.njh_program.specs.Printed.{text_of, AppendsBeginning, IsPrintedUpTo};
 ghost use Rattle.njh_program.specs.Replayed.{fault_after, text_by, text_of_run, text_with, HasScript, HasTooLong, HasBadLine};
-ghost use Rattle.njh_program.specs.Replayed.{IsBegun, IsReplayed, IsReplayedUpTo, IsRefusal, MayEnd, SameParts};
-ghost use Rattle.njh_table.specs.TableFile.{owner_of, HasLine};
-ghost use Rattle.njh_hub.specs.Own.{line_of};
-ghost use Rattle.njh_hub.specs.Whole.{hub_run, HasLine as HubHasLine};
+ghost use Rattle.njh_program.specs.Replayed.{IsBegun, IsReplayed, IsReplayedToRoutes, IsReplayedUpTo, IsRefusal, IsSentUpTo, MayEnd, SameParts};
+ghost use Rattle.njh_program.specs.ScriptRoutes.{IsNamedIn};
+ghost use Rattle.njh_hub.specs.Parts.{entries_of};
+ghost use Rattle.njh_hub.specs.Whole.{hub_run, opened, IsNamed};
 
 use crate::fault::ReplayFault;
 use crate::files::{customer_names, print_files};
 use crate::input::read_text;
 use crate::names::LineNames;
+use crate::print::FrameRoom;
 use crate::printer::Printer;
 use crate::script::{LIMIT, events_of};
 use njh_ebcdic::Name;
@@ -37,15 +38,16 @@ pub fn replay<R: Read, W: Write>(
     // It is refused where it is too long, or else at its first bad line, and then nothing is written.
     ensures long { result ≡ Err ReplayFault.TooLong → HasTooLong (R.remaining script.old) }
     ensures bad { (number : ℕ) → result ≡ Err (ReplayFault.Script number) →
-        HasBadLine (owner_of tables) (R.remaining script.old) number }
+        HasBadLine tables (R.remaining script.old) number }
     ensures silent { IfErr result (λ fault. IsRefusal fault → out.new ≡ out.old) }
 
-    // Else a device failed, and a beginning of that text is written, or nothing; or memory ran out, before anything was written or when
-    // the text was written up to the files of some customer.
+    // Else a device failed, and a beginning of that text is written, or nothing; or memory ran out: before anything was written, at an
+    // event that gives routes, with the frames of those before it written, or with the text written up to the files of some customer.
     ensures faults { IfErr result MayEnd }
     ensures begun { OnErr result (Keeps (W.contents out.old) (W.contents out.new)
         ⊎ IsBegun tables (R.remaining script.old) (W.contents out.old) (W.contents out.new)) }
     ensures memory { result ≡ Err (ReplayFault.Hub HubFault.Memory) → Keeps (W.contents out.old) (W.contents out.new)
+        ⊎ IsReplayedToRoutes tables (R.remaining script.old) (W.contents out.old) (W.contents out.new)
         ⊎ IsReplayedUpTo tables (R.remaining script.old) (W.contents out.old) (W.contents out.new) }
 {
     let events = read_events(alloc, &tables, script)?;
@@ -59,10 +61,11 @@ fn print_events<W: Write>(
     events: &[Event],
     out: &mut W,
 ) -> Result<(), ReplayFault>
-    requires { All (λ event. HasLine tables (line_of event)) events.now }
+    requires { All (IsNamedIn tables) events.now }
     ensures printed { OnOk result (Appends (W.contents out.old) (W.contents out.new) (text_of_run tables events.now)) }
     ensures begun { OnErr result (AppendsBeginning (W.contents out.old) (W.contents out.new) (text_of_run tables events.now)) }
     ensures memory { result ≡ Err (ReplayFault.Hub HubFault.Memory) → Keeps (W.contents out.old) (W.contents out.new)
+        ⊎ IsSentUpTo (names_of tables) (map opened (entries_of tables)) events.now (W.contents out.old) (W.contents out.new)
         ⊎ IsPrintedUpTo (customers_of tables) (W.contents out.old) (W.contents out.new) (text_with tables events.now) }
     ensures faults { IfErr result MayEnd }
     ensures refuses_no_script { IfErr result (λ fault. ¬ IsRefusal fault) }
@@ -81,7 +84,7 @@ fn print_all<W: Write>(
     customers: &[Name],
     out: &mut W,
 ) -> Result<(), ReplayFault>
-    requires lines { All (λ event. HubHasLine hub.old (line_of event)) events.now }
+    requires named { All (IsNamed hub.old) events.now }
     requires all { length customers.now ≡ length hub.old }
     requires few { length customers.now ≤ 64 }
     ensures printed { OnOk result (Appends (W.contents out.old) (W.contents out.new)
@@ -89,6 +92,7 @@ fn print_all<W: Write>(
     ensures begun { OnErr result (AppendsBeginning (W.contents out.old) (W.contents out.new)
         (text_by names.now hub.old events.now customers.now)) }
     ensures memory { result ≡ Err (ReplayFault.Hub HubFault.Memory) → Keeps (W.contents out.old) (W.contents out.new)
+        ⊎ IsSentUpTo names.now hub.old events.now (W.contents out.old) (W.contents out.new)
         ⊎ IsPrintedUpTo customers.now (W.contents out.old) (W.contents out.new) (text_by names.now hub.old events.now) }
     ensures faults { IfErr result MayEnd }
     ensures refuses_no_script { IfErr result (λ fault. ¬ IsRefusal fault) }
@@ -108,13 +112,14 @@ fn print_run<W: Write>(
     names: &LineNames,
     out: &mut W,
 ) -> Result<(), ReplayFault>
-    requires { All (λ event. HubHasLine hub.old (line_of event)) events.now }
+    requires { All (IsNamed hub.old) events.now }
     ensures printed { OnOk result (Appends (W.contents out.old) (W.contents out.new)
         (text_of names.now (hub_run hub.old events.now).sent)) }
     ensures after { OnOk result (SameParts (hub_run hub.old events.now).parts hub.new (length hub.old)) }
     ensures begun { OnErr result (AppendsBeginning (W.contents out.old) (W.contents out.new)
         (text_of names.now (hub_run hub.old events.now).sent)) }
-    ensures memory { result ≡ Err (ReplayFault.Hub HubFault.Memory) → Keeps (W.contents out.old) (W.contents out.new) }
+    ensures memory { result ≡ Err (ReplayFault.Hub HubFault.Memory) → Keeps (W.contents out.old) (W.contents out.new)
+        ⊎ IsSentUpTo names.now hub.old events.now (W.contents out.old) (W.contents out.new) }
     ensures customers { length hub.new ≡ length hub.old }
     ensures faults { IfErr result MayEnd }
     ensures refuses_no_script { IfErr result (λ fault. ¬ IsRefusal fault) }
@@ -122,6 +127,7 @@ fn print_run<W: Write>(
     let mut printer = Printer {
         out,
         names,
+        room: FrameRoom::new(),
         failures: 0,
     };
     match hub.run(events, &mut printer) {
@@ -142,11 +148,11 @@ fn read_events<R: Read>(
     tables: &Tables,
     script: &mut R,
 ) -> Result<Vec<Event>, ReplayFault>
-    ensures good { IfOk result (λ events. HasScript (owner_of tables.now) (R.remaining script.old) events.items) }
-    ensures lines { IfOk result (λ events. All (λ event. HasLine tables.now (line_of event)) events.items) }
+    ensures good { IfOk result (λ events. HasScript tables.now (R.remaining script.old) events.items) }
+    ensures named { IfOk result (λ events. All (IsNamedIn tables.now) events.items) }
     ensures long { result ≡ Err ReplayFault.TooLong → HasTooLong (R.remaining script.old) }
     ensures bad { (number : ℕ) → result ≡ Err (ReplayFault.Script number) →
-        HasBadLine (owner_of tables.now) (R.remaining script.old) number }
+        HasBadLine tables.now (R.remaining script.old) number }
     ensures faults { IfErr result MayEnd }
 {
     let text = read_text(alloc, LIMIT, script)?;

@@ -2,9 +2,8 @@
 
 ghost use Rattle.std.specs.Prelude.{◌≡◌, ℕ, ◌≤◌, ◌⊎◌, ◌++◌, [], length, All, IfOk, IfErr, OnOk};
 ghost use Rattle.std.specs.List.{cons_option};
-ghost use Rattle.njh_table.specs.TableFile.{owner_of, HasLine};
-ghost use Rattle.njh_hub.specs.Own.{line_of};
 ghost use Rattle.njh_program.specs.Script.{can_stand, event_in, is_skipped, script_of};
+ghost use Rattle.njh_program.specs.ScriptRoutes.{IsNamedIn};
 
 use crate::cutting::first_line;
 use crate::fault::ReplayFault;
@@ -16,13 +15,13 @@ use std::alloc::{AllocError, Global};
 /// How many bytes a script has at most.
 pub const LIMIT: usize = 1_048_576;
 
-/// The events of a script, all on lines of the tables, or the number of its first bad line, counted from 1. The only
+/// The events of a script, all of which name what the tables have, or the number of its first bad line, counted from 1. The only
 /// other refusal is out of memory.
 pub fn events_of(alloc: Global, tables: &Tables, text: &[u8]) -> Result<Vec<Event>, ReplayFault>
     requires { length text.now ≤ LIMIT }
-    ensures events { IfOk result (λ events. script_of (owner_of tables.now) text.now ≡ Ok events.items) }
-    ensures lines { IfOk result (λ events. All (λ event. HasLine tables.now (line_of event)) events.items) }
-    ensures bad { (number : ℕ) → result ≡ Err (ReplayFault.Script number) → script_of (owner_of tables.now) text.now ≡ Err number }
+    ensures events { IfOk result (λ events. script_of tables.now text.now ≡ Ok events.items) }
+    ensures named { IfOk result (λ events. All (IsNamedIn tables.now) events.items) }
+    ensures bad { (number : ℕ) → result ≡ Err (ReplayFault.Script number) → script_of tables.now text.now ≡ Err number }
     ensures refused { IfErr result (λ fault. (fault ≡ ReplayFault.Hub HubFault.Memory)
         ⊎ ((number : ℕ) × (fault ≡ ReplayFault.Script number))) }
 {
@@ -50,11 +49,10 @@ fn add_event(
     line: &[u8],
     events: &mut Vec<Event>,
 ) -> Result<bool, AllocError>
-    ensures stands { IfOk result (λ stands. stands ≡ can_stand (owner_of tables.now) line.now) }
+    ensures stands { IfOk result (λ stands. stands ≡ can_stand tables.now line.now) }
     ensures added { OnOk result (events.new.items
-        ≡ events.old.items ++ cons_option (event_in (owner_of tables.now) line.now) []) }
-    ensures lines { All (λ event. HasLine tables.now (line_of event)) events.old.items
-        → OnOk result (All (λ event. HasLine tables.now (line_of event)) events.new.items) }
+        ≡ events.old.items ++ cons_option (event_in tables.now line.now) []) }
+    ensures named { All (IsNamedIn tables.now) events.old.items → OnOk result (All (IsNamedIn tables.now) events.new.items) }
 {
     if is_skipped(line) {
         return Ok(true);

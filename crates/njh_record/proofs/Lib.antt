@@ -1,7 +1,8 @@
 pub mod Fronts
 pub mod Steps
 pub mod ReadingLaws
-pub mod ReadBack
+mod Pairs
+mod ReadBack
 pub mod AnswerLaws
 pub mod Runs
 pub mod WritingLaws

@@ -1,11 +1,12 @@
 -- Runs at the front of bytes, and the bytes before them.
-use Rattle.std.proofs.Common.{◌≡◌, ℕ, ◌+◌, ◌<◌, ◌≤◌, min, Bool, true, false, eqb, leb, List, [], ◌∷◌, ◌++◌, length, take, drop, replicate}
-use Rattle.std.proofs.Common.{get_or, refl, sym, ◌∙◌, ap, append_assoc, one-add, arith, ◌⊎◌, inl, inr, length-take}
-use Rattle.std.proofs.lemmas.Bool.{cases_lt, cases_Bool, cond_both, cond-true, cond-false, eqb-true, leb-true}
-use Rattle.std.proofs.lemmas.List.{take-take, take_all, append-nil, take_more, drop_more, drop_all, take-append-le}
-use Rattle.std.proofs.lemmas.List.Sums.{prefix_len-le-length}
+use Rattle.std.proofs.Common.{◌≡◌, ◌≢◌, ℕ, zero, suc, ◌+◌, ◌<◌, ◌≤◌, min, Bool, true, false, eqb, leb, List, [], ◌∷◌, ◌++◌, length, take, drop, replicate}
+use Rattle.std.proofs.Common.{get_or, refl, sym, ◌∙◌, ap, append_assoc, one-add, add-one, arith, ◌⊎◌, inl, inr, length-take}
+use Rattle.std.proofs.lemmas.Bool.{cases_lt, cases_Bool, cond_both, cond-true, cond-false, eqb-true, leb-true, false_from_ne_true}
+use Rattle.std.proofs.lemmas.List.{take-take, take_all, append-nil, take_more, drop_more, drop_all, take-append-le, take-append-drop, drop-take, drop-drop, get_or-take, get_or-drop}
+use Rattle.std.proofs.lemmas.List.Sums.{prefix_len-le-length, prefix_len_passes}
 use Rattle.std.specs.List.{prefix_len}
 use Rattle.njh_record.specs.Writing.{first_of, run_of, is_run, begins_run, before_run}
+use Rattle.njh_record.specs.Written.{AreApart, NoRunBefore}
 
 -- ---- runs
 
@@ -51,10 +52,6 @@ before_run-nil = refl
 
 -- ---- a literal, a byte at a time
 
--- what stands before the first run begins with so many bytes, none of which begins a run
-abbrev pub NoRunBefore : List ℕ → ℕ → Type 0
-NoRunBefore bytes place = before_run bytes ≡ take place bytes ++ before_run (drop place bytes)
-
 pub NoRunBefore-more : (bytes : List ℕ) (place : ℕ) → place < length bytes → begins_run (drop place bytes) ≡ false
     → NoRunBefore bytes place → NoRunBefore bytes (place + 1)
 NoRunBefore-more bytes place within past so_far =
@@ -74,17 +71,53 @@ pub NoRunBefore-at : (bytes : List ℕ) (place : ℕ) → place ≤ 63 → begin
     → NoRunBefore bytes place → take place bytes ≡ take 63 (before_run bytes)
 NoRunBefore-at bytes place short at so_far = NoRunBefore-stops bytes place short (before_run-at (drop place bytes) at) so_far
 
-pub NoRunBefore-limit : (bytes : List ℕ) (place : ℕ) → place ≡ min (length bytes) 63 → NoRunBefore bytes place
-    → take place bytes ≡ take 63 (before_run bytes)
-NoRunBefore-limit bytes place is so_far =
+-- where the bytes that were looked at reach the longest literal or the end
+pub NoRunBefore-limit : (bytes : List ℕ) (limit place : ℕ) → limit ≡ min (length bytes) 63 → limit ≤ place → place ≤ length bytes
+    → NoRunBefore bytes place → take limit bytes ≡ take 63 (before_run bytes)
+NoRunBefore-limit bytes limit place is reached within so_far =
     elim (cases_lt 63 (length bytes)) [
       | inl long ↦
           let full : 63 ≤ length (take place bytes) = omega (arith, length-take place bytes) in
-          let same : place ≡ 63 = omega arith in
+          let same : limit ≡ 63 = omega arith in
           let cut = take-append-le 63 (take place bytes) (before_run (drop place bytes)) full in
           rw (so_far, cut, take-take 63 place bytes (omega arith)) (ap (λ (n : ℕ). take n bytes) same)
-      | inr short ↦ NoRunBefore-stops bytes place (omega arith) (ap before_run (drop_all place bytes (omega arith)) ∙ before_run-nil) so_far
+      | inr short ↦
+          let same : limit ≡ place = omega arith in
+          rw same (NoRunBefore-stops bytes place (omega arith) (ap before_run (drop_all place bytes (omega arith)) ∙ before_run-nil) so_far)
     ]
+
+-- more bytes were looked at behind those
+take-more : (place more : ℕ) (bytes : List ℕ) → take place bytes ++ take more (drop place bytes) ≡ take (place + more) bytes
+take-more place more bytes =
+    let all = take (place + more) bytes in
+    ap (λ (text : List ℕ). text ++ take more (drop place bytes)) (sym (take-take place (place + more) bytes (omega arith)))
+    ∙ (ap (λ (text : List ℕ). take place all ++ text) (sym (drop-take place more bytes)) ∙ take-append-drop place all)
+
+pub NoRunBefore-then : (bytes : List ℕ) (place more : ℕ) → NoRunBefore bytes place → NoRunBefore (drop place bytes) more
+    → NoRunBefore bytes (place + more)
+NoRunBefore-then bytes place more front behind =
+    let last = before_run (drop more (drop place bytes)) in
+    front ∙ (ap (λ (text : List ℕ). take place bytes ++ text) behind
+    ∙ (sym (append_assoc (take place bytes) (take more (drop place bytes)) last)
+    ∙ (ap (λ (text : List ℕ). text ++ last) (take-more place more bytes)
+    ∙ ap (λ (text : List ℕ). take (place + more) bytes ++ before_run text) (drop-drop more place bytes))))
+
+-- a byte that the next doesn't equal begins no run
+begins_run-apart : (bytes : List ℕ) → get_or bytes 0 0 ≢ get_or bytes 1 0 → begins_run bytes ≡ false
+begins_run-apart bytes apart =
+    false_from_ne_true (begins_run bytes) (λ is.
+    let two : 2 ≤ run_of bytes = is_run-two (first_of bytes) (run_of bytes) is in
+    let same = prefix_len_passes (λ x. eqb x (first_of bytes)) (take 31 bytes) 1 0 (omega arith) in
+    apart (sym (sym (get_or-take 31 bytes 1 0 (omega arith)) ∙ eqb-true (get_or (take 31 bytes) 1 0) (first_of bytes) same)))
+
+pub NoRunBefore-apart : (bytes : List ℕ) (n : ℕ) → n < length bytes → AreApart n bytes → NoRunBefore bytes n
+NoRunBefore-apart bytes zero within apart = refl
+NoRunBefore-apart bytes (suc n) within apart =
+    let here : get_or (drop n bytes) 0 0 ≡ get_or bytes n 0 = get_or-drop n bytes 0 0 ∙ ap (λ k. get_or bytes k 0) (omega arith) in
+    let at : get_or (drop n bytes) 0 0 ≢ get_or (drop n bytes) 1 0 = λ same.
+    apart n (omega arith) (sym here ∙ (same ∙ get_or-drop n bytes 1 0)) in
+    rw (← add-one n) (NoRunBefore-more bytes n (omega arith) (begins_run-apart (drop n bytes) at)
+    (NoRunBefore-apart bytes n (omega arith) (λ k below. apart k (omega arith))))
 
 -- a test of a run, as the code makes it
 pub begins_run-tested : (rest tail : List ℕ) (count : ℕ) (answer value : Bool) → tail ≡ rest → count ≡ run_of tail

@@ -1,13 +1,14 @@
 //! Writing: from a record to the one spelling that is written of it.
 
-ghost use Rattle.std.specs.Prelude.{◌≡◌, ◌≤◌, ◌<◌, length, take};
+ghost use Rattle.std.specs.Prelude.{◌≡◌, ◌≤◌, ◌<◌, false, length, take};
 ghost use Rattle.njh_record.specs.Parts.{item_of};
 ghost use Rattle.njh_record.specs.Writing.{run_of, is_run, begins_run, before_run, run_item, first_item, spelling_of};
-ghost use Rattle.njh_record.specs.Written.{SpellsFront};
+ghost use Rattle.njh_record.specs.Written.{AreApart, NoRunBefore, SpellsFront};
 
 use crate::Spelled;
 use crate::item::Item;
 use crate::scb::{BLANK, END_OF_RECORD, LONGEST_LITERAL, LONGEST_RUN};
+use std::simd::prelude::*;
 
 /// How many bytes equal to the first stand at the front, 31 at most.
 fn run_len(bytes: &[u8]) -> usize
@@ -33,6 +34,9 @@ fn is_run(byte: u8, count: usize) -> bool
     }
 }
 
+/// How many bytes are looked at at once.
+const GROUP: usize = 16;
+
 /// Whether a run that is worth an item of its own begins the bytes.
 fn begins_run(bytes: &[u8]) -> bool
     requires { 0 < length bytes.now }
@@ -44,16 +48,51 @@ fn begins_run(bytes: &[u8]) -> bool
     }
 }
 
+/// How many of the 16 bytes in front stand before the first that equals the next.
+fn apart_len(bytes: &[u8]) -> usize
+    requires { GROUP < length bytes.now }
+    ensures within { result ≤ GROUP }
+    ensures apart { AreApart result bytes.now }
+{
+    let front = u8x16::from_slice(bytes);
+    let next = u8x16::from_slice(&bytes[1..]);
+    let equal = front.simd_eq(next).to_bitmask();
+    if equal == 0 {
+        GROUP
+    } else {
+        equal.trailing_zeros() as usize
+    }
+}
+
+/// How many bytes in front were looked at, none of which begins a run: at least the first, which is known to begin none.
+fn passed_len(bytes: &[u8]) -> usize
+    requires some { 0 < length bytes.now }
+    requires first { begins_run bytes.now ≡ false }
+    ensures some { 0 < result }
+    ensures within { result ≤ length bytes.now }
+    ensures passed { NoRunBefore bytes.now result }
+{
+    let (_, rest) = bytes.split_at(1);
+    if rest.len() > GROUP {
+        1 + apart_len(rest)
+    } else {
+        1
+    }
+}
+
 /// How many bytes stand before the first run, 63 at most.
 fn literal_len(bytes: &[u8]) -> usize
     ensures within { result ≤ length bytes.now }
     ensures front { take result bytes.now ≡ take 63 (before_run bytes.now) }
 {
     let limit = bytes.len().min(LONGEST_LITERAL);
-    for place in 0..limit {
-        if begins_run(&bytes[place..]) {
+    let mut place = 0;
+    while place < limit {
+        let (_, rest) = bytes.split_at(place);
+        if begins_run(rest) {
             return place;
         }
+        place += passed_len(rest);
     }
     limit
 }

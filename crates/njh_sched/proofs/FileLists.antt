@@ -1,12 +1,16 @@
 -- Lists of files that are looked at one after the other.
 use Rattle.std.proofs.Common.{◌≡◌, ◌≤◌, ℕ, zero, suc, ◌+◌, Bool, true, false, cond, ◌||◌, List, [], ◌∷◌, length, take, map}
-use Rattle.std.proofs.Common.{find, count_by, Option, Some, None, ◌==◌, slice_get, refl}
+use Rattle.std.proofs.Common.{find, count_by, get_or, ◌<◌, Option, Some, None, ◌==◌, slice_get, refl}
 use Rattle.std.proofs.Common.{sym, ap, ◌∙◌, arith, add-one, eq-eqb, not-suc-le-zero, le_of_suc-le-suc, IsSomeAnd}
 use Rattle.std.specs.List.{list_any}
 use Rattle.std.proofs.lemmas.List.Sums.{sum_by-cons}
 use Rattle.njh_spool.specs.CustomerSpool.{CustomerSpool, WholeFile, whole_numbered}
 use Rattle.njh_spool.specs.Spools.{files_numbered}
+use Rattle.njh_spool.specs.Headers.{summary}
+use Rattle.njh_spool.specs.declared.file_headers.FileSummary.{FileSummary}
 use Rattle.njh_stream.specs.Sending.{holds_of}
+use Rattle.std.proofs.lemmas.Bool.{or_parts}
+use Rattle.std.specs.Option.{option_map}
 
 module _ (p : WholeFile → Bool) where
   count-cons : (x : WholeFile) (xs : List WholeFile) → count_by p (x ∷ xs) ≡ cond (p x) 1 0 + count_by p xs
@@ -110,3 +114,17 @@ file_is s i n apart at = at_file (slice_get s.whole i) refl at
     at_file None e is = absurd (search is)
     at_file (Some y) e is =
         only_found (λ f. f.number == n) s.whole i y e (eq-eqb y.number n (sym (search is))) (omega (arith, apart n))
+
+-- a test by what is known of a file is one of the file
+pub by_summary :
+    (p : WholeFile → Bool) (q : FileSummary → Bool) → ((f : WholeFile) → q (summary f) ≡ p f) → (o : Option WholeFile) (x : FileSummary)
+    → option_map summary o ≡ Some x → q x ≡ holds_of p o
+by_summary p q same None x is = absurd (cc is)
+by_summary p q same (Some f) x is = let here : summary f ≡ x = cc is in ap q (sym here) ∙ same f
+
+-- a test that no node passes, at one of them
+pub none_at : (nodes : List (List ℕ)) (i : ℕ) (test : List ℕ → Bool) → i < length nodes → list_any test nodes ≡ false
+    → test (get_or nodes i []) ≡ false
+none_at [] i test within none = absurd (omega arith)
+none_at (x ∷ xs) zero test within none = (or_parts (test x) (list_any test xs) none).0
+none_at (x ∷ xs) (suc i) test within none = none_at xs i test (omega arith) (or_parts (test x) (list_any test xs) none).1

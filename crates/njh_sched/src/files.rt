@@ -1,15 +1,18 @@
 //! A customer's files, one after the other.
 
-ghost use Rattle.std.specs.Prelude.{◌≡◌, ◌<◌, length, slice_get, IsSomeAnd, Some, ◌&&◌};
-ghost use Rattle.njh_spool.specs.CustomerSpool.{WholeFile, whole_numbered};
+ghost use Rattle.std.specs.Prelude.{◌≡◌, ◌<◌, ℕ, Bool, false, List, IsTrue, length, slice_get, IsSomeAnd, ◌&&◌};
+ghost use Rattle.std.specs.List.{list_any};
+ghost use Rattle.njh_spool.specs.CustomerSpool.{whole_numbered};
 ghost use Rattle.njh_spool.specs.Spools.{part};
-ghost use Rattle.njh_stream.specs.Sending.{goes_by, holds_of};
+ghost use Rattle.njh_stream.specs.Sending.{destination_goes_by, goes_by, holds_of, node_goes_by};
 ghost use Rattle.njh_table.specs.TableFile.{entry_of};
-ghost use Rattle.njh_sched.specs.NextBlock.{HasPassed, same_kind, may_go, oldest};
+ghost use Rattle.njh_sched.specs.NextBlock.{HasPassed, is_ready, same_kind, may_go, oldest};
 
+use arrayvec::ArrayVec;
+use njh_header::Destination;
 use njh_record::Kind;
-use njh_spool::{FileId, Spool, State};
-use njh_stream::goes_by;
+use njh_spool::{FileId, FileSummary, Spool, State};
+use njh_stream::node_goes_by;
 use njh_table::Customer;
 
 /// A customer's whole file by its index in order of arrival.
@@ -32,22 +35,84 @@ fn same_kind(a: Kind, b: Kind) -> bool
     }
 }
 
-/// Whether a whole file is of a kind and goes by a line.
-fn is_for(
+/// How many nodes are kept that were found not to go by a line.
+const MOST_ELSEWHERE: usize = 8;
+
+/// Nodes that don't go by a line. Their files are passed without a look at the routes.
+type Elsewhere = ArrayVec<[u8; 8], MOST_ELSEWHERE>;
+
+/// Whether a node is one of some. It may miss none that it says is.
+fn is_among(nodes: &[[u8; 8]], node: &[u8; 8]) -> bool
+    ensures { IsTrue result → (test : List ℕ → Bool) → list_any test nodes.now ≡ false → test node.now ≡ false }
+{
+    for other in nodes {
+        if other == node {
+            return true;
+        }
+    }
+    false
+}
+
+/// Whether a node goes by a line. Where it doesn't it is kept among those that don't, while there is room.
+fn goes_there(entry: &Customer, line: u16, node: &[u8; 8], elsewhere: &mut Elsewhere) -> bool
+    requires { list_any (node_goes_by (entry_of entry.now) line) elsewhere.old.items ≡ false }
+    ensures goes { result ≡ node_goes_by (entry_of entry.now) line node.now }
+    ensures elsewhere { list_any (node_goes_by (entry_of entry.now) line) elsewhere.new.items ≡ false }
+{
+    if is_among(elsewhere, node) {
+        return false;
+    }
+    let goes = node_goes_by(entry, line, node);
+    if !goes && !elsewhere.is_full() {
+        elsewhere.push(*node);
+    }
+    goes
+}
+
+/// Whether a whole file is Ready.
+fn is_ready(state: State) -> bool
+    ensures { result ≡ is_ready state }
+{
+    match state {
+        State::Ready => true,
+        State::Held | State::Refused | State::Sending => false,
+    }
+}
+
+/// Whether a destination's node goes by a line.
+fn is_destined(
+    entry: &Customer,
+    line: u16,
+    destination: Option<Destination>,
+    elsewhere: &mut Elsewhere,
+) -> bool
+    requires { list_any (node_goes_by (entry_of entry.now) line) elsewhere.old.items ≡ false }
+    ensures goes { result ≡ destination_goes_by (entry_of entry.now) line destination }
+    ensures elsewhere { list_any (node_goes_by (entry_of entry.now) line) elsewhere.new.items ≡ false }
+{
+    match destination {
+        Some(destination) => goes_there(entry, line, &destination.node, elsewhere),
+        None => false,
+    }
+}
+
+/// Whether a whole file is Ready, of a kind, and goes by a line.
+fn may_go(
     entry: &Customer,
     line: u16,
     kind: Kind,
-    customer: u16,
-    file: FileId,
-    spool: &Spool,
+    file: &FileSummary,
+    elsewhere: &mut Elsewhere,
 ) -> bool
-    requires { customer < length spool.now }
-    ensures { (f : WholeFile) → whole_numbered file (part customer spool.now) ≡ Some f → result
-        ≡ (same_kind f.kind kind && goes_by (entry_of entry.now) line f) }
+    requires { list_any (node_goes_by (entry_of entry.now) line) elsewhere.old.items ≡ false }
+    ensures may { result ≡ (is_ready file.now.state
+        && (same_kind file.now.kind kind && destination_goes_by (entry_of entry.now) line file.now.headers.destination)) }
+    ensures elsewhere { list_any (node_goes_by (entry_of entry.now) line) elsewhere.new.items ≡ false }
 {
-    match spool.kind(customer, file) {
-        Ok(own) if same_kind(own, kind) => goes_by(entry, line, customer, file, spool),
-        _ => false,
+    if is_ready(file.state) && same_kind(file.kind, kind) {
+        is_destined(entry, line, file.headers.destination, elsewhere)
+    } else {
+        false
     }
 }
 
@@ -59,16 +124,16 @@ fn may_go_at(
     customer: u16,
     index: u32,
     spool: &Spool,
+    elsewhere: &mut Elsewhere,
 ) -> bool
     requires range { customer < length spool.now }
     requires index_range { index < length (part customer spool.now).whole }
-    ensures { result ≡ holds_of (may_go (goes_by (entry_of entry.now) line) kind) (slice_get (part customer spool.now).whole index) }
+    requires elsewhere { list_any (node_goes_by (entry_of entry.now) line) elsewhere.old.items ≡ false }
+    ensures may { result ≡ holds_of (may_go (goes_by (entry_of entry.now) line) kind) (slice_get (part customer spool.now).whole index) }
+    ensures elsewhere { list_any (node_goes_by (entry_of entry.now) line) elsewhere.new.items ≡ false }
 {
-    let file = file_at(customer, index, spool);
-    match spool.state(customer, file) {
-        Ok(State::Ready) => is_for(entry, line, kind, customer, file, spool),
-        Ok(State::Held | State::Refused | State::Sending) | Err(_) => false,
-    }
+    let file = spool.summary_at(customer, index);
+    may_go(entry, line, kind, &file, elsewhere)
 }
 
 /// The index of a customer's oldest file that is Ready, of a kind, and goes by a line; none before `from` is so. Where there is no such
@@ -88,8 +153,9 @@ pub fn oldest_from(
         ≡ slice_get (part customer spool.now).whole result }
 {
     let files = spool.files(customer);
+    let mut elsewhere = Elsewhere::new();
     for index in from..files {
-        if may_go_at(entry, line, kind, customer, index, spool) {
+        if may_go_at(entry, line, kind, customer, index, spool, &mut elsewhere) {
             return index;
         }
     }

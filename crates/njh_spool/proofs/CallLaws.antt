@@ -1,7 +1,8 @@
 -- What each call on a customer's file makes of the spool.
 use Rattle.std.proofs.Common.{◌≡◌, ℕ, ◌+◌, ◌-◌, ◌*◌, ◌/◌, ◌<◌, ◌≤◌, true, false, not, eqb, List, [], ◌∷◌, ◌++◌, length}
-use Rattle.std.proofs.Common.{set, take, filter, refl, sym, ap, subst, ◌∙◌, arith}
-use Rattle.std.specs.Prelude.{slice_get, IsSomeAnd}
+use Rattle.std.proofs.Common.{set, take, filter, refl, sym, ap, subst, ◌∙◌, inl, inr, arith}
+use Rattle.std.specs.Prelude.{slice_get, All, IsSomeAnd}
+use Rattle.std.proofs.lemmas.Bool.{cases_lt}
 use Rattle.std.proofs.lemmas.List.{set-get_or}
 use Rattle.njh_record.specs.Stored.{Stored}
 use Rattle.njh_record.specs.Bytes.{with_field}
@@ -20,7 +21,10 @@ use Rattle.njh_spool.specs.CustomerSpool.{at_index, rewritten_record}
 use Rattle.njh_spool.specs.Spools.{part}
 use Rattle.njh_spool.specs.Packing.{packed_record, packed, unpacked, IsShort}
 use Rattle.njh_spool.specs.Slots.{Content, content, contents, slot_of, chain_of, free_slot, no_files, is_free, is_partial, is_whole}
-use Rattle.njh_spool.specs.Slots.{whole_file, spool_of, spools_of, first_places, ArePlaces, IsOwn, IsFile, IsKept}
+use Rattle.njh_spool.specs.Slots.{whole_file, spool_of, spools_of, first_places, ArePlaces, IsOwn, IsFile, KeepsHeaders, IsKept}
+use Rattle.njh_spool.specs.Headers.{header_count, kept_headers}
+use Rattle.njh_spool.specs.declared.file_headers.KeptHeaders.{KeptHeaders}
+use Rattle.njh_spool.proofs.HeaderLaws.{kept_headers-behind}
 use Rattle.njh_spool.proofs.CostLaws.{cost-rewritten, stored_size-rewritten}
 use Rattle.njh_spool.proofs.IndexLaws.{put, put_again, at_is}
 use Rattle.njh_spool.proofs.KeptLaws.{own_of, HasOwn, Moves, moves}
@@ -67,18 +71,19 @@ module _ (store : StoreValue) (slots : List FileSlot) (customers : List Customer
   customers_same : set customers c own ≡ customers
   customers_same = set-get_or customers c no_files
 
-  slots_same : n < 1024 → set slots (1024 * c + n) slot ≡ slots
-  slots_same small = ap (set slots (1024 * c + n)) (at_is slots free_slot c n small) ∙ set-get_or slots (1024 * c + n) free_slot
-
   -- a call that leaves the customer's file with this slot and this chain, and the customer with these lists
   goes : (call : CustomerSpool → CustomerSpool) (slot' : FileSlot) (chain' : Chain) (own' : CustomerFiles) → n < 1024 →
       own'.quota ≡ own.quota → blocks_of chain'.bytes + own.used ≡ blocks_of chain.bytes + own'.used → IsFile slot' chain' →
-      IsOwn own' (put files n (content slot' chain')) × (spool_of own' (put files n (content slot' chain')) ≡ call
+      KeepsHeaders slot' chain' → IsOwn own' (put files n (content slot' chain')) × (spool_of own' (put files n (content slot' chain')) ≡ call
       (spool_of own files)) → Moves store slots customers (with_chain (1024 * c + n) chain' store)
       (set slots (1024 * c + n) slot') (set customers c own') c (call (part c spools))
-  goes call slot' chain' own' small quota blocks file owns =
-      moves store slots customers c n slot' chain' own' kept has small (call (part c spools)) quota blocks file
+  goes call slot' chain' own' small quota blocks file headers owns =
+      moves store slots customers c n slot' chain' own' kept has small (call (part c spools)) quota blocks file headers
       (owns.0, owns.1 ∙ ap call (sym has.part))
+
+  -- a slot without a whole file keeps nothing
+  keeps_none : (slot' : FileSlot) (chain' : Chain) → is_whole slot'.stage ≡ false → KeepsHeaders slot' chain'
+  keeps_none slot' chain' other = λ whole. absurd (let clash : false ≡ true = sym other ∙ whole in cc)
 
   empty_file : (slot' : FileSlot) (keys : List ℕ) → slot'.count ≡ 0 → slot'.places ≡ first_places → IsFile slot'
       (record { keys = keys; bytes = [] })
@@ -97,7 +102,7 @@ module _ (store : StoreValue) (slots : List FileSlot) (customers : List Customer
       let left : own'.used ≡ own.used - cost (files n).records = ap (λ (o : CustomerFiles). o.used) now in
       goes (abandoned n) slot' empty_chain own' small (ap (λ (o : CustomerFiles). o.quota) owns)
       (omega (arith, left, enough, blocks_are)) (empty_file slot' [] (ap (λ (x : FileSlot). x.count) free)
-      (ap (λ (x : FileSlot). x.places) free))
+      (ap (λ (x : FileSlot). x.places) free)) (keeps_none slot' empty_chain (ap (λ (x : FileSlot). is_whole x.stage) free))
       (partial.abandons own files n has.own stage (content slot' empty_chain) own' (ap (λ (x : FileSlot). x.stage) free) now)
 
   pub removes : (slot' : FileSlot) (own' : CustomerFiles) → is_whole slot.stage ≡ true → slot' ≡ free_slot →
@@ -111,12 +116,12 @@ module _ (store : StoreValue) (slots : List FileSlot) (customers : List Customer
       let left : own'.used ≡ own.used - cost (files n).records = ap (λ (o : CustomerFiles). o.used) now in
       goes (removed n) slot' empty_chain own' small (ap (λ (o : CustomerFiles). o.quota) owns)
       (omega (arith, left, enough, blocks_are)) (empty_file slot' [] (ap (λ (x : FileSlot). x.count) free)
-      (ap (λ (x : FileSlot). x.places) free))
+      (ap (λ (x : FileSlot). x.places) free)) (keeps_none slot' empty_chain (ap (λ (x : FileSlot). is_whole x.stage) free))
       (whole.removes own files n has.own there other (content slot' empty_chain) own' (ap (λ (x : FileSlot). x.stage) free) now)
 
   -- the file has another stage, and is not free
-  restaged : (stage : Stage) → is_free stage ≡ false → IsFile (record slot { stage = stage }) chain
-  restaged stage used' =
+  restaged : (stage : Stage) (headers : KeptHeaders) → is_free stage ≡ false → IsFile (record slot { stage = stage; headers = headers }) chain
+  restaged stage headers used' =
       let file = kept.files c n in
       record {
         bytes = file.bytes;
@@ -127,17 +132,19 @@ module _ (store : StoreValue) (slots : List FileSlot) (customers : List Customer
         places = file.places;
       }
 
-  pub finishes : (own' : CustomerFiles) → is_partial slot.stage ≡ true →
-      own' ≡ record own { whole = own.whole ++ n ∷ []; partial = filter (λ m. not (eqb m n)) own.partial } → n < 1024 →
-      Moves store slots customers store (set slots (1024 * c + n) (record slot { stage = Whole Ready })) (set customers c own')
-      c (finished n (part c spools))
-  finishes own' there owns small =
+  pub finishes : (own' : CustomerFiles) (headers : KeptHeaders) → headers ≡ kept_headers slot.kind (files n).records →
+      is_partial slot.stage ≡ true → own' ≡ record own { whole = own.whole ++ n ∷ []; partial = filter (λ m. not (eqb m n)) own.partial } →
+      n < 1024 → Moves store slots customers store
+      (set slots (1024 * c + n) (record slot { stage = Whole Ready; headers = headers })) (set customers c own') c
+      (finished n (part c spools))
+  finishes own' headers said there owns small =
       let stage = stage_of slot.stage there in
-      let slot' : FileSlot = record slot { stage = Whole Ready } in
+      let slot' : FileSlot = record slot { stage = Whole Ready; headers = headers } in
       let blocks = ap (λ (o : CustomerFiles). o.used) owns in
       subst (λ (t : StoreValue). Moves store slots customers t (set slots (1024 * c + n) slot') (set customers c own') c
       (finished n (part c spools))) (store_same small)
-      (goes (finished n) slot' chain own' small (ap (λ (o : CustomerFiles). o.quota) owns) (omega arith) (restaged (Whole Ready) refl)
+      (goes (finished n) slot' chain own' small (ap (λ (o : CustomerFiles). o.quota) owns) (omega arith)
+      (restaged (Whole Ready) headers refl) (λ _. said)
       (partial.finishes own files n has.own stage (content slot' chain) own' refl owns))
 
   pub restates : (state : State) → is_whole slot.stage ≡ true → n < 1024 → Moves store slots customers store
@@ -149,7 +156,8 @@ module _ (store : StoreValue) (slots : List FileSlot) (customers : List Customer
       (with_state n state (part c spools))) customers_same
       (subst (λ (t : StoreValue). Moves store slots customers t (set slots (1024 * c + n) slot') (set customers c own) c
       (with_state n state (part c spools))) (store_same small)
-      (goes (with_state n state) slot' chain own small refl refl (restaged (Whole state) refl)
+      (goes (with_state n state) slot' chain own small refl refl (restaged (Whole state) slot.headers refl)
+      (λ _. kept.headers c n there)
       (whole.changes own files n has.own there other (λ x. record x { state = state }) (content slot' chain) refl refl refl refl)))
 
   -- it is read on from elsewhere
@@ -164,6 +172,7 @@ module _ (store : StoreValue) (slots : List FileSlot) (customers : List Customer
       (part c spools)) (store_same small)
       (goes (λ (s : CustomerSpool). s) slot' chain own small refl refl
       (record { bytes = file.bytes; short = file.short; free = file.free; small = file.small; places = places })
+      (kept.headers c n)
       (subst (λ (fs : ℕ → Content). IsOwn own fs) (sym (put_again files n)) has.own, ap (spool_of own) (put_again files n))))
 
   pub begins : (kind : Kind) (slot' : FileSlot) (own' : CustomerFiles) → length own.whole + length own.partial < own.limit →
@@ -184,6 +193,7 @@ module _ (store : StoreValue) (slots : List FileSlot) (customers : List Customer
       subst (λ (t : StoreValue). Moves store slots customers t (set slots (1024 * c + n) slot') (set customers c own') c
       (begun kind (part c spools))) (store_same small)
       (goes (begun kind) slot' chain own' small (ap (λ (o : CustomerFiles). o.quota) owns) (omega arith) made
+      (keeps_none slot' chain (ap (λ (x : FileSlot). is_whole x.stage) is))
       (begin.begins own files has.own n kind (content slot' chain) own' room next free same owns))
 
   -- one record more
@@ -205,6 +215,7 @@ module _ (store : StoreValue) (slots : List FileSlot) (customers : List Customer
       let longer : blocks_of (chain.bytes ++ packed_record r) ≡ cost ((files n).records ++ r ∷ []) =
       ap (λ (size : ℕ). (size + 251) / 252) (size_is slot' chain' made ∙ ap stored_size records) in
       goes (appended n r) slot' chain' (record own { used = blocks }) small refl (omega (arith, enough, blocks_are)) made
+      (keeps_none slot' chain' (ap is_whole stage))
       (partial.appends own files n has.own stage r (content slot' chain') (record own { used = blocks }) blocks
       (ap (λ (rs : List Stored). record { stage = slot.stage; kind = slot.kind; records = rs }) records) refl
       (omega (arith, blocks_are, longer)) fits)
@@ -219,45 +230,83 @@ module _ (store : StoreValue) (slots : List FileSlot) (customers : List Customer
       (subst (λ (k : ℕ). Moves store slots customers t (set slots (1024 * c + n) slot') (set customers k own') c s)
       (sym same_customer) moved))
 
-  pub rewrites : (k at place : ℕ) (new : List ℕ) → is_whole slot.stage ≡ true → n < 1024 →
-      at ≡ stored_size (take k (files n).records) + 3 + place → k < slot.count → IsSomeAnd (slice_get (files n).records k)
-      (λ r. place + length new ≤ length r.bytes) → Moves store slots customers
-      (with_chain (1024 * c + n) (record { keys = chain.keys; bytes = with_field at new chain.bytes }) store) slots customers c
-      (rewritten n k place new (part c spools))
-  rewrites k at place new there small is within fits =
-      let file = kept.files c n in
-      let records = (files n).records in
-      let changed = at_index k (rewritten_record place new) records in
-      let chain' : Chain = record { keys = chain.keys; bytes = with_field at new chain.bytes } in
-      let bytes : with_field at new chain.bytes ≡ packed changed =
-      ap (λ (i : ℕ). with_field i new chain.bytes) is ∙ ap (with_field (stored_size (take k records) + 3 + place) new)
-      file.bytes ∙ packed-at_index k place new records (omega (arith, length-unpacked slot.count chain.bytes)) fits in
-      let counted : slot.count ≡ length changed = omega (
-        arith,
-        length-unpacked slot.count chain.bytes,
-        length-at_index k
-            (rewritten_record place new) records,
-      ) in
-      let short = short-at_index k place new records fits file.short in
-      let size : length (with_field at new chain.bytes) ≡ length chain.bytes = ap length bytes ∙ length-packed changed
-      ∙ stored_size-rewritten k place new records fits ∙ sym (size_is slot chain file) in
-      let made : IsFile slot chain' = file_of changed slot chain' short counted bytes file.free (omega (arith, size, file.small)) (record {
-        last = place-rewritten k place new records chain.keys slot.places.last fits file.places.last;
-        next = place-rewritten k place new records chain.keys slot.places.next fits file.places.next;
-      }) in
-      let same : content slot chain' ≡ record { stage = slot.stage; kind = slot.kind; records = changed } =
-      ap (λ (rs : List Stored). record { stage = slot.stage; kind = slot.kind; records = rs })
-      (records_are changed slot.count (with_field at new chain.bytes) short counted bytes) in
-      let other = not_partial_of slot.stage there in
-      let blocks : blocks_of (with_field at new chain.bytes) ≡ blocks_of chain.bytes = ap (λ (k' : ℕ). (k' + 251) / 252) size in
-      let costs : cost (content slot chain').records ≡ cost records = ap (λ (x : Content). cost x.records) same
-      ∙ cost-rewritten k place new records fits in
-      let file_same : whole_from n (content slot chain') ≡ record (whole_file files n) { records = changed } = ap (whole_from n) same in
-      subst (λ (ss : List FileSlot). Moves store slots customers (with_chain (1024 * c + n) chain' store) ss customers c
-      (rewritten n k place new (part c spools))) (slots_same small)
-      (subst (λ (os : List CustomerFiles). Moves store slots customers (with_chain (1024 * c + n) chain' store)
-      (set slots (1024 * c + n) slot) os c (rewritten n k place new (part c spools))) customers_same
-      (goes (rewritten n k place new) slot chain' own small refl (omega (arith, blocks)) made
-      (whole.changes own files n has.own there other
-      (λ x. record x { records = at_index k (rewritten_record place new) x.records }) (content slot chain') there other
-      file_same costs)))
+  -- a record is rewritten: the file's slot keeps what the headers say now
+  module _ (k at place : ℕ) (new : List ℕ) (there : is_whole slot.stage ≡ true) (small : n < 1024)
+      (is : at ≡ stored_size (take k (files n).records) + 3 + place) (within : k < slot.count)
+      (fits : IsSomeAnd (slice_get (files n).records k) (λ r. place + length new ≤ length r.bytes)) where
+    abbrev records : List Stored
+    records = (files n).records
+
+    abbrev changed : List Stored
+    changed = at_index k (rewritten_record place new) records
+
+    abbrev chain' : Chain
+    chain' = record { keys = chain.keys; bytes = with_field at new chain.bytes }
+
+    bytes : with_field at new chain.bytes ≡ packed changed
+    bytes =
+        ap (λ (i : ℕ). with_field i new chain.bytes) is ∙ ap (with_field (stored_size (take k records) + 3 + place) new)
+        (kept.files c n).bytes ∙ packed-at_index k place new records (omega (arith, length-unpacked slot.count chain.bytes)) fits
+
+    counted : slot.count ≡ length changed
+    counted = omega (
+      arith,
+      length-unpacked slot.count chain.bytes,
+      length-at_index k
+          (rewritten_record place new) records,
+    )
+
+    short : All IsShort changed
+    short = short-at_index k place new records fits (kept.files c n).short
+
+    size : length (with_field at new chain.bytes) ≡ length chain.bytes
+    size = ap length bytes ∙ length-packed changed ∙ stored_size-rewritten k place new records fits ∙ sym (size_is slot chain
+        (kept.files c n))
+
+    now : unpacked slot.count (with_field at new chain.bytes) ≡ changed
+    now = records_are changed slot.count (with_field at new chain.bytes) short counted bytes
+
+    made : (headers : KeptHeaders) → IsFile (record slot { headers = headers }) chain'
+    made headers =
+        file_of changed (record slot { headers = headers }) chain' short counted bytes (kept.files c n).free
+        (omega (arith, size, (kept.files c n).small)) (record {
+          last = place-rewritten k place new records chain.keys slot.places.last fits (kept.files c n).places.last;
+          next = place-rewritten k place new records chain.keys slot.places.next fits (kept.files c n).places.next;
+        })
+
+    pub still_file : IsFile slot chain'
+    still_file = made slot.headers
+
+    keeps : (headers : KeptHeaders) → (k < slot.headers.count → headers ≡ kept_headers slot.kind (unpacked slot.count chain'.bytes)) →
+        (slot.headers.count ≤ k → headers ≡ slot.headers) → KeepsHeaders (record slot { headers = headers }) chain'
+    keeps headers again same _ =
+        elim (cases_lt k slot.headers.count) [
+          | inl before ↦ again before
+          | inr behind ↦
+              let was = kept.headers c n there in
+              let far : header_count slot.kind records ≤ k = omega (arith, behind, ap (λ (h : KeptHeaders). h.count) was) in
+              same behind ∙ was ∙ sym (kept_headers-behind slot.kind k (rewritten_record place new) records far)
+              ∙ ap (kept_headers slot.kind) (sym now)
+        ]
+
+    pub rewrites : (headers : KeptHeaders) → (k < slot.headers.count → headers ≡ kept_headers slot.kind
+        (unpacked slot.count chain'.bytes)) → (slot.headers.count ≤ k → headers ≡ slot.headers) →
+        Moves store slots customers (with_chain (1024 * c + n) chain' store)
+        (set slots (1024 * c + n) (record slot { headers = headers })) customers c (rewritten n k place new (part c spools))
+    rewrites headers again same =
+        let slot' : FileSlot = record slot { headers = headers } in
+        let same_content : content slot' chain' ≡ record { stage = slot.stage; kind = slot.kind; records = changed } =
+        ap (λ (rs : List Stored). record { stage = slot.stage; kind = slot.kind; records = rs }) now in
+        let other = not_partial_of slot.stage there in
+        let blocks : blocks_of (with_field at new chain.bytes) ≡ blocks_of chain.bytes = ap (λ (k' : ℕ). (k' + 251) / 252) size in
+        let costs : cost (content slot' chain').records ≡ cost records = ap (λ (x : Content). cost x.records) same_content
+        ∙ cost-rewritten k place new records fits in
+        let file_same : whole_from n (content slot' chain') ≡ record (whole_file files n) { records = changed } =
+        ap (whole_from n) same_content in
+        subst (λ (os : List CustomerFiles). Moves store slots customers (with_chain (1024 * c + n) chain' store)
+        (set slots (1024 * c + n) slot') os c (rewritten n k place new (part c spools))) customers_same
+        (goes (rewritten n k place new) slot' chain' own small refl (omega (arith, blocks)) (made headers)
+        (keeps headers again same)
+        (whole.changes own files n has.own there other
+        (λ x. record x { records = at_index k (rewritten_record place new) x.records }) (content slot' chain') there other
+        file_same costs))

@@ -11,7 +11,7 @@ use Rattle.njh_spool.specs.Chains.{Chain, StoreValue, empty_chain, with_chain, b
 use Rattle.njh_spool.specs.CustomerSpool.{CustomerSpool, used}
 use Rattle.njh_spool.specs.Spools.{no_spool, part}
 use Rattle.njh_spool.specs.Slots.{Content, content, contents, slot_of, chain_of, no_files, spool_of, spools_from, spools_of, IsOwn}
-use Rattle.njh_spool.specs.Slots.{IsFile, IsKept}
+use Rattle.njh_spool.specs.Slots.{IsFile, KeepsHeaders, IsKept}
 use Rattle.njh_spool.proofs.IndexLaws.{put, at_is, slot-same, chain-same, slot-other, chain-other, contents-same, contents-other}
 
 abbrev pub own_of : List CustomerFiles → ℕ → CustomerFiles
@@ -116,12 +116,42 @@ module _ (store : StoreValue) (slots : List FileSlot) (customers : List Customer
   files_other : (e : ℕ) → e ≢ c → contents slots' store'.chains e ≡ contents slots store.chains e
   files_other e apart = contents-other slots store.chains c n slot chain small (has.slot_within n small) (has.chain_within n small) e apart
 
+  -- what holds of every slot and its chain
+  of_all : (Holds : FileSlot → Chain → Type 0) → Holds slot chain → ((e m : ℕ) → Holds (slot_of slots e m) (chain_of store.chains e m)) →
+      (e m : ℕ) → Holds (slot_of slots' e m) (chain_of store'.chains e m)
+  of_all Holds here rest e m =
+      let slot_within = has.slot_within n small in
+      let chain_within = has.chain_within n small in
+      elim (cases_eq e c) [
+        | inl same_c ↦
+            elim (cases_eq m n) [
+              | inl same_n ↦
+                  let now : Holds (slot_of slots' c n) (chain_of store'.chains c n) =
+                  subst (λ (x : Chain). Holds (slot_of slots' c n) x)
+                  (sym (chain-same slots store.chains c n slot chain small slot_within chain_within))
+                  (subst (λ (x : FileSlot). Holds x chain)
+                  (sym (slot-same slots store.chains c n slot chain small slot_within chain_within)) here) in
+                  subst (λ (d : ℕ). Holds (slot_of slots' d m) (chain_of store'.chains d m)) (sym same_c)
+                  (subst (λ (k : ℕ). Holds (slot_of slots' c k) (chain_of store'.chains c k)) (sym same_n) now)
+              | inr other ↦
+                  subst (λ (x : Chain). Holds (slot_of slots' e m) x)
+                  (sym (chain-other slots store.chains c n slot chain small slot_within chain_within e m (inr other)))
+                  (subst (λ (x : FileSlot). Holds x (chain_of store.chains e m))
+                  (sym (slot-other slots store.chains c n slot chain small slot_within chain_within e m (inr other))) (rest e m))
+            ]
+        | inr other ↦
+            subst (λ (x : Chain). Holds (slot_of slots' e m) x)
+            (sym (chain-other slots store.chains c n slot chain small slot_within chain_within e m (inl other)))
+            (subst (λ (x : FileSlot). Holds x (chain_of store.chains e m))
+            (sym (slot-other slots store.chains c n slot chain small slot_within chain_within e m (inl other))) (rest e m))
+      ]
+
   pub moves : (s : CustomerSpool) → own.quota ≡ (own_of customers c).quota → blocks_of chain.bytes + (own_of customers c).used ≡
-      blocks_of (chain_of store.chains c n).bytes + own.used → IsFile slot chain →
+      blocks_of (chain_of store.chains c n).bytes + own.used → IsFile slot chain → KeepsHeaders slot chain →
       IsOwn own (put (contents slots store.chains c) n (content slot chain)) ×
       (spool_of own (put (contents slots store.chains c) n (content slot chain)) ≡ s) → Moves store slots customers store'
       slots' customers' c s
-  moves s quota blocks file owns =
+  moves s quota blocks file headers owns =
       let old_chain = at_is store.chains empty_chain c n small in
       let chain_sum = sum_by-set (λ (x : Chain). blocks_of x.bytes) store.chains place chain empty_chain (has.chain_within n small) in
       let used_sum = sum_by-set (λ (o : CustomerFiles). o.used) customers c own no_files has.within in
@@ -145,35 +175,8 @@ module _ (store : StoreValue) (slots : List FileSlot) (customers : List Customer
                     subst (λ (files : ℕ → Content). IsOwn (own_of customers' e) files) (sym (files_other e other))
                     (subst (λ (o : CustomerFiles). IsOwn o (contents slots store.chains e)) (sym there) (kept.own e within_old))
               ];
-          files = λ e m.
-              elim (cases_eq e c) [
-                | inl same_c ↦
-                    elim (cases_eq m n) [
-                      | inl same_n ↦
-                          let here : IsFile (slot_of slots' c n) (chain_of store'.chains c n) =
-                          subst (λ (x : Chain). IsFile (slot_of slots' c n) x)
-                          (sym (chain-same slots store.chains c n slot chain small (has.slot_within n small)
-                          (has.chain_within n small))) (subst (λ (x : FileSlot). IsFile x chain)
-                          (sym (slot-same slots store.chains c n slot chain small (has.slot_within n small)
-                          (has.chain_within n small))) file) in
-                          subst (λ (d : ℕ). IsFile (slot_of slots' d m) (chain_of store'.chains d m)) (sym same_c)
-                          (subst (λ (k : ℕ). IsFile (slot_of slots' c k) (chain_of store'.chains c k)) (sym same_n) here)
-                      | inr other ↦
-                          subst (λ (x : Chain). IsFile (slot_of slots' e m) x)
-                          (sym (chain-other slots store.chains c n slot chain small (has.slot_within n small)
-                          (has.chain_within n small) e m (inr other)))
-                          (subst (λ (x : FileSlot). IsFile x (chain_of store.chains e m))
-                          (sym (slot-other slots store.chains c n slot chain small (has.slot_within n small)
-                          (has.chain_within n small) e m (inr other))) (kept.files e m))
-                    ]
-                | inr other ↦
-                    subst (λ (x : Chain). IsFile (slot_of slots' e m) x)
-                    (sym (chain-other slots store.chains c n slot chain small (has.slot_within n small)
-                    (has.chain_within n small) e m (inl other)))
-                    (subst (λ (x : FileSlot). IsFile x (chain_of store.chains e m))
-                    (sym (slot-other slots store.chains c n slot chain small (has.slot_within n small)
-                    (has.chain_within n small) e m (inl other))) (kept.files e m))
-              ];
+          files = of_all IsFile file kept.files;
+          headers = of_all KeepsHeaders headers kept.headers;
         };
         spools =
             spools_from-moved c 0 customers (contents slots store.chains) (contents slots' store'.chains) own has.within

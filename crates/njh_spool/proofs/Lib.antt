@@ -16,6 +16,7 @@ pub mod ChainWrites
 pub mod CostLaws
 pub mod EntryLaws
 pub mod FileLaws
+pub mod HeaderLaws
 pub mod HoleLaws
 pub mod IndexLaws
 pub mod KeptLaws
@@ -32,4 +33,5 @@ pub mod RecordLaws
 pub mod RewriteLaws
 pub mod SlotLaws
 pub mod SpoolLaws
+pub mod SummaryLaws
 pub mod WholeLaws

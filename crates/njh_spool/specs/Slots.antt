@@ -17,6 +17,7 @@ use Rattle.njh_spool.specs.declared.customer_files.CustomerFiles.{CustomerFiles}
 use Rattle.njh_spool.specs.Chains.{Chain, StoreValue, empty_chain, blocks_used, IsMark}
 use Rattle.njh_spool.specs.CustomerSpool.{CustomerSpool, WholeFile, PartialFile, stored_size, used}
 use Rattle.njh_spool.specs.Spools.{IsSound}
+use Rattle.njh_spool.specs.Headers.{kept_headers, no_headers}
 use Rattle.njh_spool.specs.Packing.{packed, unpacked, IsShort}
 
 -- where the first record of any file begins
@@ -29,7 +30,7 @@ first_places = record { last = first_place; next = first_place }
 
 -- a slot in which no file is
 abbrev pub free_slot : FileSlot
-free_slot = record { stage = Free; kind = In; count = 0; places = first_places }
+free_slot = record { stage = Free; kind = In; count = 0; places = first_places; headers = no_headers }
 
 -- a customer that the spool does not have
 abbrev pub no_files : CustomerFiles
@@ -127,6 +128,10 @@ pub record IsFile (slot : FileSlot) (chain : Chain) : Type 0 where
   pub small : length chain.bytes ≤ 252 * MOST_BLOCKS
   pub places : ArePlaces (unpacked slot.count chain.bytes) chain.keys slot.places
 
+-- a whole file's slot keeps what the headers of its records say
+abbrev pub KeepsHeaders : FileSlot → Chain → Type 0
+KeepsHeaders slot chain = is_whole slot.stage ≡ true → slot.headers ≡ kept_headers slot.kind (unpacked slot.count chain.bytes)
+
 -- what always holds of the spool
 pub record IsKept (store : StoreValue) (slots : List FileSlot) (customers : List CustomerFiles) : Type 0 where
   pub few : length customers ≤ MOST_CUSTOMERS
@@ -136,3 +141,4 @@ pub record IsKept (store : StoreValue) (slots : List FileSlot) (customers : List
   pub quotas : sum_by (λ own. own.quota) customers ≤ store.capacity
   pub own : (c : ℕ) → c < length customers → IsOwn (slice_index_or customers c no_files) (contents slots store.chains c)
   pub files : (c n : ℕ) → IsFile (slot_of slots c n) (chain_of store.chains c n)
+  pub headers : (c n : ℕ) → KeepsHeaders (slot_of slots c n) (chain_of store.chains c n)

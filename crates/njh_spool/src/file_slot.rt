@@ -3,6 +3,8 @@
 ghost use Rattle.std.specs.Prelude.{◌≡◌};
 
 use crate::State;
+use crate::file_headers::{FileSummary, KeptHeaders};
+use crate::file_id::FileId;
 use crate::store::mark::{FIRST_BLOCK, Mark};
 use njh_record::Kind;
 
@@ -30,13 +32,14 @@ pub struct KeptPlaces {
     pub next: RecordPlace,
 }
 
-/// A file's kind and stage, how many records it has, and where it is read on.
+/// A file's kind and stage, how many records it has, where it is read on, and, where it is whole, what its headers say.
 #[derive(Clone, Copy)]
 pub struct FileSlot {
     pub stage: Stage,
     pub kind: Kind,
     pub count: u32,
     pub places: KeptPlaces,
+    pub headers: KeptHeaders,
 }
 
 impl RecordPlace {
@@ -57,7 +60,7 @@ impl KeptPlaces {
 }
 
 impl FileSlot {
-    ghost use Rattle.njh_spool.specs.Slots.{free_slot, is_free, is_partial, is_whole};
+    ghost use Rattle.njh_spool.specs.Slots.{free_slot, is_free, is_partial, is_whole, state_of};
 
     /// A slot in which a file begins, or none is.
     pub fn empty(stage: Stage, kind: Kind) -> Self
@@ -68,6 +71,7 @@ impl FileSlot {
             kind,
             count: 0,
             places: KeptPlaces::FIRST,
+            headers: KeptHeaders::NONE,
         }
     }
 
@@ -87,5 +91,28 @@ impl FileSlot {
         ensures { result ≡ is_whole self.now.stage }
     {
         matches!(self.stage, Stage::Whole(_))
+    }
+
+    /// What is known of the file of a number, where it is whole.
+    pub fn summary(&self, id: FileId) -> FileSummary
+        ensures { result ≡ record {
+          id = id;
+          kind = self.now.kind;
+          state = state_of self.now.stage;
+          records = self.now.count;
+          headers = self.now.headers.said;
+        } }
+    {
+        let state = match self.stage {
+            Stage::Whole(state) => state,
+            Stage::Free | Stage::Partial => State::Ready,
+        };
+        FileSummary {
+            id,
+            kind: self.kind,
+            state,
+            records: self.count,
+            headers: self.headers.said,
+        }
     }
 }

@@ -4,16 +4,18 @@ mod partial;
 mod reads;
 mod whole;
 
-ghost use Rattle.std.specs.Prelude.{◌≡◌, ℕ, ◌+◌, ◌*◌, ◌<◌, ◌≤◌, length, map, IfOk, IsOkUnless, IsSomeAnd, All, slice_get, sum_by};
+ghost use Rattle.std.specs.Prelude.{◌≡◌, ℕ, ◌+◌, ◌*◌, ◌<◌, ◌≤◌, length, map, IfOk, IsOkUnless, IsSomeAnd, All, Some, option_map, slice_get, sum_by};
 ghost use Rattle.njh_spool.specs.CustomerSpool.{empty_spool, used};
+ghost use Rattle.njh_spool.specs.Headers.{summary};
 ghost use Rattle.njh_spool.specs.Quotas.{IsWithinLimits};
 ghost use Rattle.njh_spool.specs.Spools.{part, files_numbered, IsSound};
 
 use crate::SpoolFault;
 use crate::customer_files::{CustomerFiles, open_all};
+use crate::file_headers::FileSummary;
 use crate::file_id::FileId;
 use crate::file_slot::FileSlot;
-use crate::places::free_slots;
+use crate::places::{free_slots, slot_at};
 use crate::quota::{MOST_CUSTOMERS, MOST_FILES, Quota};
 use crate::store::{MOST_CAPACITY, Store};
 use std::alloc::Global;
@@ -107,6 +109,16 @@ impl Spool {
                 .whole
                 .at(index as usize),
         )
+    }
+
+    /// What is known of a customer's whole file without a look at its records, by its index in order of arrival.
+    pub fn summary_at(&self, customer: u16, index: u32) -> FileSummary
+        requires range { customer < length self.now }
+        requires index_range { index < length (part customer self.now).whole }
+        ensures { option_map summary (slice_get (part customer self.now).whole index) ≡ Some result }
+    {
+        let id = self.file_at(customer, index);
+        slot_at(&self.slots, customer, id).summary(id)
     }
 
     /// What holds of a customer's files after every call: their blocks are within its quota, they are no more than its

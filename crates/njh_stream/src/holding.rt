@@ -8,9 +8,8 @@ ghost use Rattle.njh_stream.specs.Holding as holding;
 ghost use Rattle.njh_stream.specs.Sending.{holds_of};
 ghost use Rattle.njh_table.specs.TableFile.{entry_of};
 
-use crate::spool_file::SpoolFile;
 use njh_ebcdic::{FIELD, Name};
-use njh_header::destination_of;
+use njh_header::Destination;
 use njh_spool::{FileId, Spool, State};
 use njh_table::{Customer, Route};
 
@@ -54,11 +53,16 @@ fn is_unrouted(entry: &Customer, customer: u16, file: FileId, spool: &Spool) -> 
     ensures { (f : WholeFile) → whole_numbered file (part customer spool.now) ≡ Some f → result
         ≡ holding.destination_unrouted (entry_of entry.now) (headers.destination_of f.kind f.records) }
 {
-    let Ok(kind) = spool.kind(customer, file) else {
-        return false;
-    };
-    let records = SpoolFile::of(spool, customer, file);
-    match destination_of(&records, kind) {
+    match spool.headers(customer, file) {
+        Ok(headers) => destination_unrouted(entry, headers.destination),
+        Err(_) => false,
+    }
+}
+
+fn destination_unrouted(entry: &Customer, destination: Option<Destination>) -> bool
+    ensures { result ≡ holding.destination_unrouted (entry_of entry.now) destination }
+{
+    match destination {
         Some(destination) => node_unrouted(entry, &destination.node),
         None => false,
     }

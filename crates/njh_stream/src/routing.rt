@@ -7,9 +7,8 @@ ghost use Rattle.njh_table.specs.TableFile.{entry_of};
 ghost use Rattle.njh_stream.specs.Routing.{retried};
 ghost use Rattle.njh_stream.specs.Sending as sending;
 
-use crate::spool_file::SpoolFile;
 use njh_ebcdic::{FIELD, Name};
-use njh_header::destination_of;
+use njh_header::Destination;
 use njh_spool::{FileId, Spool, State};
 use njh_table::{Customer, Route};
 
@@ -19,18 +18,24 @@ pub fn goes_by(entry: &Customer, line: u16, customer: u16, file: FileId, spool: 
     ensures { (f : WholeFile) → whole_numbered file (part customer spool.now) ≡ Some f → result
         ≡ sending.goes_by (entry_of entry.now) line f }
 {
-    let Ok(kind) = spool.kind(customer, file) else {
-        return false;
-    };
-    let records = SpoolFile::of(spool, customer, file);
-    match destination_of(&records, kind) {
+    match spool.headers(customer, file) {
+        Ok(headers) => destination_goes_by(entry, line, headers.destination),
+        Err(_) => false,
+    }
+}
+
+/// Whether the node of a destination goes by a line.
+fn destination_goes_by(entry: &Customer, line: u16, destination: Option<Destination>) -> bool
+    ensures { result ≡ sending.destination_goes_by (entry_of entry.now) line destination }
+{
+    match destination {
         Some(destination) => node_goes_by(entry, line, &destination.node),
         None => false,
     }
 }
 
 /// Whether a node's route is a line.
-fn node_goes_by(entry: &Customer, line: u16, node: &[u8; FIELD]) -> bool
+pub fn node_goes_by(entry: &Customer, line: u16, node: &[u8; FIELD]) -> bool
     ensures { result ≡ sending.node_goes_by (entry_of entry.now) line node.now }
 {
     match Name::of_field(node) {

@@ -55,16 +55,26 @@ fn frames_of_bytes(rt: HostRuntime) -> Result<(), Fail> {
     check_frames(&rt, rt.alloc(), bytes, b"EANONOTSNSST", b"\x01\x2d\x3d\xc2")
 }
 
+/// A piece ends no frame.
+fn check_none(rt: &impl Abort, deframer: &mut Deframer, piece: &[u8]) {
+    let (_, frame) = deframer.feed(piece);
+    assert!(rt; frame.is_none(), "{piece:?}");
+}
+
+/// A piece ends a text whose data are a DLE.
+fn check_dle(rt: &impl Abort, deframer: &mut Deframer, piece: &[u8]) {
+    let (_, frame) = deframer.feed(piece);
+    assert!(rt; matches!(frame, Some(Frame::Text([0x10]))), "{piece:?}");
+}
+
 #[test]
 fn a_text_in_two_pieces(rt: HostRuntime) -> Result<(), Fail> {
     let bytes = b"\x10\x02\x10\x10\x10\x32\x10\x26";
     let mut deframer = Deframer::new(rt.alloc())?;
     for end in 0..bytes.len() {
         let (front, back) = bytes.split_at(end);
-        let (_, none) = deframer.feed(front);
-        assert!(rt; none.is_none(), "cut at {end}");
-        let (_, frame) = deframer.feed(back);
-        assert!(rt; matches!(frame, Some(Frame::Text([0x10]))), "cut at {end}");
+        check_none(&rt, &mut deframer, front);
+        check_dle(&rt, &mut deframer, back);
     }
     Ok(())
 }

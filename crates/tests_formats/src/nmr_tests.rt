@@ -3,6 +3,7 @@
 use njh_ebcdic::Name;
 use njh_nmr::Nmr;
 use njh_record::Record;
+use std::process::Abort;
 use std::test::Fail;
 
 /// ANNA at LYON asks BUREAU for LIST.
@@ -33,13 +34,18 @@ const MESSAGE: &[u8] = b"\x20\x77\x00\x02\
 fn a_command_and_its_reply(rt: HostRuntime) -> Result<(), Fail> {
     let command = Nmr::read(COMMAND)?;
     assert!(rt; command.is_user_command() && command.message() == b"\xd3\xc9\xe2\xe3".as_slice());
-    let nodes = (command.to(), command.origin());
-    assert!(rt; nodes == (Name::of_text("BUREAU")?, Name::of_text("LYON")?));
+    assert!(rt; command.to() == Name::of_text("BUREAU")?);
+    assert!(rt; command.origin() == Name::of_text("LYON")?);
+    check_reply(&rt, &command);
+    Ok(())
+}
+
+/// The reply to a command, written.
+fn check_reply(rt: &impl Abort, command: &Nmr) {
     let reply = command.reply(command.to(), NO_FILES);
     let mut record = Record::new();
     reply.write(&mut record);
     assert!(rt; !reply.is_user_command() && record.as_slice() == REPLY);
-    Ok(())
 }
 
 #[test]

@@ -1,13 +1,17 @@
 //! Tries the whole program and the hub on what is stored, and prints what they did; the file `stdout` has that, written by hand.
 //!
-//! First come the stored scripts, then what runs have of one customer beside others, streams that fail, the steps of a hub, new
-//! routes, and the names of faults. Last it is the program itself on its own arguments, whose tables are refused, and ends as the program ends then.
+//! First come the stored scripts, then damaged input, what runs have of one customer beside others, streams that fail, the steps of
+//! a hub, new routes, and the names of faults. Last it is the program itself on its own arguments, whose tables are refused, and ends as
+//! the program ends then.
 #![tactic(auto)]
 
 mod customers;
+mod damage;
+mod devices;
 mod new_routes;
 mod peers;
 mod random_runs;
+mod route_lines;
 mod scripts;
 mod steps;
 mod streams;
@@ -21,12 +25,15 @@ use std::rt::Files;
 /// Tries all but the end of the program.
 fn tried<R: Files + Net + Print + AllocGlobal>(rt: &R) -> Result<(), Failure> {
     scripts::compare_all(rt)?;
+    damage::compare_all(rt)?;
+    devices::compare_all(rt)?;
     customers::compare(rt)?;
     random_runs::compare(rt)?;
     streams::fail(rt)?;
     steps::take(rt)?;
     steps::keep(rt)?;
-    new_routes::change(rt)?;
+    new_routes::refuse(rt)?;
+    route_lines::try_each(rt)?;
     steps::refuse(rt)
 }
 

@@ -1,10 +1,12 @@
-//! Random runs of two customers, in pairs: what ACME is sent, and its files, are the same whatever BOLT does.
+//! Random runs of two customers, in pairs: what ACME is sent, and its files, are the same whatever BOLT does. Both are given other
+//! routes now and then.
 
+use crate::new_routes::route;
 use crate::peers::{Numbers, Peer, bytes_at};
 use crate::steps::{bytes_of, of_hub};
-use njh_hub::{Cause, Event, FileView, Sink, SinkFault, outcome, two_runs};
+use njh_hub::{Cause, Event, FileView, RouteList, Sink, SinkFault, outcome, two_runs};
 use njh_program::Failure;
-use njh_table::{LineId, Tables};
+use njh_table::{LineId, RouteEntry, Tables};
 use std::alloc::{AllocError, Global};
 use std::fs;
 use std::rt::Files;
@@ -19,11 +21,11 @@ const PAIRS: u64 = 200;
 
 const ACTS: u32 = 40;
 
-/// Keeps the frames on one customer's lines, each with its line and its length before it.
+/// Keeps the frames on ACME's lines, each with its line and its length before it, and then its files.
 #[derive(Drop)]
 struct Kept {
-    customer: u16,
     bytes: Vec<u8>,
+    files: usize,
     failures: u64,
 }
 
@@ -46,7 +48,7 @@ impl Sink for Kept {
     }
 
     fn send(&mut self, line: LineId, frame: &[u8]) -> Result<(), SinkFault> {
-        if line.customer != self.customer {
+        if line.customer != ACME {
             return Ok(());
         }
         match put_frame(&mut self.bytes, line.line, frame) {
@@ -76,11 +78,13 @@ fn put_file(bytes: &mut Vec<u8>, file: &FileView) -> Result<(), AllocError> {
     Ok(())
 }
 
-/// The lists of records that blocks may have, and the sign-ons of the peers: hex, a line each.
+/// The lists of records that blocks may have, and the sign-ons of the peers: hex, a line each. Of each customer the routes of its table.
 #[derive(Drop)]
 struct Texts {
     records: Vec<Vec<u8>>,
     sign_ons: Vec<Vec<u8>>,
+    own_routes: [RouteEntry; 2],
+    other_routes: [RouteEntry; 2],
 }
 
 fn lines_of<R: Files + AllocGlobal>(rt: &R, file: &str) -> Result<Vec<Vec<u8>>, Failure> {
@@ -108,21 +112,51 @@ fn peers_of(texts: &Texts, customer: u16, second: usize) -> [Peer<'_>; 2] {
     ]
 }
 
-/// What comes on a customer's lines.
+/// A customer's routes: LYON by its first line, and another node by its second.
+fn routes_of(customer: u16, second: &str) -> Result<[RouteEntry; 2], Failure> {
+    Ok([
+        route("LYON", LineId { customer, line: 0 })?,
+        route(second, LineId { customer, line: 1 })?,
+    ])
+}
+
+/// Which of its routes a customer has from now on.
+fn give_routes(
+    alloc: Global,
+    customer: u16,
+    routes: &[RouteEntry],
+    numbers: &mut Numbers,
+    events: &mut Vec<Event>,
+) -> Result<(), AllocError> {
+    let (none, _) = routes.split_at(0);
+    let (front, back) = routes.split_at(routes.len() / 2);
+    let given = match numbers.below(4) {
+        0 => none,
+        1 => front,
+        2 => back,
+        _ => routes,
+    };
+    Ok(events.push(Event::Routes(customer, RouteList::of(alloc, given)?))?)
+}
+
+/// What comes on a customer's lines, and the routes that it is given.
 fn events_of(
     alloc: Global,
     seed: u64,
-    records: &[Vec<u8>],
-    peers: [Peer<'_>; 2],
+    texts: &Texts,
+    customer: u16,
+    second: usize,
+    routes: &[RouteEntry],
 ) -> Result<Vec<Event>, AllocError> {
-    let [mut first, mut second] = peers;
+    let records = texts.records.as_slice();
+    let [mut first, mut second] = peers_of(texts, customer, second);
     let mut numbers = Numbers::from_seed(seed);
     let mut events = Vec::new(alloc);
     for _ in 0..ACTS {
-        if numbers.below(2) == 0 {
-            first.act(alloc, &mut numbers, records, &mut events)?;
-        } else {
-            second.act(alloc, &mut numbers, records, &mut events)?;
+        match numbers.below(16) {
+            0 => give_routes(alloc, customer, routes, &mut numbers, &mut events)?,
+            1..=7 => first.act(alloc, &mut numbers, records, &mut events)?,
+            _ => second.act(alloc, &mut numbers, records, &mut events)?,
         }
     }
     Ok(events)
@@ -160,70 +194,47 @@ fn of_cause(cause: Cause) -> Failure {
     }
 }
 
-/// What ACME is sent in a run and what its files are after it, in bytes; and how many files.
-#[derive(Drop)]
-struct Ending {
-    bytes: Vec<u8>,
-    files: u64,
-}
-
-/// A sink that keeps ACME's frames.
-fn own_sink(alloc: Global) -> Kept {
+/// Nothing was sent.
+fn nothing_kept(alloc: Global) -> Kept {
     Kept {
-        customer: ACME,
         bytes: Vec::new(alloc),
+        files: 0,
         failures: 0,
     }
 }
 
-fn what_came(sink: Kept, views: &[FileView]) -> Result<Ending, AllocError> {
-    let mut bytes = sink.bytes;
+/// ACME's files behind what it was sent.
+fn keep_files(kept: &mut Kept, views: &[FileView]) -> Result<(), AllocError> {
+    kept.files = views.len();
     for view in views {
-        put_file(&mut bytes, view)?;
+        put_file(&mut kept.bytes, view)?;
     }
-    Ok(Ending {
-        bytes,
-        files: views.len() as u64,
-    })
+    Ok(())
 }
 
 /// How ACME ends where these events come.
-fn end_run(alloc: Global, tables: &str, events: &[Event]) -> Result<Ending, Failure> {
-    let mut sink = own_sink(alloc);
-    match outcome(alloc, Tables::read(alloc, tables)?, ACME, events, &mut sink) {
-        Ok(views) => Ok(what_came(sink, &views)?),
+fn end_run(alloc: Global, tables: &str, events: &[Event], kept: &mut Kept) -> Result<(), Failure> {
+    match outcome(alloc, Tables::read(alloc, tables)?, ACME, events, kept) {
+        Ok(views) => Ok(keep_files(kept, &views)?),
         Err(cause) => Err(of_cause(cause)),
     }
 }
 
-/// How ACME ends in two runs, each with its tables and events.
+/// How ACME ends in two runs by the same tables, each with its events.
 fn end_both(
     alloc: Global,
     tables: &str,
-    events: &[Event],
-    others: &str,
-    more: &[Event],
-) -> Result<(Ending, Ending), Failure> {
-    let mut sink = own_sink(alloc);
-    let mut other_sink = own_sink(alloc);
-    let tables = Tables::read(alloc, tables)?;
-    let others = Tables::read(alloc, others)?;
-    match two_runs(
-        alloc,
-        tables,
-        ACME,
-        events,
-        &mut sink,
-        others,
-        ACME,
-        more,
-        &mut other_sink,
-    ) {
+    events: [&[Event]; 2],
+    kept: &mut Kept,
+    others: &mut Kept,
+) -> Result<(), Failure> {
+    let [first, second] = events;
+    let one = Tables::read(alloc, tables)?;
+    let two = Tables::read(alloc, tables)?;
+    match two_runs(alloc, one, ACME, first, kept, two, ACME, second, others) {
         Ok((views, other_views)) => {
-            Ok((
-                what_came(sink, &views)?,
-                what_came(other_sink, &other_views)?,
-            ))
+            keep_files(kept, &views)?;
+            Ok(keep_files(others, &other_views)?)
         }
         Err(cause) => Err(of_cause(cause)),
     }
@@ -237,40 +248,101 @@ fn among_others(
     other: u64,
 ) -> Result<Vec<Event>, Failure> {
     let own = own_events(alloc, texts, seed)?;
-    let others = events_of(alloc, other, &texts.records, peers_of(texts, BOLT, 2))?;
+    let others = events_of(alloc, other, texts, BOLT, 2, &texts.other_routes)?;
     Ok(merged(alloc, other, own, others)?)
 }
 
 /// ACME's events of a seed.
 fn own_events(alloc: Global, texts: &Texts, seed: u64) -> Result<Vec<Event>, Failure> {
-    Ok(events_of(alloc, seed, &texts.records, peers_of(texts, ACME, 1))?)
+    Ok(events_of(alloc, seed, texts, ACME, 1, &texts.own_routes)?)
+}
+
+/// What was found of the pairs.
+#[derive(Clone, Copy)]
+struct Found {
+    unlike: u64,
+    with_files: u64,
+}
+
+/// What ACME has in a run alone.
+fn end_alone(
+    alloc: Global,
+    tables: &str,
+    texts: &Texts,
+    seed: u64,
+    kept: &mut Kept,
+) -> Result<(), Failure> {
+    let events = own_events(alloc, texts, seed)?;
+    end_run(alloc, tables, &events, kept)
+}
+
+/// What ACME has in two runs beside BOLT.
+fn end_pair(
+    alloc: Global,
+    tables: &str,
+    texts: &Texts,
+    seed: u64,
+    kept: &mut Kept,
+    others: &mut Kept,
+) -> Result<(), Failure> {
+    let events = among_others(alloc, texts, seed, seed.wrapping_add(1000))?;
+    let more = among_others(alloc, texts, seed, seed.wrapping_add(2000))?;
+    end_both(alloc, tables, [&events, &more], kept, others)
+}
+
+/// Runs a pair, and ACME alone.
+fn compare_pair(
+    alloc: Global,
+    both: &str,
+    one: &str,
+    texts: &Texts,
+    seed: u64,
+    found: &mut Found,
+) -> Result<(), Failure> {
+    let mut first = nothing_kept(alloc);
+    let mut second = nothing_kept(alloc);
+    let mut third = nothing_kept(alloc);
+    end_pair(alloc, both, texts, seed, &mut first, &mut second)?;
+    end_alone(alloc, one, texts, seed, &mut third)?;
+    if first.bytes != second.bytes || first.bytes != third.bytes {
+        found.unlike = found.unlike.saturating_add(1);
+    }
+    if first.files > 0 {
+        found.with_files = found.with_files.saturating_add(1);
+    }
+    Ok(())
+}
+
+fn compare_all(alloc: Global, both: &str, one: &str, texts: &Texts) -> Result<Found, Failure> {
+    let mut found = Found {
+        unlike: 0,
+        with_files: 0,
+    };
+    for seed in 0..PAIRS {
+        compare_pair(alloc, both, one, texts, seed, &mut found)?;
+    }
+    Ok(found)
 }
 
 /// Runs all pairs, and ACME alone, and says how many aren't alike; and whether files were left in most.
 pub fn compare<R: Files + Print + AllocGlobal>(rt: &R) -> Result<(), Failure> {
-    let alloc = rt.alloc();
     let both = fs::read_to_string(rt, "two_networks.toml")?;
     let one = fs::read_to_string(rt, "acme_alone.toml")?;
-    let texts = Texts {
+    let texts = read_texts(rt)?;
+    let found = compare_all(rt.alloc(), both.as_str(), one.as_str(), &texts)?;
+    println!(rt;
+        "of {PAIRS} pairs of random runs {} aren't alike",
+        found.unlike
+    )?;
+    println!(rt; "files are left in most: {}", found.with_files > PAIRS / 2)?;
+    Ok(())
+}
+
+fn read_texts<R: Files + AllocGlobal>(rt: &R) -> Result<Texts, Failure> {
+    Ok(Texts {
         records: lines_of(rt, "random_records")?,
         sign_ons: lines_of(rt, "random_sign_ons")?,
-    };
-    let mut unlike = 0u64;
-    let mut with_files = 0u64;
-    for seed in 0..PAIRS {
-        let events = among_others(alloc, &texts, seed, 1000 + seed)?;
-        let more = among_others(alloc, &texts, seed, 2000 + seed)?;
-        let alone = own_events(alloc, &texts, seed)?;
-        let (first, second) = end_both(alloc, both.as_str(), &events, both.as_str(), &more)?;
-        let third = end_run(alloc, one.as_str(), &alone)?;
-        if first.bytes != second.bytes || first.bytes != third.bytes {
-            unlike = unlike.saturating_add(1);
-        }
-        if first.files > 0 {
-            with_files = with_files.saturating_add(1);
-        }
-    }
-    println!(rt; "of {PAIRS} pairs of random runs {unlike} aren't alike")?;
-    println!(rt; "files are left in most: {}", with_files > PAIRS / 2)?;
-    Ok(())
+        own_routes: routes_of(ACME, "METZ")?,
+        other_routes: routes_of(BOLT, "PARIS")?,
+    })
 }

@@ -124,14 +124,18 @@ fn take_bytes<R: Print + AllocGlobal>(rt: &R, hub: &mut Hub, digits: &str) -> Re
     show(rt, "take", answer, &out)
 }
 
-/// A step by a signal of a line.
-fn take_signal<R: Print + AllocGlobal>(rt: &R, hub: &mut Hub, event: Event) -> Result<(), Failure> {
+/// A step by a signal of a line: a tick, a garbled text, or the line's loss.
+fn take_signal<R: Print + AllocGlobal>(
+    rt: &R,
+    hub: &mut Hub,
+    step: &str,
+    line: LineId,
+) -> Result<(), Failure> {
     let mut out = Vec::new(rt.alloc());
-    let (step, answer) = match event {
-        Event::Tick(line) => ("tick", hub.tick(line, &mut out)),
-        Event::Garbled(line) => ("garbled", hub.garbled(line, &mut out)),
-        Event::Lost(line) => ("lost", hub.lost(line, &mut out)),
-        Event::Bytes(..) | Event::Routes(..) => ("", Ok(())),
+    let answer = match step {
+        "tick" => hub.tick(line, &mut out),
+        "garbled" => hub.garbled(line, &mut out),
+        _ => hub.lost(line, &mut out),
     };
     show(rt, step, answer.map(|_| 0), &out)
 }
@@ -139,13 +143,17 @@ fn take_signal<R: Print + AllocGlobal>(rt: &R, hub: &mut Hub, event: Event) -> R
 /// Each step answers where there is memory, and takes the bytes of one frame that is answered.
 pub fn take<R: Print + AllocGlobal>(rt: &R) -> Result<(), Failure> {
     let mut hub = open(rt.alloc())?;
-    take_bytes(rt, &mut hub, CONTACTS)?;
-    take_bytes(rt, &mut hub, "")?;
-    take_bytes(rt, &mut hub, SIGN_ON)?;
-    take_signal(rt, &mut hub, Event::Tick(A1))?;
-    take_signal(rt, &mut hub, Event::Garbled(A1))?;
-    take_signal(rt, &mut hub, Event::Tick(NOWHERE))?;
-    take_signal(rt, &mut hub, Event::Lost(A1))
+    take_all(rt, &mut hub)
+}
+
+fn take_all<R: Print + AllocGlobal>(rt: &R, hub: &mut Hub) -> Result<(), Failure> {
+    for digits in [CONTACTS, "", SIGN_ON] {
+        take_bytes(rt, hub, digits)?;
+    }
+    take_signal(rt, hub, "tick", A1)?;
+    take_signal(rt, hub, "garbled", A1)?;
+    take_signal(rt, hub, "tick", NOWHERE)?;
+    take_signal(rt, hub, "lost", A1)
 }
 
 /// Says how many files a customer has.
@@ -187,12 +195,17 @@ pub fn keep<R: Files + Print + AllocGlobal>(rt: &R) -> Result<(), Failure> {
         Ok(hub) => hub,
         Err(fault) => return Err(of_hub(fault)),
     };
+    keep_file(rt, &mut hub)
+}
+
+fn keep_file<R: Print + AllocGlobal>(rt: &R, hub: &mut Hub) -> Result<(), Failure> {
     for digits in [CONTACT, SIGN_ON, REQUEST, FILE] {
-        take_bytes(rt, &mut hub, digits)?;
+        take_bytes(rt, hub, digits)?;
     }
-    show_files(rt, &hub, 0)?;
-    show_files(rt, &hub, 1)?;
-    show_files(rt, &hub, 2)
+    for customer in 0..3 {
+        show_files(rt, hub, customer)?;
+    }
+    Ok(())
 }
 
 /// The event that a line has these bytes.
@@ -202,24 +215,30 @@ fn bytes_came(alloc: Global, digits: &str) -> Result<Event, AllocError> {
 
 /// A sink refuses the second frame: the run says so, with that step counted, and the hub goes on behind it.
 pub fn refuse<R: Print + AllocGlobal>(rt: &R) -> Result<(), Failure> {
-    let alloc = rt.alloc();
-    let mut hub = open(alloc)?;
-    count_files(rt, &hub, 0)?;
-    count_files(rt, &hub, 2)?;
-    let events = [
-        bytes_came(alloc, CONTACT)?,
-        bytes_came(alloc, SIGN_ON)?,
-        bytes_came(alloc, LIST)?,
-    ];
+    let mut hub = open(rt.alloc())?;
+    refuse_second(rt, &mut hub)?;
+    print!(rt; "{}", of_hub(HubFault::Memory))?;
+    Ok(())
+}
+
+fn refuse_second<R: Print + AllocGlobal>(rt: &R, hub: &mut Hub) -> Result<(), Failure> {
+    count_files(rt, hub, 0)?;
+    count_files(rt, hub, 2)?;
+    run_refused(rt, hub)?;
+    take_bytes(rt, hub, LIST)
+}
+
+fn run_refused<R: Print + AllocGlobal>(rt: &R, hub: &mut Hub) -> Result<(), Failure> {
+    let mut events = Vec::new(rt.alloc());
+    for digits in [CONTACT, SIGN_ON, LIST] {
+        events.push(bytes_came(rt.alloc(), digits)?)?;
+    }
     let mut sink = Refusing {
         left: 1,
         failures: 0,
     };
     let ended = hub.run(&events, &mut sink);
-    say_end(rt, ended, sink.failures())?;
-    take_bytes(rt, &mut hub, LIST)?;
-    print!(rt; "{}", of_hub(HubFault::Memory))?;
-    Ok(())
+    say_end(rt, ended, sink.failures)
 }
 
 /// Says where a run stopped.

@@ -6,6 +6,7 @@ ghost use Rattle.njh_spool.specs.CustomerSpool.{next_number, begun, appended, fi
 ghost use Rattle.njh_spool.specs.Chains.{blocks_for};
 ghost use Rattle.njh_spool.specs.Spools.{part, begin_fault, append_fault, or_no_file};
 
+use crate::file_headers::read_headers;
 use crate::file_id::FileId;
 use crate::file_slot::{FileSlot, Stage};
 use crate::laws::quotas_leave_room;
@@ -103,11 +104,13 @@ impl Spool {
         if !slot.is_partial() {
             return Err(SpoolFault::NoSuchFile);
         }
+        let at = place(customer, id);
+        slot.headers = read_headers(&self.store, at, &slot);
         let own = &mut self.customers[usize::from(customer)];
         own.partial.remove(id.number());
         own.whole.push(id.number());
         slot.stage = Stage::Whole(State::Ready);
-        self.slots[place(customer, id) as usize] = slot;
+        self.slots[at as usize] = slot;
         Ok(())
     }
 

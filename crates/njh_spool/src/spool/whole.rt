@@ -3,8 +3,10 @@
 ghost use Rattle.std.specs.Prelude.{◌≡◌, ◌+◌, ◌<◌, ◌≤◌, length, OnErr, IsSomeAnd, slice_get, slice_set};
 ghost use Rattle.std.specs.Option.{option_map, ForSome};
 ghost use Rattle.njh_spool.specs.CustomerSpool.{whole_numbered, with_state, removed, rewritten};
+ghost use Rattle.njh_spool.specs.Headers.{headers_of};
 ghost use Rattle.njh_spool.specs.Spools.{part, or_no_file};
 
+use crate::file_headers::{FileHeaders, headers_behind};
 use crate::file_id::FileId;
 use crate::file_slot::{FileSlot, Stage};
 use crate::places::{place, slot_at};
@@ -43,6 +45,18 @@ impl Spool {
         }
     }
 
+    /// What the headers of a whole file say of it, without a look at its records. S3 where the number is no whole file's.
+    pub fn headers(&self, customer: u16, id: FileId) -> Result<FileHeaders, SpoolFault>
+        requires { customer < length self.now }
+        ensures { result ≡ or_no_file (option_map (λ f. headers_of f.kind f.records) (whole_numbered id (part customer self.now))) }
+    {
+        let slot = slot_at(&self.slots, customer, id);
+        if !slot.is_whole() {
+            return Err(SpoolFault::NoSuchFile);
+        }
+        Ok(slot.headers.said)
+    }
+
     /// S3 where the number is no whole file's.
     pub fn remove(&mut self, customer: u16, id: FileId) -> Result<(), SpoolFault>
         requires { customer < length self.old }
@@ -63,7 +77,8 @@ impl Spool {
         Ok(())
     }
 
-    /// Writes eight bytes over those from a place on of the n-th record.
+    /// Writes eight bytes over those from a place on of the n-th record. Where that is one of the file's headers, what they say is
+    /// read again.
     ///
     /// S3 where the number is no whole file's.
     pub fn rewrite(
@@ -81,7 +96,7 @@ impl Spool {
         ensures after { self.new ≡ slice_set self.old customer (rewritten id n place bytes (part customer self.old)) }
         ensures err { OnErr result (self.new ≡ self.old) }
     {
-        let slot = slot_at(&self.slots, customer, id);
+        let mut slot = slot_at(&self.slots, customer, id);
         if !slot.is_whole() {
             return Err(SpoolFault::NoSuchFile);
         }
@@ -89,6 +104,8 @@ impl Spool {
         let begins = place_of_record(&self.store, at, &slot, n);
         let from = begins.place + (RECORD_HEAD + place) as u32;
         self.store.overwrite(at, begins.mark, from, bytes);
+        slot.headers = headers_behind(&self.store, at, &slot, n);
+        self.slots[at as usize] = slot;
         Ok(())
     }
 }

@@ -88,15 +88,20 @@ fn text_of_file(alloc: Global, file: &str) -> Result<String, Fail> {
 }
 
 fn looked_up<R: Abort>(rt: &R, alloc: Global, tables: &Tables, what: &str) -> Result<String, Fail> {
-    assert!(rt; 1 < tables.customers().len());
     match what.split_once(" ") {
-        Some(("line", name)) => Ok(format!(in alloc; "{:?}", tables.line_owner(name))?),
-        Some(("node", node)) => {
-            let route = tables.route(1, Name::of_text(node)?);
-            Ok(format!(in alloc; "{route:?}")?)
-        }
+        Some(("line", name)) => Ok(owner_of(alloc, tables, name)?),
+        Some(("node", node)) => route_to(rt, alloc, tables, Name::of_text(node)?),
         _ => Err("nothing to look up".into()),
     }
+}
+
+fn owner_of(alloc: Global, tables: &Tables, line: &str) -> Result<String, AllocError> {
+    format!(in alloc; "{:?}", tables.line_owner(line))
+}
+
+fn route_to<R: Abort>(rt: &R, alloc: Global, tables: &Tables, node: Name) -> Result<String, Fail> {
+    assert!(rt; 1 < tables.customers().len());
+    Ok(format!(in alloc; "{:?}", tables.route(1, node))?)
 }
 
 fn are_the_base<R: Abort>(rt: &R, alloc: Global, tables: &Tables) -> Result<(), Fail> {

@@ -1,5 +1,5 @@
-use Rattle.std.proofs.Common.{◌≡◌, ℕ, ap, ◌∙◌, rules}
-use Rattle.std.proofs.KnownBytes.{Keeps-trans}
+use Rattle.std.proofs.Common.{◌≡◌, ◌∙◌, rules}
+use Rattle.std.proofs.KnownBytes.{Appends-kept}
 use Rattle.njh_hub.specs.declared.fault.HubFault.TheVariants.{Memory}
 use Rattle.njh_hub.specs.Own.{first_of}
 use Rattle.njh_hub.specs.Whole.{hub_run}
@@ -7,14 +7,13 @@ use Rattle.njh_program.specs.declared.fault.ReplayFault.TheVariants.{Hub}
 use Rattle.njh_program.specs.Replayed.{fault_after}
 use Rattle.njh_program.specs.Printed.{text_of, AppendsBeginning}
 use Rattle.njh_program.proofs.PrintedParts.{beginning-kept, beginning-part}
-use Rattle.njh_program.proofs.ReplayLaws.{MayEnd-stopped, never_unknown, printed_begins, stopped_begun, stopped_empty, Keeps-none}
+use Rattle.njh_program.proofs.ReplayLaws.{MayEnd-stopped, printed_begins, stopped_begun, stopped_whole, stopped_at_routes}
 use Rattle.njh_program.proofs.replaying.print_run.Goals as goal
 
 pub returns-in-Err-clause-faults : goal.returns-in-Err-clause-faults
 returns-in-Err-clause-faults g c =
     let fault = c.in-Err.fault in
-    rw c.fault_after.ensures (MayEnd-stopped fault.cause c.in-Err.ensures.causes
-    (λ unknown. never_unknown c.args.hub.now c.args.events.now fault.events c.requires (c.in-Err.ensures.unknown unknown)))
+    rw c.fault_after.ensures (MayEnd-stopped c.args.hub.now c.args.events.now fault.events c.requires fault.cause c.in-Err.ensures.causes)
 
 pub returns-in-Err-clause-begun : goal.returns-in-Err-clause-begun
 returns-in-Err-clause-begun g c =
@@ -40,10 +39,8 @@ returns-in-Err-clause-memory g c = λ memory.
     let start = c.args.hub.now in
     let events = c.args.events.now in
     let stop : fault_after fault.cause ≡ Hub Memory = cc (c.fault_after.ensures, memory) in
-    let printed = stopped_empty _ _ fault.cause _ _
-    (hub_run start (first_of events fault.events fault.bytes)).sent c.in-Err.ensures.handed stop
-    (λ why. let at = c.in-Err.ensures.memory why in
-    ap (λ (n : ℕ). (hub_run start (first_of events n fault.bytes)).sent) at.0
-    ∙ ap (λ (n : ℕ). (hub_run start (first_of events 0 n)).sent) at.1) in
-    let same = printed.0 in
-    Keeps-trans _ _ _ (Keeps-none _ _ printed.1.1) (search (rules, same))
+    let stopped = stopped_whole _ _ fault.cause _ _ (hub_run start (first_of events fault.events fault.bytes)).sent c.in-Err.ensures.handed stop in
+    let at = c.in-Err.ensures.memory stopped.0 in
+    let same = stopped.1.0 in
+    stopped_at_routes c.args.names.now start events fault.events fault.bytes _ _ at.0 at.1
+    (Appends-kept _ _ _ _ stopped.1.1.1 (search (rules, same)))

@@ -3,15 +3,14 @@ use Rattle.std.proofs.lemmas.Option.{IfSome_then}
 use Rattle.std.proofs.lemmas.Result.{IfOk-weaker}
 use Rattle.njh_program.specs.Replayed.{HasScript}
 use Rattle.njh_program.specs.Script.{script_of}
-use Rattle.njh_table.specs.TableFile.{owner_of}
 use Rattle.njh_program.proofs.replaying.read_events.Goals as goal
 
 pub returns-clause-good : goal.returns-clause-good
 returns-clause-good g c =
     let within = c.in_ok-text.ensures.within in
     IfOk-weaker c.events_of.result
-    (λ events. script_of (owner_of c.args.tables.now) c.deref.result.now ≡ Ok events.items)
-    (λ events. HasScript (owner_of c.args.tables.now) (g.R.Read.remaining c.args.script.now) events.items)
+    (λ events. script_of c.args.tables.now c.deref.result.now ≡ Ok events.items)
+    (λ events. HasScript c.args.tables.now (g.R.Read.remaining c.args.script.now) events.items)
     (λ events said. IfSome_then (g.R.Read.remaining c.args.script.now) c.in_ok-text.ensures.text
     (λ text same. let read : c.deref.result.now ≡ text = search rules in (omega (arith, ap (length {A = ℕ}) same), rw read at said)))
     c.events_of.ensures.events

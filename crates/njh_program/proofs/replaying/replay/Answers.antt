@@ -1,8 +1,11 @@
-use Rattle.std.proofs.Common.{List, inr, subst}
+use Rattle.std.proofs.Common.{List, map, inl, inr, subst}
 use Rattle.std.specs.Io.KnownBytes.{Appends}
 use Rattle.njh_hub.specs.declared.event.Event.{Event}
-use Rattle.njh_program.specs.Printed.{AppendsBeginning}
-use Rattle.njh_program.specs.Replayed.{text_of_run}
+use Rattle.njh_hub.specs.Parts.{entries_of}
+use Rattle.njh_hub.specs.Whole.{opened}
+use Rattle.njh_program.specs.Names.{customers_of, names_of}
+use Rattle.njh_program.specs.Printed.{AppendsBeginning, IsPrintedUpTo}
+use Rattle.njh_program.specs.Replayed.{text_of_run, text_with, IsSentUpTo}
 use Rattle.njh_program.proofs.PrintedParts.{on_err_then}
 use Rattle.njh_program.proofs.ReplayLaws.{on_ok_then}
 use Rattle.njh_program.proofs.replaying.replay.Goals as goal
@@ -24,3 +27,20 @@ returns-clause-begun g c =
     on_err_then c.print_events.result (P c.deref.result.now) _
     (λ begun. inr (c.in_ok-events.events.items, c.in_ok-events.ensures.good, subst P c.deref.ensures.value begun))
     c.print_events.ensures.begun
+
+pub returns-clause-memory : goal.returns-clause-memory
+returns-clause-memory g c = λ memory.
+    let contents = g.W.Write.contents in
+    let tables = c.args.tables in
+    let events = c.in_ok-events.events.items in
+    let P : List Event → Type 0 = λ es. IsSentUpTo (names_of tables) (map opened (entries_of tables)) es (contents c.args.out.now)
+    (contents c.print_events.new.out) in
+    let Q : List Event → Type 0 = λ es. IsPrintedUpTo (customers_of tables) (contents c.args.out.now) (contents c.print_events.new.out)
+    (text_with tables es) in
+    elim (c.print_events.ensures.memory memory) [
+      | inl kept ↦ inl kept
+      | inr later ↦ inr (elim later [
+        | inl sent ↦ inl (events, c.in_ok-events.ensures.good, subst P c.deref.ensures.value sent)
+        | inr printed ↦ inr (events, c.in_ok-events.ensures.good, subst Q c.deref.ensures.value printed)
+      ])
+    ]

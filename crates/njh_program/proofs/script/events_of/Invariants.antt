@@ -1,15 +1,14 @@
 use Rattle.std.proofs.Common.{◌≡◌, ◌+◌, ◌≤◌, length, drop}
 use Rattle.std.specs.Prelude.{All}
-use Rattle.njh_table.specs.TableFile.{owner_of, HasLine}
-use Rattle.njh_hub.specs.Own.{line_of}
 use Rattle.njh_program.specs.Script.{lines_of}
+use Rattle.njh_program.specs.ScriptRoutes.{IsNamedIn}
 use Rattle.njh_program.proofs.Lines.{Reads}
 use Rattle.njh_program.proofs.script.events_of.Given as goal
 
 abbrev pub invariant-lines : goal.invariant-lines
 invariant-lines l = record {
-  reads : Reads (owner_of l.tables) (lines_of l.text) l.number l.events.items;
-  lines : All (λ event. HasLine l.tables (line_of event)) l.events.items;
+  reads : Reads l.tables (lines_of l.text) l.number l.events.items;
+  named : All (IsNamedIn l.tables) l.events.items;
   left : drop l.number (lines_of l.text) ≡ lines_of l.rest;
   few : l.number + length l.rest ≤ length l.text;
 }

@@ -11,8 +11,8 @@ use Rattle.njh_hub.specs.Own.{line_of, events_of, bytes_in_event, first_of}
 use Rattle.njh_hub.specs.Stops.{HandedUntil, IfHub, IsRefused, IsRoutes}
 use Rattle.njh_hub.specs.Whole.{Part, part, HubRun, IsNamed, hub_run}
 use Rattle.njh_hub.proofs.RunLaws.{each_is_alone}
-use Rattle.njh_hub.proofs.RunningLaws.{stopped_in, went_on, HandedUntil-after, HandedUntil-some, hub_run-length}
-use Rattle.njh_hub.proofs.RunningLaws.{All-more, LedOn, behind-known, either_event, found_at, led_on, named-before, refused_at}
+use Rattle.njh_hub.proofs.RunningLaws.{stopped_in, went_on, HandedUntil-after, HandedUntil-some}
+use Rattle.njh_hub.proofs.NamedLaws.{All-more, LedOn, behind-known, either_event, found_at, hub_run-length, led_on, named-before, refused_at}
 use Rattle.njh_hub.proofs.hub.Hub.run.Goals as goal
 
 pub returns-in-Err-clause-parts : goal.returns-in-Err-clause-parts

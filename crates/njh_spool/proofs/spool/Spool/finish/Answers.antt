@@ -1,11 +1,14 @@
-use Rattle.std.proofs.Common.{◌≡◌, ℕ, ◌+◌, ◌*◌, not, eqb, List, [], ◌∷◌, ◌++◌, length, set}
+use Rattle.std.proofs.Common.{◌≡◌, ℕ, ◌+◌, ◌*◌, true, not, eqb, List, [], ◌∷◌, ◌++◌, length, set}
 use Rattle.std.proofs.Common.{filter, refl, sym, ap, subst, ◌∙◌, arith}
 use Rattle.njh_spool.specs.declared.file_slot.FileSlot.{FileSlot}
 use Rattle.njh_spool.specs.declared.file_slot.Stage.TheVariants.{Whole}
 use Rattle.njh_spool.specs.declared.customer_files.CustomerFiles.{CustomerFiles}
 use Rattle.njh_spool.specs.CustomerSpool.{CustomerSpool, finished}
 use Rattle.njh_spool.specs.Spools.{part}
-use Rattle.njh_spool.specs.Slots.{contents, slot_of, is_partial, is_whole, spools_of}
+use Rattle.njh_spool.specs.Slots.{contents, slot_of, is_partial, is_whole, spools_of, IsFile}
+use Rattle.njh_spool.specs.Chains.{Chain, chain_at}
+use Rattle.njh_spool.specs.Headers.{kept_headers}
+use Rattle.njh_spool.specs.Packing.{unpacked}
 use Rattle.njh_spool.proofs.KeptLaws.{own_of, own_is, Moves}
 use Rattle.njh_spool.proofs.CallFinds as finds
 use Rattle.njh_spool.proofs.CallLaws as call
@@ -18,13 +21,28 @@ use Rattle.njh_spool.specs.declared.State.TheVariants.{Ready}
 use Rattle.njh_spool.specs.Slots.{whole_file, partial_file}
 use Rattle.njh_spool.proofs.SlotLaws.{once_some}
 use Rattle.njh_spool.proofs.spool.Spool.finish.Goals as goal
-use Rattle.njh_spool.proofs.spool.Spool.finish.Goals.{After-index_mut, After-is_partial, After-index_mut-own}
+use Rattle.njh_spool.proofs.spool.Spool.finish.Goals.{After-index_mut, After-is_partial, After-index_mut-own, After-place-at}
 
 pub slot_at-slot-requires : goal.slot_at-slot-requires
 slot_at-slot-requires c =
     let has = finds.has c.self.inside.store c.self.inside.slots.items c.self.inside.customers.items c.args.customer c.args.id
     c.self.invariant (rw c.self.view_is c.requires) in
     omega (arith, has.slot_within 1023 (omega arith), ap length c.deref.ensures.value)
+
+-- the file that is there
+file_is : (c : After-place-at) → c.is_partial.result ≡ true → IsFile c.slot_at-slot.result (chain_at c.place-at.result c.self.inside.store)
+file_is c there =
+    let same = c.slot_at-slot.ensures ∙ ap (λ (xs : List FileSlot). slot_of xs c.args.customer c.args.id) c.deref.ensures.value in
+    let stage = ap (λ (x : FileSlot). is_partial x.stage) (sym same) ∙ sym c.is_partial.ensures ∙ there in
+    let small = finds.small_partial c.self.inside.store c.self.inside.slots.items c.self.inside.customers.items c.args.customer
+    c.args.id c.self.invariant (rw c.self.view_is c.requires) stage in
+    let chain = ap (λ (i : ℕ). chain_at i c.self.inside.store) c.place-at.ensures ∙ finds.chain_is c.self.inside.store
+    c.self.inside.slots.items c.self.inside.customers.items c.args.customer c.args.id c.self.invariant
+    (rw c.self.view_is c.requires) small in
+    rw (same, chain) (c.self.invariant.files c.args.customer c.args.id)
+
+pub read_headers-slot-requires-clause-file : goal.read_headers-slot-requires-clause-file
+read_headers-slot-requires-clause-file c = file_is (goal.at.read_headers-slot-requires-clause-file c).After-place-at c.if-not-is_partial.false
 
 stage_is : (c : After-is_partial) → is_partial (slot_of c.self.inside.slots.items c.args.customer c.args.id).stage ≡ c.is_partial.result
 stage_is c = ap (λ (x : FileSlot). is_partial x.stage)
@@ -96,7 +114,8 @@ push-requires-clause-absent c =
     ∙ ap (λ (x : Stage). cond {A = ℕ} (is_whole x) 1 0) stage
 
 moved : (c : After-index_mut) → Moves c.self.inside.store c.self.inside.slots.items c.self.inside.customers.items
-    c.self.inside.store (set c.self.inside.slots.items c.place.result (record c.slot_at-slot.result { stage = Whole Ready }))
+    c.self.inside.store (set c.self.inside.slots.items c.place-at.result
+    (record c.slot_at-slot.result { stage = Whole Ready; headers = c.read_headers-slot.result }))
     (set c.self.inside.customers.items c.from.result (record c.index_mut-own.result.now {
       whole = c.push.new.self;
       partial =
@@ -112,6 +131,14 @@ moved c =
     c.args.id c.self.invariant (rw c.self.view_is c.requires) there in
     let own = own_is c.self.inside.customers.items c.args.customer c.from.result c.index_mut-own.result.now has.within
     c.from.ensures c.index_mut-own.ensures.value in
+    let chain = ap (λ (i : ℕ). chain_at i c.self.inside.store) c.place-at.ensures ∙ finds.chain_is c.self.inside.store
+    c.self.inside.slots.items c.self.inside.customers.items c.args.customer c.args.id c.self.invariant
+    (rw c.self.view_is c.requires) small in
+    let said =
+    c.read_headers-slot.ensures
+    ∙ ap (λ (x : FileSlot). kept_headers x.kind (unpacked x.count (chain_at c.place-at.result c.self.inside.store).bytes)) same
+    ∙ ap (λ (x : Chain). kept_headers (slot_of c.self.inside.slots.items c.args.customer c.args.id).kind
+    (unpacked (slot_of c.self.inside.slots.items c.args.customer c.args.id).count x.bytes)) chain in
     let list = c.remove.ensures ∙ ap (λ (k : ℕ). filter (λ m. not (eqb m k)) c.index_mut-own.result.now.partial) c.number.ensures in
     let longer = c.push.ensures ∙ ap (λ (k : ℕ). c.index_mut-own.result.now.whole ++ k ∷ []) c.number-2.ensures in
     let owns =
@@ -128,13 +155,13 @@ moved c =
     }) own in
     call.arrives c.self.inside.store c.self.inside.slots.items c.self.inside.customers.items c.args.customer c.args.id
     c.self.invariant (rw c.self.view_is c.requires) c.self.inside.store c.self.inside.store
-    (record c.slot_at-slot.result { stage = Whole Ready })
-    (record c.index_mut-own.result.now { whole = c.push.new.self; partial = c.remove.new.self }) c.place.result
+    (record c.slot_at-slot.result { stage = Whole Ready; headers = c.read_headers-slot.result })
+    (record c.index_mut-own.result.now { whole = c.push.new.self; partial = c.remove.new.self }) c.place-at.result
     c.from.result (finished c.args.id (part c.args.customer (spools_of c.self.inside.customers.items
-    (contents c.self.inside.slots.items c.self.inside.store.chains)))) refl c.place.ensures c.from.ensures
+    (contents c.self.inside.slots.items c.self.inside.store.chains)))) refl c.place-at.ensures c.from.ensures
     (subst (λ (x : FileSlot). Moves c.self.inside.store c.self.inside.slots.items c.self.inside.customers.items
     c.self.inside.store (set c.self.inside.slots.items (1024 * c.args.customer + c.args.id)
-    (record x { stage = Whole Ready })) (set c.self.inside.customers.items c.args.customer
+    (record x { stage = Whole Ready; headers = c.read_headers-slot.result })) (set c.self.inside.customers.items c.args.customer
     (record c.index_mut-own.result.now { whole = c.push.new.self; partial = c.remove.new.self })) c.args.customer
     (finished c.args.id (part c.args.customer (spools_of c.self.inside.customers.items
     (contents c.self.inside.slots.items c.self.inside.store.chains))))) (sym same)
@@ -143,7 +170,7 @@ moved c =
       whole = c.push.new.self;
       partial =
           c.remove.new.self;
-    }) there owns small))
+    }) c.read_headers-slot.result said there owns small))
 
 pub invariant_of-self : goal.invariant_of-self
 invariant_of-self c = (moved (goal.at.invariant_of-self c).After-index_mut).kept

@@ -1,7 +1,10 @@
 use Rattle.std.proofs.Common.{◌≡◌, ℕ, ◌+◌, ◌*◌, ◌<◌, ◌≤◌, List, length, set}
 use Rattle.std.proofs.Common.{Some, refl, sym, ap, subst, ◌∙◌, arith}
 use Rattle.njh_spool.specs.declared.file_slot.FileSlot.{FileSlot}
-use Rattle.njh_spool.specs.Chains.{Chain, StoreValue, chain_at}
+use Rattle.njh_spool.specs.Chains.{Chain, StoreValue, chain_at, empty_chain}
+use Rattle.njh_spool.specs.Headers.{kept_headers}
+use Rattle.std.proofs.lemmas.List.{get_or-set_same}
+use Rattle.std.proofs.Common.{length-set, true}
 use Rattle.njh_spool.specs.CustomerSpool.{CustomerSpool}
 use Rattle.njh_spool.specs.CustomerSpool.{rewritten}
 use Rattle.njh_spool.specs.Spools.{part}
@@ -20,7 +23,7 @@ use Rattle.njh_spool.proofs.PackingLaws.{length-unpacked}
 use Rattle.njh_spool.proofs.PlaceLaws.{within_some}
 use Rattle.njh_spool.proofs.RecordLaws.{in_file}
 use Rattle.njh_spool.proofs.spool.Spool.rewrite.Goals as goal
-use Rattle.njh_spool.proofs.spool.Spool.rewrite.Goals.{After-is_whole, After-place_of_record-begins, After-overwrite}
+use Rattle.njh_spool.proofs.spool.Spool.rewrite.Goals.{After-is_whole, After-place_of_record-begins, After-overwrite, After-index_mut}
 
 pub slot_at-slot-requires : goal.slot_at-slot-requires
 slot_at-slot-requires c =
@@ -140,11 +143,32 @@ overwrite-requires-clause-within c =
     let to = goes (goal.at.overwrite-requires-clause-within c).After-place_of_record-begins in
     omega (arith, to.within, ap (λ (x : Chain). length x.bytes) to.chain)
 
-moved : (c : After-overwrite) → Moves c.self.inside.store c.self.inside.slots.items c.self.inside.customers.items
-    c.overwrite.new.self c.self.inside.slots.items c.self.inside.customers.items c.args.customer
-    (rewritten c.args.id c.args.n c.args.place c.args.bytes
-    (part c.args.customer (spools_of c.self.inside.customers.items (contents c.self.inside.slots.items c.self.inside.store.chains))))
-moved c =
+-- the chain with the bytes written over
+abbrev chain_then : StoreValue → ℕ → ℕ → ℕ → List ℕ → Chain
+chain_then store customer id at bytes =
+    record {
+      keys = (chain_of store.chains customer id).keys;
+      bytes = with_field at bytes (chain_of store.chains customer id).bytes;
+    }
+
+-- the facts of the record that is rewritten, in the terms of the laws
+record Rewrites (store : StoreValue) (slots : List FileSlot) (slot : FileSlot) (customer id n at place index : ℕ) (bytes : List ℕ)
+    (store' : StoreValue) : Type 0 where
+  same : slot ≡ slot_of slots customer id
+  there : is_whole (slot_of slots customer id).stage ≡ true
+  small : id < 1024
+  counted : n < (slot_of slots customer id).count
+  begins : at ≡ stored_size (take n (unpacked (slot_of slots customer id).count (chain_of store.chains customer id).bytes)) + 3 + place
+  fits : IsSomeAnd (slice_get (unpacked (slot_of slots customer id).count (chain_of store.chains customer id).bytes) n)
+      (λ r. place + length bytes ≤ length r.bytes)
+  after : store' ≡ with_chain (1024 * customer + id) (chain_then store customer id at bytes) store
+  chain : chain_at index store' ≡ chain_then store customer id at bytes
+  inside : index < length store'.chains
+
+rewrites : (c : After-overwrite) → Rewrites c.self.inside.store c.self.inside.slots.items c.slot_at-slot.result c.args.customer
+    c.args.id c.args.n (c.place_of_record-begins.result.place + (3 + c.args.place)) c.args.place c.place-at.result c.args.bytes
+    c.overwrite.new.self
+rewrites c =
     let same = c.slot_at-slot.ensures ∙ ap (λ (xs : List FileSlot). slot_of xs c.args.customer c.args.id) c.deref.ensures.value in
     let there = ap (λ (x : FileSlot). is_whole x.stage) (sym same) ∙ sym c.is_whole.ensures ∙ c.if-not-is_whole.false in
     let inner : IsSomeAnd (slice_get (unpacked (slot_of c.self.inside.slots.items c.args.customer c.args.id).count
@@ -202,16 +226,78 @@ moved c =
           with_field at c.args.bytes (chain_of c.self.inside.store.chains c.args.customer c.args.id).bytes;
     }) c.self.inside.store)
     c.place-at.ensures in
-    subst (λ (t : StoreValue). Moves c.self.inside.store c.self.inside.slots.items c.self.inside.customers.items t
-    c.self.inside.slots.items c.self.inside.customers.items c.args.customer (rewritten c.args.id c.args.n c.args.place
-    c.args.bytes (part c.args.customer (spools_of c.self.inside.customers.items
-    (contents c.self.inside.slots.items c.self.inside.store.chains))))) (sym store)
+    let has = finds.has c.self.inside.store c.self.inside.slots.items c.self.inside.customers.items c.args.customer c.args.id
+    c.self.invariant (rw c.self.view_is c.requires.range) in
+    let here = 1024 * c.args.customer + c.args.id in
+    let then = chain_then c.self.inside.store c.args.customer c.args.id at c.args.bytes in
+    record {
+      same = same;
+      there = there;
+      small = small;
+      counted = counted;
+      begins = omega (arith, begins);
+      fits = fits;
+      after = store;
+      chain = ap (λ (i : ℕ). chain_at i c.overwrite.new.self) c.place-at.ensures ∙ ap (chain_at here) store
+          ∙ get_or-set_same c.self.inside.store.chains here then empty_chain (has.chain_within c.args.id small);
+      inside = omega (
+        arith,
+        ap (λ (t : StoreValue). length t.chains) store,
+        length-set c.self.inside.store.chains here then,
+        has.chain_within c.args.id small,
+        c.place-at.ensures,
+      );
+    }
+
+pub headers_behind-slot-requires-clause-range : goal.headers_behind-slot-requires-clause-range
+headers_behind-slot-requires-clause-range c = (rewrites (goal.at.headers_behind-slot-requires-clause-range c).After-overwrite).inside
+
+pub headers_behind-slot-requires-clause-file : goal.headers_behind-slot-requires-clause-file
+headers_behind-slot-requires-clause-file c =
+    let is = rewrites (goal.at.headers_behind-slot-requires-clause-file c).After-overwrite in
+    rw (is.same, is.chain) (call.still_file c.self.inside.store c.self.inside.slots.items c.self.inside.customers.items
+    c.args.customer c.args.id c.self.invariant (rw c.self.view_is c.requires.range) c.args.n
+    (c.place_of_record-begins.result.place + (3 + c.args.place)) c.args.place c.args.bytes is.there is.small is.begins
+    is.counted is.fits)
+
+moved : (c : After-index_mut) → Rewrites c.self.inside.store c.self.inside.slots.items c.slot_at-slot.result c.args.customer
+    c.args.id c.args.n (c.place_of_record-begins.result.place + (3 + c.args.place)) c.args.place c.place-at.result c.args.bytes
+    c.overwrite.new.self → Moves c.self.inside.store c.self.inside.slots.items c.self.inside.customers.items
+    c.overwrite.new.self (set c.self.inside.slots.items c.place-at.result
+    (record c.slot_at-slot.result { headers = c.headers_behind-slot.result })) c.self.inside.customers.items c.args.customer
+    (rewritten c.args.id c.args.n c.args.place c.args.bytes
+    (part c.args.customer (spools_of c.self.inside.customers.items (contents c.self.inside.slots.items c.self.inside.store.chains))))
+moved c is =
+    let s : CustomerSpool = rewritten c.args.id c.args.n c.args.place c.args.bytes
+    (part c.args.customer (spools_of c.self.inside.customers.items (contents c.self.inside.slots.items c.self.inside.store.chains))) in
+    let at = c.place_of_record-begins.result.place + (3 + c.args.place) in
+    let slot : FileSlot = slot_of c.self.inside.slots.items c.args.customer c.args.id in
+    let then : Chain = chain_then c.self.inside.store c.args.customer c.args.id at c.args.bytes in
+    let again : c.args.n < slot.headers.count → c.headers_behind-slot.result ≡ kept_headers slot.kind (unpacked slot.count then.bytes) =
+    λ before.
+    c.headers_behind-slot.ensures.read (omega (arith, before, ap (λ (x : FileSlot). x.headers.count) is.same))
+    ∙ ap (λ (x : FileSlot). kept_headers x.kind (unpacked x.count (chain_at c.place-at.result c.overwrite.new.self).bytes)) is.same
+    ∙ ap (λ (x : Chain). kept_headers slot.kind (unpacked slot.count x.bytes)) is.chain in
+    let kept : slot.headers.count ≤ c.args.n → c.headers_behind-slot.result ≡ slot.headers =
+    λ behind.
+    c.headers_behind-slot.ensures.same (omega (arith, behind, ap (λ (x : FileSlot). x.headers.count) is.same))
+    ∙ ap (λ (x : FileSlot). x.headers) is.same in
+    subst (λ (i : ℕ). Moves c.self.inside.store c.self.inside.slots.items c.self.inside.customers.items c.overwrite.new.self
+    (set c.self.inside.slots.items i (record c.slot_at-slot.result { headers = c.headers_behind-slot.result }))
+    c.self.inside.customers.items c.args.customer s) (sym c.place-at.ensures)
+    (subst (λ (x : FileSlot). Moves c.self.inside.store c.self.inside.slots.items c.self.inside.customers.items
+    c.overwrite.new.self (set c.self.inside.slots.items (1024 * c.args.customer + c.args.id)
+    (record x { headers = c.headers_behind-slot.result })) c.self.inside.customers.items c.args.customer s) (sym is.same)
+    (subst (λ (t : StoreValue). Moves c.self.inside.store c.self.inside.slots.items c.self.inside.customers.items t
+    (set c.self.inside.slots.items (1024 * c.args.customer + c.args.id) (record slot { headers = c.headers_behind-slot.result }))
+    c.self.inside.customers.items c.args.customer s) (sym is.after)
     (call.rewrites c.self.inside.store c.self.inside.slots.items c.self.inside.customers.items c.args.customer c.args.id
-    c.self.invariant (rw c.self.view_is c.requires.range) c.args.n at c.args.place c.args.bytes there small
-    (omega (arith, begins)) counted fits)
+    c.self.invariant (rw c.self.view_is c.requires.range) c.args.n at c.args.place c.args.bytes is.there is.small is.begins
+    is.counted is.fits c.headers_behind-slot.result again kept)))
 
 pub invariant_of-self : goal.invariant_of-self
-invariant_of-self c = (moved (goal.at.invariant_of-self c).After-overwrite).kept
+invariant_of-self c =
+    (moved (goal.at.invariant_of-self c).After-index_mut (rewrites (goal.at.invariant_of-self c).After-overwrite)).kept
 
 pub returns-clause-answer : goal.returns-clause-answer
 returns-clause-answer c =
@@ -224,6 +310,6 @@ returns-clause-answer c =
 
 pub returns-clause-after : goal.returns-clause-after
 returns-clause-after c =
-    (moved (goal.at.returns-clause-after c).After-overwrite).spools
+    (moved (goal.at.returns-clause-after c).After-index_mut (rewrites (goal.at.returns-clause-after c).After-overwrite)).spools
     ∙ ap (λ (old : List CustomerSpool). set old c.args.customer (rewritten c.args.id c.args.n c.args.place c.args.bytes
     (part c.args.customer old))) c.self.view_is

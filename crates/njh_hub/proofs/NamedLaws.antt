@@ -1,0 +1,140 @@
+-- What the events of a run name, and why one of them is refused.
+use Rattle.std.proofs.Common.{◌≡◌, ℕ, ◌+◌, ◌<◌, ◌≤◌, List, [], ◌∷◌, ◌++◌, length, take, set, get_or}
+use Rattle.std.proofs.Common.{Option, None, Some, refl, ap, sym, subst, ◌∙◌, ⊎_elim, arith, inl, inr}
+use Rattle.std.proofs.Common.{◌⊎◌}
+use Rattle.std.proofs.lemmas.List.{length-set, take_more}
+use Rattle.std.proofs.lemmas.Option.{slice_get-get_or}
+use Rattle.std.proofs.lemmas.List.Elements.{All-push, All-same}
+use Rattle.std.specs.Prelude.{All, IsSome, IsSomeAnd, slice_get}
+use Rattle.std.proofs.lemmas.Bool.{cases_lt}
+use Rattle.njh_table.specs.declared.LineId.{LineId}
+use Rattle.njh_table.specs.NewRoutes.{NewRoute, own_routes, routes_checked}
+use Rattle.njh_hub.specs.declared.event.Event.{Event}
+use Rattle.njh_hub.specs.declared.event.Event.TheVariants.{Bytes, Tick, Garbled, Lost, Routes}
+use Rattle.njh_customer.specs.Laws.{EventsKeepFaults}
+use Rattle.njh_customer.specs.Runs.{OwnEvent, alone_run, event_run}
+use Rattle.njh_hub.specs.Own.{customer_of, line_of, routes_of, own, events_of}
+use Rattle.njh_hub.specs.declared.fault.Cause.{Cause}
+use Rattle.njh_hub.specs.declared.fault.Cause.TheVariants.{Hub, Sink}
+use Rattle.njh_hub.specs.declared.fault.HubFault.{HubFault}
+use Rattle.njh_hub.specs.declared.fault.HubFault.TheVariants.{UnknownLine, UnknownCustomer, Memory, BadRoutes}
+use Rattle.njh_hub.specs.Stops.{IfHub, IsRefused, IsRoutes}
+use Rattle.njh_hub.specs.Whole.{Part, part, HasLine, IsNamed, SameLines, hub_run}
+use Rattle.njh_hub.proofs.RunLaws.{each_is_alone}
+
+-- a hub keeps its customers over a run
+pub hub_run-length : (parts : List Part) (events : List Event) → length (hub_run parts events).parts ≡ length parts
+hub_run-length parts [] = refl
+hub_run-length parts (event ∷ events) =
+    let c = customer_of event in
+    let after = (event_run (part c parts) (own event)).after in
+    hub_run-length (set parts c after) events ∙ length-set parts c after
+
+alone_run-checked : EventsKeepFaults → (p : Part) (events : List OwnEvent) (routes : List NewRoute) →
+    routes_checked (alone_run p events).after.customer.entry routes ≡ routes_checked p.customer.entry routes
+alone_run-checked kept p [] routes = refl
+alone_run-checked kept p (event ∷ events) routes = alone_run-checked kept (event_run p event).after events routes ∙ kept p event routes
+
+-- A hub that some events led on has the same lines and customers, and refuses the same routes.
+pub record LedOn (start now : List Part) : Type 0 where
+  pub many : length now ≡ length start
+  pub lines : SameLines start now
+  pub checked : (c : ℕ) → c < length start → (routes : List NewRoute)
+      → routes_checked (part c now).customer.entry routes ≡ routes_checked (part c start).customer.entry routes
+
+pub led_on : EventsKeepFaults → (start now : List Part) (events : List Event) → now ≡ (hub_run start events).parts → SameLines start now
+    → LedOn start now
+led_on kept start now events leads same = record {
+  many = ap (λ (ps : List Part). length ps) leads ∙ hub_run-length start events;
+  lines = same;
+  checked = λ c there routes. ap (λ (ps : List Part). routes_checked (part c ps).customer.entry routes) leads
+      ∙ ap (λ (p : Part). routes_checked p.customer.entry routes) (each_is_alone c start events there).after
+      ∙ alone_run-checked kept (part c start) (events_of c events) routes;
+}
+
+-- so it names what it named before, and refuses what it refused
+pub named-before : (start now : List Part) → LedOn start now → (event : Event) → IsNamed now event → IsNamed start event
+named-before start now on (Bytes line piece) known = omega (arith, known, on.lines line.customer)
+named-before start now on (Tick line) known = omega (arith, known, on.lines line.customer)
+named-before start now on (Garbled line) known = omega (arith, known, on.lines line.customer)
+named-before start now on (Lost line) known = omega (arith, known, on.lines line.customer)
+named-before start now on (Routes c routes) known =
+    let there : c < length start = omega (arith, known.0, on.many) in (there, sym (on.checked c there (own_routes c routes)) ∙ known.1)
+
+IsSomeAnd-weaker : {X : Type 0} (P Q : X → Type 0) → ((x : X) → P x → Q x) → (o : Option X) → IsSomeAnd o P → IsSomeAnd o Q
+IsSomeAnd-weaker P Q weaker None is = is
+IsSomeAnd-weaker P Q weaker (Some x) is = weaker x is
+
+pub refused-before : (start now : List Part) → LedOn start now → (event : Event) (why : HubFault) → IsRefused now event why →
+    IsRefused start event why
+refused-before start now on event UnknownLine refused = IsSomeAnd-weaker _ _
+    (λ line nowhere known. nowhere (omega (arith, known, on.lines line.customer))) (line_of event) refused
+refused-before start now on event UnknownCustomer refused = IsSomeAnd-weaker _ _
+    (λ given nowhere there. nowhere (omega (arith, there, on.many))) (routes_of event) refused
+refused-before start now on event (BadRoutes cause) refused = IsSomeAnd-weaker _ _
+    (λ given bad. let there : given.0 < length start = omega (arith, bad.0, on.many) in
+    (there, sym (on.checked given.0 there (own_routes given.0 given.1)) ∙ bad.1)) (routes_of event) refused
+refused-before start now on event Memory refused = named-before start now on event refused
+
+-- why a step on a line is refused
+pub step-refused : (parts : List Part) (event : Event) (line : LineId) → line_of event ≡ Some line →
+    (HasLine parts line → IsNamed parts event) → (why : HubFault) → ((HasLine parts line → ⊥) → why ≡ UnknownLine) →
+    (HasLine parts line → why ≡ Memory) → IsRefused parts event why
+step-refused parts event line on named UnknownLine unknown memory =
+    let never : HasLine parts line → ⊥ = λ known. cc (memory known) in
+    subst (λ (o : Option LineId). IsSomeAnd o (λ l. HasLine parts l → ⊥)) (sym on) never
+step-refused parts event line on named UnknownCustomer unknown memory =
+    let never : HasLine parts line → ⊥ = λ known. cc (memory known) in cc (unknown never)
+step-refused parts event line on named (BadRoutes cause) unknown memory =
+    let never : HasLine parts line → ⊥ = λ known. cc (memory known) in cc (unknown never)
+step-refused parts event line on named Memory unknown memory =
+    ⊎_elim named (λ (w : length (part line.customer parts).customer.lines ≤ line.line). absurd (let never : HasLine parts line →
+    ⊥ = λ known. omega arith in cc (unknown never)))
+    (cases_lt line.line (length (part line.customer parts).customer.lines))
+
+-- an event comes on a line or gives routes
+pub either_event : (event : Event) → IsSome (line_of event) ⊎ IsRoutes event
+either_event (Bytes line piece) = inl refl
+either_event (Tick line) = inl refl
+either_event (Garbled line) = inl refl
+either_event (Lost line) = inl refl
+either_event (Routes c routes) = inr refl
+
+-- of one event more
+pub All-more : (P : Event → Type 0) (events : List Event) (i : ℕ) (event : Event) → i < length events → event ≡ get_or events i event →
+    All P (take i events) → P event → All P (take (i + 1) events)
+All-more P events i event within found before here = All-same P _ _
+    (take_more events i event within ∙ ap (λ (x : Event). take i events ++ x ∷ []) (sym found))
+    (All-push P (take i events) event before here)
+
+-- every event before a stop within the next one, or right after it, was named
+pub behind-known : (start : List Part) (events : List Event) (i n bytes : ℕ) (event : Event) → i < length events → event
+    ≡ get_or events i event →
+    ((n ≡ 0) ⊎ ((n ≡ 1) × (bytes ≡ 0))) → (n ≡ 1 → IsNamed start event) →
+    All (IsNamed start) (take i events) → All (IsNamed start) (take (i + n) events)
+behind-known start events i n bytes event within found stop behind known =
+    let P : ℕ → Type 0 = λ k. All (IsNamed start) (take k events) in
+    ⊎_elim (λ (w : n ≡ 0). subst P (omega arith) known)
+    (λ (w : (n ≡ 1) × (bytes ≡ 0)).
+    let more : P (i + 1) = All-more (IsNamed start) events i event within found known (behind w.0) in
+    subst P (omega (arith, w.0)) more)
+    stop
+
+-- the event at which a run stopped
+pub found_at : (events : List Event) (i n : ℕ) (event : Event) → i < length events → event ≡ get_or events i event → n ≡ 0 →
+    slice_get events (i + n) ≡ Some event
+found_at events i n event within found here =
+    let e : i + n ≡ i = omega arith in
+    ap (slice_get events) e ∙ slice_get-get_or events i event within ∙ ap Some (sym found)
+
+IfHub-weaker : (P Q : HubFault → Type 0) → ((why : HubFault) → P why → Q why) → (cause : Cause) → IfHub cause P → IfHub cause Q
+IfHub-weaker P Q weaker (Hub why) is = weaker why is
+IfHub-weaker P Q weaker Sink is = tt
+
+-- it is refused, where the hub is the cause
+pub refused_at : (start now : List Part) → LedOn start now → (events : List Event) (i n : ℕ) (event : Event) → i < length events →
+    event ≡ get_or events i event → (cause : Cause) → IfHub cause (λ why. (n ≡ 0) × IsRefused now event why) →
+    IfHub cause (λ why. IsSomeAnd (slice_get events (i + n)) (λ e. IsRefused start e why))
+refused_at start now on events i n event within found cause stopped = IfHub-weaker _ _
+    (λ why told. subst (λ (o : Option Event). IsSomeAnd o (λ e. IsRefused start e why)) (sym (found_at events i n event within found told.0))
+    (refused-before start now on event why told.1)) cause stopped

@@ -1,0 +1,59 @@
+-- The line of a script that gives a customer routes: `ROUTES`, the customer's name, and a pair for each route.
+use Rattle.std.specs.Prelude.{◌≡◌, ℕ, ◌<◌, ◌==◌, Bool, length, Ok, List, [], ◌∷◌, if◌then◌else◌, Option, Some, None, option_and_then, is_ok, position, bytes_eq}
+use Rattle.std.specs.List.{slice_split}
+use Rattle.std.specs.Option.{option_map}
+use Rattle.std.specs.Result.{result_ok}
+use Rattle.njh_ebcdic.specs.Reading.{name_of_text}
+use Rattle.njh_table.specs.declared.new_routes.RouteEntry.{RouteEntry}
+use Rattle.njh_table.specs.NewRoutes.{own_routes, routes_checked}
+use Rattle.njh_table.specs.TableFile.{TableFile, customer_at, entry_of, owner_of, HasLine}
+use Rattle.njh_hub.specs.declared.event.Event.{Event}
+use Rattle.njh_hub.specs.declared.event.Event.TheVariants.{Bytes, Tick, Garbled, Lost, Routes}
+
+-- the number of the customer that a word names
+abbrev pub customer_named : TableFile → List ℕ → Option ℕ
+customer_named tables word = option_and_then (λ name. position (λ c. bytes_eq name c.name) tables.customers) (result_ok (name_of_text word))
+
+-- what a word's colons part
+abbrev pub parts_of : List ℕ → List (List ℕ)
+parts_of word = slice_split (λ b. b == 58) word
+
+-- the route of a node and the name of a line, whoever's line that is
+abbrev pub route_by : TableFile → List ℕ → List ℕ → Option RouteEntry
+route_by tables node line =
+    option_and_then (λ n. option_map (λ l. record { node = n; line = l; second = None }) (owner_of tables line)) (result_ok (name_of_text node))
+
+-- the route of a pair: a node, a colon and the name of a line
+abbrev pub route_of_parts : TableFile → List (List ℕ) → Option RouteEntry
+route_of_parts tables (node ∷ line ∷ []) = route_by tables node line
+route_of_parts tables parts = None
+
+abbrev pub route_of_pair : TableFile → List ℕ → Option RouteEntry
+route_of_pair tables pair = route_of_parts tables (parts_of pair)
+
+-- the routes of pairs, where each is one
+abbrev pub routes_of_pairs : TableFile → List (List ℕ) → Option (List RouteEntry)
+routes_of_pairs tables [] = Some []
+routes_of_pairs tables (pair ∷ pairs) = option_and_then (λ route. option_map (λ routes. route ∷ routes) (routes_of_pairs tables pairs)) (route_of_pair tables pair)
+
+-- whether a customer may have routes, by its own entry
+abbrev pub may_have : TableFile → ℕ → List RouteEntry → Bool
+may_have tables c routes = is_ok (routes_checked (entry_of (customer_at tables c)) (own_routes c routes))
+
+-- the event that a customer is given routes, where it may have them
+abbrev pub routes_for : TableFile → ℕ → List RouteEntry → Option Event
+routes_for tables c routes = if may_have tables c routes then Some (Routes c routes) else None
+
+-- the event of the words behind `ROUTES`: a customer's name, and pairs
+abbrev pub routes_event : TableFile → List (List ℕ) → Option Event
+routes_event tables [] = None
+routes_event tables (name ∷ pairs) = option_and_then (λ c. option_and_then (routes_for tables c) (routes_of_pairs tables pairs)) (customer_named tables name)
+
+-- An event names what the tables have: its line, or its customer, which may have these routes.
+abbrev pub IsNamedIn : TableFile → Event → Type 0
+IsNamedIn tables (Bytes line piece) = HasLine tables line
+IsNamedIn tables (Tick line) = HasLine tables line
+IsNamedIn tables (Garbled line) = HasLine tables line
+IsNamedIn tables (Lost line) = HasLine tables line
+IsNamedIn tables (Routes c routes) = (c < length tables.customers)
+    × (routes_checked (entry_of (customer_at tables c)) (own_routes c routes) ≡ Ok tt)

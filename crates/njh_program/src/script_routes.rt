@@ -1,0 +1,132 @@
+//! The line of a script that gives a customer routes.
+
+ghost use Rattle.std.specs.Prelude.{◌≡◌, ◌<◌, ◌==◌, ◌∷◌, length, option_map, position, bytes_eq, IfOk, IfSome};
+ghost use Rattle.std.specs.List.{slice_split};
+ghost use Rattle.njh_program.specs.Found.{parts_behind};
+ghost use Rattle.njh_program.specs.Script.{words_of};
+ghost use Rattle.njh_program.specs.ScriptRoutes.{customer_named, routes_for, route_of_pair, route_by, routes_event, routes_of_pairs, IsNamedIn};
+
+use njh_ebcdic::Name;
+use njh_hub::{Event, RouteList};
+use njh_table::{Customer, RouteEntry, Tables};
+use std::alloc::{AllocError, Global};
+
+/// The event of the words behind `ROUTES`, if they have one: a customer's name and then a pair for each route, which the customer may
+/// have all together. Out of memory is the only refusal.
+pub fn routes_event(
+    alloc: Global,
+    tables: &Tables,
+    words: &str,
+) -> Result<Option<Event>, AllocError>
+    ensures event { IfOk result (λ event. event ≡ routes_event tables.now (words_of words.now)) }
+    ensures named { IfOk result (λ event. IfSome event (IsNamedIn tables.now)) }
+{
+    let (name, pairs) = first_part(words, ' ');
+    let Some(customer) = customer_named(tables, name) else {
+        return Ok(None);
+    };
+    match routes_of_pairs(alloc, tables, pairs)? {
+        Some(routes) => routes_for(alloc, tables, customer, &routes),
+        None => Ok(None),
+    }
+}
+
+/// The event that a customer is given routes, where it may have them.
+fn routes_for(
+    alloc: Global,
+    tables: &Tables,
+    customer: u16,
+    routes: &[RouteEntry],
+) -> Result<Option<Event>, AllocError>
+    requires { customer < length tables.now.customers }
+    ensures event { IfOk result (λ event. event ≡ routes_for tables.now customer routes.now) }
+    ensures named { IfOk result (λ event. IfSome event (IsNamedIn tables.now)) }
+{
+    match tables.check_routes(customer, routes) {
+        Ok(()) => Ok(Some(Event::Routes(customer, RouteList::of(alloc, routes)?))),
+        Err(_) => Ok(None),
+    }
+}
+
+/// The number of the customer that a word names.
+fn customer_named(tables: &Tables, word: &str) -> Option<u16>
+    ensures number { result ≡ customer_named tables.now word.now }
+    ensures known { IfSome result (λ customer. customer < length tables.now.customers) }
+{
+    let name = Name::of_text(word).ok()?;
+    let place = place_of(tables.customers(), name)?;
+    Some(place as u16)
+}
+
+/// The place of the first customer of a name.
+fn place_of(customers: &[Customer], name: Name) -> Option<usize>
+    ensures place { result ≡ position (λ c. bytes_eq name c.name) customers.now }
+    ensures within { IfSome result (λ place. place < length customers.now) }
+{
+    customers
+        .iter()
+        .position(|customer| is_named(customer, name))
+}
+
+fn is_named(customer: &Customer, name: Name) -> bool
+    ensures { result ≡ bytes_eq name customer.now.name }
+{
+    name == customer.name()
+}
+
+/// The routes of pairs, where each is one.
+fn routes_of_pairs(
+    alloc: Global,
+    tables: &Tables,
+    pairs: Option<&str>,
+) -> Result<Option<Vec<RouteEntry>>, AllocError>
+    ensures { IfOk result (λ routes. option_map (λ r. r.items) routes ≡ routes_of_pairs tables.now (parts_behind 32 pairs.entry)) }
+{
+    let mut routes = Vec::new(alloc);
+    let mut left = pairs;
+    'pairs: while let Some(text) = left {
+        let (pair, behind) = first_part(text, ' ');
+        match route_of_pair(tables, pair) {
+            Some(route) => routes.push(route)?,
+            None => return Ok(None),
+        }
+        left = behind;
+    }
+    Ok(Some(routes))
+}
+
+/// The route of a pair: a node, a colon and the name of a line.
+fn route_of_pair(tables: &Tables, pair: &str) -> Option<RouteEntry>
+    ensures { result ≡ route_of_pair tables.now pair.now }
+{
+    let (node, behind) = first_part(pair, ':');
+    match first_part(behind?, ':') {
+        (line, None) => route_by(tables, node, line),
+        (_, Some(_)) => None,
+    }
+}
+
+/// The route of a node and the name of a line, whoever's line that is.
+fn route_by(tables: &Tables, node: &str, line: &str) -> Option<RouteEntry>
+    ensures { result ≡ route_by tables.now node.now line.now }
+{
+    let node = Name::of_text(node).ok()?;
+    let line = tables.line_owner(line)?;
+    Some(RouteEntry {
+        node,
+        line,
+        second: None,
+    })
+}
+
+/// What stands before the first mark in a text, or all; and what stands behind that mark.
+fn first_part(text: &str, mark: char) -> (&str, Option<&str>)
+    requires { mark < 128 }
+    ensures parts { slice_split (λ b. b == mark) text.now ≡ result.0.now ∷ parts_behind mark result.1 }
+    ensures shorter { IfSome result.1 (λ behind. length behind.now < length text.now) }
+{
+    match text.split_once(mark) {
+        Some((part, behind)) => (part, Some(behind)),
+        None => (text, None),
+    }
+}

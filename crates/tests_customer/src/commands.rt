@@ -1,0 +1,5 @@
+//! Tests of commands.
+
+mod calls;
+mod command_tests;
+mod playing;

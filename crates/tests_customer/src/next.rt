@@ -1,0 +1,7 @@
+//! Tests of the next block of a line.
+
+mod calls;
+mod memory;
+mod playing;
+mod samples;
+mod sched_tests;
