@@ -19,6 +19,7 @@ use Rattle.njh_table.specs.Entries.{CustomerEntry}
 use Rattle.njh_table.specs.Keys.{Walked}
 use Rattle.njh_table.specs.NewRoutes.{NewRoute, routes_checked}
 use Rattle.njh_line.specs.declared.Phase.{Phase}
+use Rattle.njh_line.specs.declared.config.Config.{Config}
 use Rattle.njh_line.specs.declared.verdict.Reply.{Reply}
 use Rattle.njh_line.specs.declared.verdict.Reply.TheVariants as reply
 use Rattle.njh_line.specs.declared.verdict.Verdict.{Verdict}
@@ -50,8 +51,11 @@ is_line_up x = is_up x.state.session.phase
 abbrev ups : List CustomerLine → List Bool
 ups lines = map is_line_up lines
 
+abbrev is_kept_up : Config × List ℕ × Phase → Bool
+is_kept_up k = is_up k.2
+
 ups_kept : (xs ys : List CustomerLine) → kepts xs ≡ kepts ys → ups xs ≡ ups ys
-ups_kept xs ys e = sym (map-map (λ k. is_up k.2) kept xs) ∙ ap (map (λ k. is_up k.2)) e ∙ map-map (λ k. is_up k.2) kept ys
+ups_kept xs ys e = sym (map-map is_kept_up kept xs) ∙ ap (map is_kept_up) e ∙ map-map is_kept_up kept ys
 
 -- ---- what a line sends leaves it as far as it was
 
@@ -118,10 +122,10 @@ marks_on p q l entry us marked has = at (is_up p) (is_up q) has
     at false false e on = stays false e
 
 module _ (keep : InputsKeepUp) (l : ℕ) (came : Input) (c : Customer) (marked : IsMarked c) where
-  before : Phase
+  abbrev before : Phase
   before = (line_at l c.lines).state.session.phase
 
-  after : Phase
+  abbrev after : Phase
   after = (after_input came (line_at l c.lines).state).session.phase
 
   keeps : KeepsUp (line_at l c.lines).state.config came (line_at l c.lines).state.session
