@@ -9,8 +9,8 @@ use Rattle.njh_spool.specs.CustomerSpool.{CustomerSpool}
 use Rattle.njh_spool.specs.Spools as spools
 use Rattle.njh_table.specs.declared.LineId.{LineId}
 use Rattle.njh_table.specs.TableFile.{NamedCustomer, TableFile, customer_at, entry_of, no_customer}
-use Rattle.njh_customer.specs.Customer.{IsCoherent}
-use Rattle.njh_customer.specs.Leading.{IsReady}
+use Rattle.njh_customer.specs.Customer.{IsCoherent, IsMarked}
+use Rattle.njh_customer.specs.Leading.{IsReady, IsRetold}
 use Rattle.njh_customer.specs.Part.{Part, Lines, part_with}
 use Rattle.njh_hub.specs.Whole.{no_part, part, HasLine, SameLines}
 use Rattle.njh_hub.specs.Parts.{IsHub, lines_at, no_lines, part_held, parts_of}
@@ -70,6 +70,7 @@ pub record Moves (table : TableFile) (files : List CustomerSpool) (lines : List 
   pub in_files : DifferAt spools.no_spool c files after
   pub in_lines : DifferAt no_lines c lines more
   pub coherent : IsCoherent (part_held new after more c).customer
+  pub marked : IsMarked (part_held new after more c).customer
 
 -- the parts of the others are as they were
 pub held-other : {table : TableFile} {files : List CustomerSpool} {lines : List Lines} {c : ℕ} {new : TableFile}
@@ -113,6 +114,12 @@ hub-moved {table} {files} {lines} {c} {new} {after} {more} m = record {
       (λ (w : (eqb d c ≡ false) × (d ≢ c)).
       subst (λ (p : Part). IsCoherent p.customer) (sym (held-other m d w.1)) (m.hub.coherent d there))
       (eqb_tells d c);
+  marked = λ (d : ℕ) (within : d < length new.customers).
+      let there : d < length table.customers = omega (arith, within, m.in_table.count) in
+      ⊎_elim (λ (w : (eqb d c ≡ true) × (d ≡ c)). subst (λ (n : ℕ). IsMarked (part_held new after more n).customer) (sym w.1) m.marked)
+      (λ (w : (eqb d c ≡ false) × (d ≢ c)).
+      subst (λ (p : Part). IsMarked p.customer) (sym (held-other m d w.1)) (m.hub.marked d there))
+      (eqb_tells d c);
 }
 
 -- another part in the place of one leaves the others' parts, and with as many lines it leaves each as many
@@ -149,6 +156,7 @@ pub record Found (table : TableFile) (files : List CustomerSpool) (lines : List 
   pub there : line.customer < length table.customers
   pub lines_is : x ≡ lines_at line.customer lines
   pub ready : IsReady table line files x.lines
+  pub marked : IsMarked (part_with (entry_of (customer_at table line.customer)) (spools.part line.customer files) x).customer
   pub part_is : part_with (entry_of (customer_at table line.customer)) (spools.part line.customer files) x ≡ part line.customer parts
 
 pub found : (table : TableFile) (files : List CustomerSpool) (lines : List Lines) (parts : List Part) (line : LineId) (x : Lines)
@@ -165,16 +173,19 @@ found table files lines parts line x hub are known here =
       there = there;
       lines_is = is;
       ready = subst (λ (y : Lines). IsReady table line files y.lines) (sym is) (line-ready table files lines line hub has);
+      marked = subst (λ (y : Lines). IsMarked (part_with (entry_of (customer_at table c)) (spools.part c files) y).customer) (sym is)
+          (hub.marked c there);
       part_is = ap (part_with (entry_of (customer_at table c)) (spools.part c files)) is ∙ sym (part-there table files lines c there)
           ∙ ap (part c) are;
     }
 
--- What a step on that line leads to: the customer is ready for the next, with as many lines.
+-- What a step on that line leads to: the customer is ready for the next, with as many lines, and those that are up are marked.
 pub record Stepped (table : TableFile) (files : List CustomerSpool) (x : Lines) (line : LineId)
     (new : TableFile) (after : List CustomerSpool) (y : Lines) : Type 0 where
-  pub in_table : DifferAt no_customer line.customer table.customers new.customers
+  pub in_table : IsRetold line.customer table new
   pub in_files : after ≡ slice_set files line.customer (spools.part line.customer after)
   pub ready : IsReady new line after y.lines
+  pub marked : IsMarked (part_with (entry_of (customer_at new line.customer)) (spools.part line.customer after) y).customer
   pub count : length y.lines ≡ length x.lines
 
 pub stepped : {table : TableFile} {files : List CustomerSpool} {lines : List Lines} {parts : List Part} {line : LineId} {x : Lines}
@@ -186,12 +197,14 @@ stepped {table} {files} {lines} {parts} {line} {x} {new} {after} {y} f t =
     record {
       hub = f.hub;
       there = f.there;
-      in_table = t.in_table;
+      in_table = subst (λ (n : TableFile). DifferAt no_customer c table.customers n.customers) (sym t.in_table)
+          (differ-set no_customer c table.customers (customer_at new c));
       in_files = subst (λ (ss : List CustomerSpool). DifferAt spools.no_spool c files ss) (sym t.in_files)
           (differ-set spools.no_spool c files (spools.part c after));
       in_lines = differ-set no_lines c lines y;
       coherent = subst (λ (l : Lines). IsCoherent (part_with (entry_of (customer_at new c)) (spools.part c after) l).customer) is
           t.ready.coherent;
+      marked = subst (λ (l : Lines). IsMarked (part_with (entry_of (customer_at new c)) (spools.part c after) l).customer) is t.marked;
     }
 
 -- so its part becomes another, and no other does

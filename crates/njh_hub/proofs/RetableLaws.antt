@@ -6,7 +6,7 @@ use Rattle.njh_spool.specs.CustomerSpool.{CustomerSpool}
 use Rattle.njh_spool.specs.Spools as spools
 use Rattle.njh_table.specs.Entries.{RouteEntry}
 use Rattle.njh_table.specs.TableFile.{TableFile, customer_at, entry_of, no_customer}
-use Rattle.njh_customer.specs.Customer.{IsCoherent}
+use Rattle.njh_customer.specs.Customer.{IsCoherent, IsMarked}
 use Rattle.njh_customer.specs.NewRoutes.{RoutesKeepCoherent, routes_taken}
 use Rattle.njh_customer.specs.Part.{Part, Lines, part_with}
 use Rattle.njh_hub.specs.Whole.{part}
@@ -53,6 +53,7 @@ retabled {table} {files} {lines} {c} {routes} {new} {after} r =
       in_lines = differ-nowhere no_lines c lines;
       coherent = subst (λ (p : Part). IsCoherent p.customer) (sym (held-new r))
           (r.kept routes (part_held table files lines c).customer (r.hub.coherent c r.there));
+      marked = subst (λ (p : Part). IsMarked p.customer) (sym (held-new r)) (r.hub.marked c r.there);
     }
 
 pub parts-retabled : {table : TableFile} {files : List CustomerSpool} {lines : List Lines} {c : ℕ} {routes : List RouteEntry}

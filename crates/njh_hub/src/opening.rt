@@ -4,6 +4,7 @@ ghost use Rattle.std.specs.Prelude.{◌≡◌, ℕ, ◌<◌, length, map, IfOk, 
 ghost use Rattle.njh_customer.specs.Part.{opened, part_with};
 ghost use Rattle.njh_hub.specs.Parts.{empty_files, lines_at, quota_in};
 ghost use Rattle.njh_table.specs.Accepted.{IsAccepted};
+ghost use Rattle.njh_table.specs.Marks.{entry_unmarked};
 ghost use Rattle.njh_table.specs.TableFile.{customer_at, entry_of};
 
 use crate::fault::HubFault;
@@ -50,7 +51,7 @@ fn quota_of(customer: &Customer) -> Quota
 pub(crate) fn open_lines(alloc: Global, tables: &Tables) -> Result<Vec<Lines>, AllocError>
     ensures count { IfOk result (λ lines. length lines.items ≡ length tables.now.customers) }
     ensures opened { IfOk result (λ lines. (c : ℕ) → c < length tables.now.customers →
-        part_with (entry_of (customer_at tables.now c)) (empty_files (customer_at tables.now c)) (lines_at c lines.items)
+        part_with (entry_unmarked (entry_of (customer_at tables.now c))) (empty_files (customer_at tables.now c)) (lines_at c lines.items)
         ≡ opened (entry_of (customer_at tables.now c))) }
     ensures accepted { IsAccepted tables.now }
 {

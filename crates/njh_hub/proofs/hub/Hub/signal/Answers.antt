@@ -1,9 +1,12 @@
 use Rattle.std.proofs.Common.{◌≡◌, ℕ, ◌∙◌, List, length, get_or, slice_set, ap, subst, sym, rules, arith}
-use Rattle.njh_customer.specs.Part.{signal_taken}
+use Rattle.njh_customer.specs.Part.{signal_taken, part_with}
 use Rattle.njh_hub.specs.Parts.{IsHub, parts_of}
 use Rattle.njh_hub.specs.Whole.{Part, HasLine, part}
-use Rattle.njh_hub.proofs.PartsLaws.{Found, Stepped, differ-nowhere, found, hub-moved, line-there, others-stay, step-leads, step-lines, stepped}
-use Rattle.njh_table.specs.TableFile.{no_customer}
+use Rattle.njh_hub.proofs.PartsLaws.{Found, Stepped, found, hub-moved, line-there, others-stay, step-leads, step-lines, stepped}
+use Rattle.njh_spool.specs.Spools as spools
+use Rattle.njh_table.specs.TableFile.{customer_at, entry_of}
+use Rattle.njh_customer.specs.Customer.{IsMarked}
+use Rattle.njh_customer.specs.Runs.{OwnSignal}
 use Rattle.njh_hub.proofs.hub.Hub.signal.Goals.{After-drop-out}
 use Rattle.njh_hub.proofs.hub.Hub.signal.Goals as goal
 
@@ -31,13 +34,17 @@ finds c =
     found s.tables s.spool s.lines.items c.args.self.now c.args.line x c.self.invariant c.self.view_is c.in_ok-frame.ensures.known here
 
 steps : (c : After-drop-out) → Stepped c.self.inside.tables c.self.inside.spool c.index_mut-lines.result.now c.args.line
-    c.self.inside.tables c.take_signal.new.spool c.take_signal.new.self
+    c.take_signal.new.tables c.take_signal.new.spool c.take_signal.new.self
 steps c =
+    let s = c.self.inside in
     let t = c.take_signal in
+    let n = c.args.line.customer in
+    let p = part_with (entry_of (customer_at s.tables n)) (spools.part n s.spool) c.index_mut-lines.result.now in
     record {
-      in_table = differ-nowhere no_customer c.args.line.customer c.self.inside.tables.customers;
+      in_table = t.ensures.entries;
       in_files = t.ensures.others;
       ready = t.ensures.ready;
+      marked = subst (λ (q : Part). IsMarked q.customer) (sym t.ensures.part) (c.marks_are_right.ensures.events p (OwnSignal c.args.signal c.args.line.line) (finds c).marked);
       count = t.ensures.count;
     }
 
@@ -46,17 +53,17 @@ abbrev after : (c : After-drop-out) → Part
 after c = let p = part c.args.line.customer c.args.self.now in (signal_taken p c.args.line.line c.args.signal).after
 
 leads : (c : After-drop-out)
-    → parts_of c.self.inside.tables c.take_signal.new.spool (slice_set c.self.inside.lines.items c.from.result c.take_signal.new.self)
+    → parts_of c.take_signal.new.tables c.take_signal.new.spool (slice_set c.self.inside.lines.items c.from.result c.take_signal.new.self)
     ≡ slice_set c.args.self.now c.args.line.customer (after c)
 leads c =
     let t = c.take_signal in
-    ap (λ (n : ℕ). parts_of c.self.inside.tables t.new.spool (slice_set c.self.inside.lines.items n t.new.self)) c.from.ensures
+    ap (λ (n : ℕ). parts_of t.new.tables t.new.spool (slice_set c.self.inside.lines.items n t.new.self)) c.from.ensures
     ∙ step-leads (finds c) (steps c) (after c) (t.ensures.part ∙ ap (λ (p : Part). (signal_taken p c.args.line.line c.args.signal).after) (finds c).part_is)
 
 pub invariant_of-self : goal.invariant_of-self
 invariant_of-self c =
     let t = c.take_signal in
-    subst (λ (n : ℕ). IsHub c.self.inside.tables t.new.spool (slice_set c.self.inside.lines.items n t.new.self)) (sym c.from.ensures)
+    subst (λ (n : ℕ). IsHub t.new.tables t.new.spool (slice_set c.self.inside.lines.items n t.new.self)) (sym c.from.ensures)
     (hub-moved (stepped (finds c) (steps c)))
 
 pub returns : goal.returns
