@@ -12,7 +12,7 @@ mod retable;
 
 use crate::fault::HubFault;
 use crate::file_view::{FileView, files_of};
-use crate::opening::{open_lines, open_spool};
+use crate::opening::{all_down, open_lines, open_spool};
 use njh_bisync::LONGEST_FRAME;
 use njh_customer::{FrameBuffer, Lines, Signal, marks_are_right, opened_is_coherent};
 use njh_spool::Spool;
@@ -56,8 +56,7 @@ impl Hub {
         opened_is_coherent();
         marks_are_right();
         marks_change_one_entry();
-        let mut tables = tables;
-        tables.set_all_down();
+        let tables = all_down(tables);
         let spool = open_spool(alloc, &tables)?;
         let lines = open_lines(alloc, &tables)?;
         Ok(Hub {
@@ -129,13 +128,7 @@ impl Hub {
         marks_are_right();
         let mut frame = self.frame_buffer(line, out)?;
         let lines = &mut self.lines[usize::from(line.customer)];
-        let taken = lines.take_bytes(
-            line,
-            piece,
-            &mut self.tables,
-            &mut self.spool,
-            &mut frame,
-        );
+        let taken = lines.take_bytes(line, piece, &mut self.tables, &mut self.spool, &mut frame);
         *out = frame.into_bytes();
         Ok(taken)
     }
@@ -177,13 +170,7 @@ impl Hub {
         marks_are_right();
         let mut frame = self.frame_buffer(line, out)?;
         let lines = &mut self.lines[usize::from(line.customer)];
-        lines.take_signal(
-            line,
-            signal,
-            &mut self.tables,
-            &mut self.spool,
-            &mut frame,
-        );
+        lines.take_signal(line, signal, &mut self.tables, &mut self.spool, &mut frame);
         *out = frame.into_bytes();
         Ok(())
     }

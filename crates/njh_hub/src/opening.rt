@@ -1,10 +1,10 @@
-//! What a hub keeps of its tables' customers, just opened: a spool under their quotas, and their lines.
+//! What a hub keeps of its tables, just opened: these without marks, a spool under its customers' quotas, and their lines.
 
 ghost use Rattle.std.specs.Prelude.{◌≡◌, ℕ, ◌<◌, length, map, IfOk, OnErr, Err};
 ghost use Rattle.njh_customer.specs.Part.{opened, part_with};
 ghost use Rattle.njh_hub.specs.Parts.{empty_files, lines_at, quota_in};
 ghost use Rattle.njh_table.specs.Accepted.{IsAccepted};
-ghost use Rattle.njh_table.specs.Marks.{entry_unmarked};
+ghost use Rattle.njh_table.specs.Marks.{entry_unmarked, unmarked};
 ghost use Rattle.njh_table.specs.TableFile.{customer_at, entry_of};
 
 use crate::fault::HubFault;
@@ -12,6 +12,15 @@ use njh_customer::Lines;
 use njh_spool::{Quota, Spool};
 use njh_table::{Customer, Tables};
 use std::alloc::{AllocError, Global};
+
+/// The tables with no line marked as up.
+pub(crate) fn all_down(tables: Tables) -> Tables
+    ensures { result ≡ unmarked tables }
+{
+    let mut tables = tables;
+    tables.set_all_down();
+    tables
+}
 
 /// A spool without files, under the quotas of the tables' customers. Want of memory is the only refusal.
 pub(crate) fn open_spool(alloc: Global, tables: &Tables) -> Result<Spool, HubFault>

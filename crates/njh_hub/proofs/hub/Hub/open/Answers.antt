@@ -3,8 +3,8 @@ use Rattle.njh_hub.proofs.hub.Hub.open.Goals as goal
 
 pub invariant_of-result : goal.invariant_of-result
 invariant_of-result c =
-    let o : AreOpened c.args.tables c.set_all_down.new.self c.in_ok-spool.spool c.in_ok-lines.lines.items = record {
-      down = c.set_all_down.ensures;
+    let o : AreOpened c.args.tables c.all_down-tables.result c.in_ok-spool.spool c.in_ok-lines.lines.items = record {
+      down = c.all_down-tables.ensures;
       entries = c.marks_change_one_entry.ensures.all;
       empty = c.in_ok-spool.ensures.empty;
       count = c.in_ok-lines.ensures.count;
@@ -14,8 +14,8 @@ invariant_of-result c =
 
 pub returns-clause-opened : goal.returns-clause-opened
 returns-clause-opened c =
-    let o : AreOpened c.args.tables c.set_all_down.new.self c.in_ok-spool.spool c.in_ok-lines.lines.items = record {
-      down = c.set_all_down.ensures;
+    let o : AreOpened c.args.tables c.all_down-tables.result c.in_ok-spool.spool c.in_ok-lines.lines.items = record {
+      down = c.all_down-tables.ensures;
       entries = c.marks_change_one_entry.ensures.all;
       empty = c.in_ok-spool.ensures.empty;
       count = c.in_ok-lines.ensures.count;
