@@ -154,7 +154,7 @@ fn a_file_goes_out_whole(rt: HostRuntime) -> Result<(), Fail> {
 #[test]
 fn a_file_goes_by_the_second_line_where_the_first_is_lost(rt: HostRuntime) -> Result<(), Fail> {
     let mut desk = Desk::open(&rt, rt.alloc())?;
-    with_file(&rt, &mut desk);
+    file_comes(&rt, &mut desk);
     sends(&rt, &mut desk, A3, b"\x01\x2d", b"\x10\x70");
     sends(&rt, &mut desk, A3, &METZ_SIGNS_ON, &BUREAU_SIGNS_ON);
     sends(&rt, &mut desk, A3, b"\x10\x70", b"");
