@@ -2,6 +2,7 @@
 
 ghost use Rattle.std.specs.Prelude.{◌≡◌, ℕ, ◌+◌, ◌<◌, ◌≤◌, ◌↔◌, length, IsTrue, OnOk, OnErr, IfOk, IsOk, Err};
 ghost use Rattle.std.specs.Vec.{vec_len, vec_capacity};
+ghost use Rattle.njh_customer.specs.Customer.{IsMarked};
 ghost use Rattle.njh_customer.specs.Part.{bytes_taken, signal_taken};
 ghost use Rattle.njh_spool.specs.CustomerSpool.{used};
 ghost use Rattle.njh_hub.specs.Files.{files_at};
@@ -107,6 +108,14 @@ impl Hub {
         }
         self.spool.quota_holds(customer);
         Ok(self.spool.used(customer))
+    }
+
+    /// Which of a customer's lines count as up where a route has a second line: those whose sessions are up, and no others.
+    pub fn marks_hold(&self, customer: u16)
+        requires { customer < length self.now }
+        ensures { IsMarked (part customer self.now).customer }
+    {
+        let _tables = &self.tables;
     }
 
     /// Where the hub's memory comes from.
