@@ -46,12 +46,17 @@ pub record IsLike (d c : Customer) : Type 0 where
   pub partial : d.spool.partial ≡ c.spool.partial
   pub quota : d.spool.quota ≡ c.spool.quota
 
+-- as many lines
+pub as_many : (xs ys : List CustomerLine) → shapes xs ≡ shapes ys → length xs ≡ length ys
+as_many xs ys same = sym (length-map xs (λ x. (x.streams, x.receivers))) ∙ ap length same ∙ length-map ys (λ x. (x.streams, x.receivers))
+
 pub coherent_still : (d c : Customer) → NothingUnties → IsLike d c → IsCoherent c → IsCoherent d
 coherent_still d c untied like coherent = record {
   tied = subst (λ lines. AreTied lines d.spool) (sym (same_streams d.lines c.lines like.lines))
       (untied (streams_to_hub c.lines) c.spool d.spool like.partial coherent.tied);
   streamed = streamed_still d.lines c.lines like.lines coherent.streamed;
   quota = like.quota ∙ coherent.quota ∙ ap (λ e. e.quota) (sym like.entry);
+  marks = ap (λ e. length e.up) like.entry ∙ coherent.marks ∙ sym (as_many d.lines c.lines like.lines);
 }
 
 -- ---- the stream at a place
@@ -136,6 +141,7 @@ keeps_moved l k a c arrivals line_there stream_there coherent =
       streamed = All-set HasStreams c.lines l (with_receiver k done.receiver (line_at l c.lines))
           (length-set (line_at l c.lines).receivers k done.receiver ∙ eight.0, eight.1) coherent.streamed;
       quota = received_quota c.entry l (kind_of k) r a c.spool ∙ coherent.quota;
+      marks = coherent.marks ∙ sym (length-set c.lines l (with_receiver k done.receiver (line_at l c.lines)));
     }
 
 pub keeps_arrived :

@@ -16,12 +16,28 @@ use Rattle.njh_line.specs.declared.session.Session.{Session}
 use Rattle.njh_line.specs.declared.verdict.Reply.TheVariants as reply
 use Rattle.njh_line.specs.declared.verdict.Verdict.{Verdict}
 use Rattle.njh_customer.specs.Customer.{Customer, CustomerLine, no_line, line_at, on_line, in_state}
-use Rattle.njh_customer.specs.Alone.{Step, silent, session_over, session_ended, carried_out, input_came, text_read, frame_came, signal_came}
+use Rattle.njh_customer.specs.Alone.{Step, goes_up, raised, silent, session_over, session_ended, carried_out, input_came, text_read, frame_came, signal_came}
 use Rattle.njh_customer.specs.Disregarding.{session_on, IsButSession, IsDisregarded, SpoiledIsDisregarded, BadBlocksAreDisregarded, GarbledIsDisregarded}
 
--- by what the line table says
+-- by what the line table says, where the line goes up or doesn't
+abbrev by_mark : Bool → ℕ → Session → Verdict → Customer → Step
+by_mark up l s v c = carried_out l v (record c { entry = raised up l c.entry; lines = on_line l (in_state (with_session s)) c.lines })
+
 abbrev by_parts : ℕ → Session → Verdict → Customer → Step
-by_parts l s v c = carried_out l v (record c { lines = on_line l (in_state (with_session s)) c.lines })
+by_parts l s v c = by_mark (goes_up (session_on l c).phase s.phase) l s v c
+
+-- a line that is as far as it was doesn't go up
+same_phase : (p : Phase) → goes_up p p ≡ false
+same_phase Down = refl
+same_phase Calling = refl
+same_phase Answered = refl
+same_phase SentI = refl
+same_phase Up = refl
+
+unraised : (l : ℕ) (s : Session) (v : Verdict) (c : Customer) → s.phase ≡ (session_on l c).phase → by_parts l s v c ≡ by_mark false l s v c
+unraised l s v c same =
+    let p = (session_on l c).phase in
+    ap (λ up. by_mark up l s v c) (ap (goes_up p) same ∙ same_phase p)
 
 abbrev lines_as : Customer → List CustomerLine → Customer
 lines_as c lines = record c { lines = lines }
@@ -50,7 +66,9 @@ module _ (l : ℕ) (c : Customer) where
   again xs = set-get_or xs l no_line
 
   nothing : by_parts l (none (session_on l c)).session (none (session_on l c)).verdict c ≡ silent c
-  nothing = ap (λ lines. silent (lines_as c lines)) (again (set c.lines l (line_at l c.lines)) ∙ same_lines)
+  nothing =
+      unraised l (none (session_on l c)).session (none (session_on l c)).verdict c refl
+      ∙ ap (λ lines. silent (lines_as c lines)) (again (set c.lines l (line_at l c.lines)) ∙ same_lines)
 
   ends : by_parts l (end (session_on l c)).session (end (session_on l c)).verdict c ≡ silent (session_ended l c)
   ends =
@@ -63,15 +81,18 @@ module _ (l : ℕ) (c : Customer) where
       ap (λ t. cond t (end (session_on l c)) (with_reply (reply.Control control.Nak) (record (session_on l c) { tries = (session_on l c).tries + 1 }))) e
 
   -- NAK goes out
-  one_try : (s : Session) → l < length c.lines → IsButSession l c (by_parts l s (with_reply (reply.Control control.Nak) s).verdict c).after
-  one_try s there =
-      record {
+  one_try :
+      (s : Session) → s.phase ≡ (session_on l c).phase → l < length c.lines
+      → IsButSession l c (by_parts l s (with_reply (reply.Control control.Nak) s).verdict c).after
+  one_try s same there =
+      subst (λ t. IsButSession l c t.after) (sym (unraised l s (with_reply (reply.Control control.Nak) s).verdict c same))
+      (record {
         session = without_turn s;
         after = ap (lines_as c)
             (ap (λ x. set (on_line l (in_state (with_session s)) c.lines) l (in_state (with_session (without_turn x.state.session)) x))
             (get_or-set_same c.lines l (in_state (with_session s) (line_at l c.lines)) no_line there)
             ∙ set-set c.lines l (in_state (with_session s) (line_at l c.lines)) (in_state (with_session (without_turn s)) (line_at l c.lines)));
-      }
+      })
 
   unchanged : IsButSession l c c
   unchanged = record { session = session_on l c; after = ap (lines_as c) (sym same_lines) }
@@ -96,7 +117,7 @@ module _ (l : ℕ) (c : Customer) where
       let tried : Session = record (session_on l c) { tries = (session_on l c).tries + 1 } in
       record {
         down = λ down. absurd (cc (sym up ∙ down));
-        goes_on = λ few. subst (λ t. IsButSession l c t.after) (sym (is ∙ ap (λ o. by_parts l o.session o.verdict c) (try_is false e))) (one_try tried there);
+        goes_on = λ few. subst (λ t. IsButSession l c t.after) (sym (is ∙ ap (λ o. by_parts l o.session o.verdict c) (try_is false e))) (one_try tried refl there);
         over = λ _ _ tries. absurd (eqb-false (session_on l c).tries 5 e tries);
       }
 

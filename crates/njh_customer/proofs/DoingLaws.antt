@@ -1,5 +1,5 @@
 -- What a frame or a signal on a line does to a customer's whole files and to its streams from the hub.
-use Rattle.std.proofs.Common.{◌≡◌, ℕ, ◌<◌, ◌||◌, Bool, true, false, cond, ◌⊎◌, inl, inr, List, [], ◌∷◌, length, set, get_or, Result, Ok, Err, nat_lt}
+use Rattle.std.proofs.Common.{◌≡◌, ℕ, ◌<◌, ◌||◌, Bool, true, false, cond, List, [], ◌∷◌, length, set, get_or, Result, Ok, Err, nat_lt}
 use Rattle.std.proofs.Common.{refl, sym, ap, subst, ◌∙◌, arith}
 use Rattle.std.proofs.Math.ListN.{get_or-map}
 use Rattle.std.proofs.Math.Seq.{map-set_same}
@@ -22,6 +22,7 @@ use Rattle.njh_line.specs.LineTable as input
 use Rattle.njh_line.specs.LineTable.{Input}
 use Rattle.njh_line.specs.Lines.{LineState, after_end, after_input}
 use Rattle.njh_line.specs.Openings.{opening}
+use Rattle.njh_line.specs.declared.config.Config.{Config}
 use Rattle.njh_line.specs.declared.verdict.Reply.{Reply}
 use Rattle.njh_line.specs.declared.verdict.Reply.TheVariants as reply
 use Rattle.njh_line.specs.declared.verdict.Verdict.{Verdict}
@@ -29,17 +30,17 @@ use Rattle.njh_customer.specs.declared.signal.Signal.{Signal}
 use Rattle.njh_customer.specs.Customer.{Customer, CustomerLine, no_line, line_at, on_line, in_state}
 use Rattle.njh_customer.specs.Acting.{acted_where}
 use Rattle.njh_customer.specs.Sending.{LineSent, Sending, control_sent, no_block_sent, empty_sent, block_sent, next_block, outlet_of, own_block, reply_sent, with_outlet}
-use Rattle.njh_customer.specs.Alone.{Step, silent, quiet, replied, replied_to, session_over_where, session_ended, carried_out, verdict_on}
+use Rattle.njh_customer.specs.Alone.{Step, silent, quiet, raised, goes_up_by, replied, replied_to, session_over, session_over_where, session_ended, carried_out, verdict_on}
 use Rattle.njh_customer.specs.Alone.{accepted_on, input_came, block_input, behind_records, block_came, text_read, text_came, received_on, signal_input, frame_came, signal_came}
 use Rattle.njh_customer.specs.Outgoing.{Outgoing, outgoing, streams_from_hub, streams_of}
-use Rattle.njh_customer.specs.Moves.{Leads, nowhere, OneActs, Over, Sends}
-use Rattle.njh_customer.specs.Doing.{Carries, GoesOut, no_block, new_block, Does, block_records, records_in}
+use Rattle.njh_customer.specs.Moves.{Leads, nowhere, OneActs, Sends}
+use Rattle.njh_customer.specs.Doing.{Carries, Ends, still_on, over_now, GoesOut, no_block, new_block, Does, block_records, records_in}
 use Rattle.njh_customer.specs.Doing.{IsNoNewBlock, nothing_sent, control, again, sign_on, count, without_records}
 use Rattle.njh_customer.proofs.OutgoingLaws.{of_parts, on_line_senders}
 use Rattle.njh_customer.proofs.SendingMoves.{out_of, filled_leads, filled_with_none}
 use Rattle.njh_customer.proofs.EndingMoves.{over_so}
 use Rattle.njh_customer.proofs.RecordsMoves.{Acting, acting_where, lines_of}
-use Rattle.njh_customer.proofs.KeptLines.{kept, kepts, on_line_kepts}
+use Rattle.njh_customer.proofs.KeptLines.{kept, kepts}
 
 -- ---- what goes out
 
@@ -98,6 +99,18 @@ goes_out_as entry l x y u v sent config last (new_block bcb fcs items e leads ca
 -- by a block's records
 abbrev sent_where : Bool → Writing → LineState → List Item → Sending
 sent_where or_ack0 w x is = elim is [ [] ↦ empty_sent or_ack0 w x | i ∷ js ↦ block_sent w x ]
+
+-- how a line is set up, and its last transmission
+abbrev set_up : CustomerLine → Config × List ℕ
+set_up x = (x.state.config, x.state.last)
+
+-- The line table judged what came, and then the records acted.
+pub record Judged (up : Bool) (l : ℕ) (items : List Item) (c d : Customer) : Type 0 where
+  pub entry : d.entry ≡ raised up l c.entry
+  pub records : Leads (OneActs (raised up l c.entry) l items) (outgoing c) (outgoing d)
+  pub config : (line_at l d.lines).state.config ≡ (line_at l c.lines).state.config
+  pub last : (line_at l d.lines).state.last ≡ (line_at l c.lines).state.last
+  pub lines : length d.lines ≡ length c.lines
 
 module _ (carry : BlocksCarry) where
   -- a new block, or what is sent in its place
@@ -169,14 +182,9 @@ module _ (carry : BlocksCarry) where
   -- ---- a step, behind its records
 
   -- what goes out, and then the session goes on or ends
-  ended_so :
-      (l : ℕ) (ended : Bool) (d : Customer) → (outgoing (session_over_where ended l d) ≡ outgoing d) ⊎ Over l (outgoing d) (outgoing (session_over_where ended l d))
-  ended_so l true d = inr (over_so l d)
-  ended_so l false d = inl refl
-
-  over_entry : (l : ℕ) (ended : Bool) (d : Customer) → (session_over_where ended l d).entry ≡ d.entry
-  over_entry l true d = refl
-  over_entry l false d = refl
+  ended_so : (l : ℕ) (ended : Bool) (d : Customer) → Ends d.entry l (outgoing d) (session_over_where ended l d)
+  ended_so l true d = over_now (over_so l d) refl
+  ended_so l false d = still_on refl refl
 
   over_lines : (l : ℕ) (ended : Bool) (d : Customer) → length (session_over_where ended l d).lines ≡ length d.lines
   over_lines l true d = length-set d.lines l (quiet (line_at l d.lines))
@@ -187,65 +195,79 @@ module _ (carry : BlocksCarry) where
       sym (get_or-map kept d.lines l no_line) ∙ ap (λ ps. get_or ps l (kept no_line)) e ∙ get_or-map kept c.lines l no_line
 
   carried_does :
-      (l : ℕ) (items : List Item) (v : Verdict) (c d : Customer) → Acting l items c d → l < length d.lines → Does l items c (carried_out l v d)
-  carried_does l items v c d acting there =
+      (l : ℕ) (items : List Item) (v : Verdict) (c d : Customer) (up : Bool) → Judged up l items c d → l < length d.lines
+      → Does l items c (carried_out l v d)
+  carried_does l items v c d up judged there =
       let sent = (replied_to l v.reply d).after in
       record {
+        up = up;
         acted = outgoing d;
-        records = acting.records;
+        records = judged.records;
         answered = outgoing sent;
-        answer = subst (λ entry. GoesOut entry l (line_at l c.lines).state (outgoing d) (outgoing sent) (replied_to l v.reply d).frame) acting.entry
+        answer = subst (λ entry. GoesOut entry l (line_at l c.lines).state (outgoing d) (outgoing sent) (replied_to l v.reply d).frame) judged.entry
             (goes_out_as d.entry l (line_at l d.lines).state (line_at l c.lines).state (outgoing d) (outgoing sent) (replied_to l v.reply d).frame
-            (ap (λ p. p.0) (kept_at l c d acting.kept)) (ap (λ p. p.1) (kept_at l c d acting.kept)) (reply_goes_out l v.reply d there));
-        end = ended_so l v.ended sent;
-        entry = over_entry l v.ended sent ∙ acting.entry;
+            judged.config judged.last (reply_goes_out l v.reply d there));
+        end = subst (λ entry. Ends entry l (outgoing sent) (session_over_where v.ended l sent)) judged.entry (ended_so l v.ended sent);
         lines = over_lines l v.ended sent
             ∙ length-set d.lines l (reply_sent d.entry l v.reply d.spool (line_at l d.lines)).line
-            ∙ lines_of c d acting.kept;
+            ∙ judged.lines;
       }
 
   accepted_is : (l : ℕ) (came : Input) (c : Customer) → outgoing (accepted_on l came c) ≡ outgoing c
   accepted_is l came c = ap (of_parts c.spool.whole) (on_line_senders l (in_state (after_input came)) c.lines (λ x. refl))
 
-  accepted_acting : (l : ℕ) (items : List Item) (came : Input) (c d : Customer) → Acting l items (accepted_on l came c) d → Acting l items c d
-  accepted_acting l items came c d acting =
+  -- what comes sets no line up anew, nor is it a transmission
+  accepted_at : (l : ℕ) (came : Input) (c : Customer) → set_up (line_at l (accepted_on l came c).lines) ≡ set_up (line_at l c.lines)
+  accepted_at l came c =
+      let lines = on_line l (in_state (after_input came)) c.lines in
+      sym (get_or-map set_up lines l no_line)
+      ∙ ap (λ ps. get_or ps l (set_up no_line)) (map-set_same set_up c.lines l (in_state (after_input came) (line_at l c.lines)) no_line refl)
+      ∙ get_or-map set_up c.lines l no_line
+
+  accepted_judged :
+      (l : ℕ) (items : List Item) (came : Input) (c d : Customer) → Acting l items (accepted_on l came c) d
+      → Judged (goes_up_by l came c) l items c d
+  accepted_judged l items came c d acting =
+      let a = accepted_on l came c in
       record {
         entry = acting.entry;
-        records = subst (λ x. Leads (OneActs c.entry l items) x (outgoing d)) (accepted_is l came c) acting.records;
-        kept = acting.kept ∙ on_line_kepts l (in_state (after_input came)) c.lines (λ x. refl);
+        records = subst (λ x. Leads (OneActs a.entry l items) x (outgoing d)) (accepted_is l came c) acting.records;
+        config = ap (λ p. p.0) (kept_at l a d acting.kept) ∙ ap (λ p. p.0) (accepted_at l came c);
+        last = ap (λ p. p.1) (kept_at l a d acting.kept) ∙ ap (λ p. p.1) (accepted_at l came c);
+        lines = lines_of a d acting.kept ∙ length-set c.lines l (in_state (after_input came) (line_at l c.lines));
       }
 
   input_does : (l : ℕ) (items : List Item) (came : Input) (c : Customer) → l < length c.lines → Does l items c (input_came l came c)
   input_does l items came c there =
       let d = accepted_on l came c in
-      let acting = accepted_acting l items came c d (acting_where false l items d) in
-      carried_does l items (verdict_on l came c) c d acting (omega (arith, there, lines_of c d acting.kept))
+      let judged = accepted_judged l items came c d (acting_where false l items d) in
+      carried_does l items (verdict_on l came c) c d (goes_up_by l came c) judged (omega (arith, there, judged.lines))
 
-  ended_does : (l : ℕ) (items : List Item) (c d : Customer) → Acting l items c d → Does l items c (silent (session_ended l d))
-  ended_does l items c d acting =
+  ended_does : (l : ℕ) (items : List Item) (c d : Customer) (up : Bool) → Judged up l items c d → Does l items c (silent (session_ended l d))
+  ended_does l items c d up judged =
       let e : Customer = record d { lines = on_line l (in_state after_end) d.lines } in
       record {
+        up = up;
         acted = outgoing d;
-        records = acting.records;
+        records = judged.records;
         answered = outgoing e;
         answer = no_block (ap (of_parts d.spool.whole) (on_line_senders l (in_state after_end) d.lines (λ x. refl))) (nothing_sent refl);
-        end = inr (over_so l e);
-        entry = acting.entry;
-        lines = over_lines l true e ∙ length-set d.lines l (in_state after_end (line_at l d.lines)) ∙ lines_of c d acting.kept;
+        end = subst (λ entry. Ends entry l (outgoing e) (session_over l e)) judged.entry (over_now (over_so l e) refl);
+        lines = over_lines l true e ∙ length-set d.lines l (in_state after_end (line_at l d.lines)) ∙ judged.lines;
       }
 
   behind_does :
-      (l : ℕ) (items : List Item) (ended : Bool) (v : Verdict) (c d : Customer) → Acting l items c d → l < length d.lines
+      (l : ℕ) (items : List Item) (ended : Bool) (v : Verdict) (c d : Customer) (up : Bool) → Judged up l items c d → l < length d.lines
       → Does l items c (behind_records ended l v d)
-  behind_does l items true v c d acting there = ended_does l items c d acting
-  behind_does l items false v c d acting there = carried_does l items v c d acting there
+  behind_does l items true v c d up judged there = ended_does l items c d up judged
+  behind_does l items false v c d up judged there = carried_does l items v c d up judged there
 
   block_does : (l : ℕ) (b : Block) (c : Customer) → l < length c.lines → Does l b.items c (block_came l b c)
   block_does l b c there =
       let v = verdict_on l (block_input b) c in
       let a = acted_where v.acts l b.items (accepted_on l (block_input b) c) in
-      let acting = accepted_acting l b.items (block_input b) c a.customer (acting_where v.acts l b.items (accepted_on l (block_input b) c)) in
-      behind_does l b.items a.ended v c a.customer acting (omega (arith, there, lines_of c a.customer acting.kept))
+      let judged = accepted_judged l b.items (block_input b) c a.customer (acting_where v.acts l b.items (accepted_on l (block_input b) c)) in
+      behind_does l b.items a.ended v c a.customer (goes_up_by l (block_input b) c) judged (omega (arith, there, judged.lines))
 
   text_does : (l : ℕ) (text : List ℕ) (c : Customer) → l < length c.lines → Does l (records_in (frame.Text text)) c (text_came l text c)
   text_does l text c there = at_block (read_block text)
@@ -265,12 +287,12 @@ module _ (carry : BlocksCarry) where
   silent_does : (l : ℕ) (items : List Item) (c : Customer) → Does l items c (silent c)
   silent_does l items c =
       record {
+        up = false;
         acted = outgoing c;
         records = nowhere (outgoing c);
         answered = outgoing c;
         answer = no_block refl (nothing_sent refl);
-        end = inl refl;
-        entry = refl;
+        end = still_on refl refl;
         lines = refl;
       }
 

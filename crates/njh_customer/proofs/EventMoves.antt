@@ -1,5 +1,5 @@
 -- All moves of a step, and of an event.
-use Rattle.std.proofs.Common.{◌≡◌, ℕ, ◌⊎◌, inl, inr, List, [], ◌∷◌, ◌++◌, Option, Some, None, length, take, refl, sym, ap, subst, ◌∙◌, arith}
+use Rattle.std.proofs.Common.{◌≡◌, ℕ, Bool, true, false, List, [], ◌∷◌, ◌++◌, Option, Some, None, length, set, take, refl, sym, ap, subst, ◌∙◌, arith}
 use Rattle.std.proofs.lemmas.List.Elements.{Contains-append_left, Contains-append_right}
 use Rattle.std.specs.Prelude.{flat_map}
 use Rattle.std.specs.List.{Contains, cons_option}
@@ -8,14 +8,15 @@ use Rattle.njh_bisync.specs.Frames.{Received}
 use Rattle.njh_bisync.specs.Reading.{Rest}
 use Rattle.njh_block.specs.Blocks.{Item}
 use Rattle.njh_table.specs.Entries.{CustomerEntry}
-use Rattle.njh_customer.specs.Customer.{Customer, line_at}
-use Rattle.njh_customer.specs.Alone.{Step, signal_came}
+use Rattle.njh_table.specs.Marks.{entry_marked}
+use Rattle.njh_customer.specs.Customer.{Customer, line_at, with_marks}
+use Rattle.njh_customer.specs.Alone.{Step, raised, signal_came}
 use Rattle.njh_customer.specs.Feeding.{acted_on, bytes_run}
 use Rattle.njh_customer.specs.Part.{bytes_taken, rest_on}
 use Rattle.njh_customer.specs.Runs.{OwnBytes, OwnSignal, OwnRoutes, Run, event_run}
 use Rattle.njh_customer.specs.Outgoing.{Outgoing, outgoing}
-use Rattle.njh_customer.specs.Moves.{Leads, nowhere, onward, Moves, MovesBy, by_record, by_sending, by_end, OneActs, Over, Sends}
-use Rattle.njh_customer.specs.Doing.{Does, GoesOut, no_block, new_block, records_in}
+use Rattle.njh_customer.specs.Moves.{Leads, nowhere, onward, Moves, MovesBy, Records, by_record, by_sending, by_end, OneActs, Sends}
+use Rattle.njh_customer.specs.Doing.{Does, Ends, still_on, over_now, GoesOut, no_block, new_block, records_in}
 use Rattle.njh_customer.specs.MovingLaws.{EventsMoveSo, FramesDoSo, SignalsDoSo, TakesMoveSo, coming}
 use Rattle.njh_customer.specs.Laws.{followed_by}
 use Rattle.njh_customer.proofs.PieceLaws.{no_bytes_do_nothing, steps_follow_bytes}
@@ -38,26 +39,62 @@ more_records entry l some items x y among (by_sending sends) = by_sending sends
 more_records entry l some items x y among (by_end over) = by_end over
 
 -- all moves of a step
-pub does_moves : (l : ℕ) (items : List Item) (c : Customer) (s : Step) → Does l items c s → Leads (Moves c.entry l items) (outgoing c) (outgoing s.after)
+pub does_moves :
+    (l : ℕ) (items : List Item) (c : Customer) (s : Step) (does : Does l items c s)
+    → Leads (Moves (raised does.up l c.entry) l items) (outgoing c) (outgoing s.after)
 does_moves l items c s does =
-    leads_then (Moves c.entry l items) (outgoing c) does.acted (outgoing s.after)
-    (leads_as (OneActs c.entry l items) (Moves c.entry l items) (outgoing c) does.acted (λ u v acts. by_record acts) does.records)
-    (leads_then (Moves c.entry l items) does.acted does.answered (outgoing s.after) (at_answer does.answer) (at_end does.end))
+    leads_then (Moves entry l items) (outgoing c) does.acted (outgoing s.after)
+    (leads_as (OneActs entry l items) (Moves entry l items) (outgoing c) does.acted (λ u v acts. by_record acts) does.records)
+    (leads_then (Moves entry l items) does.acted does.answered (outgoing s.after) (at_answer does.answer) (at_end does.end))
   where
-    at_answer : GoesOut c.entry l (line_at l c.lines).state does.acted does.answered s.frame → Leads (Moves c.entry l items) does.acted does.answered
-    at_answer (no_block same no_new) = subst (Leads (Moves c.entry l items) does.acted) (sym same) (nowhere does.acted)
+    entry : CustomerEntry
+    entry = raised does.up l c.entry
+
+    at_answer : GoesOut entry l (line_at l c.lines).state does.acted does.answered s.frame → Leads (Moves entry l items) does.acted does.answered
+    at_answer (no_block same no_new) = subst (Leads (Moves entry l items) does.acted) (sym same) (nowhere does.acted)
     at_answer (new_block bcb fcs is frame sends carries) =
-        leads_as (Sends c.entry l) (Moves c.entry l items) does.acted does.answered (λ u v send. by_sending send) sends
+        leads_as (Sends entry l) (Moves entry l items) does.acted does.answered (λ u v send. by_sending send) sends
 
-    at_end : (outgoing s.after ≡ does.answered) ⊎ Over l does.answered (outgoing s.after) → Leads (Moves c.entry l items) does.answered (outgoing s.after)
-    at_end (inl same) = subst (Leads (Moves c.entry l items) does.answered) (sym same) (nowhere does.answered)
-    at_end (inr over) = onward does.answered (outgoing s.after) (outgoing s.after) (by_end over) (nowhere (outgoing s.after))
+    at_end : Ends entry l does.answered s.after → Leads (Moves entry l items) does.answered (outgoing s.after)
+    at_end (still_on same kept) = subst (Leads (Moves entry l items) does.answered) (sym same) (nowhere does.answered)
+    at_end (over_now gone lowered) = onward does.answered (outgoing s.after) (outgoing s.after) (by_end gone) (nowhere (outgoing s.after))
 
--- a customer has come from another by moves, of the same entry, and with as many lines
+-- ---- of an entry the marks alone are changed
+
+raised_is : (up : Bool) (l : ℕ) (entry : CustomerEntry) → raised up l entry ≡ with_marks (raised up l entry).up entry
+raised_is true l entry = refl
+raised_is false l entry = refl
+
+-- what is an entry with some marks is so with its own
+own_marks : (new old : CustomerEntry) (up : List Bool) → new ≡ with_marks up old → new ≡ with_marks new.up old
+own_marks new old up e = e ∙ sym (ap (λ (x : CustomerEntry). with_marks x.up old) e)
+
+pub does_entry : (l : ℕ) (items : List Item) (c : Customer) (s : Step) → Does l items c s → s.after.entry ≡ with_marks s.after.entry.up c.entry
+does_entry l items c s does = at_end does.end
+  where
+    judged : CustomerEntry
+    judged = raised does.up l c.entry
+
+    at_end : Ends judged l does.answered s.after → s.after.entry ≡ with_marks s.after.entry.up c.entry
+    at_end (still_on same kept) = own_marks s.after.entry c.entry judged.up (kept ∙ raised_is does.up l c.entry)
+    at_end (over_now gone lowered) =
+        own_marks s.after.entry c.entry (set judged.up l false) (lowered ∙ ap (entry_marked l false) (raised_is does.up l c.entry))
+
+-- the moves of a step, by the marks of their moments
+pub does_moves_by :
+    (l : ℕ) (items more : List Item) (c : Customer) (s : Step) → ((i : Item) → Contains items i → Contains more i) → Does l items c s
+    → Leads (MovesBy c.entry (Records l more)) (outgoing c) (outgoing s.after)
+does_moves_by l items more c s among does =
+    let entry = raised does.up l c.entry in
+    leads_as (Moves entry l items) (MovesBy c.entry (Records l more)) (outgoing c) (outgoing s.after)
+    (λ u v move. (entry.up, subst (λ x. Moves x l more u v) (raised_is does.up l c.entry) (more_records entry l items more u v among move)))
+    (does_moves l items c s does)
+
+-- a customer has come from another by moves, with the marks of its entry alone changed, and with as many lines
 pub record Moved (l : ℕ) (items : List Item) (c d : Customer) : Type 0 where
-  pub entry : d.entry ≡ c.entry
+  pub entry : d.entry ≡ with_marks d.entry.up c.entry
   pub lines : length d.lines ≡ length c.lines
-  pub moves : Leads (Moves c.entry l items) (outgoing c) (outgoing d)
+  pub moves : Leads (MovesBy c.entry (Records l items)) (outgoing c) (outgoing d)
 
 module _ (frames : FramesDoSo) where
   pub bytes_move : (rest : Rest) (c : Customer) (l : ℕ) (bytes : List ℕ) → Moved l (flat_map records_in (frames_after rest bytes)) c (bytes_run rest c l bytes).after
@@ -80,21 +117,25 @@ module _ (frames : FramesDoSo) where
           let does = frames l received c in
           let behind = rest_moves step.after in
           let end = (bytes_run next step.after l bytes).after in
+          let entry = does_entry l (records_in received) c step does in
           record {
-            entry = behind.entry ∙ does.entry;
+            entry = behind.entry ∙ ap (with_marks end.entry.up) entry;
             lines = behind.lines ∙ does.lines;
-            moves = leads_then (Moves c.entry l items) (outgoing c) (outgoing step.after) (outgoing end)
-                (leads_as (Moves c.entry l (records_in received)) (Moves c.entry l items) (outgoing c) (outgoing step.after)
-                (λ u v. more_records c.entry l (records_in received) items u v (λ i. Contains-append_left (records_in received) later i))
-                (does_moves l (records_in received) c step does))
-                (leads_as (Moves c.entry l later) (Moves c.entry l items) (outgoing step.after) (outgoing end)
-                (λ u v. more_records c.entry l later items u v (λ i. Contains-append_right (records_in received) later i))
-                (subst (λ entry. Leads (Moves entry l later) (outgoing step.after) (outgoing end)) does.entry behind.moves));
+            moves = leads_then (MovesBy c.entry (Records l items)) (outgoing c) (outgoing step.after) (outgoing end)
+                (does_moves_by l (records_in received) items c step (λ i. Contains-append_left (records_in received) later i) does)
+                (leads_as (MovesBy step.after.entry (Records l later)) (MovesBy c.entry (Records l items)) (outgoing step.after) (outgoing end)
+                (λ u v move. (
+                  move.0,
+                  subst (λ x. Moves x l items u v) (ap (with_marks move.0) entry)
+                      (more_records (with_marks move.0 step.after.entry) l later items u v (λ i. Contains-append_right (records_in received) later i) move.1),
+                ))
+                behind.moves);
           }
 
   pub events_move : SignalsDoSo → EventsMoveSo
   events_move signals p (OwnBytes l piece) = (bytes_move (rest_on l p) p.customer l piece).moves
-  events_move signals p (OwnSignal signal l) = does_moves l [] p.customer (signal_came l signal p.customer) (signals l signal p.customer)
+  events_move signals p (OwnSignal signal l) =
+      does_moves_by l [] [] p.customer (signal_came l signal p.customer) (λ i there. there) (signals l signal p.customer)
   events_move signals p (OwnRoutes routes) = routes_move p routes
 
   pub takes_move : TakesMoveSo

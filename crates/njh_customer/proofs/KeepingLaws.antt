@@ -1,25 +1,33 @@
 -- What no event changes of a customer.
-use Rattle.std.proofs.Common.{◌≡◌, length, sym, ap, ◌∙◌}
+use Rattle.std.proofs.Common.{◌≡◌, ℕ, List, [], ◌∷◌, Option, Some, None, length, refl, sym, ap, ◌∙◌}
+use Rattle.njh_bisync.specs.Fed.{turn}
+use Rattle.njh_bisync.specs.Frames.{Received}
+use Rattle.njh_bisync.specs.Reading.{Rest}
 use Rattle.njh_table.specs.Entries.{CustomerEntry}
 use Rattle.njh_table.specs.NewRoutes.{routes_checked}
 use Rattle.njh_customer.specs.Part.{rest_on}
 use Rattle.njh_customer.specs.NewRoutes.{entry_with}
 use Rattle.njh_customer.specs.Runs.{OwnBytes, OwnSignal, OwnRoutes, event_run}
 use Rattle.njh_customer.specs.MovingLaws.{FramesDoSo, SignalsDoSo}
-use Rattle.njh_customer.specs.Laws.{EventsKeepEntries, EventsKeepFaults, EventsKeepLines}
-use Rattle.njh_customer.proofs.EventMoves.{bytes_move}
+use Rattle.njh_customer.specs.Customer.{Customer, with_marks}
+use Rattle.njh_customer.specs.Alone.{signal_came}
+use Rattle.njh_customer.specs.Feeding.{acted_on, byte_step, or_later, take_step, Taking}
+use Rattle.njh_customer.specs.Doing.{records_in}
+use Rattle.njh_customer.specs.Laws.{EventsKeepEntries, EventsKeepFaults, EventsKeepLines, TakesKeepEntries}
+use Rattle.njh_customer.proofs.EventMoves.{bytes_move, does_entry}
 use Rattle.njh_customer.proofs.RoutesMoves.{routes_do, routes_keep_entry}
 
--- with the same routes it is the same
-same_routes : (new old : CustomerEntry) → new ≡ old → new ≡ entry_with new.routes old
-same_routes new old e = e ∙ sym (ap (λ (x : CustomerEntry). entry_with x.routes old) e)
+-- with the same routes it is the same but for its marks
+same_routes : (new old : CustomerEntry) → new ≡ with_marks new.up old → new ≡ entry_with new.routes (with_marks new.up old)
+same_routes new old e = e ∙ sym (ap (λ (x : CustomerEntry). entry_with x.routes (with_marks new.up old)) e)
 
 module _ (frames : FramesDoSo) (signals : SignalsDoSo) where
   pub events_keep_entries : EventsKeepEntries
   events_keep_entries p (OwnBytes l piece) =
       same_routes (event_run p (OwnBytes l piece)).after.customer.entry p.customer.entry (bytes_move frames (rest_on l p) p.customer l piece).entry
   events_keep_entries p (OwnSignal signal l) =
-      same_routes (event_run p (OwnSignal signal l)).after.customer.entry p.customer.entry (signals l signal p.customer).entry
+      same_routes (event_run p (OwnSignal signal l)).after.customer.entry p.customer.entry
+      (does_entry l [] p.customer (signal_came l signal p.customer) (signals l signal p.customer))
   events_keep_entries p (OwnRoutes routes) = routes_keep_entry p routes
 
   pub events_keep_faults : EventsKeepFaults
@@ -29,3 +37,30 @@ module _ (frames : FramesDoSo) (signals : SignalsDoSo) where
   events_keep_lines p (OwnBytes l piece) = (bytes_move frames (rest_on l p) p.customer l piece).lines
   events_keep_lines p (OwnSignal signal l) = (signals l signal p.customer).lines
   events_keep_lines p (OwnRoutes routes) = ap length (routes_do p routes).lines
+
+-- ---- a step by bytes
+
+abbrev SameButMarks : CustomerEntry → Customer → Type 0
+SameButMarks entry d = d.entry ≡ with_marks d.entry.up entry
+
+-- by the frame that was sent
+by_sent :
+    (entry : CustomerEntry) (rest : Rest) (d : Customer) (frame : List ℕ) (later : Taking) → SameButMarks entry d → SameButMarks d.entry later.after
+    → SameButMarks entry (or_later 1 rest (record { after = d; frame = frame }) later).after
+by_sent entry rest d [] later first second = second ∙ ap (with_marks later.after.entry.up) first
+by_sent entry rest d (b ∷ frame) later first second = first
+
+module _ (frames : FramesDoSo) where
+  acted_entry : (l : ℕ) (o : Option Received) (c : Customer) → SameButMarks c.entry (acted_on l o c).after
+  acted_entry l None c = refl
+  acted_entry l (Some received) c = does_entry l (records_in received) c (acted_on l (Some received) c) (frames l received c)
+
+  take_entry : (rest : Rest) (c : Customer) (l : ℕ) (piece : List ℕ) → SameButMarks c.entry (take_step rest c l piece).after
+  take_entry rest c l [] = refl
+  take_entry rest c l (byte ∷ bytes) =
+      let x = byte_step rest c l byte in
+      by_sent c.entry x.rest x.after x.frame (take_step x.rest x.after l bytes) (acted_entry l (turn rest byte).frame c)
+      (take_entry x.rest x.after l bytes)
+
+  pub takes_keep_entries : TakesKeepEntries
+  takes_keep_entries p l piece = take_entry (rest_on l p) p.customer l piece

@@ -1,4 +1,4 @@
--- What no record changes of a line: how it is set up, and the last transmission.
+-- What no record changes of a line: how it is set up, the last transmission, and how far it is.
 use Rattle.std.proofs.Common.{◌≡◌, ℕ, Bool, true, false, cond, ◌==◌, List, [], ◌∷◌, map, fold, Option, Some, None, Result, Ok, Err, refl, ap, ◌∙◌}
 use Rattle.std.specs.Option.{option_map}
 use Rattle.std.proofs.Math.Seq.{map-set_same}
@@ -16,6 +16,7 @@ use Rattle.njh_stream.specs.Receiving as receiving
 use Rattle.njh_stream.specs.Receiving.{Arrival, Notice, received}
 use Rattle.njh_stream.specs.Sending.{Sent, granted, refused, completed}
 use Rattle.njh_command.specs.Commands.{Outcome, commanded}
+use Rattle.njh_line.specs.declared.Phase.{Phase}
 use Rattle.njh_line.specs.declared.config.Config.{Config}
 use Rattle.njh_line.specs.Lines.{with_answer, with_message}
 use Rattle.njh_customer.specs.Customer.{Customer, CustomerLine, no_line, line_at, on_line, in_state, receiver_at, with_receiver, sender_at, with_sender}
@@ -23,10 +24,10 @@ use Rattle.njh_customer.specs.Waiting.{answered, waits, goes, said, all_said, no
 use Rattle.njh_customer.specs.Acting.{arrived, stream_came, with_sent, permitted, refusal_of, request_came, peer_answered, given_up}
 use Rattle.njh_customer.specs.Acting.{with_outcome, command_came, unknown_told, message_routed, message_read, message_came, acted}
 
-abbrev pub kept : CustomerLine → Config × List ℕ
-kept x = (x.state.config, x.state.last)
+abbrev pub kept : CustomerLine → Config × List ℕ × Phase
+kept x = (x.state.config, x.state.last, x.state.session.phase)
 
-abbrev pub kepts : List CustomerLine → List (Config × List ℕ)
+abbrev pub kepts : List CustomerLine → List (Config × List ℕ × Phase)
 kepts lines = map kept lines
 
 pub on_line_kepts :

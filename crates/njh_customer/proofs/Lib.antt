@@ -26,3 +26,4 @@ pub mod DisregardingLaws
 pub mod NewRouteLaws
 pub mod RoutesMoves
 pub mod KeepingLaws
+pub mod MarkLaws

@@ -16,6 +16,7 @@ coherent_given untied routes c coherent = record {
   tied = untied (streams_to_hub c.lines) c.spool (given routes c).spool refl coherent.tied;
   streamed = coherent.streamed;
   quota = coherent.quota;
+  marks = coherent.marks;
 }
 
 no_line : (named : Bool) (r : Route) (l : ℕ) → (not named || is_unknown r) ≡ true → (named && is_line l r) ≡ false

@@ -1,5 +1,6 @@
 -- A customer that was just opened is coherent.
-use Rattle.std.proofs.Common.{◌≡◌, ℕ, zero, suc, ◌≤◌, List, [], ◌∷◌, map, replicate, get_or, refl}
+use Rattle.std.proofs.Common.{◌≡◌, ℕ, zero, suc, ◌≤◌, false, List, [], ◌∷◌, map, replicate, get_or, refl, sym, ◌∙◌}
+use Rattle.std.proofs.lemmas.List.{length-map}
 use Rattle.std.specs.List.{All}
 use Rattle.std.proofs.lemmas.List.Elements.{All-map}
 use Rattle.njh_stream.specs.declared.receiver.Receiver.{Receiver}
@@ -38,4 +39,5 @@ fresh_coherent entry few at_rest = record {
   tied = at_rest (streams_to_hub (fresh_customer entry).lines) (empty_spool entry.quota entry.files) (no_stream entry entry.lines) refl;
   streamed = streamed entry entry.lines few;
   quota = refl;
+  marks = length-map entry.lines (λ _. false) ∙ sym (length-map entry.lines (λ line. quiet_line (config_of entry line) line.streams));
 }

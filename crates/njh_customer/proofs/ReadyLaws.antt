@@ -1,16 +1,23 @@
 -- A line is ready for what comes next.
-use Rattle.std.proofs.Common.{◌≡◌, ℕ, ◌<◌, Bool, false, List, [], ◌∷◌, length, drop, slice_get, slice_set, Some, sym, ap, ap₂, subst, ◌∙◌, arith}
-use Rattle.std.proofs.lemmas.List.{length-set, set-set, get_or-set_same}
+use Rattle.std.proofs.Common.{◌≡◌, ℕ, ◌<◌, Bool, true, false, cond, ◌&&◌, not, List, [], ◌∷◌, length, drop, slice_get, slice_set, nat_lt, Some}
+use Rattle.std.proofs.Common.{refl, sym, ap, ap₂, subst, ◌∙◌, arith}
+use Rattle.std.proofs.lemmas.Bool.{ltb-false}
+use Rattle.std.proofs.lemmas.List.{length-map, length-set, set-set, set-get_or, get_or-set_same}
 use Rattle.njh_spool.specs.CustomerSpool.{CustomerSpool}
 use Rattle.njh_spool.specs.Spools.{part, no_spool}
 use Rattle.njh_table.specs.declared.LineId.{LineId}
-use Rattle.njh_table.specs.TableFile.{TableFile}
-use Rattle.njh_customer.specs.Customer.{Customer, CustomerLine, IsCoherent}
+use Rattle.njh_table.specs.Marks.{customer_marked, entry_marked, with_mark}
+use Rattle.njh_table.specs.TableFile.{NamedCustomer, TableFile, HasLine, customer_at, entry_of, no_customer}
+use Rattle.njh_line.specs.Laws.{is_up}
+use Rattle.njh_line.specs.LineTable.{Input}
+use Rattle.njh_line.specs.Lines.{after_input}
+use Rattle.njh_customer.specs.Customer.{Customer, CustomerLine, IsCoherent, customer_with, in_state, line_at, no_line, on_line}
 use Rattle.njh_block.specs.Blocks.{Block, Item}
 use Rattle.njh_line.specs.declared.verdict.Verdict.{Verdict}
-use Rattle.njh_customer.specs.Alone.{accepted_on, behind_records, block_came, block_input, verdict_on}
+use Rattle.njh_customer.specs.Alone.{Step, accepted_on, behind_records, block_came, block_input, carried_out, goes_up_by, input_came, raised, silent}
+use Rattle.njh_customer.specs.Alone.{verdict_on, where_there}
 use Rattle.njh_customer.specs.Acting.{acted, acted_where, all_acted, ended_or, ends_session}
-use Rattle.njh_customer.specs.Leading.{Leads, IsReady, customer_of}
+use Rattle.njh_customer.specs.Leading.{Brings, Leads, IsReady, IsRetold, customer_of, with_customer}
 use Rattle.njh_customer.proofs.StepLaws.{Stays}
 
 pub next_ready :
@@ -51,43 +58,162 @@ moved_twice old now new c x f range now_is new_is =
     ∙ ap₂ (λ m s. slice_set m c (f s)) now_is (ap (part c) now_is ∙ get_or-set_same old c x no_spool range)
     ∙ set-set old c x (f x)
 
--- where the spool stays
-pub still_ready :
-    (tables : TableFile) (line : LineId) (spools : List CustomerSpool) (old new : List CustomerLine)
-    → IsReady tables line spools old → Stays (customer_of tables line.customer spools new) (customer_of tables line.customer spools old)
-    → IsReady tables line spools new
-still_ready tables line spools old new ready stays = record {
-  known = ready.known;
-  spooled = ready.spooled;
-  there = omega (arith, ready.there, stays.lines);
-  coherent = stays.coherent;
+-- ---- steps that may mark the customer's lines
+
+-- what the tables say of one customer is changed twice
+pub retold_twice : (old now new : TableFile) (c : ℕ) → IsRetold c old now → IsRetold c now new → IsRetold c old new
+retold_twice old now new c first then =
+    then
+    ∙ ap (with_customer c (customer_at new c)) first
+    ∙ ap (λ customers. record old { customers = customers }) (set-set old.customers c (customer_at now c) (customer_at new c))
+
+-- another customer in a place that is there
+retold_by : (tables : TableFile) (c : ℕ) (customer : NamedCustomer) → c < length tables.customers → IsRetold c tables (with_customer c customer tables)
+retold_by tables c customer there = ap (λ x. with_customer c x tables) (sym (get_or-set_same tables.customers c customer no_customer there))
+
+-- nothing is changed
+pub retold_same : (tables : TableFile) (c : ℕ) → IsRetold c tables tables
+retold_same tables c = ap (λ customers. record tables { customers = customers }) (sym (set-get_or tables.customers c no_customer))
+
+-- a mark of a line
+pub retold_marked : (tables new : TableFile) (line : LineId) (up : Bool) → line.customer < length tables.customers → new ≡ with_mark line up tables
+    → IsRetold line.customer tables new
+retold_marked tables new line up there is =
+    subst (IsRetold line.customer tables) (sym is)
+    (retold_by tables line.customer (customer_marked line.line up (customer_at tables line.customer)) there)
+
+-- a step that leaves the tables
+pub as_brings :
+    (tables : TableFile) (c : ℕ) (old new : List CustomerSpool) (lines : List CustomerLine) (after : Customer)
+    → Leads tables c old new lines after → Brings tables tables c old new lines after
+as_brings tables c old new lines after leads = record { customer = leads.customer; others = leads.others; entries = retold_same tables c }
+
+pub next_brought :
+    (tables retold : TableFile) (line : LineId) (old new : List CustomerSpool) (lines_old lines_new : List CustomerLine) (after : Customer)
+    → IsReady tables line old lines_old → Brings tables retold line.customer old new lines_new after
+    → Stays after (customer_of tables line.customer old lines_old) → IsReady retold line new lines_new
+next_brought tables retold line old new lines_old lines_new after ready brings stays = record {
+  known = omega (
+    arith,
+    ready.known,
+    ap (λ t. length t.customers) brings.entries,
+    length-set tables.customers line.customer (customer_at retold line.customer),
+  );
+  spooled = omega (arith, ready.spooled, ap length brings.others, length-set old line.customer (part line.customer new));
+  there = omega (arith, ready.there, ap (λ c. length c.lines) brings.customer, stays.lines);
+  coherent = subst IsCoherent (sym brings.customer) stays.coherent;
 }
 
--- what leads on from where it was led
-pub led_on :
-    (tables : TableFile) (c : ℕ) (old now new : List CustomerSpool) (lines_now lines_new : List CustomerLine) (between : Customer)
-    (then : Customer → Customer) → Leads tables c old now lines_now between
-    → Leads tables c now new lines_new (then (customer_of tables c now lines_now)) → Leads tables c old new lines_new (then between)
-led_on tables c old now new lines_now lines_new between then first second = record {
+-- the files stay
+pub still_brought :
+    (tables retold : TableFile) (line : LineId) (spools : List CustomerSpool) (old new : List CustomerLine) (after : Customer)
+    → IsReady tables line spools old → customer_of retold line.customer spools new ≡ after → IsRetold line.customer tables retold
+    → Stays after (customer_of tables line.customer spools old) → IsReady retold line spools new
+still_brought tables retold line spools old new after ready customer entries =
+    next_brought tables retold line spools spools old new after ready
+    (record { customer = customer; others = sym (set-get_or spools line.customer no_spool); entries = entries })
+
+-- a line of the customer is one of the tables
+pub known_line :
+    (tables : TableFile) (line : LineId) (spools : List CustomerSpool) (lines : List CustomerLine) → IsReady tables line spools lines
+    → HasLine tables line
+known_line tables line spools lines ready =
+    omega (arith, ready.there, ready.coherent.marks, length-map (customer_at tables line.customer).lines (λ l. l.up))
+
+-- what brings on from where it was brought
+pub brought_on :
+    (tables between_tables retold : TableFile) (c : ℕ) (old now new : List CustomerSpool) (lines_now lines_new : List CustomerLine)
+    (between : Customer) (then : Customer → Customer) → Brings tables between_tables c old now lines_now between
+    → Brings between_tables retold c now new lines_new (then (customer_of between_tables c now lines_now))
+    → Brings tables retold c old new lines_new (then between)
+brought_on tables between_tables retold c old now new lines_now lines_new between then first second = record {
   customer = second.customer ∙ ap then first.customer;
   others = others_twice old now new c first.others second.others;
+  entries = retold_twice tables between_tables retold c first.entries second.entries;
 }
 
--- A good block: its verdict, its records, and what is behind them, where these ended the session or didn't.
-pub led_by_block :
-    (ended : Bool) (tables : TableFile) (line : LineId) (old now new : List CustomerSpool) (lines lines_accepted lines_now lines_new : List CustomerLine)
-    (b : Block) (v : Verdict) → v ≡ verdict_on line.line (block_input b) (customer_of tables line.customer old lines)
-    → customer_of tables line.customer old lines_accepted ≡ accepted_on line.line (block_input b) (customer_of tables line.customer old lines)
-    → ended ≡ (acted_where v.acts line.line b.items (customer_of tables line.customer old lines_accepted)).ended
-    → Leads tables line.customer old now lines_now (acted_where v.acts line.line b.items (customer_of tables line.customer old lines_accepted)).customer
-    → Leads tables line.customer now new lines_new (behind_records ended line.line v (customer_of tables line.customer now lines_now)).after
-    → Leads tables line.customer old new lines_new (block_came line.line b (customer_of tables line.customer old lines)).after
-led_by_block ended tables line old now new lines lines_accepted lines_now lines_new b v verdict accepted is_ended acted behind =
+-- a mark behind what a step led to
+pub marked_behind :
+    (tables retold : TableFile) (line : LineId) (up : Bool) (old new : List CustomerSpool) (lines : List CustomerLine) (after : Customer)
+    → Leads tables line.customer old new lines after → line.customer < length tables.customers → retold ≡ with_mark line up tables
+    → entry_of (customer_at (with_mark line up tables) line.customer) ≡ entry_marked line.line up (entry_of (customer_at tables line.customer))
+    → Brings tables retold line.customer old new lines (record after { entry = entry_marked line.line up after.entry })
+marked_behind tables retold line up old new lines after leads there is own = record {
+  customer =
+      ap (λ entry. customer_with entry (part line.customer new) lines) (ap (λ t. entry_of (customer_at t line.customer)) is ∙ own)
+      ∙ ap (λ (d : Customer). record d { entry = entry_marked line.line up d.entry }) leads.customer;
+  others = leads.others;
+  entries = retold_marked tables retold line up there is;
+}
+
+-- The line table judged what came: the line's state, and its mark where it goes up.
+pub accepted_so :
+    (tables retold : TableFile) (line : LineId) (spools : List CustomerSpool) (old new : List CustomerLine) (came : Input) (was_up now_up up : Bool)
+    → line.line < length old → new ≡ on_line line.line (in_state (after_input came)) old
+    → was_up ≡ is_up (line_at line.line old).state.session.phase → now_up ≡ is_up (line_at line.line new).state.session.phase
+    → up ≡ (now_up && not was_up) → entry_of (customer_at retold line.customer) ≡ raised up line.line (entry_of (customer_at tables line.customer))
+    → customer_of retold line.customer spools new ≡ accepted_on line.line came (customer_of tables line.customer spools old)
+accepted_so tables retold line spools old new came was_up now_up up there lines was now goes entry =
+    let x = line_at line.line old in
+    let phase : is_up (line_at line.line new).state.session.phase ≡ is_up (after_input came x.state).session.phase =
+    ap (λ ls. is_up (line_at line.line ls).state.session.phase) lines
+    ∙ ap (λ y. is_up y.state.session.phase) (get_or-set_same old line.line (in_state (after_input came) x) no_line there) in
+    ap (λ e. customer_with e (part line.customer spools) new)
+    (entry ∙ ap (λ b. raised b line.line (entry_of (customer_at tables line.customer))) (goes ∙ ap₂ (λ n w. n && not w) (now ∙ phase) was))
+    ∙ ap (customer_with (raised (goes_up_by line.line came (customer_of tables line.customer spools old)) line.line (entry_of (customer_at tables line.customer))) (part line.customer spools)) lines
+
+-- What comes but a good block: its verdict, and what that asks for.
+pub brought_by_verdict :
+    (tables accepted_tables retold : TableFile) (line : LineId) (old new : List CustomerSpool) (lines lines_accepted lines_new : List CustomerLine)
+    (came : Input) (v : Verdict) → v ≡ verdict_on line.line came (customer_of tables line.customer old lines)
+    → customer_of accepted_tables line.customer old lines_accepted ≡ accepted_on line.line came (customer_of tables line.customer old lines)
+    → IsRetold line.customer tables accepted_tables
+    → Brings accepted_tables retold line.customer old new lines_new (carried_out line.line v (customer_of accepted_tables line.customer old lines_accepted)).after
+    → Brings tables retold line.customer old new lines_new (input_came line.line came (customer_of tables line.customer old lines)).after
+brought_by_verdict tables accepted_tables retold line old new lines lines_accepted lines_new came v verdict accepted entries behind =
     let l = line.line in
     let c = customer_of tables line.customer old lines in
-    let a = acted_where v.acts l b.items (customer_of tables line.customer old lines_accepted) in
-    let led = led_on tables line.customer old now new lines_now lines_new a.customer (λ x. (behind_records ended l v x).after) acted behind in
-    subst (λ x. Leads tables line.customer old new lines_new (behind_records (acted_where x.acts l b.items (accepted_on l (block_input b) c)).ended l x
+    let d = customer_of accepted_tables line.customer old lines_accepted in
+    let all : Brings tables retold line.customer old new lines_new (carried_out l v d).after = record {
+      customer = behind.customer;
+      others = behind.others;
+      entries = retold_twice tables accepted_tables retold line.customer entries behind.entries;
+    } in
+    subst (λ w. Brings tables retold line.customer old new lines_new (carried_out l w (accepted_on l came c)).after) verdict
+    (subst (λ x. Brings tables retold line.customer old new lines_new (carried_out l v x).after) accepted all)
+
+-- a line that is there takes a step
+pub there_steps : (l : ℕ) (s : Step) (c : Customer) → l < length c.lines → where_there l s c ≡ s
+there_steps l s c there = by (nat_lt l (length c.lines)) refl
+  where
+    by : (b : Bool) → nat_lt l (length c.lines) ≡ b → cond b s (silent c) ≡ s
+    by true e = refl
+    by false e = absurd (omega (arith, ltb-false l (length c.lines) e, there))
+
+-- A good block: its verdict, its records, and what is behind them, where these ended the session or didn't.
+pub brought_by_block :
+    (ended : Bool) (tables accepted_tables retold : TableFile) (line : LineId) (old now new : List CustomerSpool)
+    (lines lines_accepted lines_now lines_new : List CustomerLine) (b : Block) (v : Verdict)
+    → v ≡ verdict_on line.line (block_input b) (customer_of tables line.customer old lines)
+    → customer_of accepted_tables line.customer old lines_accepted ≡ accepted_on line.line (block_input b) (customer_of tables line.customer old lines)
+    → IsRetold line.customer tables accepted_tables
+    → ended ≡ (acted_where v.acts line.line b.items (customer_of accepted_tables line.customer old lines_accepted)).ended
+    → Leads accepted_tables line.customer old now lines_now (acted_where v.acts line.line b.items (customer_of accepted_tables line.customer old lines_accepted)).customer
+    → Brings accepted_tables retold line.customer now new lines_new (behind_records ended line.line v (customer_of accepted_tables line.customer now lines_now)).after
+    → Brings tables retold line.customer old new lines_new (block_came line.line b (customer_of tables line.customer old lines)).after
+brought_by_block ended tables accepted_tables retold line old now new lines lines_accepted lines_now lines_new b v verdict accepted entries is_ended acted behind =
+    let l = line.line in
+    let c = customer_of tables line.customer old lines in
+    let d = customer_of accepted_tables line.customer old lines_accepted in
+    let a = acted_where v.acts l b.items d in
+    let led = brought_on accepted_tables accepted_tables retold line.customer old now new lines_now lines_new a.customer (λ x. (behind_records ended l v x).after)
+    (as_brings accepted_tables line.customer old now lines_now a.customer acted) behind in
+    let all : Brings tables retold line.customer old new lines_new (behind_records ended l v a.customer).after = record {
+      customer = led.customer;
+      others = led.others;
+      entries = retold_twice tables accepted_tables retold line.customer entries led.entries;
+    } in
+    subst (λ x. Brings tables retold line.customer old new lines_new (behind_records (acted_where x.acts l b.items (accepted_on l (block_input b) c)).ended l x
     (acted_where x.acts l b.items (accepted_on l (block_input b) c)).customer).after) verdict
-    (subst (λ x. Leads tables line.customer old new lines_new (behind_records (acted_where v.acts l b.items x).ended l v (acted_where v.acts l b.items x).customer).after)
-    accepted (subst (λ e. Leads tables line.customer old new lines_new (behind_records e l v a.customer).after) is_ended led))
+    (subst (λ x. Brings tables retold line.customer old new lines_new (behind_records (acted_where v.acts l b.items x).ended l v (acted_where v.acts l b.items x).customer).after)
+    accepted (subst (λ e. Brings tables retold line.customer old new lines_new (behind_records e l v a.customer).after) is_ended all))

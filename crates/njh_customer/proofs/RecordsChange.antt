@@ -27,6 +27,7 @@ use Rattle.njh_command.specs.declared.command.Command.TheVariants as commands
 use Rattle.njh_command.specs.Words.{command_in, file_command, name_in, node_in, reroute_command, says, words}
 use Rattle.njh_command.specs.Commands.{changed_file, chosen, is_idle, is_sending, rerouted, with_state}
 use Rattle.njh_command.specs.Files.{no_file}
+use Rattle.njh_customer.specs.Customer.{with_marks}
 use Rattle.njh_customer.specs.NewRoutes.{entry_with}
 use Rattle.njh_customer.specs.Outgoing.{Outgoing, marked, with_files}
 use Rattle.njh_customer.specs.Moves as moves
@@ -211,6 +212,6 @@ module _ (by_records : (kind : Kind) (node : List ℕ) (records : List Stored) �
     changes (by_end over) there = was_there (but_state x.files y.files g over.files there)
 
   pub records_change : RecordsChangeSo
-  records_change entry (Records l items) x y g move there = changes entry l items x y g move there
+  records_change entry (Records l items) x y g (up, move) there = (up, changes (with_marks up entry) l items x y g move there)
   records_change entry (Routes routes) x y g given there =
       held_so (entry_with (taken_routes routes) entry) x g (subst (λ z. Contains z.files g) given.holds there)

@@ -15,7 +15,7 @@ use Rattle.njh_customer.proofs.KeptLines.{kept, kepts, acted_keeps}
 pub record Acting (l : ℕ) (items : List Item) (c d : Customer) : Type 0 where
   pub entry : d.entry ≡ c.entry
   pub records : Leads (OneActs c.entry l items) (outgoing c) (outgoing d)
-  pub kept : kepts d.lines ≡ kepts c.lines  -- how each line is set up, and its last transmission
+  pub kept : kepts d.lines ≡ kepts c.lines  -- how each line is set up, its last transmission, and how far it is
 
 idle : (l : ℕ) (items : List Item) (c : Customer) → Acting l items c c
 idle l items c = record { entry = refl; records = nowhere (outgoing c); kept = refl }

@@ -7,6 +7,7 @@ use Rattle.njh_table.specs.Keys.{Walked}
 use Rattle.njh_table.specs.NewRoutes.{NewRoute, routes_checked}
 use Rattle.njh_stream.specs.Holding.{has_lost_route, held}
 use Rattle.njh_command.specs.Files.{no_file}
+use Rattle.njh_customer.specs.Customer.{with_marks}
 use Rattle.njh_customer.specs.NewRoutes.{entry_with, taken_where, routes_given}
 use Rattle.njh_customer.specs.Outgoing.{Outgoing, outgoing}
 use Rattle.njh_customer.specs.Part.{Part}
@@ -48,10 +49,12 @@ routes_move p routes = at_check (routes_checked p.customer.entry routes) refl
     at_check (Err found) e = nowhere (outgoing p.customer)
 
 pub routes_keep_entry :
-    (p : Part) (routes : List NewRoute) → let after = (routes_given routes p).customer.entry in after ≡ entry_with after.routes p.customer.entry
+    (p : Part) (routes : List NewRoute) → let after = (routes_given routes p).customer.entry in
+    after ≡ entry_with after.routes (with_marks after.up p.customer.entry)
 routes_keep_entry p routes = at_check (routes_checked p.customer.entry routes)
   where
-    at_check : (w : Walked (Unit {0})) → let after = (taken_where w routes p).customer.entry in after ≡ entry_with after.routes p.customer.entry
+    at_check : (w : Walked (Unit {0})) → let after = (taken_where w routes p).customer.entry in
+        after ≡ entry_with after.routes (with_marks after.up p.customer.entry)
     at_check (Ok faultless) = refl
     at_check (Err found) = refl
 

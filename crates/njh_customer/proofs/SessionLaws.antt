@@ -118,6 +118,7 @@ module _ (untied : NothingUnties) (ends : EndsTie) where
           tied = subst (λ rs. AreTied rs (without_all_open x.receivers sent)) (sym (map-set (λ y. y.receivers) c.lines l (quiet x))) after;
           streamed = All-set HasStreams c.lines l (quiet x) (length-replicate (length x.receivers) receiver.Idle ∙ eight.0, eight.1) coherent.streamed;
           quota = without_all_quota x.receivers sent ∙ all_ended_quota x.senders c.spool ∙ coherent.quota;
+          marks = length-set c.entry.up l false ∙ coherent.marks ∙ sym (length-set c.lines l (quiet x));
         };
         lines = length-set c.lines l (quiet x);
       }

@@ -25,21 +25,18 @@ use Rattle.njh_command.specs.Words.{command_of}
 use Rattle.njh_command.specs.Commands.{Outcome, obeyed, obeyed_where, chosen, rerouting}
 use Rattle.njh_line.specs.LineTable.{Input}
 use Rattle.njh_line.specs.Lines.{after_input}
-use Rattle.njh_customer.specs.Alone.{accepted_on}
+use Rattle.njh_customer.specs.Alone.{accepted_on, goes_up_by, raised}
 use Rattle.njh_customer.specs.Customer.{Customer, CustomerLine, no_line, line_at, on_line, in_state, sender_at, with_sender, with_receiver, receiver_at, IsCoherent}
 use Rattle.njh_customer.specs.Waiting.{answered, waits, said, notified}
 use Rattle.njh_customer.specs.Acting.{arrived, stream_came, with_sent, permitted, answer_came, refusal_of, request_came, peer_answered}
 use Rattle.njh_customer.specs.Acting.{given_up, with_outcome, command_came, unknown_told, message_routed, message_read, message_came, acted, ends_session}
 use Rattle.njh_customer.specs.Acting.{ended_or, all_acted, acted_where}
 use Rattle.njh_customer.proofs.ShapeLaws.{shapes, on_line_shapes, answered_shapes, waits_shapes, said_shapes, all_said_shapes, notified_shapes, all_given_up_shapes}
-use Rattle.njh_customer.proofs.CoherenceLaws.{ArrivalsTie, NothingUnties, IsLike, coherent_still, keeps_arrived}
+use Rattle.njh_customer.proofs.CoherenceLaws.{as_many, ArrivalsTie, NothingUnties, IsLike, coherent_still, keeps_arrived}
 
 pub record Stays (d c : Customer) : Type 0 where
   pub coherent : IsCoherent d
   pub lines : length d.lines ≡ length c.lines
-
-as_many : (xs ys : List CustomerLine) → shapes xs ≡ shapes ys → length xs ≡ length ys
-as_many xs ys same = sym (length-map xs (λ x. (x.streams, x.receivers))) ∙ ap length same ∙ length-map ys (λ x. (x.streams, x.receivers))
 
 pub stays : (c : Customer) → IsCoherent c → Stays c c
 stays c coherent = record { coherent = coherent; lines = refl }
@@ -57,9 +54,24 @@ module _ (untied : NothingUnties) where
   stays_where true x y c first second = first
   stays_where false x y c first second = second
 
+  -- a mark on a line
+  raised_stays : (up : Bool) (l : ℕ) (c : Customer) → IsCoherent c → Stays (record c { entry = raised up l c.entry }) c
+  raised_stays true l c coherent = record {
+    coherent = record {
+      tied = coherent.tied;
+      streamed = coherent.streamed;
+      quota = coherent.quota;
+      marks = length-set c.entry.up l true ∙ coherent.marks;
+    };
+    lines = refl;
+  }
+  raised_stays false l c coherent = stays c coherent
+
   pub accepted_stays : (l : ℕ) (came : Input) (c : Customer) → IsCoherent c → Stays (accepted_on l came c) c
   accepted_stays l came c coherent =
-      stays_lines (on_line l (in_state (after_input came)) c.lines) c (on_line_shapes l (in_state (after_input came)) c.lines (λ x. refl)) coherent
+      let d : Customer = record c { lines = on_line l (in_state (after_input came)) c.lines } in
+      let first = stays_lines d.lines c (on_line_shapes l (in_state (after_input came)) c.lines (λ x. refl)) coherent in
+      record { coherent = (raised_stays (goes_up_by l came c) l d first.coherent).coherent; lines = first.lines }
 
   -- ---- streams from the hub
 

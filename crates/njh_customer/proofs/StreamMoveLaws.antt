@@ -14,6 +14,7 @@ use Rattle.njh_stream.specs.Sending.{file_in, goes_by}
 use Rattle.njh_sched.specs.NextBlock.{may_go}
 use Rattle.njh_command.specs.Commands.{aborted_where, chosen, is_about, without_file}
 use Rattle.njh_customer.specs.Outgoing.{Outgoing, each_stream, marked, stream_at, streams_of, with_files, with_stream, without}
+use Rattle.njh_customer.specs.Customer.{with_marks}
 use Rattle.njh_customer.specs.Moves as moves
 use Rattle.njh_customer.specs.Moves.{Acts, Records, Routes, Moves, by_record, by_sending, by_end, Sends, Tells, without_files}
 use Rattle.njh_customer.specs.MovingLaws as laws
@@ -171,14 +172,14 @@ moves_on_line entry l items x y j k (by_sending sends) = sending_moves entry l i
 moves_on_line entry l items x y j k (by_end over) = end_moves entry l items j k x y y.streams over.streams refl
 
 pub streams_move : StreamsMoveSo
-streams_move entry (Records l items) x y j k move = moves_on_line entry l items x y j k move
+streams_move entry (Records l items) x y j k (up, move) = (up, moves_on_line (with_marks up entry) l items x y j k move)
 streams_move entry (Routes routes) x y j k given = ap (stream_at j k) given.holds
 
 pub idle_take : IdleStreamsTakeFiles
 idle_take entry (Routes routes) x y j k n given has = inl (sym (ap (λ s. file_in (stream_at j k s)) given.holds) ∙ has)
-idle_take entry (Records l items) x y j k n move has = at_move (moves_on_line entry l items x y j k move)
+idle_take entry (Records l items) x y j k n (up, move) has = at_move (moves_on_line (with_marks up entry) l items x y j k move)
   where
-    at_move : StreamMoves entry l items j k x y → (file_in (stream_at j k x) ≡ Some n) ⊎ (stream_at j k x ≡ Idle)
+    at_move : StreamMoves (with_marks up entry) l items j k x y → (file_in (stream_at j k x) ≡ Some n) ⊎ (stream_at j k x ≡ Idle)
     at_move (laws.stays same) = inl (sym (ap (λ s. file_in s) same) ∙ has)
     at_move (laws.has_none none) = absurd (cc (sym none ∙ has))
     at_move (laws.asks f sends idle found now) = inr idle

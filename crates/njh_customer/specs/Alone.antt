@@ -1,18 +1,21 @@
 -- A customer alone: what each frame and each signal on one of its lines does and sends.
-use Rattle.std.specs.Prelude.{ℕ, Bool, true, false, List, [], length, replicate, slice_set, Result, Ok, Err, nat_lt, cond}
+use Rattle.std.specs.Prelude.{ℕ, Bool, true, false, ◌&&◌, not, List, [], length, replicate, slice_set, Result, Ok, Err, nat_lt, cond}
 use Rattle.njh_bisync.specs.Frames as frame
 use Rattle.njh_bisync.specs.Frames.{Received}
 use Rattle.njh_block.specs.Blocks.{Block, read_block, general_first}
 use Rattle.njh_block.specs.declared.fault.BlockFault.{BlockFault}
 use Rattle.njh_spool.specs.CustomerSpool.{CustomerSpool}
 use Rattle.njh_table.specs.Entries.{CustomerEntry}
+use Rattle.njh_table.specs.Marks.{entry_marked}
 use Rattle.njh_stream.specs.declared.receiver.Receiver.TheVariants as receiver
 use Rattle.njh_stream.specs.declared.sender.Sender.TheVariants as sender
 use Rattle.njh_stream.specs.Receiving.{without_all_open}
 use Rattle.njh_stream.specs.Sending.{all_ended, tried_again}
 use Rattle.njh_line.specs.LineTable as input
 use Rattle.njh_line.specs.LineTable.{Input, accepted}
+use Rattle.njh_line.specs.Laws.{is_up}
 use Rattle.njh_line.specs.Lines.{after_input, after_end, without_answers}
+use Rattle.njh_line.specs.declared.Phase.{Phase}
 use Rattle.njh_line.specs.declared.verdict.Reply.{Reply}
 use Rattle.njh_line.specs.declared.verdict.Verdict.{Verdict}
 use Rattle.njh_customer.specs.declared.signal.Signal.{Signal}
@@ -51,8 +54,13 @@ quiet x = record x {
 abbrev pub spool_over : CustomerEntry → ℕ → CustomerLine → CustomerSpool → CustomerSpool
 spool_over entry l x s = without_all_open x.receivers (tried_again entry l (all_ended x.senders s))
 
+-- they are judged by the marks as these were just before
+abbrev pub session_closed : ℕ → Customer → Customer
+session_closed l c = record c { spool = spool_over c.entry l (line_at l c.lines) c.spool; lines = on_line l quiet c.lines }
+
+-- and then the line counts as not up
 abbrev pub session_over : ℕ → Customer → Customer
-session_over l c = record c { spool = spool_over c.entry l (line_at l c.lines) c.spool; lines = on_line l quiet c.lines }
+session_over l c = let d = session_closed l c in record d { entry = entry_marked l false d.entry }
 
 abbrev pub session_over_where : Bool → ℕ → Customer → Customer
 session_over_where true l c = session_over l c
@@ -72,8 +80,22 @@ carried_out l v c = let s = replied_to l v.reply c in record { after = session_o
 abbrev pub verdict_on : ℕ → Input → Customer → Verdict
 verdict_on l came c = let x = (line_at l c.lines).state in (accepted x.config came x.session).verdict
 
+-- a line goes up
+abbrev pub goes_up : (before after : Phase) → Bool
+goes_up before after = is_up after && not (is_up before)
+
+-- a line that goes up is marked; no mark is taken away
+abbrev pub raised : Bool → ℕ → CustomerEntry → CustomerEntry
+raised true l entry = entry_marked l true entry
+raised false l entry = entry
+
+-- whether what comes makes a line go up
+abbrev pub goes_up_by : ℕ → Input → Customer → Bool
+goes_up_by l came c = let x = (line_at l c.lines).state in goes_up x.session.phase (after_input came x).session.phase
+
+-- the line table judges what comes, and a line that goes up counts as up from then on
 abbrev pub accepted_on : ℕ → Input → Customer → Customer
-accepted_on l came c = record c { lines = on_line l (in_state (after_input came)) c.lines }
+accepted_on l came c = record c { entry = raised (goes_up_by l came c) l c.entry; lines = on_line l (in_state (after_input came)) c.lines }
 
 -- what comes to a line but a good block
 abbrev pub input_came : ℕ → Input → Customer → Step

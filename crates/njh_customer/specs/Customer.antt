@@ -1,6 +1,7 @@
 -- One customer by itself: its entry in the table, its files, and its lines.
-use Rattle.std.specs.Prelude.{◌≡◌, ℕ, ◌≤◌, All, length, List, [], ◌∷◌, map, replicate, slice_index_or, slice_set, Option, Some, None}
+use Rattle.std.specs.Prelude.{◌≡◌, ℕ, ◌≤◌, Bool, All, length, List, [], ◌∷◌, map, replicate, slice_index_or, slice_set, Option, Some, None}
 use Rattle.njh_table.specs.Entries.{CustomerEntry, LineEntry}
+use Rattle.njh_table.specs.Marks.{entry_unmarked}
 use Rattle.njh_table.specs.declared.Role.{Role}
 use Rattle.njh_table.specs.declared.Role.TheVariants.{Call, Answer}
 use Rattle.njh_spool.specs.CustomerSpool.{CustomerSpool, empty_spool}
@@ -12,6 +13,7 @@ use Rattle.njh_stream.specs.Streams.{AreTied}
 use Rattle.njh_line.specs.declared.config.Config.{Config}
 use Rattle.njh_line.specs.declared.config.Role as line_role
 use Rattle.njh_line.specs.declared.config.Role.TheVariants as role
+use Rattle.njh_line.specs.Laws.{is_up}
 use Rattle.njh_line.specs.Lines.{LineState, fresh_line}
 
 -- A line with its streams.
@@ -57,10 +59,10 @@ quiet_line config streams = record {
   served = 7;
 }
 
--- a customer of a hub that was just opened
+-- a customer of a hub that was just opened: no line is up, whatever the entry's marks are
 abbrev pub fresh_customer : CustomerEntry → Customer
 fresh_customer entry = record {
-  entry = entry;
+  entry = entry_unmarked entry;
   spool = empty_spool entry.quota entry.files;
   lines = map (λ line. quiet_line (config_of entry line) line.streams) entry.lines;
 }
@@ -115,8 +117,19 @@ streams_to_hub lines = map (λ x. x.receivers) lines
 abbrev pub HasStreams : CustomerLine → Type 0
 HasStreams x = (length x.receivers ≡ 8) × (x.streams ≤ 4)
 
--- What a customer's streams keep of its partial files is what those are, and its files stand under its own quota.
+-- What a customer's streams keep of its partial files is what those are, its files stand under its own quota, and each of its lines has a mark.
 pub record IsCoherent (c : Customer) : Type 0 where
   pub tied : AreTied (streams_to_hub c.lines) c.spool
   pub streamed : All HasStreams c.lines
   pub quota : c.spool.quota ≡ c.entry.quota
+  pub marks : length c.entry.up ≡ length c.lines
+
+-- ---- the marks of its lines
+
+-- an entry with these marks, line by line
+abbrev pub with_marks : List Bool → CustomerEntry → CustomerEntry
+with_marks up entry = record entry { up = up }
+
+-- The lines that are marked as up are those that are.
+abbrev pub IsMarked : Customer → Type 0
+IsMarked c = c.entry.up ≡ map (λ x. is_up x.state.session.phase) c.lines

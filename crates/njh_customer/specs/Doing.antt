@@ -1,6 +1,6 @@
 -- What a frame or a signal on a line does to a customer's whole files and to its streams from the hub: first its records act, one after the
 -- other, then a frame goes out or none, and then the line's session goes on or ends.
-use Rattle.std.specs.Prelude.{◌≡◌, ℕ, ◌+◌, ◌<◌, ◌⊎◌, false, List, [], ◌∷◌, ◌++◌, length, take, drop, map, Result, Ok, Err}
+use Rattle.std.specs.Prelude.{◌≡◌, ℕ, ◌+◌, ◌<◌, Bool, false, List, [], ◌∷◌, ◌++◌, length, take, drop, map, Result, Ok, Err}
 use Rattle.njh_bisync.specs.Frames as frame
 use Rattle.njh_bisync.specs.Frames.{Received}
 use Rattle.njh_bisync.specs.Written.{control_bytes, text_bytes}
@@ -12,11 +12,12 @@ use Rattle.njh_sched.specs.NextBlock.{is_sending}
 use Rattle.njh_sched.specs.Laws.{records_under}
 use Rattle.njh_sched.specs.Carrying.{end_of_file, record_item}
 use Rattle.njh_table.specs.Entries.{CustomerEntry}
+use Rattle.njh_table.specs.Marks.{entry_marked}
 use Rattle.njh_line.specs.Lines.{LineState}
 use Rattle.njh_line.specs.Openings.{opening}
 use Rattle.njh_line.specs.declared.opening.Opening.{Opening}
 use Rattle.njh_customer.specs.Customer.{Customer, line_at}
-use Rattle.njh_customer.specs.Alone.{Step}
+use Rattle.njh_customer.specs.Alone.{Step, raised}
 use Rattle.njh_customer.specs.Outgoing.{Outgoing, outgoing, records_numbered, stream_at, streams_of}
 use Rattle.njh_customer.specs.Moves.{Leads, OneActs, Over, Sends}
 
@@ -66,13 +67,19 @@ pub data GoesOut (entry : CustomerEntry) (l : ℕ) (line : LineState) (x y : Out
       (bcb : ℕ) (fcs : ℕ × ℕ) (items : List Item) → sent ≡ text_bytes (text_of bcb fcs items) → Leads (Sends entry l) x y
       → ((k : ℕ) → k < 8 → k < length (streams_of l x) → Carries l k items x y) → GoesOut entry l line x y sent
 
--- What a step on line l does by these records: they act, or none does; then what goes out, of the line as it was; and at last the line's
--- session goes on or ends.
+-- How a step ends that was judged by an entry: the line's session goes on, or it is over, and then the line counts as not up. Of the entry
+-- nothing else is changed.
+pub data Ends (entry : CustomerEntry) (l : ℕ) (x : Outgoing) (after : Customer) : Type 0 where
+  still_on : outgoing after ≡ x → after.entry ≡ entry → Ends entry l x after
+  over_now : Over l x (outgoing after) → after.entry ≡ entry_marked l false entry → Ends entry l x after
+
+-- What a step on line l does by these records: where the line goes up by what came it counts as up from then on. The records act, or none does;
+-- then what goes out, of the line as it was; and at last the line's session goes on or ends.
 pub record Does (l : ℕ) (items : List Item) (c : Customer) (s : Step) : Type 0 where
+  pub up : Bool  -- whether the line goes up
   pub acted : Outgoing
-  pub records : Leads (OneActs c.entry l items) (outgoing c) acted
+  pub records : Leads (OneActs (raised up l c.entry) l items) (outgoing c) acted
   pub answered : Outgoing
-  pub answer : GoesOut c.entry l (line_at l c.lines).state acted answered s.frame
-  pub end : (outgoing s.after ≡ answered) ⊎ Over l answered (outgoing s.after)
-  pub entry : s.after.entry ≡ c.entry
+  pub answer : GoesOut (raised up l c.entry) l (line_at l c.lines).state acted answered s.frame
+  pub end : Ends (raised up l c.entry) l answered s.after
   pub lines : length s.after.lines ≡ length c.lines

@@ -2,6 +2,8 @@
 use Rattle.std.specs.Prelude.{◌≡◌, ℕ, ◌<◌, List, [], ◌∷◌, ◌++◌, length, take}
 use Rattle.njh_table.specs.NewRoutes.{NewRoute, routes_checked}
 use Rattle.njh_customer.specs.Feeding.{sent_on}
+use Rattle.njh_table.specs.Entries.{CustomerEntry}
+use Rattle.njh_customer.specs.Customer.{IsMarked, fresh_customer, with_marks}
 use Rattle.njh_customer.specs.NewRoutes.{entry_with}
 use Rattle.njh_customer.specs.Part.{Part, bytes_taken}
 use Rattle.njh_customer.specs.Runs.{OwnEvent, OwnBytes, Run, event_run, alone_run}
@@ -34,10 +36,17 @@ FirstBytesSendFirst =
 
 -- ---- what no event changes
 
--- Of a customer's entry an event changes the routes alone.
+-- Of a customer's entry an event changes the routes and the marks of its lines alone.
 abbrev pub EventsKeepEntries : Type 0
 EventsKeepEntries =
-    (p : Part) (event : OwnEvent) → let after = (event_run p event).after.customer.entry in after ≡ entry_with after.routes p.customer.entry
+    (p : Part) (event : OwnEvent) → let after = (event_run p event).after.customer.entry in
+    after ≡ entry_with after.routes (with_marks after.up p.customer.entry)
+
+-- A step by bytes changes the marks alone.
+abbrev pub TakesKeepEntries : Type 0
+TakesKeepEntries =
+    (p : Part) (l : ℕ) (piece : List ℕ) → let after = (bytes_taken p l piece).after.customer.entry in
+    after ≡ with_marks after.up p.customer.entry
 
 -- So routes have the same first fault, or none, before an event and behind it.
 abbrev pub EventsKeepFaults : Type 0
@@ -48,3 +57,11 @@ EventsKeepFaults =
 -- The customer has as many lines.
 abbrev pub EventsKeepLines : Type 0
 EventsKeepLines = (p : Part) (event : OwnEvent) → length (event_run p event).after.customer.lines ≡ length p.customer.lines
+
+-- ---- the marks of the lines
+
+-- The lines that are marked as up are those that are up: so when the hub is opened, after each event, and after each step by bytes.
+pub record MarksAreRight : Type 0 where
+  pub fresh : (entry : CustomerEntry) → IsMarked (fresh_customer entry)
+  pub events : (p : Part) (event : OwnEvent) → IsMarked p.customer → IsMarked (event_run p event).after.customer
+  pub takes : (p : Part) (l : ℕ) (piece : List ℕ) → IsMarked p.customer → IsMarked (bytes_taken p l piece).after.customer

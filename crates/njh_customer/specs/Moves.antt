@@ -21,6 +21,7 @@ use Rattle.njh_command.specs.declared.command.Command.{Command}
 use Rattle.njh_command.specs.declared.command.Command.TheVariants.{Hold, Release, Cancel, Reroute}
 use Rattle.njh_command.specs.Words.{command_of}
 use Rattle.njh_command.specs.Commands.{changed_file, chosen, is_busy, rerouted, with_state, without_file}
+use Rattle.njh_customer.specs.Customer.{with_marks}
 use Rattle.njh_customer.specs.NewRoutes.{entry_with}
 use Rattle.njh_customer.specs.Outgoing.{Outgoing, each_stream, marked, record_numbered, stream_at, streams_of, with_files, with_stream, with_streams, without}
 
@@ -144,9 +145,9 @@ pub data Coming : Type 0 where
   Records : (line : ℕ) (items : List Item) → Coming
   Routes : (routes : List NewRoute) → Coming
 
--- a move by what comes
+-- a move by what comes; it is judged by the marks of its moment
 abbrev pub MovesBy : CustomerEntry → Coming → Outgoing → Outgoing → Type 0
-MovesBy entry (Records l items) x y = Moves entry l items x y
+MovesBy entry (Records l items) x y = (up : List Bool) × Moves (with_marks up entry) l items x y
 MovesBy entry (Routes routes) x y = RoutesMove entry routes x y
 
 -- Moves of a kind lead from one to the other.

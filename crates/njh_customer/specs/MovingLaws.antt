@@ -1,5 +1,5 @@
 -- What is said of how a customer's whole files and its streams from the hub move.
-use Rattle.std.specs.Prelude.{◌≡◌, ℕ, ◌+◌, ◌<◌, ◌⊎◌, true, false, List, [], find, flat_map, length, take, Some, None, Ok, Err}
+use Rattle.std.specs.Prelude.{◌≡◌, ℕ, ◌+◌, ◌<◌, ◌⊎◌, Bool, true, false, List, [], find, flat_map, length, take, Some, None, Ok, Err}
 use Rattle.std.specs.List.{Contains}
 use Rattle.njh_bisync.specs.Fed.{frames_after}
 use Rattle.njh_bisync.specs.Frames.{Received}
@@ -20,7 +20,7 @@ use Rattle.njh_sched.specs.NextBlock.{may_go}
 use Rattle.njh_command.specs.declared.command.Command.TheVariants.{Cancel, Reroute}
 use Rattle.njh_command.specs.Commands.{chosen, is_sending}
 use Rattle.njh_customer.specs.declared.signal.Signal.{Signal}
-use Rattle.njh_customer.specs.Customer.{Customer}
+use Rattle.njh_customer.specs.Customer.{Customer, with_marks}
 use Rattle.njh_customer.specs.Alone.{frame_came, signal_came}
 use Rattle.njh_customer.specs.Part.{Part, bytes_taken, rest_on}
 use Rattle.njh_customer.specs.NewRoutes.{entry_with}
@@ -81,7 +81,7 @@ pub data Leaves (entry : CustomerEntry) (l : ℕ) (items : List Item) (n : ℕ) 
 
 -- by new routes none leaves
 abbrev pub LeavesBy : CustomerEntry → Coming → ℕ → Outgoing → Type 0
-LeavesBy entry (Records l items) n x = Leaves entry l items n x
+LeavesBy entry (Records l items) n x = (up : List Bool) × Leaves (with_marks up entry) l items n x
 LeavesBy entry (Routes routes) n x = ⊥
 
 abbrev pub FilesLeaveSo : Type 0
@@ -121,7 +121,7 @@ pub data StreamMoves (entry : CustomerEntry) (l : ℕ) (items : List Item) (j k 
 
 -- by new routes none moves
 abbrev pub StreamMovesBy : CustomerEntry → Coming → ℕ → ℕ → Outgoing → Outgoing → Type 0
-StreamMovesBy entry (Records l items) j k x y = StreamMoves entry l items j k x y
+StreamMovesBy entry (Records l items) j k x y = (up : List Bool) × StreamMoves (with_marks up entry) l items j k x y
 StreamMovesBy entry (Routes routes) j k x y = stream_at j k y ≡ stream_at j k x
 
 abbrev pub StreamsMoveSo : Type 0
@@ -157,7 +157,7 @@ pub data RoutesMoveFile (entry : CustomerEntry) (x : Outgoing) (g : WholeFile) :
   is_held : (f : WholeFile) → Contains x.files f → has_lost_route entry f ≡ true → g ≡ held f → RoutesMoveFile entry x g
 
 abbrev pub FileMovesBy : CustomerEntry → Coming → Outgoing → WholeFile → Type 0
-FileMovesBy entry (Records l items) x g = FileMoves entry items x g
+FileMovesBy entry (Records l items) x g = (up : List Bool) × FileMoves (with_marks up entry) items x g
 FileMovesBy entry (Routes routes) x g = RoutesMoveFile (entry_with (taken_routes routes) entry) x g
 
 abbrev pub RecordsChangeSo : Type 0

@@ -1,14 +1,15 @@
 //! What a frame or a signal on one of a customer's lines does. The frame that answers it is put into `out`, which is empty then where
 //! none does.
 
-ghost use Rattle.std.specs.Prelude.{◌≡◌, length};
+ghost use Rattle.std.specs.Prelude.{◌≡◌, ◌<◌, ◌&&◌, length, not};
 ghost use Rattle.std.specs.Option.{option_map};
 ghost use Rattle.njh_customer.specs.Feeding.{acted_on};
 ghost use Rattle.njh_bisync.specs.Lent.{received};
 ghost use Rattle.njh_line.specs.LineTable.{shown};
+ghost use Rattle.njh_table.specs.TableFile.{HasLine, customer_at, entry_of};
 ghost use Rattle.njh_customer.specs.Acting.{acted_where};
 ghost use Rattle.njh_customer.specs.Alone as alone;
-ghost use Rattle.njh_customer.specs.Leading.{IsReady, Leads, customer_of};
+ghost use Rattle.njh_customer.specs.Leading.{Brings, IsReady, IsRetold, Leads, customer_of};
 
 use crate::acting::all_act;
 use crate::customer_lines::CustomerLines;
@@ -20,25 +21,25 @@ use njh_command::Replies;
 use njh_line::{Input, Verdict};
 use njh_spool::Spool;
 use njh_stream::streams_stay_tied;
-use njh_table::{LineId, Tables};
+use njh_table::{LineId, Tables, marks_change_one_entry};
 
 /// A frame comes on a line, where one is whole. The line is ready for more.
 pub(crate) fn take_frame(
     line: LineId,
     frame: Option<Frame<'_>>,
-    tables: &Tables,
+    tables: &mut Tables,
     spool: &mut Spool,
     lines: &mut CustomerLines,
     block: &mut BlockWriter,
     replies: &mut Replies,
     out: &mut FrameBuffer,
 )
-    requires ready { IsReady tables.now line spool.old lines.old }
-    ensures after { Leads tables.now line.customer spool.old spool.new lines.new
-        (acted_on line.line (option_map received frame.entry) (customer_of tables.now line.customer spool.old lines.old)).after }
+    requires ready { IsReady tables.old line spool.old lines.old }
+    ensures after { Brings tables.old tables.new line.customer spool.old spool.new lines.new
+        (acted_on line.line (option_map received frame.entry) (customer_of tables.old line.customer spool.old lines.old)).after }
     ensures frame { out.new
-        ≡ (acted_on line.line (option_map received frame.entry) (customer_of tables.now line.customer spool.old lines.old)).frame }
-    ensures ready { IsReady tables.now line spool.new lines.new }
+        ≡ (acted_on line.line (option_map received frame.entry) (customer_of tables.old line.customer spool.old lines.old)).frame }
+    ensures ready { IsReady tables.new line spool.new lines.new }
     ensures count { length lines.new ≡ length lines.old }
 {
     streams_stay_tied();
@@ -49,18 +50,18 @@ pub(crate) fn take_frame(
 pub(crate) fn take_signal(
     line: LineId,
     signal: Signal,
-    tables: &Tables,
+    tables: &mut Tables,
     spool: &mut Spool,
     lines: &mut CustomerLines,
     block: &mut BlockWriter,
     out: &mut FrameBuffer,
 )
-    requires ready { IsReady tables.now line spool.old lines.old }
-    ensures after { Leads tables.now line.customer spool.old spool.new lines.new
-        (alone.signal_came line.line signal (customer_of tables.now line.customer spool.old lines.old)).after }
+    requires ready { IsReady tables.old line spool.old lines.old }
+    ensures after { Brings tables.old tables.new line.customer spool.old spool.new lines.new
+        (alone.signal_came line.line signal (customer_of tables.old line.customer spool.old lines.old)).after }
     ensures frame { out.new
-        ≡ (alone.signal_came line.line signal (customer_of tables.now line.customer spool.old lines.old)).frame }
-    ensures ready { IsReady tables.now line spool.new lines.new }
+        ≡ (alone.signal_came line.line signal (customer_of tables.old line.customer spool.old lines.old)).frame }
+    ensures ready { IsReady tables.new line spool.new lines.new }
     ensures count { length lines.new ≡ length lines.old }
 {
     streams_stay_tied();
@@ -72,18 +73,18 @@ pub(crate) fn take_signal(
 fn frame_came(
     line: LineId,
     frame: Option<Frame<'_>>,
-    tables: &Tables,
+    tables: &mut Tables,
     spool: &mut Spool,
     lines: &mut CustomerLines,
     block: &mut BlockWriter,
     replies: &mut Replies,
     out: &mut FrameBuffer,
 )
-    requires ready { IsReady tables.now line spool.old lines.old }
-    ensures after { Leads tables.now line.customer spool.old spool.new lines.new
-        (acted_on line.line (option_map received frame.entry) (customer_of tables.now line.customer spool.old lines.old)).after }
+    requires ready { IsReady tables.old line spool.old lines.old }
+    ensures after { Brings tables.old tables.new line.customer spool.old spool.new lines.new
+        (acted_on line.line (option_map received frame.entry) (customer_of tables.old line.customer spool.old lines.old)).after }
     ensures frame { out.new
-        ≡ (acted_on line.line (option_map received frame.entry) (customer_of tables.now line.customer spool.old lines.old)).frame }
+        ≡ (acted_on line.line (option_map received frame.entry) (customer_of tables.old line.customer spool.old lines.old)).frame }
 {
     match frame {
         None => out.clear(),
@@ -104,95 +105,126 @@ fn frame_came(
 fn signal_came(
     line: LineId,
     signal: Signal,
-    tables: &Tables,
+    tables: &mut Tables,
     spool: &mut Spool,
     lines: &mut CustomerLines,
     block: &mut BlockWriter,
     out: &mut FrameBuffer,
 )
-    requires ready { IsReady tables.now line spool.old lines.old }
-    ensures after { Leads tables.now line.customer spool.old spool.new lines.new
-        (alone.signal_came line.line signal (customer_of tables.now line.customer spool.old lines.old)).after }
+    requires ready { IsReady tables.old line spool.old lines.old }
+    ensures after { Brings tables.old tables.new line.customer spool.old spool.new lines.new
+        (alone.signal_came line.line signal (customer_of tables.old line.customer spool.old lines.old)).after }
     ensures frame { out.new
-        ≡ (alone.signal_came line.line signal (customer_of tables.now line.customer spool.old lines.old)).frame }
+        ≡ (alone.signal_came line.line signal (customer_of tables.old line.customer spool.old lines.old)).frame }
 {
     let verdict = accept_signal(line, signal, tables, spool, lines);
     carry_out(line, verdict, tables, spool, lines, block, out);
 }
 
-/// The line table judges a signal.
+/// The line table judges a signal. A line that goes up by it counts as up from then on.
 fn accept_signal(
     line: LineId,
     signal: Signal,
-    tables: &Tables,
+    tables: &mut Tables,
     spool: &Spool,
     lines: &mut CustomerLines,
 ) -> Verdict
-    requires ready { IsReady tables.now line spool.now lines.old }
+    requires ready { IsReady tables.old line spool.now lines.old }
     ensures verdict { result
-        ≡ alone.verdict_on line.line (alone.signal_input signal) (customer_of tables.now line.customer spool.now lines.old) }
-    ensures after { customer_of tables.now line.customer spool.now lines.new
-        ≡ alone.accepted_on line.line (alone.signal_input signal) (customer_of tables.now line.customer spool.now lines.old) }
-    ensures ready { IsReady tables.now line spool.now lines.new }
+        ≡ alone.verdict_on line.line (alone.signal_input signal) (customer_of tables.old line.customer spool.now lines.old) }
+    ensures after { customer_of tables.new line.customer spool.now lines.new
+        ≡ alone.accepted_on line.line (alone.signal_input signal) (customer_of tables.old line.customer spool.now lines.old) }
+    ensures entries { IsRetold line.customer tables.old tables.new }
+    ensures ready { IsReady tables.new line spool.now lines.new }
 {
     streams_stay_tied();
-    lines.accept_signal(line.line, signal)
+    let was_up = lines.is_up(line.line);
+    let verdict = lines.accept_signal(line.line, signal);
+    let is_up = lines.is_up(line.line);
+    raise(line, goes_up(was_up, is_up), tables);
+    verdict
 }
 
 /// What comes to a line but a good block.
 fn input_came(
     line: LineId,
     input: &Input<'_>,
-    tables: &Tables,
+    tables: &mut Tables,
     spool: &mut Spool,
     lines: &mut CustomerLines,
     block: &mut BlockWriter,
     out: &mut FrameBuffer,
 )
-    requires ready { IsReady tables.now line spool.old lines.old }
-    ensures after { Leads tables.now line.customer spool.old spool.new lines.new
-        (alone.input_came line.line (shown input.now) (customer_of tables.now line.customer spool.old lines.old)).after }
+    requires ready { IsReady tables.old line spool.old lines.old }
+    ensures after { Brings tables.old tables.new line.customer spool.old spool.new lines.new
+        (alone.input_came line.line (shown input.now) (customer_of tables.old line.customer spool.old lines.old)).after }
     ensures frame { out.new
-        ≡ (alone.input_came line.line (shown input.now) (customer_of tables.now line.customer spool.old lines.old)).frame }
+        ≡ (alone.input_came line.line (shown input.now) (customer_of tables.old line.customer spool.old lines.old)).frame }
 {
     let verdict = accept(line, input, tables, spool, lines);
     carry_out(line, verdict, tables, spool, lines, block, out);
 }
 
-/// The line table judges what comes to a line.
+/// The line table judges what comes to a line. A line that goes up by it counts as up from then on.
 fn accept(
     line: LineId,
     input: &Input<'_>,
-    tables: &Tables,
+    tables: &mut Tables,
     spool: &Spool,
     lines: &mut CustomerLines,
 ) -> Verdict
-    requires ready { IsReady tables.now line spool.now lines.old }
-    ensures verdict { result ≡ alone.verdict_on line.line (shown input.now) (customer_of tables.now line.customer spool.now lines.old) }
-    ensures after { customer_of tables.now line.customer spool.now lines.new
-        ≡ alone.accepted_on line.line (shown input.now) (customer_of tables.now line.customer spool.now lines.old) }
-    ensures ready { IsReady tables.now line spool.now lines.new }
+    requires ready { IsReady tables.old line spool.now lines.old }
+    ensures verdict { result ≡ alone.verdict_on line.line (shown input.now) (customer_of tables.old line.customer spool.now lines.old) }
+    ensures after { customer_of tables.new line.customer spool.now lines.new
+        ≡ alone.accepted_on line.line (shown input.now) (customer_of tables.old line.customer spool.now lines.old) }
+    ensures entries { IsRetold line.customer tables.old tables.new }
+    ensures ready { IsReady tables.new line spool.now lines.new }
 {
     streams_stay_tied();
-    lines.accept(line.line, input)
+    let was_up = lines.is_up(line.line);
+    let verdict = lines.accept(line.line, input);
+    let is_up = lines.is_up(line.line);
+    raise(line, goes_up(was_up, is_up), tables);
+    verdict
+}
+
+/// Whether a line goes up that was up, or not, and is so now.
+fn goes_up(was_up: bool, is_up: bool) -> bool
+    ensures { result ≡ (is_up && not was_up) }
+{
+    is_up && !was_up
+}
+
+/// Marks a line that goes up.
+fn raise(line: LineId, goes_up: bool, tables: &mut Tables)
+    requires known { line.customer < length tables.old.customers }
+    requires line { HasLine tables.old line }
+    ensures entry { entry_of (customer_at tables.new line.customer)
+        ≡ alone.raised goes_up line.line (entry_of (customer_at tables.old line.customer)) }
+    ensures entries { IsRetold line.customer tables.old tables.new }
+{
+    marks_change_one_entry();
+    if goes_up {
+        tables.set_up(line, true);
+    }
 }
 
 /// A good block comes on a line: its records act where the line table says so, and then it is answered.
 fn block_came(
     line: LineId,
     read: Block<'_>,
-    tables: &Tables,
+    tables: &mut Tables,
     spool: &mut Spool,
     lines: &mut CustomerLines,
     block: &mut BlockWriter,
     replies: &mut Replies,
     out: &mut FrameBuffer,
 )
-    requires ready { IsReady tables.now line spool.old lines.old }
-    ensures after { Leads tables.now line.customer spool.old spool.new lines.new
-        (alone.block_came line.line read.entry (customer_of tables.now line.customer spool.old lines.old)).after }
+    requires ready { IsReady tables.old line spool.old lines.old }
+    ensures after { Brings tables.old tables.new line.customer spool.old spool.new lines.new
+        (alone.block_came line.line read.entry (customer_of tables.old line.customer spool.old lines.old)).after }
     ensures frame { out.new
-        ≡ (alone.block_came line.line read.entry (customer_of tables.now line.customer spool.old lines.old)).frame }
+        ≡ (alone.block_came line.line read.entry (customer_of tables.old line.customer spool.old lines.old)).frame }
 {
     let input = Input::Block {
         bcb: read.bcb(),
@@ -236,30 +268,44 @@ fn act_where(
 fn carry_out(
     line: LineId,
     verdict: Verdict,
-    tables: &Tables,
+    tables: &mut Tables,
     spool: &mut Spool,
     lines: &mut CustomerLines,
     block: &mut BlockWriter,
     out: &mut FrameBuffer,
 )
-    requires ready { IsReady tables.now line spool.old lines.old }
-    ensures after { Leads tables.now line.customer spool.old spool.new lines.new
-        (alone.carried_out line.line verdict (customer_of tables.now line.customer spool.old lines.old)).after }
+    requires ready { IsReady tables.old line spool.old lines.old }
+    ensures after { Brings tables.old tables.new line.customer spool.old spool.new lines.new
+        (alone.carried_out line.line verdict (customer_of tables.old line.customer spool.old lines.old)).after }
     ensures frame { out.new
-        ≡ (alone.carried_out line.line verdict (customer_of tables.now line.customer spool.old lines.old)).frame }
+        ≡ (alone.carried_out line.line verdict (customer_of tables.old line.customer spool.old lines.old)).frame }
 {
     lines.send_reply(line, verdict.reply, tables, spool, block, out);
     if verdict.ended {
-        lines.end_session(line, tables, spool);
+        close_session(line, tables, spool, lines);
     }
 }
 
 /// A record ended the session.
-fn end_session(line: LineId, tables: &Tables, spool: &mut Spool, lines: &mut CustomerLines)
-    requires ready { IsReady tables.now line spool.old lines.old }
-    ensures { Leads tables.now line.customer spool.old spool.new lines.new
-        (alone.session_ended line.line (customer_of tables.now line.customer spool.old lines.old)) }
+fn end_session(line: LineId, tables: &mut Tables, spool: &mut Spool, lines: &mut CustomerLines)
+    requires ready { IsReady tables.old line spool.old lines.old }
+    ensures { Brings tables.old tables.new line.customer spool.old spool.new lines.new
+        (alone.session_ended line.line (customer_of tables.old line.customer spool.old lines.old)) }
 {
     lines.end(line.line);
+    close_session(line, tables, spool, lines);
+}
+
+/// The end of a line's session, and behind it the line counts as not up.
+fn close_session(line: LineId, tables: &mut Tables, spool: &mut Spool, lines: &mut CustomerLines)
+    requires known { line.customer < length tables.old.customers }
+    requires line { HasLine tables.old line }
+    requires spooled { line.customer < length spool.old }
+    requires there { line.line < length lines.old }
+    ensures { Brings tables.old tables.new line.customer spool.old spool.new lines.new
+        (alone.session_over line.line (customer_of tables.old line.customer spool.old lines.old)) }
+{
+    marks_change_one_entry();
     lines.end_session(line, tables, spool);
+    tables.set_up(line, false);
 }

@@ -3,6 +3,7 @@
 ghost use Rattle.std.specs.Prelude.{◌≡◌, ◌≤◌, ◌<◌, IfOk, length, slice_set};
 ghost use Rattle.njh_line.specs.Sessions.{IsConfig};
 ghost use Rattle.njh_line.specs.LineTable.{accepted, shown};
+ghost use Rattle.njh_line.specs.Laws as laws;
 ghost use Rattle.njh_line.specs.Lines as lines;
 ghost use Rattle.njh_command.specs.Commands.{without_file};
 ghost use Rattle.njh_customer.specs.Acting.{with_senders_by};
@@ -19,7 +20,7 @@ use crate::sending::{
 };
 use njh_block::{Answer, BlockWriter, Fcs, Stream};
 use njh_command::give_up;
-use njh_line::{Config, Input, Line, Reply, Verdict};
+use njh_line::{Config, Input, Line, Phase, Reply, Verdict};
 use njh_record::Record;
 use njh_sched::{Outgoing, fill, own_fcs};
 use njh_spool::{FileId, Spool};
@@ -117,6 +118,13 @@ impl CustomerLine {
         ensures { self.new ≡ with_senders_by (without_file file) self.old }
     {
         give_up(&mut self.senders, file);
+    }
+
+    /// Whether its state is up.
+    pub(crate) fn is_up(&self) -> bool
+        ensures { result ≡ laws.is_up self.now.state.session.phase }
+    {
+        self.line.session().phase == Phase::Up
     }
 
     /// Decides by the line table what an input does.

@@ -7,8 +7,9 @@ ghost use Rattle.njh_nmr.specs.Nodal.{notice_record};
 ghost use Rattle.njh_table.specs.TableFile.{entry_of};
 ghost use Rattle.njh_command.specs.Commands.{without_file};
 ghost use Rattle.njh_customer.specs.Acting.{given_up, with_senders_by};
-ghost use Rattle.njh_customer.specs.Alone.{replied_to, session_over, signal_input};
+ghost use Rattle.njh_customer.specs.Alone.{replied_to, session_closed, signal_input};
 ghost use Rattle.njh_line.specs.LineTable.{accepted, shown};
+ghost use Rattle.njh_line.specs.Laws.{is_up};
 ghost use Rattle.njh_line.specs.Lines.{after_end, after_input};
 ghost use Rattle.njh_customer.specs.Leading.{IsReady, Leads, customer_of};
 ghost use Rattle.njh_customer.specs.Customer.{in_state, line_at, on_line, receiver_at, with_receiver, sender_at, with_sender};
@@ -77,6 +78,14 @@ impl CustomerLines {
         &self.lines[usize::from(line)]
     }
 
+    /// Whether a line's state is up.
+    pub(crate) fn is_up(&self, line: u16) -> bool
+        requires { line < length self.now }
+        ensures { result ≡ is_up (line_at line self.now).state.session.phase }
+    {
+        self.lines[usize::from(line)].is_up()
+    }
+
     /// Says what a stream to the hub is about.
     pub(crate) fn set_receiver(&mut self, line: u16, stream: Stream, receiver: Receiver)
         requires { line < length self.old }
@@ -138,13 +147,13 @@ impl CustomerLines {
         self.lines[usize::from(line.line)].send_reply(line, reply, tables, spool, block, out);
     }
 
-    /// The end of a line's session: what becomes of its streams' files, and its answers are gone.
+    /// The end of a line's session, by the marks as they are: what becomes of its streams' files, and its answers are gone.
     pub(crate) fn end_session(&mut self, line: LineId, tables: &Tables, spool: &mut Spool)
         requires known { line.customer < length tables.now.customers }
         requires spooled { line.customer < length spool.old }
         requires there { line.line < length self.old }
         ensures { Leads tables.now line.customer spool.old spool.new self.new
-            (session_over line.line (customer_of tables.now line.customer spool.old self.old)) }
+            (session_closed line.line (customer_of tables.now line.customer spool.old self.old)) }
     {
         self.lines[usize::from(line.line)].end_session(line, tables, spool);
     }

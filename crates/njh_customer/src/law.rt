@@ -5,11 +5,12 @@ ghost use Rattle.njh_table.specs.Entries.{CustomerEntry};
 ghost use Rattle.njh_customer.specs.Customer.{IsCoherent, fresh_customer};
 ghost use Rattle.njh_customer.specs.Disregarding.{BadBlocksAreDisregarded, GarbledIsDisregarded, SpoiledIsDisregarded};
 ghost use Rattle.njh_customer.specs.Laws.{CutsAreLike, FirstBytesSendFirst, NoBytesDoNothing, StepsFollowBytes};
-ghost use Rattle.njh_customer.specs.Laws.{EventsKeepEntries, EventsKeepFaults, EventsKeepLines};
+ghost use Rattle.njh_customer.specs.Laws.{EventsKeepEntries, EventsKeepFaults, EventsKeepLines, MarksAreRight, TakesKeepEntries};
 ghost use Rattle.njh_customer.specs.MovingLaws.{EventsMoveSo, FilesLeaveSo, FilesLeaveSoBetween, FramesDoSo, IdleStreamsTakeFiles};
 ghost use Rattle.njh_customer.specs.MovingLaws.{RecordsChangeSo, RoutesDoSo, SignalsDoSo, StreamsMoveSo, TakesMoveSo};
 
 use njh_header::redirected_by_records;
+use njh_line::inputs_keep_up;
 use njh_sched::{
     blocks_carry_files_in_order, nothing_where_all_is_suspended, sources_fill_the_block,
     sources_move_streams_so,
@@ -36,14 +37,22 @@ pub fn first_bytes_send_first()
     ensures { FirstBytesSendFirst }
 {}
 
-/// An event changes a customer's routes alone in what the tables say of it, so the same routes may be given to it before the event and behind
-/// it; and it has as many lines.
+/// An event changes a customer's routes and the marks of its lines alone in what the tables say of it, so the same routes may be given to it
+/// before the event and behind it; and it has as many lines. A step by bytes changes the marks alone.
 pub fn events_keep_entries()
     ensures entry { EventsKeepEntries }
+    ensures takes { TakesKeepEntries }
     ensures faults { EventsKeepFaults }
     ensures lines { EventsKeepLines }
 {
     frames_do_so();
+}
+
+/// The lines that are marked as up are those that are up, when a customer is opened and whatever comes to it.
+pub fn marks_are_right()
+    ensures { MarksAreRight }
+{
+    inputs_keep_up();
 }
 
 /// A customer that was just opened is coherent.

@@ -17,7 +17,7 @@ mod signal;
 pub use frame_buffer::FrameBuffer;
 pub use law::{
     bad_texts_change_nothing, cuts_are_like, events_keep_entries, events_move_so, files_leave_so,
-    first_bytes_send_first, frames_do_so, no_bytes_do_nothing, opened_is_coherent,
+    first_bytes_send_first, frames_do_so, marks_are_right, no_bytes_do_nothing, opened_is_coherent,
     records_change_so, steps_follow_bytes, streams_move_so,
 };
 pub use lines::Lines;

@@ -4,10 +4,11 @@ ghost use Rattle.std.specs.Prelude.{◌≡◌, ◌<◌, ◌≤◌, length, map, 
 ghost use Rattle.njh_bisync.specs.Fed.{fed};
 ghost use Rattle.njh_spool.specs.CustomerSpool.{empty_spool};
 ghost use Rattle.njh_spool.specs.Spools.{part};
+ghost use Rattle.njh_table.specs.Marks.{entry_unmarked};
 ghost use Rattle.njh_table.specs.TableFile.{customer_at, entry_of, password_bytes};
 ghost use Rattle.njh_customer.specs.Customer.{config_of, password_in, role_of};
 ghost use Rattle.njh_customer.specs.Feeding.{acted_on};
-ghost use Rattle.njh_customer.specs.Leading.{IsReady, Leads, customer_of};
+ghost use Rattle.njh_customer.specs.Leading.{Brings, IsReady, IsRetold, customer_of};
 ghost use Rattle.njh_customer.specs.Part.{rest_at};
 
 use crate::customer::{take_frame, take_signal};
@@ -57,7 +58,8 @@ impl Lines {
     pub fn open(alloc: Global, customer: &Customer) -> Result<Lines, AllocError>
         requires { All IsLine customer.now.lines }
         ensures { IfOk result (λ lines.
-            part_with (entry_of customer.now) (empty_spool customer.now.quota customer.now.files) lines ≡ opened (entry_of customer.now)) }
+            part_with (entry_unmarked (entry_of customer.now)) (empty_spool customer.now.quota customer.now.files) lines
+            ≡ opened (entry_of customer.now)) }
     {
         let mut deframers = Vec::new(alloc);
         let mut lines = CustomerLines::new(alloc);
@@ -87,22 +89,23 @@ impl Lines {
         &mut self,
         line: LineId,
         piece: &[u8],
-        tables: &Tables,
+        tables: &mut Tables,
         spool: &mut Spool,
         out: &mut FrameBuffer,
     ) -> usize
-        requires ready { IsReady tables.now line spool.old self.old.lines }
+        requires ready { IsReady tables.old line spool.old self.old.lines }
         ensures taken { result
-            ≡ (bytes_taken (part_with (entry_of (customer_at tables.now line.customer)) (part line.customer spool.old) self.old) line.line piece.now).taken }
+            ≡ (bytes_taken (part_with (entry_of (customer_at tables.old line.customer)) (part line.customer spool.old) self.old) line.line piece.now).taken }
         ensures progress { 0 < length piece.now → 0 < result }
         ensures few { result ≤ length piece.now }
-        ensures part { part_with (entry_of (customer_at tables.now line.customer)) (part line.customer spool.new) self.new
-            ≡ (bytes_taken (part_with (entry_of (customer_at tables.now line.customer)) (part line.customer spool.old) self.old) line.line piece.now).after }
+        ensures part { part_with (entry_of (customer_at tables.new line.customer)) (part line.customer spool.new) self.new
+            ≡ (bytes_taken (part_with (entry_of (customer_at tables.old line.customer)) (part line.customer spool.old) self.old) line.line piece.now).after }
         ensures others { spool.new ≡ slice_set spool.old line.customer (part line.customer spool.new) }
-        ensures ready { IsReady tables.now line spool.new self.new.lines }
+        ensures entries { IsRetold line.customer tables.old tables.new }
+        ensures ready { IsReady tables.new line spool.new self.new.lines }
         ensures count { length self.new.lines ≡ length self.old.lines }
         ensures frame { out.new
-            ≡ (bytes_taken (part_with (entry_of (customer_at tables.now line.customer)) (part line.customer spool.old) self.old) line.line piece.now).frame }
+            ≡ (bytes_taken (part_with (entry_of (customer_at tables.old line.customer)) (part line.customer spool.old) self.old) line.line piece.now).frame }
     {
         out.clear();
         let mut left = piece;
@@ -122,24 +125,24 @@ impl Lines {
         &mut self,
         line: LineId,
         piece: &[u8],
-        tables: &Tables,
+        tables: &mut Tables,
         spool: &mut Spool,
         out: &mut FrameBuffer,
     ) -> usize
-        requires ready { IsReady tables.now line spool.old self.old.lines }
+        requires ready { IsReady tables.old line spool.old self.old.lines }
         ensures taken { result ≡ (fed (rest_at line.line self.old.rests) piece.now).taken }
         ensures within { result ≤ length piece.now }
         ensures progress { 0 < length piece.now → 0 < result }
         ensures rest { rest_at line.line self.new.rests ≡ (fed (rest_at line.line self.old.rests) piece.now).rest }
         ensures rests { self.new.rests ≡ slice_set self.old.rests line.line (rest_at line.line self.new.rests) }
-        ensures after { Leads tables.now line.customer spool.old spool.new self.new.lines
+        ensures after { Brings tables.old tables.new line.customer spool.old spool.new self.new.lines
             (acted_on line.line (fed (rest_at line.line self.old.rests) piece.now).frame
-            (customer_of tables.now line.customer spool.old self.old.lines)).after }
-        ensures ready { IsReady tables.now line spool.new self.new.lines }
+            (customer_of tables.old line.customer spool.old self.old.lines)).after }
+        ensures ready { IsReady tables.new line spool.new self.new.lines }
         ensures count { length self.new.lines ≡ length self.old.lines }
         ensures frame { out.new
             ≡ (acted_on line.line (fed (rest_at line.line self.old.rests) piece.now).frame
-            (customer_of tables.now line.customer spool.old self.old.lines)).frame }
+            (customer_of tables.old line.customer spool.old self.old.lines)).frame }
     {
         let (taken, frame) = self.deframers[usize::from(line.line)].feed(piece);
         take_frame(
@@ -161,18 +164,19 @@ impl Lines {
         &mut self,
         line: LineId,
         signal: Signal,
-        tables: &Tables,
+        tables: &mut Tables,
         spool: &mut Spool,
         out: &mut FrameBuffer,
     )
-        requires ready { IsReady tables.now line spool.old self.old.lines }
-        ensures part { part_with (entry_of (customer_at tables.now line.customer)) (part line.customer spool.new) self.new
-            ≡ (signal_taken (part_with (entry_of (customer_at tables.now line.customer)) (part line.customer spool.old) self.old) line.line signal).after }
+        requires ready { IsReady tables.old line spool.old self.old.lines }
+        ensures part { part_with (entry_of (customer_at tables.new line.customer)) (part line.customer spool.new) self.new
+            ≡ (signal_taken (part_with (entry_of (customer_at tables.old line.customer)) (part line.customer spool.old) self.old) line.line signal).after }
         ensures others { spool.new ≡ slice_set spool.old line.customer (part line.customer spool.new) }
-        ensures ready { IsReady tables.now line spool.new self.new.lines }
+        ensures entries { IsRetold line.customer tables.old tables.new }
+        ensures ready { IsReady tables.new line spool.new self.new.lines }
         ensures count { length self.new.lines ≡ length self.old.lines }
         ensures frame { out.new
-            ≡ (signal_taken (part_with (entry_of (customer_at tables.now line.customer)) (part line.customer spool.old) self.old) line.line signal).frame }
+            ≡ (signal_taken (part_with (entry_of (customer_at tables.old line.customer)) (part line.customer spool.old) self.old) line.line signal).frame }
     {
         self.deframers[usize::from(line.line)].reset();
         take_signal(

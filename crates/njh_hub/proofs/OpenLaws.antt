@@ -1,5 +1,5 @@
 -- A hub that is opened.
-use Rattle.std.proofs.Common.{◌≡◌, ℕ, ◌<◌, ◌≤◌, List, length, map, ap, sym, subst, ◌∙◌, arith}
+use Rattle.std.proofs.Common.{◌≡◌, ℕ, ◌<◌, ◌≤◌, List, length, map, ap, ap₂, sym, subst, ◌∙◌, arith}
 use Rattle.std.specs.List.{All}
 use Rattle.std.proofs.lemmas.List.{get_or-map, length-map, ext_get_or}
 use Rattle.std.proofs.lemmas.List.Elements.{All-map}
@@ -7,53 +7,75 @@ use Rattle.njh_spool.specs.CustomerSpool.{CustomerSpool}
 use Rattle.njh_spool.specs.Spools as spools
 use Rattle.njh_table.specs.Accepted.{IsAccepted}
 use Rattle.njh_table.specs.Entries.{CustomerEntry}
+use Rattle.njh_table.specs.Marks.{customer_unmarked, entry_unmarked, unmarked}
 use Rattle.njh_table.specs.TableFile.{TableFile, no_customer, customer_at, entry_of}
-use Rattle.njh_customer.specs.Customer.{IsCoherent, fresh_customer}
+use Rattle.njh_customer.specs.Customer.{IsCoherent, IsMarked, fresh_customer}
 use Rattle.njh_customer.specs.Part.{Lines, part_with}
 use Rattle.njh_hub.specs.Whole.{Part, opened, no_entry, no_part}
 use Rattle.njh_hub.specs.Parts.{IsHub, empty_files, entries_of, lines_at, part_held, parts_of}
 use Rattle.njh_hub.proofs.PartsLaws.{length-parts_of, part-there}
 
--- The files and the lines of a table's customers were opened.
-pub record AreOpened (table : TableFile) (files : List CustomerSpool) (lines : List Lines) : Type 0 where
+-- All marks of a table were taken away, and the files and the lines of its customers were opened.
+pub record AreOpened (from table : TableFile) (files : List CustomerSpool) (lines : List Lines) : Type 0 where
+  pub down : table ≡ unmarked from
+  pub entries : (t : TableFile) (c : ℕ) → c < length t.customers → entry_of (customer_at (unmarked t) c) ≡ entry_unmarked (entry_of (customer_at t c))
   pub empty : files ≡ map empty_files table.customers
   pub count : length lines ≡ length table.customers
   pub each : (c : ℕ) → c < length table.customers →
-      part_with (entry_of (customer_at table c)) (empty_files (customer_at table c)) (lines_at c lines) ≡ opened (entry_of (customer_at table c))
+      part_with (entry_unmarked (entry_of (customer_at table c))) (empty_files (customer_at table c)) (lines_at c lines)
+      ≡ opened (entry_of (customer_at table c))
+
+-- there are as many customers, with the entries that they had, without their marks
+pub as_many : {from table : TableFile} {files : List CustomerSpool} {lines : List Lines} → AreOpened from table files lines
+    → length table.customers ≡ length from.customers
+as_many {from} {table} {files} {lines} o =
+    ap (λ (t : TableFile). length t.customers) o.down ∙ length-map from.customers customer_unmarked
+
+pub entry-down : {from table : TableFile} {files : List CustomerSpool} {lines : List Lines} → AreOpened from table files lines
+    → (c : ℕ) → c < length table.customers → entry_of (customer_at table c) ≡ entry_unmarked (entry_of (customer_at from c))
+entry-down {from} {table} {files} {lines} o c there =
+    ap (λ t. entry_of (customer_at t c)) o.down ∙ o.entries from c (omega (arith, there, as_many o))
 
 -- the part of each is that of a customer just opened
-pub held-opened : (table : TableFile) (files : List CustomerSpool) (lines : List Lines) → AreOpened table files lines
+pub held-opened : {from table : TableFile} {files : List CustomerSpool} {lines : List Lines} → AreOpened from table files lines
     → (c : ℕ) → c < length table.customers → part_held table files lines c ≡ opened (entry_of (customer_at table c))
-held-opened table files lines opened_are c there =
-    ap (λ (s : CustomerSpool). part_with (entry_of (customer_at table c)) s (lines_at c lines))
-    (ap (spools.part c) opened_are.empty ∙ get_or-map empty_files table.customers c no_customer spools.no_spool there)
-    ∙ opened_are.each c there
+held-opened {from} {table} {files} {lines} o c there =
+    let is : entry_of (customer_at table c) ≡ entry_unmarked (entry_of (customer_at table c)) =
+    entry-down o c there ∙ ap entry_unmarked (sym (entry-down o c there)) in
+    ap₂ (λ (e : CustomerEntry) (s : CustomerSpool). part_with e s (lines_at c lines)) is
+    (ap (spools.part c) o.empty ∙ get_or-map empty_files table.customers c no_customer spools.no_spool there)
+    ∙ o.each c there
 
 -- the list of all parts
-pub parts-opened : (table : TableFile) (files : List CustomerSpool) (lines : List Lines) → AreOpened table files lines
-    → parts_of table files lines ≡ map opened (entries_of table)
-parts-opened table files lines opened_are =
+pub parts-opened : {from table : TableFile} {files : List CustomerSpool} {lines : List Lines} → AreOpened from table files lines
+    → parts_of table files lines ≡ map opened (entries_of from)
+parts-opened {from} {table} {files} {lines} o =
     let long = length-parts_of table files lines in
-    let entries = length-map table.customers entry_of in
-    ext_get_or no_part (parts_of table files lines) (map opened (entries_of table))
-    (long ∙ sym (length-map (entries_of table) opened ∙ entries))
+    let entries = length-map from.customers entry_of in
+    ext_get_or no_part (parts_of table files lines) (map opened (entries_of from))
+    (long ∙ as_many o ∙ sym (length-map (entries_of from) opened ∙ entries))
     (λ (c : ℕ) (within : c < length (parts_of table files lines)).
     let there : c < length table.customers = omega (arith, within, long) in
-    part-there table files lines c there ∙ held-opened table files lines opened_are c there
-    ∙ ap opened (sym (get_or-map entry_of table.customers c no_customer no_entry there))
-    ∙ sym (get_or-map opened (entries_of table) c no_entry no_part (omega (arith, there, entries))))
+    let was_there : c < length from.customers = omega (arith, there, as_many o) in
+    part-there table files lines c there ∙ held-opened o c there ∙ ap opened (entry-down o c there)
+    ∙ ap opened (sym (get_or-map entry_of from.customers c no_customer no_entry was_there))
+    ∙ sym (get_or-map opened (entries_of from) c no_entry no_part (omega (arith, was_there, entries))))
 
 -- it belongs together
-pub hub-opened : (table : TableFile) (files : List CustomerSpool) (lines : List Lines) → AreOpened table files lines → IsAccepted table
+pub hub-opened : {from table : TableFile} {files : List CustomerSpool} {lines : List Lines} → AreOpened from table files lines
+    → IsAccepted table
     → ((entry : CustomerEntry) → All (λ line. line.streams ≤ 4) entry.lines → IsCoherent (fresh_customer entry))
+    → ((entry : CustomerEntry) → IsMarked (fresh_customer entry))
     → IsHub table files lines
-hub-opened table files lines opened_are accepted coherent = record {
-  spooled = ap length opened_are.empty ∙ length-map table.customers empty_files;
-  lined = opened_are.count;
+hub-opened {from} {table} {files} {lines} o accepted coherent marked = record {
+  spooled = ap length o.empty ∙ length-map table.customers empty_files;
+  lined = o.count;
   coherent = λ (c : ℕ) (there : c < length table.customers).
       let named = customer_at table c in
       let customer = accepted.each c no_customer there in
-      subst (λ (p : Part). IsCoherent p.customer) (sym (held-opened table files lines opened_are c there))
+      subst (λ (p : Part). IsCoherent p.customer) (sym (held-opened o c there))
       (coherent (entry_of named)
       (All-map (λ line. line.streams ≤ 4) (λ l. l.entry) named.lines (λ i d h. (customer.lines i d h).streams.1)));
+  marked = λ (c : ℕ) (there : c < length table.customers).
+      subst (λ (p : Part). IsMarked p.customer) (sym (held-opened o c there)) (marked (entry_of (customer_at table c)));
 }

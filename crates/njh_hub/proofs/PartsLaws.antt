@@ -8,9 +8,9 @@ use Rattle.std.proofs.lemmas.Bool.Decides.{eqb_tells}
 use Rattle.njh_spool.specs.CustomerSpool.{CustomerSpool}
 use Rattle.njh_spool.specs.Spools as spools
 use Rattle.njh_table.specs.declared.LineId.{LineId}
-use Rattle.njh_table.specs.TableFile.{TableFile, customer_at, entry_of}
-use Rattle.njh_customer.specs.Customer.{IsCoherent}
-use Rattle.njh_customer.specs.Leading.{IsReady}
+use Rattle.njh_table.specs.TableFile.{NamedCustomer, TableFile, customer_at, entry_of, no_customer}
+use Rattle.njh_customer.specs.Customer.{IsCoherent, IsMarked}
+use Rattle.njh_customer.specs.Leading.{IsReady, IsRetold}
 use Rattle.njh_customer.specs.Part.{Part, Lines, part_with}
 use Rattle.njh_hub.specs.Whole.{no_part, part, HasLine, SameLines}
 use Rattle.njh_hub.specs.Parts.{IsHub, lines_at, no_lines, part_held, parts_of}
@@ -50,84 +50,103 @@ line-ready table files lines line hub known =
       coherent = hub.coherent line.customer there;
     }
 
--- A customer's files and lines became others, and those of the other customers stayed.
-pub record Moves (table : TableFile) (files : List CustomerSpool) (lines : List Lines) (c : ℕ) (after : List CustomerSpool) (y : Lines)
-    : Type 0 where
+-- Two lists that differ at one place at most.
+pub record DifferAt {X : Type 0} (none : X) (c : ℕ) (old new : List X) : Type 0 where
+  pub count : length new ≡ length old
+  pub others : (d : ℕ) → d ≢ c → get_or new d none ≡ get_or old d none
+
+pub differ-nowhere : {X : Type 0} (none : X) (c : ℕ) (xs : List X) → DifferAt none c xs xs
+differ-nowhere none c xs = record { count = refl; others = λ d apart. refl }
+
+pub differ-set : {X : Type 0} (none : X) (c : ℕ) (xs : List X) (x : X) → DifferAt none c xs (set xs c x)
+differ-set none c xs x = record { count = length-set xs c x; others = λ d apart. get_or-set_other xs c d x none apart }
+
+-- What the hub keeps of a customer became other than it was, in the table, the files and the lines; what it keeps of the others stayed.
+pub record Moves (table : TableFile) (files : List CustomerSpool) (lines : List Lines) (c : ℕ)
+    (new : TableFile) (after : List CustomerSpool) (more : List Lines) : Type 0 where
   pub hub : IsHub table files lines
   pub there : c < length table.customers
-  pub others : after ≡ slice_set files c (spools.part c after)
-  pub coherent : IsCoherent (part_with (entry_of (customer_at table c)) (spools.part c after) y).customer
-  pub count : length y.lines ≡ length (lines_at c lines).lines
+  pub in_table : DifferAt no_customer c table.customers new.customers
+  pub in_files : DifferAt spools.no_spool c files after
+  pub in_lines : DifferAt no_lines c lines more
+  pub coherent : IsCoherent (part_held new after more c).customer
+  pub marked : IsMarked (part_held new after more c).customer
 
--- the part of one customer, or of another, afterwards
-pub held-same : (table : TableFile) (files : List CustomerSpool) (lines : List Lines) (c : ℕ) (after : List CustomerSpool) (y : Lines)
-    → Moves table files lines c after y
-    → part_held table after (set lines c y) c ≡ part_with (entry_of (customer_at table c)) (spools.part c after) y
-held-same table files lines c after y m =
-    ap (part_with (entry_of (customer_at table c)) (spools.part c after))
-    (get_or-set_same lines c y no_lines (omega (arith, m.there, m.hub.lined)))
-
-pub held-other : (table : TableFile) (files : List CustomerSpool) (lines : List Lines) (c d : ℕ) (after : List CustomerSpool) (y : Lines)
-    → Moves table files lines c after y → d ≢ c
-    → part_held table after (set lines c y) d ≡ part_held table files lines d
-held-other table files lines c d after y m other =
-    ap₂ (part_with (entry_of (customer_at table d)))
-    (ap (spools.part d) m.others ∙ get_or-set_other files c d (spools.part c after) spools.no_spool other)
-    (get_or-set_other lines c d y no_lines other)
+-- the parts of the others are as they were
+pub held-other : {table : TableFile} {files : List CustomerSpool} {lines : List Lines} {c : ℕ} {new : TableFile}
+    {after : List CustomerSpool} {more : List Lines} → Moves table files lines c new after more → (d : ℕ) → d ≢ c
+    → part_held new after more d ≡ part_held table files lines d
+held-other {table} {files} {lines} {c} {new} {after} {more} m d apart =
+    ap₂ (λ (x : NamedCustomer) (s : CustomerSpool). part_with (entry_of x) s (lines_at d more))
+    (m.in_table.others d apart) (m.in_files.others d apart)
+    ∙ ap (part_with (entry_of (customer_at table d)) (spools.part d files)) (m.in_lines.others d apart)
 
 -- the hub's parts: that customer's is another, and no other
-pub parts-moved : (table : TableFile) (files : List CustomerSpool) (lines : List Lines) (c : ℕ) (after : List CustomerSpool) (y : Lines)
-    → Moves table files lines c after y
-    → parts_of table after (set lines c y)
-    ≡ set (parts_of table files lines) c (part_with (entry_of (customer_at table c)) (spools.part c after) y)
-parts-moved table files lines c after y m =
-    let p = part_with (entry_of (customer_at table c)) (spools.part c after) y in
+pub parts-moved : {table : TableFile} {files : List CustomerSpool} {lines : List Lines} {c : ℕ} {new : TableFile}
+    {after : List CustomerSpool} {more : List Lines} → Moves table files lines c new after more
+    → parts_of new after more ≡ set (parts_of table files lines) c (part_held new after more c)
+parts-moved {table} {files} {lines} {c} {new} {after} {more} m =
+    let p = part_held new after more c in
     let old = parts_of table files lines in
     let long = length-parts_of table files lines in
-    let longer = length-parts_of table after (set lines c y) in
-    ext_get_or no_part (parts_of table after (set lines c y)) (set old c p) (longer ∙ sym long ∙ sym (length-set old c p))
-    (λ (d : ℕ) (within : d < length (parts_of table after (set lines c y))).
-    let there : d < length table.customers = omega (arith, within, longer) in
-    part-there table after (set lines c y) d there
+    let longer = length-parts_of new after more in
+    ext_get_or no_part (parts_of new after more) (set old c p) (longer ∙ m.in_table.count ∙ sym long ∙ sym (length-set old c p))
+    (λ (d : ℕ) (within : d < length (parts_of new after more)).
+    let now_there : d < length new.customers = omega (arith, within, longer) in
+    let there : d < length table.customers = omega (arith, now_there, m.in_table.count) in
+    part-there new after more d now_there
     ∙ ⊎_elim (λ (w : (eqb d c ≡ true) × (d ≡ c)).
-    ap (part_held table after (set lines c y)) w.1 ∙ held-same table files lines c after y m
+    ap (part_held new after more) w.1
     ∙ sym (ap (λ (n : ℕ). get_or (set old c p) n no_part) w.1 ∙ get_or-set_same old c p no_part (omega (arith, m.there, long))))
     (λ (w : (eqb d c ≡ false) × (d ≢ c)).
-    held-other table files lines c d after y m w.1
-    ∙ sym (get_or-set_other old c d p no_part w.1 ∙ part-there table files lines d there))
+    held-other m d w.1 ∙ sym (get_or-set_other old c d p no_part w.1 ∙ part-there table files lines d there))
     (eqb_tells d c))
 
 -- the hub belongs together as before
-pub hub-moved : (table : TableFile) (files : List CustomerSpool) (lines : List Lines) (c : ℕ) (after : List CustomerSpool) (y : Lines)
-    → Moves table files lines c after y → IsHub table after (set lines c y)
-hub-moved table files lines c after y m = record {
-  spooled = ap length m.others ∙ length-set files c (spools.part c after) ∙ m.hub.spooled;
-  lined = length-set lines c y ∙ m.hub.lined;
-  coherent = λ (d : ℕ) (there : d < length table.customers).
-      ⊎_elim (λ (w : (eqb d c ≡ true) × (d ≡ c)).
-      subst (λ (p : Part). IsCoherent p.customer)
-      (sym (ap (part_held table after (set lines c y)) w.1 ∙ held-same table files lines c after y m)) m.coherent)
+pub hub-moved : {table : TableFile} {files : List CustomerSpool} {lines : List Lines} {c : ℕ} {new : TableFile}
+    {after : List CustomerSpool} {more : List Lines} → Moves table files lines c new after more → IsHub new after more
+hub-moved {table} {files} {lines} {c} {new} {after} {more} m = record {
+  spooled = m.in_files.count ∙ m.hub.spooled ∙ sym m.in_table.count;
+  lined = m.in_lines.count ∙ m.hub.lined ∙ sym m.in_table.count;
+  coherent = λ (d : ℕ) (within : d < length new.customers).
+      let there : d < length table.customers = omega (arith, within, m.in_table.count) in
+      ⊎_elim (λ (w : (eqb d c ≡ true) × (d ≡ c)). subst (λ (n : ℕ). IsCoherent (part_held new after more n).customer) (sym w.1) m.coherent)
       (λ (w : (eqb d c ≡ false) × (d ≢ c)).
-      subst (λ (p : Part). IsCoherent p.customer) (sym (held-other table files lines c d after y m w.1)) (m.hub.coherent d there))
+      subst (λ (p : Part). IsCoherent p.customer) (sym (held-other m d w.1)) (m.hub.coherent d there))
+      (eqb_tells d c);
+  marked = λ (d : ℕ) (within : d < length new.customers).
+      let there : d < length table.customers = omega (arith, within, m.in_table.count) in
+      ⊎_elim (λ (w : (eqb d c ≡ true) × (d ≡ c)). subst (λ (n : ℕ). IsMarked (part_held new after more n).customer) (sym w.1) m.marked)
+      (λ (w : (eqb d c ≡ false) × (d ≢ c)).
+      subst (λ (p : Part). IsMarked p.customer) (sym (held-other m d w.1)) (m.hub.marked d there))
       (eqb_tells d c);
 }
 
--- a customer with as many lines as before in its place leaves each with as many
-pub same_lines : (table : TableFile) (files : List CustomerSpool) (lines : List Lines) (c : ℕ) (after : List CustomerSpool) (y : Lines)
-    → Moves table files lines c after y
-    → SameLines (parts_of table files lines)
-    (set (parts_of table files lines) c (part_with (entry_of (customer_at table c)) (spools.part c after) y))
-same_lines table files lines c after y m d =
-    let old = parts_of table files lines in
-    let p = part_with (entry_of (customer_at table c)) (spools.part c after) y in
+-- another part in the place of one leaves the others' parts, and with as many lines it leaves each as many
+pub others-stay : (parts : List Part) (c : ℕ) (p : Part) (d : ℕ) → d ≢ c → part d (set parts c p) ≡ part d parts
+others-stay parts c p d apart = get_or-set_other parts c d p no_part apart
+
+pub lines-stay : (parts : List Part) (c : ℕ) (p : Part) → c < length parts
+    → length p.customer.lines ≡ length (part c parts).customer.lines → SameLines parts (set parts c p)
+lines-stay parts c p there count d =
     ⊎_elim (λ (w : (eqb d c ≡ true) × (d ≡ c)).
-    ap (λ (n : ℕ). length (part n (set old c p)).customer.lines) w.1
-    ∙ ap (λ (q : Part). length q.customer.lines)
-    (get_or-set_same old c p no_part (omega (arith, m.there, length-parts_of table files lines)))
-    ∙ m.count ∙ sym (ap (λ (q : Part). length q.customer.lines) (part-there table files lines c m.there))
-    ∙ ap (λ (n : ℕ). length (part n old).customer.lines) (sym w.1))
-    (λ (w : (eqb d c ≡ false) × (d ≢ c)). ap (λ (q : Part). length q.customer.lines) (get_or-set_other old c d p no_part w.1))
+    ap (λ (n : ℕ). length (part n (set parts c p)).customer.lines) w.1
+    ∙ ap (λ (q : Part). length q.customer.lines) (get_or-set_same parts c p no_part there)
+    ∙ count ∙ ap (λ (n : ℕ). length (part n parts).customer.lines) (sym w.1))
+    (λ (w : (eqb d c ≡ false) × (d ≢ c)). ap (λ (q : Part). length q.customer.lines) (others-stay parts c p d w.1))
     (eqb_tells d c)
+
+-- a customer of the tables is one of the hub's, with its entry there
+pub customer-known : (table : TableFile) (files : List CustomerSpool) (lines : List Lines) (parts : List Part) (c : ℕ)
+    → parts_of table files lines ≡ parts → c < length table.customers → c < length parts
+customer-known table files lines parts c are there =
+    omega (arith, there, length-parts_of table files lines, ap (λ (ps : List Part). length ps) are)
+
+pub entry-there : (table : TableFile) (files : List CustomerSpool) (lines : List Lines) (parts : List Part) (c : ℕ)
+    → parts_of table files lines ≡ parts → c < length table.customers → (part c parts).customer.entry ≡ entry_of (customer_at table c)
+entry-there table files lines parts c are there =
+    sym (ap (λ (ps : List Part). (part c ps).customer.entry) are)
+    ∙ ap (λ (p : Part). p.customer.entry) (part-there table files lines c there)
 
 -- What a step on a line finds in the hub: the lines of a customer that is there, and its part.
 pub record Found (table : TableFile) (files : List CustomerSpool) (lines : List Lines) (parts : List Part) (line : LineId) (x : Lines)
@@ -137,6 +156,7 @@ pub record Found (table : TableFile) (files : List CustomerSpool) (lines : List 
   pub there : line.customer < length table.customers
   pub lines_is : x ≡ lines_at line.customer lines
   pub ready : IsReady table line files x.lines
+  pub marked : IsMarked (part_with (entry_of (customer_at table line.customer)) (spools.part line.customer files) x).customer
   pub part_is : part_with (entry_of (customer_at table line.customer)) (spools.part line.customer files) x ≡ part line.customer parts
 
 pub found : (table : TableFile) (files : List CustomerSpool) (lines : List Lines) (parts : List Part) (line : LineId) (x : Lines)
@@ -153,45 +173,59 @@ found table files lines parts line x hub are known here =
       there = there;
       lines_is = is;
       ready = subst (λ (y : Lines). IsReady table line files y.lines) (sym is) (line-ready table files lines line hub has);
+      marked = subst (λ (y : Lines). IsMarked (part_with (entry_of (customer_at table c)) (spools.part c files) y).customer) (sym is)
+          (hub.marked c there);
       part_is = ap (part_with (entry_of (customer_at table c)) (spools.part c files)) is ∙ sym (part-there table files lines c there)
           ∙ ap (part c) are;
     }
 
--- its files and lines become others
-pub stepped : (table : TableFile) (files : List CustomerSpool) (lines : List Lines) (parts : List Part) (line : LineId) (x : Lines)
-    → Found table files lines parts line x → (after : List CustomerSpool) (y : Lines)
-    → after ≡ slice_set files line.customer (spools.part line.customer after) → IsReady table line after y.lines
-    → length y.lines ≡ length x.lines → Moves table files lines line.customer after y
-stepped table files lines parts line x f after y others ready count = record {
-  hub = f.hub;
-  there = f.there;
-  others = others;
-  coherent = ready.coherent;
-  count = count ∙ ap (λ (l : Lines). length l.lines) f.lines_is;
-}
+-- What a step on that line leads to: the customer is ready for the next, with as many lines, and those that are up are marked.
+pub record Stepped (table : TableFile) (files : List CustomerSpool) (x : Lines) (line : LineId)
+    (new : TableFile) (after : List CustomerSpool) (y : Lines) : Type 0 where
+  pub in_table : IsRetold line.customer table new
+  pub in_files : after ≡ slice_set files line.customer (spools.part line.customer after)
+  pub ready : IsReady new line after y.lines
+  pub marked : IsMarked (part_with (entry_of (customer_at new line.customer)) (spools.part line.customer after) y).customer
+  pub count : length y.lines ≡ length x.lines
+
+pub stepped : {table : TableFile} {files : List CustomerSpool} {lines : List Lines} {parts : List Part} {line : LineId} {x : Lines}
+    {new : TableFile} {after : List CustomerSpool} {y : Lines} → Found table files lines parts line x
+    → Stepped table files x line new after y → Moves table files lines line.customer new after (set lines line.customer y)
+stepped {table} {files} {lines} {parts} {line} {x} {new} {after} {y} f t =
+    let c = line.customer in
+    let is : y ≡ lines_at c (set lines c y) = sym (get_or-set_same lines c y no_lines (omega (arith, f.there, f.hub.lined))) in
+    record {
+      hub = f.hub;
+      there = f.there;
+      in_table = subst (λ (n : TableFile). DifferAt no_customer c table.customers n.customers) (sym t.in_table)
+          (differ-set no_customer c table.customers (customer_at new c));
+      in_files = subst (λ (ss : List CustomerSpool). DifferAt spools.no_spool c files ss) (sym t.in_files)
+          (differ-set spools.no_spool c files (spools.part c after));
+      in_lines = differ-set no_lines c lines y;
+      coherent = subst (λ (l : Lines). IsCoherent (part_with (entry_of (customer_at new c)) (spools.part c after) l).customer) is
+          t.ready.coherent;
+      marked = subst (λ (l : Lines). IsMarked (part_with (entry_of (customer_at new c)) (spools.part c after) l).customer) is t.marked;
+    }
 
 -- so its part becomes another, and no other does
-pub step-leads : (table : TableFile) (files : List CustomerSpool) (lines : List Lines) (parts : List Part) (line : LineId) (x : Lines)
-    → Found table files lines parts line x → (after : List CustomerSpool) (y : Lines) → Moves table files lines line.customer after y
-    → (p : Part) → part_with (entry_of (customer_at table line.customer)) (spools.part line.customer after) y ≡ p
-    → parts_of table after (set lines line.customer y) ≡ set parts line.customer p
-step-leads table files lines parts line x f after y m p is =
-    parts-moved table files lines line.customer after y m
-    ∙ ap₂ (λ (ps : List Part) (q : Part). set ps line.customer q) f.are is
+pub step-leads : {table : TableFile} {files : List CustomerSpool} {lines : List Lines} {parts : List Part} {line : LineId} {x : Lines}
+    {new : TableFile} {after : List CustomerSpool} {y : Lines} → Found table files lines parts line x
+    → Stepped table files x line new after y
+    → (p : Part) → part_with (entry_of (customer_at new line.customer)) (spools.part line.customer after) y ≡ p
+    → parts_of new after (set lines line.customer y) ≡ set parts line.customer p
+step-leads {table} {files} {lines} {parts} {line} {x} {new} {after} {y} f t p is =
+    let c = line.customer in
+    parts-moved (stepped f t)
+    ∙ ap₂ (λ (ps : List Part) (q : Part). set ps c q) f.are
+    (ap (part_with (entry_of (customer_at new c)) (spools.part c after))
+    (get_or-set_same lines c y no_lines (omega (arith, f.there, f.hub.lined))) ∙ is)
 
 -- and each keeps as many lines
-pub step-lines : (table : TableFile) (files : List CustomerSpool) (lines : List Lines) (parts : List Part) (line : LineId) (x : Lines)
-    → Found table files lines parts line x → (after : List CustomerSpool) (y : Lines) → Moves table files lines line.customer after y
-    → SameLines parts (parts_of table after (set lines line.customer y))
-step-lines table files lines parts line x f after y m d =
-    ap (λ (ps : List Part). length (part d ps).customer.lines) (parts-moved table files lines line.customer after y m)
-    ∙ same_lines table files lines line.customer after y m d ∙ ap (λ (ps : List Part). length (part d ps).customer.lines) f.are
-
--- and each other customer's part stays
-pub step-others : (table : TableFile) (files : List CustomerSpool) (lines : List Lines) (parts : List Part) (line : LineId) (x : Lines)
-    → Found table files lines parts line x → (after : List CustomerSpool) (y : Lines) → Moves table files lines line.customer after y
-    → (d : ℕ) → d ≢ line.customer → part d (parts_of table after (set lines line.customer y)) ≡ part d parts
-step-others table files lines parts line x f after y m d apart =
-    ap (part d) (step-leads table files lines parts line x f after y m _ refl)
-    ∙ get_or-set_other parts line.customer d (part_with (entry_of (customer_at table line.customer)) (spools.part line.customer after) y)
-    no_part apart
+pub step-lines : {table : TableFile} {files : List CustomerSpool} {lines : List Lines} {parts : List Part} {line : LineId} {x : Lines}
+    {new : TableFile} {after : List CustomerSpool} {y : Lines} → Found table files lines parts line x
+    → Stepped table files x line new after y
+    → (p : Part) → part_with (entry_of (customer_at new line.customer)) (spools.part line.customer after) y ≡ p
+    → SameLines parts (set parts line.customer p)
+step-lines {table} {files} {lines} {parts} {line} {x} {new} {after} {y} f t p is =
+    lines-stay parts line.customer p (customer-known table files lines parts line.customer f.are f.there)
+    (ap (λ (q : Part). length q.customer.lines) (sym is) ∙ t.count ∙ ap (λ (q : Part). length q.customer.lines) f.part_is)

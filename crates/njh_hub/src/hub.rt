@@ -2,6 +2,7 @@
 
 ghost use Rattle.std.specs.Prelude.{◌≡◌, ℕ, ◌+◌, ◌<◌, ◌≤◌, ◌↔◌, length, IsTrue, OnOk, OnErr, IfOk, IsOk, Err};
 ghost use Rattle.std.specs.Vec.{vec_len, vec_capacity};
+ghost use Rattle.njh_customer.specs.Customer.{IsMarked};
 ghost use Rattle.njh_customer.specs.Part.{bytes_taken, signal_taken};
 ghost use Rattle.njh_spool.specs.CustomerSpool.{used};
 ghost use Rattle.njh_hub.specs.Files.{files_at};
@@ -12,11 +13,11 @@ mod retable;
 
 use crate::fault::HubFault;
 use crate::file_view::{FileView, files_of};
-use crate::opening::{open_lines, open_spool};
+use crate::opening::{all_down, open_lines, open_spool};
 use njh_bisync::LONGEST_FRAME;
-use njh_customer::{FrameBuffer, Lines, Signal, opened_is_coherent};
+use njh_customer::{FrameBuffer, Lines, Signal, marks_are_right, opened_is_coherent};
 use njh_spool::Spool;
-use njh_table::{LineId, Tables};
+use njh_table::{LineId, Tables, marks_change_one_entry};
 use std::alloc::Global;
 use std::marker::Model;
 use std::mem;
@@ -47,12 +48,16 @@ impl Hub {
     ghost use Rattle.njh_hub.specs.Whole.{opened};
     ghost use Rattle.njh_hub.specs.Parts.{entries_of};
 
-    /// A hub of these tables, with all the room that its files and lines need. Want of memory is the only refusal.
+    /// A hub of these tables, with all the room that its files and lines need. No line is up at first, whatever the tables held. Want of
+    /// memory is the only refusal.
     pub fn open(alloc: Global, tables: Tables) -> Result<Hub, HubFault>
         ensures opened { IfOk result (λ hub. hub ≡ map opened (entries_of tables)) }
         ensures memory { OnErr result (result ≡ Err HubFault.Memory) }
     {
         opened_is_coherent();
+        marks_are_right();
+        marks_change_one_entry();
+        let tables = all_down(tables);
         let spool = open_spool(alloc, &tables)?;
         let lines = open_lines(alloc, &tables)?;
         Ok(Hub {
@@ -105,6 +110,14 @@ impl Hub {
         Ok(self.spool.used(customer))
     }
 
+    /// Which of a customer's lines count as up where a route has a second line: those whose sessions are up, and no others.
+    pub fn marks_hold(&self, customer: u16)
+        requires { customer < length self.now }
+        ensures { IsMarked (part customer self.now).customer }
+    {
+        let _tables = &self.tables;
+    }
+
     /// Where the hub's memory comes from.
     pub(crate) fn allocator(&self) -> Global {
         self.alloc
@@ -121,9 +134,10 @@ impl Hub {
             IsStep self.old line t.after t.frame out.old result self.new out.new }
         ensures rests { OnOk result (line.line < length (part line.customer self.old).rests) }
     {
+        marks_are_right();
         let mut frame = self.frame_buffer(line, out)?;
         let lines = &mut self.lines[usize::from(line.customer)];
-        let taken = lines.take_bytes(line, piece, &self.tables, &mut self.spool, &mut frame);
+        let taken = lines.take_bytes(line, piece, &mut self.tables, &mut self.spool, &mut frame);
         *out = frame.into_bytes();
         Ok(taken)
     }
@@ -162,9 +176,10 @@ impl Hub {
         ensures { let t = signal_taken (part line.customer self.old) line.line signal in
             IsStep self.old line t.after t.frame out.old result self.new out.new }
     {
+        marks_are_right();
         let mut frame = self.frame_buffer(line, out)?;
         let lines = &mut self.lines[usize::from(line.customer)];
-        lines.take_signal(line, signal, &self.tables, &mut self.spool, &mut frame);
+        lines.take_signal(line, signal, &mut self.tables, &mut self.spool, &mut frame);
         *out = frame.into_bytes();
         Ok(())
     }

@@ -1,9 +1,10 @@
-//! What a hub keeps of its tables' customers, just opened: a spool under their quotas, and their lines.
+//! What a hub keeps of its tables, just opened: these without marks, a spool under its customers' quotas, and their lines.
 
 ghost use Rattle.std.specs.Prelude.{◌≡◌, ℕ, ◌<◌, length, map, IfOk, OnErr, Err};
 ghost use Rattle.njh_customer.specs.Part.{opened, part_with};
 ghost use Rattle.njh_hub.specs.Parts.{empty_files, lines_at, quota_in};
 ghost use Rattle.njh_table.specs.Accepted.{IsAccepted};
+ghost use Rattle.njh_table.specs.Marks.{entry_unmarked, unmarked};
 ghost use Rattle.njh_table.specs.TableFile.{customer_at, entry_of};
 
 use crate::fault::HubFault;
@@ -11,6 +12,15 @@ use njh_customer::Lines;
 use njh_spool::{Quota, Spool};
 use njh_table::{Customer, Tables};
 use std::alloc::{AllocError, Global};
+
+/// The tables with no line marked as up.
+pub(crate) fn all_down(tables: Tables) -> Tables
+    ensures { result ≡ unmarked tables }
+{
+    let mut tables = tables;
+    tables.set_all_down();
+    tables
+}
 
 /// A spool without files, under the quotas of the tables' customers. Want of memory is the only refusal.
 pub(crate) fn open_spool(alloc: Global, tables: &Tables) -> Result<Spool, HubFault>
@@ -50,7 +60,7 @@ fn quota_of(customer: &Customer) -> Quota
 pub(crate) fn open_lines(alloc: Global, tables: &Tables) -> Result<Vec<Lines>, AllocError>
     ensures count { IfOk result (λ lines. length lines.items ≡ length tables.now.customers) }
     ensures opened { IfOk result (λ lines. (c : ℕ) → c < length tables.now.customers →
-        part_with (entry_of (customer_at tables.now c)) (empty_files (customer_at tables.now c)) (lines_at c lines.items)
+        part_with (entry_unmarked (entry_of (customer_at tables.now c))) (empty_files (customer_at tables.now c)) (lines_at c lines.items)
         ≡ opened (entry_of (customer_at tables.now c))) }
     ensures accepted { IsAccepted tables.now }
 {

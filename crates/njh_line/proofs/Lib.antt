@@ -1,3 +1,4 @@
 pub mod CountLaws
 pub mod RowLaws
 pub mod TableLaws
+pub mod UpLaws

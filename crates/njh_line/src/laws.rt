@@ -10,6 +10,7 @@ ghost use Rattle.njh_line.specs.LineTable.{Block, Input, accepted, end, try_agai
 ghost use Rattle.njh_line.specs.Lines.{LineState, after_input};
 ghost use Rattle.njh_line.specs.Openings.{First};
 ghost use Rattle.njh_line.specs.Sessions.{in_session};
+ghost use Rattle.njh_line.specs.Up.{InputsKeepUp};
 
 /// A text to be disregarded, one that is no block, and a block whose check failed move nothing but the tries; where five were made
 /// before, the session ends. No input changes a line but in its session: not the last transmission, nor what waits.
@@ -53,4 +54,9 @@ pub fn sessions_begin_afresh()
     ensures { (line : Config) (s : Session) (input : Input) → in_session s.phase ≡ false
         → in_session (accepted line input s).session.phase ≡ true
         → ((accepted line input s).session.tries ≡ 0) × ((accepted line input s).session.last_bcb ≡ None) }
+{}
+
+/// A line that is up stays so until its session ends, and then it isn't.
+pub fn inputs_keep_up()
+    ensures { InputsKeepUp }
 {}

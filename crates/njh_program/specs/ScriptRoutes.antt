@@ -4,6 +4,7 @@ use Rattle.std.specs.List.{slice_split}
 use Rattle.std.specs.Option.{option_map}
 use Rattle.std.specs.Result.{result_ok}
 use Rattle.njh_ebcdic.specs.Reading.{name_of_text}
+use Rattle.njh_table.specs.declared.LineId.{LineId}
 use Rattle.njh_table.specs.declared.new_routes.RouteEntry.{RouteEntry}
 use Rattle.njh_table.specs.NewRoutes.{own_routes, routes_checked}
 use Rattle.njh_table.specs.TableFile.{TableFile, customer_at, entry_of, owner_of, HasLine}
@@ -18,15 +19,28 @@ customer_named tables word = option_and_then (λ name. position (λ c. bytes_eq 
 abbrev pub parts_of : List ℕ → List (List ℕ)
 parts_of word = slice_split (λ b. b == 58) word
 
--- the route of a node and the name of a line, whoever's line that is
-abbrev pub route_by : TableFile → List ℕ → List ℕ → Option RouteEntry
-route_by tables node line =
-    option_and_then (λ n. option_map (λ l. record { node = n; line = l; second = None }) (owner_of tables line)) (result_ok (name_of_text node))
+-- the second line of a route by its name, whoever's it is; none where no name is given
+abbrev pub second_by : TableFile → Option (List ℕ) → Option (Option LineId)
+second_by tables None = Some None
+second_by tables (Some name) = option_map (λ l. Some l) (owner_of tables name)
 
--- the route of a pair: a node, a colon and the name of a line
+-- the route of a node, the name of a line, and that of a second one where it has one, whoever's lines these are
+abbrev pub route_by : TableFile → List ℕ → List ℕ → Option (List ℕ) → Option RouteEntry
+route_by tables node line second =
+    option_and_then
+    (λ n. option_and_then (λ l. option_map (λ s. record { node = n; line = l; second = s }) (second_by tables second)) (owner_of tables line))
+    (result_ok (name_of_text node))
+
+-- the route of a node and of one part or two: the names of its lines
+abbrev pub route_by_lines : TableFile → List ℕ → List (List ℕ) → Option RouteEntry
+route_by_lines tables node (line ∷ []) = route_by tables node line None
+route_by_lines tables node (line ∷ second ∷ []) = route_by tables node line (Some second)
+route_by_lines tables node lines = None
+
+-- the route of a pair: a node, a colon and the name of a line, and another colon and the name of a second line where it has one
 abbrev pub route_of_parts : TableFile → List (List ℕ) → Option RouteEntry
-route_of_parts tables (node ∷ line ∷ []) = route_by tables node line
-route_of_parts tables parts = None
+route_of_parts tables [] = None
+route_of_parts tables (node ∷ lines) = route_by_lines tables node lines
 
 abbrev pub route_of_pair : TableFile → List ℕ → Option RouteEntry
 route_of_pair tables pair = route_of_parts tables (parts_of pair)

@@ -4,11 +4,12 @@ ghost use Rattle.std.specs.Prelude.{◌≡◌, ◌<◌, ◌==◌, ◌∷◌, len
 ghost use Rattle.std.specs.List.{slice_split};
 ghost use Rattle.njh_program.specs.Found.{parts_behind};
 ghost use Rattle.njh_program.specs.Script.{words_of};
-ghost use Rattle.njh_program.specs.ScriptRoutes.{customer_named, routes_for, route_of_pair, route_by, routes_event, routes_of_pairs, IsNamedIn};
+ghost use Rattle.njh_program.specs.ScriptRoutes.{customer_named, parts_of, routes_for, route_of_pair, route_by, route_by_lines};
+ghost use Rattle.njh_program.specs.ScriptRoutes.{routes_event, routes_of_pairs, second_by, IsNamedIn};
 
 use njh_ebcdic::Name;
 use njh_hub::{Event, RouteList};
-use njh_table::{Customer, RouteEntry, Tables};
+use njh_table::{Customer, LineId, RouteEntry, Tables};
 use std::alloc::{AllocError, Global};
 
 /// The event of the words behind `ROUTES`, if they have one: a customer's name and then a pair for each route, which the customer may
@@ -95,28 +96,49 @@ fn routes_of_pairs(
     Ok(Some(routes))
 }
 
-/// The route of a pair: a node, a colon and the name of a line.
+/// The route of a pair: a node, a colon and the name of a line, and another colon and the name of a second line where it has one.
 fn route_of_pair(tables: &Tables, pair: &str) -> Option<RouteEntry>
     ensures { result ≡ route_of_pair tables.now pair.now }
 {
-    let (node, behind) = first_part(pair, ':');
-    match first_part(behind?, ':') {
-        (line, None) => route_by(tables, node, line),
+    let (node, lines) = first_part(pair, ':');
+    route_by_lines(tables, node, lines?)
+}
+
+/// The route of a node and of the names of its lines: one, or two with a colon between them.
+fn route_by_lines(tables: &Tables, node: &str, lines: &str) -> Option<RouteEntry>
+    ensures { result ≡ route_by_lines tables.now node.now (parts_of lines.now) }
+{
+    let (line, behind) = first_part(lines, ':');
+    let Some(behind) = behind else {
+        return route_by(tables, node, line, None);
+    };
+    match first_part(behind, ':') {
+        (second, None) => route_by(tables, node, line, Some(second)),
         (_, Some(_)) => None,
     }
 }
 
-/// The route of a node and the name of a line, whoever's line that is.
-fn route_by(tables: &Tables, node: &str, line: &str) -> Option<RouteEntry>
-    ensures { result ≡ route_by tables.now node.now line.now }
+/// The route of a node and the names of its lines, whoever's lines these are.
+fn route_by(tables: &Tables, node: &str, line: &str, second: Option<&str>) -> Option<RouteEntry>
+    ensures { result ≡ route_by tables.now node.now line.now (option_map (λ name. name.now) second.entry) }
 {
     let node = Name::of_text(node).ok()?;
     let line = tables.line_owner(line)?;
-    Some(RouteEntry {
-        node,
-        line,
-        second: None,
-    })
+    let second = second_by(tables, second)?;
+    Some(RouteEntry { node, line, second })
+}
+
+/// The second line of a route by its name, whoever's it is; none where no name is given.
+fn second_by(tables: &Tables, second: Option<&str>) -> Option<Option<LineId>>
+    ensures { result ≡ second_by tables.now (option_map (λ name. name.now) second.entry) }
+{
+    match second {
+        None => Some(None),
+        Some(name) => {
+            let line = tables.line_owner(name)?;
+            Some(Some(line))
+        }
+    }
 }
 
 /// What stands before the first mark in a text, or all; and what stands behind that mark.

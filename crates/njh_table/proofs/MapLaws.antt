@@ -1,14 +1,14 @@
 -- The maps of names and of nodes, as the lists that contracts see.
 use Rattle.std.proofs.Common.{◌≡◌, ℕ, Bool, true, false, ◌||◌, cond, List, [], ◌∷◌, map, Option, Some, None, is_some}
-use Rattle.std.proofs.Common.{option_map, bytes_eq, refl, ap, sym, ◌∙◌}
+use Rattle.std.proofs.Common.{bytes_eq, refl, ap, sym, ◌∙◌}
 use Rattle.std.proofs.lemmas.Bool.{false≢true}
 use Rattle.std.specs.Cmp.Lexicographic.{nat_list_eq_equiv}
 use Rattle.std.specs.List.{list_any}
 use Rattle.std.specs.Map.{lookup}
 use Rattle.njh_table.specs.declared.routes.RouteLines.{RouteLines}
-use Rattle.njh_table.specs.Entries.{line_to}
+use Rattle.njh_table.specs.Entries.{lines_to}
 use Rattle.njh_table.specs.TableFile.{route_entry}
-use Rattle.njh_table.proofs.RouteLaws.{line_to-cons}
+use Rattle.njh_table.proofs.RouteLaws.{lines_to-cons}
 
 pub none_from_false : {X : Type 0} (o : Option X) → is_some o ≡ false → o ≡ None
 none_from_false None h = refl
@@ -31,25 +31,12 @@ module _ {K X : Type 0} where
   is_some-lookup test [] = refl
   is_some-lookup test (e ∷ es) = is_some-cond (test e.0) e.1 (lookup test es) _ (is_some-lookup test es)
 
--- what is read of a look-up
-option_map-cond : {X Y : Type 0} (f : X → Y) (b : Bool) (x : X) (rest : Option X)
-    → option_map f (cond b (Some x) rest) ≡ cond b (Some (f x)) (option_map f rest)
-option_map-cond f true x rest = refl
-option_map-cond f false x rest = refl
-
-pub none_of_map : {X Y : Type 0} (f : X → Y) (o : Option X) → option_map f o ≡ None → o ≡ None
-none_of_map f None e = refl
-none_of_map f (Some x) e = absurd (cc e)
-
--- the line of a node, where the keys are compared as lists of bytes
+-- the lines of a node, where the keys are compared as lists of bytes
 pub lookup-routes : (eq : List ℕ → List ℕ → Bool) → ((a b : List ℕ) → eq a b ≡ bytes_eq a b)
-    → (node : List ℕ) (es : List (List ℕ × RouteLines))
-    → option_map (λ (r : RouteLines). r.line) (lookup (eq node) es) ≡ line_to (map route_entry es) node
+    → (node : List ℕ) (es : List (List ℕ × RouteLines)) → lookup (eq node) es ≡ lines_to (map route_entry es) node
 lookup-routes eq same node [] = refl
 lookup-routes eq same node (e ∷ es) =
     let here : eq node e.0 ≡ bytes_eq e.0 node = same node e.0 ∙ nat_list_eq_equiv.symm node e.0 in
-    let rest = lookup-routes eq same node es in
-    option_map-cond (λ (r : RouteLines). r.line) (eq node e.0) e.1 (lookup (eq node) es)
-    ∙ ap (λ b. cond b (Some e.1.line) (option_map (λ (r : RouteLines). r.line) (lookup (eq node) es))) here
-    ∙ ap (λ r. cond (bytes_eq e.0 node) (Some e.1.line) r) rest
-    ∙ sym (line_to-cons (route_entry e) (map route_entry es) node)
+    ap (λ b. cond b (Some e.1) (lookup (eq node) es)) here
+    ∙ ap (λ r. cond (bytes_eq e.0 node) (Some e.1) r) (lookup-routes eq same node es)
+    ∙ sym (lines_to-cons (route_entry e) (map route_entry es) node)

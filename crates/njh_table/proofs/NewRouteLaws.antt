@@ -13,7 +13,7 @@ use Rattle.njh_table.specs.declared.fault.TableFault.{TableFault}
 use Rattle.njh_table.specs.declared.fault.TableFault.TheVariants.{BadValue, DoubleNode, UnknownLine, TooMany}
 use Rattle.njh_table.specs.declared.limits.TheConstants.{MAX_ROUTES}
 use Rattle.njh_table.specs.Accepted.{AreDistinct, IsRoute, IsCustomer, IsAccepted}
-use Rattle.njh_table.specs.Entries.{RouteEntry, line_to}
+use Rattle.njh_table.specs.Entries.{RouteEntry, lines_to}
 use Rattle.njh_table.specs.Keys.{Walked, ◌>>◌, fault_where}
 use Rattle.njh_table.specs.NewRoutes.{NewRoute, Again, own_number, own_or_foreign, other_second, own_second, own_route, own_routes, repeats, is_again, is_own}
 use Rattle.njh_table.specs.NewRoutes.{may_be_second, route_checked, checked_from, routes_checked, given_lines, number_or, taken_second, taken_route}
@@ -21,7 +21,7 @@ use Rattle.njh_table.specs.NewRoutes.{taken_routes, with_routes}
 use Rattle.njh_table.specs.TableFile.{NamedCustomer, TableFile, customer_at, entry_of, no_customer, route_entry}
 use Rattle.njh_table.proofs.Distinct.{distinct_push}
 use Rattle.njh_table.proofs.Replaced.{accepted_again, reads_alike, same_line_names}
-use Rattle.njh_table.proofs.RouteLaws.{line_to-cons}
+use Rattle.njh_table.proofs.RouteLaws.{lines_to-cons}
 
 -- the node and the numbers of the lines, whoever's they are
 abbrev pub as_given : GivenRoute → RouteEntry
@@ -155,20 +155,20 @@ taken-given lines c taken (r ∷ routes) e =
 
 -- a node that none of them has
 unrouted : (routes : List GivenRoute) (node : List ℕ) → ((k : ℕ) (d : GivenRoute) → k < length routes → (get_or routes k d).node ≢ node)
-    → line_to (map as_given routes) node ≡ None
+    → lines_to (map as_given routes) node ≡ None
 unrouted [] node differ = refl
 unrouted (r ∷ routes) node differ =
-    line_to-cons (as_given r) (map as_given routes) node
+    lines_to-cons (as_given r) (map as_given routes) node
     ∙ by (bytes_eq r.node node) refl (unrouted routes node (λ k d below. differ (suc k) d (omega (arith, below))))
   where
-    by : (b : Bool) → bytes_eq r.node node ≡ b → line_to (map as_given routes) node ≡ None
-        → cond b (Some r.line.line) (line_to (map as_given routes) node) ≡ None
+    by : (b : Bool) → bytes_eq r.node node ≡ b → lines_to (map as_given routes) node ≡ None
+        → cond b (Some (given_lines r)) (lines_to (map as_given routes) node) ≡ None
     by true same rest = absurd (differ 0 r (omega arith) ((bytes_eq-Decides r.node node).0 same))
     by false other rest = rest
 
 -- those before one of them have another node
 pub unrouted_before : (routes : List GivenRoute) (i : ℕ) (r : GivenRoute) → AreDistinct (map (λ r. r.node) routes) → i < length routes
-    → r ≡ get_or routes i r → line_to (map as_given (take i routes)) r.node ≡ None
+    → r ≡ get_or routes i r → lines_to (map as_given (take i routes)) r.node ≡ None
 unrouted_before routes i r differ within here = unrouted (take i routes) r.node other
   where
     nodes : (k : ℕ) (d : GivenRoute) → k < length routes → get_or (map (λ (r : GivenRoute). r.node) routes) k r.node ≡ (get_or routes k d).node

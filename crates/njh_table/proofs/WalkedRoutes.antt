@@ -13,13 +13,14 @@ use Rattle.toml.specs.Data.{Data, Items, no_items, item, as_str}
 use Rattle.njh_table.specs.declared.fault.TableFault.TheVariants.{TooMany, DoubleNode, UnknownLine}
 use Rattle.njh_table.specs.declared.limits.TheConstants.{MAX_ROUTES}
 use Rattle.njh_table.specs.Accepted.{AreDistinct, IsRoute}
-use Rattle.njh_table.specs.Entries.{RouteEntry, line_to}
+use Rattle.njh_table.specs.declared.routes.RouteLines.{RouteLines}
+use Rattle.njh_table.specs.Entries.{RouteEntry, lines_to, route_lines}
 use Rattle.njh_table.specs.TableFile.{NamedLine}
 use Rattle.njh_table.specs.Keys.{node_name, other_text, second_line}
 use Rattle.njh_table.specs.Walk.{line_number, is_routed, number_of_second, route_by, next_route, routes_onto}
 use Rattle.njh_table.proofs.Gives.{Gives, and_then, past, some_or, with_keys, with_any, with_value_or}
 use Rattle.njh_table.proofs.Distinct.{distinct_push}
-use Rattle.njh_table.proofs.RouteLaws.{line_to-cons}
+use Rattle.njh_table.proofs.RouteLaws.{lines_to-cons}
 
 -- what gives the number of a line gives one of so many, and another for another name
 pub record Finds (lines : ℕ) (find : List ℕ → Option ℕ) : Type 0 where
@@ -86,17 +87,17 @@ next_route-gives hub lines find done value finds =
       is = record { line = found-below lines find line number finds found; second = is };
     }))))))))
 
-is_some-cond : (test : Bool) (x : ℕ) (rest : Option ℕ) → is_some (cond test (Some x) rest) ≡ (test || is_some rest)
+is_some-cond : (test : Bool) (x : RouteLines) (rest : Option RouteLines) → is_some (cond test (Some x) rest) ≡ (test || is_some rest)
 is_some-cond true x rest = refl
 is_some-cond false x rest = refl
 
 -- a node without a route is none of the nodes that have one
-unrouted : (routes : List RouteEntry) (node : List ℕ) → is_some (line_to routes node) ≡ false
+unrouted : (routes : List RouteEntry) (node : List ℕ) → is_some (lines_to routes node) ≡ false
     → list_any (bytes_eq node) (map (λ r. r.node) routes) ≡ false
 unrouted [] node absent = refl
 unrouted (r ∷ routes) node absent =
-    let first = sym (is_some-cond (bytes_eq r.node node) r.line (line_to routes node)) ∙ ap is_some (sym (line_to-cons r routes node)) in
-    let (here, rest) = or_parts (bytes_eq r.node node) (is_some (line_to routes node)) (first ∙ absent) in
+    let first = sym (is_some-cond (bytes_eq r.node node) (route_lines r) (lines_to routes node)) ∙ ap is_some (sym (lines_to-cons r routes node)) in
+    let (here, rest) = or_parts (bytes_eq r.node node) (is_some (lines_to routes node)) (first ∙ absent) in
     or_from _ _ (nat_list_eq_equiv.symm node r.node ∙ here) (unrouted routes node rest)
 
 pub record AreRoutes (hub : List ℕ) (lines : ℕ) (routes : List RouteEntry) : Type 0 where
@@ -107,7 +108,7 @@ pub record AreRoutes (hub : List ℕ) (lines : ℕ) (routes : List RouteEntry) :
 pub AreRoutes-push : (hub : List ℕ) (lines : ℕ) (done : List RouteEntry) (r : RouteEntry) → AreRoutes hub lines done
     → IsNewRoute hub lines done r → AreRoutes hub lines (done ++ r ∷ [])
 AreRoutes-push hub lines done r routes new =
-    let (not_hub, not_routed) = or_parts (bytes_eq hub r.node) (is_some (line_to done r.node)) new.absent in
+    let (not_hub, not_routed) = or_parts (bytes_eq hub r.node) (is_some (lines_to done r.node)) new.absent in
     let absent = or_from (bytes_eq r.node hub) _ (nat_list_eq_equiv.symm r.node hub ∙ not_hub) (unrouted done r.node not_routed) in
     record {
       count = simp length-append (omega (arith, new.room));

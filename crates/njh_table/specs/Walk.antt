@@ -11,7 +11,7 @@ use Rattle.njh_table.specs.declared.fault.TableFault.TheVariants.{BadToml, Missi
 use Rattle.njh_table.specs.declared.fault.TableFault.TheVariants.{DoubleNode, UnknownLine, QuotaOver, TooMany, Memory}
 use Rattle.njh_table.specs.declared.limits.TheConstants.{MAX_CUSTOMERS, MAX_LINES, MAX_ROUTES, MAX_CAPACITY, MAX_QUOTA}
 use Rattle.njh_table.specs.declared.limits.TheConstants.{MAX_FILES, MIN_BLOCK, MAX_BLOCK, MAX_STREAMS, MAX_PORT}
-use Rattle.njh_table.specs.Entries.{RouteEntry, line_to}
+use Rattle.njh_table.specs.Entries.{RouteEntry, lines_to}
 use Rattle.njh_table.specs.Keys.{Walked, ◌>>=◌, ◌>>◌, fault_where, keys_in, at_key, at_key_or, number, node_name}
 use Rattle.njh_table.specs.Keys.{line_name, role, password, second_line}
 use Rattle.njh_table.specs.TableFile.{NamedLine, NamedCustomer, TableFile, line_names}
@@ -57,7 +57,7 @@ line_number lines name = position_from (λ l. bytes_eq l.name name) 0 lines
 
 -- whether the customer's hub and its routes so far say where a node goes
 abbrev pub is_routed : List ℕ → List RouteEntry → List ℕ → Bool
-is_routed hub routes node = bytes_eq hub node || is_some (line_to routes node)
+is_routed hub routes node = bytes_eq hub node || is_some (lines_to routes node)
 
 -- the number of the line of a name, where there is a name
 abbrev pub number_of_second : (List ℕ → Option ℕ) → Option (List ℕ) → Walked (Option ℕ)

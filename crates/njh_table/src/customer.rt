@@ -1,7 +1,7 @@
 //! A customer's entry in the table.
 
-ghost use Rattle.std.specs.Prelude.{◌≡◌, ◌<◌, length, slice_get, Some};
-ghost use Rattle.njh_table.specs.Entries.{route_of};
+ghost use Rattle.std.specs.Prelude.{◌≡◌, ◌<◌, false, length, map, slice_get, slice_index_or, Some};
+ghost use Rattle.njh_table.specs.Entries.{line_now, route_of};
 ghost use Rattle.njh_table.specs.TableFile.{entry_of, route_entry};
 
 use crate::Route;
@@ -87,7 +87,7 @@ impl Customer {
         self.routes.at(index)
     }
 
-    /// Where a node's files and messages go.
+    /// Where a node's files and messages go now: by a route's second line where it has one and the first isn't up.
     pub fn route(&self, node: Name) -> Route
         ensures { result ≡ route_of (entry_of self.now) node }
     {
@@ -95,8 +95,28 @@ impl Customer {
             return Route::Here;
         }
         match self.routes.get(node) {
-            Some(lines) => Route::Line(lines.line),
+            Some(lines) => Route::Line(self.line_now(lines)),
             None => Route::Unknown,
+        }
+    }
+
+    /// Which of two lines is gone by now.
+    fn line_now(&self, lines: RouteLines) -> u16
+        ensures { result ≡ line_now (map (λ l. l.up) self.now.lines) lines }
+    {
+        match lines.second {
+            Some(second) if !self.is_up(lines.line) => second,
+            _ => lines.line,
+        }
+    }
+
+    /// Whether a line is up, if it is there.
+    fn is_up(&self, line: u16) -> bool
+        ensures { result ≡ slice_index_or (map (λ l. l.up) self.now.lines) line false }
+    {
+        match self.lines.get(usize::from(line)) {
+            Some(line) => line.is_up(),
+            None => false,
         }
     }
 }

@@ -1,7 +1,7 @@
 //! A customer's routes.
 
-ghost use Rattle.std.specs.Prelude.{◌≡◌, ◌<◌, ◌++◌, [], ◌∷◌, length, slice_get, None, Some, option_map, OnOk};
-ghost use Rattle.njh_table.specs.Entries.{line_to};
+ghost use Rattle.std.specs.Prelude.{◌≡◌, ◌<◌, ◌++◌, [], ◌∷◌, length, slice_get, None, Some, OnOk};
+ghost use Rattle.njh_table.specs.Entries.{lines_to};
 ghost use Rattle.njh_table.specs.TableFile.{route_entry};
 
 use indexmap::IndexMap;
@@ -67,14 +67,14 @@ impl Routes {
 
     /// The lines of a node.
     pub(crate) fn get(&self, node: Name) -> Option<RouteLines>
-        ensures { option_map (λ lines. lines.line) result ≡ line_to self.now node }
+        ensures { result ≡ lines_to self.now node }
     {
         self.lines.get(&node).copied()
     }
 
     /// Adds a route for a node that has none.
     pub(crate) fn insert(&mut self, node: Name, lines: RouteLines) -> Result<(), AllocError>
-        requires { line_to self.old node ≡ None }
+        requires { lines_to self.old node ≡ None }
         ensures { OnOk result (self.new ≡ self.old ++ route_entry (node, lines) ∷ []) }
     {
         self.lines.insert(node, lines)?;

@@ -1,4 +1,4 @@
-//! A file comes in on one line and goes out on another, is held and cancelled by its owner.
+//! A file comes in on one line and goes out on another, or on a second line, and is held and cancelled by its owner.
 
 use crate::desk::Desk;
 use njh_customer::Signal;
@@ -9,6 +9,9 @@ use std::test::Fail;
 const A1: u16 = 0;
 
 const A2: u16 = 1;
+
+/// The second line that leads to METZ.
+const A3: u16 = 2;
 
 /// A peer calls on a line and signs on.
 static LYON_SIGNS_ON: [u8; 49] =
@@ -145,5 +148,25 @@ fn a_file_goes_out_whole(rt: HostRuntime) -> Result<(), Fail> {
     let mut desk = Desk::open(&rt, rt.alloc())?;
     file_comes(&rt, &mut desk);
     file_goes_out(&rt, &mut desk);
+    Ok(())
+}
+
+#[test]
+fn a_file_goes_by_the_second_line_where_the_first_is_lost(rt: HostRuntime) -> Result<(), Fail> {
+    let mut desk = Desk::open(&rt, rt.alloc())?;
+    file_comes(&rt, &mut desk);
+    sends(&rt, &mut desk, A3, b"\x01\x2d", b"\x10\x70");
+    sends(&rt, &mut desk, A3, &METZ_SIGNS_ON, &BUREAU_SIGNS_ON);
+    sends(&rt, &mut desk, A3, b"\x10\x70", b"");
+    desk.signal(A2, Signal::Lost);
+    assert!(&rt; desk.frame().is_empty());
+    desk.signal(A3, Signal::Tick);
+    assert_eq!(&rt;
+        desk.frame(),
+        b"\x10\x02\x80\x8f\xcf\x90\x99\x00\x00\x10\x26".as_slice()
+    );
+    sends(&rt, &mut desk, A2, b"\x01\x2d", b"\x10\x70");
+    sends(&rt, &mut desk, A2, &METZ_SIGNS_ON, &BUREAU_SIGNS_ON);
+    sends(&rt, &mut desk, A2, b"\x10\x70", b"");
     Ok(())
 }

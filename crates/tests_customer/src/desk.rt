@@ -15,7 +15,7 @@ use std::marker::Model;
 use std::process::Abort;
 use std::test::Fail;
 
-/// Line 0 leads to LYON, line 1 to METZ.
+/// Line 0 leads to LYON, line 1 to METZ, and so does line 2 while line 1 isn't up.
 const TABLES: &str = r#"
 capacity = 100
 [[customer]]
@@ -35,12 +35,19 @@ node = "METZ"
 role = "answer"
 block = 1024
 streams = 4
+[[customer.line]]
+name = "a3"
+node = "METZ"
+role = "answer"
+block = 1024
+streams = 4
 [[customer.route]]
 node = "LYON"
 line = "a1"
 [[customer.route]]
 node = "METZ"
 line = "a2"
+second = "a3"
 "#;
 
 /// The customer of these tables, and the frame that it sent last.
@@ -100,14 +107,26 @@ impl Desk {
             return 0;
         }
         let line = LineId { customer: 0, line };
-        self.lines.take_bytes(line, piece, &self.tables, &mut self.spool, &mut self.frame)
+        self.lines.take_bytes(
+            line,
+            piece,
+            &mut self.tables,
+            &mut self.spool,
+            &mut self.frame,
+        )
     }
 
     /// A signal comes on a line.
     pub fn signal(&mut self, line: u16, signal: Signal) {
         if usize::from(line) < self.lines.len() {
             let line = LineId { customer: 0, line };
-            self.lines.take_signal(line, signal, &self.tables, &mut self.spool, &mut self.frame);
+            self.lines.take_signal(
+                line,
+                signal,
+                &mut self.tables,
+                &mut self.spool,
+                &mut self.frame,
+            );
         }
     }
 

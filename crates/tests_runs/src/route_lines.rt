@@ -5,12 +5,13 @@ use njh_table::Tables;
 use std::fs;
 use std::rt::Files;
 
-const LINES: [&str; 29] = [
+const LINES: [&str; 33] = [
     "ROUTES ACME",
     "ROUTES BOLT",
     "ROUTES ACME LYON:a1",
     "ROUTES ACME PARIS:a1 METZ:a1 LYON:a2",
     "ROUTES BOLT $#@:b2 N1234567:b1",
+    "ROUTES ACME LYON:a1:a2 METZ:a2",
     // No customer, or none of this name.
     "ROUTES",
     "ROUTES ",
@@ -28,7 +29,8 @@ const LINES: [&str; 29] = [
     "ROUTES ACME LYON:",
     "ROUTES ACME :a1",
     "ROUTES ACME :",
-    "ROUTES ACME LYON:a1:a2",
+    "ROUTES ACME LYON:a1:",
+    "ROUTES ACME LYON:a1:a2:a1",
     "ROUTES ACME LYON:a1,METZ:a2",
     "ROUTES ACME lyon:a1",
     "ROUTES ACME N12345678:a1",
@@ -36,6 +38,9 @@ const LINES: [&str; 29] = [
     "ROUTES ACME LYON:a3",
     "ROUTES ACME LYON:A1",
     "ROUTES ACME LYON:b1",
+    "ROUTES ACME LYON:a1:b1",
+    // A second line that is the first.
+    "ROUTES ACME LYON:a1:a1",
     // Two routes for a node, and one for the hub.
     "ROUTES ACME LYON:a1 LYON:a1",
     "ROUTES ACME LYON:a1 METZ:a2 LYON:a2",

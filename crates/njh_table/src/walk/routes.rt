@@ -3,7 +3,7 @@
 ghost use Rattle.std.specs.Prelude.{◌≡◌, [], None, IfOk, option_map};
 ghost use Rattle.std.specs.Result.{result_map_both};
 ghost use Rattle.toml.specs.View.{view, items_view};
-ghost use Rattle.njh_table.specs.Entries.{line_to};
+ghost use Rattle.njh_table.specs.Entries.{lines_to};
 ghost use Rattle.njh_table.specs.TableFile.{own_line, route_entry};
 ghost use Rattle.njh_table.specs.Walk.{Walks, is_routed, number_of_second, route_by, next_route, routes_onto};
 
@@ -56,7 +56,7 @@ fn route_by(
 ) -> Result<(Name, RouteLines), TableFault>
     ensures walk { result_map_both route_entry (λ f. f) result
         ≡ route_by hub (own_line owners.now customer) routes.now node line.now (option_map (λ s. s.now) second.entry) }
-    ensures new { IfOk result (λ r. line_to routes.now r.0 ≡ None) }
+    ensures new { IfOk result (λ r. lines_to routes.now r.0 ≡ None) }
 {
     if is_routed(hub, routes, node) {
         return Err(TableFault::DoubleNode);
@@ -79,7 +79,7 @@ fn next_route(
 ) -> Result<(Name, RouteLines), TableFault>
     ensures walk { result_map_both route_entry (λ f. f) result
         ≡ next_route hub (own_line owners.now customer) routes.now (view value.now) }
-    ensures new { IfOk result (λ r. line_to routes.now r.0 ≡ None) }
+    ensures new { IfOk result (λ r. lines_to routes.now r.0 ≡ None) }
 {
     if routes.len() >= MAX_ROUTES {
         return Err(TableFault::TooMany);

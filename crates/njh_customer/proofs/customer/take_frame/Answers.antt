@@ -4,7 +4,7 @@ use Rattle.std.specs.Option.{option_map}
 use Rattle.njh_bisync.specs.Lent.{received}
 use Rattle.njh_customer.specs.Feeding.{acted_on}
 use Rattle.njh_customer.specs.Leading.{customer_of}
-use Rattle.njh_customer.proofs.ReadyLaws.{next_ready}
+use Rattle.njh_customer.proofs.ReadyLaws.{next_brought}
 use Rattle.njh_customer.proofs.SessionLaws.{frame_stays}
 use Rattle.njh_customer.proofs.customer.take_frame.Goals as goal
 
@@ -14,7 +14,7 @@ returns-clause-ready c =
     let old = customer_of c.args.tables.now line.customer c.args.spool.now c.args.lines.now in
     let frame = option_map received c.args.frame in
     let law = c.streams_stay_tied.ensures in
-    next_ready c.args.tables.now line c.args.spool.now c.frame_came.new.spool c.args.lines.now c.frame_came.new.lines (acted_on line.line frame old).after
+    next_brought c.args.tables.now c.frame_came.new.tables line c.args.spool.now c.frame_came.new.spool c.args.lines.now c.frame_came.new.lines (acted_on line.line frame old).after
     c.requires.ready c.frame_came.ensures.after
     (frame_stays law.untouched law.ended law.arrival line.line frame old c.requires.ready.there c.requires.ready.coherent)
 

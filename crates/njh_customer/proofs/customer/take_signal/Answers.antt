@@ -2,7 +2,7 @@
 use Rattle.std.proofs.Common.{length, ap, ◌∙◌}
 use Rattle.njh_customer.specs.Alone.{signal_came}
 use Rattle.njh_customer.specs.Leading.{customer_of}
-use Rattle.njh_customer.proofs.ReadyLaws.{next_ready}
+use Rattle.njh_customer.proofs.ReadyLaws.{next_brought}
 use Rattle.njh_customer.proofs.SessionLaws.{signal_stays}
 use Rattle.njh_customer.proofs.customer.take_signal.Goals as goal
 
@@ -11,7 +11,7 @@ returns-clause-ready c =
     let line = c.args.line in
     let old = customer_of c.args.tables.now line.customer c.args.spool.now c.args.lines.now in
     let law = c.streams_stay_tied.ensures in
-    next_ready c.args.tables.now line c.args.spool.now c.signal_came.new.spool c.args.lines.now c.signal_came.new.lines
+    next_brought c.args.tables.now c.signal_came.new.tables line c.args.spool.now c.signal_came.new.spool c.args.lines.now c.signal_came.new.lines
     (signal_came line.line c.args.signal old).after c.requires.ready c.signal_came.ensures.after
     (signal_stays law.untouched law.ended law.arrival line.line c.args.signal old c.requires.ready.there c.requires.ready.coherent)
 

@@ -4,6 +4,9 @@ use Rattle.njh_customer.proofs.law.events_keep_entries.Goals as goal
 pub returns-clause-entry : goal.returns-clause-entry
 returns-clause-entry c = laws.events_keep_entries c.frames_do_so.ensures.frames c.frames_do_so.ensures.signals
 
+pub returns-clause-takes : goal.returns-clause-takes
+returns-clause-takes c = laws.takes_keep_entries c.frames_do_so.ensures.frames
+
 pub returns-clause-faults : goal.returns-clause-faults
 returns-clause-faults c = laws.events_keep_faults c.frames_do_so.ensures.frames c.frames_do_so.ensures.signals
 

@@ -2,6 +2,7 @@ use Rattle.std.proofs.Common.{◌≡◌, ◌<◌, List, [], ◌∷◌, ◌++◌,
 use Rattle.std.proofs.lemmas.List.{map_more, take_all}
 use Rattle.njh_bisync.specs.Reading.{Rest, Nothing}
 use Rattle.njh_table.specs.Entries.{LineEntry}
+use Rattle.njh_table.specs.Marks.{entry_unmarked}
 use Rattle.njh_table.specs.TableFile.{NamedLine, entry_of}
 use Rattle.njh_spool.specs.CustomerSpool.{empty_spool}
 use Rattle.njh_customer.specs.Customer.{CustomerLine, config_of, customer_with, quiet_line}
@@ -35,7 +36,8 @@ returns c =
     let state : NamedLine → CustomerLine = λ l. quiet_line (config_of entry l.entry) l.entry.streams in
     let all : take c.loop-line.line-index lines
     ≡ lines = take_all _ lines (omega (arith, ap (λ (ls : List NamedLine). length ls) c.lines-line-items.ensures)) in
-    let part_of : List Rest → List CustomerLine → Part = λ rests states. record { rests = rests; customer = customer_with entry (empty_spool entry.quota entry.files) states } in
+    let part_of : List Rest → List CustomerLine → Part =
+    λ rests states. record { rests = rests; customer = customer_with (entry_unmarked entry) (empty_spool entry.quota entry.files) states } in
     ap (λ (rests : List Rest). part_of rests c.loop-line.lines)
     (c.loop-line.invariant.rests ∙ ap (λ (ls : List NamedLine). map (λ (l : NamedLine). Nothing) ls) all ∙ sym (rests_of_lines lines))
     ∙ ap (λ (states : List CustomerLine). part_of (map (λ (line : LineEntry). Nothing) entry.lines) states)

@@ -5,7 +5,7 @@ use Rattle.njh_bisync.specs.Reading.{Rest}
 use Rattle.njh_customer.specs.Feeding.{or_later, take_step}
 use Rattle.njh_customer.specs.Leading.{customer_of}
 use Rattle.njh_customer.specs.Part.{rest_at}
-use Rattle.njh_customer.proofs.ReadyLaws.{others_twice}
+use Rattle.njh_customer.proofs.ReadyLaws.{others_twice, retold_twice}
 use Rattle.njh_customer.proofs.TakingLaws.{takes_on}
 use Rattle.njh_customer.proofs.lines.Lines.take_bytes.Goals as goal
 
@@ -14,8 +14,8 @@ loop-out-preserved c =
     let t = c.take_frame-used in
     let line = c.args.line in
     let l = line.line in
-    let before = customer_of c.args.tables.now line.customer c.loop-out.spool c.loop-out.self.lines in
-    let after = customer_of c.args.tables.now line.customer t.new.spool t.new.self.lines in
+    let before = customer_of c.loop-out.tables line.customer c.loop-out.spool c.loop-out.self.lines in
+    let after = customer_of t.new.tables line.customer t.new.spool t.new.self.lines in
     let old = rest_at l c.loop-out.self.rests in
     let new = rest_at l t.new.self.rests in
     let unanswered : c.loop-out.out ≡ [] = search rules in
@@ -31,6 +31,7 @@ loop-out-preserved c =
       rests = t.ensures.rests ∙ ap (λ (rests : List Rest). set rests l new) c.loop-out.invariant.rests
           ∙ set-set c.args.self.now.rests l old new;
       others = others_twice c.args.spool.now c.loop-out.spool t.new.spool line.customer c.loop-out.invariant.others t.ensures.after.others;
+      entries = retold_twice c.args.tables.now c.loop-out.tables t.new.tables line.customer c.loop-out.invariant.entries t.ensures.after.entries;
       ready = t.ensures.ready;
       count = t.ensures.count ∙ c.loop-out.invariant.count;
       few = omega (arith, c.split_at.ensures.back_len);

@@ -1,4 +1,4 @@
-use Rattle.std.proofs.Common.{◌≡◌, ◌<◌, ◌∙◌, List, length, slice_set, Ok, Err, ap, subst, sym, rules, arith}
+use Rattle.std.proofs.Common.{◌≡◌, ◌<◌, ◌∙◌, List, length, slice_set, Ok, Err, ap, refl, subst, sym, rules, arith}
 use Rattle.std.proofs.lemmas.List.{get_or_read}
 use Rattle.njh_spool.specs.Spools as spools
 use Rattle.njh_table.specs.Entries.{RouteEntry}
@@ -8,8 +8,8 @@ use Rattle.njh_customer.specs.NewRoutes.{routes_taken}
 use Rattle.njh_customer.specs.Part.{Lines, part_with}
 use Rattle.njh_hub.specs.Parts.{IsHub, lines_at, no_lines, parts_of}
 use Rattle.njh_hub.specs.Whole.{Part, part}
-use Rattle.njh_hub.proofs.PartsLaws.{length-parts_of}
-use Rattle.njh_hub.proofs.RetableLaws.{Retabled, customer-known, entry-there, hub-retabled, parts-retabled, retabled-lines, retabled-others}
+use Rattle.njh_hub.proofs.PartsLaws.{customer-known, entry-there, hub-moved, length-parts_of, lines-stay, others-stay}
+use Rattle.njh_hub.proofs.RetableLaws.{Retabled, parts-retabled, retabled}
 use Rattle.njh_hub.proofs.hub.Hub.retable.Goals.{After-take_routes}
 use Rattle.njh_hub.proofs.hub.Hub.retable.Goals as goal
 
@@ -32,9 +32,13 @@ checked c =
     subst (λ e. routes_checked e (own_routes n c.args.routes.now) ≡ Ok tt)
     (sym (entry-there s.tables s.spool s.lines.items c.args.self.now n c.self.view_is (there c))) c.in-Ok.ensures.checked
 
-retabled : (c : After-take_routes) → Retabled c.self.inside.tables c.self.inside.spool c.self.inside.lines.items c.args.customer (given c)
+-- the customer's part with them
+abbrev new_part : (c : After-take_routes) → Part
+new_part c = routes_taken (given c) (part c.args.customer c.args.self.now)
+
+retables : (c : After-take_routes) → Retabled c.self.inside.tables c.self.inside.spool c.self.inside.lines.items c.args.customer (given c)
     c.set_routes.new.tables c.take_routes.new.spool
-retabled c =
+retables c =
     let s = c.self.inside in
     let n = c.args.customer in
     let x = c.index-lines.result.now in
@@ -49,13 +53,13 @@ retabled c =
       tables = c.in-Ok.ensures.routes;
       others = c.take_routes.ensures.others;
       is = subst P is c.take_routes.ensures.part;
+      kept = c.routes_keep_coherent.ensures;
     }
 
 leads : (c : After-take_routes) → parts_of c.set_routes.new.tables c.take_routes.new.spool c.self.inside.lines.items
-    ≡ slice_set c.args.self.now c.args.customer (routes_taken (given c) (part c.args.customer c.args.self.now))
+    ≡ slice_set c.args.self.now c.args.customer (new_part c)
 leads c =
-    let s = c.self.inside in
-    parts-retabled s.tables s.spool s.lines.items c.args.customer (given c) c.set_routes.new.tables c.take_routes.new.spool (retabled c)
+    parts-retabled (retables c)
     ∙ ap (λ (ps : List Part). slice_set ps c.args.customer (routes_taken (given c) (part c.args.customer ps))) c.self.view_is
 
 pub invariant_of-self : goal.invariant_of-self
@@ -64,10 +68,7 @@ invariant_of-self c =
     subst (λ (t : TableFile). IsHub t s.spool s.lines.items) (sym c.in-Err.ensures.err) c.self.invariant
 
 pub invariant_of-self-2 : goal.invariant_of-self-2
-invariant_of-self-2 c =
-    let s = c.self.inside in
-    hub-retabled s.tables s.spool s.lines.items c.args.customer (given c) c.set_routes.new.tables c.take_routes.new.spool (retabled c)
-    c.routes_keep_coherent.ensures
+invariant_of-self-2 c = hub-moved (retabled (retables c))
 
 -- ---- where the hub has no such customer
 
@@ -116,12 +117,12 @@ returns-clause-hub c = leads c
 
 pub returns-clause-others : goal.returns-clause-others
 returns-clause-others c = λ d apart.
-    ap (part d) (leads c) ∙ retabled-others c.args.self.now c.args.customer (given c) d apart
+    ap (part d) (leads c) ∙ others-stay c.args.self.now c.args.customer (new_part c) d apart
 
 pub returns-clause-lines : goal.returns-clause-lines
 returns-clause-lines c = λ d.
     ap (λ (ps : List Part). length (part d ps).customer.lines) (leads c)
-    ∙ retabled-lines c.args.self.now c.args.customer (given c) (known c) d
+    ∙ lines-stay c.args.self.now c.args.customer (new_part c) (known c) refl d
 
 pub returns-clause-known : goal.returns-clause-known
 returns-clause-known c = known c

@@ -1,8 +1,13 @@
 use Rattle.std.proofs.Common.{◌≡◌, ℕ, ◌∙◌, List, length, get_or, slice_set, ap, subst, sym, rules, arith}
-use Rattle.njh_customer.specs.Part.{signal_taken}
+use Rattle.njh_customer.specs.Part.{signal_taken, part_with}
 use Rattle.njh_hub.specs.Parts.{IsHub, parts_of}
 use Rattle.njh_hub.specs.Whole.{Part, HasLine, part}
-use Rattle.njh_hub.proofs.PartsLaws.{found, hub-moved, line-there, step-leads, step-lines, step-others, stepped}
+use Rattle.njh_hub.proofs.PartsLaws.{Found, Stepped, found, hub-moved, line-there, others-stay, step-leads, step-lines, stepped}
+use Rattle.njh_spool.specs.Spools as spools
+use Rattle.njh_table.specs.TableFile.{customer_at, entry_of}
+use Rattle.njh_customer.specs.Customer.{IsMarked}
+use Rattle.njh_customer.specs.Runs.{OwnSignal}
+use Rattle.njh_hub.proofs.hub.Hub.signal.Goals.{After-drop-out}
 use Rattle.njh_hub.proofs.hub.Hub.signal.Goals as goal
 
 pub index_mut-lines-requires : goal.index_mut-lines-requires
@@ -19,37 +24,58 @@ take_signal-requires c =
     let f = found s.tables s.spool s.lines.items c.args.self.now c.args.line x c.self.invariant c.self.view_is c.in_ok-frame.ensures.known here in
     record { ready = f.ready }
 
-pub invariant_of-self : goal.invariant_of-self
-invariant_of-self c =
+-- what the step finds, and what it leads to
+finds : (c : After-drop-out) → Found c.self.inside.tables c.self.inside.spool c.self.inside.lines.items c.args.self.now c.args.line
+    c.index_mut-lines.result.now
+finds c =
     let s = c.self.inside in
     let x = c.index_mut-lines.result.now in
-    let t = c.take_signal in
     let here : x ≡ get_or s.lines.items c.args.line.customer x = search rules in
-    let f = found s.tables s.spool s.lines.items c.args.self.now c.args.line x c.self.invariant c.self.view_is c.in_ok-frame.ensures.known here in
-    let m = stepped s.tables s.spool s.lines.items c.args.self.now c.args.line x f t.new.spool t.new.self t.ensures.others t.ensures.ready t.ensures.count in
-    subst (λ (n : ℕ). IsHub s.tables t.new.spool (slice_set s.lines.items n t.new.self)) (sym c.from.ensures)
-    (hub-moved s.tables s.spool s.lines.items c.args.line.customer t.new.spool t.new.self m)
+    found s.tables s.spool s.lines.items c.args.self.now c.args.line x c.self.invariant c.self.view_is c.in_ok-frame.ensures.known here
+
+steps : (c : After-drop-out) → Stepped c.self.inside.tables c.self.inside.spool c.index_mut-lines.result.now c.args.line
+    c.take_signal.new.tables c.take_signal.new.spool c.take_signal.new.self
+steps c =
+    let s = c.self.inside in
+    let t = c.take_signal in
+    let n = c.args.line.customer in
+    let p = part_with (entry_of (customer_at s.tables n)) (spools.part n s.spool) c.index_mut-lines.result.now in
+    record {
+      in_table = t.ensures.entries;
+      in_files = t.ensures.others;
+      ready = t.ensures.ready;
+      marked = subst (λ (q : Part). IsMarked q.customer) (sym t.ensures.part) (c.marks_are_right.ensures.events p (OwnSignal c.args.signal c.args.line.line) (finds c).marked);
+      count = t.ensures.count;
+    }
+
+-- the line's customer afterwards
+abbrev after : (c : After-drop-out) → Part
+after c = let p = part c.args.line.customer c.args.self.now in (signal_taken p c.args.line.line c.args.signal).after
+
+leads : (c : After-drop-out)
+    → parts_of c.take_signal.new.tables c.take_signal.new.spool (slice_set c.self.inside.lines.items c.from.result c.take_signal.new.self)
+    ≡ slice_set c.args.self.now c.args.line.customer (after c)
+leads c =
+    let t = c.take_signal in
+    ap (λ (n : ℕ). parts_of t.new.tables t.new.spool (slice_set c.self.inside.lines.items n t.new.self)) c.from.ensures
+    ∙ step-leads (finds c) (steps c) (after c) (t.ensures.part ∙ ap (λ (p : Part). (signal_taken p c.args.line.line c.args.signal).after) (finds c).part_is)
+
+pub invariant_of-self : goal.invariant_of-self
+invariant_of-self c =
+    let t = c.take_signal in
+    subst (λ (n : ℕ). IsHub t.new.tables t.new.spool (slice_set c.self.inside.lines.items n t.new.self)) (sym c.from.ensures)
+    (hub-moved (stepped (finds c) (steps c)))
 
 pub returns : goal.returns
 returns c =
-    let s = c.self.inside in
-    let x = c.index_mut-lines.result.now in
     let t = c.take_signal in
-    let line = c.args.line in
     let known = c.in_ok-frame.ensures.known in
-    let here : x ≡ get_or s.lines.items line.customer x = search rules in
-    let f = found s.tables s.spool s.lines.items c.args.self.now line x c.self.invariant c.self.view_is known here in
-    let m = stepped s.tables s.spool s.lines.items c.args.self.now line x f t.new.spool t.new.self t.ensures.others t.ensures.ready t.ensures.count in
-    let steps = λ (p : Part). signal_taken p line.line c.args.signal in
-    let at = ap (λ (n : ℕ). parts_of s.tables t.new.spool (slice_set s.lines.items n t.new.self)) c.from.ensures in
     record {
-      hub = at ∙ step-leads s.tables s.spool s.lines.items c.args.self.now line x f t.new.spool t.new.self m
-          (steps (part line.customer c.args.self.now)).after (t.ensures.part ∙ ap (λ (p : Part). (steps p).after) f.part_is);
-      others = λ d apart. ap (part d) at
-          ∙ step-others s.tables s.spool s.lines.items c.args.self.now line x f t.new.spool t.new.self m d apart;
-      frame = c.into_bytes.ensures.bytes ∙ t.ensures.frame ∙ ap (λ (p : Part). (steps p).frame) f.part_is;
-      lines = λ d. ap (λ (ps : List Part). length (part d ps).customer.lines) at
-          ∙ step-lines s.tables s.spool s.lines.items c.args.self.now line x f t.new.spool t.new.self m d;
+      hub = leads c;
+      others = λ d apart. ap (part d) (leads c) ∙ others-stay c.args.self.now c.args.line.customer (after c) d apart;
+      frame = c.into_bytes.ensures.bytes ∙ t.ensures.frame ∙ ap (λ (p : Part). (signal_taken p c.args.line.line c.args.signal).frame) (finds c).part_is;
+      lines = λ d. ap (λ (ps : List Part). length (part d ps).customer.lines) (leads c)
+          ∙ step-lines (finds c) (steps c) (after c) (t.ensures.part ∙ ap (λ (p : Part). (signal_taken p c.args.line.line c.args.signal).after) (finds c).part_is) d;
       room = c.into_bytes.ensures.room;
       known = known;
       unknown = λ nowhere. absurd (nowhere known);

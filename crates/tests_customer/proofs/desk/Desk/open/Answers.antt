@@ -1,8 +1,10 @@
 -- The customer that was just opened is coherent.
-use Rattle.std.proofs.Common.{◌≡◌, ◌<◌, ◌≤◌, length, get_or, sym, ap, subst, ◌∙◌, rules}
+use Rattle.std.proofs.Common.{◌≡◌, ◌<◌, ◌≤◌, false, length, get_or, sym, ap, subst, ◌∙◌, rules}
+use Rattle.std.proofs.lemmas.List.{length-map}
 use Rattle.std.specs.List.{All}
 use Rattle.std.proofs.lemmas.List.Elements.{All-map}
 use Rattle.njh_spool.specs.CustomerSpool.{empty_spool}
+use Rattle.njh_table.specs.Marks.{entry_unmarked}
 use Rattle.njh_table.specs.TableFile.{customer_at, entry_of, no_customer}
 use Rattle.njh_customer.specs.Customer.{IsCoherent, customer_with, fresh_customer}
 use Rattle.tests_customer.proofs.desk.Desk.open.Goals as goal
@@ -21,7 +23,16 @@ invariant_of-result g c =
     let lines = c.in_ok-lines.lines in
     let spool_is : get_or c.in_ok-spool.spool 0 (empty_spool 0 0) ≡ empty_spool named.quota named.files =
     c.in_ok-spool.ensures.1 ∙ ap (λ n. empty_spool n.quota n.files) c.customer.ensures in
-    let lines_are : customer_with entry (empty_spool named.quota named.files) lines.lines ≡ fresh_customer entry =
-    subst (λ n. customer_with (entry_of n) (empty_spool n.quota n.files) lines.lines ≡ fresh_customer (entry_of n)) c.customer-2.ensures
+    let lines_are : customer_with (entry_unmarked entry) (empty_spool named.quota named.files) lines.lines ≡ fresh_customer entry =
+    subst (λ n. customer_with (entry_unmarked (entry_of n)) (empty_spool n.quota n.files) lines.lines ≡ fresh_customer (entry_of n)) c.customer-2.ensures
     (ap (λ p. p.customer) c.in_ok-lines.ensures) in
-    (some, spooled, subst IsCoherent (sym (ap (λ s. customer_with entry s lines.lines) spool_is ∙ lines_are)) coherent)
+    let fresh : IsCoherent (customer_with (entry_unmarked entry) (empty_spool named.quota named.files) lines.lines) = subst IsCoherent (sym lines_are) coherent in
+    let own : IsCoherent (customer_with entry (empty_spool named.quota named.files) lines.lines) = record {
+      tied = fresh.tied;
+      streamed = fresh.streamed;
+      quota = fresh.quota;
+      marks = length-map named.lines (λ l. l.up)
+          ∙ sym (length-map entry.lines (λ _. false) ∙ length-map named.lines (λ l. l.entry))
+          ∙ fresh.marks;
+    } in
+    (some, spooled, subst IsCoherent (sym (ap (λ s. customer_with entry s lines.lines) spool_is)) own)

@@ -1,0 +1,278 @@
+-- The lines that are marked as up are those that are up.
+use Rattle.std.proofs.Common.{◌≡◌, ℕ, ◌+◌, Bool, true, false, ◌&&◌, ◌||◌, not, cond, ◌==◌, List, [], ◌∷◌, map, length, set, get_or, Option, Some, None}
+use Rattle.std.proofs.Common.{Result, Ok, Err, nat_lt, refl, sym, ap, ◌∙◌}
+use Rattle.std.proofs.Math.ListN.{get_or-map}
+use Rattle.std.proofs.Math.Seq.{map-set_same}
+use Rattle.std.proofs.lemmas.List.{map-set, set-get_or, set-set}
+use Rattle.std.proofs.lemmas.Simd.{map-map}
+use Rattle.njh_bisync.specs.Fed.{turn}
+use Rattle.njh_bisync.specs.Frames as frame
+use Rattle.njh_bisync.specs.Frames.{Received}
+use Rattle.njh_bisync.specs.Reading.{Rest}
+use Rattle.njh_bisync.specs.declared.frame.Control.{Control}
+use Rattle.njh_bisync.specs.declared.frame.Control.TheVariants as control
+use Rattle.njh_block.specs.Blocks.{Block, Item, all_suspended, read_block, same_fcs}
+use Rattle.njh_block.specs.Writing.{Writing}
+use Rattle.njh_block.specs.declared.fault.BlockFault.{BlockFault}
+use Rattle.njh_spool.specs.CustomerSpool.{CustomerSpool}
+use Rattle.njh_table.specs.Entries.{CustomerEntry}
+use Rattle.njh_table.specs.Keys.{Walked}
+use Rattle.njh_table.specs.NewRoutes.{NewRoute, routes_checked}
+use Rattle.njh_line.specs.declared.Phase.{Phase}
+use Rattle.njh_line.specs.declared.config.Config.{Config}
+use Rattle.njh_line.specs.declared.verdict.Reply.{Reply}
+use Rattle.njh_line.specs.declared.verdict.Reply.TheVariants as reply
+use Rattle.njh_line.specs.declared.verdict.Verdict.{Verdict}
+use Rattle.njh_line.specs.Laws.{is_up}
+use Rattle.njh_line.specs.LineTable as input
+use Rattle.njh_line.specs.LineTable.{Input}
+use Rattle.njh_line.specs.Lines.{LineState, after_end, after_input}
+use Rattle.njh_line.specs.Up.{InputsKeepUp, KeepsUp}
+use Rattle.njh_customer.specs.declared.signal.Signal.{Signal}
+use Rattle.njh_customer.specs.Customer.{Customer, CustomerLine, IsMarked, no_line, line_at, on_line, in_state, config_of, fresh_customer, quiet_line}
+use Rattle.njh_customer.specs.Acting.{Acted, acted_where}
+use Rattle.njh_customer.specs.Sending.{Sending, block_sent, control_sent, empty_sent, next_block, no_block_sent, reply_sent, with_outlet, written_sent}
+use Rattle.njh_customer.specs.Alone.{Step, quiet, raised, goes_up, goes_up_by, silent, replied_to, session_over, session_over_where, session_ended, carried_out}
+use Rattle.njh_customer.specs.Alone.{verdict_on, accepted_on, input_came, block_input, behind_records, block_came, text_read, text_came, received_on}
+use Rattle.njh_customer.specs.Alone.{signal_input, frame_came, signal_came}
+use Rattle.njh_customer.specs.Feeding.{acted_on, byte_step, bytes_run, or_later, take_step, Taking}
+use Rattle.njh_customer.specs.NewRoutes.{taken_where, routes_given}
+use Rattle.njh_customer.specs.Part.{Part, rest_on}
+use Rattle.njh_customer.specs.Runs.{OwnEvent, OwnBytes, OwnSignal, OwnRoutes, event_run}
+use Rattle.njh_customer.specs.Laws.{MarksAreRight}
+use Rattle.njh_customer.proofs.KeptLines.{kept, kepts}
+use Rattle.njh_customer.proofs.RecordsMoves.{Acting, acting_where}
+
+-- ---- which lines are up
+
+abbrev is_line_up : CustomerLine → Bool
+is_line_up x = is_up x.state.session.phase
+
+abbrev ups : List CustomerLine → List Bool
+ups lines = map is_line_up lines
+
+abbrev is_kept_up : Config × List ℕ × Phase → Bool
+is_kept_up k = is_up k.2
+
+ups_kept : (xs ys : List CustomerLine) → kepts xs ≡ kepts ys → ups xs ≡ ups ys
+ups_kept xs ys e = sym (map-map is_kept_up kept xs) ∙ ap (map is_kept_up) e ∙ map-map is_kept_up kept ys
+
+-- ---- what a line sends leaves it as far as it was
+
+control_phase : (which : Control) (x : LineState) → (control_sent which x).line.session.phase ≡ x.session.phase
+control_phase control.Enquiry x = refl
+control_phase control.Ack0 x = refl
+control_phase control.Nak x = refl
+
+no_block_phase : (or_ack0 : Bool) (x : LineState) → (no_block_sent or_ack0 x).line.session.phase ≡ x.session.phase
+no_block_phase true x = refl
+no_block_phase false x = refl
+
+abbrev empty_where : Bool → Bool → Writing → LineState → Sending
+empty_where b or_ack0 w x = elim b [ true ↦ no_block_sent or_ack0 x | false ↦ block_sent w x ]
+
+empty_phase : (or_ack0 : Bool) (w : Writing) (x : LineState) → (empty_sent or_ack0 w x).line.session.phase ≡ x.session.phase
+empty_phase or_ack0 w x = at (all_suspended x.session.peer_fcs || same_fcs w.fcs x.session.own_fcs)
+  where
+    at : (b : Bool) → (empty_where b or_ack0 w x).line.session.phase ≡ x.session.phase
+    at true = no_block_phase or_ack0 x
+    at false = refl
+
+abbrev written_where : Bool → Writing → LineState → List Item → Sending
+written_where or_ack0 w x is = elim is [ [] ↦ empty_sent or_ack0 w x | i ∷ js ↦ block_sent w x ]
+
+written_phase : (or_ack0 : Bool) (w : Writing) (x : LineState) → (written_sent or_ack0 w x).line.session.phase ≡ x.session.phase
+written_phase or_ack0 w x = at w.items
+  where
+    at : (is : List Item) → (written_where or_ack0 w x is).line.session.phase ≡ x.session.phase
+    at [] = empty_phase or_ack0 w x
+    at (i ∷ is) = refl
+
+reply_phase :
+    (entry : CustomerEntry) (l : ℕ) (r : Reply) (s : CustomerSpool) (x : CustomerLine)
+    → (reply_sent entry l r s x).line.state.session.phase ≡ x.state.session.phase
+reply_phase entry l reply.Nothing s x = refl
+reply_phase entry l (reply.Control which) s x = control_phase which x.state
+reply_phase entry l reply.Again s x = refl
+reply_phase entry l (reply.SignOn kind) s x = refl
+reply_phase entry l (reply.Sequence expected) s x = refl
+reply_phase entry l (reply.Next or_ack0) s x =
+    let f = next_block entry l s x in
+    written_phase or_ack0 f.block (with_outlet f.outlet x).state
+
+-- ---- marks
+
+marks_over : (up : Bool) (l : ℕ) (entry : CustomerEntry) → set (raised up l entry).up l false ≡ set entry.up l false
+marks_over true l entry = set-set entry.up l true false
+marks_over false l entry = refl
+
+-- a line that is marked as it was before, and goes up or doesn't
+marks_on :
+    (p q : Phase) (l : ℕ) (entry : CustomerEntry) (us : List Bool) → entry.up ≡ us → get_or us l false ≡ is_up p → (is_up p ≡ true → is_up q ≡ true)
+    → (raised (goes_up p q) l entry).up ≡ set us l (is_up q)
+marks_on p q l entry us marked has = at (is_up p) (is_up q) has
+  where
+    stays : (b : Bool) → get_or us l false ≡ b → entry.up ≡ set us l b
+    stays b e = marked ∙ sym (set-get_or us l false) ∙ ap (set us l) e
+
+    at : (a b : Bool) → get_or us l false ≡ a → (a ≡ true → b ≡ true) → (raised (b && not a) l entry).up ≡ set us l b
+    at true true e on = stays true e
+    at true false e on = absurd (cc (sym (on refl)))
+    at false true e on = ap (λ xs. set xs l true) marked
+    at false false e on = stays false e
+
+module _ (keep : InputsKeepUp) (l : ℕ) (came : Input) (c : Customer) (marked : IsMarked c) where
+  abbrev before : Phase
+  before = (line_at l c.lines).state.session.phase
+
+  abbrev after : Phase
+  after = (after_input came (line_at l c.lines).state).session.phase
+
+  keeps : KeepsUp (line_at l c.lines).state.config came (line_at l c.lines).state.session
+  keeps = keep (line_at l c.lines).state.config (line_at l c.lines).state.session came
+
+  has_mark : get_or (ups c.lines) l false ≡ is_up before
+  has_mark = get_or-map is_line_up c.lines l no_line
+
+  accepted_ups : ups (accepted_on l came c).lines ≡ set (ups c.lines) l (is_up after)
+  accepted_ups = map-set is_line_up c.lines l (in_state (after_input came) (line_at l c.lines))
+
+  -- once the session is over
+  lowered : (d : Customer) → d.entry ≡ (accepted_on l came c).entry → set d.entry.up l false ≡ set (ups c.lines) l false
+  lowered d entry =
+      ap (λ (e : CustomerEntry). set e.up l false) entry ∙ marks_over (goes_up before after) l c.entry ∙ ap (λ us. set us l false) marked
+
+  -- behind the records
+  carried_marked :
+      (v : Verdict) (d : Customer) → d.entry ≡ (accepted_on l came c).entry → kepts d.lines ≡ kepts (accepted_on l came c).lines
+      → v.ended ≡ (verdict_on l came c).ended → IsMarked (carried_out l v d).after
+  carried_marked v d entry kept_so ended = at v.ended ended
+    where
+      sent : Customer
+      sent = (replied_to l v.reply d).after
+
+      sent_ups : ups sent.lines ≡ set (ups c.lines) l (is_up after)
+      sent_ups =
+          map-set_same is_line_up d.lines l (reply_sent d.entry l v.reply d.spool (line_at l d.lines)).line no_line
+          (ap is_up (reply_phase d.entry l v.reply d.spool (line_at l d.lines)))
+          ∙ ups_kept d.lines (accepted_on l came c).lines kept_so ∙ accepted_ups
+
+      at : (b : Bool) → b ≡ (verdict_on l came c).ended → IsMarked (session_over_where b l sent)
+      at true e =
+          lowered d entry
+          ∙ ap (set (ups c.lines) l) (sym (keeps.over (sym e)))
+          ∙ sym sent_ups ∙ sym (map-set_same is_line_up sent.lines l (quiet (line_at l sent.lines)) no_line refl)
+      at false e =
+          ap (λ (x : CustomerEntry). x.up) entry
+          ∙ marks_on before after l c.entry (ups c.lines) marked has_mark (keeps.on (sym e))
+          ∙ sym sent_ups
+
+  -- a record ended the session
+  ended_marked :
+      (d : Customer) → d.entry ≡ (accepted_on l came c).entry → kepts d.lines ≡ kepts (accepted_on l came c).lines → IsMarked (session_ended l d)
+  ended_marked d entry kept_so =
+      let xs = on_line l (in_state after_end) d.lines in
+      lowered d entry
+      ∙ sym (map-set_same is_line_up xs l (quiet (line_at l xs)) no_line refl
+      ∙ map-set is_line_up d.lines l (in_state after_end (line_at l d.lines))
+      ∙ ap (λ us. set us l false) (ups_kept d.lines (accepted_on l came c).lines kept_so ∙ accepted_ups)
+      ∙ set-set (ups c.lines) l (is_up after) false)
+
+  input_marked : IsMarked (input_came l came c).after
+  input_marked = carried_marked (verdict_on l came c) (accepted_on l came c) refl refl refl
+
+-- ---- a frame, and a signal
+
+module _ (keep : InputsKeepUp) where
+  block_marked : (l : ℕ) (b : Block) (c : Customer) → IsMarked c → IsMarked (block_came l b c).after
+  block_marked l b c marked = at a.ended
+    where
+      v : Verdict
+      v = verdict_on l (block_input b) c
+
+      a : Acted
+      a = acted_where v.acts l b.items (accepted_on l (block_input b) c)
+
+      acting : Acting l b.items (accepted_on l (block_input b) c) a.customer
+      acting = acting_where v.acts l b.items (accepted_on l (block_input b) c)
+
+      at : (ended : Bool) → IsMarked (behind_records ended l v a.customer).after
+      at true = ended_marked keep l (block_input b) c marked a.customer acting.entry acting.kept
+      at false = carried_marked keep l (block_input b) c marked v a.customer acting.entry acting.kept refl
+
+  text_marked : (l : ℕ) (text : List ℕ) (c : Customer) → IsMarked c → IsMarked (text_came l text c).after
+  text_marked l text c marked = at (read_block text)
+    where
+      at : (b : Result Block BlockFault) → IsMarked (text_read l b c).after
+      at (Ok b) = block_marked l b c marked
+      at (Err e) = input_marked keep l input.Bad c marked
+
+  received_marked : (l : ℕ) (x : Received) (c : Customer) → IsMarked c → IsMarked (received_on l x c).after
+  received_marked l frame.Enquiry c marked = input_marked keep l input.Enquiry c marked
+  received_marked l frame.Ack0 c marked = input_marked keep l input.Ack0 c marked
+  received_marked l frame.Nak c marked = input_marked keep l input.Nak c marked
+  received_marked l frame.Eot c marked = input_marked keep l input.Eot c marked
+  received_marked l (frame.Text text) c marked = text_marked l text c marked
+  received_marked l frame.Spoiled c marked = input_marked keep l input.Spoiled c marked
+
+  where_marked : (b : Bool) (x : Step) (c : Customer) → IsMarked c → IsMarked x.after → IsMarked (cond b x (silent c)).after
+  where_marked true x c marked step = step
+  where_marked false x c marked step = marked
+
+  frame_marked : (l : ℕ) (x : Received) (c : Customer) → IsMarked c → IsMarked (frame_came l x c).after
+  unfolding frame_came
+  frame_marked l x c marked = where_marked (nat_lt l (length c.lines)) (received_on l x c) c marked (received_marked l x c marked)
+
+  signal_marked : (l : ℕ) (x : Signal) (c : Customer) → IsMarked c → IsMarked (signal_came l x c).after
+  unfolding signal_came
+  signal_marked l x c marked =
+      where_marked (nat_lt l (length c.lines)) (input_came l (signal_input x) c) c marked (input_marked keep l (signal_input x) c marked)
+
+  -- ---- bytes
+
+  acted_marked : (l : ℕ) (o : Option Received) (c : Customer) → IsMarked c → IsMarked (acted_on l o c).after
+  acted_marked l None c marked = marked
+  acted_marked l (Some x) c marked = frame_marked l x c marked
+
+  run_marked : (rest : Rest) (c : Customer) (l : ℕ) (bytes : List ℕ) → IsMarked c → IsMarked (bytes_run rest c l bytes).after
+  run_marked rest c l [] marked = marked
+  run_marked rest c l (byte ∷ bytes) marked =
+      let x = byte_step rest c l byte in
+      run_marked x.rest x.after l bytes (acted_marked l (turn rest byte).frame c marked)
+
+  by_sent :
+      (rest : Rest) (d : Customer) (frame : List ℕ) (later : Taking) → IsMarked d → IsMarked later.after
+      → IsMarked (or_later 1 rest (record { after = d; frame = frame }) later).after
+  by_sent rest d [] later first second = second
+  by_sent rest d (b ∷ frame) later first second = first
+
+  take_marked : (rest : Rest) (c : Customer) (l : ℕ) (piece : List ℕ) → IsMarked c → IsMarked (take_step rest c l piece).after
+  take_marked rest c l [] marked = marked
+  take_marked rest c l (byte ∷ bytes) marked =
+      let x = byte_step rest c l byte in
+      let first = acted_marked l (turn rest byte).frame c marked in
+      by_sent x.rest x.after x.frame (take_step x.rest x.after l bytes) first (take_marked x.rest x.after l bytes first)
+
+  -- ---- events
+
+  routes_marked : (routes : List NewRoute) (p : Part) → IsMarked p.customer → IsMarked (routes_given routes p).customer
+  routes_marked routes p marked = at (routes_checked p.customer.entry routes)
+    where
+      at : (w : Walked (Unit {0})) → IsMarked (taken_where w routes p).customer
+      at (Ok faultless) = marked
+      at (Err fault) = marked
+
+  event_marked : (p : Part) (event : OwnEvent) → IsMarked p.customer → IsMarked (event_run p event).after.customer
+  event_marked p (OwnBytes l piece) marked = run_marked (rest_on l p) p.customer l piece marked
+  event_marked p (OwnSignal signal l) marked = signal_marked l signal p.customer marked
+  event_marked p (OwnRoutes routes) marked = routes_marked routes p marked
+
+fresh_marked : (entry : CustomerEntry) → IsMarked (fresh_customer entry)
+fresh_marked entry = sym (map-map is_line_up (λ line. quiet_line (config_of entry line) line.streams) entry.lines)
+
+pub marks_right : InputsKeepUp → MarksAreRight
+marks_right keep = record {
+  fresh = fresh_marked;
+  events = event_marked keep;
+  takes = λ p l piece marked. take_marked keep (rest_on l p) p.customer l piece marked;
+}

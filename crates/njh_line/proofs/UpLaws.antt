@@ -1,0 +1,140 @@
+-- A line that is up stays so until its session ends, and then it isn't.
+use Rattle.std.proofs.Common.{◌≡◌, ℕ, ◌+◌, Bool, true, false, cond, ◌==◌, Option, Some, None, refl, sym, ap, ◌∙◌}
+use Rattle.njh_bisync.specs.declared.frame.Control.TheVariants as control
+use Rattle.njh_header.specs.SignOns.{SignOn}
+use Rattle.njh_line.specs.declared.Phase.{Phase}
+use Rattle.njh_line.specs.declared.Phase.TheVariants.{Down, Calling, Answered, SentI, Up}
+use Rattle.njh_line.specs.declared.config.Config.{Config}
+use Rattle.njh_line.specs.declared.config.Role.{Role}
+use Rattle.njh_line.specs.declared.config.Role.TheVariants as role
+use Rattle.njh_line.specs.declared.counts.Counted.{Counted}
+use Rattle.njh_line.specs.declared.counts.Counted.TheVariants.{Acts, Repeats, OutOfSequence}
+use Rattle.njh_line.specs.declared.opening.Opening.TheVariants.{Initial, Response}
+use Rattle.njh_line.specs.declared.session.Session.{Session}
+use Rattle.njh_line.specs.declared.table.Outcome.{Outcome}
+use Rattle.njh_line.specs.declared.verdict.Reply.{Reply}
+use Rattle.njh_line.specs.declared.verdict.Reply.TheVariants as reply
+use Rattle.njh_line.specs.Counts.{counted, expected, after_acting}
+use Rattle.njh_line.specs.Laws.{is_up}
+use Rattle.njh_line.specs.LineTable as input
+use Rattle.njh_line.specs.LineTable.{Input, accepted, cell, none, enquiry, ack0, hang_up, end, end_with, end_and_contact, try_with, try_again, try_nak}
+use Rattle.njh_line.specs.LineTable.{with_reply, contact, call, i_block, next_or_turn, next_in_turn, by_count, signed_on, i_sign_on, j_sign_on, act}
+use Rattle.njh_line.specs.Openings.{fitting}
+use Rattle.njh_line.specs.Up.{InputsKeepUp}
+
+record Follows (p : Phase) (o : Outcome) : Type 0 where
+  pub over : o.verdict.ended ≡ true → is_up o.session.phase ≡ false
+  pub on : o.verdict.ended ≡ false → is_up p ≡ true → is_up o.session.phase ≡ true
+
+module _ (s : Session) where
+  -- a line that wasn't up
+  low : (o : Outcome) → o.verdict.ended ≡ false → is_up s.phase ≡ false → Follows s.phase o
+  low o e down = record { over = λ over. absurd (cc (sym e ∙ over)); on = λ _ up. absurd (cc (sym down ∙ up)) }
+
+  -- one that is as far as it was
+  as_far : (o : Outcome) → o.verdict.ended ≡ false → o.session.phase ≡ s.phase → Follows s.phase o
+  as_far o e same = record { over = λ over. absurd (cc (sym e ∙ over)); on = λ _ up. ap is_up same ∙ up }
+
+  ends : (o : Outcome) → o.verdict.ended ≡ true → is_up o.session.phase ≡ false → Follows s.phase o
+  ends o e down = record { over = λ _. down; on = λ on. absurd (cc (sym e ∙ on)) }
+
+  tries : (r : Reply) → Follows s.phase (try_with r s)
+  tries r = at (s.tries == 5)
+    where
+      at : (b : Bool) → Follows s.phase (cond b (end s) (with_reply r (record s { tries = s.tries + 1 })))
+      at true = ends (end s) refl refl
+      at false = as_far (with_reply r (record s { tries = s.tries + 1 })) refl refl
+
+  in_turn : Follows s.phase (next_in_turn s)
+  in_turn = at s.has_turn
+    where
+      at : (b : Bool) → Follows s.phase (cond b (with_reply (reply.Next true) s) (try_nak s))
+      at true = as_far (with_reply (reply.Next true) s) refl refl
+      at false = tries (reply.Control control.Nak)
+
+  by_role : (r : Role) → (contact r s).verdict.ended ≡ false
+  by_role role.Call = refl
+  by_role role.Answer = refl
+
+  call_by_role : (r : Role) → (call r s).verdict.ended ≡ false
+  call_by_role role.Call = refl
+  call_by_role role.Answer = refl
+
+  down_by_role : (r : Role) → is_up (end_and_contact r s).session.phase ≡ false
+  down_by_role role.Call = refl
+  down_by_role role.Answer = refl
+
+  signed : (r : Reply) (config : Config) (o : Option SignOn) (t : Session) → (signed_on r config o t).verdict.ended ≡ false
+  signed r config (Some x) t = refl
+  signed r config None t = refl
+
+  by_counts : (bcb : ℕ) (fcs : ℕ × ℕ) (acted : Session → Outcome) → Follows s.phase (acted (after_acting bcb fcs s)) → Follows s.phase (by_count bcb fcs acted s)
+  by_counts bcb fcs acted acts = at (counted s.last_bcb bcb)
+    where
+      at :
+          (n : Counted)
+          → Follows s.phase (elim n [
+            | Acts ↦ acted (after_acting bcb fcs s)
+            | Repeats ↦ try_again s
+            | OutOfSequence ↦ end_with (reply.Sequence (0x80 + expected s.last_bcb)) s
+          ])
+      at Acts = acts
+      at Repeats = tries reply.Again
+      at OutOfSequence = ends (end_with (reply.Sequence (0x80 + expected s.last_bcb)) s) refl refl
+
+  in_row :
+      (down calling answered sent_i up : Outcome) → (is_up s.phase ≡ false → Follows s.phase down) → (is_up s.phase ≡ false → Follows s.phase calling)
+      → (is_up s.phase ≡ false → Follows s.phase answered) → (is_up s.phase ≡ false → Follows s.phase sent_i) → Follows s.phase up
+      → Follows s.phase (cell s.phase down calling answered sent_i up)
+  in_row down calling answered sent_i up d c a i u = at s.phase refl
+    where
+      at : (p : Phase) → s.phase ≡ p → Follows s.phase (cell p down calling answered sent_i up)
+      at Down e = d (ap is_up e)
+      at Calling e = c (ap is_up e)
+      at Answered e = a (ap is_up e)
+      at SentI e = i (ap is_up e)
+      at Up e = u
+
+  tried : Follows s.phase (cell s.phase (none s) (none s) (try_nak s) (try_nak s) (try_nak s))
+  tried =
+      let nak = tries (reply.Control control.Nak) in
+      in_row (none s) (none s) (try_nak s) (try_nak s) (try_nak s) (low (none s) refl) (low (none s) refl) (λ _. nak) (λ _. nak) nak
+
+  hung_up : Follows s.phase (cell s.phase (none s) (hang_up s) (hang_up s) (hang_up s) (end s))
+  hung_up =
+      in_row (none s) (hang_up s) (hang_up s) (hang_up s) (end s) (low (none s) refl) (low (hang_up s) refl) (low (hang_up s) refl) (low (hang_up s) refl)
+      (ends (end s) refl refl)
+
+table_follows : (config : Config) (came : Input) (s : Session) → Follows s.phase (accepted config came s)
+unfolding accepted
+table_follows config input.Enquiry s =
+    in_row s (contact config.role s) (none s) (ack0 s) (none s) (end_and_contact config.role s)
+    (low s (contact config.role s) (by_role s config.role)) (low s (none s) refl) (low s (ack0 s) refl) (low s (none s) refl)
+    (ends s (end_and_contact config.role s) refl (down_by_role s config.role))
+table_follows config input.Ack0 s =
+    in_row s (none s) (i_block s) (none s) (none s) (next_or_turn s) (low s (none s) refl) (low s (i_block s) refl) (low s (none s) refl) (low s (none s) refl)
+    (as_far s (next_or_turn s) refl refl)
+table_follows config input.Nak s =
+    let again = tries s reply.Again in
+    in_row s (none s) (none s) (try_again s) (try_again s) (try_again s) (low s (none s) refl) (low s (none s) refl) (λ _. again) (λ _. again) again
+table_follows config input.Eot s = hung_up s
+table_follows config input.Lost s = hung_up s
+table_follows config (input.Block bcb fcs first) s =
+    let t = after_acting bcb fcs s in
+    in_row s (none s) (none s) (by_count bcb fcs (i_sign_on config first) s) (by_count bcb fcs (j_sign_on config first) s) (by_count bcb fcs act s)
+    (low s (none s) refl) (low s (none s) refl)
+    (λ down. by_counts s bcb fcs (i_sign_on config first)
+    (low s (i_sign_on config first t) (signed s (reply.SignOn Response) config (fitting Initial config first) t) down))
+    (λ down. by_counts s bcb fcs (j_sign_on config first)
+    (low s (j_sign_on config first t) (signed s (reply.Next true) config (fitting Response config first) t) down))
+    (by_counts s bcb fcs act (as_far s (act t) refl refl))
+table_follows config input.Spoiled s = tried s
+table_follows config input.Bad s = tried s
+table_follows config input.Garbled s = tried s
+table_follows config input.Tick s =
+    let nak = tries s (reply.Control control.Nak) in
+    in_row s (call config.role s) (enquiry s) (try_nak s) (try_nak s) (next_in_turn s) (low s (call config.role s) (call_by_role s config.role))
+    (low s (enquiry s) refl) (λ _. nak) (λ _. nak) (in_turn s)
+
+pub inputs_keep_up : InputsKeepUp
+inputs_keep_up config s came = let f = table_follows config came s in record { over = f.over; on = f.on }
