@@ -6,3 +6,4 @@ pub mod ReceivingRuns
 pub mod CommandRuns
 pub mod SendingRuns
 pub mod RouteRuns
+pub mod SecondLineRuns

@@ -10,9 +10,11 @@ mod damage;
 mod devices;
 mod new_routes;
 mod peers;
+mod random_events;
 mod random_runs;
 mod route_lines;
 mod scripts;
+mod second_lines;
 mod steps;
 mod streams;
 

@@ -1,6 +1,6 @@
 //! Routes that a customer can't have, and some that it can, by the call.
 
-use crate::steps::of_hub;
+use crate::steps::{of_hub, open};
 use njh_ebcdic::Name;
 use njh_hub::{Hub, HubFault};
 use njh_program::Failure;
@@ -13,28 +13,24 @@ const A1: LineId = LineId {
     line: 0,
 };
 
+const A2: LineId = LineId {
+    customer: 0,
+    line: 1,
+};
+
 const B1: LineId = LineId {
     customer: 1,
     line: 0,
 };
 
-/// A hub of ACME and BOLT.
-fn open<R: Files + AllocGlobal>(rt: &R) -> Result<Hub, Failure> {
-    let tables = fs::read_to_string(rt, "two_networks.toml")?;
-    match Hub::open(rt.alloc(), Tables::read(rt.alloc(), tables.as_str())?) {
-        Ok(hub) => Ok(hub),
-        Err(fault) => Err(of_hub(fault)),
-    }
-}
-
-/// A route to a node by a line.
-pub fn route(node: &str, line: LineId) -> Result<RouteEntry, Failure> {
+/// A route to a node by a line, and by a second one if there is one.
+pub fn route_by(
+    node: &str,
+    line: LineId,
+    second: Option<LineId>,
+) -> Result<RouteEntry, Failure> {
     match Name::of_text(node) {
-        Ok(node) => Ok(RouteEntry {
-            node,
-            line,
-            second: None,
-        }),
+        Ok(node) => Ok(RouteEntry { node, line, second }),
         Err(_) => Err(of_hub(HubFault::UnknownCustomer)),
     }
 }
@@ -54,17 +50,22 @@ fn retable<R: Print>(
 }
 
 fn retable_each<R: Print>(rt: &R, hub: &mut Hub) -> Result<(), Failure> {
-    let lyon = route("LYON", A1)?;
-    retable(rt, hub, 0, &[route("LYON", B1)?])?;
+    let lyon = route_by("LYON", A1, None)?;
+    retable(rt, hub, 0, &[route_by("LYON", B1, None)?])?;
     retable(rt, hub, 0, &[lyon, lyon])?;
-    retable(rt, hub, 0, &[route("BUREAU", A1)?])?;
+    retable(rt, hub, 0, &[route_by("BUREAU", A1, None)?])?;
     retable(rt, hub, 0, &[lyon; 513])?;
     retable(rt, hub, 9, &[lyon])?;
-    retable(rt, hub, 0, &[lyon])
+    retable(rt, hub, 0, &[lyon])?;
+    retable(rt, hub, 0, &[route_by("BUREAU", B1, Some(B1))?])?;
+    retable(rt, hub, 0, &[route_by("BUREAU", A1, Some(B1))?])?;
+    retable(rt, hub, 0, &[route_by("LYON", A1, Some(B1))?])?;
+    retable(rt, hub, 0, &[route_by("LYON", A1, Some(A2))?])
 }
 
 /// Says which routes are refused.
 pub fn refuse<R: Files + Print + AllocGlobal>(rt: &R) -> Result<(), Failure> {
-    let mut hub = open(rt)?;
+    let tables = fs::read_to_string(rt, "two_networks.toml")?;
+    let mut hub = open(rt.alloc(), Tables::read(rt.alloc(), tables.as_str())?)?;
     retable_each(rt, &mut hub)
 }

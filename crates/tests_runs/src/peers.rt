@@ -46,6 +46,11 @@ const ACK0: [u8; 2] = [0x10, 0x70];
 
 const NAK: [u8; 1] = [0x3d];
 
+/// Leave to send SYSOUT 1, SYSOUT 2 and SYSIN 1, and word that what was sent on them has come.
+const PERMISSIONS: [u8; 9] = [0xa0, 0x99, 0x00, 0xa0, 0xa9, 0x00, 0xa0, 0x98, 0x00];
+
+const COMPLETIONS: [u8; 9] = [0xc0, 0x99, 0x00, 0xc0, 0xa9, 0x00, 0xc0, 0x98, 0x00];
+
 fn add(event: Event, events: &mut Vec<Event>) -> Result<(), AllocError> {
     Ok(events.push(event)?)
 }
@@ -77,14 +82,16 @@ impl<'a> Peer<'a> {
         events: &mut Vec<Event>,
     ) -> Result<(), AllocError> {
         match self.count {
+            None if numbers.below(2) == 0 => Ok(()),
             None => self.sign_on(alloc, events),
             Some(count) => match numbers.below(16) {
                 0 => add(Event::Tick(self.line), events),
                 1 => add(Event::Garbled(self.line), events),
                 2 => self.lose(events),
                 3 => self.send(alloc, &NAK, events),
-                4 | 5 | 6 => self.send(alloc, &ACK0, events),
-                _ => self.send_block(alloc, count, numbers, records, events),
+                4 | 5 => self.send(alloc, &ACK0, events),
+                6..=9 => self.take_files(alloc, count, numbers, events),
+                _ => self.send_one_of(alloc, count, numbers, records, events),
             },
         }
     }
@@ -107,8 +114,27 @@ impl<'a> Peer<'a> {
         add(Event::Bytes(self.line, Piece::of(alloc, bytes)?), events)
     }
 
-    /// A block, in two pieces that are cut anywhere.
-    fn send_block(
+    /// It has the hub ask for files, and may let it send them, and may then say that they have come.
+    fn take_files(
+        &mut self,
+        alloc: Global,
+        count: u8,
+        numbers: &mut Numbers,
+        events: &mut Vec<Event>,
+    ) -> Result<(), AllocError> {
+        self.send(alloc, &ACK0, events)?;
+        if numbers.below(4) > 0 {
+            self.send_block(alloc, count, numbers, &PERMISSIONS, events)?;
+            if numbers.below(4) > 0 {
+                let count = count.wrapping_add(1) % 16;
+                self.send_block(alloc, count, numbers, &COMPLETIONS, events)?;
+            }
+        }
+        Ok(())
+    }
+
+    /// A block of one of some lists of records.
+    fn send_one_of(
         &mut self,
         alloc: Global,
         count: u8,
@@ -116,12 +142,24 @@ impl<'a> Peer<'a> {
         records: &[Vec<u8>],
         events: &mut Vec<Event>,
     ) -> Result<(), AllocError> {
-        self.count = Some(count.wrapping_add(1) % 16);
         let chosen = numbers.below(records.len() as u64) as usize;
+        self.send_block(alloc, count, numbers, bytes_at(records, chosen), events)
+    }
+
+    /// A block, in two pieces that are cut anywhere.
+    fn send_block(
+        &mut self,
+        alloc: Global,
+        count: u8,
+        numbers: &mut Numbers,
+        records: &[u8],
+        events: &mut Vec<Event>,
+    ) -> Result<(), AllocError> {
+        self.count = Some(count.wrapping_add(1) % 16);
         let mut frame = Vec::from_slice(alloc, &BEFORE)?;
         frame.push(count | 0x80)?;
         frame.extend_from_slice(&FREE)?;
-        frame.extend_from_slice(bytes_at(records, chosen))?;
+        frame.extend_from_slice(records)?;
         frame.extend_from_slice(&BEHIND)?;
         let cut = numbers.below(frame.len() as u64) as usize;
         let (front, back) = frame.split_at(cut.min(frame.len()));

@@ -80,9 +80,9 @@ impl Sink for Refusing {
     }
 }
 
-/// A hub of the built-in tables.
-fn open(alloc: Global) -> Result<Hub, Failure> {
-    match Hub::open(alloc, Tables::base(alloc)?) {
+/// A hub of these tables.
+pub fn open(alloc: Global, tables: Tables) -> Result<Hub, Failure> {
+    match Hub::open(alloc, tables) {
         Ok(hub) => Ok(hub),
         Err(fault) => Err(of_hub(fault)),
     }
@@ -142,7 +142,7 @@ fn take_signal<R: Print + AllocGlobal>(
 
 /// Each step answers where there is memory, and takes the bytes of one frame that is answered.
 pub fn take<R: Print + AllocGlobal>(rt: &R) -> Result<(), Failure> {
-    let mut hub = open(rt.alloc())?;
+    let mut hub = open(rt.alloc(), Tables::base(rt.alloc())?)?;
     take_all(rt, &mut hub)
 }
 
@@ -191,10 +191,7 @@ fn show_file<R: Print + AllocGlobal>(rt: &R, file: &FileView) -> Result<(), Fail
 /// A file comes in: its customer has it, with its records, and the other has none.
 pub fn keep<R: Files + Print + AllocGlobal>(rt: &R) -> Result<(), Failure> {
     let tables = fs::read_to_string(rt, "two_networks.toml")?;
-    let mut hub = match Hub::open(rt.alloc(), Tables::read(rt.alloc(), tables.as_str())?) {
-        Ok(hub) => hub,
-        Err(fault) => return Err(of_hub(fault)),
-    };
+    let mut hub = open(rt.alloc(), Tables::read(rt.alloc(), tables.as_str())?)?;
     keep_file(rt, &mut hub)
 }
 
@@ -215,7 +212,7 @@ fn bytes_came(alloc: Global, digits: &str) -> Result<Event, AllocError> {
 
 /// A sink refuses the second frame: the run says so, with that step counted, and the hub goes on behind it.
 pub fn refuse<R: Print + AllocGlobal>(rt: &R) -> Result<(), Failure> {
-    let mut hub = open(rt.alloc())?;
+    let mut hub = open(rt.alloc(), Tables::base(rt.alloc())?)?;
     refuse_second(rt, &mut hub)?;
     print!(rt; "{}", of_hub(HubFault::Memory))?;
     Ok(())
