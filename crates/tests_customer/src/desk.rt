@@ -1,10 +1,7 @@
 //! A customer with its tables, its files and its lines.
 
-ghost use Rattle.std.specs.Prelude.{◌≡◌, ◌<◌, length, slice_index_or, IfOk};
-ghost use Rattle.njh_customer.specs.Customer.{IsCoherent};
-ghost use Rattle.njh_customer.specs.Leading.{customer_of};
+ghost use Rattle.std.specs.Prelude.{◌≡◌, [], ◌∷◌, IfOk};
 ghost use Rattle.njh_spool.specs.CustomerSpool.{empty_spool};
-ghost use Rattle.njh_table.specs.TableFile.{customer_at};
 
 use njh_bisync::LONGEST_FRAME;
 use njh_customer::{FrameBuffer, Lines, Signal, opened_is_coherent};
@@ -74,8 +71,7 @@ impl Model for Desk {
 
 /// A spool of a customer's quota.
 fn open_spool<R: Abort>(rt: &R, alloc: Global, customer: &Customer) -> Result<Spool, SpoolFault>
-    ensures { IfOk result (λ spool. (0 < length spool)
-        × (slice_index_or spool 0 (empty_spool 0 0) ≡ empty_spool customer.now.quota customer.now.files)) }
+    ensures { IfOk result (λ spool. spool ≡ empty_spool customer.now.quota customer.now.files ∷ []) }
 {
     let quota = Quota {
         blocks: customer.quota(),

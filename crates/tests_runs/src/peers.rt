@@ -90,7 +90,7 @@ impl<'a> Peer<'a> {
                 2 => self.lose(events),
                 3 => self.send(alloc, &NAK, events),
                 4 | 5 => self.send(alloc, &ACK0, events),
-                6..=9 => self.take_files(alloc, count, numbers, events),
+                6..=8 => self.take_files(alloc, count, numbers, events),
                 _ => self.send_one_of(alloc, count, numbers, records, events),
             },
         }

@@ -17,7 +17,7 @@ pub const ACME: u16 = 0;
 const BOLT: u16 = 1;
 
 /// How many times each customer's peers act, or it is given routes.
-const ACTS: u32 = 60;
+const ACTS: u32 = 80;
 
 /// The customers' lines, each with the place of its peer's sign-on: ACME's are of LYON, METZ and METZ, BOLT's of LYON and PARIS.
 const OWN_LINES: [(u16, usize); 3] = [(0, 0), (1, 1), (2, 1)];

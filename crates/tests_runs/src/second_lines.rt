@@ -17,6 +17,7 @@ const SIGN_ON: [u8; 6] = [0x10, 0x02, 0xa0, 0x8f, 0xcf, 0xf0];
 const FILE_END: [u8; 6] = [0x99, 0x80, 0x00, 0x00, 0x10, 0x26];
 
 /// A run of ACME up to an event, and what was seen in it and in those before.
+#[derive(Clone, Copy)]
 struct Watch {
     /// The route to METZ, if there is one.
     metz: Option<RouteEntry>,

@@ -1,5 +1,5 @@
 -- The customer that was just opened is coherent.
-use Rattle.std.proofs.Common.{◌≡◌, ◌<◌, ◌≤◌, false, length, get_or, sym, ap, subst, ◌∙◌, rules}
+use Rattle.std.proofs.Common.{◌≡◌, ◌<◌, ◌≤◌, false, [], ◌∷◌, length, get_or, sym, ap, subst, ◌∙◌, rules, arith}
 use Rattle.std.proofs.lemmas.List.{length-map}
 use Rattle.std.specs.List.{All}
 use Rattle.std.proofs.lemmas.List.Elements.{All-map}
@@ -15,14 +15,16 @@ invariant_of-result g c =
     let named = customer_at tables 0 in
     let entry = entry_of named in
     let some : 0 < length tables.customers = search rules in
-    let spooled : 0 < length c.in_ok-spool.spool = search rules in
     let customer = c.customers.ensures.accepted.each 0 no_customer some in
     let few : All (λ line. line.streams ≤ 4) entry.lines =
     All-map (λ line. line.streams ≤ 4) (λ l. l.entry) named.lines (λ i d h. (customer.lines i d h).streams.1) in
     let coherent = c.opened_is_coherent.ensures entry few in
     let lines = c.in_ok-lines.lines in
+    let opened_is : c.in_ok-spool.spool ≡ empty_spool named.quota named.files ∷ [] =
+    c.in_ok-spool.ensures ∙ ap (λ n. empty_spool n.quota n.files ∷ []) c.customer.ensures in
+    let spooled : 0 < length c.in_ok-spool.spool = omega (arith, ap length opened_is) in
     let spool_is : get_or c.in_ok-spool.spool 0 (empty_spool 0 0) ≡ empty_spool named.quota named.files =
-    c.in_ok-spool.ensures.1 ∙ ap (λ n. empty_spool n.quota n.files) c.customer.ensures in
+    ap (λ s. get_or s 0 (empty_spool 0 0)) opened_is in
     let lines_are : customer_with (entry_unmarked entry) (empty_spool named.quota named.files) lines.lines ≡ fresh_customer entry =
     subst (λ n. customer_with (entry_unmarked (entry_of n)) (empty_spool n.quota n.files) lines.lines ≡ fresh_customer (entry_of n)) c.customer-2.ensures
     (ap (λ p. p.customer) c.in_ok-lines.ensures) in
