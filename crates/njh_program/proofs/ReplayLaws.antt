@@ -8,6 +8,7 @@ use Rattle.std.proofs.lemmas.Option.{slice_get_within, get_or_from_slice_get}
 use Rattle.njh_table.specs.declared.LineId.{LineId}
 use Rattle.njh_table.specs.declared.fault.TableFault.{TableFault}
 use Rattle.njh_table.specs.Entries.{CustomerEntry}
+use Rattle.njh_table.specs.Marks.{entry_unmarked}
 use Rattle.njh_table.specs.NewRoutes.{own_routes, routes_checked}
 use Rattle.njh_table.specs.TableFile.{TableFile, NamedCustomer, NamedLine, no_customer, customer_at, entry_of, HasLine}
 use Rattle.njh_hub.specs.declared.event.Event.{Event}
@@ -60,7 +61,7 @@ opened_named t (Routes c routes) named =
     let parts : length (map opened (entries_of t)) ≡ length t.customers =
     length-map (entries_of t) opened ∙ length-map t.customers entry_of in
     let within : c < length (map opened (entries_of t)) = omega (arith, named.0, parts) in
-    let entry : (hub.part c (map opened (entries_of t))).customer.entry ≡ entry_of (customer_at t c) =
+    let entry : (hub.part c (map opened (entries_of t))).customer.entry ≡ entry_unmarked (entry_of (customer_at t c)) =
     ap (λ (p : Part). p.customer.entry) (opened_part t c) in
     (within, ap (λ (e : CustomerEntry). routes_checked e (own_routes c routes)) entry ∙ named.1)
 

@@ -5,13 +5,14 @@ use njh_table::Tables;
 use std::fs;
 use std::rt::Files;
 
-const LINES: [&str; 33] = [
+const LINES: [&str; 39] = [
     "ROUTES ACME",
     "ROUTES BOLT",
     "ROUTES ACME LYON:a1",
     "ROUTES ACME PARIS:a1 METZ:a1 LYON:a2",
     "ROUTES BOLT $#@:b2 N1234567:b1",
     "ROUTES ACME LYON:a1:a2 METZ:a2",
+    "ROUTES BOLT LYON:b2:b1 METZ:b1:b2",
     // No customer, or none of this name.
     "ROUTES",
     "ROUTES ",
@@ -30,6 +31,9 @@ const LINES: [&str; 33] = [
     "ROUTES ACME :a1",
     "ROUTES ACME :",
     "ROUTES ACME LYON:a1:",
+    "ROUTES ACME LYON::a2",
+    "ROUTES ACME :a1:a2",
+    "ROUTES ACME LYON:a1:a2:",
     "ROUTES ACME LYON:a1:a2:a1",
     "ROUTES ACME LYON:a1,METZ:a2",
     "ROUTES ACME lyon:a1",
@@ -38,7 +42,9 @@ const LINES: [&str; 33] = [
     "ROUTES ACME LYON:a3",
     "ROUTES ACME LYON:A1",
     "ROUTES ACME LYON:b1",
+    "ROUTES ACME LYON:a1:a3",
     "ROUTES ACME LYON:a1:b1",
+    "ROUTES ACME LYON:b1:a1",
     // A second line that is the first.
     "ROUTES ACME LYON:a1:a1",
     // Two routes for a node, and one for the hub.
