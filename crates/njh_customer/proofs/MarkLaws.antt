@@ -1,5 +1,5 @@
 -- The lines that are marked as up are those that are up.
-use Rattle.std.proofs.Common.{◌≡◌, ℕ, ◌+◌, Bool, true, false, ◌&&◌, ◌||◌, not, cond, ◌==◌, List, [], ◌∷◌, map, length, set, get_or, Option, Some, None}
+use Rattle.std.proofs.Common.{◌≡◌, ℕ, Bool, true, false, ◌&&◌, ◌||◌, not, cond, List, [], ◌∷◌, map, length, set, get_or, Option, Some, None}
 use Rattle.std.proofs.Common.{Result, Ok, Err, nat_lt, refl, sym, ap, ◌∙◌}
 use Rattle.std.proofs.Math.ListN.{get_or-map}
 use Rattle.std.proofs.Math.Seq.{map-set_same}
@@ -32,7 +32,7 @@ use Rattle.njh_customer.specs.declared.signal.Signal.{Signal}
 use Rattle.njh_customer.specs.Customer.{Customer, CustomerLine, IsMarked, no_line, line_at, on_line, in_state, config_of, fresh_customer, quiet_line}
 use Rattle.njh_customer.specs.Acting.{Acted, acted_where}
 use Rattle.njh_customer.specs.Sending.{Sending, block_sent, control_sent, empty_sent, next_block, no_block_sent, reply_sent, with_outlet, written_sent}
-use Rattle.njh_customer.specs.Alone.{Step, quiet, raised, goes_up, goes_up_by, silent, replied_to, session_over, session_over_where, session_ended, carried_out}
+use Rattle.njh_customer.specs.Alone.{Step, quiet, raised, goes_up, silent, replied_to, session_over_where, session_ended, carried_out}
 use Rattle.njh_customer.specs.Alone.{verdict_on, accepted_on, input_came, block_input, behind_records, block_came, text_read, text_came, received_on}
 use Rattle.njh_customer.specs.Alone.{signal_input, frame_came, signal_came}
 use Rattle.njh_customer.specs.Feeding.{acted_on, byte_step, bytes_run, or_later, take_step, Taking}

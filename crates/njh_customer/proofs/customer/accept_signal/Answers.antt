@@ -10,15 +10,15 @@ raise-requires-clause-line c = known_line c.args.tables.now c.args.line c.args.s
 
 pub returns-clause-after : goal.returns-clause-after
 returns-clause-after c =
-    accepted_so c.args.tables.now c.raise.new.tables c.args.line c.args.spool.now c.args.lines.now c.accept_signal-verdict.new.self (signal_input c.args.signal) c.is_up-was_up.result
-    c.is_up-is_up.result c.goes_up.result c.requires.ready.there c.accept_signal-verdict.ensures.lines c.is_up-was_up.ensures c.is_up-is_up.ensures c.goes_up.ensures c.raise.ensures.entry
+    accepted_so c.args.tables.now c.raise.new.tables c.args.line c.args.spool.now c.args.lines.now c.accept_signal-verdict.new.self
+    (signal_input c.args.signal) c.is_up-was_up.result c.is_up-is_up.result c.goes_up.result c.requires.ready.there
+    c.accept_signal-verdict.ensures.lines c.is_up-was_up.ensures c.is_up-is_up.ensures c.goes_up.ensures c.raise.ensures.entry
 
 pub returns-clause-ready : goal.returns-clause-ready
 returns-clause-ready c =
     let line = c.args.line in
     let came = signal_input c.args.signal in
     let old = customer_of c.args.tables.now line.customer c.args.spool.now c.args.lines.now in
-    still_brought c.args.tables.now c.raise.new.tables line c.args.spool.now c.args.lines.now c.accept_signal-verdict.new.self (accepted_on line.line came old)
-    c.requires.ready (accepted_so c.args.tables.now c.raise.new.tables line c.args.spool.now c.args.lines.now c.accept_signal-verdict.new.self came c.is_up-was_up.result
-    c.is_up-is_up.result c.goes_up.result c.requires.ready.there c.accept_signal-verdict.ensures.lines c.is_up-was_up.ensures c.is_up-is_up.ensures c.goes_up.ensures c.raise.ensures.entry) c.raise.ensures.entries
+    still_brought c.args.tables.now c.raise.new.tables line c.args.spool.now c.args.lines.now c.accept_signal-verdict.new.self
+    (accepted_on line.line came old) c.requires.ready (returns-clause-after c) c.raise.ensures.entries
     (accepted_stays c.streams_stay_tied.ensures.untouched line.line came old c.requires.ready.coherent)

@@ -44,7 +44,8 @@ steps c =
       in_table = t.ensures.entries;
       in_files = t.ensures.others;
       ready = t.ensures.ready;
-      marked = subst (λ (q : Part). IsMarked q.customer) (sym t.ensures.part) (c.marks_are_right.ensures.events p (OwnSignal c.args.signal c.args.line.line) (finds c).marked);
+      marked = subst (λ (q : Part). IsMarked q.customer) (sym t.ensures.part)
+          (c.marks_are_right.ensures.events p (OwnSignal c.args.signal c.args.line.line) (finds c).marked);
       count = t.ensures.count;
     }
 
@@ -53,12 +54,14 @@ abbrev after : (c : After-drop-out) → Part
 after c = let p = part c.args.line.customer c.args.self.now in (signal_taken p c.args.line.line c.args.signal).after
 
 leads : (c : After-drop-out)
-    → parts_of c.take_signal.new.tables c.take_signal.new.spool (slice_set c.self.inside.lines.items c.from.result c.take_signal.new.self)
+    → parts_of c.take_signal.new.tables c.take_signal.new.spool
+        (slice_set c.self.inside.lines.items c.from.result c.take_signal.new.self)
     ≡ slice_set c.args.self.now c.args.line.customer (after c)
 leads c =
     let t = c.take_signal in
     ap (λ (n : ℕ). parts_of t.new.tables t.new.spool (slice_set c.self.inside.lines.items n t.new.self)) c.from.ensures
-    ∙ step-leads (finds c) (steps c) (after c) (t.ensures.part ∙ ap (λ (p : Part). (signal_taken p c.args.line.line c.args.signal).after) (finds c).part_is)
+    ∙ step-leads (finds c) (steps c) (after c)
+        (t.ensures.part ∙ ap (λ (p : Part). (signal_taken p c.args.line.line c.args.signal).after) (finds c).part_is)
 
 pub invariant_of-self : goal.invariant_of-self
 invariant_of-self c =
@@ -73,9 +76,11 @@ returns c =
     record {
       hub = leads c;
       others = λ d apart. ap (part d) (leads c) ∙ others-stay c.args.self.now c.args.line.customer (after c) d apart;
-      frame = c.into_bytes.ensures.bytes ∙ t.ensures.frame ∙ ap (λ (p : Part). (signal_taken p c.args.line.line c.args.signal).frame) (finds c).part_is;
+      frame = c.into_bytes.ensures.bytes ∙ t.ensures.frame
+          ∙ ap (λ (p : Part). (signal_taken p c.args.line.line c.args.signal).frame) (finds c).part_is;
       lines = λ d. ap (λ (ps : List Part). length (part d ps).customer.lines) (leads c)
-          ∙ step-lines (finds c) (steps c) (after c) (t.ensures.part ∙ ap (λ (p : Part). (signal_taken p c.args.line.line c.args.signal).after) (finds c).part_is) d;
+          ∙ step-lines (finds c) (steps c) (after c)
+          (t.ensures.part ∙ ap (λ (p : Part). (signal_taken p c.args.line.line c.args.signal).after) (finds c).part_is) d;
       room = c.into_bytes.ensures.room;
       known = known;
       unknown = λ nowhere. absurd (nowhere known);

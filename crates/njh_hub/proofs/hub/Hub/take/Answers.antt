@@ -43,7 +43,8 @@ steps c =
       in_table = t.ensures.entries;
       in_files = t.ensures.others;
       ready = t.ensures.ready;
-      marked = subst (λ (q : Part). IsMarked q.customer) (sym t.ensures.part) (c.marks_are_right.ensures.takes p c.args.line.line c.args.piece.now (finds c).marked);
+      marked = subst (λ (q : Part). IsMarked q.customer) (sym t.ensures.part)
+          (c.marks_are_right.ensures.takes p c.args.line.line c.args.piece.now (finds c).marked);
       count = t.ensures.count;
     }
 
@@ -52,12 +53,14 @@ abbrev after : (c : After-drop-out) → Part
 after c = let p = part c.args.line.customer c.args.self.now in (bytes_taken p c.args.line.line c.args.piece.now).after
 
 leads : (c : After-drop-out)
-    → parts_of c.take_bytes-taken.new.tables c.take_bytes-taken.new.spool (slice_set c.self.inside.lines.items c.from.result c.take_bytes-taken.new.self)
+    → parts_of c.take_bytes-taken.new.tables c.take_bytes-taken.new.spool
+        (slice_set c.self.inside.lines.items c.from.result c.take_bytes-taken.new.self)
     ≡ slice_set c.args.self.now c.args.line.customer (after c)
 leads c =
     let t = c.take_bytes-taken in
     ap (λ (n : ℕ). parts_of t.new.tables t.new.spool (slice_set c.self.inside.lines.items n t.new.self)) c.from.ensures
-    ∙ step-leads (finds c) (steps c) (after c) (t.ensures.part ∙ ap (λ (p : Part). (bytes_taken p c.args.line.line c.args.piece.now).after) (finds c).part_is)
+    ∙ step-leads (finds c) (steps c) (after c)
+        (t.ensures.part ∙ ap (λ (p : Part). (bytes_taken p c.args.line.line c.args.piece.now).after) (finds c).part_is)
 
 pub invariant_of-self : goal.invariant_of-self
 invariant_of-self c =
@@ -76,9 +79,11 @@ returns-clause-step c =
     record {
       hub = leads c;
       others = λ d apart. ap (part d) (leads c) ∙ others-stay c.args.self.now c.args.line.customer (after c) d apart;
-      frame = c.into_bytes.ensures.bytes ∙ t.ensures.frame ∙ ap (λ (p : Part). (bytes_taken p c.args.line.line c.args.piece.now).frame) (finds c).part_is;
+      frame = c.into_bytes.ensures.bytes ∙ t.ensures.frame
+          ∙ ap (λ (p : Part). (bytes_taken p c.args.line.line c.args.piece.now).frame) (finds c).part_is;
       lines = λ d. ap (λ (ps : List Part). length (part d ps).customer.lines) (leads c)
-          ∙ step-lines (finds c) (steps c) (after c) (t.ensures.part ∙ ap (λ (p : Part). (bytes_taken p c.args.line.line c.args.piece.now).after) (finds c).part_is) d;
+          ∙ step-lines (finds c) (steps c) (after c)
+          (t.ensures.part ∙ ap (λ (p : Part). (bytes_taken p c.args.line.line c.args.piece.now).after) (finds c).part_is) d;
       room = c.into_bytes.ensures.room;
       known = known;
       unknown = λ nowhere. absurd (nowhere known);
