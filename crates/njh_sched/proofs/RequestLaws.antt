@@ -1,5 +1,5 @@
 -- A stream's request, and the files that were looked at for it.
-use Rattle.std.proofs.Common.{◌≡◌, ◌<◌, ℕ, ◌+◌, Bool, true, false, List, length, map, Option, Some, None, ◌==◌, cond}
+use Rattle.std.proofs.Common.{◌≡◌, ◌<◌, ℕ, ◌+◌, Bool, true, false, List, [], ◌∷◌, length, map, find, Option, Some, None, ◌==◌, cond}
 use Rattle.std.proofs.Common.{slice_get, option_map, IsSomeAnd, refl, sym, ap, ◌∙◌, arith, eq-eqb}
 use Rattle.std.proofs.lemmas.Option.{slice_get_within, slice_get-map}
 use Rattle.std.proofs.lemmas.List.{length-map}
@@ -10,8 +10,10 @@ use Rattle.njh_spool.specs.CustomerSpool.{CustomerSpool, WholeFile, with_state}
 use Rattle.njh_spool.specs.declared.State.TheVariants as state
 use Rattle.njh_stream.specs.Sending.{holds_of}
 use Rattle.njh_sched.specs.NextBlock.{Outlet, StreamRequest, HasPassed, may_go, may_ask, oldest, asking}
-use Rattle.njh_sched.specs.NextBlock.{after_source, after_candidate, filling}
+use Rattle.njh_sched.specs.NextBlock.{after_source, after_sources, after_candidate, filling}
 use Rattle.njh_sched.proofs.FileLists.{one_more, none_changed}
+use Rattle.njh_sched.proofs.SourceLists.{nothing_left}
+use Rattle.njh_sched.proofs.SourceLists as sources
 
 module _ (goes : WholeFile → Bool) (k : ℕ) (w : Writing) (o : Outlet) (s : CustomerSpool) where
   pub not_asked : may_ask o k ≡ false → after_source goes (StreamRequest k) (filling w o s) ≡ filling w o s
@@ -40,6 +42,28 @@ module _ (goes : WholeFile → Bool) (k : ℕ) (w : Writing) (o : Outlet) (s : C
       by_test true e
       ∙ ap (λ x. after_candidate (option_map (λ y. asking o s k y.number) x) (filling w o s)) is
       ∙ ap (λ m. after_candidate (Some (asking o s k m)) (filling w o s)) (sym number)
+
+  no_file : (b : Bool) → may_ask o k ≡ b → oldest goes (kind_of k) s ≡ None → after_source goes (StreamRequest k) (filling w o s)
+      ≡ filling w o s
+  no_file true e none = nothing_to_ask e none
+  no_file false e none = not_asked e
+
+-- where no file goes on any stream, none is asked for
+module _ (goes : WholeFile → Bool) (w : Writing) (o : Outlet) (s : CustomerSpool) where
+  none_asked : (ks : List ℕ) → ((k : ℕ) → oldest goes (kind_of k) s ≡ None) → after_sources goes (map StreamRequest ks) (filling w o s)
+      ≡ filling w o s
+  none_asked [] none = nothing_left goes (filling w o s)
+  none_asked (k ∷ ks) none =
+      sources.one_more goes (StreamRequest k) (map StreamRequest ks) (filling w o s) (filling w o s)
+      (no_file goes k w o s (may_ask o k) refl (none k)) ∙ none_asked ks none
+
+  -- and so where there is none
+  pub no_files : (ks : List ℕ) → length s.whole ≡ 0 → after_sources goes (map StreamRequest ks) (filling w o s) ≡ filling w o s
+  no_files ks e = none_asked ks (λ k. none_of (may_go goes (kind_of k)) s.whole e)
+    where
+      none_of : (p : WholeFile → Bool) (fs : List WholeFile) → length fs ≡ 0 → find p fs ≡ None
+      none_of p [] e = refl
+      none_of p (f ∷ fs) e = absurd (cc e)
 
 -- a file that was asked for is Sending, and is passed too
 module _ (goes : WholeFile → Bool) (kind : Kind) (n : ℕ) where

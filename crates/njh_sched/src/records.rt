@@ -18,7 +18,7 @@ use njh_stream::Sender;
 fn may_send<L: Outgoing>(stream: Stream, line: &L) -> bool
     ensures { result ≡ may_send (L.outlet line.now) stream }
 {
-    line.peer().is_on(stream) && matches!(line.sender(stream), Sender::Sending(_, _))
+    matches!(line.sender(stream), Sender::Sending(_, _)) && line.peer().is_on(stream)
 }
 
 /// The stream whose turn it is.
@@ -70,7 +70,7 @@ fn add_record<L: Outgoing>(
 }
 
 /// Adds records and ends of file of the streams in turn, until one has no room, and says whether all had.
-pub fn add_records<L: Outgoing>(
+fn add_turns<L: Outgoing>(
     line: &mut L,
     customer: u16,
     spool: &mut Spool,
@@ -91,4 +91,24 @@ pub fn add_records<L: Outgoing>(
         }
     }
     true
+}
+
+/// As `add_turns`, which makes room for a record, where a stream may send one.
+pub fn add_records<L: Outgoing>(
+    line: &mut L,
+    customer: u16,
+    spool: &mut Spool,
+    writer: &mut BlockWriter,
+) -> bool
+    requires { customer < length spool.old }
+    ensures source { (goes : WholeFile → Bool) → after_sources goes (turns writer.old.limit)
+        (filling writer.old (L.outlet line.old) (part customer spool.old))
+        ≡ filling_where result writer.new (L.outlet line.new) (part customer spool.old) }
+    ensures spool { spool.new ≡ spool.old }
+    ensures rest { L.rest line.new ≡ L.rest line.old }
+{
+    match next_served(line) {
+        Some(_) => add_turns(line, customer, spool, writer),
+        None => true,
+    }
 }

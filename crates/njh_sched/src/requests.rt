@@ -127,7 +127,7 @@ fn add_requests_of<L: Outgoing>(
     true
 }
 
-/// Adds the streams' requests, until one has no room, and says whether all had.
+/// Adds the streams' requests, until one has no room, and says whether all had. Where the customer has no files no stream is looked at.
 pub fn add_requests<L: Outgoing>(
     id: LineId,
     entry: &Customer,
@@ -142,6 +142,9 @@ pub fn add_requests<L: Outgoing>(
     ensures spool { spool.new ≡ slice_set spool.old id.customer (part id.customer spool.new) }
     ensures rest { L.rest line.new ≡ L.rest line.old }
 {
+    if spool.files(id.customer) == 0 {
+        return true;
+    }
     if add_requests_of(Kind::In, id, entry, line, spool, writer) {
         add_requests_of(Kind::Out, id, entry, line, spool, writer)
     } else {

@@ -1,12 +1,19 @@
-use Rattle.std.proofs.Common.{◌∙◌, ap}
+use Rattle.std.proofs.Common.{◌≡◌, ◌∙◌, ap, length, arith}
 use Rattle.njh_record.specs.declared.Kind.TheVariants.{In, Out}
 use Rattle.njh_spool.specs.Spools.{part}
 use Rattle.njh_stream.specs.Sending.{goes_by}
 use Rattle.njh_table.specs.TableFile.{entry_of}
-use Rattle.njh_sched.specs.NextBlock.{after_sources, filling, filling_where, requests_of}
+use Rattle.njh_sched.specs.NextBlock.{after_sources, filling, filling_where, requests_of, streams}
+use Rattle.njh_sched.proofs.RequestLaws.{no_files}
 use Rattle.njh_sched.proofs.SourceLists.{both_kinds, one_behind_others, full_stays}
 use Rattle.njh_sched.proofs.SpoolLaws.{moved_on}
 use Rattle.njh_sched.proofs.requests.add_requests.Goals as goal
+
+pub returns-then-files-eq0-clause-source : goal.returns-then-files-eq0-clause-source
+returns-then-files-eq0-clause-source g c =
+    let none : length (part c.args.id.customer c.args.spool.now).whole ≡ 0 = omega (arith, c.files.ensures) in
+    no_files (goes_by (entry_of c.args.entry.now) c.args.id.line) c.args.writer.now (g.L.Outgoing.outlet c.args.line.now)
+    (part c.args.id.customer c.args.spool.now) streams none
 
 pub returns-then-add_requests_of-clause-source : goal.returns-then-add_requests_of-clause-source
 returns-then-add_requests_of-clause-source g c =

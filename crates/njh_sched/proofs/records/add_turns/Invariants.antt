@@ -2,7 +2,7 @@ use Rattle.std.proofs.Common.{◌≡◌, ◌+◌, Bool}
 use Rattle.njh_spool.specs.CustomerSpool.{WholeFile}
 use Rattle.njh_spool.specs.Spools.{part}
 use Rattle.njh_sched.specs.NextBlock.{after_sources, filling, room_of, turns}
-use Rattle.njh_sched.proofs.records.add_records.Given as goal
+use Rattle.njh_sched.proofs.records.add_turns.Given as goal
 
 abbrev pub invariant-loop-stream : goal.invariant-loop-stream
 invariant-loop-stream g l = record {
