@@ -13,6 +13,7 @@ mod peers;
 mod random_runs;
 mod route_lines;
 mod scripts;
+mod soak;
 mod steps;
 mod streams;
 
@@ -34,7 +35,8 @@ fn tried<R: Files + Net + Print + AllocGlobal>(rt: &R) -> Result<(), Failure> {
     steps::keep(rt)?;
     new_routes::refuse(rt)?;
     route_lines::try_each(rt)?;
-    steps::refuse(rt)
+    steps::refuse(rt)?;
+    soak::run_all(rt)
 }
 
 fn main(rt: HostRuntime) -> ExitCode {
