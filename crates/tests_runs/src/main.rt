@@ -15,6 +15,7 @@ mod random_runs;
 mod route_lines;
 mod scripts;
 mod second_lines;
+mod soak;
 mod steps;
 mod streams;
 
@@ -36,7 +37,8 @@ fn tried<R: Files + Net + Print + AllocGlobal>(rt: &R) -> Result<(), Failure> {
     steps::keep(rt)?;
     new_routes::refuse(rt)?;
     route_lines::try_each(rt)?;
-    steps::refuse(rt)
+    steps::refuse(rt)?;
+    soak::run_all(rt)
 }
 
 fn main(rt: HostRuntime) -> ExitCode {

@@ -1,6 +1,6 @@
 //! What a bad line does to bytes.
 
-use crate::numbers::Numbers;
+use crate::peers::Numbers;
 use std::alloc::AllocError;
 
 /// Changes, drops or adds bytes, once to three times.

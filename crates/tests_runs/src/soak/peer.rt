@@ -1,9 +1,9 @@
 //! The other end of a line, and what it sends.
 
-use crate::counts::{Count, Counts};
-use crate::damage::damage;
-use crate::numbers::Numbers;
-use crate::records::{
+use crate::peers::Numbers;
+use crate::soak::counts::{Count, Counts};
+use crate::soak::damage::damage;
+use crate::soak::records::{
     DATA, DATA_SET_HEADER, JOB_HEADER, TRAILER, data_set_header, job_header, message, node_of,
     put_record, put_text, some_data,
 };

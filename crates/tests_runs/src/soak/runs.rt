@@ -1,21 +1,17 @@
 //! Runs at random, and what has to hold at the end of each.
 
-use crate::bench::{Bench, Seen, add_one};
-use crate::counts::Count;
-use crate::peer::{Peer, Phase};
+use crate::soak::bench::{Bench, Seen, add_one};
+use crate::soak::counts::Count;
+use crate::soak::peer::{Peer, Phase};
+use crate::steps::of_hub;
 use njh_hub::{Event, FileView, Hub, HubFault};
-use njh_program::{Failure, ReplayFault};
+use njh_program::Failure;
 use njh_spool::State;
 use njh_table::{LineId, Tables};
 use std::alloc::{AllocError, Global};
 
 /// More events than contact and sign-on need.
 const MOST_TO_BEGIN: u32 = 8;
-
-/// The program's failure for a fault of the hub.
-fn of_hub(fault: HubFault) -> Failure {
-    Failure::from(ReplayFault::from(fault))
-}
 
 /// The other end of each line. How bad the lines are goes by the seed.
 fn peers_of(alloc: Global, tables: &Tables, seed: u64) -> Result<Vec<Peer>, AllocError> {

@@ -1,8 +1,8 @@
 //! What a peer makes of the hub's frames.
 
-use crate::counts::{Count, Counts};
-use crate::numbers::Numbers;
-use crate::peer::{Peer, Phase, STREAMS, Stage};
+use crate::peers::Numbers;
+use crate::soak::counts::{Count, Counts};
+use crate::soak::peer::{Peer, Phase, STREAMS, Stage};
 use std::alloc::{AllocError, Global};
 
 /// The data of a text, each doubled DLE once.

@@ -1,8 +1,8 @@
 //! A hub that is tried, step by step, and what is seen of it.
 
-use crate::counts::{Count, Counts};
-use crate::numbers::Numbers;
-use crate::peer::Peer;
+use crate::peers::Numbers;
+use crate::soak::counts::{Count, Counts};
+use crate::soak::peer::Peer;
 use njh_hub::{Event, Hub, HubFault};
 use njh_table::{LineId, Tables};
 use std::alloc::{AllocError, Global};

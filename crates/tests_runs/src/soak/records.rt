@@ -1,6 +1,6 @@
 //! The records that peers send: headers, data, commands.
 
-use crate::numbers::Numbers;
+use crate::peers::Numbers;
 use std::alloc::{AllocError, Global};
 
 /// The nodes of a customer's lines, in the lines' order, each as a field.
