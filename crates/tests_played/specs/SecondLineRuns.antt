@@ -39,8 +39,8 @@ acme_of_three_lines = record acme {
 abbrev both_are_up : List Turn
 both_are_up = file_is_ready ++ on a3 enquiry ack0 ∷ on a3 metz_signs_on bureau_signs_on ∷ on a3 ack0 [] ∷ []
 
--- When the first line is lost the second asks for the file, and sends it to its end though the first comes back; a message that comes
--- then is for the first.
+-- When the first line is lost the second asks for the file, and sends it to its end though the first comes back; a
+-- message that comes then is for the first.
 file_goes_by_the_second_line :
     Plays acme_of_three_lines
     (both_are_up
@@ -58,8 +58,8 @@ file_goes_by_the_second_line :
 unfolding Plays
 file_goes_by_the_second_line = refl
 
--- METZ refuses the file on its first line. When that is lost the file is Ready, since it went by that line until then, and the second asks for
--- it at once.
+-- METZ refuses the file on its first line. When that is lost the file is Ready, since it went by that line until then,
+-- and the second asks for it at once.
 refused_file_goes_by_the_second_line :
     Plays acme_of_three_lines
     (both_are_up

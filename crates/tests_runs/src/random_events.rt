@@ -1,5 +1,5 @@
-//! What comes to two customers at random: bytes and signals on their lines, and other routes now and then. METZ has a second line by
-//! ACME's table.
+//! What comes to two customers at random: bytes and signals on their lines, and other routes now and then. METZ has a
+//! second line by ACME's table.
 
 use crate::new_routes::route_by;
 use crate::peers::{Numbers, Peer, bytes_at};
@@ -19,13 +19,14 @@ const BOLT: u16 = 1;
 /// How many times each customer's peers act, or it is given routes.
 const ACTS: u32 = 80;
 
-/// The customers' lines, each with the place of its peer's sign-on: ACME's are of LYON, METZ and METZ, BOLT's of LYON and PARIS.
+/// The customers' lines, each with the place of its peer's sign-on: ACME's are of LYON, METZ and METZ, BOLT's of LYON
+/// and PARIS.
 const OWN_LINES: [(u16, usize); 3] = [(0, 0), (1, 1), (2, 1)];
 
 const OTHER_LINES: [(u16, usize); 2] = [(0, 0), (1, 2)];
 
-/// The lists of records that blocks may have, and the sign-ons of the peers: hex, a line each. Of each customer some routes, no two of a
-/// node beside each other.
+/// The lists of records that blocks may have, and the sign-ons of the peers: hex, a line each. Of each customer some
+/// routes, no two of a node beside each other.
 #[derive(Drop)]
 pub struct Texts {
     records: Vec<Vec<u8>>,

@@ -191,7 +191,8 @@ fn compare_all(alloc: Global, both: &str, one: &str, texts: &Texts) -> Result<Fo
     Ok(found)
 }
 
-/// Runs all pairs, and ACME alone, and says how many aren't alike; whether files were left in most; and what ACME's second line came to.
+/// Runs all pairs, and ACME alone, and says how many aren't alike; whether files were left in most; and what these runs
+/// reach of ACME's second line.
 pub fn compare<R: Files + Print + AllocGlobal>(rt: &R) -> Result<(), Failure> {
     let both = fs::read_to_string(rt, "second_line.toml")?;
     let one = fs::read_to_string(rt, "second_line_alone.toml")?;

@@ -1,4 +1,5 @@
-//! What the random runs reach of METZ's second line: ACME by itself, an event at a time.
+//! What the random runs reach of METZ's second line: ACME by itself, an event at a time. The counts in `stdout` are
+//! those of a run, not written by hand.
 
 use crate::random_events::{Texts, own_events};
 use crate::random_runs::{PAIRS, nothing_kept, of_cause};
