@@ -10,7 +10,7 @@ use crate::fcs::Fcs;
 use crate::out::Out;
 use crate::rcb::{END, GENERAL, OWN_ZERO};
 use arrayvec::ArrayVec;
-use njh_record::{ABORT, put_bytes, spell, spelled_len};
+use njh_record::{ABORT, add_spelling, put_bytes, spelled_len};
 use std::marker::Model;
 
 /// The text of a block: at most 4,096 bytes.
@@ -71,10 +71,8 @@ fn put_record(text: &mut BlockText, out: Out<'_>)
 {
     match out {
         Out::Data { rcb, srcb, bytes } => {
-            let mut spelling = ArrayVec::new();
-            spell(bytes, &mut spelling);
             put_bytes(text, &[rcb.byte, srcb]);
-            put_bytes(text, &spelling);
+            add_spelling(bytes, text);
         }
         Out::Abort { rcb, srcb } => put_bytes(text, &[rcb.byte, srcb, ABORT]),
         Out::Control { rcb, srcb } => put_bytes(text, &[rcb.byte(), srcb, OWN_ZERO]),

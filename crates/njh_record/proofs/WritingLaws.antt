@@ -227,39 +227,37 @@ some-spelling_of bytes = (bounded bytes).some
 pub length-spelling_of-record : (bytes : List ℕ) → length bytes ≤ 256 → length (spelling_of bytes) ≤ 262
 length-spelling_of-record bytes le = omega (arith, length-spelling_of bytes)
 
--- ---- as the code writes it: what is written so far, and then the spelling of the rest
+-- ---- as the code writes it: what is written so far, and then the spelling of the rest, is the whole
 
-pub spelling_of-step : (out rest bytes : List ℕ) (item : Item) (after : List ℕ) → 0 < length rest → item ≡ first_item rest
-    → after ≡ drop (length (added item)) rest → out ++ spelling_of rest ≡ spelling_of bytes →
-    (out ++ item_bytes item) ++ spelling_of after ≡ spelling_of bytes
-spelling_of-step out [] bytes item after some is left so_far = absurd (omega arith)
-spelling_of-step out (byte ∷ rest) bytes item after some is left so_far =
+pub spelling_of-step : (out rest whole : List ℕ) (item : Item) (after : List ℕ) → 0 < length rest → item ≡ first_item rest
+    → after ≡ drop (length (added item)) rest → out ++ spelling_of rest ≡ whole → (out ++ item_bytes item) ++ spelling_of after ≡ whole
+spelling_of-step out [] whole item after some is left so_far = absurd (omega arith)
+spelling_of-step out (byte ∷ rest) whole item after some is left so_far =
     rw (left, is, append_assoc, ← spelling_of-cons byte rest) so_far
 
-pub spelling_of-room : (out rest bytes : List ℕ) (item : Item) → 0 < length rest → item ≡ first_item rest → length bytes ≤ 256
-    → out ++ spelling_of rest ≡ spelling_of bytes → length out + length (item_bytes item) ≤ 262
-spelling_of-room out rest bytes item some is short so_far =
-    let next = spelling_of-step out rest bytes item (drop (length (added item)) rest) some is refl so_far in
+pub spelling_of-room : (out rest whole : List ℕ) (item : Item) (most : ℕ) → 0 < length rest → item ≡ first_item rest
+    → length whole ≤ most → out ++ spelling_of rest ≡ whole → length out + length (item_bytes item) ≤ most
+spelling_of-room out rest whole item most some is short so_far =
+    let next = spelling_of-step out rest whole item (drop (length (added item)) rest) some is refl so_far in
     omega (
       arith,
-      length-spelling_of-record bytes short,
+      short,
       ap length next,
       length-append (out ++ item_bytes item)
           (spelling_of (drop (length (added item)) rest)),
       length-append out (item_bytes item),
     )
 
-pub spelling_of-done : (out rest bytes : List ℕ) → length rest ≡ 0 → out ++ spelling_of rest ≡ spelling_of bytes
-    → out ++ 0 ∷ [] ≡ spelling_of bytes
-spelling_of-done out [] bytes done so_far = ap (λ (b : List ℕ). out ++ b) (sym spelling_of-nil) ∙ so_far
-spelling_of-done out (byte ∷ rest) bytes done so_far = absurd (omega arith)
+pub spelling_of-done : (out rest whole : List ℕ) → length rest ≡ 0 → out ++ spelling_of rest ≡ whole → out ++ 0 ∷ [] ≡ whole
+spelling_of-done out [] whole done so_far = ap (λ (b : List ℕ). out ++ b) (sym spelling_of-nil) ∙ so_far
+spelling_of-done out (byte ∷ rest) whole done so_far = absurd (omega arith)
 
 -- the same, counted
 
 pub length-spelling_of-step : (rest : List ℕ) (item : Item) (after : List ℕ) → 0 < length rest → item ≡ first_item rest
     → after ≡ drop (length (added item)) rest → length (item_bytes item) + length (spelling_of after) ≡ length (spelling_of rest)
 length-spelling_of-step rest item after some is left =
-    sym (length-append (item_bytes item) (spelling_of after)) ∙ ap length (spelling_of-step [] rest rest item after some is left refl)
+    sym (length-append (item_bytes item) (spelling_of after)) ∙ ap length (spelling_of-step [] rest (spelling_of rest) item after some is left refl)
 
 pub length-spelling_of-done : (rest : List ℕ) → length rest ≡ 0 → length (spelling_of rest) ≡ 1
-length-spelling_of-done rest done = sym (ap length (spelling_of-done [] rest rest done refl))
+length-spelling_of-done rest done = sym (ap length (spelling_of-done [] rest (spelling_of rest) done refl))

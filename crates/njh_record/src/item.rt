@@ -4,8 +4,9 @@ ghost use Rattle.std.specs.Prelude.{◌≡◌, ◌+◌, ◌≤◌, ◌++◌, len
 ghost use Rattle.njh_record.specs.Spelling.{added, item_bytes, IsItem};
 ghost use Rattle.njh_record.specs.Parts.{item_of, IsCounted, Takes};
 
+use crate::Record;
 use crate::scb::{BLANK, BLANKS, LITERAL, LONGEST_RUN, REPEAT};
-use crate::{Record, Spelled};
+use arrayvec::ArrayVec;
 
 /// What one string control byte and the bytes that belong to it say.
 #[derive(Clone, Copy)]
@@ -42,9 +43,9 @@ impl Item<'_> {
     }
 
     /// Writes it behind what `out` has.
-    pub fn put(self, out: &mut Spelled)
+    pub fn put<const N: usize>(self, out: &mut ArrayVec<u8, N>)
         requires item { IsItem (item_of self) }
-        requires room { length out.old.items + length (item_bytes (item_of self)) ≤ 263 }
+        requires room { length out.old.items + length (item_bytes (item_of self)) ≤ N }
         ensures { out.new.items ≡ out.old.items ++ item_bytes (item_of self.entry) }
     {
         match self {

@@ -18,7 +18,7 @@ pub use laws::{
 pub use reading::unspell;
 pub use scb::ABORT;
 use thiserror::Error;
-pub use writing::{spell, spelled_len};
+pub use writing::{add_spelling, spell, spelled_len};
 
 /// The bytes of one record, at most 256.
 pub type Record = ArrayVec<u8, 256>;

@@ -1,13 +1,15 @@
 //! Writing: from a record to the one spelling that is written of it.
 
-ghost use Rattle.std.specs.Prelude.{◌≡◌, ◌≤◌, ◌<◌, false, length, take};
+ghost use Rattle.std.specs.Prelude.{◌≡◌, ◌+◌, ◌≤◌, ◌<◌, ◌++◌, false, length, take};
 ghost use Rattle.njh_record.specs.Parts.{item_of};
 ghost use Rattle.njh_record.specs.Writing.{run_of, is_run, begins_run, before_run, run_item, first_item, spelling_of};
 ghost use Rattle.njh_record.specs.Written.{AreApart, NoRunBefore, SpellsFront};
 
 use crate::Spelled;
 use crate::item::Item;
+use crate::laws::spelling_bounds;
 use crate::scb::{BLANK, END_OF_RECORD, LONGEST_LITERAL, LONGEST_RUN};
+use arrayvec::ArrayVec;
 use std::simd::prelude::*;
 
 /// How many bytes equal to the first stand at the front, 31 at most.
@@ -130,7 +132,16 @@ pub fn spell(contents: &[u8], out: &mut Spelled)
     ensures spelling { out.new.items ≡ spelling_of contents.now }
     ensures len { length out.new.items ≤ 262 }
 {
+    spelling_bounds();
     out.clear();
+    add_spelling(contents, out);
+}
+
+/// Writes the spelling that `spell` writes, behind what `out` holds.
+pub fn add_spelling<const N: usize>(contents: &[u8], out: &mut ArrayVec<u8, N>)
+    requires { length out.old.items + length (spelling_of contents.now) ≤ N }
+    ensures { out.new.items ≡ out.old.items ++ spelling_of contents.now }
+{
     let mut rest = contents;
     while !rest.is_empty() {
         let item = first_item(rest);
