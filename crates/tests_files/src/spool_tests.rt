@@ -1,10 +1,10 @@
-//! Worked examples, files over many blocks, each call with its answers, and the faults' texts.
+//! Worked examples, files over many blocks, and each call with its answers.
 
 mod calls;
 mod playing;
 
-use njh_spool::SpoolFault;
-use playing::{Bench, play};
+use njh_spool::{FileId, Spool};
+use playing::{goes, opened, play};
 use std::alloc::Global;
 use std::process::Abort;
 use std::test::Fail;
@@ -235,44 +235,37 @@ fn calls_on_each_file(rt: HostRuntime) -> Result<(), Fail> {
 
 #[test]
 fn a_file_takes_the_most_blocks(rt: HostRuntime) -> Result<(), Fail> {
-    let mut bench = Bench::open(&rt, rt.alloc(), "65535 1 1")?;
-    fill(&rt, rt.alloc(), &mut bench)
+    let mut spool = opened(&rt, rt.alloc(), "65535 1 1")?;
+    fill(&rt, rt.alloc(), &mut spool, &mut Vec::new(rt.alloc()))
 }
 
-fn fill<R: Abort>(rt: &R, alloc: Global, bench: &mut Bench) -> Result<(), Fail> {
-    bench.goes(rt, alloc, "0 begin_out = 0")?;
+fn fill<R: Abort>(
+    rt: &R,
+    alloc: Global,
+    spool: &mut Spool,
+    files: &mut Vec<FileId>,
+) -> Result<(), Fail> {
+    goes(rt, alloc, spool, files, "0 begin_out = 0")?;
     for _ in 0..65_535 {
-        bench.goes(rt, alloc, "0 append 0 249 197")?;
+        goes(rt, alloc, spool, files, "0 append 0 249 197")?;
     }
-    bench.goes(rt, alloc, "0 append 0 0 0 = S1 QuotaFull")?;
-    bench.goes(rt, alloc, "0 finish 0")?;
+    goes(rt, alloc, spool, files, "0 append 0 0 0 = S1 QuotaFull")?;
+    goes(rt, alloc, spool, files, "0 finish 0")?;
     for n in 0..65_535 {
-        read_filled(rt, alloc, bench, n)?;
+        read_filled(rt, alloc, spool, files, n)?;
     }
-    bench.goes(rt, alloc, "0 used = 65535")?;
-    bench.goes(rt, alloc, "0 remove 0")?;
-    bench.goes(rt, alloc, "0 used = 0")
+    goes(rt, alloc, spool, files, "0 used = 65535")?;
+    goes(rt, alloc, spool, files, "0 remove 0")?;
+    goes(rt, alloc, spool, files, "0 used = 0")
 }
 
-fn read_filled<R: Abort>(rt: &R, alloc: Global, bench: &mut Bench, n: u32) -> Result<(), Fail> {
+fn read_filled<R: Abort>(
+    rt: &R,
+    alloc: Global,
+    spool: &mut Spool,
+    files: &mut Vec<FileId>,
+    n: u32,
+) -> Result<(), Fail> {
     let line = format!(in alloc; "0 on 0 {n} = 80 c5*249")?;
-    bench.goes(rt, alloc, line.as_str())
-}
-
-#[test]
-fn faults_have_texts(rt: HostRuntime) -> Result<(), Fail> {
-    let mut texts = String::new(rt.alloc());
-    for fault in [
-        SpoolFault::QuotaFull,
-        SpoolFault::TooManyFiles,
-        SpoolFault::NoSuchFile,
-        SpoolFault::Memory,
-    ] {
-        texts.push_str(format!(in rt.alloc(); "{fault}\n")?.as_str())?;
-    }
-    assert_eq!(rt;
-        texts.as_str(),
-        "S1 QuotaFull\nS2 TooManyFiles\nS3 NoSuchFile\nS4 Memory\n"
-    );
-    Ok(())
+    goes(rt, alloc, spool, files, line.as_str())
 }

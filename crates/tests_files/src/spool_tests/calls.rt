@@ -74,9 +74,14 @@ pub fn state<R: Abort>(
     spool: &Spool,
     customer: u16,
     id: FileId,
-) -> Result<State, SpoolFault> {
+) -> Result<&'static str, SpoolFault> {
     assert!(rt; customer < spool.customers());
-    spool.state(customer, id)
+    match spool.state(customer, id)? {
+        State::Ready => Ok("Ready"),
+        State::Held => Ok("Held"),
+        State::Refused => Ok("Refused"),
+        State::Sending => Ok("Sending"),
+    }
 }
 
 pub fn kind<R: Abort>(
@@ -84,9 +89,12 @@ pub fn kind<R: Abort>(
     spool: &Spool,
     customer: u16,
     id: FileId,
-) -> Result<Kind, SpoolFault> {
+) -> Result<&'static str, SpoolFault> {
     assert!(rt; customer < spool.customers());
-    spool.kind(customer, id)
+    match spool.kind(customer, id)? {
+        Kind::In => Ok("In"),
+        Kind::Out => Ok("Out"),
+    }
 }
 
 pub fn records<R: Abort>(

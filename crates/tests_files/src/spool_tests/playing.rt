@@ -1,6 +1,7 @@
 //! Cases of calls with what they give.
 
 use super::calls;
+use crate::same::is_same;
 use njh_record::{Kind, Record};
 use njh_spool::{FileId, Quota, Spool, SpoolFault, State};
 use std::alloc::Global;
@@ -19,50 +20,20 @@ pub fn play<R: Abort>(rt: &R, alloc: Global, cases: &str) -> Result<(), Fail> {
 
 fn play_case<R: Abort>(rt: &R, alloc: Global, case: &str) -> Result<(), Fail> {
     let (head, lines) = case.split_once("\n").ok_or("an empty case")?;
-    let mut bench = Bench::open(rt, alloc, head)?;
-    bench.go(rt, alloc, lines)
+    let mut spool = opened(rt, alloc, head)?;
+    go(rt, alloc, &mut spool, &mut Vec::new(alloc), lines)
 }
 
-/// A spool, and the numbers of files: each stands where it was first given.
-#[derive(Drop)]
-pub struct Bench {
-    spool: Spool,
-    files: Vec<FileId>,
+/// A spool of two customers, by the first line of a case.
+pub fn opened<R: Abort>(rt: &R, alloc: Global, head: &str) -> Result<Spool, Fail> {
+    let mut words = head.split(" ");
+    let first = number(words.next())?;
+    let second = number(words.next())?;
+    let files = number(words.next())?;
+    Ok(open(rt, alloc, first, second, files)?)
 }
 
-impl Bench {
-    /// A spool of two customers.
-    pub fn open<R: Abort>(rt: &R, alloc: Global, head: &str) -> Result<Self, Fail> {
-        let mut words = head.split(" ");
-        let first = number(words.next())?;
-        let second = number(words.next())?;
-        let files = number(words.next())?;
-        Ok(Bench {
-            spool: opened(rt, alloc, first, second, files)?,
-            files: Vec::new(alloc),
-        })
-    }
-
-    /// The lines of a case.
-    fn go<R: Abort>(&mut self, rt: &R, alloc: Global, lines: &str) -> Result<(), Fail> {
-        for line in lines.lines() {
-            self.goes(rt, alloc, line)?;
-        }
-        Ok(())
-    }
-
-    /// A line of a case: a customer, a call, the place of a file's number and two numbers more where the call has any, and behind `=`
-    /// what is given.
-    pub fn goes<R: Abort>(&mut self, rt: &R, alloc: Global, line: &str) -> Result<(), Fail> {
-        let (what, want) = line.split_once(" = ").unwrap_or((line, "done"));
-        let words = words_of(what)?;
-        let found = given(rt, alloc, &mut self.spool, &mut self.files, words)?;
-        assert_eq!(rt; found.as_str(), want, "{line}");
-        Ok(())
-    }
-}
-
-fn opened<R: Abort>(
+fn open<R: Abort>(
     rt: &R,
     alloc: Global,
     first: u32,
@@ -80,6 +51,35 @@ fn opened<R: Abort>(
     assert!(rt; first.is_within_limits());
     assert!(rt; second.is_within_limits());
     Spool::open(alloc, &[first, second])
+}
+
+/// The lines of a case. The numbers of files stand in `files` in the order in which they were first given.
+fn go<R: Abort>(
+    rt: &R,
+    alloc: Global,
+    spool: &mut Spool,
+    files: &mut Vec<FileId>,
+    lines: &str,
+) -> Result<(), Fail> {
+    for line in lines.lines() {
+        goes(rt, alloc, spool, files, line)?;
+    }
+    Ok(())
+}
+
+/// A line of a case: a customer, a call, the place of a file's number and two numbers more where the call has any, and behind `=`
+/// what is given.
+pub fn goes<R: Abort>(
+    rt: &R,
+    alloc: Global,
+    spool: &mut Spool,
+    files: &mut Vec<FileId>,
+    line: &str,
+) -> Result<(), Fail> {
+    let (what, want) = line.split_once(" = ").unwrap_or((line, "done"));
+    let found = given(rt, alloc, spool, files, words_of(what)?)?;
+    is_same(rt, found.as_str(), want, line);
+    Ok(())
 }
 
 fn number(word: Option<&str>) -> Result<u32, Fail> {
@@ -174,8 +174,8 @@ fn given_of_file<R: Abort>(
     (n, more): (u32, u32),
 ) -> Result<String, Fail> {
     match call {
-        "kind" => told(alloc, calls::kind(rt, spool, customer, id).map(kind_name)),
-        "state" => told(alloc, calls::state(rt, spool, customer, id).map(state_name)),
+        "kind" => told(alloc, calls::kind(rt, spool, customer, id)),
+        "state" => told(alloc, calls::state(rt, spool, customer, id)),
         "records" => told(alloc, calls::records(rt, spool, customer, id)),
         "at" => read(alloc, calls::at(rt, spool, customer, id, n)),
         "on" => read(alloc, calls::on(rt, spool, customer, id, n)),
@@ -212,22 +212,6 @@ fn state_in(call: &str) -> Result<State, Fail> {
         "refuse" => Ok(State::Refused),
         "send" => Ok(State::Sending),
         _ => Err("no such call".into()),
-    }
-}
-
-fn state_name(state: State) -> &'static str {
-    match state {
-        State::Ready => "Ready",
-        State::Held => "Held",
-        State::Refused => "Refused",
-        State::Sending => "Sending",
-    }
-}
-
-fn kind_name(kind: Kind) -> &'static str {
-    match kind {
-        Kind::In => "In",
-        Kind::Out => "Out",
     }
 }
 

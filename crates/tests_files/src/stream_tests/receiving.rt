@@ -4,6 +4,7 @@ use super::bench::Bench;
 use super::bytes::bytes_of;
 use super::cases;
 use super::playing::play;
+use crate::same::is_same;
 use njh_block::Stream;
 use njh_header::MessageText;
 use njh_stream::{Arrival, Receiver, Step};
@@ -68,7 +69,7 @@ pub fn is_wanted<R: Abort>(
     line: &str,
 ) -> Result<(), Fail> {
     let wanted = wanted(alloc, want)?;
-    assert_eq!(rt; found, wanted.as_str(), "{line}");
+    is_same(rt, found, wanted.as_str(), line);
     Ok(())
 }
 

@@ -1,6 +1,7 @@
 //! Each fault, by a change of the base tables; and files with two faults, of which the walk's first is told.
 
 use super::*;
+use crate::same::is_same;
 use std::process::Abort;
 use std::test::Fail;
 
@@ -132,7 +133,7 @@ fn comes<R: Abort>(rt: &R, alloc: Global, case: &str) -> Result<(), Fail> {
     let (want, changes) = case.split_once(": ").ok_or("a case without :")?;
     let text = changed(alloc, changes)?;
     let found = outcome(alloc, text.as_str())?;
-    assert_eq!(rt; found.as_str(), want, "{case}");
+    is_same(rt, found.as_str(), want, case);
     Ok(())
 }
 
@@ -149,14 +150,5 @@ fn what_comes_of_two_changes(rt: HostRuntime) -> Result<(), Fail> {
     for case in TWO.trim().lines() {
         comes(&rt, rt.alloc(), case)?;
     }
-    Ok(())
-}
-
-#[test]
-fn want_of_memory_is_printed(rt: HostRuntime) -> Result<(), Fail> {
-    assert_eq!(rt;
-        TableFault::Memory.to_string(rt.alloc())?.as_str(),
-        "K9 Memory"
-    );
     Ok(())
 }

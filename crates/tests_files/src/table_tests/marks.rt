@@ -1,6 +1,7 @@
 //! The marks of lines as up: which of them a step changes.
 
 use super::*;
+use crate::same::is_same;
 use njh_table::{Customer, LineId};
 use std::process::Abort;
 use std::test::Fail;
@@ -63,7 +64,7 @@ fn take<R: Abort>(rt: &R, alloc: Global, tables: &mut Tables, case: &str) -> Res
     let (what, want) = case.split_once(" = ").ok_or("a step without =")?;
     step(tables, what)?;
     let found = text_of(alloc, tables)?;
-    assert_eq!(rt; found.trim(), want, "{case}");
+    is_same(rt, found.trim(), want, case);
     Ok(())
 }
 

@@ -1,6 +1,7 @@
 //! New routes for a customer while the hub runs: which it may have, and what it has then.
 
 use super::*;
+use crate::same::is_same;
 use njh_table::{Customer, LineId, RouteEntry};
 use std::process::Abort;
 use std::test::Fail;
@@ -127,7 +128,7 @@ fn comes<R: Abort>(rt: &R, alloc: Global, case: &str) -> Result<(), Fail> {
     let routes = routes_of(alloc, routes)?;
     let mut tables = with_a2(alloc)?;
     let found = given(alloc, &mut tables, &routes)?;
-    assert_eq!(rt; found.trim(), want, "{case}");
+    is_same(rt, found.trim(), want, case);
     Ok(())
 }
 
@@ -139,12 +140,27 @@ fn what_comes_of_new_routes(rt: HostRuntime) -> Result<(), Fail> {
     Ok(())
 }
 
+/// What comes of so many routes for the first customer.
+fn comes_of_many<R: Abort>(
+    rt: &R,
+    alloc: Global,
+    tables: &mut Tables,
+    count: u32,
+    want: Result<(), TableFault>,
+) -> Result<(), Fail> {
+    let routes = many(alloc, count)?;
+    let found = give(tables, &routes);
+    assert!(rt; found == want);
+    Ok(())
+}
+
+fn at_the_limit<R: Abort>(rt: &R, alloc: Global, tables: &mut Tables) -> Result<(), Fail> {
+    comes_of_many(rt, alloc, tables, 512, Ok(()))?;
+    comes_of_many(rt, alloc, tables, 513, Err(TableFault::TooMany))
+}
+
 #[test]
 fn a_route_too_many(rt: HostRuntime) -> Result<(), Fail> {
     let mut tables = Tables::base(rt.alloc())?;
-    let most = many(rt.alloc(), 512)?;
-    assert_eq!(rt; give(&mut tables, &most), Ok(()));
-    let past = many(rt.alloc(), 513)?;
-    assert_eq!(rt; give(&mut tables, &past), Err(TableFault::TooMany));
-    Ok(())
+    at_the_limit(&rt, rt.alloc(), &mut tables)
 }

@@ -1,6 +1,7 @@
 //! What is read of tables, and the tables without a file.
 
 use super::*;
+use crate::same::is_same;
 use njh_table::{Customer, Line, Role};
 use std::process::Abort;
 use std::test::Fail;
@@ -106,7 +107,7 @@ fn route_to<R: Abort>(rt: &R, alloc: Global, tables: &Tables, node: Name) -> Res
 
 fn are_the_base<R: Abort>(rt: &R, alloc: Global, tables: &Tables) -> Result<(), Fail> {
     let found = text_of(alloc, tables)?;
-    assert_eq!(rt; found.as_str(), WITHOUT_A_FILE);
+    is_same(rt, found.as_str(), WITHOUT_A_FILE, "without a file");
     look_up(rt, alloc, tables)
 }
 
@@ -114,7 +115,7 @@ fn look_up<R: Abort>(rt: &R, alloc: Global, tables: &Tables) -> Result<(), Fail>
     for line in LOOKED_UP.trim().lines() {
         let (what, want) = line.split_once(" = ").ok_or("a line without =")?;
         let found = looked_up(rt, alloc, tables, what)?;
-        assert_eq!(rt; found.as_str(), want, "{line}");
+        is_same(rt, found.as_str(), want, line);
     }
     Ok(())
 }
@@ -129,7 +130,7 @@ fn a_file_is_read(rt: HostRuntime) -> Result<(), Fail> {
         1,
     )?;
     let found = text_of_file(rt.alloc(), file.as_str())?;
-    assert_eq!(rt; found.as_str(), READ);
+    is_same(&rt, found.as_str(), READ, "with a file");
     Ok(())
 }
 

@@ -1,6 +1,7 @@
 //! The limits: how many customers, lines and routes there may be.
 
 use super::*;
+use crate::same::is_same;
 use std::process::Abort;
 use std::test::Fail;
 
@@ -69,7 +70,7 @@ fn outcome_of(alloc: Global, sizes: &str) -> Result<String, Fail> {
 fn comes<R: Abort>(rt: &R, alloc: Global, case: &str) -> Result<(), Fail> {
     let (sizes, want) = case.split_once(" = ").ok_or("a case without =")?;
     let found = outcome_of(alloc, sizes)?;
-    assert_eq!(rt; found.as_str(), want, "{case}");
+    is_same(rt, found.as_str(), want, case);
     Ok(())
 }
 

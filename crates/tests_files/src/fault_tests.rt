@@ -5,6 +5,8 @@ use njh_ebcdic::{Name, NameFault};
 use njh_header::HeaderFault;
 use njh_nmr::NmrFault;
 use njh_record::RecordFault;
+use njh_spool::SpoolFault;
+use njh_table::TableFault;
 use std::alloc::Global;
 use std::fmt::Display;
 use std::process::Abort;
@@ -52,5 +54,10 @@ fn printed(rt: HostRuntime) -> Result<(), Fail> {
     check_printed(&rt, alloc, &NmrFault::TooShort, "N1 TooShort");
     check_printed(&rt, alloc, &NmrFault::BadLength, "N2 BadLength");
     check_printed(&rt, alloc, &NmrFault::BadName, "N3 BadName");
+    check_printed(&rt, alloc, &SpoolFault::QuotaFull, "S1 QuotaFull");
+    check_printed(&rt, alloc, &SpoolFault::TooManyFiles, "S2 TooManyFiles");
+    check_printed(&rt, alloc, &SpoolFault::NoSuchFile, "S3 NoSuchFile");
+    check_printed(&rt, alloc, &SpoolFault::Memory, "S4 Memory");
+    check_printed(&rt, alloc, &TableFault::Memory, "K9 Memory");
     Ok(())
 }
