@@ -1,7 +1,7 @@
 -- The first 64 replies.
-use Rattle.std.proofs.Common.{◌≡◌, ◌≤◌, ℕ, zero, suc, List, [], ◌∷◌, ◌++◌, length, map, take, refl, sym, ap, ◌∙◌, arith, not-suc-le-zero}
+use Rattle.std.proofs.Common.{◌≡◌, ◌+◌, ◌<◌, ◌≤◌, min, length-take, ℕ, zero, suc, List, [], ◌∷◌, ◌++◌, length, map, slice_set, take, refl, sym, ap, ◌∙◌, arith, not-suc-le-zero}
 use Rattle.std.proofs.Common.{le_of_suc-le-suc}
-use Rattle.std.proofs.lemmas.List.{map-append, length-append, length-map, take_all}
+use Rattle.std.proofs.lemmas.List.{map-append, length-append, length-map, take_all, take_more_set}
 
 -- where there is no room, one more changes nothing
 pub one_too_many : {X : Type 0} (n : ℕ) (xs ys : List X) → n ≤ length xs → take n (xs ++ ys) ≡ take n xs
@@ -28,3 +28,29 @@ pub none_more : {X : Type 0} (shown : X → List ℕ) (xs : List X) (x : X) → 
 none_more shown xs x full =
     sym (one_too_many 64 (map shown xs) (shown x ∷ []) (rw (length-map xs shown) (omega (arith, full)))
     ∙ take_all 64 (map shown xs) (rw (length-map xs shown) (omega (arith, full))))
+
+-- a text in the place of the one behind the first, and one pushed behind them
+
+pub replaced : {X : Type 0} (xs : List X) (n : ℕ) (x : X) → n < length xs → take (n + 1) (slice_set xs n x) ≡ take n xs ++ x ∷ []
+replaced xs n x within = take_more_set xs n x within
+
+pub pushed : {X : Type 0} (xs : List X) (n : ℕ) (x : X) → n ≡ length xs → take (n + 1) (xs ++ x ∷ []) ≡ take n xs ++ x ∷ []
+pushed xs n x all =
+    take_all (n + 1) (xs ++ x ∷ []) (omega (arith, length-append xs (x ∷ []), all))
+    ∙ ap (λ front. front ++ x ∷ []) (sym (take_all n xs (omega (arith, all))))
+
+-- the first texts, one more of them
+
+not_full : (n m len : ℕ) → n ≤ m → n < 64 → len ≡ min n m → len ≡ 64 → ⊥
+not_full n m len within room is full = absurd (omega (arith, within, room, is, full))
+
+pub one_more_of : {X : Type 0} (shown : X → List ℕ) (olds news : List X) (n : ℕ) (x : X) → n ≤ length olds → n < 64
+    → take (n + 1) news ≡ take n olds ++ x ∷ []
+    → map shown (take (n + 1) news) ≡ take 64 (map shown (take n olds) ++ shown x ∷ [])
+one_more_of shown olds news n x within room is =
+    ap (map shown) is
+    ∙ one_more shown (take n olds) x (omega (arith, length-take n olds)) (λ full. not_full n (length olds) (length (take n olds)) within room (length-take n olds) full)
+
+pub none_more_of : {X : Type 0} (shown : X → List ℕ) (olds : List X) (n : ℕ) (x : X) → n ≤ length olds → length olds ≤ 64 → 64 ≤ n
+    → map shown (take n olds) ≡ take 64 (map shown (take n olds) ++ shown x ∷ [])
+none_more_of shown olds n x within fits full = none_more shown (take n olds) x (omega (arith, length-take n olds))

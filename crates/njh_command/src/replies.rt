@@ -1,6 +1,6 @@
 //! What is said to the sender of a command.
 
-ghost use Rattle.std.specs.Prelude.{◌≡◌, ◌∷◌, ◌++◌, [], map};
+ghost use Rattle.std.specs.Prelude.{◌≡◌, ◌+◌, ◌<◌, ◌≤◌, ◌∷◌, ◌++◌, [], length, map, take};
 ghost use Rattle.njh_command.specs.Commands.{kept};
 
 use arrayvec::ArrayVec;
@@ -13,15 +13,20 @@ pub const MOST_REPLIES: usize = 64;
 /// The replies to a command, in order: messages in EBCDIC of at most 148 bytes. They are at most 64, and take no memory.
 #[derive(Debug, Drop)]
 pub struct Replies {
+    /// The replies, and behind them texts of earlier commands, in whose places later ones come: none is cleared for a command.
     texts: ArrayVec<MessageText, MOST_REPLIES>,
+    /// How many replies there are.
+    count: usize,
 }
 
 impl Model for Replies {
-    ghost use Rattle.std.specs.Prelude.{ℕ, List, map};
+    ghost use Rattle.std.specs.Prelude.{◌≤◌, ℕ, List, length, map, take};
 
     ghost Value = { List (List ℕ) };
 
-    ghost view = { λ r. map (λ t. t.items) r.texts.items };
+    ghost view = { λ r. map (λ t. t.items) (take r.count r.texts.items) };
+
+    ghost invariant = { λ r. (r.count ≤ length r.texts.items) × (length r.texts.items ≤ 64) };
 }
 
 impl Replies {
@@ -31,6 +36,7 @@ impl Replies {
     {
         Replies {
             texts: ArrayVec::new(),
+            count: 0,
         }
     }
 
@@ -38,32 +44,33 @@ impl Replies {
     pub(crate) fn clear(&mut self)
         ensures { self.new ≡ [] }
     {
-        self.texts.clear();
+        self.count = 0;
     }
 
     /// One reply, in the place of those that there were.
     pub(crate) fn put_one(&mut self, text: MessageText)
         ensures { self.new ≡ text.items ∷ [] }
     {
-        self.texts.clear();
-        self.texts.push(text);
+        self.clear();
+        self.add(text);
     }
 
     /// Two replies, in the place of those that there were.
     pub(crate) fn put_two(&mut self, first: MessageText, second: MessageText)
         ensures { self.new ≡ first.items ∷ second.items ∷ [] }
     {
-        self.texts.clear();
-        self.texts.push(first);
-        self.texts.push(second);
+        self.clear();
+        self.add(first);
+        self.add(second);
     }
 
     /// One reply more, where there is room.
     pub(crate) fn add(&mut self, text: MessageText)
         ensures { self.new ≡ kept (self.old ++ text.items ∷ []) }
     {
-        if !self.texts.is_full() {
-            self.texts.push(text);
+        if self.count < MOST_REPLIES {
+            put_at(&mut self.texts, self.count, text);
+            self.count += 1;
         }
     }
 
@@ -71,6 +78,22 @@ impl Replies {
     pub fn texts(&self) -> &[MessageText]
         ensures { map (λ t. t.items) result.now ≡ self.now }
     {
-        &self.texts
+        &self.texts[..self.count]
+    }
+}
+
+/// Puts a text behind the first ones, in the place of what may stand there.
+#[tactic(auto, using(crate::proofs::ReplyLaws::replaced, crate::proofs::ReplyLaws::pushed))]
+fn put_at(texts: &mut ArrayVec<MessageText, MOST_REPLIES>, count: usize, text: MessageText)
+    requires within { count ≤ length texts.old.items }
+    requires room { count < 64 }
+    ensures front { take (count + 1) texts.new.items ≡ take count texts.old.items ++ text ∷ [] }
+    ensures more { count + 1 ≤ length texts.new.items }
+    ensures most { length texts.new.items ≤ 64 }
+{
+    if count < texts.len() {
+        texts[count] = text;
+    } else {
+        texts.push(text);
     }
 }
