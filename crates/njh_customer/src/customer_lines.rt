@@ -200,9 +200,8 @@ impl CustomerLines {
         requires { length text.now ≤ 148 }
         ensures { self.new ≡ goes route (notice_record hub (node, user) text.now) self.old }
     {
-        let notice = Nmr::notice(hub, node, user, text);
         let mut record = Record::new();
-        notice.write(&mut record);
+        Nmr::write_notice(hub, node, user, text, &mut record);
         self.send(route, &record);
     }
 

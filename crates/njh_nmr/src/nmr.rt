@@ -127,6 +127,28 @@ impl Nmr {
         put_bytes(out, &self.message);
     }
 
+    /// Writes the record of what the hub says to a user at a node, in place of what was there: the record of `notice`, of
+    /// which no message is made first.
+    pub fn write_notice(
+        hub: Name,
+        node: Name,
+        user: [u8; FIELD],
+        text: &[u8],
+        out: &mut Record,
+    )
+        requires { length text.now ≤ 148 }
+        ensures { out.new.items ≡ notice_record hub (node, user) text.now }
+    {
+        let length = text.len() as u8;
+        set_bytes(out, &[OF_USER, HUB_LEVEL, HUB_KIND, length]);
+        put_bytes(out, &node.bytes());
+        out.push(NO_QUALIFIER);
+        put_bytes(out, &user);
+        put_bytes(out, &hub.bytes());
+        out.push(NO_QUALIFIER);
+        put_bytes(out, text);
+    }
+
     /// The node that the message goes to.
     pub fn to(&self) -> Name
         ensures { result ≡ self.now.to }
@@ -190,6 +212,15 @@ impl Nmr {
             message: message_of(text),
         }
     }
+}
+
+/// Puts the first bytes of a record in place of what was there.
+fn set_bytes(out: &mut Record, bytes: &[u8])
+    requires { length bytes.now ≤ 256 }
+    ensures { out.new.items ≡ bytes.now }
+{
+    out.truncate(0);
+    put_bytes(out, bytes);
 }
 
 /// The name that a field holds.
