@@ -7,18 +7,26 @@ use njh_table::LineId;
 use std::alloc::{AllocError, Global};
 use std::marker::Model;
 
+/// How many bytes of a piece lie in the piece itself; more are in a vector.
+const SHORT: usize = 23;
+
 /// Some bytes of a line, of any number; a caller sees them as a list.
 #[derive(Drop)]
 pub struct Piece {
-    bytes: Vec<u8>,
+    short: [u8; SHORT],
+    len: u8,
+    long: Vec<u8>,
 }
 
 impl Model for Piece {
-    ghost use Rattle.std.specs.Prelude.{List, ℕ};
+    ghost use Rattle.std.specs.Prelude.{◌≡◌, ◌≤◌, ◌⊎◌, ◌++◌, [], take, List, ℕ};
+    ghost use Rattle.njh_hub.specs.declared.event.TheConstants.{SHORT};
 
     ghost Value = { List ℕ };
 
-    ghost view = { λ p. p.bytes.items };
+    ghost view = { λ p. take p.len p.short ++ p.long.items };
+
+    ghost invariant = { λ p. (p.len ≤ SHORT) × ((p.len ≡ 0) ⊎ (p.long.items ≡ [])) };
 }
 
 impl Piece {
@@ -26,8 +34,15 @@ impl Piece {
     pub fn of(alloc: Global, bytes: &[u8]) -> Result<Piece, AllocError>
         ensures { IfOk result (λ piece. piece ≡ bytes.now) }
     {
+        if bytes.len() > SHORT {
+            return Ok(Piece::of_vec(Vec::from_slice(alloc, bytes)?));
+        }
+        let mut short = [0; SHORT];
+        short[..bytes.len()].copy_from_slice(bytes);
         Ok(Piece {
-            bytes: Vec::from_slice(alloc, bytes)?,
+            short,
+            len: bytes.len() as u8,
+            long: Vec::new(alloc),
         })
     }
 
@@ -35,14 +50,22 @@ impl Piece {
     pub fn of_vec(bytes: Vec<u8>) -> Piece
         ensures { result ≡ bytes.items }
     {
-        Piece { bytes }
+        Piece {
+            short: [0; SHORT],
+            len: 0,
+            long: bytes,
+        }
     }
 
     /// The bytes.
     pub fn bytes(&self) -> &[u8]
         ensures { result.now ≡ self.now }
     {
-        self.bytes.as_slice()
+        if self.len == 0 {
+            self.long.as_slice()
+        } else {
+            &self.short[..usize::from(self.len)]
+        }
     }
 }
 

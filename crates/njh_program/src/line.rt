@@ -12,6 +12,9 @@ use njh_hub::{Event, Piece};
 use njh_table::{LineId, Tables};
 use std::alloc::{AllocError, Global};
 
+/// How many bytes of an event are decoded where no memory is taken for them.
+const SHORT: usize = 23;
+
 /// The event of a line, if it has one; it names what the tables have. Out of memory is the only refusal.
 #[tactic(auto, unfolding(crate::specs::Script::event_of))]
 pub fn event_of(alloc: Global, tables: &Tables, line: &[u8]) -> Result<Option<Event>, AllocError>
@@ -94,8 +97,24 @@ fn bytes_on(
     }
 }
 
-/// The bytes that hex digits spell, if they spell any.
+/// The bytes that hex digits spell, if they spell any. Few take no memory.
+#[tactic(auto, unfolding(hex::specs::Hex::decode_sized))]
 fn piece_of(alloc: Global, digits: &str) -> Result<Option<Piece>, AllocError>
+    ensures { IfOk result (λ piece. piece ≡ piece_of digits.now) }
+{
+    let mut room = [0; SHORT];
+    match room.get_mut(..digits.len() / 2) {
+        Some(bytes) => match hex::decode_to_slice(digits, bytes) {
+            Ok(()) if bytes.is_empty() => Ok(None),
+            Ok(()) => Ok(Some(Piece::of(alloc, bytes)?)),
+            Err(_) => Ok(None),
+        },
+        None => long_piece_of(alloc, digits),
+    }
+}
+
+/// The same of any number of digits.
+fn long_piece_of(alloc: Global, digits: &str) -> Result<Option<Piece>, AllocError>
     ensures { IfOk result (λ piece. piece ≡ piece_of digits.now) }
 {
     match hex::decode(alloc, digits) {
