@@ -75,10 +75,12 @@ impl Watch {
 /// How many of ACME's files are being sent.
 fn count_sending(hub: &Hub) -> Result<usize, Failure> {
     match hub.files(0) {
-        Ok(files) => Ok(files
-            .iter()
-            .filter(|file| file.line().ends_with(&SENDING))
-            .count()),
+        Ok(files) => Ok(
+            files
+                .iter()
+                .filter(|file| file.line().ends_with(&SENDING))
+                .count(),
+        ),
         Err(fault) => Err(of_hub(fault)),
     }
 }
@@ -143,7 +145,13 @@ fn watch_all(alloc: Global, tables: &str, texts: &Texts) -> Result<Watch, Failur
 pub fn tell<R: Print + AllocGlobal>(rt: &R, tables: &str, texts: &Texts) -> Result<(), Failure> {
     let watch = watch_all(rt.alloc(), tables, texts)?;
     println!(rt; "files that go out by a second line: {}", watch.sent)?;
-    println!(rt; "first lines that come back while the second sends a file: {}", watch.back)?;
-    println!(rt; "routes that change while a file is being sent: {}", watch.moved)?;
+    println!(rt;
+        "first lines that come back while the second sends a file: {}",
+        watch.back
+    )?;
+    println!(rt;
+        "routes that change while a file is being sent: {}",
+        watch.moved
+    )?;
     Ok(())
 }
