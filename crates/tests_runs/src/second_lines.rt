@@ -89,7 +89,7 @@ fn count_sending(hub: &Hub) -> Result<usize, Failure> {
 fn watch_event(
     alloc: Global,
     hub: &mut Hub,
-    metz: RouteEntry,
+    texts: &Texts,
     events: &[Event],
     watch: &mut Watch,
 ) -> Result<(), Failure> {
@@ -101,7 +101,7 @@ fn watch_event(
     let sending = count_sending(hub)?;
     if let [event] = events {
         let frame = kept.bytes.get(10..).unwrap_or(&[]);
-        watch.see(event, metz, sending, frame);
+        watch.see(event, texts.metz(), sending, frame);
     }
     Ok(())
 }
@@ -115,12 +115,11 @@ fn watch_run(
     watch: &mut Watch,
 ) -> Result<(), Failure> {
     let events = own_events(alloc, texts, seed)?;
-    let metz = texts.metz();
-    watch.metz = Some(metz);
+    watch.metz = Some(texts.metz());
     watch.sending = 0;
     watch.asked = None;
     for event in events.chunks(1) {
-        watch_event(alloc, hub, metz, event, watch)?;
+        watch_event(alloc, hub, texts, event, watch)?;
     }
     Ok(())
 }
