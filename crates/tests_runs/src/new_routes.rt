@@ -24,11 +24,7 @@ const B1: LineId = LineId {
 };
 
 /// A route to a node by a line, and by a second one if there is one.
-pub fn route_by(
-    node: &str,
-    line: LineId,
-    second: Option<LineId>,
-) -> Result<RouteEntry, Failure> {
+pub fn route_by(node: &str, line: LineId, second: Option<LineId>) -> Result<RouteEntry, Failure> {
     match Name::of_text(node) {
         Ok(node) => Ok(RouteEntry { node, line, second }),
         Err(_) => Err(of_hub(HubFault::UnknownCustomer)),

@@ -202,13 +202,6 @@ pub fn among_others(
     other: u64,
 ) -> Result<Vec<Event>, AllocError> {
     let own = own_events(alloc, texts, seed)?;
-    let others = events_of(
-        alloc,
-        other,
-        texts,
-        BOLT,
-        &OTHER_LINES,
-        &texts.other_routes,
-    )?;
+    let others = events_of(alloc, other, texts, BOLT, &OTHER_LINES, &texts.other_routes)?;
     merged(alloc, other, own, others)
 }

@@ -75,10 +75,12 @@ impl Watch {
 /// How many of ACME's files are being sent.
 fn count_sending(hub: &Hub) -> Result<usize, Failure> {
     match hub.files(0) {
-        Ok(files) => Ok(files
-            .iter()
-            .filter(|file| file.line().ends_with(&SENDING))
-            .count()),
+        Ok(files) => Ok(
+            files
+                .iter()
+                .filter(|file| file.line().ends_with(&SENDING))
+                .count(),
+        ),
         Err(fault) => Err(of_hub(fault)),
     }
 }
@@ -87,7 +89,7 @@ fn count_sending(hub: &Hub) -> Result<usize, Failure> {
 fn watch_event(
     alloc: Global,
     hub: &mut Hub,
-    metz: RouteEntry,
+    texts: &Texts,
     events: &[Event],
     watch: &mut Watch,
 ) -> Result<(), Failure> {
@@ -99,7 +101,7 @@ fn watch_event(
     let sending = count_sending(hub)?;
     if let [event] = events {
         let frame = kept.bytes.get(10..).unwrap_or(&[]);
-        watch.see(event, metz, sending, frame);
+        watch.see(event, texts.metz(), sending, frame);
     }
     Ok(())
 }
@@ -113,12 +115,11 @@ fn watch_run(
     watch: &mut Watch,
 ) -> Result<(), Failure> {
     let events = own_events(alloc, texts, seed)?;
-    let metz = texts.metz();
-    watch.metz = Some(metz);
+    watch.metz = Some(texts.metz());
     watch.sending = 0;
     watch.asked = None;
     for event in events.chunks(1) {
-        watch_event(alloc, hub, metz, event, watch)?;
+        watch_event(alloc, hub, texts, event, watch)?;
     }
     Ok(())
 }
@@ -143,7 +144,13 @@ fn watch_all(alloc: Global, tables: &str, texts: &Texts) -> Result<Watch, Failur
 pub fn tell<R: Print + AllocGlobal>(rt: &R, tables: &str, texts: &Texts) -> Result<(), Failure> {
     let watch = watch_all(rt.alloc(), tables, texts)?;
     println!(rt; "files that go out by a second line: {}", watch.sent)?;
-    println!(rt; "first lines that come back while the second sends a file: {}", watch.back)?;
-    println!(rt; "routes that change while a file is being sent: {}", watch.moved)?;
+    println!(rt;
+        "first lines that come back while the second sends a file: {}",
+        watch.back
+    )?;
+    println!(rt;
+        "routes that change while a file is being sent: {}",
+        watch.moved
+    )?;
     Ok(())
 }
