@@ -1,4 +1,4 @@
-//! The marks of lines as up, for whoever runs them to set. Nothing goes by them yet.
+//! The marks of lines as up, for whoever runs them to set. A route with a second line goes by them.
 
 ghost use Rattle.std.specs.Prelude.{◌≡◌, ◌<◌, false, length, map, slice_index_or, slice_set, vec_len};
 ghost use Rattle.njh_table.specs.Marks.{customer_marked, customer_unmarked, line_marked};

@@ -1,4 +1,4 @@
-use Rattle.std.proofs.Common.{◌≡◌, ◌<◌, List, length, ap, subst, sym, arith}
+use Rattle.std.proofs.Common.{◌<◌, List, length, ap, subst, sym, arith}
 use Rattle.njh_customer.specs.Customer.{IsMarked}
 use Rattle.njh_hub.specs.Whole.{Part, part}
 use Rattle.njh_hub.proofs.PartsLaws.{length-parts_of, part-there}

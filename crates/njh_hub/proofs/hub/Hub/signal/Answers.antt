@@ -55,13 +55,13 @@ after c = let p = part c.args.line.customer c.args.self.now in (signal_taken p c
 
 leads : (c : After-drop-out)
     → parts_of c.take_signal.new.tables c.take_signal.new.spool
-        (slice_set c.self.inside.lines.items c.from.result c.take_signal.new.self)
+    (slice_set c.self.inside.lines.items c.from.result c.take_signal.new.self)
     ≡ slice_set c.args.self.now c.args.line.customer (after c)
 leads c =
     let t = c.take_signal in
     ap (λ (n : ℕ). parts_of t.new.tables t.new.spool (slice_set c.self.inside.lines.items n t.new.self)) c.from.ensures
     ∙ step-leads (finds c) (steps c) (after c)
-        (t.ensures.part ∙ ap (λ (p : Part). (signal_taken p c.args.line.line c.args.signal).after) (finds c).part_is)
+    (t.ensures.part ∙ ap (λ (p : Part). (signal_taken p c.args.line.line c.args.signal).after) (finds c).part_is)
 
 pub invariant_of-self : goal.invariant_of-self
 invariant_of-self c =

@@ -54,13 +54,13 @@ after c = let p = part c.args.line.customer c.args.self.now in (bytes_taken p c.
 
 leads : (c : After-drop-out)
     → parts_of c.take_bytes-taken.new.tables c.take_bytes-taken.new.spool
-        (slice_set c.self.inside.lines.items c.from.result c.take_bytes-taken.new.self)
+    (slice_set c.self.inside.lines.items c.from.result c.take_bytes-taken.new.self)
     ≡ slice_set c.args.self.now c.args.line.customer (after c)
 leads c =
     let t = c.take_bytes-taken in
     ap (λ (n : ℕ). parts_of t.new.tables t.new.spool (slice_set c.self.inside.lines.items n t.new.self)) c.from.ensures
     ∙ step-leads (finds c) (steps c) (after c)
-        (t.ensures.part ∙ ap (λ (p : Part). (bytes_taken p c.args.line.line c.args.piece.now).after) (finds c).part_is)
+    (t.ensures.part ∙ ap (λ (p : Part). (bytes_taken p c.args.line.line c.args.piece.now).after) (finds c).part_is)
 
 pub invariant_of-self : goal.invariant_of-self
 invariant_of-self c =
