@@ -129,13 +129,7 @@ impl Nmr {
 
     /// Writes the record of what the hub says to a user at a node, in place of what was there: the record of `notice`, of
     /// which no message is made first.
-    pub fn write_notice(
-        hub: Name,
-        node: Name,
-        user: [u8; FIELD],
-        text: &[u8],
-        out: &mut Record,
-    )
+    pub fn write_notice(hub: Name, node: Name, user: [u8; FIELD], text: &[u8], out: &mut Record)
         requires { length text.now ≤ 148 }
         ensures { out.new.items ≡ notice_record hub (node, user) text.now }
     {
