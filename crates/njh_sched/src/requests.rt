@@ -83,7 +83,15 @@ fn add_request<L: Outgoing>(
     if !may_ask(stream, line) {
         return true;
     }
-    let index = oldest_from(entry, id.line, stream.kind(), id.customer, *passed, others, spool);
+    let index = oldest_from(
+        entry,
+        id.line,
+        stream.kind(),
+        id.customer,
+        *passed,
+        others,
+        spool,
+    );
     *passed = index;
     if index >= spool.files(id.customer) {
         return true;
@@ -159,7 +167,16 @@ pub fn add_requests<L: Outgoing>(
     let mut passed = 0;
     if add_requests_of(Kind::In, 0, &mut passed, id, entry, line, spool, writer) {
         let mut unused = 0;
-        add_requests_of(Kind::Out, passed, &mut unused, id, entry, line, spool, writer)
+        add_requests_of(
+            Kind::Out,
+            passed,
+            &mut unused,
+            id,
+            entry,
+            line,
+            spool,
+            writer,
+        )
     } else {
         false
     }
