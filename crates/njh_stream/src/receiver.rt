@@ -1,12 +1,13 @@
 //! Streams to the hub.
 
-ghost use Rattle.std.specs.Prelude.{◌≡◌, ◌<◌, ◌≤◌, length, slice_set, None, Some};
+ghost use Rattle.std.specs.Prelude.{◌≡◌, ℕ, ◌<◌, ◌≤◌, length, slice_set, MatchOption, None, Some};
 ghost use Rattle.std.specs.Option.{option_map};
 ghost use Rattle.njh_block.specs.Blocks.{rcb_of};
 ghost use Rattle.njh_block.specs.Codes.{kind_of};
 ghost use Rattle.njh_record.specs.declared.Kind.{Kind};
 ghost use Rattle.njh_spool.specs.CustomerSpool.{partial_numbered};
 ghost use Rattle.njh_spool.specs.Spools.{part};
+ghost use Rattle.njh_table.specs.Entries.{CustomerEntry};
 ghost use Rattle.njh_table.specs.TableFile.{customer_at, entry_of};
 ghost use Rattle.njh_stream.specs.Arrivals.{answer_on, arrival_of, received_on, IsShort};
 ghost use Rattle.njh_stream.specs.Judging.{IsAfter};
@@ -15,7 +16,7 @@ ghost use Rattle.njh_stream.specs.Receiving.{received_draining, received_idle, r
 
 use crate::arrival::Arrival;
 use crate::notice::Notice;
-use crate::storing::{cancel, store};
+use crate::storing::{cancel, store, store_unread};
 use njh_block::{Answer, ControlRcb, Stream};
 use njh_ebcdic::FIELD;
 use njh_header::srcb;
@@ -135,6 +136,73 @@ impl Receiver {
             (received_on tables.now spool.old line stream self.old (arrival_of arrival.entry)).spool }
         ensures agrees { Agrees (kind_of stream) self.new (part line.customer spool.new) }
     {
+        match arrival {
+            Arrival::Record { srcb, bytes } => {
+                self.take_record(srcb, bytes, stream, line, tables, spool)
+            }
+            Arrival::Request | Arrival::TooLong | Arrival::Abort => {
+                self.take(arrival, stream, line, tables, spool)
+            }
+        }
+    }
+
+    /// As `step`, of a record.
+    fn take_record(
+        &mut self,
+        srcb: u8,
+        bytes: &[u8],
+        stream: Stream,
+        line: LineId,
+        tables: &Tables,
+        spool: &mut Spool,
+    ) -> Step
+        requires known { line.customer < length tables.now.customers }
+        requires spooled { line.customer < length spool.old }
+        requires short { length bytes.now ≤ 256 }
+        requires agrees { Agrees (kind_of stream) self.old (part line.customer spool.old) }
+        ensures receiver { self.new ≡ (received_on tables.now spool.old line stream self.old (Data srcb bytes.now)).receiver }
+        ensures answer { result.answer
+            ≡ option_map (answer_on stream) (received_on tables.now spool.old line stream self.old (Data srcb bytes.now)).answer }
+        ensures notice { result.notice ≡ (received_on tables.now spool.old line stream self.old (Data srcb bytes.now)).notice }
+        ensures spool { spool.new ≡ slice_set spool.old line.customer
+            (received_on tables.now spool.old line stream self.old (Data srcb bytes.now)).spool }
+        ensures agrees { Agrees (kind_of stream) self.new (part line.customer spool.new) }
+    {
+        next_number_is_least();
+        let was = *self;
+        match receive_unread(was, srcb, bytes, stream.kind(), line.customer, spool) {
+            Some(receiver) => {
+                *self = receiver;
+                Step {
+                    answer: None,
+                    notice: None,
+                }
+            }
+            None => self.take(Arrival::Record { srcb, bytes }, stream, line, tables, spool),
+        }
+    }
+
+    /// As `step`, of any arrival.
+    fn take(
+        &mut self,
+        arrival: Arrival<'_>,
+        stream: Stream,
+        line: LineId,
+        tables: &Tables,
+        spool: &mut Spool,
+    ) -> Step
+        requires known { line.customer < length tables.now.customers }
+        requires spooled { line.customer < length spool.old }
+        requires short { IsShort (arrival_of arrival) }
+        requires agrees { Agrees (kind_of stream) self.old (part line.customer spool.old) }
+        ensures receiver { self.new ≡ (received_on tables.now spool.old line stream self.old (arrival_of arrival.entry)).receiver }
+        ensures answer { result.answer
+            ≡ option_map (answer_on stream) (received_on tables.now spool.old line stream self.old (arrival_of arrival.entry)).answer }
+        ensures notice { result.notice ≡ (received_on tables.now spool.old line stream self.old (arrival_of arrival.entry)).notice }
+        ensures spool { spool.new ≡ slice_set spool.old line.customer
+            (received_on tables.now spool.old line stream self.old (arrival_of arrival.entry)).spool }
+        ensures agrees { Agrees (kind_of stream) self.new (part line.customer spool.new) }
+    {
         next_number_is_least();
         let was = *self;
         let entry = tables.customer(line.customer);
@@ -175,6 +243,44 @@ fn answer_of(answer: Option<ControlRcb>, stream: Stream) -> Option<Answer>
             stream: stream.rcb(),
         }),
         None => None,
+    }
+}
+
+/// A record that goes by, or that is stored without a look at its bytes: what the stream is about then. Nothing is answered, and no room
+/// for a notice is made and moved. Else none, and nothing is stored.
+fn receive_unread(
+    receiver: Receiver,
+    srcb: u8,
+    bytes: &[u8],
+    kind: Kind,
+    customer: u16,
+    spool: &mut Spool,
+) -> Option<Receiver>
+    requires spooled { customer < length spool.old }
+    requires short { length bytes.now ≤ 256 }
+    requires agrees { Agrees kind receiver (part customer spool.old) }
+    ensures { MatchOption result (spool.new ≡ spool.old) (λ after. (entry : CustomerEntry) (l : ℕ)
+        → IsAfter (record { receiver = after; answer = None; notice = None }) spool.new spool.old customer
+        (received entry l kind receiver (Data srcb bytes.now) (part customer spool.old))) }
+{
+    match receiver {
+        Receiver::Open { file, progress } => {
+            if bytes.is_empty() {
+                return None;
+            }
+            match store_unread(customer, kind, file, progress, srcb, bytes, spool) {
+                Some(progress) => Some(Receiver::Open { file, progress }),
+                None => None,
+            }
+        }
+        Receiver::Idle => Some(Receiver::Idle),
+        Receiver::Draining => {
+            if bytes.is_empty() {
+                Some(Receiver::Idle)
+            } else {
+                Some(Receiver::Draining)
+            }
+        }
     }
 }
 

@@ -1,13 +1,14 @@
 //! A record comes for a file that is open.
 
-ghost use Rattle.std.specs.Prelude.{◌≡◌, ◌<◌, ◌≤◌, ◌++◌, ◌∷◌, [], length, slice_set, IsSome, Some};
+ghost use Rattle.std.specs.Prelude.{◌≡◌, ℕ, ◌<◌, ◌≤◌, ◌++◌, ◌∷◌, [], List, length, slice_set, IsSome, IsTrue, MatchOption, None, Some};
 ghost use Rattle.std.specs.Option.{option_map};
 ghost use Rattle.njh_header.specs.FileHeaders as headers;
 ghost use Rattle.njh_record.specs.Stored.{Stored};
 ghost use Rattle.njh_spool.specs.CustomerSpool.{has_room_for, partial_numbered};
 ghost use Rattle.njh_spool.specs.Spools.{part};
+ghost use Rattle.njh_table.specs.Entries.{CustomerEntry};
 ghost use Rattle.njh_table.specs.TableFile.{entry_of};
-ghost use Rattle.njh_stream.specs.Judging.{appended_where, IsAfter};
+ghost use Rattle.njh_stream.specs.Judging.{appended_where, judged_placed, IsAfter};
 ghost use Rattle.njh_stream.specs.SpoolFiles.{records_in};
 ghost use Rattle.njh_stream.specs.Receiving.{AgreesWith, cancelled, notice_of, stored};
 ghost use Rattle.njh_stream.specs.Transmissions as transmissions;
@@ -49,6 +50,55 @@ pub(crate) fn store(
             cancel(customer, file, header, text, spool)
         }
         Verdict::Taken(progress) => { append(customer, file, progress, srcb, bytes, spool) }
+    }
+}
+
+/// Whether a record of a file whose header said where it goes is taken without a look at its bytes: all but a data set header that
+/// continues no other.
+fn is_taken_unread(kind: Kind, last: u8, srcb: u8) -> bool
+    ensures { (node bytes : List ℕ) → IsTrue result → judged_placed kind node last srcb bytes ≡ transmissions.Taken }
+{
+    match kind {
+        Kind::In => true,
+        Kind::Out => {
+            if srcb == srcb::DATA_SET_HEADER && last != srcb::DATA_SET_HEADER {
+                false
+            } else {
+                true
+            }
+        }
+    }
+}
+
+/// A record with bytes for an open file, where it is taken without a look at its bytes and the quota has room for it: how far the file
+/// has come then. Else none, and nothing is stored. Most records come so, and there is no room for a notice to be made and moved.
+pub(crate) fn store_unread(
+    customer: u16,
+    kind: Kind,
+    file: FileId,
+    progress: Progress,
+    srcb: u8,
+    bytes: &[u8],
+    spool: &mut Spool,
+) -> Option<Progress>
+    requires range { customer < length spool.old }
+    requires short { length bytes.now ≤ 256 }
+    requires agrees { AgreesWith kind progress (partial_numbered file (part customer spool.old)) }
+    ensures { MatchOption result (spool.new ≡ spool.old) (λ after. (entry : CustomerEntry) (l : ℕ)
+        → IsAfter (record { receiver = Receiver.Open file after; answer = None; notice = None }) spool.new spool.old customer
+        (stored entry l kind file (record { srcb = srcb; bytes = bytes.now }) (part customer spool.old))) }
+{
+    match progress {
+        Progress::Placed { node, last } => {
+            if !is_taken_unread(kind, last, srcb) {
+                return None;
+            }
+            match spool.append(customer, file, srcb, bytes) {
+                Ok(()) => Some(Progress::Placed { node, last: srcb }),
+                Err(_) => None,
+            }
+        }
+        Progress::Beginning | Progress::JobHeader => None,
     }
 }
 

@@ -4,7 +4,7 @@ use Rattle.njh_table.specs.TableFile.{entry_of}
 use Rattle.njh_stream.specs.Arrivals.{arrival_of}
 use Rattle.njh_stream.specs.Receiving.{Agrees}
 use Rattle.njh_stream.proofs.AgreesLaws.{step_agrees}
-use Rattle.njh_stream.proofs.receiver.Receiver.step.Goals as goal
+use Rattle.njh_stream.proofs.receiver.Receiver.take.Goals as goal
 
 pub returns-clause-agrees : goal.returns-clause-agrees
 returns-clause-agrees c =
