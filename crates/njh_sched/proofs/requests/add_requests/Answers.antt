@@ -1,4 +1,4 @@
-use Rattle.std.proofs.Common.{◌≡◌, ◌∙◌, ap, length, arith}
+use Rattle.std.proofs.Common.{◌≡◌, ◌∙◌, refl, ap, IsTrue, length, arith, rules}
 use Rattle.njh_record.specs.declared.Kind.TheVariants.{In, Out}
 use Rattle.njh_spool.specs.Spools.{part}
 use Rattle.njh_stream.specs.Sending.{goes_by}
