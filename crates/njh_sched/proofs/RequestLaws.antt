@@ -1,15 +1,20 @@
 -- A stream's request, and the files that were looked at for it.
-use Rattle.std.proofs.Common.{◌≡◌, ◌<◌, ℕ, ◌+◌, Bool, true, false, List, [], ◌∷◌, length, map, find, Option, Some, None, ◌==◌, cond}
+use Rattle.std.proofs.Common.{◌≡◌, ◌<◌, ℕ, ◌+◌, Bool, true, false, List, [], ◌∷◌, length, map, find, take, Option, Some, None, ◌==◌, ◌&&◌, cond, subst}
 use Rattle.std.proofs.Common.{slice_get, option_map, IsSomeAnd, refl, sym, ap, ◌∙◌, arith, eq-eqb}
 use Rattle.std.proofs.lemmas.Option.{slice_get_within, slice_get-map}
 use Rattle.std.proofs.lemmas.List.{length-map}
 use Rattle.njh_block.specs.Codes.{kind_of}
 use Rattle.njh_block.specs.Writing.{Writing}
 use Rattle.njh_record.specs.declared.Kind.{Kind}
+use Rattle.njh_record.specs.declared.Kind.TheVariants.{In, Out}
+use Rattle.njh_spool.specs.Headers.{summary}
+use Rattle.njh_spool.specs.declared.file_headers.FileSummary.{FileSummary}
+use Rattle.std.specs.List.{list_any}
+use Rattle.std.proofs.lemmas.Bool.{eqb-true}
 use Rattle.njh_spool.specs.CustomerSpool.{CustomerSpool, WholeFile, with_state}
 use Rattle.njh_spool.specs.declared.State.TheVariants as state
 use Rattle.njh_stream.specs.Sending.{holds_of}
-use Rattle.njh_sched.specs.NextBlock.{Outlet, StreamRequest, HasPassed, may_go, may_ask, oldest, asking}
+use Rattle.njh_sched.specs.NextBlock.{Outlet, StreamRequest, HasPassed, HasPassedOthers, passed_where, is_ready, same_kind, may_go, may_ask, oldest, asking}
 use Rattle.njh_sched.specs.NextBlock.{after_source, after_sources, after_candidate, filling}
 use Rattle.njh_sched.proofs.FileLists.{one_more, none_changed}
 use Rattle.njh_sched.proofs.SourceLists.{nothing_left}
@@ -99,4 +104,57 @@ module _ (goes : WholeFile → Bool) (kind : Kind) (n : ℕ) where
     none = one_more (may_go goes kind) (map (λ x. cond (x.number == n) (record x { state = state.Sending }) x) s.whole) i
         (none_changed (may_go goes kind) (λ x. cond (x.number == n) (record x { state = state.Sending }) x) s.whole i stays_out p.none)
         (out_at i s.whole (slice_get s.whole i) refl at);
+  }
+
+-- ---- the files of another kind
+
+other_kind : (a kind other : Kind) → same_kind a kind ≡ true → same_kind kind other ≡ false → same_kind a other ≡ false
+other_kind In In In e f = absurd (cc f)
+other_kind In In Out e f = refl
+other_kind In Out other e f = absurd (cc e)
+other_kind Out In other e f = absurd (cc e)
+other_kind Out Out In e f = refl
+other_kind Out Out Out e f = absurd (cc f)
+
+both_true : (a b : Bool) → true ≡ (a && b) → (a ≡ true) × (b ≡ true)
+both_true true true e = (refl, refl)
+both_true true false e = absurd (cc e)
+both_true false b e = absurd (cc e)
+
+module _ (goes : WholeFile → Bool) (kind : Kind) where
+  -- a file of a kind goes on no stream of another
+  not_other :
+      (other : Kind) (x : FileSummary) (o : Option WholeFile) → option_map summary o ≡ Some x → same_kind x.kind kind ≡ true
+      → same_kind kind other ≡ false → holds_of (may_go goes other) o ≡ false
+  not_other other x None is same differs = absurd (cc is)
+  not_other other x (Some f) is same differs =
+      let here : summary f ≡ x = cc is in
+      by_ready (is_ready f.state) (same_kind f.kind other)
+      (other_kind f.kind kind other (ap (λ (y : FileSummary). same_kind y.kind kind) here ∙ same) differs)
+    where
+      by_ready : (ready k : Bool) → k ≡ false → (ready && (k && goes f)) ≡ false
+      by_ready true k e = ap (λ b. b && goes f) e
+      by_ready false k e = refl
+
+  -- a file of this kind is passed for the others
+  pub others_more :
+      (s : CustomerSpool) (i o : ℕ) (x : FileSummary) (b : Bool) → b ≡ (same_kind x.kind kind && (o == i)) → i < length s.whole
+      → option_map summary (slice_get s.whole i) ≡ Some x → HasPassedOthers goes kind o s → HasPassedOthers goes kind (passed_where b i o) s
+  others_more s i o x false e within is before = before
+  others_more s i o x true e within is before = λ other differs.
+      let parts : (same_kind x.kind kind ≡ true) × ((o == i) ≡ true) = both_true (same_kind x.kind kind) (o == i) e in
+      let here : o ≡ i = eqb-true o i parts.1 in
+      record {
+        within = omega (arith, within);
+        none = one_more (may_go goes other) s.whole i
+            (subst (λ n. list_any (may_go goes other) (take n s.whole) ≡ false) here (before other differs).none)
+            (not_other other x (slice_get s.whole i) is parts.0 differs);
+      }
+
+  -- and a file that is Sending is passed as before
+  pub others_stay : (n i : ℕ) (s : CustomerSpool) → HasPassedOthers goes kind i s → HasPassedOthers goes kind i (with_state n state.Sending s)
+  others_stay n i s before = λ other differs. record {
+    within = omega (arith, (before other differs).within, length-map {A = WholeFile} {B = WholeFile});
+    none = none_changed (may_go goes other) (λ x. cond (x.number == n) (record x { state = state.Sending }) x) s.whole i
+        (stays_out goes other n) (before other differs).none;
   }

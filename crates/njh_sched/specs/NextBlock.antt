@@ -249,6 +249,15 @@ pub record HasPassed (goes : WholeFile → Bool) (kind : Kind) (index : ℕ) (s 
   pub within : index ≤ length s.whole
   pub none : list_any (may_go goes kind) (take index s.whole) ≡ false
 
+-- nor on a stream of another kind
+abbrev pub HasPassedOthers : (WholeFile → Bool) → Kind → ℕ → CustomerSpool → Type 0
+HasPassedOthers goes kind index s = (other : Kind) → same_kind kind other ≡ false → HasPassed goes other index s
+
+-- an index that has been passed, or not
+abbrev pub passed_where : Bool → ℕ → ℕ → ℕ
+passed_where true index before = index + 1
+passed_where false index before = before
+
 -- a block with one record more, where it has room
 abbrev pub with_last_where : Bool → Item → Writing → Writing
 with_last_where true i w = with_last i w

@@ -1,12 +1,12 @@
 //! A customer's files, one after the other.
 
-ghost use Rattle.std.specs.Prelude.{◌≡◌, ◌<◌, ℕ, Bool, false, List, IsTrue, length, slice_get, IsSomeAnd, ◌&&◌};
+ghost use Rattle.std.specs.Prelude.{◌≡◌, ◌<◌, ◌-◌, ◌^◌, ◌==◌, ℕ, Bool, false, List, IsTrue, length, slice_get, IsSomeAnd, ◌&&◌};
 ghost use Rattle.std.specs.List.{list_any};
 ghost use Rattle.njh_spool.specs.CustomerSpool.{whole_numbered};
 ghost use Rattle.njh_spool.specs.Spools.{part};
-ghost use Rattle.njh_stream.specs.Sending.{destination_goes_by, goes_by, holds_of, node_goes_by};
+ghost use Rattle.njh_stream.specs.Sending.{destination_goes_by, goes_by, node_goes_by};
 ghost use Rattle.njh_table.specs.TableFile.{entry_of};
-ghost use Rattle.njh_sched.specs.NextBlock.{HasPassed, is_ready, same_kind, may_go, oldest};
+ghost use Rattle.njh_sched.specs.NextBlock.{HasPassed, HasPassedOthers, is_ready, same_kind, oldest, passed_where};
 
 use arrayvec::ArrayVec;
 use njh_header::Destination;
@@ -116,46 +116,42 @@ fn may_go(
     }
 }
 
-/// Whether a customer's whole file of an index is Ready, of a kind, and goes by a line.
-fn may_go_at(
-    entry: &Customer,
-    line: u16,
-    kind: Kind,
-    customer: u16,
-    index: u32,
-    spool: &Spool,
-    elsewhere: &mut Elsewhere,
-) -> bool
-    requires range { customer < length spool.now }
-    requires index_range { index < length (part customer spool.now).whole }
-    requires elsewhere { list_any (node_goes_by (entry_of entry.now) line) elsewhere.old.items ≡ false }
-    ensures may { result ≡ holds_of (may_go (goes_by (entry_of entry.now) line) kind) (slice_get (part customer spool.now).whole index) }
-    ensures elsewhere { list_any (node_goes_by (entry_of entry.now) line) elsewhere.new.items ≡ false }
+/// Moves an index before which no file of another kind may go on, where the file that stands there is of this kind.
+fn pass_where(index: u32, kind: Kind, file: &FileSummary, others: &mut u32)
+    requires { index < 2 ^ 32 - 1 }
+    ensures { others.new ≡ passed_where (same_kind file.now.kind kind && (others.old == index)) index others.old }
 {
-    let file = spool.summary_at(customer, index);
-    may_go(entry, line, kind, &file, elsewhere)
+    if same_kind(file.kind, kind) && *others == index {
+        *others = index + 1;
+    }
 }
 
 /// The index of a customer's oldest file that is Ready, of a kind, and goes by a line; none before `from` is so. Where there is no such
-/// file it gives how many files there are.
+/// file it gives how many files there are. `others` is an index before which no file of another kind may go: it moves on over the files
+/// of this kind that are looked at.
 pub fn oldest_from(
     entry: &Customer,
     line: u16,
     kind: Kind,
     customer: u16,
     from: u32,
+    others: &mut u32,
     spool: &Spool,
 ) -> u32
     requires range { customer < length spool.now }
     requires from { HasPassed (goes_by (entry_of entry.now) line) kind from (part customer spool.now) }
+    requires others { HasPassedOthers (goes_by (entry_of entry.now) line) kind others.old (part customer spool.now) }
     ensures passed { HasPassed (goes_by (entry_of entry.now) line) kind result (part customer spool.now) }
     ensures oldest { oldest (goes_by (entry_of entry.now) line) kind (part customer spool.now)
         ≡ slice_get (part customer spool.now).whole result }
+    ensures others { HasPassedOthers (goes_by (entry_of entry.now) line) kind others.new (part customer spool.now) }
 {
     let files = spool.files(customer);
     let mut elsewhere = Elsewhere::new();
     for index in from..files {
-        if may_go_at(entry, line, kind, customer, index, spool, &mut elsewhere) {
+        let file = spool.summary_at(customer, index);
+        pass_where(index, kind, &file, others);
+        if may_go(entry, line, kind, &file, &mut elsewhere) {
             return index;
         }
     }

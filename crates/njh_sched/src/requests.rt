@@ -6,7 +6,7 @@ ghost use Rattle.njh_spool.specs.CustomerSpool.{with_state};
 ghost use Rattle.njh_spool.specs.Spools.{part};
 ghost use Rattle.njh_stream.specs.Sending.{goes_by};
 ghost use Rattle.njh_table.specs.TableFile.{entry_of};
-ghost use Rattle.njh_sched.specs.NextBlock.{HasPassed, StreamRequest, may_ask, asking, requests, requests_of, streams_of};
+ghost use Rattle.njh_sched.specs.NextBlock.{HasPassed, HasPassedOthers, StreamRequest, may_ask, asking, requests, requests_of, streams_of};
 ghost use Rattle.njh_sched.specs.NextBlock.{after_candidate, after_source, after_sources, filling, filling_where};
 
 use crate::adding::add_where_room;
@@ -55,10 +55,12 @@ fn ask<L: Outgoing>(
 }
 
 /// A stream asks for its customer's oldest file that is Ready, of its kind, and goes by the line, where the line has the stream, it is
-/// idle, there is such a file and the request has room. `passed` is an index before which no such file is.
+/// idle, there is such a file and the request has room. `passed` is an index before which no such file is, and `others` one before which
+/// none of another kind may go.
 fn add_request<L: Outgoing>(
     stream: Stream,
     passed: &mut u32,
+    others: &mut u32,
     id: LineId,
     entry: &Customer,
     line: &mut L,
@@ -67,18 +69,29 @@ fn add_request<L: Outgoing>(
 ) -> bool
     requires range { id.customer < length spool.old }
     requires passed { HasPassed (goes_by (entry_of entry.now) id.line) (kind_of stream) passed.old (part id.customer spool.old) }
+    requires others { HasPassedOthers (goes_by (entry_of entry.now) id.line) (kind_of stream) others.old (part id.customer spool.old) }
     ensures source { after_source (goes_by (entry_of entry.now) id.line) (StreamRequest stream)
         (filling writer.old (L.outlet line.old) (part id.customer spool.old))
         ≡ filling_where result writer.new (L.outlet line.new) (part id.customer spool.new) }
     ensures spool { spool.new ≡ slice_set spool.old id.customer (part id.customer spool.new) }
     ensures passed { IsTrue result
         → HasPassed (goes_by (entry_of entry.now) id.line) (kind_of stream) passed.new (part id.customer spool.new) }
+    ensures others { IsTrue result
+        → HasPassedOthers (goes_by (entry_of entry.now) id.line) (kind_of stream) others.new (part id.customer spool.new) }
     ensures rest { L.rest line.new ≡ L.rest line.old }
 {
     if !may_ask(stream, line) {
         return true;
     }
-    let index = oldest_from(entry, id.line, stream.kind(), id.customer, *passed, spool);
+    let index = oldest_from(
+        entry,
+        id.line,
+        stream.kind(),
+        id.customer,
+        *passed,
+        others,
+        spool,
+    );
     *passed = index;
     if index >= spool.files(id.customer) {
         return true;
@@ -100,27 +113,33 @@ fn stream_of(kind: Kind, number: u8) -> Stream
     }
 }
 
-/// Adds the requests of the streams of a kind, until one has no room, and says whether all had. It looks at each file once at most, and
-/// at none where no stream is idle.
+/// Adds the requests of the streams of a kind, until one has no room, and says whether all had. It looks at each file from an index on
+/// once at most, and at none where no stream is idle; before the index none of the kind may go. Gives an index before which none of
+/// another kind may go.
 fn add_requests_of<L: Outgoing>(
     kind: Kind,
+    from: u32,
+    others: &mut u32,
     id: LineId,
     entry: &Customer,
     line: &mut L,
     spool: &mut Spool,
     writer: &mut BlockWriter,
 ) -> bool
-    requires { id.customer < length spool.old }
+    requires range { id.customer < length spool.old }
+    requires from { HasPassed (goes_by (entry_of entry.now) id.line) kind from (part id.customer spool.old) }
+    requires others { HasPassedOthers (goes_by (entry_of entry.now) id.line) kind others.old (part id.customer spool.old) }
     ensures source { after_sources (goes_by (entry_of entry.now) id.line) (requests_of kind)
         (filling writer.old (L.outlet line.old) (part id.customer spool.old))
         ≡ filling_where result writer.new (L.outlet line.new) (part id.customer spool.new) }
     ensures spool { spool.new ≡ slice_set spool.old id.customer (part id.customer spool.new) }
+    ensures others { IsTrue result → HasPassedOthers (goes_by (entry_of entry.now) id.line) kind others.new (part id.customer spool.new) }
     ensures rest { L.rest line.new ≡ L.rest line.old }
 {
-    let mut passed = 0;
+    let mut passed = from;
     for number in 0..Stream::OF_A_KIND {
         let stream = stream_of(kind, number);
-        if !add_request(stream, &mut passed, id, entry, line, spool, writer) {
+        if !add_request(stream, &mut passed, others, id, entry, line, spool, writer) {
             return false;
         }
     }
@@ -145,8 +164,19 @@ pub fn add_requests<L: Outgoing>(
     if spool.files(id.customer) == 0 {
         return true;
     }
-    if add_requests_of(Kind::In, id, entry, line, spool, writer) {
-        add_requests_of(Kind::Out, id, entry, line, spool, writer)
+    let mut passed = 0;
+    if add_requests_of(Kind::In, 0, &mut passed, id, entry, line, spool, writer) {
+        let mut unused = 0;
+        add_requests_of(
+            Kind::Out,
+            passed,
+            &mut unused,
+            id,
+            entry,
+            line,
+            spool,
+            writer,
+        )
     } else {
         false
     }

@@ -4,8 +4,8 @@ use Rattle.njh_block.specs.Codes.{kind_of}
 use Rattle.njh_spool.specs.Spools.{part}
 use Rattle.njh_stream.specs.Sending.{goes_by}
 use Rattle.njh_table.specs.TableFile.{entry_of}
-use Rattle.njh_sched.specs.NextBlock.{HasPassed, oldest}
-use Rattle.njh_sched.proofs.RequestLaws.{not_asked, nothing_to_ask, asks, passed_more}
+use Rattle.njh_sched.specs.NextBlock.{HasPassed, HasPassedOthers, oldest}
+use Rattle.njh_sched.proofs.RequestLaws.{not_asked, nothing_to_ask, asks, passed_more, others_stay}
 use Rattle.njh_sched.proofs.requests.add_request.Goals as goal
 
 pub returns-then-not-may_ask-clause-source : goal.returns-then-not-may_ask-clause-source
@@ -49,3 +49,14 @@ returns-clause-passed g c room =
     (part c.args.id.customer c.args.spool.now))
     c.kind.ensures c.oldest_from-index.ensures.passed)
     c.file_at-file.ensures.number)
+
+pub returns-clause-others : goal.returns-clause-others
+returns-clause-others g c room =
+    subst (HasPassedOthers (goes_by (entry_of c.args.entry.now) c.args.id.line) (kind_of c.args.stream) c.oldest_from-index.new.others)
+    (sym (c.ask.ensures.state room))
+    (others_stay (goes_by (entry_of c.args.entry.now) c.args.id.line)
+    (kind_of c.args.stream) c.file_at-file.result c.oldest_from-index.new.others
+    (part c.args.id.customer c.args.spool.now)
+    (subst (λ kind. HasPassedOthers (goes_by (entry_of c.args.entry.now) c.args.id.line) kind c.oldest_from-index.new.others
+    (part c.args.id.customer c.args.spool.now))
+    c.kind.ensures c.oldest_from-index.ensures.others))

@@ -1,4 +1,4 @@
-use Rattle.std.proofs.Common.{◌≡◌, ◌∙◌, ap, length, arith}
+use Rattle.std.proofs.Common.{◌≡◌, ◌∙◌, refl, ap, IsTrue, length, arith, rules}
 use Rattle.njh_record.specs.declared.Kind.TheVariants.{In, Out}
 use Rattle.njh_spool.specs.Spools.{part}
 use Rattle.njh_stream.specs.Sending.{goes_by}
@@ -44,3 +44,7 @@ returns-else-add_requests_of-clause-source g c =
     (part c.args.id.customer c.add_requests_of.new.spool)) c.if-add_requests_of.false)
     ∙ full_stays (goes_by (entry_of c.args.entry.now) c.args.id.line) (requests_of Out) c.add_requests_of.new.writer
     (g.L.Outgoing.outlet c.add_requests_of.new.line) (part c.args.id.customer c.add_requests_of.new.spool)
+
+pub add_requests_of-requires-then-add_requests_of-clause-from : goal.add_requests_of-requires-then-add_requests_of-clause-from
+add_requests_of-requires-then-add_requests_of-clause-from g c =
+    let all : IsTrue c.add_requests_of.result = search rules in c.add_requests_of.ensures.others all Out refl

@@ -2,7 +2,7 @@ use Rattle.std.proofs.Common.{◌≡◌, ◌∙◌, subst, false, true, arith}
 use Rattle.njh_spool.specs.Spools.{part}
 use Rattle.njh_stream.specs.Sending.{goes_by}
 use Rattle.njh_table.specs.TableFile.{entry_of}
-use Rattle.njh_sched.specs.NextBlock.{HasPassed, StreamRequest, filling, streams_of}
+use Rattle.njh_sched.specs.NextBlock.{HasPassed, HasPassedOthers, StreamRequest, filling, streams_of}
 use Rattle.njh_sched.proofs.SourceLists.{none_of_kind, stream_went_on, stream_stopped, streams_done}
 use Rattle.njh_sched.proofs.SpoolLaws.{moved_on, as_long}
 use Rattle.njh_sched.proofs.requests.add_requests_of.Goals as goal
@@ -39,6 +39,8 @@ loop-number-preserved g c =
           c.add_request.ensures.spool;
       passed = subst (λ kind. HasPassed (goes_by (entry_of c.args.entry.now) c.args.id.line) kind c.add_request.new.passed
           (part c.args.id.customer c.add_request.new.spool)) c.stream_of-stream.ensures.kind (c.add_request.ensures.passed room);
+      others = subst (λ kind. HasPassedOthers (goes_by (entry_of c.args.entry.now) c.args.id.line) kind c.add_request.new.others
+          (part c.args.id.customer c.add_request.new.spool)) c.stream_of-stream.ensures.kind (c.add_request.ensures.others room);
     }
 
 pub returns-clause-source : goal.returns-clause-source
