@@ -123,11 +123,16 @@ fn given(alloc: Global, tables: &mut Tables, routes: &[RouteEntry]) -> Result<St
     }
 }
 
+/// What comes of routes, as a text.
+fn outcome_of(alloc: Global, routes: &[RouteEntry]) -> Result<String, Fail> {
+    let mut tables = with_a2(alloc)?;
+    Ok(given(alloc, &mut tables, routes)?)
+}
+
 fn comes<R: Abort>(rt: &R, alloc: Global, case: &str) -> Result<(), Fail> {
     let (routes, want) = case.split_once(" = ").ok_or("a case without =")?;
     let routes = routes_of(alloc, routes)?;
-    let mut tables = with_a2(alloc)?;
-    let found = given(alloc, &mut tables, &routes)?;
+    let found = outcome_of(alloc, &routes)?;
     is_same(rt, found.trim(), want, case);
     Ok(())
 }
@@ -141,26 +146,17 @@ fn what_comes_of_new_routes(rt: HostRuntime) -> Result<(), Fail> {
 }
 
 /// What comes of so many routes for the first customer.
-fn comes_of_many<R: Abort>(
-    rt: &R,
-    alloc: Global,
-    tables: &mut Tables,
-    count: u32,
-    want: Result<(), TableFault>,
-) -> Result<(), Fail> {
+fn comes_of_many(alloc: Global, count: u32) -> Result<Result<(), TableFault>, Fail> {
     let routes = many(alloc, count)?;
-    let found = give(tables, &routes);
-    assert!(rt; found == want);
-    Ok(())
-}
-
-fn at_the_limit<R: Abort>(rt: &R, alloc: Global, tables: &mut Tables) -> Result<(), Fail> {
-    comes_of_many(rt, alloc, tables, 512, Ok(()))?;
-    comes_of_many(rt, alloc, tables, 513, Err(TableFault::TooMany))
+    let mut tables = Tables::base(alloc)?;
+    Ok(give(&mut tables, &routes))
 }
 
 #[test]
 fn a_route_too_many(rt: HostRuntime) -> Result<(), Fail> {
-    let mut tables = Tables::base(rt.alloc())?;
-    at_the_limit(&rt, rt.alloc(), &mut tables)
+    let most = comes_of_many(rt.alloc(), 512)?;
+    assert_eq!(rt; most, Ok(()));
+    let past = comes_of_many(rt.alloc(), 513)?;
+    assert_eq!(rt; past, Err(TableFault::TooMany));
+    Ok(())
 }
