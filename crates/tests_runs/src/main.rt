@@ -1,8 +1,9 @@
-//! Tries the whole program and the hub on what is stored, and prints what they did; the file `stdout` has that, written by hand.
+//! Tries the whole program and the hub on what is stored, and prints what they did; the file `stdout` has that, written
+//! by hand but for the counts of random runs and traffic.
 //!
-//! First come the stored scripts, then damaged input, what runs have of one customer beside others, streams that fail, the steps of
-//! a hub, new routes, and the names of faults. Last it is the program itself on its own arguments, whose tables are refused, and ends as
-//! the program ends then.
+//! First come the stored scripts, then damaged input, what runs have of one customer beside others, streams that fail,
+//! the steps of a hub, new routes, the names of faults, and traffic at random. Last it is the program itself on its own
+//! arguments, whose tables are refused, and ends as the program ends then.
 #![tactic(auto)]
 
 mod customers;
