@@ -1,6 +1,7 @@
 //! Writing: from a record to the one spelling that is written of it.
 
-ghost use Rattle.std.specs.Prelude.{◌≡◌, ◌+◌, ◌≤◌, ◌<◌, ◌++◌, false, length, take};
+ghost use Rattle.std.specs.Prelude.{◌≡◌, ◌+◌, ◌≤◌, ◌<◌, ◌++◌, ◌==◌, false, length, take};
+ghost use Rattle.std.specs.List.{prefix_len};
 ghost use Rattle.njh_record.specs.Parts.{item_of};
 ghost use Rattle.njh_record.specs.Writing.{run_of, is_run, begins_run, before_run, run_item, first_item, spelling_of};
 ghost use Rattle.njh_record.specs.Written.{AreApart, NoRunBefore, SpellsFront};
@@ -17,12 +18,53 @@ fn run_len(bytes: &[u8]) -> usize
     requires { 0 < length bytes.now }
     ensures { result ≡ run_of bytes.now }
 {
+    match bytes {
+        [first, second, ..] if *first == *second => equal_len(bytes),
+        _ => 1,
+    }
+}
+
+/// The same, where the second byte equals the first.
+fn equal_len(bytes: &[u8]) -> usize
+    requires { 0 < length bytes.now }
+    ensures { result ≡ run_of bytes.now }
+{
     let first = bytes[0];
+    if bytes.len() < GROUP {
+        return front_len(bytes, first, LONGEST_RUN);
+    }
+    let len = same_len(bytes, first);
+    if len < GROUP {
+        return len;
+    }
+    let (_, rest) = bytes.split_at(GROUP);
+    GROUP + front_len(rest, first, LONGEST_RUN - GROUP)
+}
+
+/// How many bytes at the front are this one, so many at most.
+fn front_len(bytes: &[u8], first: u8, most: usize) -> usize
+    ensures { result ≡ prefix_len (λ b. b == first) (take most bytes.now) }
+{
     bytes
         .iter()
-        .take(LONGEST_RUN)
+        .take(most)
         .take_while(|byte| **byte == first)
         .count()
+}
+
+/// How many of the 16 bytes in front stand before one that isn't this.
+fn same_len(bytes: &[u8], first: u8) -> usize
+    requires { GROUP ≤ length bytes.now }
+    ensures { result ≡ prefix_len (λ b. b == first) (take GROUP bytes.now) }
+{
+    let other = u8x16::from_slice(bytes)
+        .simd_ne(u8x16::splat(first))
+        .to_bitmask();
+    if other == 0 {
+        GROUP
+    } else {
+        other.trailing_zeros() as usize
+    }
 }
 
 /// Whether so many equal bytes are worth an item of their own.
