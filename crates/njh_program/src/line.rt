@@ -25,8 +25,8 @@ pub fn event_of(alloc: Global, tables: &Tables, line: &[u8]) -> Result<Option<Ev
     }
 }
 
-/// The event of a line of `BYTES` that stands as it should, of whose bytes the name alone is looked at as text. Where there is none the
-/// line is looked at again, whole.
+/// The event of a line of `BYTES` that stands as it should, of whose bytes the name alone is looked at as text.
+/// Where there is none the line is looked at again, whole.
 fn plain_event(alloc: Global, tables: &Tables, line: &[u8]) -> Result<Option<Event>, AllocError>
     ensures event { IfOk result (λ event. IfSome event (λ e. event_of tables.now line.now ≡ Some e)) }
     ensures named { IfOk result (λ event. IfSome event (IsNamedIn tables.now)) }
