@@ -1,10 +1,12 @@
 //! What is said to the sender of a command.
 
-ghost use Rattle.std.specs.Prelude.{◌≡◌, ◌+◌, ◌<◌, ◌≤◌, ◌∷◌, ◌++◌, [], length, map, take};
-ghost use Rattle.njh_command.specs.Commands.{kept};
+ghost use Rattle.std.specs.Prelude.{◌≡◌, ◌+◌, ◌<◌, ◌≤◌, ◌∷◌, ◌++◌, [], length, map, min, take};
+ghost use Rattle.njh_command.specs.Replies.{line_of};
 
+use crate::texts::put_file_line;
 use arrayvec::ArrayVec;
 use njh_header::MessageText;
+use njh_spool::FileSummary;
 use std::marker::Model;
 
 /// The most replies to one command; those behind them aren't said.
@@ -17,39 +19,53 @@ pub struct Replies {
     texts: ArrayVec<MessageText, MOST_REPLIES>,
     /// How many replies there are.
     count: usize,
+    /// How many there may be; those behind them aren't said.
+    most: usize,
 }
 
 impl Model for Replies {
     ghost use Rattle.std.specs.Prelude.{◌≤◌, ℕ, List, length, map, take};
 
-    ghost Value = { List (List ℕ) };
+    ghost use Rattle.njh_command.specs.Commands.{Said};
 
-    ghost view = { λ r. map (λ t. t.items) (take r.count r.texts.items) };
+    ghost Value = { Said };
 
-    ghost invariant = { λ r. (r.count ≤ length r.texts.items) × (length r.texts.items ≤ 64) };
+    ghost view = { λ r. record { most = r.most; texts = map (λ t. t.items) (take r.count r.texts.items) } };
+
+    ghost invariant = { λ r. (r.count ≤ r.most) × (r.count ≤ length r.texts.items) × (length r.texts.items ≤ 64) × (r.most ≤ 64) };
 }
 
 impl Replies {
-    /// No replies yet. They take ten thousand bytes, so a caller makes room for them once, and lends it to each command.
+    /// No replies yet, of 64 at most. They take ten thousand bytes, so a caller makes room for them once, and lends it to each
+    /// command.
     pub fn new() -> Self
-        ensures { result ≡ [] }
+        ensures { result ≡ record { most = 64; texts = [] } }
     {
         Replies {
             texts: ArrayVec::new(),
             count: 0,
+            most: MOST_REPLIES,
         }
+    }
+
+    /// No replies, and from now on so many at most, or 64.
+    pub fn begin(&mut self, most: usize)
+        ensures { self.new ≡ record { most = min most 64; texts = [] } }
+    {
+        self.most = most.min(MOST_REPLIES);
+        self.count = 0;
     }
 
     /// None, in the place of those that there were.
     pub(crate) fn clear(&mut self)
-        ensures { self.new ≡ [] }
+        ensures { self.new ≡ record self.old { texts = [] } }
     {
         self.count = 0;
     }
 
     /// One reply, in the place of those that there were.
     pub(crate) fn put_one(&mut self, text: MessageText)
-        ensures { self.new ≡ text.items ∷ [] }
+        ensures { self.new ≡ record self.old { texts = take self.old.most (text.items ∷ []) } }
     {
         self.clear();
         self.add(text);
@@ -57,7 +73,7 @@ impl Replies {
 
     /// Two replies, in the place of those that there were.
     pub(crate) fn put_two(&mut self, first: MessageText, second: MessageText)
-        ensures { self.new ≡ first.items ∷ second.items ∷ [] }
+        ensures { self.new ≡ record self.old { texts = take self.old.most (first.items ∷ second.items ∷ []) } }
     {
         self.clear();
         self.add(first);
@@ -66,17 +82,27 @@ impl Replies {
 
     /// One reply more, where there is room.
     pub(crate) fn add(&mut self, text: MessageText)
-        ensures { self.new ≡ kept (self.old ++ text.items ∷ []) }
+        ensures { self.new ≡ record self.old { texts = take self.old.most (self.old.texts ++ text.items ∷ []) } }
     {
-        if self.count < MOST_REPLIES {
+        if self.count < self.most {
             put_at(&mut self.texts, self.count, text);
+            self.count += 1;
+        }
+    }
+
+    /// One reply more, that tells of a file, where there is room. Its text is written in its place.
+    pub(crate) fn add_file(&mut self, file: &FileSummary)
+        ensures { self.new ≡ record self.old { texts = take self.old.most (self.old.texts ++ line_of file.now ∷ []) } }
+    {
+        if self.count < self.most {
+            put_file_at(&mut self.texts, self.count, file);
             self.count += 1;
         }
     }
 
     /// The replies.
     pub fn texts(&self) -> &[MessageText]
-        ensures { map (λ t. t.items) result.now ≡ self.now }
+        ensures { map (λ t. t.items) result.now ≡ self.now.texts }
     {
         &self.texts[..self.count]
     }
@@ -96,4 +122,19 @@ fn put_at(texts: &mut ArrayVec<MessageText, MOST_REPLIES>, count: usize, text: M
     } else {
         texts.push(text);
     }
+}
+
+/// Writes what tells of a file behind the first texts, in the place of what may stand there.
+fn put_file_at(texts: &mut ArrayVec<MessageText, MOST_REPLIES>, count: usize, file: &FileSummary)
+    requires within { count ≤ length texts.old.items }
+    requires room { count < 64 }
+    ensures front { map (λ t. t.items) (take (count + 1) texts.new.items)
+        ≡ map (λ t. t.items) (take count texts.old.items) ++ line_of file.now ∷ [] }
+    ensures more { count + 1 ≤ length texts.new.items }
+    ensures most { length texts.new.items ≤ 64 }
+{
+    if count == texts.len() {
+        texts.push(MessageText::new());
+    }
+    put_file_line(&mut texts[count], file);
 }

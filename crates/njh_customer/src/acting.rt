@@ -254,6 +254,10 @@ fn command(
 {
     let node = message.origin();
     let user = message.user();
+    let entry = tables.customer(customer);
+    let route = entry.route(node);
+    // A reply that no line has room for isn't made.
+    replies.begin(lines.room_by(route));
     obey(
         message.message(),
         node,
@@ -264,7 +268,7 @@ fn command(
         lines,
         replies,
     );
-    lines.say_all(tables.customer(customer), node, user, replies);
+    lines.say_all(route, entry.hub(), node, user, replies);
 }
 
 /// A record that ends no session acts.

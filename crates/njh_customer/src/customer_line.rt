@@ -149,6 +149,13 @@ impl CustomerLine {
         self.line.push_answer(answer);
     }
 
+    /// How many more nodal messages may wait.
+    pub(crate) fn message_room(&self) -> usize
+        ensures { result + length self.now.state.messages ≡ 64 }
+    {
+        self.line.message_room()
+    }
+
     /// Lets a nodal message wait.
     pub(crate) fn push_message(&mut self, message: Record)
         ensures { self.new ≡ in_state (lines.with_message message.items) self.old }

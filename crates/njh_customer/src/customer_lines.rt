@@ -177,6 +177,18 @@ impl CustomerLines {
         }
     }
 
+    /// How many nodal messages a route takes before the next are dropped.
+    pub(crate) fn room_by(&self, route: Route) -> usize
+        ensures { result ≡ room_by route self.now }
+    {
+        match route {
+            Route::Line(line) if usize::from(line) < self.lines.len() => {
+                self.lines[usize::from(line)].message_room()
+            }
+            Route::Line(_) | Route::Here | Route::Unknown => 0,
+        }
+    }
+
     /// A nodal message goes by a route, and is dropped where that is no line.
     fn send(&mut self, route: Route, message: Record)
         ensures { self.new ≡ goes route message.items self.old }
@@ -208,15 +220,14 @@ impl CustomerLines {
     /// The hub replies to a user's command.
     pub(crate) fn say_all(
         &mut self,
-        customer: &Customer,
+        route: Route,
+        hub: Name,
         node: Name,
         user: [u8; FIELD],
         replies: &Replies,
     )
-        ensures { self.new ≡ all_said (entry_of customer.now) (node, user) replies.now self.old }
+        ensures { self.new ≡ all_by route hub (node, user) replies.now.texts self.old }
     {
-        let route = customer.route(node);
-        let hub = customer.hub();
         for text in replies.texts() {
             self.say_by(route, hub, node, user, text);
         }

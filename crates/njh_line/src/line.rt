@@ -57,7 +57,7 @@ impl Model for Line {
 }
 
 impl Line {
-    ghost use Rattle.std.specs.Prelude.{◌≡◌, ◌≤◌, IfOk, length, nat_lt, option_map, slice_get};
+    ghost use Rattle.std.specs.Prelude.{◌≡◌, ◌+◌, ◌≤◌, IfOk, length, nat_lt, option_map, slice_get};
     ghost use Rattle.njh_line.specs.Sessions.{IsConfig, IsSession};
     ghost use Rattle.njh_line.specs.LineTable.{accepted, shown};
     ghost use Rattle.njh_line.specs.Lines.{IsShort, after_end, after_input, after_sending, fresh_line, shown_sent};
@@ -169,6 +169,13 @@ impl Line {
         ensures { self.new ≡ without_answers self.old }
     {
         self.answers.clear();
+    }
+
+    /// How many more nodal messages may wait.
+    pub fn message_room(&self) -> usize
+        ensures { result + length self.now.messages ≡ MESSAGES }
+    {
+        MESSAGES - self.messages.len()
     }
 
     /// Lets a nodal message wait behind the others, where fewer than 64 wait. Otherwise it is dropped.
