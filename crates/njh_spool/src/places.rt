@@ -1,13 +1,12 @@
 //! The slots of the files, by customer and number.
 
-ghost use Rattle.std.specs.Prelude.{◌≡◌, ℕ, ◌+◌, ◌*◌, ◌<◌, ◌≤◌, ◌++◌, ◌∷◌, [], true, false, length, replicate, IfOk};
+ghost use Rattle.std.specs.Prelude.{◌≡◌, ℕ, ◌+◌, ◌*◌, ◌<◌, ◌≤◌, [], true, false, length, slice_set, IfOk};
 ghost use Rattle.std.specs.Vec.{vec_len, vec_capacity};
 ghost use Rattle.njh_spool.specs.Slots.{slot_of, place_of, free_slot, is_free};
 
-use crate::file_headers::{FileHeaders, KeptHeaders};
 use crate::file_id::FileId;
-use crate::file_slot::{FileSlot, KeptPlaces, Stage};
-use crate::quota::MOST_FILES;
+use crate::file_slot::{FileSlot, Stage};
+use crate::quota::{MOST_FILES, Quota};
 use njh_record::Kind;
 use std::alloc::{AllocError, Global};
 
@@ -18,64 +17,61 @@ pub fn place(customer: u16, id: FileId) -> u32
     MOST_FILES * u32::from(customer) + u32::from(id.number())
 }
 
-/// The slot of a customer's file, a free one where the number can be no file's.
-pub fn slot_at(slots: &[FileSlot], customer: u16, id: FileId) -> FileSlot
-    requires { MOST_FILES * customer + MOST_FILES ≤ length slots.now }
+/// The slot of a customer's file, a free one where no file of the number ever was.
+pub fn slot_at(slots: &[Vec<FileSlot>], customer: u16, id: FileId) -> FileSlot
+    requires { customer < length slots.now }
     ensures { result ≡ slot_of slots.now customer id }
 {
-    if u32::from(id.number()) >= MOST_FILES {
-        return FileSlot::empty(Stage::Free, Kind::In);
+    match slots[usize::from(customer)].get(usize::from(id.number())) {
+        Some(slot) => *slot,
+        None => FileSlot::empty(Stage::Free, Kind::In),
     }
-    slots[place(customer, id) as usize]
 }
 
-/// The least number whose slot has no file.
-pub fn free_number(slots: &[FileSlot], customer: u16, limit: u32) -> u16
-    requires all { MOST_FILES * customer + MOST_FILES ≤ length slots.now }
-    requires few { limit ≤ MOST_FILES }
-    requires some { (n : ℕ) × (n < limit) × (is_free (slot_of slots.now customer n).stage ≡ true) }
-    ensures free { is_free (slot_of slots.now customer result).stage ≡ true }
-    ensures least { (n : ℕ) → n < result → is_free (slot_of slots.now customer n).stage ≡ false }
-    ensures below { result < limit }
+/// Says what is in the slot of a number that a file had.
+pub fn put_slot(slots: &mut [Vec<FileSlot>], customer: u16, id: FileId, slot: FileSlot)
+    requires range { customer < length slots.old }
+    requires there { id < length (own_slots customer slots.old) }
+    ensures { slots.new ≡ with_slot customer id slot slots.old }
 {
-    for number in 0..limit as u16 {
-        if slot_at(slots, customer, FileId::of(number)).is_free() {
-            return number;
+    slots[usize::from(customer)][usize::from(id.number())] = slot;
+}
+
+/// The least number whose slot has no file: one that a file had, or the next.
+pub fn free_number(slots: &[FileSlot]) -> u16
+    ensures free { is_free (slot_in slots.now result).stage ≡ true }
+    ensures least { (n : ℕ) → n < result → is_free (slot_in slots.now n).stage ≡ false }
+    ensures next { result ≤ length slots.now }
+{
+    for number in 0..slots.len() {
+        if slots[number].is_free() {
+            return number as u16;
         }
     }
-    unreachable!()
+    slots.len() as u16
 }
 
-/// Puts a slot in which no file is behind the others.
-fn push_free(slots: &mut Vec<FileSlot>)
-    requires { vec_len slots.old < vec_capacity slots.old }
-    ensures slots { slots.new.items ≡ slots.old.items ++ free_slot ∷ [] }
+/// Begins a file in the slot of a number, the next one where no file had it yet.
+pub fn put_file(slots: &mut Vec<FileSlot>, number: u16, slot: FileSlot)
+    requires next { number ≤ length slots.old.items }
+    requires room { number < vec_capacity slots.old }
+    ensures slots { slot_in slots.new.items number ≡ slot }
     ensures room { vec_capacity slots.new ≡ vec_capacity slots.old }
 {
-    // Field by field, since the check does not follow the options of a slot that a function made into the list.
-    slots.push_reserved(FileSlot {
-        stage: Stage::Free,
-        kind: Kind::In,
-        count: 0,
-        places: KeptPlaces::FIRST,
-        headers: KeptHeaders {
-            said: FileHeaders {
-                name: None,
-                owner: None,
-                destination: None,
-            },
-            count: 0,
-        },
-    });
+    if usize::from(number) < slots.len() {
+        slots[usize::from(number)] = slot;
+    } else {
+        slots.push_reserved(slot);
+    }
 }
 
-/// So many slots in which no file is.
-pub fn free_slots(alloc: Global, count: u32) -> Result<Vec<FileSlot>, AllocError>
-    ensures { IfOk result (λ slots. slots.items ≡ replicate count free_slot) }
+/// For each customer room for the slots of as many files as it may have. A slot is written when its number is first used.
+pub fn open_slots(alloc: Global, quotas: &[Quota]) -> Result<Vec<Vec<FileSlot>>, AllocError>
+    ensures { IfOk result (λ slots. slots.items ≡ map (λ _. []) quotas.now) }
 {
-    let mut slots = Vec::with_capacity(alloc, count as usize)?;
-    for _done in 0..count {
-        push_free(&mut slots);
+    let mut slots = Vec::with_capacity(alloc, quotas.len())?;
+    for quota in quotas {
+        slots.push_reserved(Vec::with_capacity(alloc, quota.files as usize)?);
     }
     Ok(slots)
 }

@@ -15,7 +15,7 @@ use crate::customer_files::{CustomerFiles, open_all};
 use crate::file_headers::FileSummary;
 use crate::file_id::FileId;
 use crate::file_slot::FileSlot;
-use crate::places::{free_slots, slot_at};
+use crate::places::{open_slots, slot_at};
 use crate::quota::{MOST_CUSTOMERS, MOST_FILES, Quota};
 use crate::store::{MOST_CAPACITY, Store};
 use std::alloc::Global;
@@ -25,7 +25,8 @@ use std::marker::Model;
 #[derive(Drop)]
 pub struct Spool {
     store: Store,
-    slots: Vec<FileSlot>,
+    /// Of each customer, by the numbers that files had.
+    slots: Vec<Vec<FileSlot>>,
     customers: Vec<CustomerFiles>,
 }
 
@@ -66,7 +67,7 @@ impl Spool {
     {
         let slot_count = MOST_FILES * quotas.len() as u32;
         let store = Store::open(alloc, blocks_of_all(quotas), slot_count)?;
-        let slots = free_slots(alloc, slot_count)?;
+        let slots = open_slots(alloc, quotas)?;
         let customers = open_all(alloc, quotas)?;
         Ok(Spool {
             store,

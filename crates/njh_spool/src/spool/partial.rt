@@ -10,7 +10,7 @@ use crate::file_headers::read_headers;
 use crate::file_id::FileId;
 use crate::file_slot::{FileSlot, Stage};
 use crate::laws::quotas_leave_room;
-use crate::places::{free_number, place, slot_at};
+use crate::places::{free_number, place, put_file, put_slot, slot_at};
 use crate::reading::{RECORD_HEAD, pack_record};
 use crate::spool::Spool;
 use crate::store::block::BLOCK_DATA;
@@ -45,11 +45,11 @@ impl Spool {
         if own.used >= own.quota {
             return Err(SpoolFault::QuotaFull);
         }
-        let number = free_number(&self.slots, customer, own.limit);
+        let slots = &mut self.slots[usize::from(customer)];
+        let number = free_number(slots);
         own.partial.push(number);
-        let id = FileId::of(number);
-        self.slots[place(customer, id) as usize] = FileSlot::empty(Stage::Partial, kind);
-        Ok(id)
+        put_file(slots, number, FileSlot::empty(Stage::Partial, kind));
+        Ok(FileId::of(number))
     }
 
     /// Puts a record last in a partial file.
@@ -87,7 +87,7 @@ impl Spool {
         quotas_leave_room();
         self.store.append(at, &pack_record(srcb, bytes));
         slot.count += 1;
-        self.slots[at as usize] = slot;
+        put_slot(&mut self.slots, customer, id, slot);
         Ok(())
     }
 
@@ -110,7 +110,7 @@ impl Spool {
         own.partial.remove(id.number());
         own.whole.push(id.number());
         slot.stage = Stage::Whole(State::Ready);
-        self.slots[at as usize] = slot;
+        put_slot(&mut self.slots, customer, id, slot);
         Ok(())
     }
 
@@ -132,7 +132,8 @@ impl Spool {
         own.used = left;
         own.partial.remove(id.number());
         self.store.clear(at);
-        self.slots[at as usize] = FileSlot::empty(Stage::Free, Kind::In);
+        let free = FileSlot::empty(Stage::Free, Kind::In);
+        put_slot(&mut self.slots, customer, id, free);
         Ok(())
     }
 }

@@ -7,7 +7,7 @@ ghost use Rattle.njh_spool.specs.Spools.{part, or_no_file, kind_numbered, record
 use crate::SpoolFault;
 use crate::file_id::FileId;
 use crate::file_slot::KeptPlaces;
-use crate::places::{place, slot_at};
+use crate::places::{place, put_slot, slot_at};
 use crate::reading::{place_of_record, read_record};
 use crate::record_reader::RecordReader;
 use crate::spool::Spool;
@@ -106,7 +106,7 @@ impl Spool {
             last: begins,
             next: behind,
         };
-        self.slots[at as usize] = slot;
+        put_slot(&mut self.slots, customer, id, slot);
         Ok(srcb)
     }
 }

@@ -9,7 +9,7 @@ ghost use Rattle.njh_spool.specs.Spools.{part, or_no_file};
 use crate::file_headers::{FileHeaders, headers_behind};
 use crate::file_id::FileId;
 use crate::file_slot::{FileSlot, Stage};
-use crate::places::{place, slot_at};
+use crate::places::{place, put_slot, slot_at};
 use crate::reading::{RECORD_HEAD, place_of_record};
 use crate::spool::Spool;
 use crate::spool::partial::blocks_for;
@@ -29,7 +29,7 @@ impl Spool {
             return Err(SpoolFault::NoSuchFile);
         }
         slot.stage = Stage::Whole(state);
-        self.slots[place(customer, id) as usize] = slot;
+        put_slot(&mut self.slots, customer, id, slot);
         Ok(())
     }
 
@@ -73,7 +73,8 @@ impl Spool {
         own.used = left;
         own.whole.remove(id.number());
         self.store.clear(at);
-        self.slots[at as usize] = FileSlot::empty(Stage::Free, Kind::In);
+        let free = FileSlot::empty(Stage::Free, Kind::In);
+        put_slot(&mut self.slots, customer, id, free);
         Ok(())
     }
 
@@ -105,7 +106,7 @@ impl Spool {
         let from = begins.place + (RECORD_HEAD + place) as u32;
         self.store.overwrite(at, begins.mark, from, bytes);
         slot.headers = headers_behind(&self.store, at, &slot, n);
-        self.slots[at as usize] = slot;
+        put_slot(&mut self.slots, customer, id, slot);
         Ok(())
     }
 }
