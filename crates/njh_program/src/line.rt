@@ -9,12 +9,9 @@ ghost use Rattle.njh_program.specs.ScriptRoutes.{IsNamedIn};
 use crate::script_routes::routes_event;
 use hex::FromHexError;
 use memchr::memchr;
-use njh_hub::{Event, Piece};
+use njh_hub::{Event, Piece, SHORT_PIECE};
 use njh_table::{LineId, Tables};
 use std::alloc::{AllocError, Global};
-
-/// How many bytes of an event are decoded where no memory is taken for them.
-const SHORT: usize = 23;
 
 /// The event of a line, if it has one; it names what the tables have. Out of memory is the only refusal.
 #[tactic(auto, unfolding(crate::specs::Script::event_of))]
@@ -151,11 +148,12 @@ fn bytes_on(
 fn piece_of(alloc: Global, digits: &[u8]) -> Result<Option<Piece>, AllocError>
     ensures { IfOk result (λ piece. piece ≡ piece_of digits.now) }
 {
-    let mut room = [0; SHORT];
-    match room.get_mut(..digits.len() / 2) {
+    let mut room = [0; SHORT_PIECE];
+    let len = digits.len() / 2;
+    match room.get_mut(..len) {
         Some(bytes) => match hex::decode_to_slice(digits, bytes) {
-            Ok(()) if bytes.is_empty() => Ok(None),
-            Ok(()) => Ok(Some(Piece::of(alloc, bytes)?)),
+            Ok(()) if len == 0 => Ok(None),
+            Ok(()) => Ok(Some(Piece::of_short(alloc, room, len))),
             Err(_) => Ok(None),
         },
         None => long_piece_of(alloc, digits),
