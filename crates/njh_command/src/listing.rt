@@ -34,8 +34,10 @@ fn list_file(who: User, spool: &Spool, customer: u16, index: u32, replies: &mut 
     requires range { customer < length spool.now }
     requires within { index < length (part customer spool.now).whole }
     ensures owned { result ≡ owned who (file_at index (part customer spool.now)) }
-    ensures replies { replies.new ≡ record replies.old { texts = take replies.old.most
-        (replies.old.texts ++ lines_where (owned who (file_at index (part customer spool.now))) (file_at index (part customer spool.now))) } }
+    ensures replies { replies.new ≡ record replies.old {
+      texts = take replies.old.most
+          (replies.old.texts ++ lines_where (owned who (file_at index (part customer spool.now))) (file_at index (part customer spool.now)));
+    } }
 {
     let file = summary_of(spool, customer, index);
     let is_own = is_owner(who, &file.headers);

@@ -25,7 +25,6 @@ pub struct Replies {
 
 impl Model for Replies {
     ghost use Rattle.std.specs.Prelude.{◌≤◌, ℕ, List, length, map, take};
-
     ghost use Rattle.njh_command.specs.Commands.{Said};
 
     ghost Value = { Said };
