@@ -1,6 +1,6 @@
 //! Blocks, read.
 
-ghost use Rattle.std.specs.Prelude.{◌≡◌, ◌↔◌, drop, slice_get, option_map};
+ghost use Rattle.std.specs.Prelude.{◌≡◌, ◌↔◌, [], IsTrue, drop, slice_get, option_map};
 ghost use Rattle.njh_block.specs.Blocks.{Block as Seen, read_block, general_first};
 ghost use Rattle.njh_block.specs.Grammar.{IsBlock, IsFault};
 ghost use Rattle.njh_block.specs.Shown.{shown, first_contents};
@@ -10,6 +10,7 @@ use crate::fault::BlockFault;
 use crate::fcs::Fcs;
 use crate::item::Item;
 use crate::laws::one_reading;
+use crate::rcb::END;
 use crate::reading::{check_records, read_first, read_general};
 use njh_record::Record;
 use std::marker::Model;
@@ -72,6 +73,13 @@ impl<'a> Block<'a> {
         ensures { result ≡ self.now.fcs }
     {
         self.fcs
+    }
+
+    /// Whether it is plain at once that no record is left: the end of the block stands next, and nothing behind it.
+    pub fn is_empty(&self) -> bool
+        ensures { IsTrue result → self.now.items ≡ [] }
+    {
+        matches!(self.rest, [END])
     }
 
     /// The next record, where it is a general one: its SRCB, and the rest of the text.

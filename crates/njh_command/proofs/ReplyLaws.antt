@@ -54,3 +54,32 @@ one_more_of shown olds news n x within room is =
 pub none_more_of : {X : Type 0} (shown : X → List ℕ) (olds : List X) (n : ℕ) (x : X) → n ≤ length olds → length olds ≤ 64 → 64 ≤ n
     → map shown (take n olds) ≡ take 64 (map shown (take n olds) ++ shown x ∷ [])
 none_more_of shown olds n x within fits full = none_more shown (take n olds) x (omega (arith, length-take n olds))
+
+-- the same of a text that is written in its place
+
+pub place_made : {X : Type 0} (xs : List X) (n : ℕ) (x : X) → n ≡ length xs → take n (xs ++ x ∷ []) ≡ take n xs
+place_made xs n x all = one_too_many n xs (x ∷ []) (omega (arith, all))
+
+pub written : {X : Type 0} (shown : X → List ℕ) (olds places news : List X) (n : ℕ) (x : X) (text : List ℕ) → n < length places
+    → take n places ≡ take n olds → news ≡ slice_set places n x → shown x ≡ text
+    → map shown (take (n + 1) news) ≡ map shown (take n olds) ++ text ∷ []
+written shown olds places news n x text within front set is =
+    ap (λ texts. map shown (take (n + 1) texts)) set
+    ∙ ap (map shown) (take_more_set places n x within)
+    ∙ map-append shown (take n places) (x ∷ [])
+    ∙ ap (λ texts. map shown texts ++ shown x ∷ []) front
+    ∙ ap (λ t. map shown (take n olds) ++ t ∷ []) is
+
+pub one_more_written : {X : Type 0} (shown : X → List ℕ) (olds news : List X) (n : ℕ) (text : List ℕ) → n ≤ length olds → n < 64
+    → map shown (take (n + 1) news) ≡ map shown (take n olds) ++ text ∷ []
+    → map shown (take (n + 1) news) ≡ take 64 (map shown (take n olds) ++ text ∷ [])
+one_more_written shown olds news n text within room is =
+    is
+    ∙ sym (take_all 64 (map shown (take n olds) ++ text ∷ [])
+    (rw (length-append (map shown (take n olds)) (text ∷ []), length-map (take n olds) shown) (omega (arith, length-take n olds, within, room))))
+
+pub none_more_written : {X : Type 0} (shown : X → List ℕ) (olds : List X) (n : ℕ) (text : List ℕ) → n ≤ length olds → length olds ≤ 64
+    → 64 ≤ n → map shown (take n olds) ≡ take 64 (map shown (take n olds) ++ text ∷ [])
+none_more_written shown olds n text within fits full =
+    sym (one_too_many 64 (map shown (take n olds)) (text ∷ []) (rw (length-map (take n olds) shown) (omega (arith, length-take n olds, within, full)))
+    ∙ take_all 64 (map shown (take n olds)) (rw (length-map (take n olds) shown) (omega (arith, length-take n olds, within, fits))))

@@ -1,6 +1,6 @@
 -- A walk over a customer's files in order.
 use Rattle.std.proofs.Common.{◌≡◌, ◌<◌, ◌≤◌, ◌+◌, ℕ, Bool, true, false, cond, not, ◌&&◌, List, [], ◌∷◌, ◌++◌, length, take, drop, map}
-use Rattle.std.proofs.Common.{filter, fold, get_or, slice_set, Option, Some, None, refl, sym, ap, ap₂, ◌∙◌, add-one, append_assoc}
+use Rattle.std.proofs.Common.{filter, fold, get_or, slice_set, refl, sym, ap, ap₂, ◌∙◌, add-one, append_assoc}
 use Rattle.std.specs.Prelude.{remove}
 use Rattle.std.proofs.lemmas.List.{set-set, get_or-set_same, set-get_or, get_or_at, drop_more, take_all, map-append, append-nil}
 use Rattle.std.proofs.lemmas.List.Elements.{filter_more}
@@ -10,7 +10,7 @@ use Rattle.njh_spool.specs.CustomerSpool.{CustomerSpool, WholeFile}
 use Rattle.njh_command.specs.declared.changing.Standing.TheVariants.{Other, Busy, Idle}
 use Rattle.njh_command.specs.Replies.{file_line}
 use Rattle.njh_command.specs.Commands.{changed_file, is_idle, kept, owned}
-use Rattle.njh_command.specs.Changes.{line_where, numbers_where, standing_by, without_where}
+use Rattle.njh_command.specs.Changes.{numbers_where, standing_by, without_where}
 use Rattle.njh_command.specs.Files.{file_at, no_file, with_file}
 use Rattle.njh_command.proofs.UpTo.{changed_up_to, count_up_to, left_up_to, removed_up_to}
 use Rattle.njh_command.proofs.OnlyOneLaws.{changed_more, not_yet}
@@ -146,50 +146,22 @@ unchanged p g f e = sym (ap (λ b. cond b (g f) f) e)
 
 -- ---- a line of LIST more
 
-pub line_kept : (who : List ℕ × List ℕ) (i : ℕ) (s : CustomerSpool) (replies : List (List ℕ)) (text : List ℕ) → i < length s.whole
+pub one_listed : (who : List ℕ × List ℕ) (i : ℕ) (s : CustomerSpool) (replies more : List (List ℕ)) → i < length s.whole
     → replies ≡ kept (map file_line (filter (owned who) (take i s.whole)))
-    → Some text ≡ line_where (owned who (file_at i s)) (file_at i s)
-    → (kept (replies ++ text ∷ []) ≡ kept (map file_line (filter (owned who) (take (i + 1) s.whole)))) × (owned who (file_at i s) ≡ true)
-line_kept who i s replies text inside so_far line =
-    by_test (owned who (file_at i s)) refl line
+    → more ≡ cond (owned who (file_at i s)) (kept (replies ++ file_line (file_at i s) ∷ [])) replies
+    → more ≡ kept (map file_line (filter (owned who) (take (i + 1) s.whole)))
+one_listed who i s replies more inside so_far is =
+    is
+    ∙ by_test (owned who (file_at i s))
+    ∙ ap (λ files. kept (map file_line files)) (sym (filter_more (owned who) s.whole i no_file inside))
   where
-    lines : List (List ℕ)
-    lines = map file_line (filter (owned who) (take i s.whole))
+    files : List WholeFile
+    files = filter (owned who) (take i s.whole)
 
-    by_test : (b : Bool) → owned who (file_at i s) ≡ b → Some text ≡ line_where b (file_at i s)
-        → (kept (replies ++ text ∷ []) ≡ kept (map file_line (filter (owned who) (take (i + 1) s.whole)))) × (owned who (file_at i s) ≡
-        true)
-    by_test true own same = (
-      ap₂ (λ rs t. kept (rs ++ t ∷ [])) so_far (some_is same)
-          ∙ kept_more 64 lines (file_line (file_at i s) ∷ [])
-          ∙ ap kept (sym (
-          ap (map file_line) (filter_more (owned who) s.whole i no_file inside)
-          ∙ map-append file_line (filter (owned who) (take i s.whole)) (cond (owned who (file_at i s)) (file_at i s ∷ []) [])
-          ∙ ap (λ b. lines ++ map file_line (cond b (file_at i s ∷ []) [])) own)),
-      own,
-    )
-      where
-        or_none : Option (List ℕ) → List ℕ
-        or_none o = elim o [ Some t ↦ t | None ↦ [] ]
-
-        some_is : Some text ≡ Some (file_line (file_at i s)) → text ≡ file_line (file_at i s)
-        some_is e = ap or_none e
-    by_test false own same = absurd (cc same)
-
-pub no_line : (who : List ℕ × List ℕ) (i : ℕ) (s : CustomerSpool) (replies : List (List ℕ)) → i < length s.whole
-    → replies ≡ kept (map file_line (filter (owned who) (take i s.whole)))
-    → None ≡ line_where (owned who (file_at i s)) (file_at i s)
-    → (replies ≡ kept (map file_line (filter (owned who) (take (i + 1) s.whole)))) × (owned who (file_at i s) ≡ false)
-no_line who i s replies inside so_far line = by_test (owned who (file_at i s)) refl line
-  where
-    by_test : (b : Bool) → owned who (file_at i s) ≡ b → None ≡ line_where b (file_at i s)
-        → (replies ≡ kept (map file_line (filter (owned who) (take (i + 1) s.whole)))) × (owned who (file_at i s) ≡ false)
-    by_test true own same = absurd (cc same)
-    by_test false own same = (
-      so_far
-          ∙ ap (λ files. kept (map file_line files)) (
-          sym (append-nil (filter (owned who) (take i s.whole)))
-          ∙ sym (filter_more (owned who) s.whole i no_file inside
-          ∙ ap (λ b. filter (owned who) (take i s.whole) ++ cond b (file_at i s ∷ []) []) own)),
-      own,
-    )
+    by_test : (b : Bool) → cond b (kept (replies ++ file_line (file_at i s) ∷ [])) replies
+        ≡ kept (map file_line (files ++ cond b (file_at i s ∷ []) []))
+    by_test true =
+        ap (λ rs. kept (rs ++ file_line (file_at i s) ∷ [])) so_far
+        ∙ kept_more 64 (map file_line files) (file_line (file_at i s) ∷ [])
+        ∙ ap kept (sym (map-append file_line files (file_at i s ∷ [])))
+    by_test false = so_far ∙ ap (λ fs. kept (map file_line fs)) (sym (append-nil files))

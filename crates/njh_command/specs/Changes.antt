@@ -1,5 +1,5 @@
 -- What HOLD, RELEASE and REROUTE make of a file, and what they say of it.
-use Rattle.std.specs.Prelude.{ℕ, Bool, true, false, List, [], ◌∷◌, Option, Some, None}
+use Rattle.std.specs.Prelude.{ℕ, Bool, true, false, List, [], ◌∷◌}
 use Rattle.njh_spool.specs.declared.State.TheVariants.{Ready, Held}
 use Rattle.njh_spool.specs.CustomerSpool.{CustomerSpool, WholeFile}
 use Rattle.njh_command.specs.declared.changing.Change.{Change}
@@ -8,7 +8,7 @@ use Rattle.njh_command.specs.declared.changing.Standing.{Standing}
 use Rattle.njh_command.specs.declared.changing.Standing.TheVariants.{Other, Busy, Idle}
 use Rattle.njh_command.specs.Commands.{is_sending, rerouted, with_state}
 use Rattle.njh_command.specs.Files.{without}
-use Rattle.njh_command.specs.Replies.{file_line, held, released, rerouted_to}
+use Rattle.njh_command.specs.Replies.{held, released, rerouted_to}
 
 abbrev pub change_by : Change → WholeFile → WholeFile
 change_by Hold f = with_state Held f
@@ -39,9 +39,3 @@ without_where false index s = s
 abbrev pub numbers_where : Bool → WholeFile → List ℕ
 numbers_where true f = f.number ∷ []
 numbers_where false f = []
-
--- ---- LIST, file by file
-
-abbrev pub line_where : Bool → WholeFile → Option (List ℕ)
-line_where true f = Some (file_line f)
-line_where false f = None

@@ -1,17 +1,16 @@
 //! LIST.
 
-ghost use Rattle.std.specs.Prelude.{◌≡◌, ◌<◌, length};
-ghost use Rattle.std.specs.Option.{option_map};
+ghost use Rattle.std.specs.Prelude.{◌≡◌, ◌<◌, ◌++◌, ◌∷◌, [], cond, length};
 ghost use Rattle.njh_spool.specs.Spools.{part};
-ghost use Rattle.njh_command.specs.Changes.{line_where};
 ghost use Rattle.njh_command.specs.Commands.{kept, listing, owned};
 ghost use Rattle.njh_command.specs.Files.{file_at};
+ghost use Rattle.njh_command.specs.Replies.{file_line};
 
 use crate::choice::is_owner;
 use crate::files::summary_of;
 use crate::replies::Replies;
-use crate::texts::{file_line, files_line};
-use njh_header::{MessageText, User};
+use crate::texts::files_line;
+use njh_header::User;
 use njh_spool::Spool;
 
 /// Tells of each of a user's files, and then of how many they are.
@@ -22,25 +21,25 @@ pub(crate) fn list_files(who: User, spool: &Spool, customer: u16, replies: &mut 
     replies.clear();
     let mut count = 0;
     for index in 0..spool.files(customer) {
-        if let Some(text) = line_at(who, spool, customer, index) {
-            replies.add(text);
+        if list_file(who, spool, customer, index, replies) {
             count += 1;
         }
     }
     replies.add(files_line(count));
 }
 
-/// Tells of the file at a place, where it is the user's own.
-fn line_at(who: User, spool: &Spool, customer: u16, index: u32) -> Option<MessageText>
+/// Tells of the file at a place, where it is the user's own, and says whether it is.
+fn list_file(who: User, spool: &Spool, customer: u16, index: u32, replies: &mut Replies) -> bool
     requires range { customer < length spool.now }
     requires within { index < length (part customer spool.now).whole }
-    ensures { option_map (λ text. text.items) result
-        ≡ line_where (owned who (file_at index (part customer spool.now))) (file_at index (part customer spool.now)) }
+    ensures own { result ≡ owned who (file_at index (part customer spool.now)) }
+    ensures replies { replies.new ≡ cond (owned who (file_at index (part customer spool.now)))
+        (kept (replies.old ++ file_line (file_at index (part customer spool.now)) ∷ [])) replies.old }
 {
     let file = summary_of(spool, customer, index);
-    if is_owner(who, &file.headers) {
-        Some(file_line(&file))
-    } else {
-        None
+    let is_own = is_owner(who, &file.headers);
+    if is_own {
+        replies.add_file(&file);
     }
+    is_own
 }

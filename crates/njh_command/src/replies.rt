@@ -2,9 +2,12 @@
 
 ghost use Rattle.std.specs.Prelude.{◌≡◌, ◌+◌, ◌<◌, ◌≤◌, ◌∷◌, ◌++◌, [], length, map, take};
 ghost use Rattle.njh_command.specs.Commands.{kept};
+ghost use Rattle.njh_command.specs.Replies.{line_of};
 
+use crate::texts::put_file_line;
 use arrayvec::ArrayVec;
 use njh_header::MessageText;
+use njh_spool::FileSummary;
 use std::marker::Model;
 
 /// The most replies to one command; those behind them aren't said.
@@ -74,6 +77,17 @@ impl Replies {
         }
     }
 
+    /// One reply more, that tells of a file, where there is room. Its text is written in its place.
+    pub(crate) fn add_file(&mut self, file: &FileSummary)
+        ensures { self.new ≡ kept (self.old ++ line_of file.now.headers.name file.now.headers.destination file.now.kind
+            file.now.records file.now.state ∷ []) }
+    {
+        if self.count < MOST_REPLIES {
+            put_file_at(&mut self.texts, self.count, file);
+            self.count += 1;
+        }
+    }
+
     /// The replies.
     pub fn texts(&self) -> &[MessageText]
         ensures { map (λ t. t.items) result.now ≡ self.now }
@@ -95,5 +109,34 @@ fn put_at(texts: &mut ArrayVec<MessageText, MOST_REPLIES>, count: usize, text: M
         texts[count] = text;
     } else {
         texts.push(text);
+    }
+}
+
+/// Writes what tells of a file behind the first texts, in the place of what may stand there.
+#[tactic(auto, using(crate::proofs::ReplyLaws::written))]
+fn put_file_at(texts: &mut ArrayVec<MessageText, MOST_REPLIES>, count: usize, file: &FileSummary)
+    requires within { count ≤ length texts.old.items }
+    requires room { count < 64 }
+    ensures front { map (λ t. t.items) (take (count + 1) texts.new.items)
+        ≡ map (λ t. t.items) (take count texts.old.items) ++ line_of file.now.headers.name file.now.headers.destination file.now.kind
+        file.now.records file.now.state ∷ [] }
+    ensures more { count + 1 ≤ length texts.new.items }
+    ensures most { length texts.new.items ≤ 64 }
+{
+    make_place(texts, count);
+    put_file_line(&mut texts[count], file);
+}
+
+/// Puts an empty text behind the first texts, where there is none.
+#[tactic(auto, using(crate::proofs::ReplyLaws::place_made))]
+fn make_place(texts: &mut ArrayVec<MessageText, MOST_REPLIES>, count: usize)
+    requires within { count ≤ length texts.old.items }
+    requires room { count < 64 }
+    ensures front { take count texts.new.items ≡ take count texts.old.items }
+    ensures more { count < length texts.new.items }
+    ensures most { length texts.new.items ≤ 64 }
+{
+    if count == texts.len() {
+        texts.push(MessageText::new());
     }
 }

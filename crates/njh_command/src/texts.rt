@@ -103,24 +103,21 @@ pub(crate) fn being_sent(name: FileName) -> MessageText
     text
 }
 
-/// NJH001: a file by its name, destination, kind, number of records and state.
-pub(crate) fn file_line(file: &FileSummary) -> MessageText
-    ensures { result.items ≡ replies.line_of file.now.headers.name file.now.headers.destination file.now.kind file.now.records
+/// NJH001: a file by its name, destination, kind, number of records and state, in the place of what was there.
+pub(crate) fn put_file_line(text: &mut MessageText, file: &FileSummary)
+    ensures { text.new.items ≡ replies.line_of file.now.headers.name file.now.headers.destination file.now.kind file.now.records
         file.now.state }
 {
-    let mut text = MessageText::new();
-    push_ascii(&mut text, "NJH001 ");
-    put_bytes(
-        &mut text,
-        &file_text(
-            file.headers.name,
-            file.headers.destination,
-            file.kind,
-            file.records,
-            file.state,
-        ),
+    text.clear();
+    push_ascii(text, "NJH001 ");
+    push_file_text(
+        text,
+        file.headers.name,
+        file.headers.destination,
+        file.kind,
+        file.records,
+        file.state,
     );
-    text
 }
 
 /// What NJH001 says of a file, behind its number: its name, destination, kind, number of records and state. It leaves out a name or a
@@ -137,16 +134,33 @@ pub fn file_text(
     ensures few { length result.items ≤ 72 }
 {
     let mut text = MessageText::new();
-    push_name(&mut text, name);
-    push_ascii(&mut text, " TO ");
-    push_destination(&mut text, destination);
-    push_ascii(&mut text, " ");
-    push_kind(&mut text, kind);
-    push_ascii(&mut text, " ");
-    push_digits(&mut text, records);
-    push_ascii(&mut text, " RECORDS ");
-    push_state(&mut text, state);
+    push_file_text(&mut text, name, destination, kind, records, state);
     text
+}
+
+/// Appends the same.
+#[tactic(auto, unfolding(crate::specs::Replies::file_text))]
+fn push_file_text(
+    text: &mut MessageText,
+    name: Option<FileName>,
+    destination: Option<Destination>,
+    kind: Kind,
+    records: u32,
+    state: State,
+)
+    requires { length text.old.items + 72 ≤ 148 }
+    ensures text { text.new.items ≡ text.old.items ++ replies.file_text name destination kind records state }
+    ensures few { length text.new.items ≤ length text.old.items + 72 }
+{
+    push_name(text, name);
+    push_ascii(text, " TO ");
+    push_destination(text, destination);
+    push_ascii(text, " ");
+    push_kind(text, kind);
+    push_ascii(text, " ");
+    push_digits(text, records);
+    push_ascii(text, " RECORDS ");
+    push_state(text, state);
 }
 
 /// Appends a file's name.

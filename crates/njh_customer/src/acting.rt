@@ -226,7 +226,7 @@ fn pass_on(other: u16, message: &Nmr, lines: &mut CustomerLines)
 {
     let mut record = Record::new();
     message.write(&mut record);
-    lines.push_message(other, &record);
+    lines.push_message(other, record);
 }
 
 /// The sender of a command is told that nobody has its node.

@@ -257,7 +257,7 @@ fn act_where(
         (acted_where acts line.line read.entry.items (customer_of tables.now line.customer spool.old lines.old)).customer }
     ensures ready { IsReady tables.now line spool.new lines.new }
 {
-    if acts {
+    if acts && !read.is_empty() {
         all_act(line, read, tables, spool, lines, replies)
     } else {
         false

@@ -150,8 +150,8 @@ impl CustomerLine {
     }
 
     /// Lets a nodal message wait.
-    pub(crate) fn push_message(&mut self, message: &Record)
-        ensures { self.new ≡ in_state (lines.with_message message.now.items) self.old }
+    pub(crate) fn push_message(&mut self, message: Record)
+        ensures { self.new ≡ in_state (lines.with_message message.items) self.old }
     {
         self.line.push_message(message);
     }
@@ -266,7 +266,7 @@ impl Outgoing for CustomerLine {
     }
 
     fn pop_message(&mut self) {
-        self.line.pop_message();
+        self.line.drop_message();
     }
 
     fn sender(&self, stream: Stream) -> Sender {

@@ -169,8 +169,8 @@ impl CustomerLines {
     }
 
     /// Lets a nodal message wait on a line, if the line is there.
-    pub(crate) fn push_message(&mut self, line: u16, message: &Record)
-        ensures { self.new ≡ waits line message.now.items self.old }
+    pub(crate) fn push_message(&mut self, line: u16, message: Record)
+        ensures { self.new ≡ waits line message.items self.old }
     {
         if usize::from(line) < self.lines.len() {
             self.lines[usize::from(line)].push_message(message);
@@ -178,8 +178,8 @@ impl CustomerLines {
     }
 
     /// A nodal message goes by a route, and is dropped where that is no line.
-    fn send(&mut self, route: Route, message: &Record)
-        ensures { self.new ≡ goes route message.now.items self.old }
+    fn send(&mut self, route: Route, message: Record)
+        ensures { self.new ≡ goes route message.items self.old }
     {
         match route {
             Route::Line(line) => self.push_message(line, message),
@@ -202,7 +202,7 @@ impl CustomerLines {
     {
         let mut record = Record::new();
         Nmr::write_notice(hub, node, user, text, &mut record);
-        self.send(route, &record);
+        self.send(route, record);
     }
 
     /// The hub replies to a user's command.

@@ -11,6 +11,7 @@ mod frame_buffer;
 mod law;
 mod lines;
 mod new_routes;
+mod room;
 mod sending;
 mod signal;
 
@@ -22,4 +23,5 @@ pub use law::{
 };
 pub use lines::Lines;
 pub use new_routes::{routes_keep_coherent, unrouted_files_stay};
+pub use room::Room;
 pub use signal::Signal;

@@ -15,10 +15,9 @@ use crate::customer::{take_frame, take_signal};
 use crate::customer_line::CustomerLine;
 use crate::customer_lines::CustomerLines;
 use crate::frame_buffer::FrameBuffer;
+use crate::room::Room;
 use crate::signal::Signal;
 use njh_bisync::Deframer;
-use njh_block::{Bcb, BlockWriter, Fcs};
-use njh_command::Replies;
 use njh_ebcdic::Name;
 use njh_line::Config;
 use njh_spool::Spool;
@@ -26,16 +25,13 @@ use njh_table::{Customer, LineId, Role, Tables};
 use std::alloc::{AllocError, Global};
 use std::marker::Model;
 
-/// The lines of one customer, each with what has come of its next frame, and room for the block that is being written and for
-/// the replies to a command.
+/// The lines of one customer, each with what has come of its next frame.
 ///
 /// The deframers stand beside the lines, so that a text may stay lent from one while its records act on any line.
 #[derive(Drop)]
 pub struct Lines {
     deframers: Vec<Deframer>,
     lines: CustomerLines,
-    block: BlockWriter,
-    replies: Replies,
 }
 
 impl Model for Lines {
@@ -67,12 +63,7 @@ impl Lines {
             deframers.push(Deframer::new(alloc)?)?;
             lines.push(CustomerLine::new(alloc, config_of(customer, line), line.streams())?)?;
         }
-        Ok(Lines {
-            deframers,
-            lines,
-            block: BlockWriter::new(300, Bcb::normal(0), Fcs::nothing_suspended()),
-            replies: Replies::new(),
-        })
+        Ok(Lines { deframers, lines })
     }
 
     /// How many lines there are.
@@ -84,13 +75,14 @@ impl Lines {
     }
 
     /// One step by bytes of a line: those up to the end of the first frame that is answered, or all. Says how many. The frame that is
-    /// sent is put into `out`, which is empty then where none is.
+    /// sent is put into `out`, which is empty then where none is. Nothing depends on what `room` held.
     pub fn take_bytes(
         &mut self,
         line: LineId,
         piece: &[u8],
         tables: &mut Tables,
         spool: &mut Spool,
+        room: &mut Room,
         out: &mut FrameBuffer,
     ) -> usize
         requires ready { IsReady tables.old line spool.old self.old.lines }
@@ -111,7 +103,7 @@ impl Lines {
         let mut left = piece;
         let mut taken = 0;
         while !left.is_empty() && out.is_empty() {
-            let used = self.take_frame(line, left, tables, spool, out);
+            let used = self.take_frame(line, left, tables, spool, room, out);
             taken += used;
             let (_, after) = left.split_at(used);
             left = after;
@@ -127,6 +119,7 @@ impl Lines {
         piece: &[u8],
         tables: &mut Tables,
         spool: &mut Spool,
+        room: &mut Room,
         out: &mut FrameBuffer,
     ) -> usize
         requires ready { IsReady tables.old line spool.old self.old.lines }
@@ -151,8 +144,8 @@ impl Lines {
             tables,
             spool,
             &mut self.lines,
-            &mut self.block,
-            &mut self.replies,
+            &mut room.block,
+            &mut room.replies,
             out,
         );
         taken
@@ -166,6 +159,7 @@ impl Lines {
         signal: Signal,
         tables: &mut Tables,
         spool: &mut Spool,
+        room: &mut Room,
         out: &mut FrameBuffer,
     )
         requires ready { IsReady tables.old line spool.old self.old.lines }
@@ -185,7 +179,7 @@ impl Lines {
             tables,
             spool,
             &mut self.lines,
-            &mut self.block,
+            &mut room.block,
             out,
         );
     }

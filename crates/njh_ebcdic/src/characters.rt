@@ -5,6 +5,7 @@ ghost use Rattle.njh_ebcdic.specs.Characters.{byte_of_character, is_plain, shown
 ghost use Rattle.njh_ebcdic.specs.Names.{ebcdic_byte, upper};
 
 use crate::fields::BLANK;
+use crate::laws::characters_and_bytes;
 
 /// What is shown of a byte that has no character.
 const NONE: char = '?';
@@ -40,6 +41,18 @@ pub fn text_of(byte: u8) -> char
 
 /// The byte of a character, of those that have one here.
 pub fn byte_of(character: char) -> Option<u8>
+    ensures { result ≡ byte_of_character character }
+{
+    characters_and_bytes();
+    match character {
+        // Names are made of these, so they are found without a look through the chart.
+        'A'..='Z' | '0'..='9' => Some(plain_byte(character as u8)),
+        _ => charted_byte(character),
+    }
+}
+
+/// The same, by a look through the chart.
+fn charted_byte(character: char) -> Option<u8>
     ensures { result ≡ byte_of_character character }
 {
     if character == NONE {

@@ -1,6 +1,6 @@
 //! What comes to the hub.
 
-ghost use Rattle.std.specs.Prelude.{◌≡◌, IfOk};
+ghost use Rattle.std.specs.Prelude.{◌≡◌, ◌≤◌, ◌<◌, take, IfOk};
 
 use crate::route_list::RouteList;
 use njh_table::LineId;
@@ -8,25 +8,25 @@ use std::alloc::{AllocError, Global};
 use std::marker::Model;
 
 /// How many bytes of a piece lie in the piece itself; more are in a vector.
-const SHORT: usize = 23;
+pub const SHORT_PIECE: usize = 23;
 
 /// Some bytes of a line, of any number; a caller sees them as a list.
 #[derive(Drop)]
 pub struct Piece {
-    short: [u8; SHORT],
+    short: [u8; SHORT_PIECE],
     len: u8,
     long: Vec<u8>,
 }
 
 impl Model for Piece {
     ghost use Rattle.std.specs.Prelude.{◌≡◌, ◌≤◌, ◌⊎◌, ◌++◌, [], take, List, ℕ};
-    ghost use Rattle.njh_hub.specs.declared.event.TheConstants.{SHORT};
+    ghost use Rattle.njh_hub.specs.declared.event.TheConstants.{SHORT_PIECE};
 
     ghost Value = { List ℕ };
 
     ghost view = { λ p. take p.len p.short ++ p.long.items };
 
-    ghost invariant = { λ p. (p.len ≤ SHORT) × ((p.len ≡ 0) ⊎ (p.long.items ≡ [])) };
+    ghost invariant = { λ p. (p.len ≤ SHORT_PIECE) × ((p.len ≡ 0) ⊎ (p.long.items ≡ [])) };
 }
 
 impl Piece {
@@ -34,10 +34,10 @@ impl Piece {
     pub fn of(alloc: Global, bytes: &[u8]) -> Result<Piece, AllocError>
         ensures { IfOk result (λ piece. piece ≡ bytes.now) }
     {
-        if bytes.len() > SHORT {
+        if bytes.len() > SHORT_PIECE {
             return Ok(Piece::of_vec(Vec::from_slice(alloc, bytes)?));
         }
-        let mut short = [0; SHORT];
+        let mut short = [0; SHORT_PIECE];
         short[..bytes.len()].copy_from_slice(bytes);
         Ok(Piece {
             short,
@@ -46,12 +46,25 @@ impl Piece {
         })
     }
 
+    /// So many bytes from the front of some, at least one. No memory is taken.
+    pub fn of_short(alloc: Global, short: [u8; SHORT_PIECE], len: usize) -> Piece
+        requires within { len ≤ SHORT_PIECE }
+        requires some { 0 < len }
+        ensures { result ≡ take len short }
+    {
+        Piece {
+            short,
+            len: len as u8,
+            long: Vec::new(alloc),
+        }
+    }
+
     /// These very bytes.
     pub fn of_vec(bytes: Vec<u8>) -> Piece
         ensures { result ≡ bytes.items }
     {
         Piece {
-            short: [0; SHORT],
+            short: [0; SHORT_PIECE],
             len: 0,
             long: bytes,
         }

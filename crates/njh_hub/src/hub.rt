@@ -15,7 +15,7 @@ use crate::fault::HubFault;
 use crate::file_view::{FileView, files_of};
 use crate::opening::{all_down, open_lines, open_spool};
 use njh_bisync::LONGEST_FRAME;
-use njh_customer::{FrameBuffer, Lines, Signal, marks_are_right, opened_is_coherent};
+use njh_customer::{FrameBuffer, Lines, Room, Signal, marks_are_right, opened_is_coherent};
 use njh_spool::Spool;
 use njh_table::{LineId, Tables, marks_change_one_entry};
 use std::alloc::Global;
@@ -28,6 +28,8 @@ pub struct Hub {
     tables: Tables,
     spool: Spool,
     lines: Vec<Lines>,
+    /// What a step writes in; it is lent to each customer in turn, and says nothing of any.
+    room: Room,
     alloc: Global,
 }
 
@@ -64,6 +66,7 @@ impl Hub {
             tables,
             spool,
             lines,
+            room: Room::new(),
             alloc,
         })
     }
@@ -137,7 +140,14 @@ impl Hub {
         marks_are_right();
         let mut frame = self.frame_buffer(line, out)?;
         let lines = &mut self.lines[usize::from(line.customer)];
-        let taken = lines.take_bytes(line, piece, &mut self.tables, &mut self.spool, &mut frame);
+        let taken = lines.take_bytes(
+            line,
+            piece,
+            &mut self.tables,
+            &mut self.spool,
+            &mut self.room,
+            &mut frame,
+        );
         *out = frame.into_bytes();
         Ok(taken)
     }
@@ -179,7 +189,14 @@ impl Hub {
         marks_are_right();
         let mut frame = self.frame_buffer(line, out)?;
         let lines = &mut self.lines[usize::from(line.customer)];
-        lines.take_signal(line, signal, &mut self.tables, &mut self.spool, &mut frame);
+        lines.take_signal(
+            line,
+            signal,
+            &mut self.tables,
+            &mut self.spool,
+            &mut self.room,
+            &mut frame,
+        );
         *out = frame.into_bytes();
         Ok(())
     }

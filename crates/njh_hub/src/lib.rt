@@ -17,7 +17,7 @@ mod turn;
 mod wire;
 mod wire_law;
 
-pub use event::{Event, Piece};
+pub use event::{Event, Piece, SHORT_PIECE};
 pub use fault::{Cause, HubFault, RunFault};
 pub use file_view::{FileRecord, FileView};
 pub use headline::{outcome, two_runs};

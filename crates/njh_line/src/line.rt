@@ -57,7 +57,7 @@ impl Model for Line {
 }
 
 impl Line {
-    ghost use Rattle.std.specs.Prelude.{◌≡◌, ◌≤◌, IfOk, length, nat_lt, option_map, slice_get};
+    ghost use Rattle.std.specs.Prelude.{◌≡◌, ◌+◌, ◌≤◌, IfOk, length, nat_lt, option_map, slice_get};
     ghost use Rattle.njh_line.specs.Sessions.{IsConfig, IsSession};
     ghost use Rattle.njh_line.specs.LineTable.{accepted, shown};
     ghost use Rattle.njh_line.specs.Lines.{IsShort, after_end, after_input, after_sending, fresh_line, shown_sent};
@@ -172,14 +172,11 @@ impl Line {
     }
 
     /// Lets a nodal message wait behind the others, where fewer than 64 wait. Otherwise it is dropped.
-    pub fn push_message(&mut self, message: &Record) -> bool
+    pub fn push_message(&mut self, message: Record) -> bool
         ensures room { result ≡ nat_lt (length self.old.messages) MESSAGES }
-        ensures line { self.new ≡ with_message message.now.items self.old }
+        ensures line { self.new ≡ with_message message.items self.old }
     {
-        if self.messages.is_full() {
-            return false;
-        }
-        self.messages.try_push_back(copy(message)).is_ok()
+        self.messages.try_push_back(message).is_ok()
     }
 
     /// The message that waits longest.
@@ -189,12 +186,14 @@ impl Line {
         self.messages.front()
     }
 
-    /// Takes the message that waits longest.
-    pub fn pop_message(&mut self) -> Option<Record>
-        ensures front { option_map (λ m. m.items) result ≡ slice_get self.old.messages 0 }
-        ensures line { self.new ≡ without_message self.old }
+    /// Drops the message that waits longest, where there is one.
+    pub fn drop_message(&mut self)
+        ensures { self.new ≡ without_message self.old }
     {
-        self.messages.pop_front()
+        let waiting = self.messages.len();
+        if waiting > 0 {
+            self.messages.truncate_front(waiting - 1);
+        }
     }
 }
 
@@ -206,12 +205,4 @@ fn keep(last: &mut Vec<u8>, frame: &[u8])
 {
     last.clear();
     last.extend_from_slice(frame).unwrap();
-}
-
-fn copy(message: &Record) -> Record
-    ensures { result.items ≡ message.now.items }
-{
-    let mut copied = Record::new();
-    copied.try_extend_from_slice(message).unwrap();
-    copied
 }

@@ -4,6 +4,7 @@ mod FoundLines
 mod LineForms
 mod Lines
 mod Parting
+mod PlainLines
 mod PrintedParts
 mod Printing
 mod ReplayLaws

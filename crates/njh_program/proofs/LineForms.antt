@@ -82,7 +82,7 @@ event_on_line-two names word name whole =
     ap (λ (words : List (List ℕ)). event_on_line names (word ∷ words)) (parts-whole 32 name (lit< tt) whole)
 
 -- the event of a word, the name of a line and digits
-digits_event : (names : List ℕ → Option LineId) (word name digits : List ℕ)
+pub digits_event : (names : List ℕ → Option LineId) (word name digits : List ℕ)
     → event_on_line names (word ∷ name ∷ words_of digits) ≡ option_and_then (bytes_on word digits) (names name)
 digits_event names word name digits = by (cases_lt (position_or_len is_blank digits) (length digits)) where
   by : (position_or_len is_blank digits < length digits) ⊎ (length digits ≤ position_or_len is_blank digits)

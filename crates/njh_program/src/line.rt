@@ -8,16 +8,62 @@ ghost use Rattle.njh_program.specs.ScriptRoutes.{IsNamedIn};
 
 use crate::script_routes::routes_event;
 use hex::FromHexError;
-use njh_hub::{Event, Piece};
+use memchr::memchr;
+use njh_hub::{Event, Piece, SHORT_PIECE};
 use njh_table::{LineId, Tables};
 use std::alloc::{AllocError, Global};
-
-/// How many bytes of an event are decoded where no memory is taken for them.
-const SHORT: usize = 23;
 
 /// The event of a line, if it has one; it names what the tables have. Out of memory is the only refusal.
 #[tactic(auto, unfolding(crate::specs::Script::event_of))]
 pub fn event_of(alloc: Global, tables: &Tables, line: &[u8]) -> Result<Option<Event>, AllocError>
+    ensures event { IfOk result (λ event. event ≡ event_of tables.now line.now) }
+    ensures named { IfOk result (λ event. IfSome event (IsNamedIn tables.now)) }
+{
+    match plain_event(alloc, tables, line)? {
+        Some(event) => Ok(Some(event)),
+        None => any_event(alloc, tables, line),
+    }
+}
+
+/// The event of a line of `BYTES` that stands as it should, of whose bytes the name alone is looked at as text.
+/// Where there is none the line is looked at again, whole.
+fn plain_event(alloc: Global, tables: &Tables, line: &[u8]) -> Result<Option<Event>, AllocError>
+    ensures event { IfOk result (λ event. IfSome event (λ e. event_of tables.now line.now ≡ Some e)) }
+    ensures named { IfOk result (λ event. IfSome event (IsNamedIn tables.now)) }
+{
+    let Some(rest) = behind_word(line) else {
+        return Ok(None);
+    };
+    let Some(len) = memchr(b' ', rest) else {
+        return Ok(None);
+    };
+    let (name, _) = rest.split_at(len);
+    let (_, digits) = rest.split_at(len + 1);
+    let Ok(name) = str::from_utf8(name) else {
+        return Ok(None);
+    };
+    let Some(line) = tables.line_owner(name) else {
+        return Ok(None);
+    };
+    match piece_of(alloc, digits)? {
+        Some(piece) => Ok(Some(Event::Bytes(line, piece))),
+        None => Ok(None),
+    }
+}
+
+/// What stands behind the word `BYTES` and a blank.
+fn behind_word(line: &[u8]) -> Option<&[u8]>
+    ensures { IfSome result (λ rest. line.now ≡ 66 ∷ 89 ∷ 84 ∷ 69 ∷ 83 ∷ 32 ∷ rest.now) }
+{
+    match line {
+        [b'B', b'Y', b'T', b'E', b'S', b' ', rest @ ..] => Some(rest),
+        _ => None,
+    }
+}
+
+/// The event of a line of any form.
+#[tactic(auto, unfolding(crate::specs::Script::event_of))]
+fn any_event(alloc: Global, tables: &Tables, line: &[u8]) -> Result<Option<Event>, AllocError>
     ensures event { IfOk result (λ event. event ≡ event_of tables.now line.now) }
     ensures named { IfOk result (λ event. IfSome event (IsNamedIn tables.now)) }
 {
@@ -91,7 +137,7 @@ fn bytes_on(
     if word != "BYTES" {
         return Ok(None);
     }
-    match piece_of(alloc, digits)? {
+    match piece_of(alloc, digits.as_bytes())? {
         Some(piece) => Ok(Some(Event::Bytes(line, piece))),
         None => Ok(None),
     }
@@ -99,22 +145,23 @@ fn bytes_on(
 
 /// The bytes that hex digits spell, if they spell any. Few take no memory.
 #[tactic(auto, unfolding(hex::specs::Hex::decode_sized))]
-fn piece_of(alloc: Global, digits: &str) -> Result<Option<Piece>, AllocError>
+fn piece_of(alloc: Global, digits: &[u8]) -> Result<Option<Piece>, AllocError>
     ensures { IfOk result (λ piece. piece ≡ piece_of digits.now) }
 {
-    let mut room = [0; SHORT];
-    match room.get_mut(..digits.len() / 2) {
-        Some(bytes) => match hex::decode_to_slice(digits, bytes) {
-            Ok(()) if bytes.is_empty() => Ok(None),
-            Ok(()) => Ok(Some(Piece::of(alloc, bytes)?)),
-            Err(_) => Ok(None),
-        },
-        None => long_piece_of(alloc, digits),
+    let len = digits.len() / 2;
+    if len > SHORT_PIECE {
+        return long_piece_of(alloc, digits);
+    }
+    let mut room = [0; SHORT_PIECE];
+    match hex::decode_to_slice(digits, &mut room[..len]) {
+        Ok(()) if len == 0 => Ok(None),
+        Ok(()) => Ok(Some(Piece::of_short(alloc, room, len))),
+        Err(_) => Ok(None),
     }
 }
 
 /// The same of any number of digits.
-fn long_piece_of(alloc: Global, digits: &str) -> Result<Option<Piece>, AllocError>
+fn long_piece_of(alloc: Global, digits: &[u8]) -> Result<Option<Piece>, AllocError>
     ensures { IfOk result (λ piece. piece ≡ piece_of digits.now) }
 {
     match hex::decode(alloc, digits) {

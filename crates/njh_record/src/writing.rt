@@ -110,13 +110,24 @@ fn run_item(byte: u8, count: usize) -> Item<'static>
     }
 }
 
+/// The same as `run_len`, where most often the second byte is another.
+fn front_run(bytes: &[u8]) -> usize
+    requires { 0 < length bytes.now }
+    ensures { result ≡ run_of bytes.now }
+{
+    match bytes {
+        [first, second, ..] if *first == *second => run_len(bytes),
+        _ => 1,
+    }
+}
+
 /// The item that spells the front of some bytes.
 fn first_item(bytes: &[u8]) -> Item<'_>
     requires { 0 < length bytes.now }
     ensures item { item_of result ≡ first_item bytes.now }
     ensures front { SpellsFront bytes.now (item_of result) }
 {
-    let count = run_len(bytes);
+    let count = front_run(bytes);
     if is_run(bytes[0], count) {
         run_item(bytes[0], count)
     } else {

@@ -108,3 +108,75 @@ Appends-then slot bytes left part after old now later appends within grows split
           let before = appends.filled (omega (arith, ap length split, length-append part after)) in
           omega (arith, ap length here, length-append (chain_at slot now).bytes part);
     }
+
+-- the string with all its bytes takes no fewer blocks than with the first of them
+pub fewer_blocks : (slot : ℕ) (first second : List ℕ) (store : StoreValue) → slot < length store.chains →
+    blocks_used (with_bytes slot ((chain_at slot store).bytes ++ first) store) ≤ blocks_used (with_bytes slot
+    ((chain_at slot store).bytes ++ (first ++ second)) store)
+fewer_blocks slot first second store within =
+    let chain = chain_at slot store in
+    omega (
+      arith,
+      blocks_used-with_chain slot (record { keys = chain.keys; bytes = chain.bytes ++ first }) store within,
+      blocks_used-with_chain slot (record { keys = chain.keys; bytes = chain.bytes ++ (first ++ second) }) store within,
+      length-append chain.bytes first,
+      length-append chain.bytes (first ++ second),
+      length-append first second,
+    )
+
+-- a string that has grown grows again
+module _ (slot : ℕ) (first second : List ℕ) (old now : StoreValue) (within : slot < length old.chains)
+    (grows : Grows slot first old now) where
+  abbrev grown : Chain
+  grown = record { keys = (chain_at slot now).keys; bytes = (chain_at slot old).bytes ++ first }
+
+  grown_is : chain_at slot now ≡ grown
+  grown_is = Only-chain slot old now grown within grows.after
+
+  pub grown_within : slot < length now.chains
+  grown_within = omega (arith, ap (λ (x : StoreValue). length x.chains) grows.after, length-set old.chains slot grown)
+
+  pub grown_capacity : now.capacity ≡ old.capacity
+  grown_capacity = ap (λ (x : StoreValue). x.capacity) grows.after
+
+  pub grown_blocks : blocks_used (with_bytes slot ((chain_at slot now).bytes ++ second) now) ≡ blocks_used (with_bytes slot
+      ((chain_at slot old).bytes ++ (first ++ second)) old)
+  grown_blocks =
+      let bytes = ap (λ (c : Chain). length (c.bytes ++ second)) grown_is in
+      let size = ap (λ (c : Chain). length c.bytes) grown_is in
+      let mid = ap blocks_used grows.after in
+      omega (
+        arith,
+        mid,
+        size,
+        bytes,
+        blocks_used-with_chain slot grown old within,
+        blocks_used-with_chain slot (record { keys = (chain_at slot now).keys; bytes = (chain_at slot now).bytes ++ second }) now grown_within,
+        blocks_used-with_chain slot
+            (record { keys = (chain_at slot old).keys; bytes = (chain_at slot old).bytes ++ (first ++ second) }) old within,
+        length-append ((chain_at slot old).bytes ++ first) second,
+        length-append (chain_at slot old).bytes first,
+        length-append (chain_at slot old).bytes (first ++ second),
+        length-append first second,
+      )
+
+  pub grows_again : (later : StoreValue) → Grows slot second now later → Grows slot (first ++ second) old later
+  grows_again later more =
+      let keys = (chain_at slot later).keys in
+      let m = length (chain_at slot old).keys in
+      let n = length (chain_at slot now).keys in
+      let fewer : m ≤ n = omega (arith, ap length grows.keys, length-take m (chain_at slot now).keys) in
+      let bytes : (chain_at slot now).bytes ++ second ≡ (chain_at slot old).bytes ++ (first ++ second) =
+      ap (λ (c : Chain). c.bytes ++ second) grown_is ∙ append_assoc (chain_at slot old).bytes first second in
+      record {
+        after =
+            more.after
+            ∙ ap (λ (xs : List ℕ). with_chain slot (record { keys = keys; bytes = xs }) now) bytes
+            ∙ ap (with_chain slot (record { keys = keys; bytes = (chain_at slot old).bytes ++ (first ++ second) })) grows.after
+            ∙ with_chain-twice slot grown
+            (record { keys = keys; bytes = (chain_at slot old).bytes ++ (first ++ second) }) old;
+        keys =
+            sym (take-take m n keys fewer)
+            ∙ ap (take m) more.keys
+            ∙ grows.keys;
+      }

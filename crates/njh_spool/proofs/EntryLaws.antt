@@ -7,7 +7,12 @@ use Rattle.std.proofs.lemmas.List.{take_all, take_more, take-append-le, append-n
 use Rattle.std.proofs.lemmas.List.Elements.{filter-append}
 use Rattle.njh_spool.proofs.OnlyOne.{filter_none}
 
-take-set_out : (xs : List ℕ) (k i y : ℕ) → k ≤ i → take k (set xs i y) ≡ take k xs
+pub any_default : (xs : List ℕ) (i d e : ℕ) → i < length xs → get_or xs i d ≡ get_or xs i e
+any_default [] i d e within = absurd (omega arith)
+any_default (x ∷ xs) zero d e within = refl
+any_default (x ∷ xs) (suc i) d e within = any_default xs i d e (omega arith)
+
+pub take-set_out : (xs : List ℕ) (k i y : ℕ) → k ≤ i → take k (set xs i y) ≡ take k xs
 take-set_out [] k i y after = refl
 take-set_out (x ∷ xs) zero i y after = refl
 take-set_out (x ∷ xs) (suc k) zero y after = absurd (omega arith)

@@ -26,14 +26,15 @@ nowhere xs n q none within same =
 before_none : (k : ℕ) → before k [] ≡ 0
 before_none k = passed_all is_number k [] (omega arith)
 
-pub empty_index : (places counts : List ℕ) → length places ≡ 1024 → counts ≡ replicate 32 0 → IsIndex [] places counts 0
+pub empty_index : (places counts : List ℕ) → length places ≤ 1024 → counts ≡ replicate 32 0 → IsIndex [] places counts 0
 empty_index places counts all zeros =
     record {
       few = omega arith;
-      all_places = all;
+      few_places = all;
       all_counts = ap length zeros ∙ length-replicate {A = ℕ} 32 0;
       counted = refl;
       placed = λ p within. absurd (omega arith);
+      reached = λ p within. absurd (omega arith);
       grouped = λ g within. omega (
         arith,
         ap (λ (xs : List ℕ). get_or xs g 0) zeros,
@@ -126,6 +127,18 @@ module _ (xs places counts : List ℕ) (count : ℕ) (is : IsIndex xs places cou
         let entry = get_or-set_other xs place p 65535 0 other in
         ap (λ (n : ℕ). get_or places n 0) entry ∙ is.placed p (omega (arith, size, inside)) (omega (arith, entry, small))
 
+    reach_left : (p : ℕ) → p < length left → get_or left p 0 < 1024 → get_or left p 0 < length places
+    reach_left p inside small =
+        let size = length-set xs place 65535 in
+        let other : p ≢ place = λ same. absurd (omega (
+          arith,
+          get_or-set_same xs place 65535 0 within,
+          ap (λ (k : ℕ). get_or left k 0) same,
+          small,
+        )) in
+        let entry = get_or-set_other xs place p 65535 0 other in
+        omega (arith, entry, is.reached p (omega (arith, size, inside)) (omega (arith, entry, small)))
+
     pub cleared : IsIndex left places (set counts (place / 32) (get_or counts (place / 32) 0 - 1)) (count - 1)
     cleared =
         let hole = passed_hole is_number xs (length xs) place 65535 within within stands refl in
@@ -133,10 +146,11 @@ module _ (xs places counts : List ℕ) (count : ℕ) (is : IsIndex xs places cou
         let all_left = passed_all is_number (length xs) left (omega (arith, length-set xs place 65535)) in
         record {
           few = omega (arith, length-set xs place 65535, is.few);
-          all_places = is.all_places;
+          few_places = is.few_places;
           all_counts = length-set counts (place / 32) (get_or counts (place / 32) 0 - 1) ∙ is.all_counts;
           counted = omega (arith, is.counted, hole, all, all_left);
           placed = place_left;
+          reached = reach_left;
           grouped = group_left;
         }
 
@@ -223,28 +237,55 @@ module _ (xs places counts : List ℕ) (count : ℕ) (is : IsIndex xs places cou
           ]
         ]
 
-    place_more : (p : ℕ) → p < length more → get_or more p 0 < 1024 → get_or (set places n (length xs)) (get_or more p 0) 0 ≡ p
-    place_more p inside small = elim (cases_lt p (length xs)) [
-      | inl old ↦
-          let entry = get_or_append_left xs (n ∷ []) 0 p old in
-          let other = nowhere xs n p none old in
-          let kept = get_or-set_other places n (get_or xs p 0) (length xs) 0 other in
-          ap (λ (m : ℕ). get_or (set places n (length xs)) m 0) entry ∙ kept ∙ is.placed p old (omega (arith, entry, small))
-      | inr last ↦
-          let here : p ≡ length xs + 0 = omega (arith, size, inside) in
-          let entry : get_or more p 0 ≡ n = ap (λ (k : ℕ). get_or more k 0) here ∙ get_or-append-add xs (n ∷ []) 0 0 in
-          ap (λ (m : ℕ). get_or (set places n (length xs)) m 0) entry
-          ∙ get_or-set_same places n (length xs) 0 (omega (arith, is.all_places, number))
-          ∙ (let e : length xs ≡ p = omega (arith, here) in e)
-    ]
+    module _ (there : n < length places) where
+      place_more : (p : ℕ) → p < length more → get_or more p 0 < 1024 → get_or (set places n (length xs)) (get_or more p 0) 0 ≡ p
+      place_more p inside small = elim (cases_lt p (length xs)) [
+        | inl old ↦
+            let entry = get_or_append_left xs (n ∷ []) 0 p old in
+            let other = nowhere xs n p none old in
+            let kept = get_or-set_other places n (get_or xs p 0) (length xs) 0 other in
+            ap (λ (m : ℕ). get_or (set places n (length xs)) m 0) entry ∙ kept ∙ is.placed p old (omega (arith, entry, small))
+        | inr last ↦
+            let here : p ≡ length xs + 0 = omega (arith, size, inside) in
+            let entry : get_or more p 0 ≡ n = ap (λ (k : ℕ). get_or more k 0) here ∙ get_or-append-add xs (n ∷ []) 0 0 in
+            ap (λ (m : ℕ). get_or (set places n (length xs)) m 0) entry
+            ∙ get_or-set_same places n (length xs) 0 there
+            ∙ (let e : length xs ≡ p = omega (arith, here) in e)
+      ]
 
-    pub pushed : IsIndex more (set places n (length xs)) (set counts (length xs / 32) (get_or counts (length xs / 32) 0 + 1)) (count + 1)
-    pushed =
-        record {
-          few = omega (arith, size, room);
-          all_places = length-set places n (length xs) ∙ is.all_places;
-          all_counts = length-set counts (length xs / 32) (get_or counts (length xs / 32) 0 + 1) ∙ is.all_counts;
-          counted = omega (arith, is.counted, ap length (filter_push is_number xs n is_one), length-append (numbers_in xs) (n ∷ []));
-          placed = place_more;
-          grouped = group_more;
-        }
+      reach_more : (p : ℕ) → p < length more → get_or more p 0 < 1024 → get_or more p 0 < length (set places n (length xs))
+      reach_more p inside small = elim (cases_lt p (length xs)) [
+        | inl old ↦
+            let entry = get_or_append_left xs (n ∷ []) 0 p old in
+            omega (arith, entry, is.reached p old (omega (arith, entry, small)), length-set places n (length xs))
+        | inr last ↦
+            let here : p ≡ length xs + 0 = omega (arith, size, inside) in
+            let entry : get_or more p 0 ≡ n = ap (λ (k : ℕ). get_or more k 0) here ∙ get_or-append-add xs (n ∷ []) 0 0 in
+            omega (arith, entry, there, length-set places n (length xs))
+      ]
+
+      pub pushed : IsIndex more (set places n (length xs)) (set counts (length xs / 32) (get_or counts (length xs / 32) 0 + 1)) (count + 1)
+      pushed =
+          record {
+            few = omega (arith, size, room);
+            few_places = omega (arith, length-set places n (length xs), is.few_places);
+            all_counts = length-set counts (length xs / 32) (get_or counts (length xs / 32) 0 + 1) ∙ is.all_counts;
+            counted = omega (arith, is.counted, ap length (filter_push is_number xs n is_one), length-append (numbers_in xs) (n ∷ []));
+            placed = place_more;
+            reached = reach_more;
+            grouped = group_more;
+          }
+
+-- the places reach further, with no number there
+pub reached_further : (xs places more counts : List ℕ) (count : ℕ) → IsIndex xs places counts count → length places ≤ length more →
+    length more ≤ 1024 → ((n : ℕ) → get_or more n 0 ≡ get_or places n 0) → IsIndex xs more counts count
+reached_further xs places more counts count is longer few same =
+    record {
+      few = is.few;
+      few_places = few;
+      all_counts = is.all_counts;
+      counted = is.counted;
+      placed = λ p within number. same (get_or xs p 0) ∙ is.placed p within number;
+      reached = λ p within number. omega (arith, is.reached p within number);
+      grouped = is.grouped;
+    }

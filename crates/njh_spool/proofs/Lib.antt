@@ -13,6 +13,7 @@ pub mod ChainPuts
 pub mod ChainRemoves
 pub mod ChainSlots
 pub mod ChainWrites
+pub mod ClosingLaws
 pub mod CostLaws
 pub mod EntryLaws
 pub mod FileLaws

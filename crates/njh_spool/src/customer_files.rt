@@ -19,16 +19,16 @@ pub struct CustomerFiles {
 }
 
 impl CustomerFiles {
-    pub fn open(quota: &Quota) -> Self
-        ensures { result ≡ record { quota = quota.now.blocks; limit = quota.now.files; used = 0; whole = []; partial = [] } }
+    pub fn open(alloc: Global, quota: &Quota) -> Result<Self, AllocError>
+        ensures { IfOk result (λ files. files ≡ record { quota = quota.now.blocks; limit = quota.now.files; used = 0; whole = []; partial = [] }) }
     {
-        CustomerFiles {
+        Ok(CustomerFiles {
             quota: quota.blocks,
             limit: quota.files,
             used: 0,
-            whole: Numbers::new(),
-            partial: Numbers::new(),
-        }
+            whole: Numbers::new(alloc)?,
+            partial: Numbers::new(alloc)?,
+        })
     }
 }
 
@@ -39,7 +39,7 @@ pub fn open_all(alloc: Global, quotas: &[Quota]) -> Result<Vec<CustomerFiles>, A
 {
     let mut customers = Vec::with_capacity(alloc, quotas.len())?;
     for quota in quotas {
-        customers.push_reserved(CustomerFiles::open(quota));
+        customers.push_reserved(CustomerFiles::open(alloc, quota)?);
     }
     Ok(customers)
 }

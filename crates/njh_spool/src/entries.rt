@@ -1,12 +1,13 @@
 //! The numbers of some files in order, with holes where files were.
 
 ghost use Rattle.std.specs.Prelude.{◌≡◌, ℕ, ◌+◌, ◌*◌, ◌==◌, ◌<◌, ◌≤◌, [], ◌∷◌, ◌++◌, not, filter, length};
-ghost use Rattle.std.specs.Prelude.{slice_index, slice_index_or, false, MatchOption};
+ghost use Rattle.std.specs.Prelude.{slice_index, slice_index_or, false, IfOk, MatchOption};
+ghost use Rattle.std.specs.Vec.{vec_capacity};
 ghost use Rattle.std.specs.List.{list_any};
 ghost use Rattle.njh_spool.specs.Entries.{is_number, numbers_in, before, IsIndexed};
 
 use crate::quota::MOST_FILES;
-use arrayvec::ArrayVec;
+use std::alloc::{AllocError, Global};
 
 /// Room for as many numbers as a customer may have files.
 pub const ROOM: usize = MOST_FILES as usize;
@@ -23,9 +24,9 @@ const HOLE: u16 = u16::MAX;
 #[derive(Drop)]
 pub struct Entries {
     /// Numbers, and holes.
-    pub entries: ArrayVec<u16, ROOM>,
-    /// Where each number stands, if it does.
-    pub places: [u16; ROOM],
+    pub entries: Vec<u16>,
+    /// Where each number stands, if it does; of those up to the greatest that ever stood.
+    pub places: Vec<u16>,
     /// How many numbers stand in each group.
     pub counts: [u16; GROUPS],
     /// How many stand in all.
@@ -39,17 +40,33 @@ fn is_number(entry: u16) -> bool
     u32::from(entry) < MOST_FILES
 }
 
+/// Makes places reach to a number's, where no number stands yet.
+fn reach(places: &mut Vec<u16>, number: u16)
+    requires room { vec_capacity places.old ≡ MOST_FILES }
+    requires few { length places.old.items ≤ MOST_FILES }
+    requires number { number < MOST_FILES }
+    ensures same { (n : ℕ) → slice_index_or places.new.items n 0 ≡ slice_index_or places.old.items n 0 }
+    ensures longer { length places.old.items ≤ length places.new.items }
+    ensures few { length places.new.items ≤ MOST_FILES }
+    ensures there { number < length places.new.items }
+    ensures room { vec_capacity places.new ≡ vec_capacity places.old }
+{
+    while places.len() <= usize::from(number) {
+        places.push_reserved(0);
+    }
+}
+
 impl Entries {
-    pub fn new() -> Self
-        ensures index { IsIndexed result }
-        ensures none { result.entries.items ≡ [] }
+    pub fn new(alloc: Global) -> Result<Self, AllocError>
+        ensures index { IfOk result IsIndexed }
+        ensures none { IfOk result (λ entries. entries.entries.items ≡ []) }
     {
-        Entries {
-            entries: ArrayVec::new(),
-            places: [0; ROOM],
+        Ok(Entries {
+            entries: Vec::with_capacity(alloc, ROOM)?,
+            places: Vec::with_capacity(alloc, ROOM)?,
             counts: [0; GROUPS],
             count: 0,
-        }
+        })
     }
 
     /// The place where the group of a number begins, and how many numbers of the group are before it, by its index.
@@ -109,7 +126,7 @@ impl Entries {
         if !is_number(number) {
             return None;
         }
-        let place = usize::from(self.places[usize::from(number)]);
+        let place = usize::from(*self.places.get(usize::from(number))?);
         match self.entries.get(place) {
             Some(entry) if *entry == number => Some(place),
             _ => None,
@@ -150,27 +167,12 @@ impl Entries {
         ensures index { IsIndexed self.new }
         ensures entries { self.new.entries.items ≡ self.old.entries.items ++ number ∷ [] }
     {
+        reach(&mut self.places, number);
         let place = self.entries.len();
         self.places[usize::from(number)] = place as u16;
         self.counts[place / GROUP] += 1;
         self.count += 1;
-        self.entries.push(number);
-    }
-
-    /// The same numbers without holes.
-    fn closed(&self) -> Self
-        requires { IsIndexed self.now }
-        ensures index { IsIndexed result }
-        ensures entries { result.entries.items ≡ numbers_in self.now.entries.items }
-    {
-        let mut closed = Entries::new();
-        let entries: &[u16] = &self.entries;
-        for entry in entries {
-            if is_number(*entry) {
-                closed.push(*entry);
-            }
-        }
-        closed
+        self.entries.push_reserved(number);
     }
 
     /// Closes the holes.
@@ -180,7 +182,27 @@ impl Entries {
         ensures entries { self.new.entries.items ≡ numbers_in self.old.entries.items }
     {
         if usize::from(self.count) < self.entries.len() {
-            *self = self.closed();
+            self.close_up();
         }
+    }
+
+    /// Moves each number to the place behind those before it.
+    fn close_up(&mut self)
+        requires { IsIndexed self.old }
+        ensures index { IsIndexed self.new }
+        ensures entries { self.new.entries.items ≡ numbers_in self.old.entries.items }
+    {
+        self.counts = [0; GROUPS];
+        let mut kept = 0;
+        for place in 0..self.entries.len() {
+            let entry = self.entries[place];
+            if is_number(entry) {
+                self.entries[kept] = entry;
+                self.places[usize::from(entry)] = kept as u16;
+                self.counts[kept / GROUP] += 1;
+                kept += 1;
+            }
+        }
+        self.entries.truncate(kept);
     }
 }

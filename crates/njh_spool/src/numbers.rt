@@ -1,9 +1,10 @@
 //! The numbers of some files of one customer, in order.
 
-ghost use Rattle.std.specs.Prelude.{◌≡◌, ℕ, ◌==◌, ◌<◌, [], ◌∷◌, ◌++◌, not, filter, count_by, length, slice_index};
+ghost use Rattle.std.specs.Prelude.{◌≡◌, IfOk, ℕ, ◌==◌, ◌<◌, [], ◌∷◌, ◌++◌, not, filter, count_by, length, slice_index};
 
 use crate::entries::Entries;
 use crate::quota::MOST_FILES;
+use std::alloc::{AllocError, Global};
 use std::marker::Model;
 
 /// At most as many as a customer may have files. A number that is taken away leaves a hole, which is closed when a number is put
@@ -25,12 +26,13 @@ impl Model for Numbers {
 }
 
 impl Numbers {
-    pub fn new() -> Self
-        ensures { result ≡ [] }
+    /// None yet, with room for as many as there may be. Want of memory is the only refusal.
+    pub fn new(alloc: Global) -> Result<Self, AllocError>
+        ensures { IfOk result (λ numbers. numbers ≡ []) }
     {
-        Numbers {
-            entries: Entries::new(),
-        }
+        Ok(Numbers {
+            entries: Entries::new(alloc)?,
+        })
     }
 
     pub fn len(&self) -> usize

@@ -1,6 +1,6 @@
 //! Where the records of a file lie.
 
-ghost use Rattle.std.specs.Prelude.{◌≡◌, ◌+◌, ◌<◌, ◌≤◌, length, IsSomeAnd, slice_get, Some};
+ghost use Rattle.std.specs.Prelude.{◌≡◌, ◌+◌, ◌<◌, ◌≤◌, ◌++◌, length, IsSomeAnd, slice_get, Some};
 ghost use Rattle.njh_spool.specs.Chains.{chain_at, IsMark};
 ghost use Rattle.njh_spool.specs.Packing.{packed_record, unpacked};
 ghost use Rattle.njh_spool.specs.Slots.{IsFile, IsPlace};
@@ -8,15 +8,11 @@ ghost use Rattle.njh_spool.specs.Slots.{IsFile, IsPlace};
 use crate::file_slot::{FileSlot, KeptPlaces, RecordPlace};
 use crate::store::Store;
 use crate::store::mark::Mark;
-use arrayvec::ArrayVec;
 use byteorder::{BigEndian, ByteOrder};
 use njh_record::Record;
 
 /// What a record takes before its bytes: its SRCB and its length.
 pub const RECORD_HEAD: usize = 3;
-
-/// Room for a record's bytes with its head.
-pub type PackedRecord = ArrayVec<u8, 259>;
 
 /// A record's head, and a mark to read its bytes from.
 #[derive(Clone, Copy)]
@@ -26,8 +22,8 @@ pub struct Head {
     pub mark: Mark,
 }
 
-/// Reads the head of the record at a place.
-fn read_head(store: &Store, at: u32, slot: &FileSlot, from: RecordPlace) -> Head
+/// Reads the head of the record at a place. `into` is room for it.
+fn read_head(store: &Store, at: u32, slot: &FileSlot, from: RecordPlace, into: &mut Record) -> Head
     requires range { at < length store.now.chains }
     requires file { IsFile slot.now (chain_at at store.now) }
     requires place { IsPlace (unpacked slot.now.count (chain_at at store.now).bytes) (chain_at at store.now).keys from }
@@ -36,17 +32,22 @@ fn read_head(store: &Store, at: u32, slot: &FileSlot, from: RecordPlace) -> Head
         (λ r. (r.srcb ≡ result.srcb) × (length r.bytes ≡ result.length)) }
     ensures mark { IsMark (chain_at at store.now).keys result.mark }
 {
-    let mut head = Record::new();
-    let mark = store.read(at, from.mark, from.place, RECORD_HEAD, &mut head);
+    let mark = store.read(at, from.mark, from.place, RECORD_HEAD, into);
     Head {
-        srcb: head[0],
-        length: BigEndian::read_u16(&head[1..]),
+        srcb: into[0],
+        length: BigEndian::read_u16(&into[1..]),
         mark,
     }
 }
 
-/// Where the next record begins.
-fn place_behind(store: &Store, at: u32, slot: &FileSlot, from: RecordPlace) -> RecordPlace
+/// Where the next record begins. `room` is for the head of this one.
+fn place_behind(
+    store: &Store,
+    at: u32,
+    slot: &FileSlot,
+    from: RecordPlace,
+    room: &mut Record,
+) -> RecordPlace
     requires range { at < length store.now.chains }
     requires file { IsFile slot.now (chain_at at store.now) }
     requires place { IsPlace (unpacked slot.now.count (chain_at at store.now).bytes) (chain_at at store.now).keys from }
@@ -54,7 +55,7 @@ fn place_behind(store: &Store, at: u32, slot: &FileSlot, from: RecordPlace) -> R
     ensures place { IsPlace (unpacked slot.now.count (chain_at at store.now).bytes) (chain_at at store.now).keys result }
     ensures next { result.record_index ≡ from.record_index + 1 }
 {
-    let head = read_head(store, at, slot, from);
+    let head = read_head(store, at, slot, from, room);
     RecordPlace {
         record_index: from.record_index + 1,
         place: from.place + RECORD_HEAD as u32 + u32::from(head.length),
@@ -78,8 +79,11 @@ pub fn place_of_record(store: &Store, at: u32, slot: &FileSlot, n: u32) -> Recor
     } else {
         RecordPlace::FIRST
     };
-    while place.record_index < n {
-        place = place_behind(store, at, slot, place);
+    if place.record_index < n {
+        let mut room = Record::new();
+        while place.record_index < n {
+            place = place_behind(store, at, slot, place, &mut room);
+        }
     }
     place
 }
@@ -101,7 +105,7 @@ pub fn read_record(
     ensures place { IsPlace (unpacked slot.now.count (chain_at at store.now).bytes) (chain_at at store.now).keys result.1 }
     ensures next { result.1.record_index ≡ from.record_index + 1 }
 {
-    let head = read_head(store, at, slot, from);
+    let head = read_head(store, at, slot, from, into);
     let begins = from.place + RECORD_HEAD as u32;
     let mark = store.read(at, head.mark, begins, usize::from(head.length), into);
     let next = RecordPlace {
@@ -112,16 +116,12 @@ pub fn read_record(
     (head.srcb, next)
 }
 
-/// A record's bytes with its head.
-pub fn pack_record(srcb: u8, bytes: &[u8]) -> PackedRecord
+/// What stands in front of a record's bytes: its SRCB and its length.
+pub fn head_of(srcb: u8, bytes: &[u8]) -> [u8; RECORD_HEAD]
     requires { length bytes.now ≤ 256 }
-    ensures { result.items ≡ packed_record (record { srcb = srcb; bytes = bytes.now }) }
+    ensures { result ++ bytes.now ≡ packed_record (record { srcb = srcb; bytes = bytes.now }) }
 {
     let mut length = [0; 2];
     BigEndian::write_u16(&mut length, bytes.len() as u16);
-    let mut packed = PackedRecord::new();
-    packed.push(srcb);
-    packed.try_extend_from_slice(&length).unwrap();
-    packed.try_extend_from_slice(bytes).unwrap();
-    packed
+    [srcb, length[0], length[1]]
 }

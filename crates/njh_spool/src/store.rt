@@ -96,6 +96,16 @@ impl Store {
         }
     }
 
+    /// Appends two runs of bytes to a slot's string, one after the other.
+    pub fn append_both(&mut self, slot: u32, first: &[u8], second: &[u8])
+        requires slot { slot < length self.old.chains }
+        requires room { blocks_used (with_bytes slot ((chain_at slot self.old).bytes ++ (first.now ++ second.now)) self.old) ≤ self.old.capacity }
+        ensures { Grows slot (first.now ++ second.now) self.old self.new }
+    {
+        self.append(slot, first);
+        self.append(slot, second);
+    }
+
     /// Empties a slot's string, and gives its blocks back.
     pub fn clear(&mut self, slot: u32)
         requires { slot < length self.old.chains }

@@ -4,7 +4,7 @@ ghost use Rattle.std.specs.Prelude.{◌≡◌, [], ◌∷◌, IfOk};
 ghost use Rattle.njh_spool.specs.CustomerSpool.{empty_spool};
 
 use njh_bisync::LONGEST_FRAME;
-use njh_customer::{FrameBuffer, Lines, Signal, opened_is_coherent};
+use njh_customer::{FrameBuffer, Lines, Room, Signal, opened_is_coherent};
 use njh_spool::{Quota, Spool, SpoolFault};
 use njh_table::{Customer, LineId, Tables};
 use std::alloc::{AllocError, Global};
@@ -53,6 +53,7 @@ pub struct Desk {
     tables: Tables,
     spool: Spool,
     lines: Lines,
+    room: Room,
     frame: FrameBuffer,
 }
 
@@ -93,6 +94,7 @@ impl Desk {
             tables,
             spool,
             lines,
+            room: Room::new(),
             frame,
         })
     }
@@ -108,6 +110,7 @@ impl Desk {
             piece,
             &mut self.tables,
             &mut self.spool,
+            &mut self.room,
             &mut self.frame,
         )
     }
@@ -121,6 +124,7 @@ impl Desk {
                 signal,
                 &mut self.tables,
                 &mut self.spool,
+                &mut self.room,
                 &mut self.frame,
             );
         }

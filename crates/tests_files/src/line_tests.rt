@@ -129,10 +129,9 @@ fn keeps_what_waits(rt: HostRuntime) -> Result<(), Fail> {
     for answers in 0..=32 {
         assert!(rt; line.push_answer(permission) == (answers < 32), "{answers}");
     }
-    let message = Record::new();
     for messages in 0..=64 {
         assert!(rt;
-            line.push_message(&message) == (messages < 64),
+            line.push_message(Record::new()) == (messages < 64),
             "{messages}"
         );
     }

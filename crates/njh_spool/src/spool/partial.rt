@@ -11,7 +11,7 @@ use crate::file_id::FileId;
 use crate::file_slot::{FileSlot, Stage};
 use crate::laws::quotas_leave_room;
 use crate::places::{free_number, place, slot_at};
-use crate::reading::{RECORD_HEAD, pack_record};
+use crate::reading::{RECORD_HEAD, head_of};
 use crate::spool::Spool;
 use crate::store::block::BLOCK_DATA;
 use crate::{SpoolFault, State};
@@ -85,7 +85,7 @@ impl Spool {
         }
         own.used = used;
         quotas_leave_room();
-        self.store.append(at, &pack_record(srcb, bytes));
+        self.store.append_both(at, &head_of(srcb, bytes), bytes);
         slot.count += 1;
         self.slots[at as usize] = slot;
         Ok(())

@@ -1,5 +1,4 @@
 use Rattle.std.proofs.Common.{◌≡◌, ◌<◌, ◌≤◌, ◌++◌, ◌∷◌, [], length, drop, ap, ◌∙◌, arith, rules, length-append}
-use Rattle.njh_record.specs.Spelling.{item_bytes}
 use Rattle.njh_record.specs.Writing.{spelling_of}
 use Rattle.njh_record.proofs.WritingLaws.{spelling_of-step, spelling_of-room, spelling_of-done}
 use Rattle.njh_record.proofs.writing.add_spelling.Goals as goal

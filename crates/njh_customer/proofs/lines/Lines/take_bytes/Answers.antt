@@ -35,5 +35,5 @@ loop-out-preserved c =
       ready = t.ensures.ready;
       count = t.ensures.count ∙ c.loop-out.invariant.count;
       few = omega (arith, c.split_at.ensures.back_len);
-      progress = λ _. let left : 0 < length c.loop-out.left.now = search rules in omega arith;
+      progress = λ _. let left : 0 < length c.loop-out.left.now = search rules in omega (arith, t.ensures.progress left);
     }

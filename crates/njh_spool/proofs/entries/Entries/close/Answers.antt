@@ -6,4 +6,4 @@ use Rattle.njh_spool.proofs.entries.Entries.close.Goals as goal
 pub returns-else-from-len-clause-entries : goal.returns-else-from-len-clause-entries
 returns-else-from-len-clause-entries c =
     sym (all_pass is_number c.args.self.now.entries.items
-    (omega (arith, c.requires.counted, c.from.ensures, c.len.ensures.value, c.if-from-len.false)))
+    (omega (arith, c.requires.index.counted, c.from.ensures, c.len.ensures, c.if-from-len.false)))

@@ -15,7 +15,7 @@ use Rattle.njh_spool.specs.Packing.{packed_record}
 use Rattle.njh_spool.proofs.PackingLaws.{length-packed_record}
 use Rattle.njh_spool.proofs.KeptLaws.{within_all, quotas_fit}
 use Rattle.njh_spool.proofs.spool.Spool.append.Goals as goal
-use Rattle.njh_spool.proofs.spool.Spool.append.Goals.{After-is_partial, After-blocks_for, After-blocks_for-2, After-append}
+use Rattle.njh_spool.proofs.spool.Spool.append.Goals.{After-is_partial, After-blocks_for, After-blocks_for-2, After-append_both}
 
 pub slot_at-slot-requires : goal.slot_at-slot-requires
 slot_at-slot-requires c =
@@ -150,17 +150,17 @@ returns-then-used-own-clause-fault c =
           (omega (arith, now_used at, quota, c.if-used-own.true)),
     ) refl
 
-pub append-requires-clause-room : goal.append-requires-clause-room
-append-requires-clause-room c =
-    let at = (goal.at.append-requires-clause-room c).After-blocks_for-2 in
-    let first = (goal.at.append-requires-clause-room c).After-blocks_for in
+pub append_both-requires-clause-room : goal.append_both-requires-clause-room
+append_both-requires-clause-room c =
+    let at = (goal.at.append_both-requires-clause-room c).After-blocks_for-2 in
+    let first = (goal.at.append_both-requires-clause-room c).After-blocks_for in
     let has = finds.has c.self.inside.store c.self.inside.slots.items c.self.inside.customers.items c.args.customer c.args.id
     c.self.invariant (rw c.self.view_is c.requires.range) in
     let quota = ap (λ (o : CustomerFiles). o.quota) (own_same first) in
     let small = finds.small_partial c.self.inside.store c.self.inside.slots.items c.self.inside.customers.items c.args.customer
     c.args.id c.self.invariant (rw c.self.view_is c.requires.range) (there_is first) in
-    let bytes : c.deref-2.result.now ≡ packed_record (record { srcb = c.args.srcb; bytes = c.args.bytes.now }) =
-    c.deref-2.ensures.0 ∙ c.pack_record.ensures in
+    let bytes : c.head_of.result ++ c.args.bytes.now ≡ packed_record (record { srcb = c.args.srcb; bytes = c.args.bytes.now }) =
+    c.head_of.ensures in
     let room = finds.room c.self.inside.store c.self.inside.slots.items c.self.inside.customers.items c.args.customer c.args.id
     c.self.invariant (rw c.self.view_is c.requires.range) (record { srcb = c.args.srcb; bytes = c.args.bytes.now })
     (chain_of c.self.inside.store.chains c.args.customer c.args.id).keys (there_is first) small
@@ -188,7 +188,7 @@ overflow_add-slot c =
           c.args.customer c.args.id c.self.invariant (rw c.self.view_is c.requires.range),
     )
 
-moved : (c : After-append) → Moves c.self.inside.store c.self.inside.slots.items c.self.inside.customers.items c.append.new.self
+moved : (c : After-append_both) → Moves c.self.inside.store c.self.inside.slots.items c.self.inside.customers.items c.append_both.new.self
     (set c.self.inside.slots.items c.place-at.result (record c.slot_at-slot.result { count = c.slot_at-slot.result.count + 1 }))
     (set c.self.inside.customers.items c.from.result
     (record c.index_mut-own.result.now { used = c.index_mut-own.result.now.used - c.blocks_for.result + c.blocks_for-2.result }))
@@ -202,21 +202,21 @@ moved c =
     c.args.id c.self.invariant (rw c.self.view_is c.requires.range) there in
     let chain = chain_same first in
     let same = c.slot_at-slot.ensures ∙ ap (λ (xs : List FileSlot). slot_of xs c.args.customer c.args.id) c.deref.ensures.value in
-    let bytes : c.deref-2.result.now ≡ packed_record (record { srcb = c.args.srcb; bytes = c.args.bytes.now }) =
-    c.deref-2.ensures.0 ∙ c.pack_record.ensures in
+    let bytes : c.head_of.result ++ c.args.bytes.now ≡ packed_record (record { srcb = c.args.srcb; bytes = c.args.bytes.now }) =
+    c.head_of.ensures in
     let quota = ap (λ (o : CustomerFiles). o.quota) (own_same first) in
-    let keys = (chain_at c.place-at.result c.append.new.self).keys in
+    let keys = (chain_at c.place-at.result c.append_both.new.self).keys in
     let blocks = c.index_mut-own.result.now.used - c.blocks_for.result + c.blocks_for-2.result in
     let front : take (length (chain_of c.self.inside.store.chains c.args.customer c.args.id).keys) keys ≡
     (chain_of c.self.inside.store.chains c.args.customer c.args.id).keys =
-    subst (λ (x : Chain). take (length x.keys) keys ≡ x.keys) chain c.append.ensures.keys in
-    let store : c.append.new.self ≡ with_chain (1024 * c.args.customer + c.args.id)
+    subst (λ (x : Chain). take (length x.keys) keys ≡ x.keys) chain c.append_both.ensures.keys in
+    let store : c.append_both.new.self ≡ with_chain (1024 * c.args.customer + c.args.id)
     (record {
       keys = keys;
       bytes = ((chain_of c.self.inside.store.chains c.args.customer c.args.id).bytes
           ++ packed_record (record { srcb = c.args.srcb; bytes = c.args.bytes.now }));
     }) c.self.inside.store =
-    c.append.ensures.after
+    c.append_both.ensures.after
     ∙ ap (λ (xs : List ℕ). with_chain c.place-at.result
     (record { keys = keys; bytes = (chain_at c.place-at.result c.self.inside.store).bytes ++ xs }) c.self.inside.store) bytes
     ∙ ap (λ (x : Chain). with_chain c.place-at.result
@@ -234,7 +234,7 @@ moved c =
       keys = keys;
       bytes = ((chain_of c.self.inside.store.chains c.args.customer c.args.id).bytes
           ++ packed_record (record { srcb = c.args.srcb; bytes = c.args.bytes.now }));
-    }) c.self.inside.store) c.append.new.self
+    }) c.self.inside.store) c.append_both.new.self
     (record c.slot_at-slot.result { count = c.slot_at-slot.result.count + 1 })
     (record c.index_mut-own.result.now { used = blocks }) c.place-at.result c.from.result
     (appended c.args.id (record { srcb = c.args.srcb; bytes = c.args.bytes.now })
@@ -273,7 +273,7 @@ moved c =
     blocks there c.requires.short front (now_used at) (omega (arith, quota, c.if-used-own.false)) small)))
 
 pub invariant_of-self-2 : goal.invariant_of-self-2
-invariant_of-self-2 c = (moved (goal.at.invariant_of-self-2 c).After-append).kept
+invariant_of-self-2 c = (moved (goal.at.invariant_of-self-2 c).After-append_both).kept
 
 pub returns-clause-fault : goal.returns-clause-fault
 returns-clause-fault c =
@@ -290,6 +290,6 @@ returns-clause-fault c =
 
 pub returns-clause-ok : goal.returns-clause-ok
 returns-clause-ok c =
-    (moved (goal.at.returns-clause-ok c).After-append).spools
+    (moved (goal.at.returns-clause-ok c).After-append_both).spools
     ∙ ap (λ (old : List CustomerSpool). set old c.args.customer
     (appended c.args.id (record { srcb = c.args.srcb; bytes = c.args.bytes.now }) (part c.args.customer old))) c.self.view_is

@@ -2,7 +2,7 @@ use Rattle.std.proofs.Common.{refl}
 use Rattle.std.proofs.lemmas.Str.{is_utf8-from_IsUtf8, IsUtf8-from_is_utf8}
 use Rattle.std.proofs.lemmas.Bool.{false_from_ne_true}
 use Rattle.njh_program.specs.Script.{event_of}
-use Rattle.njh_program.proofs.line.event_of.Goals as goal
+use Rattle.njh_program.proofs.line.any_event.Goals as goal
 
 pub returns-in-Ok-clause-event : goal.returns-in-Ok-clause-event
 unfolding event_of

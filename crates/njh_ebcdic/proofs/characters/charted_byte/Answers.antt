@@ -1,7 +1,7 @@
 use Rattle.std.proofs.Common.{sym, ap, ◌∙◌}
 use Rattle.njh_ebcdic.specs.Characters.{byte_of_character}
 use Rattle.njh_ebcdic.proofs.Charts.{place-chart, byte_of_character-none}
-use Rattle.njh_ebcdic.proofs.characters.byte_of.Goals as goal
+use Rattle.njh_ebcdic.proofs.characters.charted_byte.Goals as goal
 
 pub returns-then-character-eq-NONE : goal.returns-then-character-eq-NONE
 returns-then-character-eq-NONE c =
