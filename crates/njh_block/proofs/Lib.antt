@@ -4,6 +4,7 @@ pub mod Unspelling
 pub mod ReadingLaws
 pub mod FirstLaws
 pub mod GeneralLaws
+pub mod EndLaws
 pub mod GrammarLaws
 pub mod BlockLaws
 pub mod WritingLaws

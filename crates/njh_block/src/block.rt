@@ -10,8 +10,7 @@ use crate::fault::BlockFault;
 use crate::fcs::Fcs;
 use crate::item::Item;
 use crate::laws::one_reading;
-use crate::rcb::END;
-use crate::reading::{check_records, read_first, read_general};
+use crate::reading::{check_records, ends, read_first, read_general};
 use njh_record::Record;
 use std::marker::Model;
 
@@ -75,11 +74,11 @@ impl<'a> Block<'a> {
         self.fcs
     }
 
-    /// Whether it is plain at once that no record is left: the end of the block stands next, and nothing behind it.
+    /// Whether no record is left: the text ends, or the end of the block stands next.
     pub fn is_empty(&self) -> bool
-        ensures { IsTrue result → self.now.items ≡ [] }
+        ensures { IsTrue result ↔ (self.now.items ≡ []) }
     {
-        matches!(self.rest, [END])
+        ends(self.rest)
     }
 
     /// The next record, where it is a general one: its SRCB, and the rest of the text.

@@ -1,6 +1,6 @@
 //! Reading: the record at the front of some bytes.
 
-ghost use Rattle.std.specs.Prelude.{◌≡◌, [], Err, IsOk, MatchResult, option_map};
+ghost use Rattle.std.specs.Prelude.{◌≡◌, ◌↔◌, [], Err, IsOk, IsTrue, MatchResult, None, Ok, option_map};
 ghost use Rattle.njh_block.specs.Blocks.{form_of, after_control, record_of_spelling, record_of_form, first_record, items_in};
 ghost use Rattle.njh_record.specs.Unspelled.{unspelled};
 ghost use Rattle.njh_block.specs.Shown.{first_shown, general_at, contents_after};
@@ -86,6 +86,16 @@ pub(crate) fn read_first<'a>(
             _ => Err(BlockFault::BadRecord),
         },
         [rcb, srcb, rest @ ..] => read_formed(Rcb { byte: *rcb }, *srcb, rest, contents),
+    }
+}
+
+/// Whether no record is at the front of the bytes behind a function control sequence: they end, or the block does.
+pub(crate) fn ends(bytes: &[u8]) -> bool
+    ensures { IsTrue result ↔ (first_record bytes.now ≡ Ok None) }
+{
+    match bytes {
+        [] => true,
+        [first, ..] => *first == END,
     }
 }
 

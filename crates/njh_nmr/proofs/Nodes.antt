@@ -1,7 +1,7 @@
 -- A record whose nodes are not both names.
 use Rattle.std.proofs.Common.{◌≡◌, ℕ, ◌-◌, ◌≤◌, Bool, true, false, cond, inl, inr, ◌&&◌, ◌||◌, ◌⊎◌, ltb, Ok, Err, Result, List, length}
-use Rattle.std.proofs.Common.{slice_index, refl, sym, ◌∙◌, arith}
-use Rattle.std.proofs.lemmas.Bool.{cond-false, le-ltb, or_from, cases_Bool}
+use Rattle.std.proofs.Common.{slice_index, sym, ◌∙◌}
+use Rattle.std.proofs.lemmas.Bool.{cond-false, le-ltb, or_from}
 use Rattle.njh_record.specs.Bytes.{field}
 use Rattle.njh_ebcdic.specs.Names.{is_name}
 use Rattle.njh_nmr.specs.Nodal.{Nodal, nodal_of, node_of, fields_of}

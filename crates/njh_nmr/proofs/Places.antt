@@ -1,14 +1,10 @@
 -- A record's fields in their order: what is read is what is written.
-use Rattle.std.proofs.Common.{◌≡◌, ℕ, suc, Result, ◌+◌, ◌-◌, ◌<◌, ◌≤◌, Bool, true, false, cond, ◌&&◌, ◌||◌, ltb, Ok, Err, List, [], ◌∷◌}
-use Rattle.std.proofs.Common.{◌++◌, length, take, drop, get_or, slice_index, refl, sym, ap, ◌∙◌, append_assoc, arith}
+use Rattle.std.proofs.Common.{◌≡◌, ℕ, suc, ◌+◌, ◌<◌, ◌≤◌, List, ◌∷◌}
+use Rattle.std.proofs.Common.{◌++◌, length, take, drop, slice_index, sym, ap, ◌∙◌, append_assoc, arith}
 use Rattle.std.proofs.Math.Seq.{take-add}
-use Rattle.std.proofs.lemmas.List.{drop_more, drop-drop, length-take-le, length-drop, take_at}
-use Rattle.std.proofs.lemmas.Bool.{cond-true, cond-false, le-ltb, ltb-false, or_from, or_parts, and_from, eqb-true, and_parts}
+use Rattle.std.proofs.lemmas.List.{drop_more, drop-drop, length-take-le, length-drop}
 use Rattle.njh_record.specs.Bytes.{field}
-use Rattle.njh_ebcdic.specs.Names.{is_name}
-use Rattle.njh_nmr.specs.declared.fault.NmrFault.{NmrFault}
-use Rattle.njh_nmr.specs.declared.fault.NmrFault.TheVariants.{TooShort, BadLength, BadName}
-use Rattle.njh_nmr.specs.Nodal.{Nodal, record_of, fields_of, cut_after_message, nodal_of}
+use Rattle.njh_nmr.specs.Nodal.{Nodal, record_of, fields_of, cut_after_message}
 
 -- a record's bytes, one field after the other
 abbrev pub nested : Nodal → List ℕ

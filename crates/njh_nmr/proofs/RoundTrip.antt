@@ -8,7 +8,7 @@ use Rattle.njh_ebcdic.specs.Names.{is_name}
 use Rattle.njh_nmr.specs.declared.fault.NmrFault.{NmrFault}
 use Rattle.njh_nmr.specs.declared.fault.NmrFault.TheVariants.{TooShort, BadLength, BadName}
 use Rattle.njh_nmr.specs.Nodal.{Nodal, IsMessage, record_of, fields_of, cut_after_message, nodal_of}
-use Rattle.njh_nmr.proofs.Places.{nested, record_of-nested, cut-nested}
+use Rattle.njh_nmr.proofs.Places.{record_of-nested, cut-nested}
 
 -- what makes bytes read as this message
 pub record IsRead (bytes : List ℕ) (n : Nodal) : Type 0 where

@@ -127,11 +127,11 @@ impl Nmr {
         put_bytes(out, &self.message);
     }
 
-    /// Writes the record of what the hub says to a user at a node, in place of what was there: the record of `notice`, of
-    /// which no message is made first.
+    /// Writes the record of what the hub says to a user at a node, in place of what was there. No message is made first.
     pub fn write_notice(hub: Name, node: Name, user: [u8; FIELD], text: &[u8], out: &mut Record)
         requires { length text.now ≤ 148 }
-        ensures { out.new.items ≡ notice_record hub (node, user) text.now }
+        ensures bytes { out.new.items ≡ notice_record hub (node, user) text.now }
+        ensures said { out.new.items ≡ record_of (notice_to (node, user) hub text.now) }
     {
         let length = text.len() as u8;
         set_bytes(out, &[OF_USER, HUB_LEVEL, HUB_KIND, length]);
@@ -177,34 +177,6 @@ impl Nmr {
         ensures { result ≡ is_user_command self.now }
     {
         self.flag & COMMAND != 0 && self.flag & OF_USER != 0
-    }
-
-    /// What the hub answers to the user who sent this.
-    pub fn reply(&self, hub: Name, text: &[u8]) -> Nmr
-        requires { length text.now ≤ 148 }
-        ensures said { result ≡ notice_to (self.now.origin, self.now.user) hub text.now }
-        ensures bytes { record_of result ≡ notice_record hub (self.now.origin, self.now.user) text.now }
-    {
-        Nmr::notice(hub, self.origin, self.user, text)
-    }
-
-    /// What the hub says to a user at a node.
-    pub fn notice(hub: Name, node: Name, user: [u8; FIELD], text: &[u8]) -> Nmr
-        requires { length text.now ≤ 148 }
-        ensures said { result ≡ notice_to (node, user) hub text.now }
-        ensures bytes { record_of result ≡ notice_record hub (node, user) text.now }
-    {
-        Nmr {
-            flag: OF_USER,
-            level: HUB_LEVEL,
-            kind: HUB_KIND,
-            to: node,
-            to_qualifier: NO_QUALIFIER,
-            user,
-            origin: hub,
-            origin_qualifier: NO_QUALIFIER,
-            message: message_of(text),
-        }
     }
 }
 

@@ -6,3 +6,4 @@ mod ReadBack
 pub mod AnswerLaws
 pub mod Runs
 pub mod WritingLaws
+mod Measured

@@ -87,7 +87,7 @@ NoRunBefore-limit bytes limit place is reached within so_far =
     ]
 
 -- more bytes were looked at behind those
-take-more : (place more : ℕ) (bytes : List ℕ) → take place bytes ++ take more (drop place bytes) ≡ take (place + more) bytes
+pub take-more : (place more : ℕ) (bytes : List ℕ) → take place bytes ++ take more (drop place bytes) ≡ take (place + more) bytes
 take-more place more bytes =
     let all = take (place + more) bytes in
     ap (λ (text : List ℕ). text ++ take more (drop place bytes)) (sym (take-take place (place + more) bytes (omega arith)))

@@ -18,13 +18,10 @@ pub use laws::{
 pub use reading::unspell;
 pub use scb::ABORT;
 use thiserror::Error;
-pub use writing::{add_spelling, spell, spelled_len};
+pub use writing::{add_spelling, spelled_len};
 
 /// The bytes of one record, at most 256.
 pub type Record = ArrayVec<u8, 256>;
-
-/// Room for the spelling of a record, which takes 262 bytes at most.
-pub type Spelled = ArrayVec<u8, 263>;
 
 /// What ends a spelling.
 #[derive(Clone, Copy, Debug, PartialEq, Eq)]

@@ -37,15 +37,21 @@ fn a_command_and_its_reply(rt: HostRuntime) -> Result<(), Fail> {
     assert!(rt; command.to() == Name::of_text("BUREAU")?);
     assert!(rt; command.origin() == Name::of_text("LYON")?);
     check_reply(&rt, &command);
+    assert!(rt; !Nmr::read(REPLY)?.is_user_command());
     Ok(())
 }
 
 /// The reply to a command, written.
 fn check_reply(rt: &impl Abort, command: &Nmr) {
-    let reply = command.reply(command.to(), NO_FILES);
     let mut record = Record::new();
-    reply.write(&mut record);
-    assert!(rt; !reply.is_user_command() && record.as_slice() == REPLY);
+    Nmr::write_notice(
+        command.to(),
+        command.origin(),
+        command.user(),
+        NO_FILES,
+        &mut record,
+    );
+    assert!(rt; record.as_slice() == REPLY);
 }
 
 #[test]

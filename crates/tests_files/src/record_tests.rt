@@ -1,12 +1,14 @@
 //! Records and their spellings, byte by byte.
 
-use njh_record::{End, Record, RecordFault, Spelled, spell, spelled_len, unspell};
+use arrayvec::ArrayVec;
+use njh_record::{End, Record, RecordFault, add_spelling, spelled_len, spelling_bounds, unspell};
 use std::process::Abort;
 
 fn check_spelling(rt: &impl Abort, contents: &[u8], spelling: &[u8]) {
     assert!(rt; contents.len() <= 256);
-    let mut out = Spelled::new();
-    spell(contents, &mut out);
+    spelling_bounds();
+    let mut out = ArrayVec::<u8, 262>::new();
+    add_spelling(contents, &mut out);
     assert!(rt; out.as_slice() == spelling && spelled_len(contents) == spelling.len());
 }
 

@@ -11,9 +11,9 @@ returns-then-begins_run-clause-front c =
 
 pub loop-place-preserved : goal.loop-place-preserved
 loop-place-preserved c =
-    let rest : NoRunBefore (drop c.loop-place.place c.args.bytes.now) c.passed_len-place.result = rw (← c.split_at.ensures.back) c.passed_len-place.ensures.passed in
+    let rest : NoRunBefore (drop c.loop-place.place c.args.bytes.now) c.passed_len-place-in-loop-place.result = rw (← c.split_at.ensures.back) c.passed_len-place-in-loop-place.ensures.passed in
     record {
-      within = omega (arith, c.passed_len-place.ensures.within, c.split_at.ensures.back_len);
+      within = omega (arith, c.passed_len-place-in-loop-place.ensures.within, c.split_at.ensures.back_len);
       passed = NoRunBefore-then _ _ _ c.loop-place.invariant.passed rest;
     }
 

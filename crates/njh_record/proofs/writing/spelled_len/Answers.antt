@@ -5,14 +5,14 @@ use Rattle.njh_record.proofs.writing.spelled_len.Goals as goal
 pub overflow_add-len : goal.overflow_add-len
 overflow_add-len c =
     let some : 0 < length c.loop-rest.rest.now = search rules in
-    let step = length-spelling_of-step c.loop-rest.rest.now _ _ some c.first_item-item.ensures.item refl in
-    omega (arith, step, length-spelling_of-record c.args.contents.now c.requires)
+    let step = length-spelling_of-step c.loop-rest.rest.now _ _ some refl refl in
+    omega (arith, step, c.first_lens-spells.ensures.takes, length-spelling_of-record c.args.contents.now c.requires)
 
 pub loop-rest-preserved : goal.loop-rest-preserved
 loop-rest-preserved c =
     let some : 0 < length c.loop-rest.rest.now = search rules in
-    let left = c.split_at.ensures.back ∙ ap (λ n. drop n c.loop-rest.rest.now) c.len.ensures in
-    omega (arith, length-spelling_of-step _ _ _ some c.first_item-item.ensures.item left)
+    let left = c.split_at.ensures.back ∙ ap (λ n. drop n c.loop-rest.rest.now) c.first_lens-spells.ensures.spells in
+    omega (arith, c.first_lens-spells.ensures.takes, length-spelling_of-step _ _ _ some refl left)
 
 pub returns : goal.returns
 returns c =

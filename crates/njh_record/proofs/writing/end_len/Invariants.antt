@@ -1,0 +1,5 @@
+use Rattle.njh_record.specs.Written.{NoRunBefore}
+use Rattle.njh_record.proofs.writing.end_len.Given as goal
+
+abbrev pub invariant-loop-place : goal.invariant-loop-place
+invariant-loop-place l = NoRunBefore l.bytes l.place
