@@ -1,6 +1,6 @@
 //! A customer's files, one after the other.
 
-ghost use Rattle.std.specs.Prelude.{◌≡◌, ◌<◌, ◌-◌, ◌^◌, ◌==◌, ℕ, Bool, false, List, IsTrue, length, slice_get, IsSomeAnd, ◌&&◌};
+ghost use Rattle.std.specs.Prelude.{◌≡◌, ◌<◌, ◌≤◌, ◌-◌, ◌^◌, ◌==◌, ℕ, Bool, false, List, IsTrue, length, slice_get, IsSomeAnd, ◌&&◌};
 ghost use Rattle.std.specs.List.{list_any};
 ghost use Rattle.njh_spool.specs.CustomerSpool.{whole_numbered};
 ghost use Rattle.njh_spool.specs.Spools.{part};
@@ -59,9 +59,6 @@ fn goes_there(entry: &Customer, line: u16, node: &[u8; 8], elsewhere: &mut Elsew
     ensures goes { result ≡ node_goes_by (entry_of entry.now) line node.now }
     ensures elsewhere { list_any (node_goes_by (entry_of entry.now) line) elsewhere.new.items ≡ false }
 {
-    if is_among(elsewhere, node) {
-        return false;
-    }
     let goes = node_goes_by(entry, line, node);
     if !goes && !elsewhere.is_full() {
         elsewhere.push(*node);
@@ -126,6 +123,77 @@ fn pass_where(index: u32, kind: Kind, file: &FileSummary, others: &mut u32)
     }
 }
 
+/// Whether there is a destination, and its node isn't among some that don't go by a line.
+fn is_for_another(
+    entry: &Customer,
+    line: u16,
+    destination: &Option<Destination>,
+    elsewhere: &[[u8; 8]],
+) -> bool
+    requires { list_any (node_goes_by (entry_of entry.now) line) elsewhere.now ≡ false }
+    ensures { result ≡ false → destination_goes_by (entry_of entry.now) line destination.now ≡ false }
+{
+    match destination {
+        Some(destination) => !is_among(elsewhere, &destination.node),
+        None => false,
+    }
+}
+
+/// Whether a file is Ready, of a kind, and not for one of some nodes that don't go by a line: others need no look at the routes.
+fn is_likely(
+    entry: &Customer,
+    line: u16,
+    kind: Kind,
+    file: &FileSummary,
+    elsewhere: &[[u8; 8]],
+) -> bool
+    requires { list_any (node_goes_by (entry_of entry.now) line) elsewhere.now ≡ false }
+    ensures { result ≡ false → (is_ready file.now.state
+        && (same_kind file.now.kind kind && destination_goes_by (entry_of entry.now) line file.now.headers.destination)) ≡ false }
+{
+    if is_ready(file.state) && same_kind(file.kind, kind) {
+        is_for_another(entry, line, &file.headers.destination, elsewhere)
+    } else {
+        false
+    }
+}
+
+/// The index of the first file from an index on that is Ready, of a kind, and not for one of some nodes that don't go by the line. Where
+/// there is no such file it gives how many files there are. `others` moves on as in `oldest_from`.
+// It stands apart, so that what the loop needs stays in registers.
+#[inline(never)]
+fn first_likely(
+    entry: &Customer,
+    line: u16,
+    kind: Kind,
+    customer: u16,
+    from: u32,
+    others: &mut u32,
+    elsewhere: &[[u8; 8]],
+    spool: &Spool,
+) -> u32
+    requires range { customer < length spool.now }
+    requires from { HasPassed (goes_by (entry_of entry.now) line) kind from (part customer spool.now) }
+    requires others { HasPassedOthers (goes_by (entry_of entry.now) line) kind others.old (part customer spool.now) }
+    requires elsewhere { list_any (node_goes_by (entry_of entry.now) line) elsewhere.now ≡ false }
+    ensures passed { HasPassed (goes_by (entry_of entry.now) line) kind result (part customer spool.now) }
+    ensures others { HasPassedOthers (goes_by (entry_of entry.now) line) kind others.new (part customer spool.now) }
+    ensures onward { from ≤ result }
+{
+    let files = spool.files(customer);
+    let mut passed = *others;
+    for index in from..files {
+        let file = spool.summary_at(customer, index);
+        pass_where(index, kind, &file, &mut passed);
+        if is_likely(entry, line, kind, &file, elsewhere) {
+            *others = passed;
+            return index;
+        }
+    }
+    *others = passed;
+    files
+}
+
 /// The index of a customer's oldest file that is Ready, of a kind, and goes by a line; none before `from` is so. Where there is no such
 /// file it gives how many files there are. `others` is an index before which no file of another kind may go: it moves on over the files
 /// of this kind that are looked at.
@@ -148,12 +216,17 @@ pub fn oldest_from(
 {
     let files = spool.files(customer);
     let mut elsewhere = Elsewhere::new();
-    for index in from..files {
+    let mut next = from;
+    while next < files {
+        let index = first_likely(entry, line, kind, customer, next, others, &elsewhere, spool);
+        if index >= files {
+            return files;
+        }
         let file = spool.summary_at(customer, index);
-        pass_where(index, kind, &file, others);
         if may_go(entry, line, kind, &file, &mut elsewhere) {
             return index;
         }
+        next = index + 1;
     }
     files
 }
