@@ -37,7 +37,8 @@ fn a_command_and_its_reply(rt: HostRuntime) -> Result<(), Fail> {
     assert!(rt; command.to() == Name::of_text("BUREAU")?);
     assert!(rt; command.origin() == Name::of_text("LYON")?);
     check_reply(&rt, &command);
-    assert!(rt; !Nmr::read(REPLY)?.is_user_command());
+    let reply = Nmr::read(REPLY)?;
+    assert!(rt; !reply.is_user_command());
     Ok(())
 }
 
