@@ -5,3 +5,4 @@ pub mod FedLaws
 pub mod PlainLaws
 pub mod ReadBack
 pub mod CallsLaws
+pub mod RunLaws

@@ -1,7 +1,7 @@
 //! One byte after another through the frame grammar.
-ghost use Rattle.std.specs.Prelude.{◌≡◌, ◌<◌, ◌≤◌, [], false, length, IfOk, option_map, vec_len, vec_capacity};
+ghost use Rattle.std.specs.Prelude.{◌≡◌, ◌+◌, ◌++◌, ◌<◌, ◌≤◌, ◌∷◌, [], true, false, drop, take, length, IfOk, option_map, vec_len, vec_capacity};
 ghost use Rattle.njh_bisync.specs.Fed.{turn, fed, kept_with};
-ghost use Rattle.njh_bisync.specs.Plain.{fed_on, kept_all};
+ghost use Rattle.njh_bisync.specs.Plain.{fed_on, kept_all, plain_len};
 ghost use Rattle.njh_bisync.specs.Frames.{text_or_spoiled, IsShort};
 ghost use Rattle.njh_bisync.specs.Reading.{Nothing, InText};
 ghost use Rattle.njh_bisync.specs.declared.frame.TheConstants.{LONGEST_TEXT};
@@ -10,6 +10,9 @@ use crate::frame::{Frame, LONGEST_TEXT};
 use crate::line_byte::{ACK_0, DLE, ENQ, EOT, ETB, ETX, NAK, SOH, STX, SYN};
 use crate::plain::plain_len;
 use std::alloc::{AllocError, Global};
+
+/// How many bytes are kept one by one.
+const FEW: usize = 8;
 
 /// Where in the grammar the bytes so far end.
 #[derive(Clone, Copy, Debug)]
@@ -108,7 +111,8 @@ impl Scanner {
         self.place = Place::Between;
     }
 
-    /// Takes one byte, or in a text all that stand before the next DLE: how many, and the frame that they end.
+    /// Takes one byte, or the two that begin a text, or in a text all that stand before the next DLE, or that DLE and the byte behind it:
+    /// how many, and the frame that they end.
     fn take_some(&mut self, bytes: &[u8]) -> (usize, Option<Ended>)
         requires { 0 < length bytes.now }
         ensures some { 0 < result.0 }
@@ -117,16 +121,56 @@ impl Scanner {
             ≡ fed_on result.0 (option_map (frame_in self.new.held.items) result.1) (rest_in self.new) bytes.now }
     {
         match self.place {
-            Place::Inside => {
-                let count = plain_len(bytes);
-                if count == 0 {
-                    return (1, self.take(bytes[0]));
-                }
-                self.keep_all(&bytes[..count]);
-                (count, None)
-            }
-            _ => (1, self.take(bytes[0])),
+            Place::Between => self.take_first(bytes),
+            Place::Inside => self.take_inside(bytes),
+            Place::Soh | Place::Dle | Place::InsideDle => (1, self.take(bytes[0])),
         }
+    }
+
+    /// Outside a text: takes the two bytes that begin one, or one byte.
+    fn take_first(&mut self, bytes: &[u8]) -> (usize, Option<Ended>)
+        requires place { self.old.place ≡ Place.Between }
+        requires some { 0 < length bytes.now }
+        ensures some { 0 < result.0 }
+        ensures within { result.0 ≤ length bytes.now }
+        ensures goes_on { fed (rest_in self.old) bytes.now
+            ≡ fed_on result.0 (option_map (frame_in self.new.held.items) result.1) (rest_in self.new) bytes.now }
+    {
+        if begins_text(bytes) {
+            return (2, self.begin_text());
+        }
+        (1, self.take(bytes[0]))
+    }
+
+    /// In a text: takes all bytes that stand before the next DLE, or that DLE and the byte behind it.
+    fn take_inside(&mut self, bytes: &[u8]) -> (usize, Option<Ended>)
+        requires place { self.old.place ≡ Place.Inside }
+        requires some { 0 < length bytes.now }
+        ensures some { 0 < result.0 }
+        ensures within { result.0 ≤ length bytes.now }
+        ensures goes_on { fed (rest_in self.old) bytes.now
+            ≡ fed_on result.0 (option_map (frame_in self.new.held.items) result.1) (rest_in self.new) bytes.now }
+    {
+        if bytes[0] != DLE {
+            return (self.take_run(bytes), None);
+        }
+        match bytes.get(1) {
+            Some(byte) => (2, self.take_control(*byte)),
+            None => (1, self.go_on(Place::InsideDle)),
+        }
+    }
+
+    /// Takes all bytes of a text that stand before the next DLE: how many.
+    fn take_run(&mut self, bytes: &[u8]) -> usize
+        requires { self.old.place ≡ Place.Inside }
+        ensures count { result ≡ plain_len bytes.now }
+        ensures within { result ≤ length bytes.now }
+        ensures rest { rest_in self.new
+            ≡ InText (kept_all (good_data self.old.spoiled self.old.held.items) (take (plain_len bytes.now) bytes.now)) false }
+    {
+        let count = plain_len(bytes);
+        self.keep_all(&bytes[..count]);
+        count
     }
 
     /// Takes one byte; where it ends a frame, that frame.
@@ -146,11 +190,25 @@ impl Scanner {
             (Place::Dle, STX) => self.begin_text(),
             (Place::Between | Place::Soh | Place::Dle, _) => self.go_on(Place::Between),
             (Place::Inside, DLE) => self.go_on(Place::InsideDle),
-            (Place::Inside, _) | (Place::InsideDle, DLE) => self.keep(byte),
-            (Place::InsideDle, SYN) => self.go_on(Place::Inside),
-            (Place::InsideDle, ETB | ETX) => self.end_text(),
-            (Place::InsideDle, ENQ) => self.end(Ended::Spoiled),
-            (Place::InsideDle, _) => self.spoil(),
+            (Place::Inside, _) => self.keep(byte),
+            (Place::InsideDle, _) => self.take_control(byte),
+        }
+    }
+
+    /// Takes the byte behind a DLE in a text; where it ends a frame, that frame.
+    #[tactic(auto, unfolding(crate::specs::Fed::turn))]
+    fn take_control(&mut self, byte: u8) -> Option<Ended>
+        ensures frame { option_map (frame_in self.new.held.items) result
+            ≡ (turn (InText (good_data self.old.spoiled self.old.held.items) true) byte).frame }
+        ensures rest { rest_in self.new
+            ≡ (turn (InText (good_data self.old.spoiled self.old.held.items) true) byte).rest }
+    {
+        match byte {
+            DLE => self.keep(byte),
+            SYN => self.go_on(Place::Inside),
+            ETB | ETX => self.end_text(),
+            ENQ => self.end(Ended::Spoiled),
+            _ => self.spoil(),
         }
     }
 
@@ -207,7 +265,23 @@ impl Scanner {
             self.spoiled = true;
             return;
         }
-        self.held.extend_from_slice(bytes).unwrap();
+        if bytes.len() <= FEW {
+            self.push_all(bytes);
+        } else {
+            self.held.extend_from_slice(bytes).unwrap();
+        }
+    }
+
+    /// Keeps bytes one by one, in room that is there.
+    fn push_all(&mut self, bytes: &[u8])
+        requires { vec_len self.old.held + length bytes.now ≤ LONGEST_TEXT }
+        ensures place { self.new.place ≡ self.old.place }
+        ensures spoiled { self.new.spoiled ≡ self.old.spoiled }
+        ensures held { self.new.held.items ≡ self.old.held.items ++ bytes.now }
+    {
+        for byte in bytes {
+            self.held.push_reserved(*byte);
+        }
     }
 
     fn spoil(&mut self) -> Option<Ended>
@@ -230,4 +304,17 @@ impl Scanner {
             self.end(Ended::Text)
         }
     }
+}
+
+/// Whether a text begins here.
+fn begins_text(bytes: &[u8]) -> bool
+    ensures { result ≡ true → bytes.now ≡ 0x10 ∷ 0x02 ∷ drop 2 bytes.now }
+{
+    let Some((first, after)) = bytes.split_first() else {
+        return false;
+    };
+    let Some((second, _)) = after.split_first() else {
+        return false;
+    };
+    *first == DLE && *second == STX
 }

@@ -1,5 +1,5 @@
 //! Frames written.
-ghost use Rattle.std.specs.Prelude.{◌≡◌, ◌+◌, ◌*◌, ◌≤◌, ◌++◌, length, flat_map, IsOk, OnOk, OnErr, vec_len, vec_capacity};
+ghost use Rattle.std.specs.Prelude.{◌≡◌, ◌+◌, ◌*◌, ◌≤◌, ◌++◌, ◌∷◌, [], length, flat_map, IsOk, OnOk, OnErr, vec_len, vec_capacity};
 ghost use Rattle.njh_bisync.specs.Written.{bytes_of_data, text_bytes, control_bytes};
 
 use crate::frame::{Control, LONGEST_FRAME, LONGEST_TEXT};
@@ -47,13 +47,41 @@ pub fn put_control(control: Control, out: &mut Vec<u8>) -> Result<(), AllocError
     ensures capacity { vec_capacity out.old ≤ vec_capacity out.new }
     ensures short { length (control_bytes control) ≤ 2 }
 {
-    let bytes: &[u8] = match control {
-        Control::Enquiry => &[SOH, ENQ],
-        Control::Ack0 => &[DLE, ACK_0],
-        Control::Nak => &[NAK],
-    };
-    make_room(out, bytes.len())?;
-    put_bytes(bytes, out);
+    match control {
+        Control::Enquiry => put_pair(SOH, ENQ, out),
+        Control::Ack0 => put_pair(DLE, ACK_0, out),
+        Control::Nak => put_one(NAK, out),
+    }
+}
+
+/// Appends two bytes. Where `out` has the room for them no memory is asked for.
+fn put_pair(first: u8, second: u8, out: &mut Vec<u8>) -> Result<(), AllocError>
+    ensures ok { OnOk result (out.new.items ≡ out.old.items ++ first ∷ second ∷ []) }
+    ensures err { OnErr result
+        ((out.new.items ≡ out.old.items) × (vec_capacity out.new ≡ vec_capacity out.old)) }
+    ensures succeeds { vec_len out.old + 2 ≤ vec_capacity out.old → IsOk result }
+    ensures in_place { vec_len out.old + 2 ≤ vec_capacity out.old
+        → vec_capacity out.new ≡ vec_capacity out.old }
+    ensures capacity { vec_capacity out.old ≤ vec_capacity out.new }
+{
+    make_room(out, 2)?;
+    out.push_reserved(first);
+    out.push_reserved(second);
+    Ok(())
+}
+
+/// Appends a byte. Where `out` has the room for it no memory is asked for.
+fn put_one(byte: u8, out: &mut Vec<u8>) -> Result<(), AllocError>
+    ensures ok { OnOk result (out.new.items ≡ out.old.items ++ byte ∷ []) }
+    ensures err { OnErr result
+        ((out.new.items ≡ out.old.items) × (vec_capacity out.new ≡ vec_capacity out.old)) }
+    ensures succeeds { vec_len out.old + 1 ≤ vec_capacity out.old → IsOk result }
+    ensures in_place { vec_len out.old + 1 ≤ vec_capacity out.old
+        → vec_capacity out.new ≡ vec_capacity out.old }
+    ensures capacity { vec_capacity out.old ≤ vec_capacity out.new }
+{
+    make_room(out, 1)?;
+    out.push_reserved(byte);
     Ok(())
 }
 

@@ -197,12 +197,18 @@ impl Line {
     }
 }
 
-/// Puts a frame in place of the last one, in room that is there.
+/// Puts a frame in place of the last one, in room that is there. Most frames are ACK0, of two bytes.
 fn keep(last: &mut Vec<u8>, frame: &[u8])
     requires { length frame.now ≤ vec_capacity last.old }
     ensures kept { last.new.items ≡ frame.now }
     ensures room { vec_capacity last.old ≤ vec_capacity last.new }
 {
     last.clear();
-    last.extend_from_slice(frame).unwrap();
+    match frame {
+        [first, second] => {
+            last.push_reserved(*first);
+            last.push_reserved(*second);
+        }
+        _ => last.extend_from_slice(frame).unwrap(),
+    }
 }
