@@ -5,3 +5,4 @@ mod SplitLaws
 mod RecordLaws
 mod ReplyLaws
 mod WalkLaws
+mod UserLaws

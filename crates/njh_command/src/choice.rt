@@ -25,7 +25,7 @@ pub(crate) fn is_chosen(choice: &Choice, spool: &Spool, customer: u16, index: u3
     ensures { result ≡ chosen choice.now.who choice.now.name (file_at index (part customer spool.now)) }
 {
     let headers = summary_of(spool, customer, index).headers;
-    is_owner(choice.who, &headers) && is_called(choice.name, &headers)
+    is_called(choice.name, &headers) && is_owner(choice.who, &headers)
 }
 
 /// Whether a user is the owner by a file's headers.
@@ -43,7 +43,7 @@ fn is_called(name: FileName, headers: &FileHeaders) -> bool
     ensures { result ≡ is_called name headers.now.name }
 {
     match headers.name {
-        Some(other) => name.node == other.node && name.number == other.number,
+        Some(other) => name.number == other.number && name.node == other.node,
         None => false,
     }
 }

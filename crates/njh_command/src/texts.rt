@@ -4,11 +4,11 @@ ghost use Rattle.std.specs.Prelude.{◌≡◌, ◌+◌, ◌≤◌, ◌++◌, len
 ghost use Rattle.njh_ebcdic.specs.Names.{trimmed};
 ghost use Rattle.njh_command.specs.Replies as replies;
 
-use njh_ebcdic::{BLANK, Name, trim_blanks};
+use njh_ebcdic::{BLANK, FIELD, Name};
 use njh_header::{
     Destination, FileName, MessageText, push_ascii, push_digits, push_file_name, push_trimmed,
 };
-use njh_record::{Kind, put_bytes};
+use njh_record::Kind;
 use njh_spool::{FileSummary, State};
 
 /// NJH002: so many files.
@@ -108,7 +108,7 @@ pub(crate) fn put_file_line(text: &mut MessageText, file: &FileSummary)
     ensures { text.new.items ≡ replies.line_of file.now.headers.name file.now.headers.destination file.now.kind file.now.records
         file.now.state }
 {
-    text.clear();
+    *text = MessageText::new();
     push_ascii(text, "NJH001 ");
     push_file_text(
         text,
@@ -192,10 +192,9 @@ fn push_user(text: &mut MessageText, user: &[u8; 8])
     ensures text { text.new.items ≡ text.old.items ++ replies.user_text (trimmed user.now) }
     ensures few { length text.new.items ≤ length text.old.items + 9 }
 {
-    let user = trim_blanks(user);
-    if !user.is_empty() {
+    if *user != [BLANK; FIELD] {
         text.push(BLANK);
-        put_bytes(text, user);
+        push_trimmed(text, user);
     }
 }
 

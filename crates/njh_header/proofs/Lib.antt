@@ -3,6 +3,7 @@ pub mod Decimal
 pub mod Fields
 pub mod TextLemmas
 pub mod Trimmed
+pub mod Halves
 pub mod Walking
 pub mod FirstHeader
 pub mod Redirected

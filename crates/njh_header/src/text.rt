@@ -1,6 +1,6 @@
 //! Texts of replies and notices, put together piece by piece.
 
-ghost use Rattle.std.specs.Prelude.{◌≡◌, ◌+◌, ◌≤◌, ◌++◌, length, IsTrue};
+ghost use Rattle.std.specs.Prelude.{◌≡◌, ◌+◌, ◌≤◌, ◌++◌, drop, length, take, IsTrue};
 ghost use Rattle.std.specs.List.{list_all};
 ghost use Rattle.njh_ebcdic.specs.Characters.{is_plain};
 ghost use Rattle.njh_ebcdic.specs.Names.{digits, ebcdic, trimmed};
@@ -8,7 +8,7 @@ ghost use Rattle.njh_header.specs.Texts.{file_name as name_text};
 
 use crate::file_name::FileName;
 use arrayvec::ArrayVec;
-use njh_ebcdic::{plain_byte, trim_blanks};
+use njh_ebcdic::{BLANK, plain_byte};
 use njh_record::put_bytes;
 
 /// The message of a nodal message record, in EBCDIC: at most 148 bytes.
@@ -38,7 +38,41 @@ pub fn push_trimmed(text: &mut MessageText, field: &[u8; 8])
     ensures text { text.new.items ≡ text.old.items ++ trimmed field.now }
     ensures few { length text.new.items ≤ length text.old.items + 8 }
 {
-    put_bytes(text, trim_blanks(field));
+    let front = half_at(field, 0);
+    let back = half_at(field, 4);
+    if back == [BLANK; 4] {
+        push_trimmed_half(text, front);
+    } else {
+        put_bytes(text, &front);
+        push_trimmed_half(text, back);
+    }
+}
+
+/// Half a field.
+fn half_at(field: &[u8; 8], place: usize) -> [u8; 4]
+    requires { place ≤ 4 }
+    ensures { result ≡ take 4 (drop place field.now) }
+{
+    let mut half = [BLANK; 4];
+    half.copy_from_slice(&field[place..place + 4]);
+    half
+}
+
+/// Appends half a field without the blanks behind it.
+fn push_trimmed_half(text: &mut MessageText, half: [u8; 4])
+    requires { length text.old.items + 4 ≤ 148 }
+    ensures { text.new.items ≡ text.old.items ++ trimmed half }
+{
+    let [first, second, third, fourth] = half;
+    if fourth != BLANK {
+        put_bytes(text, &half);
+    } else if third != BLANK {
+        put_bytes(text, &[first, second, third]);
+    } else if second != BLANK {
+        put_bytes(text, &[first, second]);
+    } else if first != BLANK {
+        text.push(first);
+    }
 }
 
 /// Appends a number in decimal digits, with no leading zeros.
@@ -48,7 +82,16 @@ pub fn push_digits(text: &mut MessageText, number: u32)
     ensures text { text.new.items ≡ text.old.items ++ digits number }
     ensures few { length text.new.items ≤ length text.old.items + 10 }
 {
-    push_each_digit(text, number);
+    if number < 10 {
+        text.push(ZERO + number as u8);
+    } else if number < 100 {
+        put_bytes(
+            text,
+            &[ZERO + (number / 10) as u8, ZERO + (number % 10) as u8],
+        );
+    } else {
+        push_each_digit(text, number);
+    }
 }
 
 #[tactic(auto, using(crate::proofs::TextLemmas::digit_steps))]
