@@ -220,13 +220,13 @@ module _ (store : StoreValue) (slots : List FileSlot) (customers : List Customer
       (ap (λ (rs : List Stored). record { stage = slot.stage; kind = slot.kind; records = rs }) records) refl
       (omega (arith, blocks_are, longer)) fits)
 
-  -- the same, where the code's places and its store are these
-  pub arrives : (t store' : StoreValue) (slot' : FileSlot) (own' : CustomerFiles) (i j : ℕ) (s : CustomerSpool) → store' ≡ t →
-      i ≡ 1024 * c + n → j ≡ c → Moves store slots customers t (set slots (1024 * c + n) slot') (set customers c own') c s →
-      Moves store slots customers store' (set slots i slot') (set customers j own') c s
-  arrives t store' slot' own' i j s same_store same_place same_customer moved =
-      subst (λ (x : StoreValue). Moves store slots customers x (set slots i slot') (set customers j own') c s) (sym same_store)
-      (subst (λ (k : ℕ). Moves store slots customers t (set slots k slot') (set customers j own') c s) (sym same_place)
+  -- the same, where the code's store, its slots and its customer are these
+  pub arrives : (t store' : StoreValue) (slot' : FileSlot) (own' : CustomerFiles) (slots' : List FileSlot) (j : ℕ) (s : CustomerSpool) →
+      store' ≡ t → slots' ≡ set slots (1024 * c + n) slot' → j ≡ c → Moves store slots customers t
+      (set slots (1024 * c + n) slot') (set customers c own') c s → Moves store slots customers store' slots' (set customers j own') c s
+  arrives t store' slot' own' slots' j s same_store same_slots same_customer moved =
+      subst (λ (x : StoreValue). Moves store slots customers x slots' (set customers j own') c s) (sym same_store)
+      (subst (λ (xs : List FileSlot). Moves store slots customers t xs (set customers j own') c s) (sym same_slots)
       (subst (λ (k : ℕ). Moves store slots customers t (set slots (1024 * c + n) slot') (set customers k own') c s)
       (sym same_customer) moved))
 

@@ -32,6 +32,7 @@ pub mod ReadLaws
 pub mod ReaderLaws
 pub mod RecordLaws
 pub mod RewriteLaws
+pub mod RowLaws
 pub mod SlotLaws
 pub mod SpoolLaws
 pub mod SummaryLaws

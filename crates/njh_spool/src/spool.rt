@@ -14,8 +14,8 @@ use crate::SpoolFault;
 use crate::customer_files::{CustomerFiles, open_all};
 use crate::file_headers::FileSummary;
 use crate::file_id::FileId;
-use crate::file_slot::FileSlot;
-use crate::places::{free_slots, slot_at};
+use crate::file_slots::FileSlots;
+use crate::places::slot_at;
 use crate::quota::{MOST_CUSTOMERS, MOST_FILES, Quota};
 use crate::store::{MOST_CAPACITY, Store};
 use std::alloc::Global;
@@ -25,7 +25,7 @@ use std::marker::Model;
 #[derive(Drop)]
 pub struct Spool {
     store: Store,
-    slots: Vec<FileSlot>,
+    slots: FileSlots,
     customers: Vec<CustomerFiles>,
 }
 
@@ -36,9 +36,9 @@ impl Model for Spool {
 
     ghost Value = { List CustomerSpool };
 
-    ghost view = { λ s. spools_of s.customers.items (contents s.slots.items s.store.chains) };
+    ghost view = { λ s. spools_of s.customers.items (contents s.slots s.store.chains) };
 
-    ghost invariant = { λ s. IsKept s.store s.slots.items s.customers.items };
+    ghost invariant = { λ s. IsKept s.store s.slots s.customers.items };
 }
 
 /// The blocks that quotas add to.
@@ -66,7 +66,7 @@ impl Spool {
     {
         let slot_count = MOST_FILES * quotas.len() as u32;
         let store = Store::open(alloc, blocks_of_all(quotas), slot_count)?;
-        let slots = free_slots(alloc, slot_count)?;
+        let slots = FileSlots::open(alloc, quotas.len() as u32)?;
         let customers = open_all(alloc, quotas)?;
         Ok(Spool {
             store,

@@ -48,7 +48,8 @@ impl Spool {
         let number = free_number(&self.slots, customer, own.limit);
         own.partial.push(number);
         let id = FileId::of(number);
-        self.slots[place(customer, id) as usize] = FileSlot::empty(Stage::Partial, kind);
+        self.slots
+            .set(customer, id, FileSlot::empty(Stage::Partial, kind));
         Ok(id)
     }
 
@@ -87,7 +88,7 @@ impl Spool {
         quotas_leave_room();
         self.store.append_both(at, &head_of(srcb, bytes), bytes);
         slot.count += 1;
-        self.slots[at as usize] = slot;
+        self.slots.set(customer, id, slot);
         Ok(())
     }
 
@@ -110,7 +111,7 @@ impl Spool {
         own.partial.remove(id.number());
         own.whole.push(id.number());
         slot.stage = Stage::Whole(State::Ready);
-        self.slots[at as usize] = slot;
+        self.slots.set(customer, id, slot);
         Ok(())
     }
 
@@ -132,7 +133,8 @@ impl Spool {
         own.used = left;
         own.partial.remove(id.number());
         self.store.clear(at);
-        self.slots[at as usize] = FileSlot::empty(Stage::Free, Kind::In);
+        self.slots
+            .set(customer, id, FileSlot::empty(Stage::Free, Kind::In));
         Ok(())
     }
 }

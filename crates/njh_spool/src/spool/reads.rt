@@ -106,7 +106,7 @@ impl Spool {
             last: begins,
             next: behind,
         };
-        self.slots[at as usize] = slot;
+        self.slots.set(customer, id, slot);
         Ok(srcb)
     }
 }

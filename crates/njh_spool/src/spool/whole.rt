@@ -29,7 +29,7 @@ impl Spool {
             return Err(SpoolFault::NoSuchFile);
         }
         slot.stage = Stage::Whole(state);
-        self.slots[place(customer, id) as usize] = slot;
+        self.slots.set(customer, id, slot);
         Ok(())
     }
 
@@ -73,7 +73,8 @@ impl Spool {
         own.used = left;
         own.whole.remove(id.number());
         self.store.clear(at);
-        self.slots[at as usize] = FileSlot::empty(Stage::Free, Kind::In);
+        self.slots
+            .set(customer, id, FileSlot::empty(Stage::Free, Kind::In));
         Ok(())
     }
 
@@ -105,7 +106,7 @@ impl Spool {
         let from = begins.place + (RECORD_HEAD + place) as u32;
         self.store.overwrite(at, begins.mark, from, bytes);
         slot.headers = headers_behind(&self.store, at, &slot, n);
-        self.slots[at as usize] = slot;
+        self.slots.set(customer, id, slot);
         Ok(())
     }
 }

@@ -12,49 +12,49 @@ use Rattle.njh_spool.proofs.CallLaws as call
 use Rattle.std.proofs.Common.{◌/◌}
 use Rattle.njh_spool.specs.Chains.{with_chain, blocks_of}
 use Rattle.njh_spool.proofs.spool.Spool.abandon.Goals as goal
-use Rattle.njh_spool.proofs.spool.Spool.abandon.Goals.{After-index_mut, After-is_partial, After-index_mut-own}
+use Rattle.njh_spool.proofs.spool.Spool.abandon.Goals.{After-set, After-is_partial, After-index_mut-own}
 
 pub slot_at-requires : goal.slot_at-requires
 slot_at-requires c =
-    let has = finds.has c.self.inside.store c.self.inside.slots.items c.self.inside.customers.items c.args.customer c.args.id
+    let has = finds.has c.self.inside.store c.self.inside.slots c.self.inside.customers.items c.args.customer c.args.id
     c.self.invariant (rw c.self.view_is c.requires) in
-    omega (arith, has.slot_within 1023 (omega arith), ap length c.deref.ensures.value)
+    omega (arith, has.slot_within 1023 (omega arith))
 
-stage_is : (c : After-is_partial) → is_partial (slot_of c.self.inside.slots.items c.args.customer c.args.id).stage ≡ c.is_partial.result
+stage_is : (c : After-is_partial) → is_partial (slot_of c.self.inside.slots c.args.customer c.args.id).stage ≡ c.is_partial.result
 stage_is c = ap (λ (x : FileSlot). is_partial x.stage)
-    (sym (c.slot_at.ensures ∙ ap (λ (xs : List FileSlot). slot_of xs c.args.customer c.args.id) c.deref.ensures.value))
+    (sym (c.slot_at.ensures))
     ∙ sym c.is_partial.ensures
 
 pub returns-then-not-is_partial-clause-answer : goal.returns-then-not-is_partial-clause-answer
 returns-then-not-is_partial-clause-answer c =
-    let none = finds.finds_no_partial c.self.inside.store c.self.inside.slots.items c.self.inside.customers.items c.args.customer
+    let none = finds.finds_no_partial c.self.inside.store c.self.inside.slots c.self.inside.customers.items c.args.customer
     c.args.id c.self.invariant (rw c.self.view_is c.requires)
     (stage_is (goal.at.returns-then-not-is_partial-clause-answer c).After-is_partial ∙ c.if-not-is_partial.true) in
     rw (← c.self.view_is, none.none) refl
 
 pub returns-then-not-is_partial-clause-after : goal.returns-then-not-is_partial-clause-after
 returns-then-not-is_partial-clause-after c =
-    let none = finds.finds_no_partial c.self.inside.store c.self.inside.slots.items c.self.inside.customers.items c.args.customer
+    let none = finds.finds_no_partial c.self.inside.store c.self.inside.slots c.self.inside.customers.items c.args.customer
     c.args.id c.self.invariant (rw c.self.view_is c.requires)
     (stage_is (goal.at.returns-then-not-is_partial-clause-after c).After-is_partial ∙ c.if-not-is_partial.true) in
     rw (← c.self.view_is) none.abandons
 
 own_same : (c : After-index_mut-own) → c.index_mut-own.result.now ≡ (own_of c.self.inside.customers.items c.args.customer)
 own_same c =
-    let has = finds.has c.self.inside.store c.self.inside.slots.items c.self.inside.customers.items c.args.customer c.args.id
+    let has = finds.has c.self.inside.store c.self.inside.slots c.self.inside.customers.items c.args.customer c.args.id
     c.self.invariant (rw c.self.view_is c.requires) in
     own_is c.self.inside.customers.items c.args.customer c.from.result c.index_mut-own.result.now has.within c.from.ensures
     c.index_mut-own.ensures.value
 
 pub overflow_sub-left : goal.overflow_sub-left
 overflow_sub-left c =
-    let has = finds.has c.self.inside.store c.self.inside.slots.items c.self.inside.customers.items c.args.customer c.args.id
+    let has = finds.has c.self.inside.store c.self.inside.slots c.self.inside.customers.items c.args.customer c.args.id
     c.self.invariant (rw c.self.view_is c.requires) in
     let there = stage_is (goal.at.overflow_sub-left c).After-is_partial ∙ c.if-not-is_partial.false in
     let own = ap (λ (o : CustomerFiles). o.used) (own_same (goal.at.overflow_sub-left c).After-index_mut-own) in
     let chain = ap (λ (i : ℕ). chain_at i c.self.inside.store) c.place-at.ensures ∙ finds.chain_is c.self.inside.store
-    c.self.inside.slots.items c.self.inside.customers.items c.args.customer c.args.id c.self.invariant
-    (rw c.self.view_is c.requires) (finds.small_partial c.self.inside.store c.self.inside.slots.items
+    c.self.inside.slots c.self.inside.customers.items c.args.customer c.args.id c.self.invariant
+    (rw c.self.view_is c.requires) (finds.small_partial c.self.inside.store c.self.inside.slots
     c.self.inside.customers.items c.args.customer c.args.id c.self.invariant (rw c.self.view_is c.requires) there) in
     let size = c.len.ensures.bytes ∙ ap (λ (x : Chain). length x.bytes) chain in
     omega (
@@ -62,33 +62,33 @@ overflow_sub-left c =
       own,
       size,
       c.blocks_for.ensures,
-      finds.blocks_are c.self.inside.store c.self.inside.slots.items
+      finds.blocks_are c.self.inside.store c.self.inside.slots
           c.self.inside.customers.items c.args.customer c.args.id c.self.invariant (rw c.self.view_is c.requires),
-      finds.enough_partial c.self.inside.store c.self.inside.slots.items c.self.inside.customers.items c.args.customer
+      finds.enough_partial c.self.inside.store c.self.inside.slots c.self.inside.customers.items c.args.customer
           c.args.id c.self.invariant (rw c.self.view_is c.requires) there,
     )
 
-moved : (c : After-index_mut) → Moves c.self.inside.store c.self.inside.slots.items c.self.inside.customers.items
-    c.clear.new.self (set c.self.inside.slots.items c.place-at.result c.empty.result)
+moved : (c : After-set) → Moves c.self.inside.store c.self.inside.slots c.self.inside.customers.items
+    c.clear.new.self c.set.new.self
     (set c.self.inside.customers.items c.from.result
     (record c.index_mut-own.result.now {
       used = c.index_mut-own.result.now.used - c.blocks_for.result;
       partial =
           c.remove.new.self;
     })) c.args.customer (abandoned c.args.id
-    (part c.args.customer (spools_of c.self.inside.customers.items (contents c.self.inside.slots.items c.self.inside.store.chains))))
+    (part c.args.customer (spools_of c.self.inside.customers.items (contents c.self.inside.slots c.self.inside.store.chains))))
 moved c =
-    let has = finds.has c.self.inside.store c.self.inside.slots.items c.self.inside.customers.items c.args.customer c.args.id
+    let has = finds.has c.self.inside.store c.self.inside.slots c.self.inside.customers.items c.args.customer c.args.id
     c.self.invariant (rw c.self.view_is c.requires) in
     let there = ap (λ (x : FileSlot). is_partial x.stage)
-    (sym (c.slot_at.ensures ∙ ap (λ (xs : List FileSlot). slot_of xs c.args.customer c.args.id) c.deref.ensures.value))
+    (sym (c.slot_at.ensures))
     ∙ sym c.is_partial.ensures ∙ c.if-not-is_partial.false in
-    let small = finds.small_partial c.self.inside.store c.self.inside.slots.items c.self.inside.customers.items c.args.customer
+    let small = finds.small_partial c.self.inside.store c.self.inside.slots c.self.inside.customers.items c.args.customer
     c.args.id c.self.invariant (rw c.self.view_is c.requires) there in
     let own = own_is c.self.inside.customers.items c.args.customer c.from.result c.index_mut-own.result.now has.within
     c.from.ensures c.index_mut-own.ensures.value in
     let chain = ap (λ (i : ℕ). chain_at i c.self.inside.store) c.place-at.ensures ∙ finds.chain_is c.self.inside.store
-    c.self.inside.slots.items c.self.inside.customers.items c.args.customer c.args.id c.self.invariant
+    c.self.inside.slots c.self.inside.customers.items c.args.customer c.args.id c.self.invariant
     (rw c.self.view_is c.requires) small in
     let size : c.blocks_for.result ≡ blocks_of (chain_of c.self.inside.store.chains c.args.customer c.args.id).bytes =
     c.blocks_for.ensures ∙ ap (λ (k : ℕ). (k + 251) / 252) (c.len.ensures.bytes ∙ ap (λ (x : Chain). length x.bytes) chain) in
@@ -109,17 +109,17 @@ moved c =
       partial = filter (λ m. not (eqb m c.args.id)) o.partial;
     }) own in
     let store = c.clear.ensures ∙ ap (λ (i : ℕ). with_chain i empty_chain c.self.inside.store) c.place-at.ensures in
-    call.arrives c.self.inside.store c.self.inside.slots.items c.self.inside.customers.items c.args.customer c.args.id
+    call.arrives c.self.inside.store c.self.inside.slots c.self.inside.customers.items c.args.customer c.args.id
     c.self.invariant (rw c.self.view_is c.requires) (with_chain (1024 * c.args.customer + c.args.id) empty_chain
     c.self.inside.store) c.clear.new.self c.empty.result
     (record c.index_mut-own.result.now {
       used = c.index_mut-own.result.now.used - c.blocks_for.result;
       partial =
           c.remove.new.self;
-    }) c.place-at.result c.from.result
+    }) c.set.new.self c.from.result
     (abandoned c.args.id (part c.args.customer (spools_of c.self.inside.customers.items
-    (contents c.self.inside.slots.items c.self.inside.store.chains)))) store c.place-at.ensures c.from.ensures
-    (call.abandons c.self.inside.store c.self.inside.slots.items c.self.inside.customers.items c.args.customer c.args.id
+    (contents c.self.inside.slots c.self.inside.store.chains)))) store c.set.ensures c.from.ensures
+    (call.abandons c.self.inside.store c.self.inside.slots c.self.inside.customers.items c.args.customer c.args.id
     c.self.invariant (rw c.self.view_is c.requires) c.empty.result
     (record c.index_mut-own.result.now {
       used = c.index_mut-own.result.now.used - c.blocks_for.result;
@@ -128,18 +128,18 @@ moved c =
     }) there c.empty.ensures owns small)
 
 pub invariant_of-self : goal.invariant_of-self
-invariant_of-self c = (moved (goal.at.invariant_of-self c).After-index_mut).kept
+invariant_of-self c = (moved (goal.at.invariant_of-self c).After-set).kept
 
 pub returns-clause-answer : goal.returns-clause-answer
 returns-clause-answer c =
     let there = stage_is (goal.at.returns-clause-answer c).After-is_partial ∙ c.if-not-is_partial.false in
     rw (
       ← c.self.view_is,
-      finds.finds_partial c.self.inside.store c.self.inside.slots.items c.self.inside.customers.items
+      finds.finds_partial c.self.inside.store c.self.inside.slots c.self.inside.customers.items
           c.args.customer c.args.id c.self.invariant (rw c.self.view_is c.requires) there,
     ) refl
 
 pub returns-clause-after : goal.returns-clause-after
 returns-clause-after c =
-    (moved (goal.at.returns-clause-after c).After-index_mut).spools
+    (moved (goal.at.returns-clause-after c).After-set).spools
     ∙ ap (λ (old : List CustomerSpool). set old c.args.customer (abandoned c.args.id (part c.args.customer old))) c.self.view_is

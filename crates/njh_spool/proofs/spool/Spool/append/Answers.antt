@@ -19,18 +19,18 @@ use Rattle.njh_spool.proofs.spool.Spool.append.Goals.{After-is_partial, After-bl
 
 pub slot_at-slot-requires : goal.slot_at-slot-requires
 slot_at-slot-requires c =
-    let has = finds.has c.self.inside.store c.self.inside.slots.items c.self.inside.customers.items c.args.customer c.args.id
+    let has = finds.has c.self.inside.store c.self.inside.slots c.self.inside.customers.items c.args.customer c.args.id
     c.self.invariant (rw c.self.view_is c.requires.range) in
-    omega (arith, has.slot_within 1023 (omega arith), ap length c.deref.ensures.value)
+    omega (arith, has.slot_within 1023 (omega arith))
 
-stage_is : (c : After-is_partial) → is_partial (slot_of c.self.inside.slots.items c.args.customer c.args.id).stage ≡ c.is_partial.result
+stage_is : (c : After-is_partial) → is_partial (slot_of c.self.inside.slots c.args.customer c.args.id).stage ≡ c.is_partial.result
 stage_is c = ap (λ (x : FileSlot). is_partial x.stage)
-    (sym (c.slot_at-slot.ensures ∙ ap (λ (xs : List FileSlot). slot_of xs c.args.customer c.args.id) c.deref.ensures.value))
+    (sym (c.slot_at-slot.ensures))
     ∙ sym c.is_partial.ensures
 
 pub returns-then-not-is_partial-clause-fault : goal.returns-then-not-is_partial-clause-fault
 returns-then-not-is_partial-clause-fault c =
-    let none = finds.finds_no_partial c.self.inside.store c.self.inside.slots.items c.self.inside.customers.items c.args.customer
+    let none = finds.finds_no_partial c.self.inside.store c.self.inside.slots c.self.inside.customers.items c.args.customer
     c.args.id c.self.invariant (rw c.self.view_is c.requires.range)
     (stage_is (goal.at.returns-then-not-is_partial-clause-fault c).After-is_partial ∙ c.if-not-is_partial.true) in
     rw (← c.self.view_is, none.appends (record { srcb = c.args.srcb; bytes = c.args.bytes.now })) refl
@@ -42,14 +42,14 @@ record Counts (used blocks own_used own_blocks : ℕ) : Type 0 where
   enough : own_blocks ≤ own_used
   few : own_used ≤ 65535
 
-there_is : (c : After-blocks_for) → is_partial (slot_of c.self.inside.slots.items c.args.customer c.args.id).stage ≡ true
+there_is : (c : After-blocks_for) → is_partial (slot_of c.self.inside.slots c.args.customer c.args.id).stage ≡ true
 there_is c = ap (λ (x : FileSlot). is_partial x.stage)
-    (sym (c.slot_at-slot.ensures ∙ ap (λ (xs : List FileSlot). slot_of xs c.args.customer c.args.id) c.deref.ensures.value))
+    (sym (c.slot_at-slot.ensures))
     ∙ sym c.is_partial.ensures ∙ c.if-not-is_partial.false
 
 own_same : (c : After-blocks_for) → c.index_mut-own.result.now ≡ (own_of c.self.inside.customers.items c.args.customer)
 own_same c =
-    let has = finds.has c.self.inside.store c.self.inside.slots.items c.self.inside.customers.items c.args.customer c.args.id
+    let has = finds.has c.self.inside.store c.self.inside.slots c.self.inside.customers.items c.args.customer c.args.id
     c.self.invariant (rw c.self.view_is c.requires.range) in
     own_is c.self.inside.customers.items c.args.customer c.from.result c.index_mut-own.result.now has.within c.from.ensures
     c.index_mut-own.ensures.value
@@ -57,8 +57,8 @@ own_same c =
 chain_same : (c : After-blocks_for) → chain_at c.place-at.result c.self.inside.store ≡
     (chain_of c.self.inside.store.chains c.args.customer c.args.id)
 chain_same c = ap (λ (i : ℕ). chain_at i c.self.inside.store) c.place-at.ensures ∙ finds.chain_is c.self.inside.store
-    c.self.inside.slots.items c.self.inside.customers.items c.args.customer c.args.id c.self.invariant
-    (rw c.self.view_is c.requires.range) (finds.small_partial c.self.inside.store c.self.inside.slots.items
+    c.self.inside.slots c.self.inside.customers.items c.args.customer c.args.id c.self.invariant
+    (rw c.self.view_is c.requires.range) (finds.small_partial c.self.inside.store c.self.inside.slots
     c.self.inside.customers.items c.args.customer c.args.id c.self.invariant (rw c.self.view_is c.requires.range) (there_is c))
 
 size_same : (c : After-blocks_for) → c.len-size.result ≡ length (chain_of c.self.inside.store.chains c.args.customer c.args.id).bytes
@@ -68,17 +68,17 @@ counts : (c : After-blocks_for) → Counts c.index_mut-own.result.now.used c.blo
     (own_of c.self.inside.customers.items c.args.customer).used
     (blocks_of (chain_of c.self.inside.store.chains c.args.customer c.args.id).bytes)
 counts c =
-    let has = finds.has c.self.inside.store c.self.inside.slots.items c.self.inside.customers.items c.args.customer c.args.id
+    let has = finds.has c.self.inside.store c.self.inside.slots c.self.inside.customers.items c.args.customer c.args.id
     c.self.invariant (rw c.self.view_is c.requires.range) in
     record {
       used_is = ap (λ (o : CustomerFiles). o.used) (own_same c);
       blocks_is = c.blocks_for.ensures ∙ ap (λ (k : ℕ). (k + 251) / 252) (size_same c);
       enough = omega (
         arith,
-        finds.blocks_are c.self.inside.store c.self.inside.slots.items c.self.inside.customers.items
+        finds.blocks_are c.self.inside.store c.self.inside.slots c.self.inside.customers.items
             c.args.customer c.args.id c.self.invariant (rw c.self.view_is c.requires.range),
         finds.enough_partial
-            c.self.inside.store c.self.inside.slots.items c.self.inside.customers.items c.args.customer c.args.id c.self.invariant
+            c.self.inside.store c.self.inside.slots c.self.inside.customers.items c.args.customer c.args.id c.self.invariant
             (rw c.self.view_is c.requires.range) (there_is c),
       );
       few = omega (arith, has.own.counted, has.own.sound.within_quota, has.own.sound.quota_limit);
@@ -112,7 +112,7 @@ overflow_add-used c =
     let at = (goal.at.overflow_add-used c).After-blocks_for in
     let count = counts at in
     let longer = longer_same c in
-    let fits = (finds.has c.self.inside.store c.self.inside.slots.items c.self.inside.customers.items c.args.customer c.args.id
+    let fits = (finds.has c.self.inside.store c.self.inside.slots c.self.inside.customers.items c.args.customer c.args.id
     c.self.invariant (rw c.self.view_is c.requires.range)).own.sound in
     let small = length-append (chain_of c.self.inside.store.chains c.args.customer c.args.id).bytes
     (packed_record (record { srcb = c.args.srcb; bytes = c.args.bytes.now })) in
@@ -144,7 +144,7 @@ returns-then-used-own-clause-fault c =
     let quota = ap (λ (o : CustomerFiles). o.quota) (own_same first) in
     rw (
       ← c.self.view_is,
-      finds.append_full c.self.inside.store c.self.inside.slots.items c.self.inside.customers.items
+      finds.append_full c.self.inside.store c.self.inside.slots c.self.inside.customers.items
           c.args.customer c.args.id c.self.invariant (rw c.self.view_is c.requires.range)
           (record { srcb = c.args.srcb; bytes = c.args.bytes.now }) (there_is first)
           (omega (arith, now_used at, quota, c.if-used-own.true)),
@@ -154,54 +154,54 @@ pub append_both-requires-clause-room : goal.append_both-requires-clause-room
 append_both-requires-clause-room c =
     let at = (goal.at.append_both-requires-clause-room c).After-blocks_for-2 in
     let first = (goal.at.append_both-requires-clause-room c).After-blocks_for in
-    let has = finds.has c.self.inside.store c.self.inside.slots.items c.self.inside.customers.items c.args.customer c.args.id
+    let has = finds.has c.self.inside.store c.self.inside.slots c.self.inside.customers.items c.args.customer c.args.id
     c.self.invariant (rw c.self.view_is c.requires.range) in
     let quota = ap (λ (o : CustomerFiles). o.quota) (own_same first) in
-    let small = finds.small_partial c.self.inside.store c.self.inside.slots.items c.self.inside.customers.items c.args.customer
+    let small = finds.small_partial c.self.inside.store c.self.inside.slots c.self.inside.customers.items c.args.customer
     c.args.id c.self.invariant (rw c.self.view_is c.requires.range) (there_is first) in
     let bytes : c.head_of.result ++ c.args.bytes.now ≡ packed_record (record { srcb = c.args.srcb; bytes = c.args.bytes.now }) =
     c.head_of.ensures in
-    let room = finds.room c.self.inside.store c.self.inside.slots.items c.self.inside.customers.items c.args.customer c.args.id
+    let room = finds.room c.self.inside.store c.self.inside.slots c.self.inside.customers.items c.args.customer c.args.id
     c.self.invariant (rw c.self.view_is c.requires.range) (record { srcb = c.args.srcb; bytes = c.args.bytes.now })
     (chain_of c.self.inside.store.chains c.args.customer c.args.id).keys (there_is first) small
     (omega (arith, now_used at, quota, c.if-used-own.false))
     (λ more. c.quotas_leave_room.ensures (spools_of c.self.inside.customers.items
-    (contents c.self.inside.slots.items c.self.inside.store.chains)) c.self.inside.store.capacity c.args.customer more
-    (within_all c.self.inside.store c.self.inside.slots.items c.self.inside.customers.items c.self.invariant)
-    (quotas_fit c.self.inside.store c.self.inside.slots.items c.self.inside.customers.items c.self.invariant)
+    (contents c.self.inside.slots c.self.inside.store.chains)) c.self.inside.store.capacity c.args.customer more
+    (within_all c.self.inside.store c.self.inside.slots c.self.inside.customers.items c.self.invariant)
+    (quotas_fit c.self.inside.store c.self.inside.slots c.self.inside.customers.items c.self.invariant)
     (rw c.self.view_is c.requires.range)) in
     rw (
       bytes,
       c.place-at.ensures,
-      finds.chain_is c.self.inside.store c.self.inside.slots.items c.self.inside.customers.items
+      finds.chain_is c.self.inside.store c.self.inside.slots c.self.inside.customers.items
           c.args.customer c.args.id c.self.invariant (rw c.self.view_is c.requires.range) small,
     ) room
 
 pub overflow_add-slot : goal.overflow_add-slot
 overflow_add-slot c =
-    let count = ap (λ (x : FileSlot). x.count) (c.slot_at-slot.ensures
-    ∙ ap (λ (xs : List FileSlot). slot_of xs c.args.customer c.args.id) c.deref.ensures.value) in
+    let count = ap (λ (x : FileSlot). x.count) (c.slot_at-slot.ensures) in
     omega (
       arith,
       count,
-      finds.count_small c.self.inside.store c.self.inside.slots.items c.self.inside.customers.items
+      finds.count_small c.self.inside.store c.self.inside.slots c.self.inside.customers.items
           c.args.customer c.args.id c.self.invariant (rw c.self.view_is c.requires.range),
     )
 
-moved : (c : After-append_both) → Moves c.self.inside.store c.self.inside.slots.items c.self.inside.customers.items c.append_both.new.self
-    (set c.self.inside.slots.items c.place-at.result (record c.slot_at-slot.result { count = c.slot_at-slot.result.count + 1 }))
+moved : (c : After-append_both) → Moves c.self.inside.store c.self.inside.slots c.self.inside.customers.items c.append_both.new.self
+    (set c.self.inside.slots (1024 * c.args.customer + c.args.id)
+    (record c.slot_at-slot.result { count = c.slot_at-slot.result.count + 1 }))
     (set c.self.inside.customers.items c.from.result
     (record c.index_mut-own.result.now { used = c.index_mut-own.result.now.used - c.blocks_for.result + c.blocks_for-2.result }))
     c.args.customer (appended c.args.id (record { srcb = c.args.srcb; bytes = c.args.bytes.now })
-    (part c.args.customer (spools_of c.self.inside.customers.items (contents c.self.inside.slots.items c.self.inside.store.chains))))
+    (part c.args.customer (spools_of c.self.inside.customers.items (contents c.self.inside.slots c.self.inside.store.chains))))
 moved c =
     let at = (goal.at.overflow_add-slot c).After-blocks_for-2 in
     let first = (goal.at.overflow_add-slot c).After-blocks_for in
     let there = there_is first in
-    let small = finds.small_partial c.self.inside.store c.self.inside.slots.items c.self.inside.customers.items c.args.customer
+    let small = finds.small_partial c.self.inside.store c.self.inside.slots c.self.inside.customers.items c.args.customer
     c.args.id c.self.invariant (rw c.self.view_is c.requires.range) there in
     let chain = chain_same first in
-    let same = c.slot_at-slot.ensures ∙ ap (λ (xs : List FileSlot). slot_of xs c.args.customer c.args.id) c.deref.ensures.value in
+    let same = c.slot_at-slot.ensures in
     let bytes : c.head_of.result ++ c.args.bytes.now ≡ packed_record (record { srcb = c.args.srcb; bytes = c.args.bytes.now }) =
     c.head_of.ensures in
     let quota = ap (λ (o : CustomerFiles). o.quota) (own_same first) in
@@ -228,7 +228,7 @@ moved c =
           ((chain_of c.self.inside.store.chains c.args.customer c.args.id).bytes
           ++ packed_record (record { srcb = c.args.srcb; bytes = c.args.bytes.now }));
     }) c.self.inside.store) c.place-at.ensures in
-    call.arrives c.self.inside.store c.self.inside.slots.items c.self.inside.customers.items c.args.customer c.args.id
+    call.arrives c.self.inside.store c.self.inside.slots c.self.inside.customers.items c.args.customer c.args.id
     c.self.invariant (rw c.self.view_is c.requires.range) (with_chain (1024 * c.args.customer + c.args.id)
     (record {
       keys = keys;
@@ -236,44 +236,45 @@ moved c =
           ++ packed_record (record { srcb = c.args.srcb; bytes = c.args.bytes.now }));
     }) c.self.inside.store) c.append_both.new.self
     (record c.slot_at-slot.result { count = c.slot_at-slot.result.count + 1 })
-    (record c.index_mut-own.result.now { used = blocks }) c.place-at.result c.from.result
+    (record c.index_mut-own.result.now { used = blocks }) (set c.self.inside.slots (1024 * c.args.customer + c.args.id)
+    (record c.slot_at-slot.result { count = c.slot_at-slot.result.count + 1 })) c.from.result
     (appended c.args.id (record { srcb = c.args.srcb; bytes = c.args.bytes.now })
     (part c.args.customer (spools_of c.self.inside.customers.items
-    (contents c.self.inside.slots.items c.self.inside.store.chains)))) store c.place-at.ensures c.from.ensures
-    (subst (λ (x : FileSlot). Moves c.self.inside.store c.self.inside.slots.items c.self.inside.customers.items
+    (contents c.self.inside.slots c.self.inside.store.chains)))) store refl c.from.ensures
+    (subst (λ (x : FileSlot). Moves c.self.inside.store c.self.inside.slots c.self.inside.customers.items
     (with_chain (1024 * c.args.customer + c.args.id)
     (record {
       keys = keys;
       bytes = ((chain_of c.self.inside.store.chains c.args.customer c.args.id).bytes
           ++ packed_record (record { srcb = c.args.srcb; bytes = c.args.bytes.now }));
     }) c.self.inside.store)
-    (set c.self.inside.slots.items (1024 * c.args.customer + c.args.id) (record x { count = x.count + 1 }))
+    (set c.self.inside.slots (1024 * c.args.customer + c.args.id) (record x { count = x.count + 1 }))
     (set c.self.inside.customers.items c.args.customer (record c.index_mut-own.result.now { used = blocks }))
     c.args.customer (appended c.args.id (record { srcb = c.args.srcb; bytes = c.args.bytes.now })
     (part c.args.customer (spools_of c.self.inside.customers.items
-    (contents c.self.inside.slots.items c.self.inside.store.chains))))) (sym same)
-    (subst (λ (o : CustomerFiles). Moves c.self.inside.store c.self.inside.slots.items c.self.inside.customers.items
+    (contents c.self.inside.slots c.self.inside.store.chains))))) (sym same)
+    (subst (λ (o : CustomerFiles). Moves c.self.inside.store c.self.inside.slots c.self.inside.customers.items
     (with_chain (1024 * c.args.customer + c.args.id)
     (record {
       keys = keys;
       bytes = ((chain_of c.self.inside.store.chains c.args.customer c.args.id).bytes
           ++ packed_record (record { srcb = c.args.srcb; bytes = c.args.bytes.now }));
     }) c.self.inside.store)
-    (set c.self.inside.slots.items (1024 * c.args.customer + c.args.id)
-    (record (slot_of c.self.inside.slots.items c.args.customer c.args.id) {
+    (set c.self.inside.slots (1024 * c.args.customer + c.args.id)
+    (record (slot_of c.self.inside.slots c.args.customer c.args.id) {
       count =
-          (slot_of c.self.inside.slots.items c.args.customer c.args.id).count + 1;
+          (slot_of c.self.inside.slots c.args.customer c.args.id).count + 1;
     }))
     (set c.self.inside.customers.items c.args.customer (record o { used = blocks })) c.args.customer
     (appended c.args.id (record { srcb = c.args.srcb; bytes = c.args.bytes.now })
     (part c.args.customer (spools_of c.self.inside.customers.items
-    (contents c.self.inside.slots.items c.self.inside.store.chains))))) (sym (own_same first))
-    (call.appends c.self.inside.store c.self.inside.slots.items c.self.inside.customers.items c.args.customer c.args.id
+    (contents c.self.inside.slots c.self.inside.store.chains))))) (sym (own_same first))
+    (call.appends c.self.inside.store c.self.inside.slots c.self.inside.customers.items c.args.customer c.args.id
     c.self.invariant (rw c.self.view_is c.requires.range) (record { srcb = c.args.srcb; bytes = c.args.bytes.now }) keys
     blocks there c.requires.short front (now_used at) (omega (arith, quota, c.if-used-own.false)) small)))
 
 pub invariant_of-self-2 : goal.invariant_of-self-2
-invariant_of-self-2 c = (moved (goal.at.invariant_of-self-2 c).After-append_both).kept
+invariant_of-self-2 c = rw c.set.ensures (moved (goal.at.invariant_of-self-2 c).After-append_both).kept
 
 pub returns-clause-fault : goal.returns-clause-fault
 returns-clause-fault c =
@@ -282,7 +283,7 @@ returns-clause-fault c =
     let quota = ap (λ (o : CustomerFiles). o.quota) (own_same first) in
     rw (
       ← c.self.view_is,
-      finds.append_fits c.self.inside.store c.self.inside.slots.items c.self.inside.customers.items
+      finds.append_fits c.self.inside.store c.self.inside.slots c.self.inside.customers.items
           c.args.customer c.args.id c.self.invariant (rw c.self.view_is c.requires.range)
           (record { srcb = c.args.srcb; bytes = c.args.bytes.now }) (there_is first)
           (omega (arith, now_used at, quota, c.if-used-own.false)),
@@ -290,6 +291,6 @@ returns-clause-fault c =
 
 pub returns-clause-ok : goal.returns-clause-ok
 returns-clause-ok c =
-    (moved (goal.at.returns-clause-ok c).After-append_both).spools
+    rw c.set.ensures ((moved (goal.at.returns-clause-ok c).After-append_both).spools
     ∙ ap (λ (old : List CustomerSpool). set old c.args.customer
-    (appended c.args.id (record { srcb = c.args.srcb; bytes = c.args.bytes.now }) (part c.args.customer old))) c.self.view_is
+    (appended c.args.id (record { srcb = c.args.srcb; bytes = c.args.bytes.now }) (part c.args.customer old))) c.self.view_is)

@@ -13,17 +13,17 @@ use Rattle.njh_spool.specs.CustomerSpool.{next_number}
 use Rattle.njh_spool.specs.Slots.{whole_file, partial_file, spool_of}
 use Rattle.njh_spool.proofs.BeginLaws.{begin_fault-many, begin_fault-full, begin_fault-none, some_free, number_is-next}
 use Rattle.njh_spool.proofs.spool.Spool.begin.Goals as goal
-use Rattle.njh_spool.proofs.spool.Spool.begin.Goals.{After-index_mut-own, After-free_number-number, After-index_mut}
+use Rattle.njh_spool.proofs.spool.Spool.begin.Goals.{After-index_mut-own, After-free_number-number, After-set}
 
 pub index_mut-own-requires : goal.index_mut-own-requires
 index_mut-own-requires c =
-    let has = finds.has c.self.inside.store c.self.inside.slots.items c.self.inside.customers.items c.args.customer 0
+    let has = finds.has c.self.inside.store c.self.inside.slots c.self.inside.customers.items c.args.customer 0
     c.self.invariant (rw c.self.view_is c.requires) in
     omega (arith, has.within, c.from.ensures, c.self.inside.customers.ok.0)
 
 own_same : (c : After-index_mut-own) → c.index_mut-own.result.now ≡ (own_of c.self.inside.customers.items c.args.customer)
 own_same c =
-    let has = finds.has c.self.inside.store c.self.inside.slots.items c.self.inside.customers.items c.args.customer 0
+    let has = finds.has c.self.inside.store c.self.inside.slots c.self.inside.customers.items c.args.customer 0
     c.self.invariant (rw c.self.view_is c.requires) in
     own_is c.self.inside.customers.items c.args.customer c.from.result c.index_mut-own.result.now has.within c.from.ensures
     c.index_mut-own.ensures.value
@@ -39,7 +39,7 @@ record Few (c : After-index_mut-own) : Type 0 where
 
 few : (c : After-index_mut-own) → Few c
 few c =
-    let has = finds.has c.self.inside.store c.self.inside.slots.items c.self.inside.customers.items c.args.customer 0
+    let has = finds.has c.self.inside.store c.self.inside.slots c.self.inside.customers.items c.args.customer 0
     c.self.invariant (rw c.self.view_is c.requires) in
     record {
       whole = ap (λ (o : CustomerFiles). length o.whole) (own_same c);
@@ -51,10 +51,10 @@ few c =
         has.own.sound.files_limit,
         length-map
             (own_of c.self.inside.customers.items c.args.customer).whole
-            (whole_file (contents c.self.inside.slots.items c.self.inside.store.chains c.args.customer)),
+            (whole_file (contents c.self.inside.slots c.self.inside.store.chains c.args.customer)),
         length-map
             (own_of c.self.inside.customers.items c.args.customer).partial
-            (partial_file (contents c.self.inside.slots.items c.self.inside.store.chains c.args.customer)),
+            (partial_file (contents c.self.inside.slots c.self.inside.store.chains c.args.customer)),
       );
       limit_bound = has.own.sound.files_limit;
     }
@@ -66,20 +66,20 @@ overflow_add-len c =
 
 pub returns-then-len-own-clause-fault : goal.returns-then-len-own-clause-fault
 returns-then-len-own-clause-fault c =
-    let has = finds.has c.self.inside.store c.self.inside.slots.items c.self.inside.customers.items c.args.customer 0
+    let has = finds.has c.self.inside.store c.self.inside.slots c.self.inside.customers.items c.args.customer 0
     c.self.invariant (rw c.self.view_is c.requires) in
     let n = few (goal.at.returns-then-len-own-clause-fault c).After-index_mut-own in
     rw (
       ← c.self.view_is,
       has.part,
       begin_fault-many (own_of c.self.inside.customers.items c.args.customer)
-          (contents c.self.inside.slots.items c.self.inside.store.chains c.args.customer) has.own
+          (contents c.self.inside.slots c.self.inside.store.chains c.args.customer) has.own
           (omega (arith, n.whole, n.partial, n.limit, c.len.ensures, c.len-2.ensures, c.if-len-own.true)),
     ) refl
 
 pub returns-then-own-clause-fault : goal.returns-then-own-clause-fault
 returns-then-own-clause-fault c =
-    let has = finds.has c.self.inside.store c.self.inside.slots.items c.self.inside.customers.items c.args.customer 0
+    let has = finds.has c.self.inside.store c.self.inside.slots c.self.inside.customers.items c.args.customer 0
     c.self.invariant (rw c.self.view_is c.requires) in
     let first = (goal.at.returns-then-own-clause-fault c).After-index_mut-own in
     let n = few first in
@@ -89,16 +89,16 @@ returns-then-own-clause-fault c =
       ← c.self.view_is,
       has.part,
       begin_fault-full (own_of c.self.inside.customers.items c.args.customer)
-          (contents c.self.inside.slots.items c.self.inside.store.chains c.args.customer) has.own
+          (contents c.self.inside.slots c.self.inside.store.chains c.args.customer) has.own
           (omega (arith, n.whole, n.partial, n.limit, c.len.ensures, c.len-2.ensures, c.if-len-own.false))
           (omega (arith, quota, used', c.if-own.true)),
     ) refl
 
 pub free_number-number-requires-clause-all : goal.free_number-number-requires-clause-all
 free_number-number-requires-clause-all c =
-    let has = finds.has c.self.inside.store c.self.inside.slots.items c.self.inside.customers.items c.args.customer 0
+    let has = finds.has c.self.inside.store c.self.inside.slots c.self.inside.customers.items c.args.customer 0
     c.self.invariant (rw c.self.view_is c.requires) in
-    omega (arith, has.slot_within 1023 (omega arith), ap length c.deref.ensures.value)
+    omega (arith, has.slot_within 1023 (omega arith))
 
 pub free_number-number-requires-clause-few : goal.free_number-number-requires-clause-few
 free_number-number-requires-clause-few c =
@@ -107,16 +107,16 @@ free_number-number-requires-clause-few c =
 
 pub free_number-number-requires-clause-some : goal.free_number-number-requires-clause-some
 free_number-number-requires-clause-some c =
-    let has = finds.has c.self.inside.store c.self.inside.slots.items c.self.inside.customers.items c.args.customer 0
+    let has = finds.has c.self.inside.store c.self.inside.slots c.self.inside.customers.items c.args.customer 0
     c.self.invariant (rw c.self.view_is c.requires) in
     let n = few (goal.at.free_number-number-requires-clause-some c).After-index_mut-own in
     let free = some_free (own_of c.self.inside.customers.items c.args.customer)
-    (contents c.self.inside.slots.items c.self.inside.store.chains c.args.customer) has.own
+    (contents c.self.inside.slots c.self.inside.store.chains c.args.customer) has.own
     (omega (arith, n.whole, n.partial, n.limit, c.len.ensures, c.len-2.ensures, c.if-len-own.false)) in (
       next_number (spool_of (own_of c.self.inside.customers.items c.args.customer)
-          (contents c.self.inside.slots.items c.self.inside.store.chains c.args.customer)),
+          (contents c.self.inside.slots c.self.inside.store.chains c.args.customer)),
       omega (arith, free.0, n.limit),
-      rw c.deref.ensures.value free.1,
+      free.1,
     )
 
 pub push-requires-clause-room : goal.push-requires-clause-room
@@ -131,52 +131,55 @@ push-requires-clause-number c =
 
 pub push-requires-clause-absent : goal.push-requires-clause-absent
 push-requires-clause-absent c =
-    let has = finds.has c.self.inside.store c.self.inside.slots.items c.self.inside.customers.items c.args.customer 0
+    let has = finds.has c.self.inside.store c.self.inside.slots c.self.inside.customers.items c.args.customer 0
     c.self.invariant (rw c.self.view_is c.requires) in
     let number = c.free_number-number.result in
     let own = own_same (goal.at.push-requires-clause-absent c).After-index_mut-own in
-    let free : is_free (slot_of c.self.inside.slots.items c.args.customer number).stage ≡ true =
-    rw (← c.deref.ensures.value) c.free_number-number.ensures.free in
+    let free : is_free (slot_of c.self.inside.slots c.args.customer number).stage ≡ true =
+    c.free_number-number.ensures.free in
     ap (λ (o : CustomerFiles). count_by (λ m. eqb m number) o.partial) own ∙ has.own.partial_once number
-    ∙ ap (λ (b : Bool). cond {A = ℕ} b 1 0) (not_partial_free (slot_of c.self.inside.slots.items c.args.customer number).stage free)
+    ∙ ap (λ (b : Bool). cond {A = ℕ} b 1 0) (not_partial_free (slot_of c.self.inside.slots c.args.customer number).stage free)
 
-pub index_mut-requires : goal.index_mut-requires
-index_mut-requires c =
-    let has = finds.has c.self.inside.store c.self.inside.slots.items c.self.inside.customers.items c.args.customer 0
+pub set-requires-clause-all : goal.set-requires-clause-all
+set-requires-clause-all c =
+    let has = finds.has c.self.inside.store c.self.inside.slots c.self.inside.customers.items c.args.customer 0
     c.self.invariant (rw c.self.view_is c.requires) in
-    let n = few (goal.at.index_mut-requires c).After-index_mut-own in
-    let small : c.free_number-number.result < 1024 = omega (arith, c.free_number-number.ensures.below, n.limit, n.limit_bound) in
-    omega (arith, has.slot_within c.free_number-number.result small, c.place.ensures, c.of-id.ensures, c.self.inside.slots.ok.0)
+    omega (arith, has.slot_within 1023 (omega arith))
+
+pub set-requires-clause-number : goal.set-requires-clause-number
+set-requires-clause-number c =
+    let n = few (goal.at.set-requires-clause-number c).After-index_mut-own in
+    omega (arith, c.free_number-number.ensures.below, c.of-id.ensures, n.limit, n.limit_bound)
 
 next_is : (c : After-free_number-number) → length (own_of c.self.inside.customers.items c.args.customer).whole + length
     (own_of c.self.inside.customers.items c.args.customer).partial < (own_of c.self.inside.customers.items c.args.customer).limit
     → c.free_number-number.result ≡ next_number (spool_of (own_of c.self.inside.customers.items c.args.customer)
-    (contents c.self.inside.slots.items c.self.inside.store.chains c.args.customer))
+    (contents c.self.inside.slots c.self.inside.store.chains c.args.customer))
 next_is c room =
-    let has = finds.has c.self.inside.store c.self.inside.slots.items c.self.inside.customers.items c.args.customer 0
+    let has = finds.has c.self.inside.store c.self.inside.slots c.self.inside.customers.items c.args.customer 0
     c.self.invariant (rw c.self.view_is c.requires) in
     number_is-next (own_of c.self.inside.customers.items c.args.customer)
-    (contents c.self.inside.slots.items c.self.inside.store.chains c.args.customer) has.own c.free_number-number.result room
-    (rw c.deref.ensures.value at c.free_number-number.ensures.free)
-    (λ m below. rw c.deref.ensures.value at (c.free_number-number.ensures.least m below))
+    (contents c.self.inside.slots c.self.inside.store.chains c.args.customer) has.own c.free_number-number.result room
+    (c.free_number-number.ensures.free)
+    (λ m below. (c.free_number-number.ensures.least m below))
 
-moved : (c : After-index_mut) → length (own_of c.self.inside.customers.items c.args.customer).whole + length
+moved : (c : After-set) → length (own_of c.self.inside.customers.items c.args.customer).whole + length
     (own_of c.self.inside.customers.items c.args.customer).partial < (own_of c.self.inside.customers.items c.args.customer).limit
-    → Moves c.self.inside.store c.self.inside.slots.items c.self.inside.customers.items c.self.inside.store
-    (set c.self.inside.slots.items c.place.result c.empty.result) (set c.self.inside.customers.items c.from.result
+    → Moves c.self.inside.store c.self.inside.slots c.self.inside.customers.items c.self.inside.store
+    c.set.new.self (set c.self.inside.customers.items c.from.result
     (record c.index_mut-own.result.now { partial = c.push.new.self })) c.args.customer
     (begun c.args.kind (part c.args.customer (spools_of c.self.inside.customers.items
-    (contents c.self.inside.slots.items c.self.inside.store.chains))))
+    (contents c.self.inside.slots c.self.inside.store.chains))))
 moved c room =
-    let has = finds.has c.self.inside.store c.self.inside.slots.items c.self.inside.customers.items c.args.customer 0
+    let has = finds.has c.self.inside.store c.self.inside.slots c.self.inside.customers.items c.args.customer 0
     c.self.invariant (rw c.self.view_is c.requires) in
     let own = own_is c.self.inside.customers.items c.args.customer c.from.result c.index_mut-own.result.now has.within
     c.from.ensures c.index_mut-own.ensures.value in
     let number = c.free_number-number.result in
     let next = number_is-next (own_of c.self.inside.customers.items c.args.customer)
-    (contents c.self.inside.slots.items c.self.inside.store.chains c.args.customer) has.own number room
-    (rw c.deref.ensures.value at c.free_number-number.ensures.free)
-    (λ m below. rw c.deref.ensures.value at (c.free_number-number.ensures.least m below)) in
+    (contents c.self.inside.slots c.self.inside.store.chains c.args.customer) has.own number room
+    (c.free_number-number.ensures.free)
+    (λ m below. (c.free_number-number.ensures.least m below)) in
     let small : number < 1024 = omega (
       arith,
       c.free_number-number.ensures.below,
@@ -186,26 +189,27 @@ moved c room =
     let owns =
     ap (λ (xs : List ℕ). record c.index_mut-own.result.now { partial = xs }) c.push.ensures
     ∙ ap (λ (o : CustomerFiles). record o { partial = o.partial ++ number ∷ [] }) own in
-    let place = c.place.ensures ∙ ap (λ (m : ℕ). 1024 * c.args.customer + m) c.of-id.ensures in
-    call.arrives c.self.inside.store c.self.inside.slots.items c.self.inside.customers.items c.args.customer number
+    let slots = c.set.ensures
+    ∙ ap (λ (m : ℕ). set c.self.inside.slots (1024 * c.args.customer + m) c.empty.result) c.of-id.ensures in
+    call.arrives c.self.inside.store c.self.inside.slots c.self.inside.customers.items c.args.customer number
     c.self.invariant (rw c.self.view_is c.requires) c.self.inside.store c.self.inside.store c.empty.result
-    (record c.index_mut-own.result.now { partial = c.push.new.self }) c.place.result c.from.result
+    (record c.index_mut-own.result.now { partial = c.push.new.self }) c.set.new.self c.from.result
     (begun c.args.kind (part c.args.customer (spools_of c.self.inside.customers.items
-    (contents c.self.inside.slots.items c.self.inside.store.chains)))) refl place c.from.ensures
-    (call.begins c.self.inside.store c.self.inside.slots.items c.self.inside.customers.items c.args.customer number
+    (contents c.self.inside.slots c.self.inside.store.chains)))) refl slots c.from.ensures
+    (call.begins c.self.inside.store c.self.inside.slots c.self.inside.customers.items c.args.customer number
     c.self.invariant (rw c.self.view_is c.requires) c.args.kind c.empty.result
     (record c.index_mut-own.result.now { partial = c.push.new.self }) room next
-    (rw c.deref.ensures.value at c.free_number-number.ensures.free) c.empty.ensures owns small)
+    (c.free_number-number.ensures.free) c.empty.ensures owns small)
 
 pub invariant_of-self-2 : goal.invariant_of-self-2
 invariant_of-self-2 c =
     let n = few (goal.at.invariant_of-self-2 c).After-index_mut-own in
-    (moved (goal.at.invariant_of-self-2 c).After-index_mut
+    (moved (goal.at.invariant_of-self-2 c).After-set
     (omega (arith, n.whole, n.partial, n.limit, c.len.ensures, c.len-2.ensures, c.if-len-own.false))).kept
 
 pub returns-clause-fault : goal.returns-clause-fault
 returns-clause-fault c =
-    let has = finds.has c.self.inside.store c.self.inside.slots.items c.self.inside.customers.items c.args.customer 0
+    let has = finds.has c.self.inside.store c.self.inside.slots c.self.inside.customers.items c.args.customer 0
     c.self.invariant (rw c.self.view_is c.requires) in
     let first = (goal.at.returns-clause-fault c).After-index_mut-own in
     let n = few first in
@@ -215,14 +219,14 @@ returns-clause-fault c =
       ← c.self.view_is,
       has.part,
       begin_fault-none (own_of c.self.inside.customers.items c.args.customer)
-          (contents c.self.inside.slots.items c.self.inside.store.chains c.args.customer) has.own
+          (contents c.self.inside.slots c.self.inside.store.chains c.args.customer) has.own
           (omega (arith, n.whole, n.partial, n.limit, c.len.ensures, c.len-2.ensures, c.if-len-own.false))
           (omega (arith, quota, used', c.if-own.false)),
     ) refl
 
 pub returns-clause-number : goal.returns-clause-number
 returns-clause-number c =
-    let has = finds.has c.self.inside.store c.self.inside.slots.items c.self.inside.customers.items c.args.customer 0
+    let has = finds.has c.self.inside.store c.self.inside.slots c.self.inside.customers.items c.args.customer 0
     c.self.invariant (rw c.self.view_is c.requires) in
     let n = few (goal.at.returns-clause-number c).After-index_mut-own in
     let next = next_is (goal.at.returns-clause-number c).After-free_number-number
@@ -233,6 +237,6 @@ returns-clause-number c =
 pub returns-clause-ok : goal.returns-clause-ok
 returns-clause-ok c =
     let n = few (goal.at.returns-clause-ok c).After-index_mut-own in
-    (moved (goal.at.returns-clause-ok c).After-index_mut
+    (moved (goal.at.returns-clause-ok c).After-set
     (omega (arith, n.whole, n.partial, n.limit, c.len.ensures, c.len-2.ensures, c.if-len-own.false))).spools
     ∙ ap (λ (old : List CustomerSpool). set old c.args.customer (begun c.args.kind (part c.args.customer old))) c.self.view_is

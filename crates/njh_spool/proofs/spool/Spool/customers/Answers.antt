@@ -7,7 +7,7 @@ pub returns : goal.returns
 returns c = rw (← c.self.view_is) (omega (
   arith,
   length-spools_from 0 c.self.inside.customers.items
-      (contents c.self.inside.slots.items c.self.inside.store.chains),
+      (contents c.self.inside.slots c.self.inside.store.chains),
   c.self.inside.customers.ok.0,
   c.self.invariant.few,
   c.len.ensures,

@@ -12,13 +12,13 @@ use Rattle.njh_spool.proofs.spool.Spool.file_at.Goals as goal
 
 pub index-requires : goal.index-requires
 index-requires c =
-    let has = has_own c.self.inside.store c.self.inside.slots.items c.self.inside.customers.items c.args.customer
+    let has = has_own c.self.inside.store c.self.inside.slots c.self.inside.customers.items c.args.customer
     c.self.invariant (rw c.self.view_is c.requires.range) in
     omega (arith, has.within, c.from.ensures, c.self.inside.customers.ok.0)
 
 pub at-requires : goal.at-requires
 at-requires c =
-    let has = has_own c.self.inside.store c.self.inside.slots.items c.self.inside.customers.items c.args.customer
+    let has = has_own c.self.inside.store c.self.inside.slots c.self.inside.customers.items c.args.customer
     c.self.invariant (rw c.self.view_is c.requires.range) in
     let own = own_is c.self.inside.customers.items c.args.customer c.from.result c.index.result.now has.within c.from.ensures
     c.index.ensures in
@@ -30,12 +30,12 @@ at-requires c =
       here,
       c.requires.index_range,
       length-map (own_of c.self.inside.customers.items c.args.customer).whole
-          (whole_file (contents c.self.inside.slots.items c.self.inside.store.chains c.args.customer)),
+          (whole_file (contents c.self.inside.slots c.self.inside.store.chains c.args.customer)),
     )
 
 pub returns : goal.returns
 returns c =
-    let has = has_own c.self.inside.store c.self.inside.slots.items c.self.inside.customers.items c.args.customer
+    let has = has_own c.self.inside.store c.self.inside.slots c.self.inside.customers.items c.args.customer
     c.self.invariant (rw c.self.view_is c.requires.range) in
     let own = own_is c.self.inside.customers.items c.args.customer c.from.result c.index.result.now has.within c.from.ensures
     c.index.ensures in
@@ -46,12 +46,12 @@ returns c =
       here,
       c.requires.index_range,
       length-map numbers
-          (whole_file (contents c.self.inside.slots.items c.self.inside.store.chains c.args.customer)),
+          (whole_file (contents c.self.inside.slots c.self.inside.store.chains c.args.customer)),
     ) in
     let number = c.of.ensures ∙ c.at.ensures ∙ ap (λ (o : CustomerFiles). get_or o.whole c.args.index 0) own in
     rw (
       ← c.self.view_is,
       has.part,
       slice_get-map
-          (whole_file (contents c.self.inside.slots.items c.self.inside.store.chains c.args.customer)) numbers c.args.index within,
+          (whole_file (contents c.self.inside.slots c.self.inside.store.chains c.args.customer)) numbers c.args.index within,
     ) number

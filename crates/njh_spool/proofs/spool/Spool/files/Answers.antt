@@ -9,13 +9,13 @@ use Rattle.njh_spool.proofs.spool.Spool.files.Goals as goal
 
 pub index-requires : goal.index-requires
 index-requires c =
-    let has = has_own c.self.inside.store c.self.inside.slots.items c.self.inside.customers.items c.args.customer
+    let has = has_own c.self.inside.store c.self.inside.slots c.self.inside.customers.items c.args.customer
     c.self.invariant (rw c.self.view_is c.requires) in
     omega (arith, has.within, c.from.ensures, c.self.inside.customers.ok.0)
 
 pub overflow_cast-result : goal.overflow_cast-result
 overflow_cast-result c =
-    let has = has_own c.self.inside.store c.self.inside.slots.items c.self.inside.customers.items c.args.customer
+    let has = has_own c.self.inside.store c.self.inside.slots c.self.inside.customers.items c.args.customer
     c.self.invariant (rw c.self.view_is c.requires) in
     let own = own_is c.self.inside.customers.items c.args.customer c.from.result c.index.result.now has.within c.from.ensures
     c.index.ensures in
@@ -28,15 +28,15 @@ overflow_cast-result c =
       has.own.sound.files_limit,
       length-map
           (own_of c.self.inside.customers.items c.args.customer).whole
-          (whole_file (contents c.self.inside.slots.items c.self.inside.store.chains c.args.customer)),
+          (whole_file (contents c.self.inside.slots c.self.inside.store.chains c.args.customer)),
     )
 
 pub returns : goal.returns
 returns c =
-    let has = has_own c.self.inside.store c.self.inside.slots.items c.self.inside.customers.items c.args.customer
+    let has = has_own c.self.inside.store c.self.inside.slots c.self.inside.customers.items c.args.customer
     c.self.invariant (rw c.self.view_is c.requires) in
     let own = own_is c.self.inside.customers.items c.args.customer c.from.result c.index.result.now has.within c.from.ensures
     c.index.ensures in
     rw (← c.self.view_is, has.part) (c.len.ensures ∙ ap (λ (o : CustomerFiles). length o.whole) own
     ∙ sym (length-map (own_of c.self.inside.customers.items c.args.customer).whole
-    (whole_file (contents c.self.inside.slots.items c.self.inside.store.chains c.args.customer))))
+    (whole_file (contents c.self.inside.slots c.self.inside.store.chains c.args.customer))))

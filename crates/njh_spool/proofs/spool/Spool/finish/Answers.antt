@@ -21,44 +21,44 @@ use Rattle.njh_spool.specs.declared.State.TheVariants.{Ready}
 use Rattle.njh_spool.specs.Slots.{whole_file, partial_file}
 use Rattle.njh_spool.proofs.SlotLaws.{once_some}
 use Rattle.njh_spool.proofs.spool.Spool.finish.Goals as goal
-use Rattle.njh_spool.proofs.spool.Spool.finish.Goals.{After-index_mut, After-is_partial, After-index_mut-own, After-place-at}
+use Rattle.njh_spool.proofs.spool.Spool.finish.Goals.{After-set, After-is_partial, After-index_mut-own, After-place-at}
 
 pub slot_at-slot-requires : goal.slot_at-slot-requires
 slot_at-slot-requires c =
-    let has = finds.has c.self.inside.store c.self.inside.slots.items c.self.inside.customers.items c.args.customer c.args.id
+    let has = finds.has c.self.inside.store c.self.inside.slots c.self.inside.customers.items c.args.customer c.args.id
     c.self.invariant (rw c.self.view_is c.requires) in
-    omega (arith, has.slot_within 1023 (omega arith), ap length c.deref.ensures.value)
+    omega (arith, has.slot_within 1023 (omega arith))
 
 -- the file that is there
 file_is : (c : After-place-at) → c.is_partial.result ≡ true → IsFile c.slot_at-slot.result (chain_at c.place-at.result c.self.inside.store)
 file_is c there =
-    let same = c.slot_at-slot.ensures ∙ ap (λ (xs : List FileSlot). slot_of xs c.args.customer c.args.id) c.deref.ensures.value in
+    let same = c.slot_at-slot.ensures in
     let stage = ap (λ (x : FileSlot). is_partial x.stage) (sym same) ∙ sym c.is_partial.ensures ∙ there in
-    let small = finds.small_partial c.self.inside.store c.self.inside.slots.items c.self.inside.customers.items c.args.customer
+    let small = finds.small_partial c.self.inside.store c.self.inside.slots c.self.inside.customers.items c.args.customer
     c.args.id c.self.invariant (rw c.self.view_is c.requires) stage in
     let chain = ap (λ (i : ℕ). chain_at i c.self.inside.store) c.place-at.ensures ∙ finds.chain_is c.self.inside.store
-    c.self.inside.slots.items c.self.inside.customers.items c.args.customer c.args.id c.self.invariant
+    c.self.inside.slots c.self.inside.customers.items c.args.customer c.args.id c.self.invariant
     (rw c.self.view_is c.requires) small in
     rw (same, chain) (c.self.invariant.files c.args.customer c.args.id)
 
 pub read_headers-slot-requires-clause-file : goal.read_headers-slot-requires-clause-file
 read_headers-slot-requires-clause-file c = file_is (goal.at.read_headers-slot-requires-clause-file c).After-place-at c.if-not-is_partial.false
 
-stage_is : (c : After-is_partial) → is_partial (slot_of c.self.inside.slots.items c.args.customer c.args.id).stage ≡ c.is_partial.result
+stage_is : (c : After-is_partial) → is_partial (slot_of c.self.inside.slots c.args.customer c.args.id).stage ≡ c.is_partial.result
 stage_is c = ap (λ (x : FileSlot). is_partial x.stage)
-    (sym (c.slot_at-slot.ensures ∙ ap (λ (xs : List FileSlot). slot_of xs c.args.customer c.args.id) c.deref.ensures.value))
+    (sym (c.slot_at-slot.ensures))
     ∙ sym c.is_partial.ensures
 
 pub returns-then-not-is_partial-clause-answer : goal.returns-then-not-is_partial-clause-answer
 returns-then-not-is_partial-clause-answer c =
-    let none = finds.finds_no_partial c.self.inside.store c.self.inside.slots.items c.self.inside.customers.items c.args.customer
+    let none = finds.finds_no_partial c.self.inside.store c.self.inside.slots c.self.inside.customers.items c.args.customer
     c.args.id c.self.invariant (rw c.self.view_is c.requires)
     (stage_is (goal.at.returns-then-not-is_partial-clause-answer c).After-is_partial ∙ c.if-not-is_partial.true) in
     rw (← c.self.view_is, none.none) refl
 
 pub returns-then-not-is_partial-clause-after : goal.returns-then-not-is_partial-clause-after
 returns-then-not-is_partial-clause-after c =
-    let none = finds.finds_no_partial c.self.inside.store c.self.inside.slots.items c.self.inside.customers.items c.args.customer
+    let none = finds.finds_no_partial c.self.inside.store c.self.inside.slots c.self.inside.customers.items c.args.customer
     c.args.id c.self.invariant (rw c.self.view_is c.requires)
     (stage_is (goal.at.returns-then-not-is_partial-clause-after c).After-is_partial ∙ c.if-not-is_partial.true) in
     subst (λ (old : List CustomerSpool). old ≡ set old c.args.customer (finished c.args.id (part c.args.customer old)))
@@ -66,17 +66,17 @@ returns-then-not-is_partial-clause-after c =
 
 own_same : (c : After-index_mut-own) → c.index_mut-own.result.now ≡ (own_of c.self.inside.customers.items c.args.customer)
 own_same c =
-    let has = finds.has c.self.inside.store c.self.inside.slots.items c.self.inside.customers.items c.args.customer c.args.id
+    let has = finds.has c.self.inside.store c.self.inside.slots c.self.inside.customers.items c.args.customer c.args.id
     c.self.invariant (rw c.self.view_is c.requires) in
     own_is c.self.inside.customers.items c.args.customer c.from.result c.index_mut-own.result.now has.within c.from.ensures
     c.index_mut-own.ensures.value
 
 pub push-requires-clause-room : goal.push-requires-clause-room
 push-requires-clause-room c =
-    let has = finds.has c.self.inside.store c.self.inside.slots.items c.self.inside.customers.items c.args.customer c.args.id
+    let has = finds.has c.self.inside.store c.self.inside.slots c.self.inside.customers.items c.args.customer c.args.id
     c.self.invariant (rw c.self.view_is c.requires) in
     let there = stage_is (goal.at.push-requires-clause-room c).After-is_partial ∙ c.if-not-is_partial.false in
-    let one = once_some (is_partial ((contents c.self.inside.slots.items c.self.inside.store.chains c.args.customer)
+    let one = once_some (is_partial ((contents c.self.inside.slots c.self.inside.store.chains c.args.customer)
     c.args.id).stage) (count_by (λ m. eqb m c.args.id) (own_of c.self.inside.customers.items c.args.customer).partial)
     (has.own.partial_once c.args.id) there in
     let own = ap (λ (o : CustomerFiles). length o.whole) (own_same (goal.at.push-requires-clause-room c).After-index_mut-own) in
@@ -89,56 +89,55 @@ push-requires-clause-room c =
       has.own.sound.within_limit,
       has.own.sound.files_limit,
       length-map (own_of c.self.inside.customers.items c.args.customer).whole
-          (whole_file (contents c.self.inside.slots.items c.self.inside.store.chains c.args.customer)),
+          (whole_file (contents c.self.inside.slots c.self.inside.store.chains c.args.customer)),
       length-map
           (own_of c.self.inside.customers.items c.args.customer).partial
-          (partial_file (contents c.self.inside.slots.items c.self.inside.store.chains c.args.customer)),
+          (partial_file (contents c.self.inside.slots c.self.inside.store.chains c.args.customer)),
     )
 
 pub push-requires-clause-number : goal.push-requires-clause-number
 push-requires-clause-number c =
     let there = stage_is (goal.at.push-requires-clause-number c).After-is_partial ∙ c.if-not-is_partial.false in
-    let small = finds.small_partial c.self.inside.store c.self.inside.slots.items c.self.inside.customers.items c.args.customer
+    let small = finds.small_partial c.self.inside.store c.self.inside.slots c.self.inside.customers.items c.args.customer
     c.args.id c.self.invariant (rw c.self.view_is c.requires) there in
     omega (arith, small, c.number-2.ensures)
 
 pub push-requires-clause-absent : goal.push-requires-clause-absent
 push-requires-clause-absent c =
-    let has = finds.has c.self.inside.store c.self.inside.slots.items c.self.inside.customers.items c.args.customer c.args.id
+    let has = finds.has c.self.inside.store c.self.inside.slots c.self.inside.customers.items c.args.customer c.args.id
     c.self.invariant (rw c.self.view_is c.requires) in
     let there = stage_is (goal.at.push-requires-clause-absent c).After-is_partial ∙ c.if-not-is_partial.false in
     let own = own_same (goal.at.push-requires-clause-absent c).After-index_mut-own in
-    let stage = partial_stage (slot_of c.self.inside.slots.items c.args.customer c.args.id).stage there in
+    let stage = partial_stage (slot_of c.self.inside.slots c.args.customer c.args.id).stage there in
     ap (λ (k : ℕ). count_by (λ m. eqb m k) c.index_mut-own.result.now.whole) c.number-2.ensures
     ∙ ap (λ (o : CustomerFiles). count_by (λ m. eqb m c.args.id) o.whole) own ∙ has.own.whole_once c.args.id
     ∙ ap (λ (x : Stage). cond {A = ℕ} (is_whole x) 1 0) stage
 
-moved : (c : After-index_mut) → Moves c.self.inside.store c.self.inside.slots.items c.self.inside.customers.items
-    c.self.inside.store (set c.self.inside.slots.items c.place-at.result
-    (record c.slot_at-slot.result { stage = Whole Ready; headers = c.read_headers-slot.result }))
+moved : (c : After-set) → Moves c.self.inside.store c.self.inside.slots c.self.inside.customers.items
+    c.self.inside.store c.set.new.self
     (set c.self.inside.customers.items c.from.result (record c.index_mut-own.result.now {
       whole = c.push.new.self;
       partial =
           c.remove.new.self;
     })) c.args.customer (finished c.args.id
-    (part c.args.customer (spools_of c.self.inside.customers.items (contents c.self.inside.slots.items c.self.inside.store.chains))))
+    (part c.args.customer (spools_of c.self.inside.customers.items (contents c.self.inside.slots c.self.inside.store.chains))))
 moved c =
-    let has = finds.has c.self.inside.store c.self.inside.slots.items c.self.inside.customers.items c.args.customer c.args.id
+    let has = finds.has c.self.inside.store c.self.inside.slots c.self.inside.customers.items c.args.customer c.args.id
     c.self.invariant (rw c.self.view_is c.requires) in
-    let same = c.slot_at-slot.ensures ∙ ap (λ (xs : List FileSlot). slot_of xs c.args.customer c.args.id) c.deref.ensures.value in
+    let same = c.slot_at-slot.ensures in
     let there = ap (λ (x : FileSlot). is_partial x.stage) (sym same) ∙ sym c.is_partial.ensures ∙ c.if-not-is_partial.false in
-    let small = finds.small_partial c.self.inside.store c.self.inside.slots.items c.self.inside.customers.items c.args.customer
+    let small = finds.small_partial c.self.inside.store c.self.inside.slots c.self.inside.customers.items c.args.customer
     c.args.id c.self.invariant (rw c.self.view_is c.requires) there in
     let own = own_is c.self.inside.customers.items c.args.customer c.from.result c.index_mut-own.result.now has.within
     c.from.ensures c.index_mut-own.ensures.value in
     let chain = ap (λ (i : ℕ). chain_at i c.self.inside.store) c.place-at.ensures ∙ finds.chain_is c.self.inside.store
-    c.self.inside.slots.items c.self.inside.customers.items c.args.customer c.args.id c.self.invariant
+    c.self.inside.slots c.self.inside.customers.items c.args.customer c.args.id c.self.invariant
     (rw c.self.view_is c.requires) small in
     let said =
     c.read_headers-slot.ensures
     ∙ ap (λ (x : FileSlot). kept_headers x.kind (unpacked x.count (chain_at c.place-at.result c.self.inside.store).bytes)) same
-    ∙ ap (λ (x : Chain). kept_headers (slot_of c.self.inside.slots.items c.args.customer c.args.id).kind
-    (unpacked (slot_of c.self.inside.slots.items c.args.customer c.args.id).count x.bytes)) chain in
+    ∙ ap (λ (x : Chain). kept_headers (slot_of c.self.inside.slots c.args.customer c.args.id).kind
+    (unpacked (slot_of c.self.inside.slots c.args.customer c.args.id).count x.bytes)) chain in
     let list = c.remove.ensures ∙ ap (λ (k : ℕ). filter (λ m. not (eqb m k)) c.index_mut-own.result.now.partial) c.number.ensures in
     let longer = c.push.ensures ∙ ap (λ (k : ℕ). c.index_mut-own.result.now.whole ++ k ∷ []) c.number-2.ensures in
     let owns =
@@ -153,19 +152,19 @@ moved c =
       partial = filter (λ m. not (eqb m c.args.id))
           o.partial;
     }) own in
-    call.arrives c.self.inside.store c.self.inside.slots.items c.self.inside.customers.items c.args.customer c.args.id
+    call.arrives c.self.inside.store c.self.inside.slots c.self.inside.customers.items c.args.customer c.args.id
     c.self.invariant (rw c.self.view_is c.requires) c.self.inside.store c.self.inside.store
     (record c.slot_at-slot.result { stage = Whole Ready; headers = c.read_headers-slot.result })
-    (record c.index_mut-own.result.now { whole = c.push.new.self; partial = c.remove.new.self }) c.place-at.result
+    (record c.index_mut-own.result.now { whole = c.push.new.self; partial = c.remove.new.self }) c.set.new.self
     c.from.result (finished c.args.id (part c.args.customer (spools_of c.self.inside.customers.items
-    (contents c.self.inside.slots.items c.self.inside.store.chains)))) refl c.place-at.ensures c.from.ensures
-    (subst (λ (x : FileSlot). Moves c.self.inside.store c.self.inside.slots.items c.self.inside.customers.items
-    c.self.inside.store (set c.self.inside.slots.items (1024 * c.args.customer + c.args.id)
+    (contents c.self.inside.slots c.self.inside.store.chains)))) refl c.set.ensures c.from.ensures
+    (subst (λ (x : FileSlot). Moves c.self.inside.store c.self.inside.slots c.self.inside.customers.items
+    c.self.inside.store (set c.self.inside.slots (1024 * c.args.customer + c.args.id)
     (record x { stage = Whole Ready; headers = c.read_headers-slot.result })) (set c.self.inside.customers.items c.args.customer
     (record c.index_mut-own.result.now { whole = c.push.new.self; partial = c.remove.new.self })) c.args.customer
     (finished c.args.id (part c.args.customer (spools_of c.self.inside.customers.items
-    (contents c.self.inside.slots.items c.self.inside.store.chains))))) (sym same)
-    (call.finishes c.self.inside.store c.self.inside.slots.items c.self.inside.customers.items c.args.customer c.args.id
+    (contents c.self.inside.slots c.self.inside.store.chains))))) (sym same)
+    (call.finishes c.self.inside.store c.self.inside.slots c.self.inside.customers.items c.args.customer c.args.id
     c.self.invariant (rw c.self.view_is c.requires) (record c.index_mut-own.result.now {
       whole = c.push.new.self;
       partial =
@@ -173,18 +172,18 @@ moved c =
     }) c.read_headers-slot.result said there owns small))
 
 pub invariant_of-self : goal.invariant_of-self
-invariant_of-self c = (moved (goal.at.invariant_of-self c).After-index_mut).kept
+invariant_of-self c = (moved (goal.at.invariant_of-self c).After-set).kept
 
 pub returns-clause-answer : goal.returns-clause-answer
 returns-clause-answer c =
     let there = stage_is (goal.at.returns-clause-answer c).After-is_partial ∙ c.if-not-is_partial.false in
     rw (
       ← c.self.view_is,
-      finds.finds_partial c.self.inside.store c.self.inside.slots.items c.self.inside.customers.items
+      finds.finds_partial c.self.inside.store c.self.inside.slots c.self.inside.customers.items
           c.args.customer c.args.id c.self.invariant (rw c.self.view_is c.requires) there,
     ) refl
 
 pub returns-clause-after : goal.returns-clause-after
 returns-clause-after c =
-    (moved (goal.at.returns-clause-after c).After-index_mut).spools
+    (moved (goal.at.returns-clause-after c).After-set).spools
     ∙ ap (λ (old : List CustomerSpool). set old c.args.customer (finished c.args.id (part c.args.customer old))) c.self.view_is

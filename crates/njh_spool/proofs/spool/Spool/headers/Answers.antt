@@ -1,4 +1,4 @@
-use Rattle.std.proofs.Common.{◌≡◌, List, length, Ok}
+use Rattle.std.proofs.Common.{◌≡◌, Ok}
 use Rattle.std.proofs.Common.{refl, sym, ap, ◌∙◌, arith}
 use Rattle.njh_spool.specs.declared.file_slot.FileSlot.{FileSlot}
 use Rattle.njh_spool.specs.declared.file_headers.KeptHeaders.{KeptHeaders}
@@ -9,19 +9,19 @@ use Rattle.njh_spool.proofs.spool.Spool.headers.Goals.{After-is_whole}
 
 pub slot_at-slot-requires : goal.slot_at-slot-requires
 slot_at-slot-requires c =
-    let has = finds.has c.self.inside.store c.self.inside.slots.items c.self.inside.customers.items c.args.customer c.args.id
+    let has = finds.has c.self.inside.store c.self.inside.slots c.self.inside.customers.items c.args.customer c.args.id
     c.self.invariant (rw c.self.view_is c.requires) in
-    omega (arith, has.slot_within 1023 (omega arith), ap length c.deref.ensures.value)
+    omega (arith, has.slot_within 1023 (omega arith))
 
-same_slot : (c : After-is_whole) → c.slot_at-slot.result ≡ slot_of c.self.inside.slots.items c.args.customer c.args.id
-same_slot c = c.slot_at-slot.ensures ∙ ap (λ (xs : List FileSlot). slot_of xs c.args.customer c.args.id) c.deref.ensures.value
+same_slot : (c : After-is_whole) → c.slot_at-slot.result ≡ slot_of c.self.inside.slots c.args.customer c.args.id
+same_slot c = c.slot_at-slot.ensures
 
-stage_is : (c : After-is_whole) → is_whole (slot_of c.self.inside.slots.items c.args.customer c.args.id).stage ≡ c.is_whole.result
+stage_is : (c : After-is_whole) → is_whole (slot_of c.self.inside.slots c.args.customer c.args.id).stage ≡ c.is_whole.result
 stage_is c = ap (λ (x : FileSlot). is_whole x.stage) (sym (same_slot c)) ∙ sym c.is_whole.ensures
 
 pub returns-then-not-is_whole : goal.returns-then-not-is_whole
 returns-then-not-is_whole c =
-    let none = finds.finds_no_whole c.self.inside.store c.self.inside.slots.items c.self.inside.customers.items c.args.customer
+    let none = finds.finds_no_whole c.self.inside.store c.self.inside.slots c.self.inside.customers.items c.args.customer
     c.args.id c.self.invariant (rw c.self.view_is c.requires)
     (stage_is (goal.at.returns-then-not-is_whole c).After-is_whole ∙ c.if-not-is_whole.true) in
     rw (← c.self.view_is, none.none) refl
@@ -30,7 +30,7 @@ pub returns : goal.returns
 returns c =
     let step = (goal.at.returns c).After-is_whole in
     let there = stage_is step ∙ c.if-not-is_whole.false in
-    let found = finds.finds_whole c.self.inside.store c.self.inside.slots.items c.self.inside.customers.items c.args.customer
+    let found = finds.finds_whole c.self.inside.store c.self.inside.slots c.self.inside.customers.items c.args.customer
     c.args.id c.self.invariant (rw c.self.view_is c.requires) there in
     let said = ap (λ (x : FileSlot). x.headers.said) (same_slot step)
     ∙ ap (λ (h : KeptHeaders). h.said) (c.self.invariant.headers c.args.customer c.args.id there) in

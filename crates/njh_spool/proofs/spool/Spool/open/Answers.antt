@@ -11,9 +11,9 @@ invariant_of-result c =
       chains =
           replicate (1024 * length c.args.quotas.now) empty_chain;
     }) c.blocks_of_all.ensures.sum in
-    rw c.in_ok-customers.ensures (kept_opened c.in_ok-store.store c.in_ok-slots.slots.items c.args.quotas.now
+    rw c.in_ok-customers.ensures (kept_opened c.in_ok-store.store c.in_ok-slots.slots c.args.quotas.now
     (1024 * length c.args.quotas.now) c.requires.few c.requires.limits refl c.in_ok-slots.ensures store)
 
 pub returns-clause-ok : goal.returns-clause-ok
 returns-clause-ok c = rw c.in_ok-customers.ensures
-    (spools_from-opened 0 c.args.quotas.now (contents c.in_ok-slots.slots.items c.in_ok-store.store.chains))
+    (spools_from-opened 0 c.args.quotas.now (contents c.in_ok-slots.slots c.in_ok-store.store.chains))

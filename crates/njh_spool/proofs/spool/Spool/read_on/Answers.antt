@@ -1,4 +1,4 @@
-use Rattle.std.proofs.Common.{◌≡◌, ℕ, ◌+◌, ◌*◌, false, List, length, set}
+use Rattle.std.proofs.Common.{◌≡◌, ℕ, ◌+◌, ◌*◌, false, List, set}
 use Rattle.std.proofs.Common.{Some, refl, sym, ap, subst, ◌∙◌, arith}
 use Rattle.njh_spool.specs.declared.file_slot.FileSlot.{FileSlot}
 use Rattle.njh_spool.specs.declared.file_slot.KeptPlaces.{KeptPlaces}
@@ -11,7 +11,7 @@ use Rattle.njh_spool.proofs.KeptLaws.{Moves}
 use Rattle.njh_spool.proofs.CallFinds as finds
 use Rattle.njh_spool.proofs.CallLaws as call
 use Rattle.njh_spool.proofs.spool.Spool.read_on.Goals as goal
-use Rattle.njh_spool.proofs.spool.Spool.read_on.Goals.{After-is_free, After-place_of_record-begins, After-read_record-srcb}
+use Rattle.njh_spool.proofs.spool.Spool.read_on.Goals.{After-is_free, After-place_of_record-begins, After-set}
 use Rattle.std.specs.Prelude.{slice_get}
 use Rattle.std.specs.Option.{option_and_then}
 use Rattle.njh_record.specs.Stored.{Stored}
@@ -22,27 +22,27 @@ use Rattle.njh_spool.proofs.PackingLaws.{length-unpacked}
 
 pub slot_at-slot-requires : goal.slot_at-slot-requires
 slot_at-slot-requires c =
-    let has = finds.has c.self.inside.store c.self.inside.slots.items c.self.inside.customers.items c.args.customer c.args.id
+    let has = finds.has c.self.inside.store c.self.inside.slots c.self.inside.customers.items c.args.customer c.args.id
     c.self.invariant (rw c.self.view_is c.requires.range) in
-    omega (arith, has.slot_within 1023 (omega arith), ap length c.deref.ensures.value)
+    omega (arith, has.slot_within 1023 (omega arith))
 
-same_slot : (c : After-is_free) → c.slot_at-slot.result ≡ slot_of c.self.inside.slots.items c.args.customer c.args.id
-same_slot c = c.slot_at-slot.ensures ∙ ap (λ (xs : List FileSlot). slot_of xs c.args.customer c.args.id) c.deref.ensures.value
+same_slot : (c : After-is_free) → c.slot_at-slot.result ≡ slot_of c.self.inside.slots c.args.customer c.args.id
+same_slot c = c.slot_at-slot.ensures
 
-stage_is : (c : After-is_free) → is_free (slot_of c.self.inside.slots.items c.args.customer c.args.id).stage ≡ c.is_free.result
+stage_is : (c : After-is_free) → is_free (slot_of c.self.inside.slots c.args.customer c.args.id).stage ≡ c.is_free.result
 stage_is c = ap (λ (x : FileSlot). is_free x.stage) (sym (same_slot c)) ∙ sym c.is_free.ensures
 
 records_now : (c : After-is_free) → c.is_free.result ≡ false → records_numbered c.args.id (part c.args.customer c.args.self.now)
-    ≡ Some (unpacked (slot_of c.self.inside.slots.items c.args.customer c.args.id).count
+    ≡ Some (unpacked (slot_of c.self.inside.slots c.args.customer c.args.id).count
     (chain_of c.self.inside.store.chains c.args.customer c.args.id).bytes)
 records_now c used' =
     ap (λ (old : List CustomerSpool). records_numbered c.args.id (part c.args.customer old)) (sym c.self.view_is)
-    ∙ finds.finds_records c.self.inside.store c.self.inside.slots.items c.self.inside.customers.items c.args.customer
+    ∙ finds.finds_records c.self.inside.store c.self.inside.slots c.self.inside.customers.items c.args.customer
     c.args.id c.self.invariant (rw c.self.view_is c.requires.range) (stage_is c ∙ used')
 
 pub returns-then-is_free-clause-fault : goal.returns-then-is_free-clause-fault
 returns-then-is_free-clause-fault c =
-    let none = finds.finds_no_records c.self.inside.store c.self.inside.slots.items c.self.inside.customers.items c.args.customer
+    let none = finds.finds_no_records c.self.inside.store c.self.inside.slots c.self.inside.customers.items c.args.customer
     c.args.id c.self.invariant (rw c.self.view_is c.requires.range)
     (stage_is (goal.at.returns-then-is_free-clause-fault c).After-is_free ∙ c.if-is_free.true) in
     rw (← c.self.view_is, none) refl
@@ -51,13 +51,13 @@ pub place_of_record-begins-requires-clause-within : goal.place_of_record-begins-
 place_of_record-begins-requires-clause-within c =
     let step = (goal.at.place_of_record-begins-requires-clause-within c).After-is_free in
     let count = ap (λ (x : FileSlot). x.count) (same_slot step) in
-    let many = c.requires.within (unpacked (slot_of c.self.inside.slots.items c.args.customer c.args.id).count
+    let many = c.requires.within (unpacked (slot_of c.self.inside.slots c.args.customer c.args.id).count
     (chain_of c.self.inside.store.chains c.args.customer c.args.id).bytes) (records_now step c.if-is_free.false) in
     omega (
       arith,
       count,
       many,
-      length-unpacked (slot_of c.self.inside.slots.items c.args.customer c.args.id).count
+      length-unpacked (slot_of c.self.inside.slots c.args.customer c.args.id).count
           (chain_of c.self.inside.store.chains c.args.customer c.args.id).bytes,
     )
 
@@ -65,7 +65,7 @@ pub read_record-srcb-requires-clause-more : goal.read_record-srcb-requires-claus
 read_record-srcb-requires-clause-more c =
     let step = (goal.at.read_record-srcb-requires-clause-more c).After-is_free in
     let count = ap (λ (x : FileSlot). x.count) (same_slot step) in
-    let many = c.requires.within (unpacked (slot_of c.self.inside.slots.items c.args.customer c.args.id).count
+    let many = c.requires.within (unpacked (slot_of c.self.inside.slots c.args.customer c.args.id).count
     (chain_of c.self.inside.store.chains c.args.customer c.args.id).bytes) (records_now step c.if-is_free.false) in
     omega (
       arith,
@@ -73,7 +73,7 @@ read_record-srcb-requires-clause-more c =
       many,
       c.place_of_record-begins.ensures.index,
       length-unpacked
-          (slot_of c.self.inside.slots.items c.args.customer c.args.id).count (chain_of c.self.inside.store.chains c.args.customer
+          (slot_of c.self.inside.slots c.args.customer c.args.id).count (chain_of c.self.inside.store.chains c.args.customer
           c.args.id).bytes,
     )
 
@@ -84,11 +84,11 @@ chain_is : (c : After-place_of_record-begins) → chain_at c.place-at.result c.s
     c.self.inside.store.chains c.args.customer c.args.id
 chain_is c =
     let used' = ap (λ (x : FileSlot). is_free x.stage)
-    (sym (c.slot_at-slot.ensures ∙ ap (λ (xs : List FileSlot). slot_of xs c.args.customer c.args.id) c.deref.ensures.value))
+    (sym (c.slot_at-slot.ensures))
     ∙ sym c.is_free.ensures ∙ c.if-is_free.false in
     ap (λ (i : ℕ). chain_at i c.self.inside.store) c.place-at.ensures ∙ finds.chain_is c.self.inside.store
-    c.self.inside.slots.items c.self.inside.customers.items c.args.customer c.args.id c.self.invariant
-    (rw c.self.view_is c.requires.range) (small_used c.self.inside.slots.items c.args.customer c.args.id used')
+    c.self.inside.slots c.self.inside.customers.items c.args.customer c.args.id c.self.invariant
+    (rw c.self.view_is c.requires.range) (small_used c.self.inside.slots c.args.customer c.args.id used')
 
 pub returns-clause-ok : goal.returns-clause-ok
 returns-clause-ok c =
@@ -103,45 +103,45 @@ returns-clause-ok c =
     ∙ ap (slice_get (unpacked c.slot_at-slot.result.count (chain_at c.place-at.result c.self.inside.store).bytes)) (sym index)
     ∙ found
 
-abbrev kept : After-read_record-srcb → KeptPlaces
+abbrev kept : After-set → KeptPlaces
 kept c = record { last = c.place_of_record-begins.result; next = c.read_record-srcb.result.1 }
 
-moved : (c : After-read_record-srcb) → Moves c.self.inside.store c.self.inside.slots.items c.self.inside.customers.items
-    c.self.inside.store (set c.self.inside.slots.items c.place-at.result (record c.slot_at-slot.result { places = kept c }))
+moved : (c : After-set) → Moves c.self.inside.store c.self.inside.slots c.self.inside.customers.items
+    c.self.inside.store c.set.new.self
     c.self.inside.customers.items c.args.customer
-    (part c.args.customer (spools_of c.self.inside.customers.items (contents c.self.inside.slots.items c.self.inside.store.chains)))
+    (part c.args.customer (spools_of c.self.inside.customers.items (contents c.self.inside.slots c.self.inside.store.chains)))
 moved c =
-    let same = c.slot_at-slot.ensures ∙ ap (λ (xs : List FileSlot). slot_of xs c.args.customer c.args.id) c.deref.ensures.value in
+    let same = c.slot_at-slot.ensures in
     let used' = ap (λ (x : FileSlot). is_free x.stage) (sym same) ∙ sym c.is_free.ensures ∙ c.if-is_free.false in
-    let small = small_used c.self.inside.slots.items c.args.customer c.args.id used' in
+    let small = small_used c.self.inside.slots c.args.customer c.args.id used' in
     let chain = ap (λ (i : ℕ). chain_at i c.self.inside.store) c.place-at.ensures ∙ finds.chain_is c.self.inside.store
-    c.self.inside.slots.items c.self.inside.customers.items c.args.customer c.args.id c.self.invariant
+    c.self.inside.slots c.self.inside.customers.items c.args.customer c.args.id c.self.invariant
     (rw c.self.view_is c.requires.range) small in
-    let places : ArePlaces (unpacked (slot_of c.self.inside.slots.items c.args.customer c.args.id).count
+    let places : ArePlaces (unpacked (slot_of c.self.inside.slots c.args.customer c.args.id).count
     (chain_of c.self.inside.store.chains c.args.customer c.args.id).bytes)
     (chain_of c.self.inside.store.chains c.args.customer c.args.id).keys (kept c) =
-    subst (λ (x : Chain). ArePlaces (unpacked (slot_of c.self.inside.slots.items c.args.customer c.args.id).count x.bytes) x.keys
+    subst (λ (x : Chain). ArePlaces (unpacked (slot_of c.self.inside.slots c.args.customer c.args.id).count x.bytes) x.keys
     (kept c)) chain
     (subst (λ (x : FileSlot). ArePlaces (unpacked x.count (chain_at c.place-at.result c.self.inside.store).bytes)
     (chain_at c.place-at.result c.self.inside.store).keys (kept c)) same
     (record { last = c.place_of_record-begins.ensures.place; next = c.read_record-srcb.ensures.place })) in
-    subst (λ (i : ℕ). Moves c.self.inside.store c.self.inside.slots.items c.self.inside.customers.items c.self.inside.store
-    (set c.self.inside.slots.items i (record c.slot_at-slot.result { places = kept c })) c.self.inside.customers.items
+    subst (λ (xs : List FileSlot). Moves c.self.inside.store c.self.inside.slots c.self.inside.customers.items c.self.inside.store
+    xs c.self.inside.customers.items
     c.args.customer (part c.args.customer (spools_of c.self.inside.customers.items
-    (contents c.self.inside.slots.items c.self.inside.store.chains)))) (sym c.place-at.ensures)
-    (subst (λ (x : FileSlot). Moves c.self.inside.store c.self.inside.slots.items c.self.inside.customers.items
-    c.self.inside.store (set c.self.inside.slots.items (1024 * c.args.customer + c.args.id) (record x { places = kept c }))
+    (contents c.self.inside.slots c.self.inside.store.chains)))) (sym c.set.ensures)
+    (subst (λ (x : FileSlot). Moves c.self.inside.store c.self.inside.slots c.self.inside.customers.items
+    c.self.inside.store (set c.self.inside.slots (1024 * c.args.customer + c.args.id) (record x { places = kept c }))
     c.self.inside.customers.items c.args.customer
     (part c.args.customer (spools_of c.self.inside.customers.items
-    (contents c.self.inside.slots.items c.self.inside.store.chains)))) (sym same)
-    (call.reads_on c.self.inside.store c.self.inside.slots.items c.self.inside.customers.items c.args.customer c.args.id
+    (contents c.self.inside.slots c.self.inside.store.chains)))) (sym same)
+    (call.reads_on c.self.inside.store c.self.inside.slots c.self.inside.customers.items c.args.customer c.args.id
     c.self.invariant (rw c.self.view_is c.requires.range) (kept c) used' places small))
 
 pub invariant_of-self : goal.invariant_of-self
-invariant_of-self c = (moved (goal.at.invariant_of-self c).After-read_record-srcb).kept
+invariant_of-self c = (moved (goal.at.invariant_of-self c).After-set).kept
 
 pub returns-clause-same : goal.returns-clause-same
 returns-clause-same c =
-    (moved (goal.at.returns-clause-same c).After-read_record-srcb).spools
-    ∙ set-get_or (spools_of c.self.inside.customers.items (contents c.self.inside.slots.items c.self.inside.store.chains))
+    (moved (goal.at.returns-clause-same c).After-set).spools
+    ∙ set-get_or (spools_of c.self.inside.customers.items (contents c.self.inside.slots c.self.inside.store.chains))
     c.args.customer no_spool ∙ c.self.view_is

@@ -1,4 +1,4 @@
-use Rattle.std.proofs.Common.{◌≡◌, ℕ, false, List, length}
+use Rattle.std.proofs.Common.{◌≡◌, ℕ, false, List}
 use Rattle.std.proofs.Common.{Some, refl, sym, ap, ◌∙◌, arith}
 use Rattle.njh_spool.specs.declared.file_slot.FileSlot.{FileSlot}
 use Rattle.njh_spool.specs.Chains.{Chain, chain_at}
@@ -17,27 +17,27 @@ use Rattle.njh_spool.proofs.PackingLaws.{length-unpacked}
 
 pub slot_at-slot-requires : goal.slot_at-slot-requires
 slot_at-slot-requires c =
-    let has = finds.has c.self.inside.store c.self.inside.slots.items c.self.inside.customers.items c.args.customer c.args.id
+    let has = finds.has c.self.inside.store c.self.inside.slots c.self.inside.customers.items c.args.customer c.args.id
     c.self.invariant (rw c.self.view_is c.requires.range) in
-    omega (arith, has.slot_within 1023 (omega arith), ap length c.deref.ensures.value)
+    omega (arith, has.slot_within 1023 (omega arith))
 
-same_slot : (c : After-is_free) → c.slot_at-slot.result ≡ slot_of c.self.inside.slots.items c.args.customer c.args.id
-same_slot c = c.slot_at-slot.ensures ∙ ap (λ (xs : List FileSlot). slot_of xs c.args.customer c.args.id) c.deref.ensures.value
+same_slot : (c : After-is_free) → c.slot_at-slot.result ≡ slot_of c.self.inside.slots c.args.customer c.args.id
+same_slot c = c.slot_at-slot.ensures
 
-stage_is : (c : After-is_free) → is_free (slot_of c.self.inside.slots.items c.args.customer c.args.id).stage ≡ c.is_free.result
+stage_is : (c : After-is_free) → is_free (slot_of c.self.inside.slots c.args.customer c.args.id).stage ≡ c.is_free.result
 stage_is c = ap (λ (x : FileSlot). is_free x.stage) (sym (same_slot c)) ∙ sym c.is_free.ensures
 
 records_now : (c : After-is_free) → c.is_free.result ≡ false → records_numbered c.args.id (part c.args.customer c.args.self.now)
-    ≡ Some (unpacked (slot_of c.self.inside.slots.items c.args.customer c.args.id).count
+    ≡ Some (unpacked (slot_of c.self.inside.slots c.args.customer c.args.id).count
     (chain_of c.self.inside.store.chains c.args.customer c.args.id).bytes)
 records_now c used' =
     ap (λ (old : List CustomerSpool). records_numbered c.args.id (part c.args.customer old)) (sym c.self.view_is)
-    ∙ finds.finds_records c.self.inside.store c.self.inside.slots.items c.self.inside.customers.items c.args.customer
+    ∙ finds.finds_records c.self.inside.store c.self.inside.slots c.self.inside.customers.items c.args.customer
     c.args.id c.self.invariant (rw c.self.view_is c.requires.range) (stage_is c ∙ used')
 
 pub returns-then-is_free-clause-fault : goal.returns-then-is_free-clause-fault
 returns-then-is_free-clause-fault c =
-    let none = finds.finds_no_records c.self.inside.store c.self.inside.slots.items c.self.inside.customers.items c.args.customer
+    let none = finds.finds_no_records c.self.inside.store c.self.inside.slots c.self.inside.customers.items c.args.customer
     c.args.id c.self.invariant (rw c.self.view_is c.requires.range)
     (stage_is (goal.at.returns-then-is_free-clause-fault c).After-is_free ∙ c.if-is_free.true) in
     rw (← c.self.view_is, none) refl
@@ -46,13 +46,13 @@ pub place_of_record-begins-requires-clause-within : goal.place_of_record-begins-
 place_of_record-begins-requires-clause-within c =
     let step = (goal.at.place_of_record-begins-requires-clause-within c).After-is_free in
     let count = ap (λ (x : FileSlot). x.count) (same_slot step) in
-    let many = c.requires.within (unpacked (slot_of c.self.inside.slots.items c.args.customer c.args.id).count
+    let many = c.requires.within (unpacked (slot_of c.self.inside.slots c.args.customer c.args.id).count
     (chain_of c.self.inside.store.chains c.args.customer c.args.id).bytes) (records_now step c.if-is_free.false) in
     omega (
       arith,
       count,
       many,
-      length-unpacked (slot_of c.self.inside.slots.items c.args.customer c.args.id).count
+      length-unpacked (slot_of c.self.inside.slots c.args.customer c.args.id).count
           (chain_of c.self.inside.store.chains c.args.customer c.args.id).bytes,
     )
 
@@ -60,7 +60,7 @@ pub read_record-srcb-requires-clause-more : goal.read_record-srcb-requires-claus
 read_record-srcb-requires-clause-more c =
     let step = (goal.at.read_record-srcb-requires-clause-more c).After-is_free in
     let count = ap (λ (x : FileSlot). x.count) (same_slot step) in
-    let many = c.requires.within (unpacked (slot_of c.self.inside.slots.items c.args.customer c.args.id).count
+    let many = c.requires.within (unpacked (slot_of c.self.inside.slots c.args.customer c.args.id).count
     (chain_of c.self.inside.store.chains c.args.customer c.args.id).bytes) (records_now step c.if-is_free.false) in
     omega (
       arith,
@@ -68,7 +68,7 @@ read_record-srcb-requires-clause-more c =
       many,
       c.place_of_record-begins.ensures.index,
       length-unpacked
-          (slot_of c.self.inside.slots.items c.args.customer c.args.id).count (chain_of c.self.inside.store.chains c.args.customer
+          (slot_of c.self.inside.slots c.args.customer c.args.id).count (chain_of c.self.inside.store.chains c.args.customer
           c.args.id).bytes,
     )
 
@@ -79,11 +79,11 @@ chain_is : (c : After-place_of_record-begins) → chain_at c.place-at.result c.s
     c.self.inside.store.chains c.args.customer c.args.id
 chain_is c =
     let used' = ap (λ (x : FileSlot). is_free x.stage)
-    (sym (c.slot_at-slot.ensures ∙ ap (λ (xs : List FileSlot). slot_of xs c.args.customer c.args.id) c.deref.ensures.value))
+    (sym (c.slot_at-slot.ensures))
     ∙ sym c.is_free.ensures ∙ c.if-is_free.false in
     ap (λ (i : ℕ). chain_at i c.self.inside.store) c.place-at.ensures ∙ finds.chain_is c.self.inside.store
-    c.self.inside.slots.items c.self.inside.customers.items c.args.customer c.args.id c.self.invariant
-    (rw c.self.view_is c.requires.range) (small_used c.self.inside.slots.items c.args.customer c.args.id used')
+    c.self.inside.slots c.self.inside.customers.items c.args.customer c.args.id c.self.invariant
+    (rw c.self.view_is c.requires.range) (small_used c.self.inside.slots c.args.customer c.args.id used')
 
 pub returns-clause-ok : goal.returns-clause-ok
 returns-clause-ok c =

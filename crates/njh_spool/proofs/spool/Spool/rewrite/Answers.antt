@@ -23,29 +23,29 @@ use Rattle.njh_spool.proofs.PackingLaws.{length-unpacked}
 use Rattle.njh_spool.proofs.PlaceLaws.{within_some}
 use Rattle.njh_spool.proofs.RecordLaws.{in_file}
 use Rattle.njh_spool.proofs.spool.Spool.rewrite.Goals as goal
-use Rattle.njh_spool.proofs.spool.Spool.rewrite.Goals.{After-is_whole, After-place_of_record-begins, After-overwrite, After-index_mut}
+use Rattle.njh_spool.proofs.spool.Spool.rewrite.Goals.{After-is_whole, After-place_of_record-begins, After-overwrite, After-set}
 
 pub slot_at-slot-requires : goal.slot_at-slot-requires
 slot_at-slot-requires c =
-    let has = finds.has c.self.inside.store c.self.inside.slots.items c.self.inside.customers.items c.args.customer c.args.id
+    let has = finds.has c.self.inside.store c.self.inside.slots c.self.inside.customers.items c.args.customer c.args.id
     c.self.invariant (rw c.self.view_is c.requires.range) in
-    omega (arith, has.slot_within 1023 (omega arith), ap length c.deref.ensures.value)
+    omega (arith, has.slot_within 1023 (omega arith))
 
-stage_is : (c : After-is_whole) → is_whole (slot_of c.self.inside.slots.items c.args.customer c.args.id).stage ≡ c.is_whole.result
+stage_is : (c : After-is_whole) → is_whole (slot_of c.self.inside.slots c.args.customer c.args.id).stage ≡ c.is_whole.result
 stage_is c = ap (λ (x : FileSlot). is_whole x.stage)
-    (sym (c.slot_at-slot.ensures ∙ ap (λ (xs : List FileSlot). slot_of xs c.args.customer c.args.id) c.deref.ensures.value))
+    (sym (c.slot_at-slot.ensures))
     ∙ sym c.is_whole.ensures
 
 pub returns-then-not-is_whole-clause-answer : goal.returns-then-not-is_whole-clause-answer
 returns-then-not-is_whole-clause-answer c =
-    let none = finds.finds_no_whole c.self.inside.store c.self.inside.slots.items c.self.inside.customers.items c.args.customer
+    let none = finds.finds_no_whole c.self.inside.store c.self.inside.slots c.self.inside.customers.items c.args.customer
     c.args.id c.self.invariant (rw c.self.view_is c.requires.range)
     (stage_is (goal.at.returns-then-not-is_whole-clause-answer c).After-is_whole ∙ c.if-not-is_whole.true) in
     rw (← c.self.view_is, none.none) refl
 
 pub returns-then-not-is_whole-clause-after : goal.returns-then-not-is_whole-clause-after
 returns-then-not-is_whole-clause-after c =
-    let none = finds.finds_no_whole c.self.inside.store c.self.inside.slots.items c.self.inside.customers.items c.args.customer
+    let none = finds.finds_no_whole c.self.inside.store c.self.inside.slots c.self.inside.customers.items c.args.customer
     c.args.id c.self.invariant (rw c.self.view_is c.requires.range)
     (stage_is (goal.at.returns-then-not-is_whole-clause-after c).After-is_whole ∙ c.if-not-is_whole.true) in
     rw (← c.self.view_is) (none.changes (λ x. record
@@ -53,22 +53,22 @@ returns-then-not-is_whole-clause-after c =
 
 pub place_of_record-begins-requires-clause-within : goal.place_of_record-begins-requires-clause-within
 place_of_record-begins-requires-clause-within c =
-    let same = c.slot_at-slot.ensures ∙ ap (λ (xs : List FileSlot). slot_of xs c.args.customer c.args.id) c.deref.ensures.value in
+    let same = c.slot_at-slot.ensures in
     let there = ap (λ (x : FileSlot). is_whole x.stage) (sym same) ∙ sym c.is_whole.ensures ∙ c.if-not-is_whole.false in
-    let inner : IsSomeAnd (slice_get (unpacked (slot_of c.self.inside.slots.items c.args.customer c.args.id).count
+    let inner : IsSomeAnd (slice_get (unpacked (slot_of c.self.inside.slots c.args.customer c.args.id).count
     (chain_of c.self.inside.store.chains c.args.customer c.args.id).bytes) c.args.n) (λ r. c.args.place + 8 ≤ length r.bytes) =
-    c.requires.within (whole_file (contents c.self.inside.slots.items c.self.inside.store.chains c.args.customer) c.args.id)
+    c.requires.within (whole_file (contents c.self.inside.slots c.self.inside.store.chains c.args.customer) c.args.id)
     (subst (λ (old : List CustomerSpool). whole_numbered c.args.id (part c.args.customer old) ≡ Some
-    (whole_file (contents c.self.inside.slots.items c.self.inside.store.chains c.args.customer) c.args.id)) c.self.view_is
-    (finds.finds_whole c.self.inside.store c.self.inside.slots.items c.self.inside.customers.items c.args.customer c.args.id
+    (whole_file (contents c.self.inside.slots c.self.inside.store.chains c.args.customer) c.args.id)) c.self.view_is
+    (finds.finds_whole c.self.inside.store c.self.inside.slots c.self.inside.customers.items c.args.customer c.args.id
     c.self.invariant (rw c.self.view_is c.requires.range) there)) in
-    let counted : c.args.n < (slot_of c.self.inside.slots.items c.args.customer c.args.id).count =
+    let counted : c.args.n < (slot_of c.self.inside.slots c.args.customer c.args.id).count =
     omega (
       arith,
-      within_some (unpacked (slot_of c.self.inside.slots.items c.args.customer c.args.id).count
+      within_some (unpacked (slot_of c.self.inside.slots c.args.customer c.args.id).count
           (chain_of c.self.inside.store.chains c.args.customer c.args.id).bytes) c.args.n (λ r. c.args.place + 8 ≤ length r.bytes)
           inner,
-      length-unpacked (slot_of c.self.inside.slots.items c.args.customer c.args.id).count
+      length-unpacked (slot_of c.self.inside.slots c.args.customer c.args.id).count
           (chain_of c.self.inside.store.chains c.args.customer c.args.id).bytes,
     ) in
     let count = ap (λ (x : FileSlot). x.count) same in
@@ -83,43 +83,43 @@ record Goes (c : After-place_of_record-begins) : Type 0 where
 
 goes : (c : After-place_of_record-begins) → Goes c
 goes c =
-    let same = c.slot_at-slot.ensures ∙ ap (λ (xs : List FileSlot). slot_of xs c.args.customer c.args.id) c.deref.ensures.value in
+    let same = c.slot_at-slot.ensures in
     let there = ap (λ (x : FileSlot). is_whole x.stage) (sym same) ∙ sym c.is_whole.ensures ∙ c.if-not-is_whole.false in
-    let inner : IsSomeAnd (slice_get (unpacked (slot_of c.self.inside.slots.items c.args.customer c.args.id).count
+    let inner : IsSomeAnd (slice_get (unpacked (slot_of c.self.inside.slots c.args.customer c.args.id).count
     (chain_of c.self.inside.store.chains c.args.customer c.args.id).bytes) c.args.n) (λ r. c.args.place + 8 ≤ length r.bytes) =
-    c.requires.within (whole_file (contents c.self.inside.slots.items c.self.inside.store.chains c.args.customer) c.args.id)
+    c.requires.within (whole_file (contents c.self.inside.slots c.self.inside.store.chains c.args.customer) c.args.id)
     (subst (λ (old : List CustomerSpool). whole_numbered c.args.id (part c.args.customer old) ≡ Some
-    (whole_file (contents c.self.inside.slots.items c.self.inside.store.chains c.args.customer) c.args.id)) c.self.view_is
-    (finds.finds_whole c.self.inside.store c.self.inside.slots.items c.self.inside.customers.items c.args.customer c.args.id
+    (whole_file (contents c.self.inside.slots c.self.inside.store.chains c.args.customer) c.args.id)) c.self.view_is
+    (finds.finds_whole c.self.inside.store c.self.inside.slots c.self.inside.customers.items c.args.customer c.args.id
     c.self.invariant (rw c.self.view_is c.requires.range) there)) in
-    let counted : c.args.n < (slot_of c.self.inside.slots.items c.args.customer c.args.id).count =
+    let counted : c.args.n < (slot_of c.self.inside.slots c.args.customer c.args.id).count =
     omega (
       arith,
-      within_some (unpacked (slot_of c.self.inside.slots.items c.args.customer c.args.id).count
+      within_some (unpacked (slot_of c.self.inside.slots c.args.customer c.args.id).count
           (chain_of c.self.inside.store.chains c.args.customer c.args.id).bytes) c.args.n (λ r. c.args.place + 8 ≤ length r.bytes)
           inner,
-      length-unpacked (slot_of c.self.inside.slots.items c.args.customer c.args.id).count
+      length-unpacked (slot_of c.self.inside.slots c.args.customer c.args.id).count
           (chain_of c.self.inside.store.chains c.args.customer c.args.id).bytes,
     ) in
-    let small = finds.small_whole c.self.inside.store c.self.inside.slots.items c.self.inside.customers.items c.args.customer
+    let small = finds.small_whole c.self.inside.store c.self.inside.slots c.self.inside.customers.items c.args.customer
     c.args.id c.self.invariant (rw c.self.view_is c.requires.range) there in
     let chain = ap (λ (i : ℕ). chain_at i c.self.inside.store) c.place-at.ensures ∙ finds.chain_is c.self.inside.store
-    c.self.inside.slots.items c.self.inside.customers.items c.args.customer c.args.id c.self.invariant
+    c.self.inside.slots c.self.inside.customers.items c.args.customer c.args.id c.self.invariant
     (rw c.self.view_is c.requires.range) small in
-    let place : IsPlace (unpacked (slot_of c.self.inside.slots.items c.args.customer c.args.id).count
+    let place : IsPlace (unpacked (slot_of c.self.inside.slots c.args.customer c.args.id).count
     (chain_of c.self.inside.store.chains c.args.customer c.args.id).bytes)
     (chain_of c.self.inside.store.chains c.args.customer c.args.id).keys c.place_of_record-begins.result =
-    subst (λ (x : Chain). IsPlace (unpacked (slot_of c.self.inside.slots.items c.args.customer c.args.id).count x.bytes) x.keys
+    subst (λ (x : Chain). IsPlace (unpacked (slot_of c.self.inside.slots c.args.customer c.args.id).count x.bytes) x.keys
     c.place_of_record-begins.result) chain
     (subst (λ (x : FileSlot). IsPlace (unpacked x.count (chain_at c.place-at.result c.self.inside.store).bytes)
     (chain_at c.place-at.result c.self.inside.store).keys c.place_of_record-begins.result) same
     c.place_of_record-begins.ensures.place) in
     let begins : c.place_of_record-begins.result.place ≡ stored_size
-    (take c.args.n (unpacked (slot_of c.self.inside.slots.items c.args.customer c.args.id).count
+    (take c.args.n (unpacked (slot_of c.self.inside.slots c.args.customer c.args.id).count
     (chain_of c.self.inside.store.chains c.args.customer c.args.id).bytes)) = place.place
-    ∙ ap (λ (k : ℕ). stored_size (take k (unpacked (slot_of c.self.inside.slots.items c.args.customer c.args.id).count
+    ∙ ap (λ (k : ℕ). stored_size (take k (unpacked (slot_of c.self.inside.slots c.args.customer c.args.id).count
     (chain_of c.self.inside.store.chains c.args.customer c.args.id).bytes))) c.place_of_record-begins.ensures.index in
-    let r = in_file (slot_of c.self.inside.slots.items c.args.customer c.args.id)
+    let r = in_file (slot_of c.self.inside.slots c.args.customer c.args.id)
     (chain_of c.self.inside.store.chains c.args.customer c.args.id) c.args.n
     (c.self.invariant.files c.args.customer c.args.id) counted in
     let eight = rw r.1.found at inner in
@@ -165,49 +165,49 @@ record Rewrites (store : StoreValue) (slots : List FileSlot) (slot : FileSlot) (
   chain : chain_at index store' ≡ chain_then store customer id at bytes
   inside : index < length store'.chains
 
-rewrites : (c : After-overwrite) → Rewrites c.self.inside.store c.self.inside.slots.items c.slot_at-slot.result c.args.customer
+rewrites : (c : After-overwrite) → Rewrites c.self.inside.store c.self.inside.slots c.slot_at-slot.result c.args.customer
     c.args.id c.args.n (c.place_of_record-begins.result.place + (3 + c.args.place)) c.args.place c.place-at.result c.args.bytes
     c.overwrite.new.self
 rewrites c =
-    let same = c.slot_at-slot.ensures ∙ ap (λ (xs : List FileSlot). slot_of xs c.args.customer c.args.id) c.deref.ensures.value in
+    let same = c.slot_at-slot.ensures in
     let there = ap (λ (x : FileSlot). is_whole x.stage) (sym same) ∙ sym c.is_whole.ensures ∙ c.if-not-is_whole.false in
-    let inner : IsSomeAnd (slice_get (unpacked (slot_of c.self.inside.slots.items c.args.customer c.args.id).count
+    let inner : IsSomeAnd (slice_get (unpacked (slot_of c.self.inside.slots c.args.customer c.args.id).count
     (chain_of c.self.inside.store.chains c.args.customer c.args.id).bytes) c.args.n) (λ r. c.args.place + 8 ≤ length r.bytes) =
-    c.requires.within (whole_file (contents c.self.inside.slots.items c.self.inside.store.chains c.args.customer) c.args.id)
+    c.requires.within (whole_file (contents c.self.inside.slots c.self.inside.store.chains c.args.customer) c.args.id)
     (subst (λ (old : List CustomerSpool). whole_numbered c.args.id (part c.args.customer old) ≡ Some
-    (whole_file (contents c.self.inside.slots.items c.self.inside.store.chains c.args.customer) c.args.id)) c.self.view_is
-    (finds.finds_whole c.self.inside.store c.self.inside.slots.items c.self.inside.customers.items c.args.customer c.args.id
+    (whole_file (contents c.self.inside.slots c.self.inside.store.chains c.args.customer) c.args.id)) c.self.view_is
+    (finds.finds_whole c.self.inside.store c.self.inside.slots c.self.inside.customers.items c.args.customer c.args.id
     c.self.invariant (rw c.self.view_is c.requires.range) there)) in
-    let counted : c.args.n < (slot_of c.self.inside.slots.items c.args.customer c.args.id).count =
+    let counted : c.args.n < (slot_of c.self.inside.slots c.args.customer c.args.id).count =
     omega (
       arith,
-      within_some (unpacked (slot_of c.self.inside.slots.items c.args.customer c.args.id).count
+      within_some (unpacked (slot_of c.self.inside.slots c.args.customer c.args.id).count
           (chain_of c.self.inside.store.chains c.args.customer c.args.id).bytes) c.args.n (λ r. c.args.place + 8 ≤ length r.bytes)
           inner,
-      length-unpacked (slot_of c.self.inside.slots.items c.args.customer c.args.id).count
+      length-unpacked (slot_of c.self.inside.slots c.args.customer c.args.id).count
           (chain_of c.self.inside.store.chains c.args.customer c.args.id).bytes,
     ) in
-    let small = finds.small_whole c.self.inside.store c.self.inside.slots.items c.self.inside.customers.items c.args.customer
+    let small = finds.small_whole c.self.inside.store c.self.inside.slots c.self.inside.customers.items c.args.customer
     c.args.id c.self.invariant (rw c.self.view_is c.requires.range) there in
     let chain = ap (λ (i : ℕ). chain_at i c.self.inside.store) c.place-at.ensures ∙ finds.chain_is c.self.inside.store
-    c.self.inside.slots.items c.self.inside.customers.items c.args.customer c.args.id c.self.invariant
+    c.self.inside.slots c.self.inside.customers.items c.args.customer c.args.id c.self.invariant
     (rw c.self.view_is c.requires.range) small in
-    let place : IsPlace (unpacked (slot_of c.self.inside.slots.items c.args.customer c.args.id).count
+    let place : IsPlace (unpacked (slot_of c.self.inside.slots c.args.customer c.args.id).count
     (chain_of c.self.inside.store.chains c.args.customer c.args.id).bytes)
     (chain_of c.self.inside.store.chains c.args.customer c.args.id).keys c.place_of_record-begins.result =
-    subst (λ (x : Chain). IsPlace (unpacked (slot_of c.self.inside.slots.items c.args.customer c.args.id).count x.bytes) x.keys
+    subst (λ (x : Chain). IsPlace (unpacked (slot_of c.self.inside.slots c.args.customer c.args.id).count x.bytes) x.keys
     c.place_of_record-begins.result) chain
     (subst (λ (x : FileSlot). IsPlace (unpacked x.count (chain_at c.place-at.result c.self.inside.store).bytes)
     (chain_at c.place-at.result c.self.inside.store).keys c.place_of_record-begins.result) same
     c.place_of_record-begins.ensures.place) in
     let begins : c.place_of_record-begins.result.place ≡ stored_size
-    (take c.args.n (unpacked (slot_of c.self.inside.slots.items c.args.customer c.args.id).count
+    (take c.args.n (unpacked (slot_of c.self.inside.slots c.args.customer c.args.id).count
     (chain_of c.self.inside.store.chains c.args.customer c.args.id).bytes)) = place.place
-    ∙ ap (λ (k : ℕ). stored_size (take k (unpacked (slot_of c.self.inside.slots.items c.args.customer c.args.id).count
+    ∙ ap (λ (k : ℕ). stored_size (take k (unpacked (slot_of c.self.inside.slots c.args.customer c.args.id).count
     (chain_of c.self.inside.store.chains c.args.customer c.args.id).bytes))) c.place_of_record-begins.ensures.index in
     let eight : 8 ≡ length c.args.bytes = omega arith in
     let fits = subst (λ (size : ℕ). IsSomeAnd
-    (slice_get (unpacked (slot_of c.self.inside.slots.items c.args.customer c.args.id).count
+    (slice_get (unpacked (slot_of c.self.inside.slots c.args.customer c.args.id).count
     (chain_of c.self.inside.store.chains c.args.customer c.args.id).bytes) c.args.n)
     (λ r. c.args.place + size ≤ length r.bytes)) eight inner in
     let at = c.place_of_record-begins.result.place + (3 + c.args.place) in
@@ -226,7 +226,7 @@ rewrites c =
           with_field at c.args.bytes (chain_of c.self.inside.store.chains c.args.customer c.args.id).bytes;
     }) c.self.inside.store)
     c.place-at.ensures in
-    let has = finds.has c.self.inside.store c.self.inside.slots.items c.self.inside.customers.items c.args.customer c.args.id
+    let has = finds.has c.self.inside.store c.self.inside.slots c.self.inside.customers.items c.args.customer c.args.id
     c.self.invariant (rw c.self.view_is c.requires.range) in
     let here = 1024 * c.args.customer + c.args.id in
     let then = chain_then c.self.inside.store c.args.customer c.args.id at c.args.bytes in
@@ -255,23 +255,22 @@ headers_behind-slot-requires-clause-range c = (rewrites (goal.at.headers_behind-
 pub headers_behind-slot-requires-clause-file : goal.headers_behind-slot-requires-clause-file
 headers_behind-slot-requires-clause-file c =
     let is = rewrites (goal.at.headers_behind-slot-requires-clause-file c).After-overwrite in
-    rw (is.same, is.chain) (call.still_file c.self.inside.store c.self.inside.slots.items c.self.inside.customers.items
+    rw (is.same, is.chain) (call.still_file c.self.inside.store c.self.inside.slots c.self.inside.customers.items
     c.args.customer c.args.id c.self.invariant (rw c.self.view_is c.requires.range) c.args.n
     (c.place_of_record-begins.result.place + (3 + c.args.place)) c.args.place c.args.bytes is.there is.small is.begins
     is.counted is.fits)
 
-moved : (c : After-index_mut) → Rewrites c.self.inside.store c.self.inside.slots.items c.slot_at-slot.result c.args.customer
+moved : (c : After-set) → Rewrites c.self.inside.store c.self.inside.slots c.slot_at-slot.result c.args.customer
     c.args.id c.args.n (c.place_of_record-begins.result.place + (3 + c.args.place)) c.args.place c.place-at.result c.args.bytes
-    c.overwrite.new.self → Moves c.self.inside.store c.self.inside.slots.items c.self.inside.customers.items
-    c.overwrite.new.self (set c.self.inside.slots.items c.place-at.result
-    (record c.slot_at-slot.result { headers = c.headers_behind-slot.result })) c.self.inside.customers.items c.args.customer
+    c.overwrite.new.self → Moves c.self.inside.store c.self.inside.slots c.self.inside.customers.items
+    c.overwrite.new.self c.set.new.self c.self.inside.customers.items c.args.customer
     (rewritten c.args.id c.args.n c.args.place c.args.bytes
-    (part c.args.customer (spools_of c.self.inside.customers.items (contents c.self.inside.slots.items c.self.inside.store.chains))))
+    (part c.args.customer (spools_of c.self.inside.customers.items (contents c.self.inside.slots c.self.inside.store.chains))))
 moved c is =
     let s : CustomerSpool = rewritten c.args.id c.args.n c.args.place c.args.bytes
-    (part c.args.customer (spools_of c.self.inside.customers.items (contents c.self.inside.slots.items c.self.inside.store.chains))) in
+    (part c.args.customer (spools_of c.self.inside.customers.items (contents c.self.inside.slots c.self.inside.store.chains))) in
     let at = c.place_of_record-begins.result.place + (3 + c.args.place) in
-    let slot : FileSlot = slot_of c.self.inside.slots.items c.args.customer c.args.id in
+    let slot : FileSlot = slot_of c.self.inside.slots c.args.customer c.args.id in
     let then : Chain = chain_then c.self.inside.store c.args.customer c.args.id at c.args.bytes in
     let again : c.args.n < slot.headers.count → c.headers_behind-slot.result ≡ kept_headers slot.kind (unpacked slot.count then.bytes) =
     λ before.
@@ -282,34 +281,34 @@ moved c is =
     λ behind.
     c.headers_behind-slot.ensures.same (omega (arith, behind, ap (λ (x : FileSlot). x.headers.count) is.same))
     ∙ ap (λ (x : FileSlot). x.headers) is.same in
-    subst (λ (i : ℕ). Moves c.self.inside.store c.self.inside.slots.items c.self.inside.customers.items c.overwrite.new.self
-    (set c.self.inside.slots.items i (record c.slot_at-slot.result { headers = c.headers_behind-slot.result }))
-    c.self.inside.customers.items c.args.customer s) (sym c.place-at.ensures)
-    (subst (λ (x : FileSlot). Moves c.self.inside.store c.self.inside.slots.items c.self.inside.customers.items
-    c.overwrite.new.self (set c.self.inside.slots.items (1024 * c.args.customer + c.args.id)
+    subst (λ (xs : List FileSlot). Moves c.self.inside.store c.self.inside.slots c.self.inside.customers.items c.overwrite.new.self
+    xs
+    c.self.inside.customers.items c.args.customer s) (sym c.set.ensures)
+    (subst (λ (x : FileSlot). Moves c.self.inside.store c.self.inside.slots c.self.inside.customers.items
+    c.overwrite.new.self (set c.self.inside.slots (1024 * c.args.customer + c.args.id)
     (record x { headers = c.headers_behind-slot.result })) c.self.inside.customers.items c.args.customer s) (sym is.same)
-    (subst (λ (t : StoreValue). Moves c.self.inside.store c.self.inside.slots.items c.self.inside.customers.items t
-    (set c.self.inside.slots.items (1024 * c.args.customer + c.args.id) (record slot { headers = c.headers_behind-slot.result }))
+    (subst (λ (t : StoreValue). Moves c.self.inside.store c.self.inside.slots c.self.inside.customers.items t
+    (set c.self.inside.slots (1024 * c.args.customer + c.args.id) (record slot { headers = c.headers_behind-slot.result }))
     c.self.inside.customers.items c.args.customer s) (sym is.after)
-    (call.rewrites c.self.inside.store c.self.inside.slots.items c.self.inside.customers.items c.args.customer c.args.id
+    (call.rewrites c.self.inside.store c.self.inside.slots c.self.inside.customers.items c.args.customer c.args.id
     c.self.invariant (rw c.self.view_is c.requires.range) c.args.n at c.args.place c.args.bytes is.there is.small is.begins
     is.counted is.fits c.headers_behind-slot.result again kept)))
 
 pub invariant_of-self : goal.invariant_of-self
 invariant_of-self c =
-    (moved (goal.at.invariant_of-self c).After-index_mut (rewrites (goal.at.invariant_of-self c).After-overwrite)).kept
+    (moved (goal.at.invariant_of-self c).After-set (rewrites (goal.at.invariant_of-self c).After-overwrite)).kept
 
 pub returns-clause-answer : goal.returns-clause-answer
 returns-clause-answer c =
     let there = stage_is (goal.at.returns-clause-answer c).After-is_whole ∙ c.if-not-is_whole.false in
     rw (
       ← c.self.view_is,
-      finds.finds_whole c.self.inside.store c.self.inside.slots.items c.self.inside.customers.items
+      finds.finds_whole c.self.inside.store c.self.inside.slots c.self.inside.customers.items
           c.args.customer c.args.id c.self.invariant (rw c.self.view_is c.requires.range) there,
     ) refl
 
 pub returns-clause-after : goal.returns-clause-after
 returns-clause-after c =
-    (moved (goal.at.returns-clause-after c).After-index_mut (rewrites (goal.at.returns-clause-after c).After-overwrite)).spools
+    (moved (goal.at.returns-clause-after c).After-set (rewrites (goal.at.returns-clause-after c).After-overwrite)).spools
     ∙ ap (λ (old : List CustomerSpool). set old c.args.customer (rewritten c.args.id c.args.n c.args.place c.args.bytes
     (part c.args.customer old))) c.self.view_is

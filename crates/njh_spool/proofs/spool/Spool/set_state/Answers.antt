@@ -1,4 +1,4 @@
-use Rattle.std.proofs.Common.{◌≡◌, ℕ, ◌+◌, ◌*◌, List, length, set}
+use Rattle.std.proofs.Common.{◌≡◌, ◌+◌, ◌*◌, List, set}
 use Rattle.std.proofs.Common.{refl, sym, ap, subst, ◌∙◌, arith}
 use Rattle.njh_spool.specs.declared.file_slot.FileSlot.{FileSlot}
 use Rattle.njh_spool.specs.declared.file_slot.Stage.TheVariants.{Whole}
@@ -9,72 +9,71 @@ use Rattle.njh_spool.proofs.KeptLaws.{Moves}
 use Rattle.njh_spool.proofs.CallFinds as finds
 use Rattle.njh_spool.proofs.CallLaws as call
 use Rattle.njh_spool.proofs.spool.Spool.set_state.Goals as goal
-use Rattle.njh_spool.proofs.spool.Spool.set_state.Goals.{After-index_mut, After-is_whole}
+use Rattle.njh_spool.proofs.spool.Spool.set_state.Goals.{After-set, After-is_whole}
 
 pub slot_at-slot-requires : goal.slot_at-slot-requires
 slot_at-slot-requires c =
-    let has = finds.has c.self.inside.store c.self.inside.slots.items c.self.inside.customers.items c.args.customer c.args.id
+    let has = finds.has c.self.inside.store c.self.inside.slots c.self.inside.customers.items c.args.customer c.args.id
     c.self.invariant (rw c.self.view_is c.requires) in
-    omega (arith, has.slot_within 1023 (omega arith), ap length c.deref.ensures.value)
+    omega (arith, has.slot_within 1023 (omega arith))
 
-stage_is : (c : After-is_whole) → is_whole (slot_of c.self.inside.slots.items c.args.customer c.args.id).stage ≡ c.is_whole.result
+stage_is : (c : After-is_whole) → is_whole (slot_of c.self.inside.slots c.args.customer c.args.id).stage ≡ c.is_whole.result
 stage_is c = ap (λ (x : FileSlot). is_whole x.stage)
-    (sym (c.slot_at-slot.ensures ∙ ap (λ (xs : List FileSlot). slot_of xs c.args.customer c.args.id) c.deref.ensures.value))
+    (sym (c.slot_at-slot.ensures))
     ∙ sym c.is_whole.ensures
 
 pub returns-then-not-is_whole-clause-answer : goal.returns-then-not-is_whole-clause-answer
 returns-then-not-is_whole-clause-answer c =
-    let none = finds.finds_no_whole c.self.inside.store c.self.inside.slots.items c.self.inside.customers.items c.args.customer
+    let none = finds.finds_no_whole c.self.inside.store c.self.inside.slots c.self.inside.customers.items c.args.customer
     c.args.id c.self.invariant (rw c.self.view_is c.requires)
     (stage_is (goal.at.returns-then-not-is_whole-clause-answer c).After-is_whole ∙ c.if-not-is_whole.true) in
     rw (← c.self.view_is, none.none) refl
 
 pub returns-then-not-is_whole-clause-after : goal.returns-then-not-is_whole-clause-after
 returns-then-not-is_whole-clause-after c =
-    let none = finds.finds_no_whole c.self.inside.store c.self.inside.slots.items c.self.inside.customers.items c.args.customer
+    let none = finds.finds_no_whole c.self.inside.store c.self.inside.slots c.self.inside.customers.items c.args.customer
     c.args.id c.self.invariant (rw c.self.view_is c.requires)
     (stage_is (goal.at.returns-then-not-is_whole-clause-after c).After-is_whole ∙ c.if-not-is_whole.true) in
     rw (← c.self.view_is) (none.changes (λ x. record x { state = c.args.state }))
 
-moved : (c : After-index_mut) → Moves c.self.inside.store c.self.inside.slots.items c.self.inside.customers.items
-    c.self.inside.store (set c.self.inside.slots.items c.place.result
-    (record c.slot_at-slot.result { stage = Whole c.args.state })) c.self.inside.customers.items c.args.customer
+moved : (c : After-set) → Moves c.self.inside.store c.self.inside.slots c.self.inside.customers.items
+    c.self.inside.store c.set.new.self c.self.inside.customers.items c.args.customer
     (with_state c.args.id c.args.state (part c.args.customer (spools_of c.self.inside.customers.items
-    (contents c.self.inside.slots.items c.self.inside.store.chains))))
+    (contents c.self.inside.slots c.self.inside.store.chains))))
 moved c =
     let there = ap (λ (x : FileSlot). is_whole x.stage)
-    (sym (c.slot_at-slot.ensures ∙ ap (λ (xs : List FileSlot). slot_of xs c.args.customer c.args.id) c.deref.ensures.value))
+    (sym (c.slot_at-slot.ensures))
     ∙ sym c.is_whole.ensures ∙ c.if-not-is_whole.false in
-    subst (λ (i : ℕ). Moves c.self.inside.store c.self.inside.slots.items c.self.inside.customers.items c.self.inside.store
-    (set c.self.inside.slots.items i (record c.slot_at-slot.result { stage = Whole c.args.state }))
+    subst (λ (xs : List FileSlot). Moves c.self.inside.store c.self.inside.slots c.self.inside.customers.items c.self.inside.store
+    xs
     c.self.inside.customers.items c.args.customer
     (with_state c.args.id c.args.state (part c.args.customer (spools_of c.self.inside.customers.items
-    (contents c.self.inside.slots.items c.self.inside.store.chains))))) (sym c.place.ensures)
-    (subst (λ (x : FileSlot). Moves c.self.inside.store c.self.inside.slots.items c.self.inside.customers.items
-    c.self.inside.store (set c.self.inside.slots.items (1024 * c.args.customer + c.args.id)
+    (contents c.self.inside.slots c.self.inside.store.chains))))) (sym c.set.ensures)
+    (subst (λ (x : FileSlot). Moves c.self.inside.store c.self.inside.slots c.self.inside.customers.items
+    c.self.inside.store (set c.self.inside.slots (1024 * c.args.customer + c.args.id)
     (record x { stage = Whole c.args.state })) c.self.inside.customers.items c.args.customer
     (with_state c.args.id c.args.state (part c.args.customer (spools_of c.self.inside.customers.items
-    (contents c.self.inside.slots.items c.self.inside.store.chains)))))
-    (sym (c.slot_at-slot.ensures ∙ ap (λ (xs : List FileSlot). slot_of xs c.args.customer c.args.id) c.deref.ensures.value))
-    (call.restates c.self.inside.store c.self.inside.slots.items c.self.inside.customers.items c.args.customer c.args.id
+    (contents c.self.inside.slots c.self.inside.store.chains)))))
+    (sym (c.slot_at-slot.ensures))
+    (call.restates c.self.inside.store c.self.inside.slots c.self.inside.customers.items c.args.customer c.args.id
     c.self.invariant (rw c.self.view_is c.requires) c.args.state there
-    (finds.small_whole c.self.inside.store c.self.inside.slots.items c.self.inside.customers.items c.args.customer c.args.id
+    (finds.small_whole c.self.inside.store c.self.inside.slots c.self.inside.customers.items c.args.customer c.args.id
     c.self.invariant (rw c.self.view_is c.requires) there)))
 
 pub invariant_of-self : goal.invariant_of-self
-invariant_of-self c = (moved (goal.at.invariant_of-self c).After-index_mut).kept
+invariant_of-self c = (moved (goal.at.invariant_of-self c).After-set).kept
 
 pub returns-clause-answer : goal.returns-clause-answer
 returns-clause-answer c =
     let there = stage_is (goal.at.returns-clause-answer c).After-is_whole ∙ c.if-not-is_whole.false in
     rw (
       ← c.self.view_is,
-      finds.finds_whole c.self.inside.store c.self.inside.slots.items c.self.inside.customers.items
+      finds.finds_whole c.self.inside.store c.self.inside.slots c.self.inside.customers.items
           c.args.customer c.args.id c.self.invariant (rw c.self.view_is c.requires) there,
     ) refl
 
 pub returns-clause-after : goal.returns-clause-after
 returns-clause-after c =
-    (moved (goal.at.returns-clause-after c).After-index_mut).spools
+    (moved (goal.at.returns-clause-after c).After-set).spools
     ∙ ap (λ (old : List CustomerSpool). set old c.args.customer
     (with_state c.args.id c.args.state (part c.args.customer old))) c.self.view_is

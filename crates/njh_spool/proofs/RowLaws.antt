@@ -1,0 +1,124 @@
+-- The slots of a customer's files, and of all customers', as they lie in rows.
+use Rattle.std.proofs.Common.{◌≡◌, ℕ, zero, suc, ◌+◌, ◌-◌, ◌*◌, ◌<◌, ◌≤◌, cond, ltb, List, [], ◌∷◌, ◌++◌, length, get_or, set, replicate}
+use Rattle.std.proofs.Common.{refl, sym, ap, ◌∙◌, inl, inr, arith, length-set}
+use Rattle.std.specs.Prelude.{All}
+use Rattle.std.proofs.lemmas.Bool.{cases_lt, lt-ltb, le-ltb}
+use Rattle.std.proofs.lemmas.List.{get_or_append_left, get_or-append_right, get_or-append-add, get_or_past, set-append_left, set-append_right}
+use Rattle.std.proofs.lemmas.List.{length-append, length-replicate, append_assoc, replicate-append-replicate}
+use Rattle.std.proofs.lemmas.List.{get_or-set_same, get_or-set_other}
+use Rattle.std.proofs.lemmas.Bool.{cases_eq}
+use Rattle.std.proofs.Math.Nat.{mul-suc}
+use Rattle.njh_spool.specs.declared.file_slot.FileSlot.{FileSlot}
+use Rattle.njh_spool.specs.Slots.{free_slot}
+use Rattle.njh_spool.specs.SlotRows.{row_of, slots_in, IsWholeRow}
+
+pub length-row_of : (written : List FileSlot) (room : ℕ) → length written ≤ room → length (row_of written room) ≡ room
+length-row_of written room fits = omega (
+  arith,
+  length-append written (replicate (room - length written) free_slot),
+  length-replicate (room - length written) free_slot,
+)
+
+-- one more slot is written
+pub row_of-more : (written : List FileSlot) (room : ℕ) → length written < room → row_of (written ++ free_slot ∷ []) room ≡ row_of written room
+row_of-more written room fits =
+    let left : room - length (written ++ free_slot ∷ []) ≡ room - (length written + 1) =
+    ap (λ (n : ℕ). room - n) (length-append written (free_slot ∷ [])) in
+    let one : suc (room - (length written + 1)) ≡ room - length written = omega arith in
+    append_assoc written (free_slot ∷ []) (replicate (room - length (written ++ free_slot ∷ [])) free_slot)
+    ∙ ap (λ (n : ℕ). written ++ (free_slot ∷ replicate n free_slot)) left
+    ∙ ap (λ (n : ℕ). written ++ replicate n free_slot) one
+
+get_or-free : (n i : ℕ) → get_or (replicate n free_slot) i free_slot ≡ free_slot
+get_or-free zero i = refl
+get_or-free (suc n) zero = refl
+get_or-free (suc n) (suc i) = get_or-free n i
+
+pub row_of-written : (written : List FileSlot) (room n : ℕ) → n < length written → get_or (row_of written room) n free_slot ≡ get_or
+    written n free_slot
+row_of-written written room n within = get_or_append_left written (replicate (room - length written) free_slot) free_slot n within
+
+pub row_of-unused : (written : List FileSlot) (room n : ℕ) → length written ≤ n → get_or (row_of written room) n free_slot ≡ free_slot
+row_of-unused written room n past =
+    get_or-append_right written (replicate (room - length written) free_slot) (length written) n free_slot refl past
+    ∙ get_or-free (room - length written) (n - length written)
+
+pub row_of-set : (written : List FileSlot) (room n : ℕ) (slot : FileSlot) → n < length written → row_of (set written n slot) room ≡ set
+    (row_of written room) n slot
+row_of-set written room n slot within =
+    ap (λ (k : ℕ). set written n slot ++ replicate (room - k) free_slot) (length-set written n slot)
+    ∙ sym (set-append_left written (replicate (room - length written) free_slot) n slot within)
+
+-- the rows from the second on
+rest_whole : (row : List FileSlot) (rows : List (List FileSlot)) → All IsWholeRow (row ∷ rows) → All IsWholeRow rows
+rest_whole row rows whole = λ k d within. whole (suc k) d (omega arith)
+
+first_whole : (row : List FileSlot) (rows : List (List FileSlot)) → All IsWholeRow (row ∷ rows) → length row ≡ 1024
+first_whole row rows whole = whole zero row (omega arith)
+
+pub length-slots_in : (rows : List (List FileSlot)) → All IsWholeRow rows → length (slots_in rows) ≡ 1024 * length rows
+length-slots_in [] whole = refl
+length-slots_in (row ∷ rows) whole = omega (
+  arith,
+  length-append row (slots_in rows),
+  first_whole row rows whole,
+  length-slots_in rows (rest_whole row rows whole),
+)
+
+get_or-slots_in : (rows : List (List FileSlot)) (c n : ℕ) (d : List FileSlot) → All IsWholeRow rows → c < length rows → n < 1024 →
+    get_or (slots_in rows) (1024 * c + n) free_slot ≡ get_or (get_or rows c d) n free_slot
+get_or-slots_in [] c n d whole within small = absurd (omega arith)
+get_or-slots_in (row ∷ rows) zero n d whole within small =
+    let place : 1024 * zero + n ≡ n = omega arith in
+    ap (λ (i : ℕ). get_or (row ++ slots_in rows) i free_slot) place
+    ∙ get_or_append_left row (slots_in rows) free_slot n (omega (arith, first_whole row rows whole))
+get_or-slots_in (row ∷ rows) (suc c) n d whole within small =
+    let place : 1024 * suc c + n ≡ length row + (1024 * c + n) = omega (arith, first_whole row rows whole) in
+    ap (λ (i : ℕ). get_or (row ++ slots_in rows) i free_slot) place
+    ∙ get_or-append-add row (slots_in rows) (1024 * c + n) free_slot
+    ∙ get_or-slots_in rows c n d (rest_whole row rows whole) (omega arith) small
+
+pub slot_in_row : (rows : List (List FileSlot)) (c n : ℕ) (d : List FileSlot) → All IsWholeRow rows → c < length rows →
+    get_or (get_or rows c d) n free_slot ≡ cond (ltb n 1024) (get_or (slots_in rows) (1024 * c + n) free_slot) free_slot
+slot_in_row rows c n d whole within =
+    elim (cases_lt n 1024) [
+      | inl below ↦ rw (lt-ltb n 1024 below) (sym (get_or-slots_in rows c n d whole within below))
+      | inr above ↦
+          let past : length (get_or rows c d) ≤ n = omega (arith, whole c d within) in
+          rw (le-ltb n 1024 above) (get_or_past (get_or rows c d) n free_slot past)
+    ]
+
+pub slots_in-set : (rows : List (List FileSlot)) (c n : ℕ) (slot : FileSlot) (d : List FileSlot) → All IsWholeRow rows →
+    c < length rows → n < 1024 → slots_in (set rows c (set (get_or rows c d) n slot)) ≡ set (slots_in rows) (1024 * c + n) slot
+slots_in-set [] c n slot d whole within small = absurd (omega arith)
+slots_in-set (row ∷ rows) zero n slot d whole within small =
+    let place : 1024 * zero + n ≡ n = omega arith in
+    sym (ap (λ (i : ℕ). set (row ++ slots_in rows) i slot) place
+    ∙ set-append_left row (slots_in rows) n slot (omega (arith, first_whole row rows whole)))
+slots_in-set (row ∷ rows) (suc c) n slot d whole within small =
+    let behind : length row ≤ 1024 * suc c + n = omega (arith, first_whole row rows whole) in
+    let place : 1024 * suc c + n - length row ≡ 1024 * c + n = omega (arith, first_whole row rows whole) in
+    ap (λ (slots : List FileSlot). row ++ slots)
+    (slots_in-set rows c n slot d (rest_whole row rows whole) (omega arith) small)
+    ∙ ap (λ (i : ℕ). row ++ set (slots_in rows) i slot) (sym place)
+    ∙ sym (set-append_right row (slots_in rows) (length row) (1024 * suc c + n) slot refl behind)
+
+pub whole-set : (rows : List (List FileSlot)) (c n : ℕ) (slot : FileSlot) (d : List FileSlot) → All IsWholeRow rows →
+    c < length rows → All IsWholeRow (set rows c (set (get_or rows c d) n slot))
+whole-set rows c n slot d whole within =
+    let row = set (get_or rows c d) n slot in
+    let changed : length row ≡ 1024 = length-set (get_or rows c d) n slot ∙ whole c d within in
+    λ k e inside.
+    elim (cases_eq k c) [
+      | inl same ↦ ap (λ (i : ℕ). length (get_or (set rows c row) i e)) same ∙ ap length (get_or-set_same rows c row e within) ∙ changed
+      | inr other ↦
+          ap length (get_or-set_other rows c k row e other) ∙ whole k e (omega (arith, length-set rows c row))
+    ]
+
+-- rows in which no file is
+pub slots_in-free : (count room : ℕ) → slots_in (replicate count (replicate room free_slot)) ≡ replicate (room * count) free_slot
+slots_in-free zero room = ap (λ (n : ℕ). replicate n free_slot) (let e : 0 ≡ room * 0 = omega arith in e)
+slots_in-free (suc count) room =
+    ap (λ (slots : List FileSlot). replicate room free_slot ++ slots) (slots_in-free count room)
+    ∙ replicate-append-replicate room (room * count) free_slot
+    ∙ ap (λ (n : ℕ). replicate n free_slot) (let e : room + room * count ≡ room * suc count = omega (arith, mul-suc room count) in e)
