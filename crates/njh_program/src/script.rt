@@ -8,6 +8,7 @@ ghost use Rattle.njh_program.specs.ScriptRoutes.{IsNamedIn};
 use crate::cutting::first_line;
 use crate::fault::ReplayFault;
 use crate::line::event_of;
+use crate::start::{Start, start_of};
 use njh_hub::{Event, HubFault};
 use njh_table::Tables;
 use std::alloc::{AllocError, Global};
@@ -28,10 +29,12 @@ pub fn events_of(alloc: Global, tables: &Tables, text: &[u8]) -> Result<Vec<Even
     let mut events = Vec::new(alloc);
     let mut number = 0;
     let mut rest = text;
+    let mut start = None;
     'lines: loop {
         let (line, behind) = first_line(rest);
         number += 1;
-        if !add_event(alloc, tables, line, &mut events)? {
+        start = start_of(tables, line, start);
+        if !add_event(alloc, tables, line, start, &mut events)? {
             return Err(ReplayFault::Script { line: number });
         }
         match behind {
@@ -47,6 +50,7 @@ fn add_event(
     alloc: Global,
     tables: &Tables,
     line: &[u8],
+    start: Option<Start<'_>>,
     events: &mut Vec<Event>,
 ) -> Result<bool, AllocError>
     ensures stands { IfOk result (λ stands. stands ≡ can_stand tables.now line.now) }
@@ -57,7 +61,7 @@ fn add_event(
     if is_skipped(line) {
         return Ok(true);
     }
-    match event_of(alloc, tables, line)? {
+    match event_of(alloc, tables, line, start)? {
         Some(event) => {
             events.push(event)?;
             Ok(true)
