@@ -5,6 +5,7 @@ ghost use Rattle.njh_table.specs.TableFile.{owner_of};
 ghost use Rattle.njh_hub.specs.Own.{line_of};
 ghost use Rattle.njh_program.specs.Script.{bytes_on, event_of, event_of_words, event_on_line, piece_of, signal_of, words_of};
 ghost use Rattle.njh_program.specs.ScriptRoutes.{IsNamedIn};
+ghost use Rattle.njh_program.specs.Starts.{Begins, IsStart};
 
 use crate::script_routes::routes_event;
 use crate::start::Start;
@@ -21,28 +22,33 @@ pub fn event_of(
     line: &[u8],
     start: Option<Start<'_>>,
 ) -> Result<Option<Event>, AllocError>
-    requires start { IfSome start (λ s. IsStart tables.now s.front.now s.line) }
-    requires begins { IfSome start (λ s. Begins s.front.now line.now) }
+    requires start { IfSome start (λ start. IsStart tables.now start.front.now start.line) }
+    requires begins { IfSome start (λ start. Begins start.front.now line.now) }
     ensures event { IfOk result (λ event. event ≡ event_of tables.now line.now) }
     ensures named { IfOk result (λ event. IfSome event (IsNamedIn tables.now)) }
 {
-    match plain_event(alloc, line, start)? {
+    let Some(start) = start else {
+        return any_event(alloc, tables, line);
+    };
+    match plain_event(alloc, tables, line, start)? {
         Some(event) => Ok(Some(event)),
         None => any_event(alloc, tables, line),
     }
 }
 
-/// The event of a line of `BYTES` that stands as it should.
+/// The event of a line of `BYTES` that stands as it should and begins so.
 /// Where there is none the line is looked at again, whole.
 fn plain_event(
     alloc: Global,
+    tables: &Tables,
     line: &[u8],
-    start: Option<Start<'_>>,
+    start: Start<'_>,
 ) -> Result<Option<Event>, AllocError>
+    requires start { IsStart tables.now start.front.now start.line }
+    requires begins { Begins start.front.now line.now }
+    ensures event { IfOk result (λ event. IfSome event (λ e. event_of tables.now line.now ≡ Some e)) }
+    ensures named { IfOk result (λ event. IfSome event (IsNamedIn tables.now)) }
 {
-    let Some(start) = start else {
-        return Ok(None);
-    };
     let (_, digits) = line.split_at(start.front.len());
     match piece_of(alloc, digits)? {
         Some(piece) => Ok(Some(Event::Bytes(start.line, piece))),

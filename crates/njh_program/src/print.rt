@@ -1,6 +1,6 @@
 //! What is printed.
 
-ghost use Rattle.std.specs.Prelude.{◌≡◌, ◌≤◌, length, OnOk, OnErr};
+ghost use Rattle.std.specs.Prelude.{◌≡◌, ◌+◌, ◌*◌, length, OnOk, OnErr};
 ghost use Rattle.std.specs.Io.KnownBytes.{Appends};
 ghost use Rattle.hex.specs.Hex.{encode_lower};
 ghost use Rattle.njh_program.specs.Printed.{frame_text, AppendsBeginning};
@@ -24,16 +24,16 @@ pub struct FrameRoom {
     text: [u8; LINE],
 }
 
-/// A device didn't take all that was written.
-#[derive(Clone, Copy, Debug, PartialEq, Eq)]
-pub struct WriteFault;
-
 impl FrameRoom {
     /// Room that nothing was printed in.
     pub fn new() -> FrameRoom {
         FrameRoom { text: [0; LINE] }
     }
 }
+
+/// A device didn't take all that was written.
+#[derive(Clone, Copy, Debug)]
+pub struct WriteFault;
 
 /// Prints a frame that goes out on a line of this name, by one write where it has the room. It takes no memory. After a fault
 /// a beginning of it was printed.
@@ -57,15 +57,16 @@ pub fn print_frame<W: Write>(
 
 /// Puts the text of a frame into room of its length.
 fn put_frame(name: &[u8], frame: &[u8], text: &mut [u8])
-    requires { length text.old ≡ length (frame_text name.now frame.now) }
+    requires { length text.old ≡ length name.now + 1 + 2 * length frame.now + 1 }
     ensures { text.new ≡ frame_text name.now frame.now }
 {
-    let digits = name.len() + 1;
-    let end = digits + 2 * frame.len();
-    text[..name.len()].copy_from_slice(name);
-    text[name.len()] = b' ';
-    hex::encode_to_slice(frame, &mut text[digits..end]).unwrap();
-    text[end] = b'\n';
+    let (front, rest) = text.split_at_mut(name.len());
+    front.copy_from_slice(name);
+    let (blank, rest) = rest.split_at_mut(1);
+    blank.copy_from_slice(b" ");
+    let (digits, end) = rest.split_at_mut(2 * frame.len());
+    hex::encode_to_slice(frame, digits).unwrap();
+    end.copy_from_slice(b"\n");
 }
 
 /// The same as `print_frame`, part by part.
@@ -110,21 +111,15 @@ pub fn write_bytes<W: Write>(out: &mut W, bytes: &[u8]) -> Result<(), WriteFault
         if rest.is_empty() {
             return Ok(());
         }
-        let (_, after) = rest.split_at(write_some(out, rest)?);
-        rest = after;
+        match out.write(rest) {
+            Ok(0) => return Err(WriteFault),
+            Ok(count) => {
+                let (_, after) = rest.split_at(count);
+                rest = after;
+            }
+            Err(error) if error.kind() == ErrorKind::Interrupted => {}
+            Err(_) => return Err(WriteFault),
+        }
     }
     Err(WriteFault)
-}
-
-/// Writes some of the bytes by one write, and says how many: none where it was interrupted.
-fn write_some<W: Write>(out: &mut W, bytes: &[u8]) -> Result<usize, WriteFault>
-    ensures ok { IfOk result (λ count. (count ≤ length bytes.now) × Appends (W.contents out.old) (W.contents out.new) (take count bytes.now)) }
-    ensures err { OnErr result (Keeps (W.contents out.old) (W.contents out.new)) }
-{
-    match out.write(bytes) {
-        Ok(0) => Err(WriteFault),
-        Ok(count) => Ok(count),
-        Err(error) if error.kind() == ErrorKind::Interrupted => Ok(0),
-        Err(_) => Err(WriteFault),
-    }
 }

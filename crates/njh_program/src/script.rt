@@ -1,9 +1,10 @@
 //! The events of a script.
 
-ghost use Rattle.std.specs.Prelude.{◌≡◌, ℕ, ◌≤◌, ◌⊎◌, ◌++◌, [], length, All, IfOk, IfErr, OnOk};
+ghost use Rattle.std.specs.Prelude.{◌≡◌, ℕ, ◌≤◌, ◌⊎◌, ◌++◌, [], length, All, IfOk, IfErr, IfSome, OnOk};
 ghost use Rattle.std.specs.List.{cons_option};
 ghost use Rattle.njh_program.specs.Script.{can_stand, event_in, is_skipped, script_of};
 ghost use Rattle.njh_program.specs.ScriptRoutes.{IsNamedIn};
+ghost use Rattle.njh_program.specs.Starts.{Begins, IsStart};
 
 use crate::cutting::first_line;
 use crate::fault::ReplayFault;
@@ -53,6 +54,8 @@ fn add_event(
     start: Option<Start<'_>>,
     events: &mut Vec<Event>,
 ) -> Result<bool, AllocError>
+    requires start { IfSome start (λ start. IsStart tables.now start.front.now start.line) }
+    requires begins { IfSome start (λ start. Begins start.front.now line.now) }
     ensures stands { IfOk result (λ stands. stands ≡ can_stand tables.now line.now) }
     ensures added { OnOk result (events.new.items
         ≡ events.old.items ++ cons_option (event_in tables.now line.now) []) }
