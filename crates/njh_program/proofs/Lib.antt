@@ -8,3 +8,4 @@ mod PlainLines
 mod PrintedParts
 mod Printing
 mod ReplayLaws
+mod StartLaws

@@ -1,21 +1,19 @@
--- A line of `BYTES` by its bytes: where the name is text and the digits are such, the line is text, and these are its words.
-use Rattle.std.proofs.Common.{◌≡◌, ℕ, ◌+◌, ◌<◌, eqb, true, codes, List, [], ◌∷◌, ◌++◌, length, get_or, take, drop, Some, None, option_and_then}
-use Rattle.std.proofs.Common.{Result, Ok, Err, refl, sym, ap, subst, ◌∙◌, arith, lit<}
-use Rattle.std.specs.List.{position_or_len, before_first, after_first}
+-- A line of `BYTES` by its bytes: where it begins as it should and the digits are such, it is text, and has this event.
+use Rattle.std.proofs.Common.{◌≡◌, ℕ, ◌<◌, true, codes, List, [], ◌∷◌, ◌++◌, get_or, Some, None, option_and_then}
+use Rattle.std.proofs.Common.{Result, Ok, Err, refl, sym, ap, subst, ◌∙◌, append_assoc, arith, lit<}
 use Rattle.std.specs.Option.{option_map}
 use Rattle.std.specs.Str.{IsUtf8, IsAscii, is_utf8}
-use Rattle.std.proofs.lemmas.Bool.{cond-true, eqb-true, false_from_ne_true}
-use Rattle.std.proofs.lemmas.List.Splits.{slice_split_first}
-use Rattle.std.proofs.lemmas.List.Sums.{passes_at_first, position_or_len_is, split_at_first}
+use Rattle.std.proofs.lemmas.Bool.{cond-true}
+use Rattle.std.proofs.lemmas.List.Splits.{slice_split_at}
 use Rattle.std.proofs.lemmas.Str.{IsUtf8-append, IsUtf8-from_ascii, is_utf8-from_IsUtf8}
 use Rattle.std.proofs.lemmas.Str.Ascii.{IsAscii-nil, IsAscii-cons, IsAscii-from_all}
 use Rattle.hex.specs.Hex.{decode_of, is_hex_digit}
 use Rattle.hex.specs.declared.error.FromHexError.{FromHexError}
 use Rattle.hex.proofs.HexLemmas.{decode_of-ok}
-use Rattle.memchr.specs.Find.{IsFirstByte, is_byte}
 use Rattle.njh_table.specs.declared.LineId.{LineId}
 use Rattle.njh_table.specs.TableFile.{TableFile, owner_of}
 use Rattle.njh_hub.specs.declared.event.Event.TheVariants.{Bytes}
+use Rattle.njh_program.specs.Starts.{IsStart}
 use Rattle.njh_program.specs.Script.{words_of, event_of, event_of_words, event_on_line, bytes_on, piece_of, some_bytes}
 use Rattle.njh_program.proofs.LineForms.{is_blank, digits_event}
 
@@ -59,32 +57,24 @@ piece_event : (digits piece : List ℕ) (found : LineId) → piece_of digits ≡
     → bytes_on (codes "BYTES") digits found ≡ Some (Bytes found piece)
 piece_event digits piece found read = ap (option_map (λ p. Bytes found p)) read
 
-pub plain_line : (tables : TableFile) (line rest name digits : List ℕ) (len : ℕ) (found : LineId) (piece : List ℕ)
-    → line ≡ 66 ∷ 89 ∷ 84 ∷ 69 ∷ 83 ∷ 32 ∷ rest → IsFirstByte (is_byte 32) rest (Some len)
-    → name ≡ take len rest → digits ≡ drop (len + 1) rest → IsUtf8 name
-    → Some found ≡ owner_of tables name → piece_of digits ≡ Some piece → event_of tables line ≡ Some (Bytes found piece)
+-- a line that begins so, and goes on with digits
+pub plain_line : (tables : TableFile) (front digits : List ℕ) (found : LineId) (piece : List ℕ)
+    → IsStart tables front found → piece_of digits ≡ Some piece → event_of tables (front ++ digits) ≡ Some (Bytes found piece)
 unfolding event_of
-plain_line tables line rest name digits len found piece begins first named spelled text owned read =
-    let before = first.0 in
-    let place : position_or_len is_blank rest ≡ len = position_or_len_is is_blank rest len 0 (omega (arith, before.high))
-    (λ k below. false_from_ne_true (eqb (get_or rest k 0) 32) (before.before k (omega arith) below)) (λ within. first.1) in
-    let below : position_or_len is_blank rest < length rest = omega (arith, place, before.high) in
-    let blank : get_or rest (position_or_len is_blank rest) 0 ≡ 32 = eqb-true _ 32 (passes_at_first is_blank rest 0 below) in
-    let front : before_first is_blank rest ≡ name = ap (λ n. take n rest) place ∙ sym named in
-    let behind : after_first is_blank rest ≡ digits = ap (λ n. drop (n + 1) rest) place ∙ sym spelled in
-    let words : words_of rest ≡ name ∷ words_of digits = slice_split_first is_blank rest 0 below
-    ∙ (ap (λ (n : List ℕ). n ∷ words_of (after_first is_blank rest)) front ∙ ap (λ (d : List ℕ). name ∷ words_of d) behind) in
-    let whole : rest ≡ name ++ (32 ∷ digits) = split_at_first is_blank rest 0 below
-    ∙ (ap (λ (n : List ℕ). n ++ (get_or rest (position_or_len is_blank rest) 0 ∷ after_first is_blank rest)) front
-    ∙ (ap (λ (b : ℕ). name ++ (b ∷ after_first is_blank rest)) blank ∙ ap (λ (d : List ℕ). name ++ (32 ∷ d)) behind)) in
+plain_line tables front digits found piece start read =
+    let name = start.name in
+    let line = front ++ digits in
+    let rest = name ++ (32 ∷ digits) in
+    let begins : line ≡ 66 ∷ 89 ∷ 84 ∷ 69 ∷ 83 ∷ 32 ∷ rest = ap (λ (f : List ℕ). f ++ digits) start.spelled
+    ∙ ap (λ (r : List ℕ). 66 ∷ 89 ∷ 84 ∷ 69 ∷ 83 ∷ 32 ∷ r) (append_assoc name (32 ∷ []) digits) in
+    let words : words_of rest ≡ name ∷ words_of digits = slice_split_at is_blank name 32 digits start.word refl in
     let as_text : is_utf8 line ≡ true = is_utf8-from_IsUtf8 line
-    (subst IsUtf8 (sym (begins ∙ ap (λ (r : List ℕ). 66 ∷ 89 ∷ 84 ∷ 69 ∷ 83 ∷ 32 ∷ r) whole))
-    (line_text name digits text (digits_ascii digits piece read))) in
+    (subst IsUtf8 (sym begins) (line_text name digits start.text (digits_ascii digits piece read))) in
     cond-true (is_utf8 line) (event_of_words tables (words_of line)) None as_text
     ∙ (ap (λ (l : List ℕ). event_of_words tables (words_of l)) begins
     ∙ (ap (event_of_words tables) (line_words rest)
     ∙ (words_event tables (words_of rest)
     ∙ (ap (λ (ws : List (List ℕ)). event_on_line (owner_of tables) (codes "BYTES" ∷ ws)) words
     ∙ (digits_event (owner_of tables) (codes "BYTES") name digits
-    ∙ (ap (option_and_then (bytes_on (codes "BYTES") digits)) (sym owned)
+    ∙ (ap (option_and_then (bytes_on (codes "BYTES") digits)) start.owner
     ∙ piece_event digits piece found read))))))

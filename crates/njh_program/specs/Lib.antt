@@ -7,5 +7,6 @@ pub mod Replayed
 pub mod Script
 pub mod ScriptRoutes
 pub mod Found
+pub mod Starts
 pub mod Status
 pub mod TableBytes

@@ -9,13 +9,12 @@ ghost use Rattle.njh_program.specs.Printed.{file_text, files_from, files_text, A
 ghost use Rattle.njh_program.specs.Replayed.{IsRefusal, MayEnd};
 
 use crate::fault::ReplayFault;
-use crate::print::write_bytes;
+use crate::print::{WriteFault, write_bytes};
 use arrayvec::ArrayVec;
 use njh_ebcdic::{Name, text_of};
 use njh_hub::{FileView, Hub, HubFault};
 use njh_table::Tables;
 use std::alloc::{AllocError, Global};
-use std::io;
 use std::io::Write;
 
 /// Room for a file's line: at most 8 bytes of its customer's name, a blank, at most 148 of what is said of it, and the line's end.
@@ -75,7 +74,7 @@ fn print_customer<W: Write>(
 }
 
 /// Prints files of a customer of this name. After a fault a beginning of them was printed.
-fn print_each<W: Write>(files: &[FileView], name: Name, out: &mut W) -> io::Result<()>
+fn print_each<W: Write>(files: &[FileView], name: Name, out: &mut W) -> Result<(), WriteFault>
     ensures ok { OnOk result (Appends (W.contents out.old) (W.contents out.new) (files_text name files.now)) }
     ensures err { OnErr result (AppendsBeginning (W.contents out.old) (W.contents out.new) (files_text name files.now)) }
 {

@@ -16,6 +16,7 @@ mod program;
 mod replaying;
 mod script;
 mod script_routes;
+mod start;
 mod table_file;
 
 pub use arguments::{Request, request_of};

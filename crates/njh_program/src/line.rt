@@ -5,59 +5,54 @@ ghost use Rattle.njh_table.specs.TableFile.{owner_of};
 ghost use Rattle.njh_hub.specs.Own.{line_of};
 ghost use Rattle.njh_program.specs.Script.{bytes_on, event_of, event_of_words, event_on_line, piece_of, signal_of, words_of};
 ghost use Rattle.njh_program.specs.ScriptRoutes.{IsNamedIn};
+ghost use Rattle.njh_program.specs.Starts.{Begins, IsStart};
 
 use crate::script_routes::routes_event;
+use crate::start::Start;
 use hex::FromHexError;
-use memchr::memchr;
 use njh_hub::{Event, Piece, SHORT_PIECE};
 use njh_table::{LineId, Tables};
 use std::alloc::{AllocError, Global};
 
 /// The event of a line, if it has one; it names what the tables have. Out of memory is the only refusal.
 #[tactic(auto, unfolding(crate::specs::Script::event_of))]
-pub fn event_of(alloc: Global, tables: &Tables, line: &[u8]) -> Result<Option<Event>, AllocError>
+pub fn event_of(
+    alloc: Global,
+    tables: &Tables,
+    line: &[u8],
+    start: Option<Start<'_>>,
+) -> Result<Option<Event>, AllocError>
+    requires start { IfSome start (λ start. IsStart tables.now start.front.now start.line) }
+    requires begins { IfSome start (λ start. Begins start.front.now line.now) }
     ensures event { IfOk result (λ event. event ≡ event_of tables.now line.now) }
     ensures named { IfOk result (λ event. IfSome event (IsNamedIn tables.now)) }
 {
-    match plain_event(alloc, tables, line)? {
+    let Some(start) = start else {
+        return any_event(alloc, tables, line);
+    };
+    match plain_event(alloc, tables, line, start)? {
         Some(event) => Ok(Some(event)),
         None => any_event(alloc, tables, line),
     }
 }
 
-/// The event of a line of `BYTES` that stands as it should, of whose bytes the name alone is looked at as text.
+/// The event of a line of `BYTES` that stands as it should and begins so.
 /// Where there is none the line is looked at again, whole.
-fn plain_event(alloc: Global, tables: &Tables, line: &[u8]) -> Result<Option<Event>, AllocError>
+fn plain_event(
+    alloc: Global,
+    tables: &Tables,
+    line: &[u8],
+    start: Start<'_>,
+) -> Result<Option<Event>, AllocError>
+    requires start { IsStart tables.now start.front.now start.line }
+    requires begins { Begins start.front.now line.now }
     ensures event { IfOk result (λ event. IfSome event (λ e. event_of tables.now line.now ≡ Some e)) }
     ensures named { IfOk result (λ event. IfSome event (IsNamedIn tables.now)) }
 {
-    let Some(rest) = behind_word(line) else {
-        return Ok(None);
-    };
-    let Some(len) = memchr(b' ', rest) else {
-        return Ok(None);
-    };
-    let (name, _) = rest.split_at(len);
-    let (_, digits) = rest.split_at(len + 1);
-    let Ok(name) = str::from_utf8(name) else {
-        return Ok(None);
-    };
-    let Some(line) = tables.line_owner(name) else {
-        return Ok(None);
-    };
+    let (_, digits) = line.split_at(start.front.len());
     match piece_of(alloc, digits)? {
-        Some(piece) => Ok(Some(Event::Bytes(line, piece))),
+        Some(piece) => Ok(Some(Event::Bytes(start.line, piece))),
         None => Ok(None),
-    }
-}
-
-/// What stands behind the word `BYTES` and a blank.
-fn behind_word(line: &[u8]) -> Option<&[u8]>
-    ensures { IfSome result (λ rest. line.now ≡ 66 ∷ 89 ∷ 84 ∷ 69 ∷ 83 ∷ 32 ∷ rest.now) }
-{
-    match line {
-        [b'B', b'Y', b'T', b'E', b'S', b' ', rest @ ..] => Some(rest),
-        _ => None,
     }
 }
 

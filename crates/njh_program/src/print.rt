@@ -1,12 +1,10 @@
 //! What is printed.
 
-ghost use Rattle.std.specs.Prelude.{◌≡◌, ◌≤◌, length, OnOk, OnErr};
+ghost use Rattle.std.specs.Prelude.{◌≡◌, ◌+◌, ◌*◌, length, OnOk, OnErr};
 ghost use Rattle.std.specs.Io.KnownBytes.{Appends};
 ghost use Rattle.hex.specs.Hex.{encode_lower};
 ghost use Rattle.njh_program.specs.Printed.{frame_text, AppendsBeginning};
 
-use arrayvec::ArrayVec;
-use std::io;
 use std::io::{ErrorKind, Write};
 
 /// How many bytes become hex at once, and how many digits they are.
@@ -23,19 +21,19 @@ const LINE: usize = NAME + DIGITS + 2;
 /// Room for the text of a frame. It is kept from frame to frame, since making it clears it.
 #[derive(Drop)]
 pub struct FrameRoom {
-    digits: [u8; DIGITS],
-    line: ArrayVec<u8, LINE>,
+    text: [u8; LINE],
 }
 
 impl FrameRoom {
     /// Room that nothing was printed in.
     pub fn new() -> FrameRoom {
-        FrameRoom {
-            digits: [0; DIGITS],
-            line: ArrayVec::new(),
-        }
+        FrameRoom { text: [0; LINE] }
     }
 }
+
+/// A device didn't take all that was written.
+#[derive(Clone, Copy, Debug)]
+pub struct WriteFault;
 
 /// Prints a frame that goes out on a line of this name, by one write where it has the room. It takes no memory. After a fault
 /// a beginning of it was printed.
@@ -44,30 +42,31 @@ pub fn print_frame<W: Write>(
     name: &str,
     frame: &[u8],
     room: &mut FrameRoom,
-) -> io::Result<()>
+) -> Result<(), WriteFault>
     ensures ok { OnOk result (Appends (W.contents out.old) (W.contents out.new) (frame_text name.now frame.now)) }
     ensures err { OnErr result (AppendsBeginning (W.contents out.old) (W.contents out.new) (frame_text name.now frame.now)) }
 {
     if name.len() <= NAME && frame.len() <= PIECE {
-        put_frame(name.as_bytes(), frame, &mut room.digits, &mut room.line);
-        return write_bytes(out, &room.line);
+        let len = name.len() + 1 + 2 * frame.len() + 1;
+        let text = &mut room.text[..len];
+        put_frame(name.as_bytes(), frame, text);
+        return write_bytes(out, text);
     }
-    print_parts(out, name, frame, &mut room.digits)
+    print_parts(out, name, frame, &mut room.text)
 }
 
-/// Puts the text of a frame in place of what the line held.
-fn put_frame(name: &[u8], frame: &[u8], digits: &mut [u8; DIGITS], line: &mut ArrayVec<u8, LINE>)
-    requires name { length name.now ≤ NAME }
-    requires frame { length frame.now ≤ PIECE }
-    ensures { line.new.items ≡ frame_text name.now frame.now }
+/// Puts the text of a frame into room of its length.
+fn put_frame(name: &[u8], frame: &[u8], text: &mut [u8])
+    requires { length text.old ≡ length name.now + 1 + 2 * length frame.now + 1 }
+    ensures { text.new ≡ frame_text name.now frame.now }
 {
-    let text = &mut digits[..2 * frame.len()];
-    hex::encode_to_slice(frame, text).unwrap();
-    line.clear();
-    line.try_extend_from_slice(name).unwrap();
-    line.push(b' ');
-    line.try_extend_from_slice(text).unwrap();
-    line.push(b'\n');
+    let (front, rest) = text.split_at_mut(name.len());
+    front.copy_from_slice(name);
+    let (blank, rest) = rest.split_at_mut(1);
+    blank.copy_from_slice(b" ");
+    let (digits, end) = rest.split_at_mut(2 * frame.len());
+    hex::encode_to_slice(frame, digits).unwrap();
+    end.copy_from_slice(b"\n");
 }
 
 /// The same as `print_frame`, part by part.
@@ -75,8 +74,8 @@ fn print_parts<W: Write>(
     out: &mut W,
     name: &str,
     frame: &[u8],
-    digits: &mut [u8; DIGITS],
-) -> io::Result<()>
+    digits: &mut [u8; LINE],
+) -> Result<(), WriteFault>
     ensures ok { OnOk result (Appends (W.contents out.old) (W.contents out.new) (frame_text name.now frame.now)) }
     ensures err { OnErr result (AppendsBeginning (W.contents out.old) (W.contents out.new) (frame_text name.now frame.now)) }
 {
@@ -87,7 +86,7 @@ fn print_parts<W: Write>(
 }
 
 /// Prints bytes in lower-case hex. After a fault a beginning of it was printed.
-fn print_hex<W: Write>(out: &mut W, bytes: &[u8], digits: &mut [u8; DIGITS]) -> io::Result<()>
+fn print_hex<W: Write>(out: &mut W, bytes: &[u8], digits: &mut [u8; LINE]) -> Result<(), WriteFault>
     ensures ok { OnOk result (Appends (W.contents out.old) (W.contents out.new) (encode_lower bytes.now)) }
     ensures err { OnErr result (AppendsBeginning (W.contents out.old) (W.contents out.new) (encode_lower bytes.now)) }
 {
@@ -103,7 +102,7 @@ fn print_hex<W: Write>(out: &mut W, bytes: &[u8], digits: &mut [u8; DIGITS]) -> 
 }
 
 /// Writes all of the bytes. After a fault a beginning of them was written.
-pub fn write_bytes<W: Write>(out: &mut W, bytes: &[u8]) -> io::Result<()>
+pub fn write_bytes<W: Write>(out: &mut W, bytes: &[u8]) -> Result<(), WriteFault>
     ensures ok { OnOk result (Appends (W.contents out.old) (W.contents out.new) bytes.now) }
     ensures err { OnErr result (AppendsBeginning (W.contents out.old) (W.contents out.new) bytes.now) }
 {
@@ -113,14 +112,14 @@ pub fn write_bytes<W: Write>(out: &mut W, bytes: &[u8]) -> io::Result<()>
             return Ok(());
         }
         match out.write(rest) {
-            Ok(0) => return Err(io::Error::from(ErrorKind::WriteZero)),
+            Ok(0) => return Err(WriteFault),
             Ok(count) => {
                 let (_, after) = rest.split_at(count);
                 rest = after;
             }
             Err(error) if error.kind() == ErrorKind::Interrupted => {}
-            Err(error) => return Err(error),
+            Err(_) => return Err(WriteFault),
         }
     }
-    Err(io::Error::from(ErrorKind::WriteZero))
+    Err(WriteFault)
 }

@@ -1,13 +1,15 @@
 //! The events of a script.
 
-ghost use Rattle.std.specs.Prelude.{◌≡◌, ℕ, ◌≤◌, ◌⊎◌, ◌++◌, [], length, All, IfOk, IfErr, OnOk};
+ghost use Rattle.std.specs.Prelude.{◌≡◌, ℕ, ◌≤◌, ◌⊎◌, ◌++◌, [], length, All, IfOk, IfErr, IfSome, OnOk};
 ghost use Rattle.std.specs.List.{cons_option};
 ghost use Rattle.njh_program.specs.Script.{can_stand, event_in, is_skipped, script_of};
 ghost use Rattle.njh_program.specs.ScriptRoutes.{IsNamedIn};
+ghost use Rattle.njh_program.specs.Starts.{Begins, IsStart};
 
 use crate::cutting::first_line;
 use crate::fault::ReplayFault;
 use crate::line::event_of;
+use crate::start::{Start, start_of};
 use njh_hub::{Event, HubFault};
 use njh_table::Tables;
 use std::alloc::{AllocError, Global};
@@ -28,10 +30,12 @@ pub fn events_of(alloc: Global, tables: &Tables, text: &[u8]) -> Result<Vec<Even
     let mut events = Vec::new(alloc);
     let mut number = 0;
     let mut rest = text;
+    let mut start = None;
     'lines: loop {
         let (line, behind) = first_line(rest);
         number += 1;
-        if !add_event(alloc, tables, line, &mut events)? {
+        start = start_of(tables, line, start);
+        if !add_event(alloc, tables, line, start, &mut events)? {
             return Err(ReplayFault::Script { line: number });
         }
         match behind {
@@ -47,8 +51,11 @@ fn add_event(
     alloc: Global,
     tables: &Tables,
     line: &[u8],
+    start: Option<Start<'_>>,
     events: &mut Vec<Event>,
 ) -> Result<bool, AllocError>
+    requires start { IfSome start (λ start. IsStart tables.now start.front.now start.line) }
+    requires begins { IfSome start (λ start. Begins start.front.now line.now) }
     ensures stands { IfOk result (λ stands. stands ≡ can_stand tables.now line.now) }
     ensures added { OnOk result (events.new.items
         ≡ events.old.items ++ cons_option (event_in tables.now line.now) []) }
@@ -57,7 +64,7 @@ fn add_event(
     if is_skipped(line) {
         return Ok(true);
     }
-    match event_of(alloc, tables, line)? {
+    match event_of(alloc, tables, line, start)? {
         Some(event) => {
             events.push(event)?;
             Ok(true)

@@ -1,12 +1,12 @@
 use Rattle.std.proofs.Common.{◌≡◌, length}
-use Rattle.njh_program.specs.declared.print.TheConstants.{DIGITS}
+use Rattle.njh_program.specs.declared.print.TheConstants.{LINE}
 use Rattle.njh_program.proofs.Printing.{IsWrittenBut}
 use Rattle.njh_program.proofs.print.print_hex.Given as goal
 
 abbrev pub invariant-loop-rest : goal.invariant-loop-rest
 invariant-loop-rest g l = record {
   written : IsWrittenBut l.rest l.bytes (g.W.Write.contents l.fn.out) (g.W.Write.contents l.out);
-  room : length l.digits ≡ DIGITS;
+  room : length l.digits ≡ LINE;
 }
 
 abbrev pub decreases-loop-rest : goal.decreases-loop-rest

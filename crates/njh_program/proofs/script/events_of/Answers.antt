@@ -29,6 +29,7 @@ lines-preserved c =
           (Reads-more tables (lines_of c.args.text.now) c.lines.number _ _ line c.lines.invariant.reads next.within next.at good refl);
       named = search rules;
       left = next.left ∙ ap lines_behind c.in-Some.is;
+      start = c.start_of-start.ensures.start;
       few = omega arith;
     }
 

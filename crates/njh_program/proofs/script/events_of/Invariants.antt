@@ -1,7 +1,8 @@
 use Rattle.std.proofs.Common.{◌≡◌, ◌+◌, ◌≤◌, length, drop}
-use Rattle.std.specs.Prelude.{All}
+use Rattle.std.specs.Prelude.{All, IfSome}
 use Rattle.njh_program.specs.Script.{lines_of}
 use Rattle.njh_program.specs.ScriptRoutes.{IsNamedIn}
+use Rattle.njh_program.specs.Starts.{IsStart}
 use Rattle.njh_program.proofs.Lines.{Reads}
 use Rattle.njh_program.proofs.script.events_of.Given as goal
 
@@ -10,6 +11,7 @@ invariant-lines l = record {
   reads : Reads l.tables (lines_of l.text) l.number l.events.items;
   named : All (IsNamedIn l.tables) l.events.items;
   left : drop l.number (lines_of l.text) ≡ lines_of l.rest;
+  start : IfSome l.start (λ start. IsStart l.tables start.front.now start.line);
   few : l.number + length l.rest ≤ length l.text;
 }
 
