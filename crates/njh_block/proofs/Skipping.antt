@@ -1,10 +1,10 @@
 -- What follows a record, found without the record.
-use Rattle.std.proofs.Common.{◌≡◌, ℕ, ◌<◌, List, length, Option, Some, None, Result, Ok, Err, refl, sym, ◌∙◌, ap}
+use Rattle.std.proofs.Common.{◌≡◌, ℕ, ◌<◌, List, length, Option, Some, None, Result, Ok, Err, sym, ◌∙◌, ap}
 use Rattle.njh_record.specs.Unspelled.{Unspelled, Fault}
 use Rattle.njh_record.specs.Skipped.{behind}
 use Rattle.njh_block.specs.declared.fault.BlockFault.{BlockFault}
 use Rattle.njh_block.specs.declared.fault.BlockFault.TheVariants.{BadRecord}
-use Rattle.njh_block.specs.Blocks.{Item, First, record_of_spelling, first_record, items_in}
+use Rattle.njh_block.specs.Blocks.{First, record_of_spelling, first_record, items_in}
 use Rattle.njh_block.specs.Skipped.{rest_behind}
 use Rattle.njh_block.proofs.ReadingLaws.{items_from, items_in_step, Shorter, first_record-shorter, fault_in, fault_in-with_item}
 
@@ -40,21 +40,3 @@ fault_on (Err e) rest is = absurd cc
 pub behind-fault : (bytes rest : List ℕ) → Ok (Some rest) ≡ rest_behind (first_record bytes)
     → fault_in (items_in rest) ≡ fault_in (items_in bytes)
 behind-fault bytes rest is = sym (ap fault_in (items_in_step bytes) ∙ fault_on (first_record bytes) rest is)
-
-ends_whole : (found : Result (Option First) BlockFault) → Ok None ≡ rest_behind found → fault_in (items_from found items_in) ≡ None
-ends_whole (Ok None) is = refl
-ends_whole (Ok (Some x)) is = absurd cc
-ends_whole (Err e) is = absurd cc
-
--- where the block ends, no fault is left
-pub behind-none : (bytes : List ℕ) → Ok None ≡ rest_behind (first_record bytes) → fault_in (items_in bytes) ≡ None
-behind-none bytes is = ap fault_in (items_in_step bytes) ∙ ends_whole (first_record bytes) is
-
-ends_badly : (found : Result (Option First) BlockFault) (fault : BlockFault) → Err fault ≡ rest_behind found
-    → fault_in (items_from found items_in) ≡ Some fault
-ends_badly (Ok None) fault is = absurd cc
-ends_badly (Ok (Some x)) fault is = absurd cc
-ends_badly (Err e) fault is = let same : e ≡ fault = cc in ap Some same
-
-pub behind-err : (bytes : List ℕ) (fault : BlockFault) → Err fault ≡ rest_behind (first_record bytes) → fault_in (items_in bytes) ≡ Some fault
-behind-err bytes fault is = ap fault_in (items_in_step bytes) ∙ ends_badly (first_record bytes) fault is

@@ -105,7 +105,7 @@ pub(crate) fn check_records(bytes: &[u8]) -> Result<(), BlockFault>
     ensures { MatchResult result (λ _. IsOk (items_in bytes.now)) (λ e. items_in bytes.now ≡ Err e) }
 {
     match bytes {
-        // A block without records needs no room for one.
+        // A block without records is found at once.
         [END] => Ok(()),
         _ => check_each(bytes),
     }

@@ -8,10 +8,10 @@ pub loop-after-smaller : goal.loop-after-smaller
 loop-after-smaller c =
     let found : Ok (Some c.in-Some.after.now) ≡ rest_behind (first_record c.loop-after.rest.now)
     = rw (c.in_ok-after.was, c.in-Some.is) at c.skip_first.ensures in
-    behind-less _ _ found
+    behind-less c.loop-after.rest.now c.in-Some.after.now found
 
 pub loop-after-preserved : goal.loop-after-preserved
 loop-after-preserved c =
     let found : Ok (Some c.in-Some.after.now) ≡ rest_behind (first_record c.loop-after.rest.now)
     = rw (c.in_ok-after.was, c.in-Some.is) at c.skip_first.ensures in
-    behind-fault _ _ found ∙ c.loop-after.invariant
+    behind-fault c.loop-after.rest.now c.in-Some.after.now found ∙ c.loop-after.invariant
