@@ -3,6 +3,7 @@ pub mod Forms
 pub mod Unspelling
 pub mod ReadingLaws
 pub mod FirstLaws
+pub mod Skipping
 pub mod GeneralLaws
 pub mod EndLaws
 pub mod GrammarLaws

@@ -1,14 +1,15 @@
 //! Reading: the record at the front of some bytes.
 
-ghost use Rattle.std.specs.Prelude.{◌≡◌, ◌↔◌, [], Err, IsOk, IsTrue, MatchResult, None, Ok, option_map};
+ghost use Rattle.std.specs.Prelude.{◌≡◌, ◌↔◌, ℕ, [], Err, IsOk, IsTrue, MatchResult, None, Ok, option_map};
 ghost use Rattle.njh_block.specs.Blocks.{form_of, after_control, record_of_spelling, record_of_form, first_record, items_in};
 ghost use Rattle.njh_record.specs.Unspelled.{unspelled};
+ghost use Rattle.njh_block.specs.Skipped.{rest_shown, rest_behind};
 ghost use Rattle.njh_block.specs.Shown.{first_shown, general_at, contents_after};
 
 use crate::fault::BlockFault;
 use crate::item::Item;
 use crate::rcb::{END, Form, GENERAL, OWN_ZERO, Rcb};
-use njh_record::{End, Record, RecordFault, one_reading, reads_spellings, unspell};
+use njh_record::{End, Record, RecordFault, one_reading, reads_spellings, skip, unspell};
 
 /// A record, and the bytes behind it.
 type First<'a> = (Item<'a>, &'a [u8]);
@@ -104,7 +105,7 @@ pub(crate) fn check_records(bytes: &[u8]) -> Result<(), BlockFault>
     ensures { MatchResult result (λ _. IsOk (items_in bytes.now)) (λ e. items_in bytes.now ≡ Err e) }
 {
     match bytes {
-        // A block without records needs no room for one.
+        // A block without records is found at once.
         [END] => Ok(()),
         _ => check_each(bytes),
     }
@@ -114,12 +115,49 @@ pub(crate) fn check_records(bytes: &[u8]) -> Result<(), BlockFault>
 fn check_each(bytes: &[u8]) -> Result<(), BlockFault>
     ensures { MatchResult result (λ _. IsOk (items_in bytes.now)) (λ e. items_in bytes.now ≡ Err e) }
 {
-    let mut contents = Record::new();
     let mut rest = bytes;
-    while let Some((_, after)) = read_first(rest, &mut contents)? {
+    while let Some(after) = skip_first(rest)? {
         rest = after;
     }
     Ok(())
+}
+
+/// What follows the record at the front of the bytes behind a function control sequence; none where the block ends.
+fn skip_first(bytes: &[u8]) -> Result<Option<&[u8]>, BlockFault>
+    ensures { rest_shown result ≡ rest_behind (first_record bytes.now) }
+{
+    match bytes {
+        [] => Ok(None),
+        [rcb] => match (Rcb { byte: *rcb }).form() {
+            Form::End => Ok(None),
+            Form::Bad => Err(BlockFault::BadRcb),
+            _ => Err(BlockFault::BadRecord),
+        },
+        [rcb, _, rest @ ..] => skip_formed(Rcb { byte: *rcb }, rest),
+    }
+}
+
+/// The same, of a record by its RCB and what follows the byte behind it.
+fn skip_formed(rcb: Rcb, rest: &[u8]) -> Result<Option<&[u8]>, BlockFault>
+    ensures { (srcb : ℕ) → rest_shown result ≡ rest_behind (record_of_form (form_of rcb.byte) rcb.byte srcb rest.now) }
+{
+    match rcb.form() {
+        Form::End => Ok(None),
+        Form::Bad => Err(BlockFault::BadRcb),
+        Form::General => Ok(Some(&[][..])),
+        Form::Control(_) => Ok(Some(skip_own_zero(rest))),
+        Form::Spelled => skip_spelled(rest),
+    }
+}
+
+/// What follows the spelling at the front of the bytes.
+fn skip_spelled(bytes: &[u8]) -> Result<Option<&[u8]>, BlockFault>
+    ensures { (rcb srcb : ℕ) → rest_shown result ≡ rest_behind (record_of_spelling rcb srcb (unspelled bytes.now)) }
+{
+    match skip(bytes) {
+        Some(after) => Ok(Some(after)),
+        None => Err(BlockFault::BadRecord),
+    }
 }
 
 /// A general record at the front of the bytes: its SRCB, and the rest of the text.

@@ -7,3 +7,4 @@ pub mod AnswerLaws
 pub mod Runs
 pub mod WritingLaws
 mod Measured
+mod Skips

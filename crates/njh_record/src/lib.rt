@@ -15,7 +15,7 @@ pub use laws::{
     no_proper_prefix, one_answer, one_reading, one_spelling, reads_back, reads_spellings,
     rest_behind, spelling_bounds,
 };
-pub use reading::unspell;
+pub use reading::{skip, unspell};
 pub use scb::ABORT;
 use thiserror::Error;
 pub use writing::{add_spelling, spelled_len};

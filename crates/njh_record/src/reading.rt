@@ -1,8 +1,10 @@
 //! Reading: from a spelling to the record that it spells.
 
-ghost use Rattle.std.specs.Prelude.{◌≡◌, []};
+ghost use Rattle.std.specs.Prelude.{◌≡◌, [], option_map};
 ghost use Rattle.njh_record.specs.Parts.{Leads, kept_by};
 ghost use Rattle.njh_record.specs.Reading.{Unspells};
+ghost use Rattle.njh_record.specs.Unspelled.{unspelled};
+ghost use Rattle.njh_record.specs.Skipped.{behind};
 
 use crate::item::Item;
 use crate::scb::{ABORT, BLANKS, END_OF_RECORD, LITERAL, REPEAT};
@@ -89,4 +91,20 @@ pub fn unspell(bytes: &[u8], contents: &mut Record) -> Result<(usize, End), Reco
         contents.clear();
     }
     answer
+}
+
+/// What follows the spelling at the front of some bytes, if one stands there. It is not put together, and may be of any length.
+pub fn skip(bytes: &[u8]) -> Option<&[u8]>
+    ensures { option_map (λ rest. rest.now) result ≡ behind (unspelled bytes.now) }
+{
+    let mut rest = bytes;
+    loop {
+        let Ok((part, after)) = next_part(rest) else {
+            return None;
+        };
+        match part {
+            Part::Item(_) => rest = after,
+            Part::End(_) => return Some(after),
+        }
+    }
 }
