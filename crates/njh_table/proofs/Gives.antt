@@ -1,15 +1,18 @@
 -- What a part of the walk gives: a value of which something holds, or a fault that is the walk's own.
 use Rattle.std.proofs.Common.{◌≡◌, ℕ, ℤ, pos, negsuc, Bool, true, false, cond, nat_le, List, Option, Some, None, IfSome, option_and_then}
-use Rattle.std.proofs.Common.{ok_or, Ok, Err, MatchResult, refl, subst}
+use Rattle.std.proofs.Common.{◌≢◌, ◌==◌, option_map, ok_or, Ok, Err, MatchResult, refl, subst}
 use Rattle.std.specs.Prelude.{⊤}
-use Rattle.std.proofs.lemmas.Bool.{and_parts, leb-true}
+use Rattle.std.proofs.lemmas.Bool.{and_parts, leb-true, eqb-true, eqb-false}
+use Rattle.std.specs.declared.net.socket_addr.SocketAddr.{SocketAddr}
+use Rattle.std.specs.Net.Socket.{socket_port}
 use Rattle.toml.specs.Data.{Data, Members, get_member, as_integer, as_str, as_table}
 use Rattle.njh_ebcdic.specs.Names.{within}
 use Rattle.njh_table.specs.declared.fault.TableFault.{TableFault}
 use Rattle.njh_table.specs.declared.fault.TableFault.TheVariants.{BadToml, MissingKey, BadValue, Memory}
 use Rattle.njh_table.specs.Accepted.{IsBetween}
 use Rattle.njh_table.specs.Keys.{Walked, ◌>>=◌, ◌>>◌, fault_where, keys_in, at_key, value_or, at_key_or}
-use Rattle.njh_table.specs.Keys.{number_between, number, is_line_name, line_name_of, line_name}
+use Rattle.njh_table.specs.Keys.{number_between, number, is_line_name, line_name_of, line_name, peer_address, peer_of, peer}
+use Rattle.njh_table.specs.Addresses.{address_of}
 
 -- the text's own fault and want of memory are none of the walk's
 abbrev pub IsOfWalk : TableFault → Type 0
@@ -112,3 +115,32 @@ line_name-is value = by (as_str value)
     by : (text : Option (List ℕ)) → IfSome (option_and_then line_name_of text) (λ name. is_line_name name ≡ true)
     by None = tt
     by (Some text) = chosen (λ name. is_line_name name ≡ true) (is_line_name text) text (λ h. h)
+
+-- where the peer of a line with this port listens, if it does
+abbrev pub IsPeerOf : ℕ → Option SocketAddr → Type 0
+IsPeerOf port peer = IfSome peer (λ address. (port ≡ 0) × (socket_port address ≢ 0))
+
+not_chosen : {A : Type 0} (P : A → Type 0) (test : Bool) (x : A) → (test ≡ false → P x) → IfSome (cond test None (Some x)) P
+not_chosen P true x holds = tt
+not_chosen P false x holds = holds refl
+
+pub peer-is : (port : ℕ) (value : Data) → IfSome (peer port value) (IsPeerOf port)
+peer-is port value = by (as_str value)
+  where
+    at : (o : Option SocketAddr) → IfSome o (λ a. (port ≡ 0) × (socket_port a ≢ 0)) → IfSome (option_map Some o) (IsPeerOf port)
+    at None holds = tt
+    at (Some a) holds = holds
+
+    dials : (o : Option SocketAddr) → port ≡ 0 → IfSome (option_and_then peer_address o) (λ a. (port ≡ 0) × (socket_port a ≢ 0))
+    dials None zero = tt
+    dials (Some a) zero =
+        not_chosen (λ a. (port ≡ 0) × (socket_port a ≢ 0)) (socket_port a == 0) a (λ other. (zero, eqb-false (socket_port a) 0 other))
+
+    of_port : (test : Bool) (text : List ℕ) → (port == 0) ≡ test
+        → IfSome (cond test (option_and_then peer_address (address_of text)) None) (λ a. (port ≡ 0) × (socket_port a ≢ 0))
+    of_port true text is = dials (address_of text) (eqb-true port 0 is)
+    of_port false text is = tt
+
+    by : (text : Option (List ℕ)) → IfSome (option_map Some (option_and_then (peer_of port) text)) (IsPeerOf port)
+    by None = tt
+    by (Some text) = at (peer_of port text) (of_port (port == 0) text refl)

@@ -1,3 +1,4 @@
+pub mod AddressLaws
 pub mod BaseValue
 pub mod Distinct
 pub mod EntryLaws

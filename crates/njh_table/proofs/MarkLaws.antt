@@ -1,5 +1,5 @@
 -- The marks of lines: the tables with others are accepted as before, and of an entry the marks alone are changed.
-use Rattle.std.proofs.Common.{◌≡◌, ◌≢◌, ℕ, ◌<◌, ◌≤◌, Bool, false, length, List, map, get_or, set, All, ap, refl, subst, sym, ◌∙◌, ⊎_elim, arith}
+use Rattle.std.proofs.Common.{◌≡◌, ◌≢◌, ℕ, ◌<◌, ◌≤◌, Bool, false, length, map, get_or, set, All, ap, refl, subst, sym, ◌∙◌, ⊎_elim, arith}
 use Rattle.std.proofs.lemmas.Bool.{cases_lt}
 use Rattle.std.proofs.lemmas.List.{get_or_past, get_or-map, get_or-set_other, get_or-set_same, length-map, length-set, map-set}
 use Rattle.std.proofs.lemmas.List.Elements.{All-get_or, All-map, All-set, All-weaker}
@@ -9,7 +9,7 @@ use Rattle.std.specs.List.{flat_map}
 use Rattle.njh_table.specs.declared.LineId.{LineId}
 use Rattle.njh_table.specs.Accepted.{IsLine, IsRoute, IsCustomer, IsAccepted}
 use Rattle.njh_table.specs.Marks.{line_marked, customer_marked, with_mark, customer_unmarked, unmarked, entry_marked, entry_unmarked}
-use Rattle.njh_table.specs.TableFile.{NamedLine, NamedCustomer, TableFile, customer_at, entry_of, line_names, no_customer, no_line, owners_from, HasLine}
+use Rattle.njh_table.specs.TableFile.{NamedLine, NamedCustomer, TableFile, customer_at, entry_of, no_customer, no_line, owners_from, HasLine}
 use Rattle.njh_table.proofs.Replaced.{accepted_again, reads_alike, same_line_names, same_owners, same_owners_of_all}
 
 -- ---- one mark
@@ -26,7 +26,7 @@ customer_there t line has =
     (cases_lt line.customer (length t.customers))
 
 still_line : (up : Bool) (l : NamedLine) → IsLine l → IsLine (line_marked up l)
-still_line up l is = record { name = is.name; block = is.block; streams = is.streams; port = is.port }
+still_line up l is = record { name = is.name; block = is.block; streams = is.streams; port = is.port; peer = is.peer }
 
 marked_names : (line : ℕ) (up : Bool) (c : NamedCustomer) → map (λ l. l.name) (customer_marked line up c).lines ≡ map (λ l. l.name) c.lines
 marked_names line up c = reads_alike (λ (l : NamedLine). l.name) c.lines line (line_marked up (get_or c.lines line no_line)) no_line refl

@@ -1,5 +1,5 @@
 -- What the walk over a customer's lines gives.
-use Rattle.std.proofs.Common.{◌≡◌, ℕ, ◌+◌, ◌<◌, ◌≤◌, true, false, nat_le, List, [], ◌∷◌, ◌++◌, length, map, codes, bytes_eq, All}
+use Rattle.std.proofs.Common.{◌≡◌, ℕ, ◌+◌, ◌<◌, ◌≤◌, true, false, nat_le, List, [], ◌∷◌, ◌++◌, length, map, codes, bytes_eq, All, None}
 use Rattle.std.proofs.Common.{refl, sym, ap, subst, ◌∙◌, append_assoc, arith}
 use Rattle.std.specs.List.{list_any}
 use Rattle.std.proofs.lemmas.Bool.{leb-false, or_parts, or_from}
@@ -11,11 +11,11 @@ use Rattle.njh_table.specs.declared.fault.TableFault.TheVariants.{TooMany, Doubl
 use Rattle.njh_table.specs.declared.limits.TheConstants.{MAX_LINES, MIN_BLOCK, MAX_BLOCK, MAX_STREAMS, MAX_PORT}
 use Rattle.njh_table.specs.Accepted.{IsBetween, AreDistinct, IsLine}
 use Rattle.njh_table.specs.TableFile.{NamedLine}
-use Rattle.njh_table.specs.Keys.{number, node_name, is_line_name, line_name, role, password}
+use Rattle.njh_table.specs.Keys.{number, node_name, is_line_name, line_name, role, password, peer}
 use Rattle.njh_table.specs.Walk.{line_of, next_line, lines_onto}
 use Rattle.njh_table.proofs.OwnersLaws.{AreApart}
 use Rattle.njh_table.proofs.Gives.{Gives, and_then, weaker, past, with_keys, with_value, with_any, with_value_or}
-use Rattle.njh_table.proofs.Gives.{with_any_or, number-is, line_name-is}
+use Rattle.njh_table.proofs.Gives.{with_any_or, number-is, line_name-is, IsPeerOf, peer-is}
 use Rattle.njh_table.proofs.Distinct.{distinct_push}
 
 pub record IsNewLine (taken : List (List ℕ)) (l : NamedLine) : Type 0 where
@@ -35,7 +35,8 @@ line_of-gives name keys is_name =
     with_any_or _ password [] (codes "password") keys _ (λ password.
     with_value_or (IsBetween 0 MAX_PORT) _ (number 0 MAX_PORT) 0 (codes "port") keys _ (omega arith, omega arith)
     (number-is 0 MAX_PORT) (λ port in_port.
-    (refl, record { name = is_name; block = in_block; streams = in_streams; port = in_port.1 })))))))
+    with_value_or (IsPeerOf port) _ (peer port) None (codes "connect") keys _ tt (peer-is port) (λ peer is_peer.
+    (refl, record { name = is_name; block = in_block; streams = in_streams; port = in_port.1; peer = is_peer }))))))))
 
 next_line-gives : (taken : List (List ℕ)) (value : Data) → Gives (IsNewLine taken) (next_line taken value)
 unfolding next_line

@@ -1,5 +1,6 @@
 -- What holds of every table that is accepted: the limits, names that differ, and quotas that add to at most the capacity.
 use Rattle.std.specs.Prelude.{◌≡◌, ◌≢◌, ℕ, ◌<◌, ◌≤◌, List, ◌∷◌, length, map, sum_by, All, AllPairs, IfSome, IsTrue}
+use Rattle.std.specs.Net.Socket.{socket_port}
 use Rattle.njh_table.specs.declared.limits.TheConstants.{MAX_CUSTOMERS, MAX_LINES, MAX_ROUTES, MAX_CAPACITY, MAX_QUOTA}
 use Rattle.njh_table.specs.declared.limits.TheConstants.{MAX_FILES, MIN_BLOCK, MAX_BLOCK, MAX_STREAMS, MAX_PORT}
 use Rattle.njh_table.specs.Entries.{RouteEntry}
@@ -17,6 +18,8 @@ pub record IsLine (l : NamedLine) : Type 0 where
   pub block : IsBetween MIN_BLOCK MAX_BLOCK l.entry.block
   pub streams : IsBetween 1 MAX_STREAMS l.entry.streams
   pub port : l.port ≤ MAX_PORT
+  -- a line whose peer listens has no port of its own
+  pub peer : IfSome l.peer (λ address. (l.port ≡ 0) × (socket_port address ≢ 0))
 
 -- a route of a customer with so many lines: its second line is another than its first
 pub record IsRoute (lines : ℕ) (r : RouteEntry) : Type 0 where

@@ -17,6 +17,7 @@ customer_with_a_line name line =
           record {
             name = line;
             port = 0;
+            peer = None;
             up = false;
             entry = record { node = lyon; role = Answer; block = 1024; streams = 4; password = [] };
           }

@@ -1,8 +1,10 @@
 -- The keys of a table file, which is written in TOML: what a key's value must be, and the fault where it isn't.
-use Rattle.std.specs.Prelude.{ℕ, ℤ, pos, negsuc, Bool, true, false, ◌&&◌, ◌||◌, if◌then◌else◌, List, [], ◌∷◌, length, codes, bytes_eq}
-use Rattle.std.specs.Prelude.{Option, Some, None, option_and_then, ok_or, Result, Ok, Err}
+use Rattle.std.specs.Prelude.{ℕ, ℤ, pos, negsuc, Bool, true, false, ◌&&◌, ◌||◌, ◌==◌, if◌then◌else◌, List, [], ◌∷◌, length, codes, bytes_eq}
+use Rattle.std.specs.Prelude.{Option, Some, None, option_and_then, option_map, ok_or, Result, Ok, Err}
 use Rattle.std.specs.List.{list_all}
 use Rattle.std.specs.Result.{result_ok}
+use Rattle.std.specs.declared.net.socket_addr.SocketAddr.{SocketAddr}
+use Rattle.std.specs.Net.Socket.{socket_port}
 use Rattle.toml.specs.Data.{Data, Members, get_member, as_str, as_integer, as_table}
 use Rattle.njh_ebcdic.specs.Names.{within}
 use Rattle.njh_ebcdic.specs.Reading.{name_of_text}
@@ -11,6 +13,7 @@ use Rattle.njh_table.specs.declared.Role.TheVariants.{Call, Answer}
 use Rattle.njh_table.specs.declared.fault.TableFault.{TableFault}
 use Rattle.njh_table.specs.declared.fault.TableFault.TheVariants.{MissingKey, BadValue}
 use Rattle.njh_table.specs.declared.limits.TheConstants.{MAX_LINE_NAME}
+use Rattle.njh_table.specs.Addresses.{address_of}
 
 -- what a part of the walk gives, or the first fault in it
 abbrev pub Walked : Type 0 → Type 0
@@ -78,6 +81,17 @@ other_text first text = if bytes_eq text first then None else Some (Some text)
 
 abbrev pub second_line : List ℕ → Data → Option (Option (List ℕ))
 second_line first value = option_and_then (other_text first) (as_str value)
+
+-- an address at which a peer can listen: its port isn't 0
+abbrev pub peer_address : SocketAddr → Option SocketAddr
+peer_address address = if socket_port address == 0 then None else Some address
+
+-- where the peer of a line with this port listens, by a text: a line with a port of its own has no such peer
+abbrev pub peer_of : ℕ → List ℕ → Option SocketAddr
+peer_of port text = if port == 0 then option_and_then peer_address (address_of text) else None
+
+abbrev pub peer : ℕ → Data → Option (Option SocketAddr)
+peer port value = option_map Some (option_and_then (peer_of port) (as_str value))
 
 -- ---- keys
 

@@ -12,6 +12,7 @@ pub record SameLine (l m : NamedLine) : Type 0 where
   pub streams : l.entry.streams ≡ m.entry.streams
   pub password : l.entry.password ≡ m.entry.password
   pub port : l.port ≡ m.port
+  pub peer : l.peer ≡ m.peer
   pub up : l.up ≡ m.up
 
 pub record SameRoute (r s : RouteEntry) : Type 0 where

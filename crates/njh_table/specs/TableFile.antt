@@ -3,15 +3,18 @@ use Rattle.std.specs.Prelude.{ℕ, Bool, false, ◌+◌, ◌<◌, ◌==◌, if�
 use Rattle.std.specs.Prelude.{Option, Some, None, option_and_then}
 use Rattle.std.specs.List.{flat_map}
 use Rattle.std.specs.Map.{lookup}
+use Rattle.std.specs.declared.net.socket_addr.SocketAddr.{SocketAddr}
 use Rattle.njh_table.specs.declared.LineId.{LineId}
 use Rattle.njh_table.specs.declared.Role.TheVariants.{Answer}
 use Rattle.njh_table.specs.declared.routes.RouteLines.{RouteLines}
 use Rattle.njh_table.specs.Entries.{LineEntry, RouteEntry, CustomerEntry}
 
--- a line: its name on the hub (text), its port, its mark as up, and what its customer's entry says of it
+-- a line: its name on the hub (text), its port, where its peer listens if the hub is to connect to it, its mark as up,
+-- and what its customer's entry says of it
 pub record NamedLine : Type 0 where
   pub name : List ℕ
   pub port : ℕ
+  pub peer : Option SocketAddr
   pub up : Bool
   pub entry : LineEntry
 
@@ -55,7 +58,13 @@ abbrev pub no_customer : NamedCustomer
 no_customer = record { name = []; hub = []; quota = 0; files = 0; lines = []; routes = [] }
 
 abbrev pub no_line : NamedLine
-no_line = record { name = []; port = 0; up = false; entry = record { node = []; role = Answer; block = 0; streams = 0; password = [] } }
+no_line = record {
+  name = [];
+  port = 0;
+  peer = None;
+  up = false;
+  entry = record { node = []; role = Answer; block = 0; streams = 0; password = [] };
+}
 
 abbrev pub customer_at : TableFile → ℕ → NamedCustomer
 customer_at t c = slice_index_or t.customers c no_customer

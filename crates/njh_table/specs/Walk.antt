@@ -13,7 +13,7 @@ use Rattle.njh_table.specs.declared.limits.TheConstants.{MAX_CUSTOMERS, MAX_LINE
 use Rattle.njh_table.specs.declared.limits.TheConstants.{MAX_FILES, MIN_BLOCK, MAX_BLOCK, MAX_STREAMS, MAX_PORT}
 use Rattle.njh_table.specs.Entries.{RouteEntry, lines_to}
 use Rattle.njh_table.specs.Keys.{Walked, ◌>>=◌, ◌>>◌, fault_where, keys_in, at_key, at_key_or, number, node_name}
-use Rattle.njh_table.specs.Keys.{line_name, role, password, second_line}
+use Rattle.njh_table.specs.Keys.{line_name, role, password, peer, second_line}
 use Rattle.njh_table.specs.TableFile.{NamedLine, NamedCustomer, TableFile, line_names}
 
 -- ---- lines
@@ -27,9 +27,11 @@ line_of name keys = do
   streams ← at_key (number 1 MAX_STREAMS) (codes "streams") keys
   password ← at_key_or password [] (codes "password") keys
   port ← at_key_or (number 0 MAX_PORT) 0 (codes "port") keys
+  peer ← at_key_or (peer port) None (codes "connect") keys
   Ok (record {
     name = name;
     port = port;
+    peer = peer;
     up = false;
     entry = record { node = node; role = role; block = block; streams = streams; password = password };
   })

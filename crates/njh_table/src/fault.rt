@@ -15,7 +15,8 @@ pub enum TableFault {
     /// A key that must be there isn't, or the list of customers is empty.
     #[error("K2 MissingKey")]
     MissingKey,
-    /// A value of another type or out of range, a customer's name twice, or a route's second line that is its line.
+    /// A value of another type or out of range, a customer's name twice, a route's second line that is its line, or a
+    /// line's `connect` beside a port.
     #[error("K3 BadValue")]
     BadValue,
     /// A line's name twice on the whole hub.

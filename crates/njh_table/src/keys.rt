@@ -1,11 +1,12 @@
 //! The values of a table's keys. A key that must be there and isn't is `MissingKey`; a value of another type or out of range is `BadValue`.
 
-ghost use Rattle.std.specs.Prelude.{◌≡◌, ◌≤◌, [], None, IfOk, ok_or, option_map};
+ghost use Rattle.std.specs.Prelude.{◌≡◌, ◌≤◌, [], Some, None, IfOk, ok_or, option_map};
 ghost use Rattle.std.specs.List.{list_all};
 ghost use Rattle.std.specs.Result.{result_map_both};
 ghost use Rattle.toml.specs.Data.{get_member, as_str, as_array, as_table, no_items};
 ghost use Rattle.toml.specs.View.{view, table_view, items_view};
-ghost use Rattle.njh_table.specs.Keys.{keys_in, at_key, at_key_or, number, node_name, role, password};
+ghost use Rattle.njh_table.specs.Addresses.{address_of};
+ghost use Rattle.njh_table.specs.Keys.{keys_in, at_key, at_key_or, number, node_name, role, password, peer};
 ghost use Rattle.njh_table.specs.Keys.{line_name, second_line, is_line_name, is_letter_or_digit};
 ghost use Rattle.njh_table.specs.TableFile.{password_bytes};
 
@@ -13,6 +14,7 @@ use crate::Role;
 use crate::fault::TableFault;
 use crate::limits::MAX_LINE_NAME;
 use njh_ebcdic::Name;
+use std::net::SocketAddr;
 use toml::{Table, Value};
 
 /// The keys of an element of a list.
@@ -166,6 +168,33 @@ pub fn number_or_zero_at(keys: &Table, key: &str, high: u32) -> Result<u32, Tabl
             Some(number) => Ok(number),
             None => Err(TableFault::BadValue),
         },
+    }
+}
+
+fn address_of(text: &str) -> Option<SocketAddr>
+    ensures { result ≡ address_of text.now }
+{
+    SocketAddr::parse_ascii(text.as_bytes()).ok()
+}
+
+fn peer_in(value: &Value, port: u16) -> Option<SocketAddr>
+    ensures { option_map Some result ≡ peer port (view value.now) }
+{
+    let address = address_of(value.as_str()?)?;
+    (port == 0 && address.port() != 0).then_some(address)
+}
+
+/// The address at which the peer of a line with this port listens, which may be missing: where there is one, the line's
+/// port is 0 and that of the address isn't.
+pub fn peer_at(keys: &Table, key: &str, port: u16) -> Result<Option<SocketAddr>, TableFault>
+    ensures { result ≡ at_key_or (peer port) None key.now (table_view keys.now) }
+{
+    let Some(value) = find(keys, key) else {
+        return Ok(None);
+    };
+    match peer_in(value, port) {
+        Some(address) => Ok(Some(address)),
+        None => Err(TableFault::BadValue),
     }
 }
 

@@ -1,9 +1,12 @@
 //! Laws over the definitions.
 
-ghost use Rattle.std.specs.Prelude.{◌≡◌, ◌≢◌, ℕ, ◌<◌, Bool, List, Ok, Err, length};
+ghost use Rattle.std.specs.Prelude.{◌≡◌, ◌≢◌, ℕ, ◌<◌, ◌↔◌, Bool, List, Some, Ok, Err, length};
+ghost use Rattle.std.specs.declared.net.socket_addr.SocketAddr.{SocketAddr};
+ghost use Rattle.std.specs.Net.Grammar.{IsSocketText};
 ghost use Rattle.toml.specs.Data.{Members};
 ghost use Rattle.njh_table.specs.declared.fault.TableFault.{TableFault as Fault};
 ghost use Rattle.njh_table.specs.Accepted.{IsAccepted};
+ghost use Rattle.njh_table.specs.Addresses.{address_of};
 ghost use Rattle.njh_table.specs.Entries.{route_of};
 ghost use Rattle.njh_table.specs.declared.LineId.{LineId};
 ghost use Rattle.njh_table.specs.Marks.{entry_marked, entry_unmarked, unmarked, with_mark};
@@ -19,6 +22,12 @@ pub fn walk_keeps_limits()
     ensures accepted { (text : List ℕ) (t : TableFile) → tables_of text ≡ Ok t → IsAccepted t }
     ensures refused { (keys : Members) (fault : Fault) → tables_in keys ≡ Err fault
         → (fault ≢ TableFault.BadToml) × (fault ≢ TableFault.Memory) }
+{}
+
+/// The address that a text writes is the one that the grammar of such texts gives; a text outside that grammar writes none.
+pub fn addresses_are_of_the_grammar()
+    ensures spelled { (text : List ℕ) (address : SocketAddr)
+        → IsSocketText text address ↔ (address_of text ≡ Some address) }
 {}
 
 /// Customers with the same entry route alike, wherever each stands in its table; and what can be read of an entry is all of it.

@@ -6,6 +6,7 @@ ghost use Rattle.njh_table.specs.TableFile.{password_bytes};
 use crate::Role;
 use njh_ebcdic::Name;
 use std::marker::Model;
+use std::net::SocketAddr;
 
 /// A line: its name on this hub, and what its customer's entry says of it.
 #[derive(Drop)]
@@ -17,6 +18,7 @@ pub struct Line {
     pub(crate) streams: u8,
     pub(crate) password: Option<Name>,
     pub(crate) port: u16,
+    pub(crate) peer: Option<SocketAddr>,
     pub(crate) up: bool,
 }
 
@@ -29,6 +31,7 @@ impl Model for Line {
     ghost view = { λ l. record {
       name = string_bytes l.name;
       port = l.port;
+      peer = l.peer;
       up = l.up;
       entry = record {
         node = l.node;
@@ -88,6 +91,14 @@ impl Line {
         ensures { result ≡ self.now.port }
     {
         self.port
+    }
+
+    /// The address and the port at which the line's peer listens, where the hub is to connect to it. Such a line has the
+    /// port 0, and the peer's port isn't 0.
+    pub fn peer(&self) -> Option<SocketAddr>
+        ensures { result ≡ self.now.peer }
+    {
+        self.peer
     }
 
     /// Whether the line is marked as up, by `Tables::set_up`; a table file gives no mark.

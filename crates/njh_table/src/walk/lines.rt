@@ -8,7 +8,7 @@ ghost use Rattle.njh_table.specs.Walk.{Walks, line_of, next_line, lines_onto};
 use crate::LineId;
 use crate::fault::TableFault;
 use crate::keys::{
-    keys_in, line_name_at, name_at, number_at, number_or_zero_at, password_at, role_at,
+    keys_in, line_name_at, name_at, number_at, number_or_zero_at, password_at, peer_at, role_at,
 };
 use crate::limits::{MAX_BLOCK, MAX_LINES, MAX_PORT, MAX_STREAMS, MIN_BLOCK};
 use crate::line::Line;
@@ -28,6 +28,7 @@ fn line_of(alloc: Global, name: &str, keys: &Table) -> Result<Line, TableFault>
     let streams = number_at(keys, "streams", 1, MAX_STREAMS)? as u8;
     let password = password_at(keys, "password")?;
     let port = number_or_zero_at(keys, "port", MAX_PORT)? as u16;
+    let peer = peer_at(keys, "connect", port)?;
     Ok(Line {
         name: String::from_str(alloc, name)?,
         node,
@@ -36,6 +37,7 @@ fn line_of(alloc: Global, name: &str, keys: &Table) -> Result<Line, TableFault>
         streams,
         password,
         port,
+        peer,
         up: false,
     })
 }

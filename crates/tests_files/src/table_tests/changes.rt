@@ -38,6 +38,16 @@ K3 BadValue: streams = 4 > streams = 0
 K3 BadValue: streams = 4 > streams = 5
 K3 BadValue: streams = 4 > streams = 4/port = 65536
 K3 BadValue: streams = 4 > streams = 4/port = -1
+K3 BadValue: streams = 4 > streams = 4/connect = "127.0.0.1:0"
+K3 BadValue: streams = 4 > streams = 4/connect = "127.0.0.1"
+K3 BadValue: streams = 4 > streams = 4/connect = "127.0.0.1:65536"
+K3 BadValue: streams = 4 > streams = 4/connect = "127.0.0.01:17501"
+K3 BadValue: streams = 4 > streams = 4/connect = "localhost:17501"
+K3 BadValue: streams = 4 > streams = 4/connect = "::1:17501"
+K3 BadValue: streams = 4 > streams = 4/connect = "[::1]:0"
+K3 BadValue: streams = 4 > streams = 4/connect = ""
+K3 BadValue: streams = 4 > streams = 4/connect = 17501
+K3 BadValue: streams = 4 > streams = 4/port = 17501/connect = "127.0.0.1:17501"
 K3 BadValue: streams = 4 > streams = 4/password = "secret"
 K3 BadValue: role = "answer" > role = "Answer"
 K3 BadValue: name = "ACME" > name = "ACMEACMEA"
@@ -73,6 +83,8 @@ taken: block = 1024/streams = 4 > block = 300/streams = 1
 taken: block = 1024 > block = 4096/port = 65535
 taken: streams = 4 > streams = 4/password = "SECRET"
 taken: streams = 4 > streams = 4/password = ""/port = 0
+taken: streams = 4 > streams = 4/connect = "127.0.0.1:17501"
+taken: streams = 4 > streams = 4/connect = "[2001:db8::7]:65535"/port = 0
 taken: [[customer.route]] > [[customer.line]]/name = "a2"/node = "METZ"/role = "answer"/block = 1024/streams = 4/[[customer.route]] | line = "a1" > line = "a1"/second = "a2"
 taken: role = "answer" > role = "call" | hub = "BUREAU" > hub = "PARIS"
 taken: capacity = 200 > capacity = 200/colour = "red"
@@ -96,6 +108,7 @@ K2 MissingKey: node = "LYON" > # | role = "answer" > role = 1
 K3 BadValue: role = "answer" > role = 1 | block = 1024 > #
 K2 MissingKey: block = 1024 > # | streams = 4 > streams = 5
 K3 BadValue: streams = 4 > streams = 5 | line = "a1" > line = "b1"
+K3 BadValue: streams = 4 > streams = 4/connect = "" | name = "b1" > name = "a1"
 K2 MissingKey: node = "LYON"/line > line | line = "a1" > line = 1
 K3 BadValue: line = "a1" > line = 1 | node = "LYON"/line > node = "BUREAU"/line
 K3 BadValue: line = "a1" > line = "a1"/second = 3 | node = "LYON"/line > node = "BUREAU"/line

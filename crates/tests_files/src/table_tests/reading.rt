@@ -6,8 +6,8 @@ use njh_table::{Customer, Line, Role};
 use std::process::Abort;
 use std::test::Fail;
 
-/// Capacity; a customer with its hub, quota and files; its lines, each with its node, role, block, streams, password and port;
-/// its routes.
+/// Capacity; a customer with its hub, quota and files; its lines, each with its node, role, block, streams, password and port,
+/// and where its peer listens; its routes.
 const READ: &str = "200
 ACME BUREAU 100 8
 a1 LYON call 300 1 SECRET 5000
@@ -24,6 +24,14 @@ LYON by 0
 BOLT BUREAU 100 8
 b1 LYON answer 1024 4 - 0
 LYON by 0
+";
+
+/// Addresses as a file may write them, and as they are printed.
+const PEERS: &str = "
+127.0.0.1:17501 = 127.0.0.1:17501
+10.0.0.7:00001 = 10.0.0.7:1
+[::1]:17501 = [::1]:17501
+[2001:DB8:0:0:0:0:0:7]:65535 = [2001:db8::7]:65535
 ";
 
 /// What is looked up in the base tables: a line's owner, or a node's route for the second customer.
@@ -72,8 +80,9 @@ fn push_line(alloc: Global, text: &mut String, line: &Line) -> Result<(), AllocE
         Some(password) => password.to_string(alloc)?,
         None => String::from_str(alloc, "-")?,
     };
+    let peer = text_of_peer(alloc, line)?;
     let all = format!(in alloc;
-        "{} {} {role} {} {} {password} {}\n",
+        "{} {} {role} {} {} {password} {}{peer}\n",
         line.name(),
         line.node(),
         line.block(),
@@ -81,6 +90,13 @@ fn push_line(alloc: Global, text: &mut String, line: &Line) -> Result<(), AllocE
         line.port()
     )?;
     text.push_str(all.as_str())
+}
+
+fn text_of_peer(alloc: Global, line: &Line) -> Result<String, AllocError> {
+    match line.peer() {
+        Some(peer) => format!(in alloc; " {peer}"),
+        None => String::from_str(alloc, ""),
+    }
 }
 
 fn text_of_file(alloc: Global, file: &str) -> Result<String, Fail> {
@@ -131,6 +147,20 @@ fn a_file_is_read(rt: HostRuntime) -> Result<(), Fail> {
     )?;
     let found = text_of_file(rt.alloc(), file.as_str())?;
     is_same(&rt, found.as_str(), READ, "with a file");
+    Ok(())
+}
+
+#[test]
+fn where_peers_listen_is_read(rt: HostRuntime) -> Result<(), Fail> {
+    for case in PEERS.trim().lines() {
+        let (written, peer) = case.split_once(" = ").ok_or("a line without =")?;
+        let keys = format!(in rt.alloc(); "streams = 4\nconnect = \"{written}\"")?;
+        let file = BASE.replacen(rt.alloc(), "streams = 4", keys.as_str(), 1)?;
+        let found = text_of_file(rt.alloc(), file.as_str())?;
+        let line = format!(in rt.alloc(); "4 - 0 {peer}")?;
+        let want = WITHOUT_A_FILE.replacen(rt.alloc(), "4 - 0", line.as_str(), 1)?;
+        is_same(&rt, found.as_str(), want.as_str(), case);
+    }
     Ok(())
 }
 

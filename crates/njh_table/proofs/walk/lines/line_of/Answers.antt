@@ -55,6 +55,18 @@ returns-in_err-port-clause-walk c =
     ∙ goes_on _ _ _ (sym c.in_ok-password.ensures)
     ∙ ends _ _ _ (sym c.in_err-port.ensures.read))
 
+pub returns-in_err-peer-clause-walk : goal.returns-in_err-peer-clause-walk
+unfolding line_of
+returns-in_err-peer-clause-walk c =
+    stops _ _ _ _ c.from_residual-in_err-peer.ensures.1
+    (λ _. goes_on _ _ _ (sym c.in_ok-node.ensures)
+    ∙ goes_on _ _ _ (sym c.in_ok-role.ensures)
+    ∙ goes_on _ _ _ (sym c.in_ok-block.ensures.read)
+    ∙ goes_on _ _ _ (sym c.in_ok-streams.ensures.read)
+    ∙ goes_on _ _ _ (sym c.in_ok-password.ensures)
+    ∙ goes_on _ _ _ (sym c.in_ok-port.ensures.read)
+    ∙ ends _ _ _ (sym c.in_err-peer.ensures))
+
 pub returns-clause-walk : goal.returns-clause-walk
 unfolding line_of
 returns-clause-walk c =
@@ -64,9 +76,11 @@ returns-clause-walk c =
     ∙ goes_on _ _ _ (sym c.in_ok-streams.ensures.read)
     ∙ goes_on _ _ _ (sym c.in_ok-password.ensures)
     ∙ goes_on _ _ _ (sym c.in_ok-port.ensures.read)
+    ∙ goes_on _ _ _ (sym c.in_ok-peer.ensures)
     ∙ ap (λ name. Ok (record {
       name = name;
       port = c.in_ok-port.field-0;
+      peer = c.in_ok-peer.peer;
       up = false;
       entry = record {
         node = c.in_ok-node.node;
