@@ -6,7 +6,7 @@ use Rattle.njh_customer.specs.Runs.{OwnEvent}
 use Rattle.njh_hub.specs.declared.event.Event.{Event}
 use Rattle.njh_hub.specs.declared.event.Event.TheVariants.{Bytes, Tick, Garbled, Lost, Routes}
 use Rattle.njh_hub.specs.Own.{customer_of, line_of, own, events_of}
-use Rattle.njh_hub.specs.Wires.{Heard, Came, Quiet, Closed, Absent, Failed, cut_to, loss_of, told}
+use Rattle.njh_hub.specs.Wires.{Heard, Came, Quiet, Pending, Closed, Absent, Failed, cut_to, loss_of, told}
 use Rattle.njh_hub.specs.Turns.{Turn, event_of, told_where, turn_events, quiet_after, round_events, quiets_after, all_events, no_quiets}
 use Rattle.njh_hub.specs.WireLaws.{own_wires, OwnWiresDecide}
 use Rattle.njh_hub.proofs.RoundLaws.{round_events-none, quiets_after-none}
@@ -34,6 +34,7 @@ tick_on line false = tt
 event_on : (line : LineId) (quiet : ℕ) (heard : Heard) → OnLine line (event_of line quiet heard)
 event_on line quiet (Came piece) = refl
 event_on line quiet Quiet = tick_on line (eqb quiet 9)
+event_on line quiet Pending = tt
 event_on line quiet Closed = refl
 event_on line quiet Absent = tt
 event_on line quiet Failed = refl

@@ -16,6 +16,7 @@ use Rattle.njh_hub.proofs.RunningLaws.{counted_from}
 pub failed-err : {P : Type 0} (answer : Result Reading WireFault) (buffer : List ℕ) → heard_of answer buffer ≡ Failed → OnErr answer P → P
 failed-err (Ok (reading.Bytes n)) buffer is told = cc
 failed-err (Ok reading.Quiet) buffer is told = cc
+failed-err (Ok reading.Pending) buffer is told = cc
 failed-err (Ok reading.Closed) buffer is told = cc
 failed-err (Ok reading.Absent) buffer is told = cc
 failed-err (Err fault) buffer is told = told

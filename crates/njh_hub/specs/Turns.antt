@@ -7,7 +7,7 @@ use Rattle.njh_hub.specs.declared.event.Event.{Event}
 use Rattle.njh_hub.specs.declared.event.Event.TheVariants.{Bytes, Tick, Lost}
 use Rattle.njh_hub.specs.Sent.{IsCounted}
 use Rattle.njh_hub.specs.Whole.{Part, hub_run}
-use Rattle.njh_hub.specs.Wires.{Heard, Came, Quiet, Closed, Absent, Failed, WireAct, Answered, told, written, IsStop}
+use Rattle.njh_hub.specs.Wires.{Heard, Came, Quiet, Pending, Closed, Absent, Failed, WireAct, Answered, told, written, IsStop}
 
 -- ---- one turn
 
@@ -21,14 +21,16 @@ pub record Turn : Type 0 where
 abbrev pub event_of : LineId → ℕ → Heard → Option Event
 event_of line quiet (Came piece) = Some (Bytes line piece)
 event_of line quiet Quiet = cond (quiet == 9) (Some (Tick line)) None
+event_of line quiet Pending = None
 event_of line quiet Closed = Some (Lost line)
 event_of line quiet Absent = None
 event_of line quiet Failed = Some (Lost line)
 
--- the quiets in a row, of which a tenth begins anew
+-- the quiets in a row, of which a tenth begins anew; an answer that is pending leaves them as they are
 abbrev pub quiet_after : ℕ → Heard → ℕ
 quiet_after quiet (Came piece) = 0
 quiet_after quiet Quiet = cond (quiet == 9) 0 (quiet + 1)
+quiet_after quiet Pending = quiet
 quiet_after quiet Closed = 0
 quiet_after quiet Absent = 0
 quiet_after quiet Failed = 0

@@ -18,6 +18,7 @@ use Rattle.njh_hub.specs.Whole.{Part, HubRun, SameLines, hub_run}
 pub data Heard : Type 0 where
   Came : (piece : List ℕ) → Heard
   Quiet : Heard
+  Pending : Heard
   Closed : Heard
   Absent : Heard
   Failed : Heard
@@ -25,6 +26,7 @@ pub data Heard : Type 0 where
 abbrev pub heard_of : Result Reading WireFault → List ℕ → Heard
 heard_of (Ok (reading.Bytes n)) buffer = Came (take n buffer)
 heard_of (Ok reading.Quiet) buffer = Quiet
+heard_of (Ok reading.Pending) buffer = Pending
 heard_of (Ok reading.Closed) buffer = Closed
 heard_of (Ok reading.Absent) buffer = Absent
 heard_of (Err fault) buffer = Failed
@@ -33,6 +35,7 @@ heard_of (Err fault) buffer = Failed
 abbrev pub IsReading : ℕ → Reading → Type 0
 IsReading room (reading.Bytes n) = (0 < n) × (n ≤ room)
 IsReading room reading.Quiet = ⊤
+IsReading room reading.Pending = ⊤
 IsReading room reading.Closed = ⊤
 IsReading room reading.Absent = ⊤
 

@@ -11,6 +11,8 @@ pub enum Reading {
     Bytes(usize),
     /// Nothing came.
     Quiet,
+    /// Nothing came, and it isn't yet time to call that a quiet.
+    Pending,
     /// The other end is gone.
     Closed,
     /// Nobody is connected.

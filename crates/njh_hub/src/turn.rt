@@ -26,7 +26,7 @@ const QUIETS: u8 = 9;
 /// One turn of a wire of a line: reads it once, hands the hub what came of that, and writes each frame that the hub sends.
 ///
 /// Bytes that came are handed over until they are used. Each tenth quiet in a row is a tick; `quiet` is how many came before,
-/// and the answer how many there are now. A wire that is closed or can't be read loses its line. So does one that can't be written,
+/// and the answer how many there are now: as many as before where the wire's answer is pending. A wire that is closed or can't be read loses its line. So does one that can't be written,
 /// and what was left of the bytes is dropped. Takes no memory: `out` has the room of the longest frame, and has it again.
 pub fn wire_turn<W: Wire>(
     hub: &mut Hub,
@@ -85,6 +85,7 @@ fn act_on<W: Wire>(
             pass_signal(hub, line, Signal::Tick, wire, out);
             0
         }
+        Ok(Reading::Pending) => quiet,
         Ok(Reading::Closed) => {
             pass_signal(hub, line, Signal::Lost, wire, out);
             0

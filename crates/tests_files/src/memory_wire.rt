@@ -15,6 +15,8 @@ pub enum Step {
     Bytes(usize, usize),
     /// Nothing.
     Quiet,
+    /// Nothing yet.
+    Pending,
     /// The other end is gone.
     Closed,
     /// Nobody is connected.
@@ -121,6 +123,7 @@ impl MemoryWire {
                 self.give(into)
             }
             Step::Quiet => Reading::Quiet,
+            Step::Pending => Reading::Pending,
             Step::Closed => Reading::Closed,
             Step::Absent => Reading::Absent,
         }

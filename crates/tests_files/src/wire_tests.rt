@@ -69,6 +69,20 @@ fn tenth_quiet_is_a_tick(rt: HostRuntime) -> Result<(), Fail> {
     check(&rt, rt.alloc(), steps, 100, 21, b"\x10\x70\x3d\x3d")
 }
 
+/// A pending answer is no event, and leaves the count of quiets as it is.
+#[test]
+fn pending_leaves_the_count(rt: HostRuntime) -> Result<(), Fail> {
+    let steps = [
+        CONTACT,
+        Step::Quiet,
+        Step::Pending,
+        Step::Quiet,
+        Step::Pending,
+    ];
+    check(&rt, rt.alloc(), steps, 100, 12, b"\x10\x70")?;
+    check(&rt, rt.alloc(), steps, 100, 13, b"\x10\x70\x3d")
+}
+
 /// Nobody there is no event, and ends the row of quiets.
 #[test]
 fn nobody_is_no_event(rt: HostRuntime) -> Result<(), Fail> {
