@@ -31,6 +31,6 @@ pub use reading::{Reading, WireFault};
 pub use route_list::RouteList;
 pub use serve::serve_turns;
 pub use sink::{Sink, SinkFault};
-pub use turn::wire_turn;
+pub use turn::{TurnRoom, wire_turn};
 pub use wire::Wire;
 pub use wire_law::own_wires_decide;

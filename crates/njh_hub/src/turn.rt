@@ -10,12 +10,15 @@ ghost use Rattle.njh_hub.specs.Turns.{Turn, IsTurn, IsHeard, event_of, quiet_aft
 ghost use Rattle.njh_hub.specs.Whole.{part, HasLine, SameLines, hub_run};
 ghost use Rattle.njh_hub.specs.Wires.{IsDone, Unsent, IsReading, heard_of, frame_acts, IsTaken};
 
+use crate::fault::HubFault;
 use crate::hub::Hub;
 use crate::reading::{Reading, WireFault};
 use crate::wire::Wire;
 use njh_bisync::LONGEST_FRAME;
 use njh_customer::{Signal, cuts_are_like, no_bytes_do_nothing, steps_follow_bytes};
 use njh_table::LineId;
+use std::alloc::Global;
+use std::marker::Model;
 
 /// How many bytes are asked for at once.
 const PIECE: usize = 4096;
@@ -23,33 +26,59 @@ const PIECE: usize = 4096;
 /// How many quiets in a row are no tick.
 const QUIETS: u8 = 9;
 
+/// What turns are taken in: the bytes that a read fills, and the room of the longest frame. It serves one turn after the other, of any wires,
+/// and says nothing of any.
+#[derive(Drop)]
+pub struct TurnRoom {
+    buffer: Vec<u8>,
+    out: Vec<u8>,
+}
+
+impl Model for TurnRoom {
+    ghost use Rattle.std.specs.Prelude.{⊤, ◌<◌, ◌≤◌, length};
+    ghost use Rattle.std.specs.Vec.{vec_capacity};
+    ghost use Rattle.njh_bisync.specs.declared.frame.TheConstants.{LONGEST_FRAME};
+
+    ghost Value = { ⊤ };
+
+    ghost view = { λ room. tt };
+
+    ghost invariant = { λ room. (0 < length room.buffer.items) × (LONGEST_FRAME ≤ vec_capacity room.out) };
+}
+
+impl TurnRoom {
+    /// Room that every turn finds enough. Want of memory is the only refusal.
+    pub fn new(alloc: Global) -> Result<TurnRoom, HubFault>
+        ensures { OnErr result (result ≡ Err HubFault.Memory) }
+    {
+        Ok(TurnRoom {
+            buffer: vec![in alloc; 0u8; PIECE]?,
+            out: Vec::with_capacity(alloc, LONGEST_FRAME)?,
+        })
+    }
+}
+
 /// One turn of a wire of a line: reads it once, hands the hub what came of that, and writes each frame that the hub sends.
 ///
 /// Bytes that came are handed over until they are used. Each tenth quiet in a row is a tick; `quiet` is how many came before,
 /// and the answer how many there are now: as many as before where the wire's answer is pending. A wire that is closed or can't be read loses its line. So does one that can't be written,
-/// and what was left of the bytes is dropped. Takes no memory: `out` has the room of the longest frame, and has it again.
+/// and what was left of the bytes is dropped. Takes no memory, and clears none.
 pub fn wire_turn<W: Wire>(
     hub: &mut Hub,
     line: LineId,
     wire: &mut W,
     quiet: u8,
-    out: &mut Vec<u8>,
+    room: &mut TurnRoom,
 ) -> u8
     requires known { HasLine hub.old line }
     requires few { quiet < 10 }
-    requires empty { out.old.items ≡ [] }
-    requires room { LONGEST_FRAME ≤ vec_capacity out.old }
     ensures turn { (turn : Turn) × IsTurn W.passed W.count hub.old line quiet turn wire.old hub.new wire.new × (result ≡ quiet_after quiet turn.heard) }
     ensures few { result < 10 }
     ensures lines { SameLines hub.old hub.new }
-    ensures empty { out.new.items ≡ [] }
-    ensures room { LONGEST_FRAME ≤ vec_capacity out.new }
 {
-    let mut buffer = [0; PIECE];
-    let answer = wire.read(&mut buffer);
-    let quiets = act_on(answer, &buffer, hub, line, wire, quiet, out);
-    out.clear();
-    quiets
+    let buffer = room.buffer.as_mut_slice();
+    let answer = wire.read(buffer);
+    act_on(answer, buffer, hub, line, wire, quiet, &mut room.out)
 }
 
 /// Hands the hub what a read answered, of bytes that stand at the front of the buffer. Answers the quiets in a row.

@@ -10,8 +10,6 @@ loop-i-init g c = record {
   turns = ([], refl, round_none g.W.Wire.passed g.W.Wire.count c.args.lines.now c.args.hub.now c.args.quiets.now c.args.wires.now);
   few = c.requires.few;
   same = λ d. refl;
-  empty = c.requires.empty;
-  room = c.requires.room;
 }
 
 pub wire_turn-requires-clause-known : goal.wire_turn-requires-clause-known
@@ -20,12 +18,6 @@ wire_turn-requires-clause-known g c =
 
 pub wire_turn-requires-clause-few : goal.wire_turn-requires-clause-few
 wire_turn-requires-clause-few g c = c.loop-i.invariant.few c.loop-i.i 0 (omega (arith, c.requires.counts))
-
-pub wire_turn-requires-clause-empty : goal.wire_turn-requires-clause-empty
-wire_turn-requires-clause-empty g c = c.loop-i.invariant.empty
-
-pub wire_turn-requires-clause-room : goal.wire_turn-requires-clause-room
-wire_turn-requires-clause-room g c = c.loop-i.invariant.room
 
 pub loop-i-preserved : goal.loop-i-preserved
 loop-i-preserved g c =
@@ -55,8 +47,6 @@ loop-i-preserved g c =
       );
       few = All-set (λ (q : ℕ). q < 10) c.loop-i.quiets c.loop-i.i c.wire_turn.result c.wire_turn.ensures.few c.loop-i.invariant.few;
       same = λ d. c.wire_turn.ensures.lines d ∙ c.loop-i.invariant.same d;
-      empty = c.wire_turn.ensures.empty;
-      room = c.wire_turn.ensures.room;
     }
 
 pub returns-clause-round : goal.returns-clause-round
@@ -69,9 +59,3 @@ returns-clause-few g c = c.loop-i.invariant.few
 
 pub returns-clause-lines : goal.returns-clause-lines
 returns-clause-lines g c = c.loop-i.invariant.same
-
-pub returns-clause-empty : goal.returns-clause-empty
-returns-clause-empty g c = c.loop-i.invariant.empty
-
-pub returns-clause-room : goal.returns-clause-room
-returns-clause-room g c = c.loop-i.invariant.room

@@ -1,7 +1,5 @@
-use Rattle.std.proofs.Common.{◌≡◌, ◌<◌, ◌≤◌, List, [], length}
+use Rattle.std.proofs.Common.{◌≡◌, ◌<◌, List, length}
 use Rattle.std.specs.Prelude.{All}
-use Rattle.std.specs.Vec.{vec_capacity}
-use Rattle.njh_bisync.specs.declared.frame.TheConstants.{LONGEST_FRAME}
 use Rattle.njh_hub.specs.Turns.{Turn, IsRound}
 use Rattle.njh_hub.specs.Whole.{SameLines}
 use Rattle.njh_hub.proofs.serve.serve_round.Given as goal
@@ -13,6 +11,4 @@ invariant-loop-i g l = record {
       IsRound g.W.Wire.passed g.W.Wire.count l.lines l.fn.hub l.fn.quiets l.fn.wires turns l.hub l.quiets l.wires;
   few : All (λ quiet. quiet < 10) l.quiets;
   same : SameLines l.fn.hub l.hub;
-  empty : l.out.items ≡ [];
-  room : LONGEST_FRAME ≤ vec_capacity l.out;
 }

@@ -20,8 +20,6 @@ loop-turn-init g c =
       many = ap (λ (qs : List ℕ). length qs) c.requires.calm ∙ length-replicate (length lines) 0;
       few = All-same (λ (q : ℕ). q < 10) _ _ c.requires.calm (All-replicate (λ (q : ℕ). q < 10) (length lines) 0 (omega arith));
       same = λ d. refl;
-      empty = c.requires.empty;
-      room = c.requires.room;
     }
 
 pub serve_round-requires-clause-known : goal.serve_round-requires-clause-known
@@ -30,12 +28,6 @@ serve_round-requires-clause-known g c = λ k d within.
 
 pub serve_round-requires-clause-few : goal.serve_round-requires-clause-few
 serve_round-requires-clause-few g c = c.loop-turn.invariant.few
-
-pub serve_round-requires-clause-empty : goal.serve_round-requires-clause-empty
-serve_round-requires-clause-empty g c = c.loop-turn.invariant.empty
-
-pub serve_round-requires-clause-room : goal.serve_round-requires-clause-room
-serve_round-requires-clause-room g c = c.loop-turn.invariant.room
 
 pub loop-turn-preserved : goal.loop-turn-preserved
 loop-turn-preserved g c =
@@ -52,8 +44,6 @@ loop-turn-preserved g c =
       many = omega (arith, c.loop-turn.invariant.many);
       few = c.serve_round.ensures.few;
       same = λ d. c.serve_round.ensures.lines d ∙ c.loop-turn.invariant.same d;
-      empty = c.serve_round.ensures.empty;
-      room = c.serve_round.ensures.room;
     }
 
 pub returns-clause-served : goal.returns-clause-served

@@ -1,7 +1,5 @@
-use Rattle.std.proofs.Common.{◌≡◌, ◌<◌, ◌≤◌, List, [], length}
+use Rattle.std.proofs.Common.{◌≡◌, ◌<◌, List, length}
 use Rattle.std.specs.Prelude.{All}
-use Rattle.std.specs.Vec.{vec_capacity}
-use Rattle.njh_bisync.specs.declared.frame.TheConstants.{LONGEST_FRAME}
 use Rattle.njh_hub.specs.Turns.{Turn, no_quiets}
 use Rattle.njh_hub.specs.Whole.{SameLines}
 use Rattle.njh_hub.proofs.RoundLaws.{AreOver}
@@ -15,6 +13,4 @@ invariant-loop-turn g l = record {
   many : length l.quiets ≡ length l.lines;
   few : All (λ quiet. quiet < 10) l.quiets;
   same : SameLines l.fn.hub l.hub;
-  empty : l.out.items ≡ [];
-  room : LONGEST_FRAME ≤ vec_capacity l.out;
 }
