@@ -138,6 +138,11 @@ pub record IsRound {S : Type 0} (passed : S → S → List WireAct → Type 0) (
 
 -- ---- round after round
 
+-- Lines, and the quiets in a row on the wire of each.
+pub record LineQuiets : Type 0 where
+  pub lines : List LineId
+  pub quiets : List ℕ
+
 abbrev pub all_events : List LineId → List ℕ → List (List Turn) → List Event
 all_events lines quiets [] = []
 all_events lines quiets (round ∷ rounds) = round_events lines quiets round ++ all_events lines (quiets_after quiets round) rounds

@@ -9,6 +9,7 @@ mod hub;
 mod law;
 mod opening;
 mod reading;
+mod rounds;
 mod route_list;
 mod run;
 mod serve;
@@ -28,6 +29,7 @@ pub use law::{
 };
 pub use njh_customer::{Signal, cuts_are_like};
 pub use reading::{Reading, WireFault};
+pub use rounds::Rounds;
 pub use route_list::RouteList;
 pub use serve::serve_turns;
 pub use sink::{Sink, SinkFault};

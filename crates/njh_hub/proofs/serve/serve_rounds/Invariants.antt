@@ -1,5 +1,4 @@
-use Rattle.std.proofs.Common.{◌≡◌, ◌<◌, List, length}
-use Rattle.std.specs.Prelude.{All}
+use Rattle.std.proofs.Common.{◌≡◌, List, length}
 use Rattle.njh_hub.specs.Turns.{Turn, no_quiets}
 use Rattle.njh_hub.specs.Whole.{SameLines}
 use Rattle.njh_hub.proofs.RoundLaws.{AreOver}
@@ -9,8 +8,7 @@ use Rattle.njh_hub.proofs.serve.serve_rounds.Given as goal
 abbrev pub invariant-loop-turn : goal.invariant-loop-turn
 invariant-loop-turn g l = record {
   rounds : (rounds : List (List Turn)) × (length rounds ≡ l.turn) ×
-      AreOver g.W.Wire.passed g.W.Wire.count l.lines l.fn.hub (no_quiets l.lines) l.fn.wires rounds l.hub l.quiets l.wires;
-  many : length l.quiets ≡ length l.lines;
-  few : All (λ quiet. quiet < 10) l.quiets;
+      AreOver g.W.Wire.passed g.W.Wire.count l.fn.rounds.lines l.fn.hub (no_quiets l.fn.rounds.lines) l.fn.wires rounds l.hub l.rounds.quiets l.wires;
+  lines : l.rounds.lines ≡ l.fn.rounds.lines;
   same : SameLines l.fn.hub l.hub;
 }

@@ -3,7 +3,7 @@ use Rattle.std.proofs.lemmas.List.{length-append}
 use Rattle.std.proofs.lemmas.List.Elements.{All-set}
 use Rattle.njh_hub.specs.Turns.{IsRound, no_line}
 use Rattle.njh_hub.proofs.RoundLaws.{GoesRound, round_more, round_none}
-use Rattle.njh_hub.proofs.serve.serve_round.Goals as goal
+use Rattle.njh_hub.proofs.rounds.serve_round.Goals as goal
 
 pub loop-i-init : goal.loop-i-init
 loop-i-init g c = record {

@@ -1,0 +1,88 @@
+//! Rounds of turns: each wire of some lines has one in each.
+
+ghost use Rattle.std.specs.Prelude.{◌≡◌, ◌<◌, List, length, All, IfOk, OnErr, Err};
+ghost use Rattle.njh_hub.specs.Turns.{Turn, IsRound, no_quiets};
+ghost use Rattle.njh_hub.specs.Whole.{HasLine, SameLines};
+
+use crate::fault::HubFault;
+use crate::hub::Hub;
+use crate::turn::{TurnRoom, wire_turn};
+use crate::wire::Wire;
+use njh_table::LineId;
+use std::alloc::Global;
+use std::marker::Model;
+
+/// Lines that have wires, how many quiets in a row came on each, and the room of their turns.
+#[derive(Drop)]
+pub struct Rounds {
+    lines: Vec<LineId>,
+    quiets: Vec<u8>,
+    room: TurnRoom,
+}
+
+impl Model for Rounds {
+    ghost use Rattle.std.specs.Prelude.{◌≡◌, ◌<◌, length, All};
+    ghost use Rattle.njh_hub.specs.Turns.{LineQuiets};
+
+    ghost Value = { LineQuiets };
+
+    ghost view = { λ rounds. record { lines = rounds.lines.items; quiets = rounds.quiets.items } };
+
+    ghost invariant = { λ rounds. (length rounds.quiets.items ≡ length rounds.lines.items) × All (λ quiet. quiet < 10) rounds.quiets.items };
+}
+
+impl Rounds {
+    /// Rounds of the wires of these lines, on which no quiet came yet. Want of memory is the only refusal.
+    pub fn new(alloc: Global, lines: &[LineId]) -> Result<Rounds, HubFault>
+        ensures lines { IfOk result (λ rounds. rounds.lines ≡ lines.now) }
+        ensures calm { IfOk result (λ rounds. rounds.quiets ≡ no_quiets lines.now) }
+        ensures memory { OnErr result (result ≡ Err HubFault.Memory) }
+    {
+        Ok(Rounds {
+            lines: Vec::from_slice(alloc, lines)?,
+            quiets: vec![in alloc; 0u8; lines.len()]?,
+            room: TurnRoom::new(alloc)?,
+        })
+    }
+
+    /// The lines, in the order of their turns.
+    pub fn lines(&self) -> &[LineId]
+        ensures { result.now ≡ self.now.lines }
+    {
+        self.lines.as_slice()
+    }
+
+    /// One turn of each wire, in the order of the lines. Takes no memory.
+    pub fn take<W: Wire>(&mut self, hub: &mut Hub, wires: &mut [W])
+        requires same { length wires.old ≡ length self.old.lines }
+        requires known { All (HasLine hub.old) self.old.lines }
+        ensures round { (round : List Turn) × (length round ≡ length self.old.lines) ×
+            IsRound W.passed W.count self.old.lines hub.old self.old.quiets wires.old round hub.new self.new.quiets wires.new }
+        ensures same { self.new.lines ≡ self.old.lines }
+        ensures lines { SameLines hub.old hub.new }
+    {
+        serve_round(hub, wires, &self.lines, &mut self.quiets, &mut self.room);
+    }
+}
+
+/// One turn of each wire, in their order.
+fn serve_round<W: Wire>(
+    hub: &mut Hub,
+    wires: &mut [W],
+    lines: &[LineId],
+    quiets: &mut [u8],
+    room: &mut TurnRoom,
+)
+    requires same { length wires.old ≡ length lines.now }
+    requires counts { length quiets.old ≡ length lines.now }
+    requires known { All (HasLine hub.old) lines.now }
+    requires few { All (λ quiet. quiet < 10) quiets.old }
+    ensures round { (round : List Turn) × (length round ≡ length lines.now) ×
+        IsRound W.passed W.count lines.now hub.old quiets.old wires.old round hub.new quiets.new wires.new }
+    ensures few { All (λ quiet. quiet < 10) quiets.new }
+    ensures lines { SameLines hub.old hub.new }
+{
+    for i in 0..lines.len() {
+        quiets[i] = wire_turn(hub, lines[i], &mut wires[i], quiets[i], room);
+    }
+}
