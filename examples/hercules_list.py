@@ -23,7 +23,8 @@ CHAINED, ANY_LENGTH = 0x40, 0x20
 # Places in storage: the program, its channel program, the bytes that it writes, and where each of its three reads goes.
 CODE, CHANNEL_PROGRAM, DATA, READS = 0x400, 0x500, 0x600, (0x900, 0xA00, 0xB00)
 
-# What the 2703 is given to write. It doubles a 10 inside a transparent text by itself; so the text's frame is written apart from the text.
+# What the 2703 is given to write. It doubles a 10 inside a transparent text by itself, in the command that begins with 10 02 alone; so the
+# text is written together with its 10 02, and its 10 26 apart from it.
 CONTACT = bytes.fromhex("012d")
 TEXT_BEGINS = bytes.fromhex("1002")
 TEXT_ENDS = bytes.fromhex("1026")
@@ -34,7 +35,7 @@ LIST = bytes.fromhex("808fcf9a80caa0770004c2e4d9c5c1e482c500c1d5d5c184c4d3e8d6d5
 def channel_program():
     """The commands, and the bytes that they write."""
     steps, data = [(ENABLE, b"")], b""
-    for written in ([CONTACT], [TEXT_BEGINS, SIGN_ON, TEXT_ENDS], [TEXT_BEGINS, LIST, TEXT_ENDS]):
+    for written in ([CONTACT], [TEXT_BEGINS + SIGN_ON, TEXT_ENDS], [TEXT_BEGINS + LIST, TEXT_ENDS]):
         steps += [(WRITE, piece) for piece in written] + [(READ, None)]
     steps.append((DISABLE, b""))
     commands, reads = b"", iter(READS)
