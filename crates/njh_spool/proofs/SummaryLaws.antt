@@ -41,6 +41,16 @@ stage_of_one : (b : Bool) (count : ℕ) → count ≡ cond b 1 0 → 1 ≤ count
 stage_of_one true count is some = refl
 stage_of_one false count is some = absurd (omega arith)
 
+-- a whole file's summary is what its slot tells
+pub summary_numbered : (store : StoreValue) (slots : List FileSlot) (customers : List CustomerFiles) (c n : ℕ) →
+    IsKept store slots customers → is_whole (slot_of slots c n).stage ≡ true →
+    summary (whole_file (contents slots store.chains c) n) ≡ slot_summary n (slot_of slots c n)
+summary_numbered store slots customers c n kept whole =
+    let slot = slot_of slots c n in
+    let chain = chain_of store.chains c n in
+    ap (λ (k : ℕ). summary_with n slot k (headers_of slot.kind (contents slots store.chains c n).records)) (length-unpacked slot.count chain.bytes)
+    ∙ ap (λ (h : KeptHeaders). summary_with n slot slot.count h.said) (sym (kept.headers c n whole))
+
 pub summary_is : (store : StoreValue) (slots : List FileSlot) (customers : List CustomerFiles) (c i n : ℕ) →
     IsKept store slots customers → c < length (spools_of customers (contents slots store.chains)) →
     IsSomeAnd (slice_get (part c (spools_of customers (contents slots store.chains))).whole i) (λ f. n ≡ f.number) →

@@ -2,11 +2,11 @@
 
 ghost use Rattle.std.specs.Prelude.{◌≡◌, ◌+◌, ◌<◌, ◌≤◌, length, OnErr, IsSomeAnd, slice_get, slice_set};
 ghost use Rattle.std.specs.Option.{option_map, ForSome};
-ghost use Rattle.njh_spool.specs.CustomerSpool.{whole_numbered, with_state, removed, rewritten};
-ghost use Rattle.njh_spool.specs.Headers.{headers_of};
+ghost use Rattle.njh_spool.specs.CustomerSpool.{cost, whole_numbered, with_state, removed, rewritten};
+ghost use Rattle.njh_spool.specs.Headers.{headers_of, summary};
 ghost use Rattle.njh_spool.specs.Spools.{part, or_no_file};
 
-use crate::file_headers::{FileHeaders, headers_behind};
+use crate::file_headers::{FileHeaders, FileSummary, headers_behind};
 use crate::file_id::FileId;
 use crate::file_slot::{FileSlot, Stage};
 use crate::places::{place, slot_at};
@@ -55,6 +55,29 @@ impl Spool {
             return Err(SpoolFault::NoSuchFile);
         }
         Ok(slot.headers.said)
+    }
+
+    /// What is known of a whole file without a look at its records. S3 where the number is no whole file's.
+    pub fn summary(&self, customer: u16, id: FileId) -> Result<FileSummary, SpoolFault>
+        requires { customer < length self.now }
+        ensures { result ≡ or_no_file (option_map summary (whole_numbered id (part customer self.now))) }
+    {
+        let slot = slot_at(&self.slots, customer, id);
+        if !slot.is_whole() {
+            return Err(SpoolFault::NoSuchFile);
+        }
+        Ok(slot.summary(id))
+    }
+
+    /// How many blocks a whole file takes, without a look at its records. S3 where the number is no whole file's.
+    pub fn blocks(&self, customer: u16, id: FileId) -> Result<u32, SpoolFault>
+        requires { customer < length self.now }
+        ensures { result ≡ or_no_file (option_map (λ f. cost f.records) (whole_numbered id (part customer self.now))) }
+    {
+        if !slot_at(&self.slots, customer, id).is_whole() {
+            return Err(SpoolFault::NoSuchFile);
+        }
+        Ok(blocks_for(self.store.len(place(customer, id))))
     }
 
     /// S3 where the number is no whole file's.

@@ -1,0 +1,38 @@
+use Rattle.std.proofs.Common.{◌≡◌, Ok}
+use Rattle.std.proofs.Common.{refl, sym, ap, ◌∙◌, arith}
+use Rattle.njh_spool.specs.declared.file_slot.FileSlot.{FileSlot}
+use Rattle.njh_spool.specs.Slots.{slot_of, is_whole}
+use Rattle.njh_spool.proofs.CallFinds as finds
+use Rattle.njh_spool.proofs.SummaryLaws.{slot_summary, summary_numbered}
+use Rattle.njh_spool.proofs.spool.Spool.summary.Goals as goal
+use Rattle.njh_spool.proofs.spool.Spool.summary.Goals.{After-is_whole}
+
+pub slot_at-slot-requires : goal.slot_at-slot-requires
+slot_at-slot-requires c =
+    let has = finds.has c.self.inside.store c.self.inside.slots c.self.inside.customers.items c.args.customer c.args.id
+    c.self.invariant (rw c.self.view_is c.requires) in
+    omega (arith, has.slot_within 1023 (omega arith))
+
+same_slot : (c : After-is_whole) → c.slot_at-slot.result ≡ slot_of c.self.inside.slots c.args.customer c.args.id
+same_slot c = c.slot_at-slot.ensures
+
+stage_is : (c : After-is_whole) → is_whole (slot_of c.self.inside.slots c.args.customer c.args.id).stage ≡ c.is_whole.result
+stage_is c = ap (λ (x : FileSlot). is_whole x.stage) (sym (same_slot c)) ∙ sym c.is_whole.ensures
+
+pub returns-then-not-is_whole : goal.returns-then-not-is_whole
+returns-then-not-is_whole c =
+    let none = finds.finds_no_whole c.self.inside.store c.self.inside.slots c.self.inside.customers.items c.args.customer
+    c.args.id c.self.invariant (rw c.self.view_is c.requires)
+    (stage_is (goal.at.returns-then-not-is_whole c).After-is_whole ∙ c.if-not-is_whole.true) in
+    rw (← c.self.view_is, none.none) refl
+
+pub returns : goal.returns
+returns c =
+    let step = (goal.at.returns c).After-is_whole in
+    let there = stage_is step ∙ c.if-not-is_whole.false in
+    let found = finds.finds_whole c.self.inside.store c.self.inside.slots c.self.inside.customers.items c.args.customer
+    c.args.id c.self.invariant (rw c.self.view_is c.requires) there in
+    let slot = ap (slot_summary c.args.id) (same_slot step) in
+    let is = summary_numbered c.self.inside.store c.self.inside.slots c.self.inside.customers.items c.args.customer
+    c.args.id c.self.invariant there in
+    rw (← c.self.view_is, found) (ap Ok (c.summary.ensures ∙ slot ∙ sym is))
