@@ -20,7 +20,7 @@ use crate::sending::{
 };
 use njh_block::{Answer, BlockWriter, Fcs, Stream};
 use njh_command::give_up;
-use njh_line::{Config, Input, Line, Phase, Reply, Verdict};
+use njh_line::{Config, Input, Line, Phase, Reply, Session, Verdict};
 use njh_record::Record;
 use njh_sched::{Outgoing, fill, own_fcs};
 use njh_spool::{FileId, Spool};
@@ -118,6 +118,29 @@ impl CustomerLine {
         ensures { self.new ≡ with_senders_by (without_file file) self.old }
     {
         give_up(&mut self.senders, file);
+    }
+
+    /// Its session.
+    pub(crate) fn session(&self) -> Session
+        ensures { result ≡ self.now.state.session }
+    {
+        self.line.session()
+    }
+
+    /// What each of its streams to the hub is about.
+    pub(crate) fn receivers(&self) -> &[Receiver]
+        ensures same { result.now ≡ self.now.receivers }
+        ensures eight { length result.now ≡ 8 }
+    {
+        &self.receivers
+    }
+
+    /// What each of its streams from the hub is about.
+    pub(crate) fn senders(&self) -> &[Sender]
+        ensures same { result.now ≡ self.now.senders }
+        ensures eight { length result.now ≡ 8 }
+    {
+        &self.senders
     }
 
     /// Whether its state is up.

@@ -6,7 +6,7 @@ ghost use Rattle.njh_spool.specs.CustomerSpool.{empty_spool};
 ghost use Rattle.njh_spool.specs.Spools.{part};
 ghost use Rattle.njh_table.specs.Marks.{entry_unmarked};
 ghost use Rattle.njh_table.specs.TableFile.{customer_at, entry_of, password_bytes};
-ghost use Rattle.njh_customer.specs.Customer.{config_of, password_in, role_of};
+ghost use Rattle.njh_customer.specs.Customer.{config_of, line_at, password_in, role_of};
 ghost use Rattle.njh_customer.specs.Feeding.{acted_on};
 ghost use Rattle.njh_customer.specs.Leading.{Brings, IsReady, IsRetold, customer_of};
 ghost use Rattle.njh_customer.specs.Part.{rest_at};
@@ -19,8 +19,9 @@ use crate::room::Room;
 use crate::signal::Signal;
 use njh_bisync::Deframer;
 use njh_ebcdic::Name;
-use njh_line::Config;
+use njh_line::{Config, Session};
 use njh_spool::Spool;
+use njh_stream::{Receiver, Sender};
 use njh_table::{Customer, LineId, Role, Tables};
 use std::alloc::{AllocError, Global};
 use std::marker::Model;
@@ -72,6 +73,32 @@ impl Lines {
         ensures rests { result ≡ length self.now.rests }
     {
         self.lines.len()
+    }
+
+    /// A line's session.
+    pub fn session(&self, line: u16) -> Session
+        requires { line < length self.now.lines }
+        ensures { result ≡ (line_at line self.now.lines).state.session }
+    {
+        self.lines.line(line).session()
+    }
+
+    /// What each of a line's streams to the hub is about: SYSIN 1 to 4, SYSOUT 1 to 4.
+    pub fn receivers(&self, line: u16) -> &[Receiver]
+        requires { line < length self.now.lines }
+        ensures same { result.now ≡ (line_at line self.now.lines).receivers }
+        ensures eight { length result.now ≡ 8 }
+    {
+        self.lines.line(line).receivers()
+    }
+
+    /// What each of a line's streams from the hub is about, in the same order.
+    pub fn senders(&self, line: u16) -> &[Sender]
+        requires { line < length self.now.lines }
+        ensures same { result.now ≡ (line_at line self.now.lines).senders }
+        ensures eight { length result.now ≡ 8 }
+    {
+        self.lines.line(line).senders()
     }
 
     /// One step by bytes of a line: those up to the end of the first frame that is answered, or all. Says how many. The frame that is
