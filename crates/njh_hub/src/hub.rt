@@ -9,6 +9,7 @@ ghost use Rattle.njh_hub.specs.Files.{files_at};
 ghost use Rattle.njh_hub.specs.Steps.{IsStep};
 ghost use Rattle.njh_hub.specs.Whole.{part, HasLine};
 
+mod looking;
 mod retable;
 
 use crate::fault::HubFault;

@@ -3,6 +3,7 @@
 
 mod event;
 mod fault;
+mod file_summary;
 mod file_view;
 mod headline;
 mod hub;
@@ -13,6 +14,7 @@ mod rounds;
 mod route_list;
 mod run;
 mod serve;
+mod session_view;
 mod sink;
 mod turn;
 mod wire;
@@ -20,6 +22,7 @@ mod wire_law;
 
 pub use event::{Event, Piece, SHORT_PIECE};
 pub use fault::{Cause, HubFault, RunFault};
+pub use file_summary::FileSummaryView;
 pub use file_view::{FileRecord, FileView};
 pub use headline::{outcome, two_runs};
 pub use hub::Hub;
@@ -32,6 +35,7 @@ pub use reading::{Reading, WireFault};
 pub use rounds::Rounds;
 pub use route_list::RouteList;
 pub use serve::serve_turns;
+pub use session_view::SessionView;
 pub use sink::{Sink, SinkFault};
 pub use turn::{TurnRoom, wire_turn};
 pub use wire::Wire;

@@ -1,0 +1,26 @@
+use Rattle.std.proofs.Common.{◌<◌, ◌≤◌, List, length, ap, sym, ◌∙◌, arith}
+use Rattle.std.specs.Option.{option_map}
+use Rattle.std.proofs.lemmas.List.{get_or_past}
+use Rattle.njh_spool.specs.CustomerSpool.{whole_numbered}
+use Rattle.njh_hub.specs.Views.{file_on, file_summary}
+use Rattle.njh_hub.specs.Whole.{Part, no_part}
+use Rattle.njh_hub.proofs.PartsLaws.{length-parts_of, part-there}
+use Rattle.njh_hub.proofs.hub.Hub.file_summary.Goals as goal
+
+pub returns-then-from-len : goal.returns-then-from-len
+returns-then-from-len c =
+    let s = c.self.inside in
+    let count = length-parts_of s.tables s.spool s.lines.items in
+    let past : length c.args.self.now ≤ c.args.customer =
+    omega (arith, count, ap (λ (ps : List Part). length ps) c.self.view_is, s.lines.ok.0, c.self.invariant.lined) in
+    sym (ap (λ (p : Part). option_map file_summary (whole_numbered c.args.file p.customer.spool))
+    (get_or_past c.args.self.now c.args.customer no_part past))
+
+pub returns : goal.returns
+returns c =
+    let s = c.self.inside in
+    let there : c.args.customer < length s.tables.customers = omega (arith, s.lines.ok.0, c.self.invariant.lined) in
+    c.file_summary.ensures
+    ∙ ap (λ (p : Part). option_map file_summary (whole_numbered c.args.file p.customer.spool))
+    (sym (part-there s.tables s.spool s.lines.items c.args.customer there))
+    ∙ ap (λ (ps : List Part). option_map file_summary (file_on c.args.customer c.args.file ps)) c.self.view_is

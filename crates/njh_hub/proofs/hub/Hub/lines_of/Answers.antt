@@ -1,0 +1,27 @@
+use Rattle.std.proofs.Common.{◌≡◌, ◌<◌, List, length, ap, subst, sym, ◌∙◌, rules, arith}
+use Rattle.std.proofs.lemmas.List.{get_or_read}
+use Rattle.njh_customer.specs.Part.{Lines}
+use Rattle.njh_hub.specs.Parts.{lines_at, no_lines}
+use Rattle.njh_hub.specs.Whole.{Part, HasLine, part}
+use Rattle.njh_hub.proofs.PartsLaws.{line-there, part-there}
+use Rattle.njh_hub.proofs.hub.Hub.lines_of.Goals as goal
+
+pub index-requires : goal.index-requires
+index-requires c =
+    let s = c.self.inside in
+    let here : HasLine c.args.self.now c.args.line = search rules in
+    let known = subst (λ ps. HasLine ps c.args.line) (sym c.self.view_is) here in
+    omega (arith, line-there s.tables s.spool s.lines.items c.args.line known, c.self.invariant.lined, s.lines.ok.0)
+
+pub returns-clause-lines : goal.returns-clause-lines
+returns-clause-lines c =
+    let s = c.self.inside in
+    let n = c.args.line.customer in
+    let here : HasLine c.args.self.now c.args.line = search rules in
+    let known = subst (λ ps. HasLine ps c.args.line) (sym c.self.view_is) here in
+    let there = line-there s.tables s.spool s.lines.items c.args.line known in
+    let within : n < length s.lines.items = omega (arith, there, c.self.invariant.lined) in
+    let is : c.index.result.now ≡ lines_at n s.lines.items = get_or_read s.lines.items n c.index.result.now within (search rules) no_lines in
+    ap (λ (x : Lines). x.lines) is
+    ∙ sym (ap (λ (p : Part). p.customer.lines) (part-there s.tables s.spool s.lines.items n there))
+    ∙ ap (λ (ps : List Part). (part n ps).customer.lines) c.self.view_is

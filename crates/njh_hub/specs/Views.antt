@@ -1,0 +1,39 @@
+-- What is seen of a hub while it runs: of a line, and of a whole file without its records.
+use Rattle.std.specs.Prelude.{◌≡◌, ℕ, List, length, Option}
+use Rattle.njh_header.specs.FileHeaders.{name_of, owner_of, destination_of}
+use Rattle.njh_line.specs.declared.Phase.TheVariants.{Down}
+use Rattle.njh_line.specs.declared.session.Session.{Session}
+use Rattle.njh_spool.specs.CustomerSpool.{WholeFile, cost, whole_numbered}
+use Rattle.njh_table.specs.declared.LineId.{LineId}
+use Rattle.njh_customer.specs.Customer.{CustomerLine, line_at}
+use Rattle.njh_hub.specs.declared.file_summary.FileSummaryView.{FileSummaryView}
+use Rattle.njh_hub.specs.declared.session_view.SessionView.{SessionView}
+use Rattle.njh_hub.specs.Whole.{Part, part, HasLine}
+
+-- a line of the hub
+abbrev pub hub_line : LineId → List Part → CustomerLine
+hub_line line parts = line_at line.line (part line.customer parts).customer.lines
+
+abbrev pub session_view : Session → SessionView
+session_view s = record { phase = s.phase; tries = s.tries }
+
+-- A line of the hub is down, and its last session had made its five tries.
+pub record HasGivenUp (parts : List Part) (line : LineId) : Type 0 where
+  pub there : HasLine parts line
+  pub phase : (hub_line line parts).state.session.phase ≡ Down
+  pub tries : (hub_line line parts).state.session.tries ≡ 5
+
+-- the whole file of a number of customer c
+abbrev pub file_on : ℕ → ℕ → List Part → Option WholeFile
+file_on c n parts = whole_numbered n (part c parts).customer.spool
+
+abbrev pub file_summary : WholeFile → FileSummaryView
+file_summary f = record {
+  name = name_of f.records;
+  owner = owner_of f.records;
+  destination = destination_of f.kind f.records;
+  kind = f.kind;
+  state = f.state;
+  records = length f.records;
+  blocks = cost f.records;
+}

@@ -1,0 +1,50 @@
+//! What is shown of a whole file without its records.
+
+ghost use Rattle.std.specs.Prelude.{◌≡◌, ◌<◌, length};
+ghost use Rattle.std.specs.Option.{option_map};
+ghost use Rattle.njh_spool.specs.CustomerSpool.{whole_numbered};
+ghost use Rattle.njh_spool.specs.Spools.{part};
+ghost use Rattle.njh_hub.specs.Views.{file_summary};
+
+use njh_header::{Destination, FileName, User};
+use njh_record::Kind;
+use njh_spool::{FileId, Spool, State};
+
+/// A whole file, as it is shown without its records.
+///
+/// What its headers don't say, since one of them doesn't read, is none. The hub stores no such file.
+#[derive(Clone, Copy, Debug, PartialEq, Eq)]
+pub struct FileSummaryView {
+    /// What it is called: the node that it comes from, and its job number there.
+    pub name: Option<FileName>,
+    /// Whose it is: the node that it comes from, and the user there.
+    pub owner: Option<User>,
+    /// The node that it goes to, and the user there.
+    pub destination: Option<Destination>,
+    /// SYSIN or SYSOUT.
+    pub kind: Kind,
+    /// What it waits for.
+    pub state: State,
+    /// How many records it has.
+    pub records: u32,
+    /// How many blocks it takes.
+    pub blocks: u32,
+}
+
+/// What is shown of a customer's whole file; none where the number is no whole file's.
+pub(crate) fn file_summary(spool: &Spool, customer: u16, file: FileId) -> Option<FileSummaryView>
+    requires { customer < length spool.now }
+    ensures { result ≡ option_map file_summary (whole_numbered file (part customer spool.now)) }
+{
+    let summary = spool.summary(customer, file).ok()?;
+    let blocks = spool.blocks(customer, file).ok()?;
+    Some(FileSummaryView {
+        name: summary.headers.name,
+        owner: summary.headers.owner,
+        destination: summary.headers.destination,
+        kind: summary.kind,
+        state: summary.state,
+        records: summary.records,
+        blocks,
+    })
+}

@@ -1,0 +1,100 @@
+//! What is seen of a hub while it runs: of a line and of a file, without a copy of any record.
+
+ghost use Rattle.std.specs.Prelude.{◌≡◌, ◌<◌, ◌↔◌, length, IsTrue, IfOk, IsOk, OnErr, Err};
+ghost use Rattle.std.specs.Option.{option_map};
+ghost use Rattle.njh_hub.specs.Views.{HasGivenUp, file_on, file_summary, hub_line, session_view};
+ghost use Rattle.njh_hub.specs.Whole.{part, HasLine};
+
+use crate::fault::HubFault;
+use crate::file_summary::{FileSummaryView, file_summary};
+use crate::hub::Hub;
+use crate::session_view::SessionView;
+use njh_customer::Lines;
+use njh_line::Phase;
+use njh_spool::FileId;
+use njh_stream::{Receiver, Sender};
+use njh_table::LineId;
+
+/// How many tries in a row a session has.
+const TRIES: u8 = 5;
+
+impl Hub {
+    /// The lines of a line's customer. `UnknownLine` comes where the hub has no such line.
+    fn lines_of(&self, line: LineId) -> Result<&Lines, HubFault>
+        ensures lines { IfOk result (λ lines. lines.now.lines ≡ (part line.customer self.now).customer.lines) }
+        ensures known { IsOk result ↔ HasLine self.now line }
+        ensures unknown { OnErr result (result ≡ Err HubFault.UnknownLine) }
+    {
+        if !self.is_line(line) {
+            return Err(HubFault::UnknownLine);
+        }
+        Ok(&self.lines[usize::from(line.customer)])
+    }
+
+    /// A line's session, as far as it is shown. `UnknownLine` comes where the hub has no such line.
+    pub fn session(&self, line: LineId) -> Result<SessionView, HubFault>
+        ensures session { IfOk result (λ s. s ≡ session_view (hub_line line self.now).state.session) }
+        ensures known { IsOk result ↔ HasLine self.now line }
+        ensures unknown { OnErr result (result ≡ Err HubFault.UnknownLine) }
+    {
+        let lines = self.lines_of(line)?;
+        Ok(SessionView::of(lines.session(line.line)))
+    }
+
+    /// Whether a line is down and its last session had made all its five tries.
+    ///
+    /// So it is from the moment at which a session ends after its tries, until another session begins, and on a line that calls until
+    /// its next tick. A session that ends otherwise while it has made five tries looks the same: by the line's loss, say.
+    pub fn has_given_up(&self, line: LineId) -> bool
+        ensures { IsTrue result ↔ HasGivenUp self.now line }
+    {
+        match self.session(line) {
+            Ok(session) => session.phase == Phase::Down && session.tries == TRIES,
+            Err(_) => false,
+        }
+    }
+
+    /// What each of a line's streams to the hub is about: SYSIN 1 to 4, SYSOUT 1 to 4. `UnknownLine` comes where the hub has no such line.
+    pub fn receivers(&self, line: LineId) -> Result<&[Receiver], HubFault>
+        ensures receivers { IfOk result (λ receivers. receivers.now ≡ (hub_line line self.now).receivers) }
+        ensures eight { IfOk result (λ receivers. length receivers.now ≡ 8) }
+        ensures known { IsOk result ↔ HasLine self.now line }
+        ensures unknown { OnErr result (result ≡ Err HubFault.UnknownLine) }
+    {
+        let lines = self.lines_of(line)?;
+        Ok(lines.receivers(line.line))
+    }
+
+    /// What each of a line's streams from the hub is about, in the same order. `UnknownLine` comes where the hub has no such line.
+    pub fn senders(&self, line: LineId) -> Result<&[Sender], HubFault>
+        ensures senders { IfOk result (λ senders. senders.now ≡ (hub_line line self.now).senders) }
+        ensures eight { IfOk result (λ senders. length senders.now ≡ 8) }
+        ensures known { IsOk result ↔ HasLine self.now line }
+        ensures unknown { OnErr result (result ≡ Err HubFault.UnknownLine) }
+    {
+        let lines = self.lines_of(line)?;
+        Ok(lines.senders(line.line))
+    }
+
+    /// A customer's whole file of a number, without its records; none where it has none of that number, or the hub has no such customer.
+    pub fn file_summary(&self, customer: u16, file: FileId) -> Option<FileSummaryView>
+        ensures { result ≡ option_map file_summary (file_on customer file self.now) }
+    {
+        if usize::from(customer) >= self.lines.len() {
+            return None;
+        }
+        file_summary(&self.spool, customer, file)
+    }
+
+    /// How many blocks a customer's files may take. `UnknownCustomer` comes where the hub has no such customer.
+    pub fn quota(&self, customer: u16) -> Result<u32, HubFault>
+        ensures quota { IfOk result (λ blocks. blocks ≡ (part customer self.now).customer.entry.quota) }
+        ensures known { IsOk result ↔ (customer < length self.now) }
+        ensures unknown { OnErr result (result ≡ Err HubFault.UnknownCustomer) }
+    {
+        if usize::from(customer) >= self.lines.len() {
+            return Err(HubFault::UnknownCustomer);
+        }
+        Ok(self.tables.customer(customer).quota())
+    }
+}
