@@ -26,7 +26,7 @@ import subprocess
 import sys
 import time
 
-from frames import ACK0, CONTACT, Deframer, Text, framed, sign_on
+from frames import ACK0, CONTACT, NAK, Deframer, Text, framed, sign_on
 from hub import Hub, connected, customer_of, free_ports, line_of, options_of, places_of, row, table_of
 from peers import Crowd, Peer
 
@@ -39,10 +39,10 @@ BEGUN = bytes.fromhex("1002808fcf9a")
 
 
 def answered(peer, sent, wanted=2):
-    """Sends, and waits for so many bytes."""
+    """Sends, and waits for so many bytes, those of 3D aside."""
     peer.sendall(sent)
     got = b""
-    while len(got) < wanted:
+    while len(got) - got.count(NAK) < wanted:
         more = peer.recv(4096)
         if not more:
             raise ConnectionError("closed")
@@ -51,11 +51,11 @@ def answered(peer, sent, wanted=2):
 
 
 def asked(peer):
-    """Makes contact, and says how long the answer took."""
+    """Makes contact, and says how long the answer took, and how many 3D came before it."""
     begin = time.monotonic()
     got = answered(peer, CONTACT)
-    assert got == ACK0, got.hex()
-    return time.monotonic() - begin
+    assert got.replace(NAK, b"") == ACK0, got.hex()
+    return time.monotonic() - begin, got.count(NAK)
 
 
 def signed_on(port, node, **given):
@@ -77,15 +77,17 @@ class Other:
 
     @staticmethod
     def play(port, pipe):
-        times, end = [], time.monotonic() + 300
+        times, naks, end = [], 0, time.monotonic() + 300
         with connected(port) as peer:
             asked(peer)
             pipe.send("ready")
             try:
                 while time.monotonic() < end and not pipe.poll():
-                    times.append(asked(peer))
+                    lasted, early = asked(peer)
+                    times.append(lasted)
+                    naks += early
                     time.sleep(0.01)
-                pipe.send((times, ""))
+                pipe.send((times, f" The other line was sent {naks} 3D." if naks else ""))
             except (OSError, AssertionError) as error:
                 pipe.send((times, f" The other line: {type(error).__name__} {error}."))
 

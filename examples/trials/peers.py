@@ -140,12 +140,15 @@ class FilePeer(Peer):
         super().__init__(*words, **given)
 
     def begin(self):
-        self.state, self.place, self.coming, self.refused, self.went = "idle", 0, {}, 0, 0
+        self.state, self.place, self.coming, self.refused, self.went, self.heard = "idle", 0, {}, 0, 0, None
         super().begin()
 
     def turn(self, frame):
         self.goes = True
         if isinstance(frame, Text):
+            if frame[0] == self.heard:
+                return  # the same block again: it was answered already
+            self.heard = frame[0]
             self.goes = frame[1] & 0x40 == 0 and frame[2] & 0x08 != 0
             for record in records_of(frame):
                 self.take(*record)
