@@ -10,3 +10,5 @@ pub mod TurnLaws
 pub mod RoundLaws
 pub mod OwnWires
 pub mod RetableLaws
+pub mod ServiceLaws
+pub mod OwnRoutes

@@ -16,7 +16,7 @@ first-append : {A : Type 0} (b : Bool) (x : A) (xs ys zs : List A) → xs ≡ ys
 first-append true x xs ys zs e = ap (λ s. x ∷ s) e
 first-append false x xs ys zs e = e
 
-events_of-append : (c : ℕ) (xs ys : List Event) → events_of c (xs ++ ys) ≡ events_of c xs ++ events_of c ys
+pub events_of-append : (c : ℕ) (xs ys : List Event) → events_of c (xs ++ ys) ≡ events_of c xs ++ events_of c ys
 events_of-append c [] ys = refl
 events_of-append c (x ∷ xs) ys =
     first-append (eqb (customer_of x) c) (own x) (events_of c (xs ++ ys)) (events_of c xs) (events_of c ys) (events_of-append c xs ys)
@@ -90,7 +90,7 @@ own_turn c line quiet turn lines quiets turns true is =
 own_turn c line quiet turn lines quiets turns false is =
     ap (λ (es : List OwnEvent). es ++ events_of c (round_events lines quiets turns)) (turn-other c line quiet turn is)
 
-own_round : (c : ℕ) (lines : List LineId) (quiets : List ℕ) (turns : List Turn) →
+pub own_round : (c : ℕ) (lines : List LineId) (quiets : List ℕ) (turns : List Turn) →
     events_of c (round_events lines quiets turns)
     ≡ events_of c (round_events (own_wires c lines lines) (own_wires c lines quiets) (own_wires c lines turns))
 own_round c [] quiets turns = refl
@@ -110,7 +110,7 @@ own_quiets-where : (quiet : ℕ) (turn : Turn) (quiets : List ℕ) (turns : List
 own_quiets-where quiet turn quiets turns true = refl
 own_quiets-where quiet turn quiets turns false = refl
 
-own_quiets : (c : ℕ) (lines : List LineId) (quiets : List ℕ) (turns : List Turn) →
+pub own_quiets : (c : ℕ) (lines : List LineId) (quiets : List ℕ) (turns : List Turn) →
     own_wires c lines (quiets_after quiets turns) ≡ quiets_after (own_wires c lines quiets) (own_wires c lines turns)
 own_quiets c [] quiets turns = refl
 own_quiets c (line ∷ lines) [] turns = refl

@@ -1,6 +1,7 @@
 //! The hub: events of many customers' lines, and what each customer is sent.
 #![tactic(auto)]
 
+mod attendant;
 mod event;
 mod fault;
 mod file_summary;
@@ -14,12 +15,14 @@ mod rounds;
 mod route_list;
 mod run;
 mod serve;
+mod service;
 mod session_view;
 mod sink;
 mod turn;
 mod wire;
 mod wire_law;
 
+pub use attendant::{Attendant, NewRoutes};
 pub use event::{Event, Piece, SHORT_PIECE};
 pub use fault::{Cause, HubFault, RunFault};
 pub use file_summary::FileSummaryView;
@@ -35,8 +38,9 @@ pub use reading::{Reading, WireFault};
 pub use rounds::Rounds;
 pub use route_list::RouteList;
 pub use serve::serve_turns;
+pub use service::attend;
 pub use session_view::SessionView;
 pub use sink::{Sink, SinkFault};
 pub use turn::{TurnRoom, wire_turn};
 pub use wire::Wire;
-pub use wire_law::own_wires_decide;
+pub use wire_law::{own_wires_and_routes_decide, own_wires_decide};

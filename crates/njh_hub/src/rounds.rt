@@ -28,7 +28,8 @@ impl Model for Rounds {
 
     ghost view = { λ rounds. record { lines = rounds.lines.items; quiets = rounds.quiets.items } };
 
-    ghost invariant = { λ rounds. (length rounds.quiets.items ≡ length rounds.lines.items) × All (λ quiet. quiet < 10) rounds.quiets.items };
+    ghost invariant = { λ rounds. (length rounds.quiets.items ≡ length rounds.lines.items) ×
+        All (λ quiet. quiet < 10) rounds.quiets.items };
 }
 
 impl Rounds {
@@ -57,7 +58,8 @@ impl Rounds {
         requires same { length wires.old ≡ length self.old.lines }
         requires known { All (HasLine hub.old) self.old.lines }
         ensures round { (round : List Turn) × (length round ≡ length self.old.lines) ×
-            IsRound W.passed W.count self.old.lines hub.old self.old.quiets wires.old round hub.new self.new.quiets wires.new }
+            IsRound W.passed W.count self.old.lines hub.old self.old.quiets wires.old round
+            hub.new self.new.quiets wires.new }
         ensures same { self.new.lines ≡ self.old.lines }
         ensures lines { SameLines hub.old hub.new }
     {

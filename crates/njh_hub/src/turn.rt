@@ -26,8 +26,8 @@ const PIECE: usize = 4096;
 /// How many quiets in a row are no tick.
 const QUIETS: u8 = 9;
 
-/// What turns are taken in: the bytes that a read fills, and the room of the longest frame. It serves one turn after the other, of any wires,
-/// and says nothing of any.
+/// What turns are taken in: the bytes that a read fills, and the room of the longest frame. It serves one turn after
+/// the other, of any wires, and says nothing of any.
 #[derive(Drop)]
 pub struct TurnRoom {
     buffer: Vec<u8>,
@@ -58,11 +58,13 @@ impl TurnRoom {
     }
 }
 
-/// One turn of a wire of a line: reads it once, hands the hub what came of that, and writes each frame that the hub sends.
+/// One turn of a wire of a line: reads it once, hands the hub what came of that, and writes each frame that the hub
+/// sends.
 ///
-/// Bytes that came are handed over until they are used. Each tenth quiet in a row is a tick; `quiet` is how many came before,
-/// and the answer how many there are now: as many as before where the wire's answer is pending. A wire that is closed or can't be read loses its line. So does one that can't be written,
-/// and what was left of the bytes is dropped. Takes no memory, and clears none.
+/// Bytes that came are handed over until they are used. Each tenth quiet in a row is a tick; `quiet` is how many came
+/// before, and the answer how many there are now: as many as before where the wire's answer is pending. A wire that is
+/// closed or can't be read loses its line. So does one that can't be written, and what was left of the bytes is
+/// dropped. Takes no memory, and clears none.
 pub fn wire_turn<W: Wire>(
     hub: &mut Hub,
     line: LineId,

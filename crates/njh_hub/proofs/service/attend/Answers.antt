@@ -1,0 +1,94 @@
+use Rattle.std.proofs.Common.{◌≡◌, List, [], ◌∷◌, ◌++◌, ◌+◌, length, get_or, refl, ap, sym, subst, ◌∙◌, arith}
+use Rattle.std.specs.Prelude.{All}
+use Rattle.std.proofs.lemmas.List.{length-append}
+use Rattle.njh_table.specs.declared.LineId.{LineId}
+use Rattle.njh_hub.specs.Service.{Round, service_rounds}
+use Rattle.njh_hub.specs.Turns.{Turn, IsRound}
+use Rattle.njh_hub.specs.Whole.{HasLine}
+use Rattle.njh_hub.proofs.ServiceLaws.{at_first, at_still, at_given, at_round, rounds-with_given, rounds-with_round, with_given}
+use Rattle.njh_hub.proofs.service.attend.Goals as goal
+
+pub loop-turn-init : goal.loop-turn-init
+loop-turn-init g c = record {
+  story = (
+    [],
+    refl,
+    at_first g.W.Wire.passed g.W.Wire.count c.args.rounds.now.lines c.args.hub.now c.args.rounds.now.quiets c.args.wires.now
+        g.met.W.Wire.none,
+  );
+  lines = refl;
+  same = λ d. refl;
+}
+
+pub loop-turn-preserved : goal.loop-turn-preserved
+loop-turn-preserved g c =
+    let passed = g.W.Wire.passed in
+    let count = g.W.Wire.count in
+    let more = g.met.W.Wire.more in
+    let lines = c.args.rounds.now.lines in
+    let start = c.args.hub.now in
+    let quiets = c.args.rounds.now.quiets in
+    let wires = c.args.wires.now in
+    let now_quiets = c.loop-turn.rounds.quiets in
+    let lines_is : c.loop-turn.rounds.lines ≡ lines = c.loop-turn.invariant.lines in
+    let story = c.loop-turn.invariant.story.0 in
+    let many = c.loop-turn.invariant.story.1 in
+    let given = c.give_routes.ensures.given in
+    let round = c.take.ensures.round in
+    let told = with_given story given.0 in
+    let before = at_still passed count lines start quiets wires story c.loop-turn.hub now_quiets c.loop-turn.wires
+    c.before-in-loop-turn.new.wires more (omega (arith, c.requires.same)) c.loop-turn.invariant.story.2 c.before-in-loop-turn.ensures in
+    let routed = at_given passed count lines start quiets wires story c.loop-turn.hub now_quiets c.before-in-loop-turn.new.wires given.0
+    c.give_routes.new.hub before given.1 in
+    let P : List LineId → Type 0 = λ ls. IsRound passed count ls c.give_routes.new.hub now_quiets c.before-in-loop-turn.new.wires round.0
+    c.take.new.hub c.take.new.self.quiets c.take.new.wires in
+    let taken = at_round passed count lines start quiets wires told c.give_routes.new.hub now_quiets c.before-in-loop-turn.new.wires round.0
+    c.take.new.hub c.take.new.self.quiets c.take.new.wires more routed (round.1 ∙ ap (λ (ls : List LineId). length ls) lines_is)
+    (subst P lines_is round.2) in
+    let next = told ++ Round round.0 ∷ [] in
+    let one_more : length (service_rounds next) ≡ length (service_rounds story) + 1 =
+    ap (λ (rs : List (List Turn)). length rs) (rounds-with_round told round.0)
+    ∙ length-append (service_rounds told) (round.0 ∷ [])
+    ∙ ap (λ (rs : List (List Turn)). length rs + 1) (rounds-with_given story given.0) in
+    record {
+      story = (
+        next,
+        omega (arith, many, one_more),
+        at_still passed count lines start quiets wires next c.take.new.hub c.take.new.self.quiets c.take.new.wires c.after.new.wires more
+            (omega (arith, c.requires.same)) taken c.after.ensures,
+      );
+      lines = c.take.ensures.same ∙ lines_is;
+      same = λ d. c.take.ensures.lines d ∙ c.give_routes.ensures.lines d ∙ c.loop-turn.invariant.same d;
+    }
+
+pub take-requires-clause-same : goal.take-requires-clause-same
+take-requires-clause-same g c = omega (arith, c.requires.same, ap (λ (ls : List LineId). length ls) c.loop-turn.invariant.lines)
+
+pub take-requires-clause-known : goal.take-requires-clause-known
+take-requires-clause-known g c =
+    subst (λ (ls : List LineId). All (HasLine c.give_routes.new.hub) ls) (sym c.loop-turn.invariant.lines) (λ k d within.
+    omega (
+      arith,
+      c.requires.known k d within,
+      c.loop-turn.invariant.same (get_or c.args.rounds.now.lines k d).customer,
+      c.give_routes.ensures.lines (get_or c.args.rounds.now.lines k d).customer,
+    ))
+
+pub returns-clause-attended : goal.returns-clause-attended
+returns-clause-attended g c =
+    let so_far = c.loop-turn.invariant.story in
+    record {
+      story = so_far.0;
+      many = omega (arith, so_far.1);
+      each = so_far.2.each;
+      possible = so_far.2.possible;
+      hub = so_far.2.hub;
+      calm = so_far.2.calm;
+      had = so_far.2.had;
+    }
+
+pub returns-clause-lines : goal.returns-clause-lines
+returns-clause-lines g c = c.loop-turn.invariant.same
+
+pub returns-clause-same : goal.returns-clause-same
+returns-clause-same g c = c.loop-turn.invariant.lines

@@ -1,0 +1,14 @@
+use Rattle.std.proofs.Common.{◌≡◌, List, length}
+use Rattle.njh_hub.specs.Service.{Happening, service_rounds}
+use Rattle.njh_hub.specs.Whole.{SameLines}
+use Rattle.njh_hub.proofs.ServiceLaws.{IsAt}
+use Rattle.njh_hub.proofs.service.attend.Given as goal
+
+-- so many rounds are over
+abbrev pub invariant-loop-turn : goal.invariant-loop-turn
+invariant-loop-turn g l = record {
+  story : (story : List Happening) × (length (service_rounds story) ≡ l.turn) ×
+      IsAt g.W.Wire.passed g.W.Wire.count l.fn.rounds.lines l.fn.hub l.fn.rounds.quiets l.fn.wires story l.hub l.rounds.quiets l.wires;
+  lines : l.rounds.lines ≡ l.fn.rounds.lines;
+  same : SameLines l.fn.hub l.hub;
+}

@@ -1,0 +1,35 @@
+//! Who stands beside the rounds of a service.
+
+ghost use Rattle.njh_hub.specs.Service.{AreStill};
+
+use crate::fault::HubFault;
+use crate::hub::Hub;
+use crate::route_list::RouteList;
+use crate::wire::Wire;
+
+/// A customer, and the routes that it is to have from now on, in place of its own.
+#[derive(Drop)]
+pub struct NewRoutes {
+    /// The customer's number.
+    pub customer: u16,
+    /// Its routes.
+    pub routes: RouteList,
+}
+
+/// Sees to the wires before and after each round of a service, and brings new routes. No byte passes on a wire by it,
+/// and the hub is told of the routes alone.
+pub trait Attendant<W: Wire> {
+    /// Comes before each round, as the wait for what the wires have.
+    fn before(&mut self, wires: &mut [W])
+        ensures { AreStill W.passed W.count wires.old wires.new };
+
+    /// New routes, where a customer is to have some. It is asked once before each round.
+    fn new_routes(&mut self) -> Option<NewRoutes>;
+
+    /// What came of the routes that it brought: those of `Hub::retable`.
+    fn routes_given(&mut self, customer: u16, answer: Result<(), HubFault>);
+
+    /// Comes after each round.
+    fn after(&mut self, hub: &Hub, wires: &mut [W])
+        ensures { AreStill W.passed W.count wires.old wires.new };
+}
