@@ -1,0 +1,23 @@
+-- What one call of a connection moved.
+use Rattle.std.specs.Prelude.{ℕ, ◌<◌, ◌≤◌, List, [], take, Result, Ok, Err, ⊤}
+use Rattle.njh_wire.specs.declared.connection.Received.{Received}
+use Rattle.njh_wire.specs.declared.connection.Received.TheVariants.{Bytes, Nothing, Ended}
+use Rattle.njh_wire.specs.declared.connection.ConnectionFault.{ConnectionFault}
+
+-- the bytes that a read gave
+abbrev pub came : Result Received ConnectionFault → List ℕ → List ℕ
+came (Ok (Bytes n)) buffer = take n buffer
+came (Ok Nothing) buffer = []
+came (Ok Ended) buffer = []
+came (Err fault) buffer = []
+
+-- at least one byte came, and no more than there was room for
+abbrev pub IsReceived : ℕ → Received → Type 0
+IsReceived room (Bytes n) = (0 < n) × (n ≤ room)
+IsReceived room Nothing = ⊤
+IsReceived room Ended = ⊤
+
+-- how many bytes a call put out
+abbrev pub gone : Result ℕ ConnectionFault → ℕ
+gone (Ok n) = n
+gone (Err fault) = 0

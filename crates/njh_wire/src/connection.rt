@@ -1,0 +1,45 @@
+//! Connections whose calls never wait.
+
+ghost use Rattle.std.specs.Prelude.{◌<◌, ◌≤◌, [], ◌++◌, length, take, IfOk};
+ghost use Rattle.njh_wire.specs.Moved.{IsReceived, came, gone};
+
+/// What a read of a connection gives.
+#[derive(Clone, Copy, Debug, PartialEq, Eq)]
+pub enum Received {
+    /// So many bytes came, at least 1, and stand at the front of the buffer.
+    Bytes(usize),
+    /// Nothing is there now.
+    Nothing,
+    /// The other end sends no more.
+    Ended,
+}
+
+/// A connection can't be used any more.
+#[derive(Clone, Copy, Debug, PartialEq, Eq)]
+pub struct ConnectionFault;
+
+/// A connection whose calls never wait.
+pub trait Connection {
+    ghost use Rattle.std.specs.Prelude.{ℕ, List};
+
+    /// Between these two states these bytes came in and these went out, each in order, and nothing else.
+    ghost moved: { Self → Self → List ℕ → List ℕ → Type 0 };
+
+    /// Reads what is there, up to the length of the buffer. A fault gives no bytes.
+    fn receive(&mut self, into: &mut [u8]) -> Result<Received, ConnectionFault>
+        requires { 0 < length into.old }
+        ensures moved { moved self.old self.new (came result into.new) [] }
+        ensures within { IfOk result (IsReceived (length into.new)) };
+
+    /// Sends as many of the bytes as go out now, and answers how many, 0 where none can. A fault sends none.
+    fn send(&mut self, bytes: &[u8]) -> Result<usize, ConnectionFault>
+        ensures moved { moved self.old self.new [] (take (gone result) bytes.now) }
+        ensures within { IfOk result (λ count. count ≤ length bytes.now) };
+
+    /// Nothing moved where nothing happened.
+    ghost none: { (s : Self) → moved s s [] [] };
+
+    /// Some bytes, and then more.
+    ghost more: { (a b c : Self) (came next_came went next_went : List ℕ) → moved a b came went →
+        moved b c next_came next_went → moved a c (came ++ next_came) (went ++ next_went) };
+}
