@@ -1,1 +1,3 @@
 pub mod Moved
+pub mod Standing
+pub mod Answers

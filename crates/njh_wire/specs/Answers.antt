@@ -1,0 +1,107 @@
+-- What a wire of a line answers, and how it stands then.
+use Rattle.std.specs.Prelude.{◌≡◌, ◌≢◌, ℕ, ◌+◌, ◌-◌, ◌<◌, ◌≤◌, ◌⊎◌, true, false, IsTrue, List, [], ◌++◌, length, take, drop}
+use Rattle.std.specs.Prelude.{Option, Some, None, IsSome, Result, Ok, Err}
+use Rattle.njh_hub.specs.declared.reading.Reading.{Reading}
+use Rattle.njh_hub.specs.declared.reading.Reading.TheVariants as reading
+use Rattle.njh_hub.specs.declared.reading.WireFault.{WireFault}
+use Rattle.njh_wire.specs.declared.end.End.TheVariants as ends
+use Rattle.njh_wire.specs.declared.end.Parting.TheVariants.{Closed, Failed}
+use Rattle.njh_wire.specs.declared.end.Stop.{Stop}
+use Rattle.njh_wire.specs.declared.end.Stop.TheVariants as stops
+use Rattle.njh_wire.specs.Standing.{Standing, later, resumed, parted, failed, given_up, keeping, stopped, hearing}
+
+-- Nothing came. That is a quiet only when it is due, and then the next is due 100 milliseconds later.
+abbrev pub IsSilence : {C : Type 0} → Standing C → Reading → Standing C → Type 0
+IsSilence s (reading.Bytes n) new = ⊥
+IsSilence s reading.Quiet new = IsSome s.connection × (s.due ≤ s.clock) × (new ≡ record s { due = later s.clock })
+IsSilence s reading.Pending new = IsSome s.connection × (s.clock < s.due) × (new ≡ s)
+IsSilence s reading.Closed new = ⊥
+IsSilence s reading.Absent new = (s.connection ≡ None) × (new ≡ s)
+
+-- What a wire answers that gives no bytes: the end of a connection once, and silence where there is none to tell.
+abbrev pub IsAnswer : {C : Type 0} → Standing C → Result Reading WireFault → Standing C → Type 0
+IsAnswer s (Ok reading.Closed) new = (s.parting ≡ Some Closed) × (new ≡ resumed s.next s)
+IsAnswer s (Err fault) new = (s.parting ≡ Some Failed) × (new ≡ resumed s.next (failed s))
+IsAnswer s (Ok (reading.Bytes n)) new = ⊥
+IsAnswer s (Ok reading.Quiet) new = (s.parting ≡ None) × IsSilence s reading.Quiet new
+IsAnswer s (Ok reading.Pending) new = (s.parting ≡ None) × IsSilence s reading.Pending new
+IsAnswer s (Ok reading.Absent) new = (s.parting ≡ None) × IsSilence s reading.Absent new
+
+-- a wire that begins to read
+abbrev pub unanswered : {C : Type 0} → Standing C → Standing C
+unanswered s = record s { answered = false }
+
+-- something may be there to read, and no end is to be told
+abbrev pub IsOpen : {C : Type 0} → Standing C → Type 0
+IsOpen s = IsSome s.connection × IsTrue s.readable × (s.parting ≡ None)
+
+-- The connection gave these bytes and no others, put none out, and then stopped.
+pub record Receives {C : Type 0} (moved : C → C → List ℕ → List ℕ → Type 0) (s : Standing C) (bytes : List ℕ)
+    (new : Standing C) : Type 0 where
+  pub before : C
+  pub after : C
+  pub stop : Stop
+  pub connected : s.connection ≡ Some before
+  pub moves : moved before after bytes []
+  pub dry : length bytes ≡ 0 → stop ≢ stops.Full
+  pub stands : new ≡ stopped stop (record s { connection = Some after })
+
+-- No bytes came: the connection gave none, or wasn't read.
+pub record GivesNone {C : Type 0} (moved : C → C → List ℕ → List ℕ → Type 0) (s new : Standing C) : Type 0 where
+  pub received : IsOpen s → Receives moved s [] new
+  pub shut : ¬ IsOpen s → new ≡ s
+
+-- What a wire answers at a read while bytes wait to go out: it waits for a second, and then gives the connection up.
+abbrev pub IsWait : {C : Type 0} → Standing C → Result Reading WireFault → Standing C → Type 0
+IsWait s (Ok reading.Pending) new = (s.clock - s.since < 1000) × (new ≡ s)
+IsWait s (Err fault) new = (1000 ≤ s.clock - s.since) × (new ≡ given_up ends.Stalled s)
+IsWait s (Ok (reading.Bytes n)) new = ⊥
+IsWait s (Ok reading.Quiet) new = ⊥
+IsWait s (Ok reading.Closed) new = ⊥
+IsWait s (Ok reading.Absent) new = ⊥
+
+-- What a wire answers at a read while nothing waits: the bytes that the connection gave, or what `IsAnswer` says where it gave none.
+abbrev pub IsRead : {C : Type 0} → (C → C → List ℕ → List ℕ → Type 0) → Standing C → Result Reading WireFault → List ℕ →
+    Standing C → Type 0
+IsRead {C = C} moved s (Ok (reading.Bytes n)) buffer new =
+    IsOpen s × ((middle : Standing C) × Receives moved s (take n buffer) middle × (new ≡ hearing middle))
+IsRead {C = C} moved s (Ok reading.Quiet) buffer new =
+    (middle : Standing C) × GivesNone moved s middle × IsAnswer middle (Ok reading.Quiet) new
+IsRead {C = C} moved s (Ok reading.Pending) buffer new =
+    (middle : Standing C) × GivesNone moved s middle × IsAnswer middle (Ok reading.Pending) new
+IsRead {C = C} moved s (Ok reading.Closed) buffer new =
+    (middle : Standing C) × GivesNone moved s middle × IsAnswer middle (Ok reading.Closed) new
+IsRead {C = C} moved s (Ok reading.Absent) buffer new =
+    (middle : Standing C) × GivesNone moved s middle × IsAnswer middle (Ok reading.Absent) new
+IsRead {C = C} moved s (Err fault) buffer new =
+    (middle : Standing C) × GivesNone moved s middle × IsAnswer middle (Err fault) new
+
+-- A connection put out these bytes and no others, and gave none.
+pub record Sends {C : Type 0} (moved : C → C → List ℕ → List ℕ → Type 0) (connection : Option C) (bytes : List ℕ)
+    (new : Option C) : Type 0 where
+  pub before : C
+  pub after : C
+  pub connected : connection ≡ Some before
+  pub moves : moved before after [] bytes
+  pub stands : new ≡ Some after
+
+-- A frame was written: so many bytes of it went out, and the others wait. None goes out past what waits, and once a read.
+pub record IsWritten {C : Type 0} (moved : C → C → List ℕ → List ℕ → Type 0) (s : Standing C) (frame : List ℕ)
+    (new : Standing C) : Type 0 where
+  pub went : ℕ
+  pub within : went ≤ length frame
+  pub sends : Sends moved s.connection (take went frame) new.connection
+  pub once : IsTrue s.answered → went ≡ 0
+  pub order : 0 < length s.waiting → went ≡ 0
+  pub stands : new ≡ record (keeping (drop went frame) s) { connection = new.connection }
+
+-- Bytes that waited were put out as far as they go now, and the rest still waits.
+pub record IsSentOn {C : Type 0} (moved : C → C → List ℕ → List ℕ → Type 0) (s new : Standing C) : Type 0 where
+  pub went : List ℕ
+  pub whole : s.waiting ≡ went ++ new.waiting
+  pub sends : Sends moved s.connection went new.connection
+  pub stands : new ≡ record s { connection = new.connection; waiting = new.waiting }
+
+-- Bytes that waited were sent on, or the connection failed and the next read is to tell.
+abbrev pub IsFlushed : {C : Type 0} → (C → C → List ℕ → List ℕ → Type 0) → Standing C → Standing C → Type 0
+IsFlushed moved s new = IsSentOn moved s new ⊎ (new ≡ parted Failed ends.Failed s)

@@ -1,0 +1,111 @@
+-- How a wire of a line stands, and what leads it from one standing to the next.
+use Rattle.std.specs.Prelude.{ℕ, ◌+◌, min, ◌==◌, if◌then◌else◌, ◌++◌, length, Bool, true, false, List, [], Option, Some, None}
+use Rattle.njh_wire.specs.declared.end.End.{End}
+use Rattle.njh_wire.specs.declared.end.End.TheVariants as ends
+use Rattle.njh_wire.specs.declared.end.Parting.{Parting}
+use Rattle.njh_wire.specs.declared.end.Parting.TheVariants.{Closed, Failed}
+use Rattle.njh_wire.specs.declared.end.Stop.{Stop}
+use Rattle.njh_wire.specs.declared.end.Stop.TheVariants as stops
+
+-- How a wire of a line stands. Times are milliseconds on the service's clock.
+pub record Standing (C : Type 0) : Type 0 where
+  -- who is connected
+  pub connection : Option C
+  -- who takes the place of the connection that is gone, once its line was told
+  pub next : Option C
+  -- what the next read answers in place of reading
+  pub parting : Option Parting
+  -- the bytes that wait to go out, and since when
+  pub waiting : List ℕ
+  pub since : ℕ
+  -- whether something may be there to read
+  pub readable : Bool
+  -- whether a frame was written since the last read
+  pub answered : Bool
+  -- the time now, when silence is a quiet, and when bytes last came
+  pub clock : ℕ
+  pub due : ℕ
+  pub heard : ℕ
+  -- why the last connection ended
+  pub end : Option End
+  pub failures : ℕ
+
+-- 100 milliseconds later
+abbrev pub later : ℕ → ℕ
+later clock = min (clock + 100) 18446744073709551615
+
+-- nobody is connected, and the clock stands at 0
+abbrev pub opened : {C : Type 0} → Standing C
+opened = record {
+  connection = None;
+  next = None;
+  parting = None;
+  waiting = [];
+  since = 0;
+  readable = false;
+  answered = false;
+  clock = 0;
+  due = 0;
+  heard = 0;
+  end = None;
+  failures = 0;
+}
+
+-- A connection, or none, is there anew: nothing waits, and its silence begins now.
+abbrev pub resumed : {C : Type 0} → Option C → Standing C → Standing C
+resumed connection s = record s {
+  connection = connection;
+  next = None;
+  parting = None;
+  waiting = [];
+  readable = true;
+  answered = false;
+  due = later s.clock;
+  heard = s.clock;
+}
+
+-- The connection is dropped with what waits, and the next read is to tell.
+abbrev pub parted : {C : Type 0} → Parting → End → Standing C → Standing C
+parted parting end s = record s { connection = None; waiting = []; parting = Some parting; end = Some end }
+
+-- one failure more
+abbrev pub failed : {C : Type 0} → Standing C → Standing C
+failed s = record s { failures = min (s.failures + 1) 18446744073709551615 }
+
+-- The connection is given up, which is a failure, and the next takes its place.
+abbrev pub given_up : {C : Type 0} → End → Standing C → Standing C
+given_up end s = resumed s.next (failed (parted Failed end s))
+
+-- where somebody is connected, that one is replaced
+abbrev pub displaced : {C : Type 0} → Standing C → Standing C
+displaced s = elim (s.connection) [ None ↦ s | Some c ↦ parted Closed ends.Replaced s ]
+
+-- a connection is there, at once or once the end of the one before was told
+abbrev pub admitted : {C : Type 0} → C → Standing C → Standing C
+admitted c s = elim (s.parting) [ None ↦ resumed (Some c) s | Some parting ↦ record s { next = Some c } ]
+
+-- the connection is ended from here
+abbrev pub closed : {C : Type 0} → Standing C → Standing C
+closed s = elim (s.connection) [
+  | None ↦ record s { next = None }
+  | Some c ↦ record (parted Closed ends.Closed s) { next = None }
+]
+
+-- how receiving stopped
+abbrev pub stopped : {C : Type 0} → Stop → Standing C → Standing C
+stopped stops.Full s = s
+stopped stops.Dry s = record s { readable = false }
+stopped stops.Ended s = record s { parting = Some Closed; end = Some ends.Ended }
+stopped stops.Failed s = record s { parting = Some Failed; end = Some ends.Failed }
+
+-- bytes came now
+abbrev pub hearing : {C : Type 0} → Standing C → Standing C
+hearing s = record s { due = later s.clock; heard = s.clock }
+
+-- bytes of a frame wait behind what waited, since now where nothing did
+abbrev pub keeping : {C : Type 0} → List ℕ → Standing C → Standing C
+keeping rest s = record s {
+  answered = true;
+  waiting = s.waiting ++ rest;
+  since = if length s.waiting == 0 then s.clock else s.since;
+}

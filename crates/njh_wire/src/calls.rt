@@ -1,0 +1,68 @@
+//! Calls of a connection that may be there.
+
+ghost use Rattle.std.specs.Prelude.{◌≡◌, ◌≤◌, [], length, take, IsSome, IfOk, IfSome};
+ghost use Rattle.njh_wire.specs.Answers.{Sends};
+ghost use Rattle.njh_wire.specs.declared.end.Stop.TheVariants.{Full};
+
+use crate::connection::{Connection, ConnectionFault, Received};
+use crate::end::Stop;
+
+/// Reads a connection until the buffer is full or nothing more comes, and answers how many bytes came and why no more.
+fn receive_all<C: Connection>(connection: &mut C, into: &mut [u8]) -> (usize, Stop)
+    ensures moved { C.moved connection.old connection.new (take result.0 into.new) [] }
+    ensures within { result.0 ≤ length into.new }
+    ensures full { result.1 ≡ Full → result.0 ≡ length into.new }
+{
+    let mut count = 0;
+    while count < into.len() {
+        let (_, rest) = into.split_at_mut(count);
+        match connection.receive(rest) {
+            Ok(Received::Bytes(more)) => count += more,
+            Ok(Received::Nothing) => return (count, Stop::Dry),
+            Ok(Received::Ended) => return (count, Stop::Ended),
+            Err(_) => return (count, Stop::Failed),
+        }
+    }
+    (count, Stop::Full)
+}
+
+/// Reads a connection that is there.
+pub(crate) fn receive_on<C: Connection + Drop>(
+    connection: &mut Option<C>,
+    into: &mut [u8],
+) -> (usize, Stop)
+    requires { IsSome connection.old }
+    ensures moved { (before after : C) × (connection.old ≡ Some before) × (connection.new ≡ Some after) ×
+        C.moved before after (take result.0 into.new) [] }
+    ensures within { result.0 ≤ length into.new }
+    ensures full { result.1 ≡ Full → result.0 ≡ length into.new }
+{
+    match connection {
+        Some(connection) => receive_all(connection, into),
+        None => unreachable!(),
+    }
+}
+
+/// Sends bytes on a connection, if there is one.
+pub(crate) fn send_on<C: Connection + Drop>(
+    connection: &mut Option<C>,
+    bytes: &[u8],
+) -> Result<usize, ConnectionFault>
+    ensures moved { IfOk result (λ count. Sends C.moved connection.old (take count bytes.now) connection.new) }
+    ensures within { IfOk result (λ count. count ≤ length bytes.now) }
+{
+    match connection {
+        Some(connection) => connection.send(bytes),
+        None => Err(ConnectionFault),
+    }
+}
+
+/// Sends no bytes on a connection, if there is one.
+pub(crate) fn send_none<C: Connection + Drop>(connection: &mut Option<C>) -> Option<usize>
+    ensures none { IfSome result (λ count. count ≡ 0) }
+    ensures moved { IfSome result (λ count. Sends C.moved connection.old [] connection.new) }
+    ensures succeeds { IsSome connection.old → IsSome result }
+    ensures same { connection.new ≡ connection.old }
+{
+    if connection.is_some() { Some(0) } else { None }
+}

@@ -1,0 +1,38 @@
+//! How connections end.
+
+/// Why a connection of a line ended.
+#[derive(Clone, Copy, Debug, PartialEq, Eq)]
+pub enum End {
+    /// The other end sent no more.
+    Ended,
+    /// It could not be read or written, or took more answers than there is room for.
+    Failed,
+    /// It took nothing for a second while bytes waited to go out.
+    Stalled,
+    /// Another connection took its place.
+    Replaced,
+    /// It was closed from here.
+    Closed,
+}
+
+/// What the next read of a wire answers in place of reading.
+#[derive(Clone, Copy, Debug, PartialEq, Eq)]
+pub enum Parting {
+    /// The other end is gone.
+    Closed,
+    /// The connection failed.
+    Failed,
+}
+
+/// Why no more bytes were received.
+#[derive(Clone, Copy, Debug, PartialEq, Eq)]
+pub enum Stop {
+    /// The buffer is full.
+    Full,
+    /// Nothing more is there now.
+    Dry,
+    /// The other end sends no more.
+    Ended,
+    /// The connection failed.
+    Failed,
+}

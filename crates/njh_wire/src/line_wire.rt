@@ -1,0 +1,455 @@
+//! The wire of a line, over connections that never wait.
+
+ghost use Rattle.std.specs.Prelude.{true, false, None, Some, ◌≡◌, ◌≢◌, ◌+◌, ◌-◌, ◌<◌, ◌≤◌, [], ◌++◌, length, take, IsTrue, ◌↔◌, ◌⊎◌, min, ⊤, IsSome, IsOk, IfSome, OnOk, OnErr, IfOk};
+ghost use Rattle.njh_hub.specs.Sent.{IsCounted};
+ghost use Rattle.njh_hub.specs.Wires.{IsReading};
+ghost use Rattle.njh_wire.specs.declared.end.End.TheVariants.{Failed};
+ghost use Rattle.njh_wire.specs.Standing.{later, opened, resumed, parted, failed, given_up, displaced, admitted, closed, stopped, hearing, keeping};
+ghost use Rattle.njh_wire.specs.Answers.{IsSilence, IsAnswer, IsOpen, Sends, IsWait, IsRead, IsWritten, IsSentOn, IsFlushed, GivesNone, Receives, unanswered};
+
+use crate::calls::{receive_on, send_none, send_on};
+use crate::connection::Connection;
+use crate::end::{End, Parting, Stop};
+use crate::outbox::{Outbox, ROOM};
+use njh_hub::{Reading, Wire, WireFault};
+use std::alloc::{AllocError, Global};
+use std::marker::Model;
+
+/// How many milliseconds of silence are a quiet.
+pub const QUIET_TIME: u64 = 100;
+
+/// For how many milliseconds bytes may wait to go out.
+pub const STALL_TIME: u64 = 1000;
+
+/// The wire of a line over connections that never wait, of which it has one at a time.
+///
+/// It looks at no clock: who serves it sets its time and marks it when its connection has something to read.
+#[derive(Drop)]
+pub struct LineWire<C: Connection + Drop> {
+    connection: Option<C>,
+    next: Option<C>,
+    parting: Option<Parting>,
+    waiting: Outbox,
+    since: u64,
+    readable: bool,
+    answered: bool,
+    clock: u64,
+    due: u64,
+    heard: u64,
+    end: Option<End>,
+    failures: u64,
+}
+
+impl<C: Connection + Drop> Model for LineWire<C> {
+    ghost use Rattle.njh_wire.specs.Standing.{Standing};
+
+    ghost Value = { Standing C };
+
+    ghost view = { λ wire. record {
+      connection = wire.connection;
+      next = wire.next;
+      parting = wire.parting;
+      waiting = wire.waiting;
+      since = wire.since;
+      readable = wire.readable;
+      answered = wire.answered;
+      clock = wire.clock;
+      due = wire.due;
+      heard = wire.heard;
+      end = wire.end;
+      failures = wire.failures;
+    } };
+}
+
+impl<C: Connection + Drop> LineWire<C> {
+    /// A wire on which nobody is connected. Takes the room for bytes that wait, and no memory later; out of memory is the only
+    /// refusal.
+    pub fn new(alloc: Global) -> Result<Self, AllocError>
+        ensures { IfOk result (λ wire. wire ≡ opened) }
+    {
+        Ok(LineWire {
+            connection: None,
+            next: None,
+            parting: None,
+            waiting: Outbox::new(alloc)?,
+            since: 0,
+            readable: false,
+            answered: false,
+            clock: 0,
+            due: 0,
+            heard: 0,
+            end: None,
+            failures: 0,
+        })
+    }
+
+    /// Sets the time, in milliseconds.
+    pub fn set_clock(&mut self, now: u64)
+        ensures { self.new ≡ record self.old { clock = now } }
+    {
+        self.clock = now;
+    }
+
+    /// Something may be there to read.
+    pub fn mark_readable(&mut self)
+        ensures { self.new ≡ record self.old { readable = true } }
+    {
+        self.readable = true;
+    }
+
+    /// Why its last connection ended, once.
+    pub fn take_end(&mut self) -> Option<End>
+        ensures end { result ≡ self.old.end }
+        ensures taken { self.new ≡ record self.old { end = None } }
+    {
+        self.end.take()
+    }
+
+    /// Takes a connection. Where there is one it is dropped, the next read answers that it is closed, and then the new one is read.
+    pub fn connect(&mut self, connection: C)
+        ensures { self.new ≡ admitted connection (displaced self.old) }
+    {
+        if self.connection.is_some() {
+            self.part(Parting::Closed, End::Replaced);
+        }
+        match self.parting {
+            Some(_) => self.next = Some(connection),
+            None => self.resume(Some(connection)),
+        }
+    }
+
+    /// Drops the connection. The next read answers that it is closed.
+    pub fn close(&mut self)
+        ensures { self.new ≡ closed self.old }
+    {
+        if self.connection.is_some() {
+            self.part(Parting::Closed, End::Closed);
+        }
+        self.next = None;
+    }
+
+    /// Whether somebody is connected.
+    pub fn is_connected(&self) -> bool
+        ensures { IsTrue result ↔ (IsSome self.now.connection ⊎ IsSome self.now.next) }
+    {
+        self.connection.is_some() || self.next.is_some()
+    }
+
+    /// Whether the next read is to be made now, whatever the time: something may be there to read, or an end is to be told.
+    pub fn is_ready(&self) -> bool
+        ensures { IsTrue result ↔ ((self.now.waiting ≡ []) × (IsSome self.now.parting ⊎ IsOpen self.now)) }
+    {
+        self.waiting.is_empty() && (self.parting.is_some() || self.is_open())
+    }
+
+    /// Whether bytes wait to go out.
+    pub fn waits_to_send(&self) -> bool
+        ensures { IsTrue result ↔ (0 < length self.now.waiting) }
+    {
+        !self.waiting.is_empty()
+    }
+
+    /// When its next read can answer something other than `Pending` though nothing came, in milliseconds: at its next quiet, or when
+    /// bytes will have waited for a second. `u64::MAX` where nobody is connected.
+    pub fn due(&self) -> u64
+        ensures waits { 0 < length self.now.waiting → result ≡ min (self.now.since + 1000) u64.MAX }
+        ensures quiet { self.now.waiting ≡ [] → IsSome self.now.connection → result ≡ self.now.due }
+        ensures absent { self.now.waiting ≡ [] → self.now.connection ≡ None → result ≡ u64.MAX }
+    {
+        if !self.waiting.is_empty() {
+            return self.since.saturating_add(STALL_TIME);
+        }
+        if self.connection.is_some() {
+            self.due
+        } else {
+            u64::MAX
+        }
+    }
+
+    /// For how many milliseconds nothing came on its connection.
+    pub fn silent_for(&self) -> u64
+        ensures { result ≡ self.now.clock - self.now.heard }
+    {
+        self.clock.saturating_sub(self.heard)
+    }
+
+    /// Sends on what waits, as far as it goes now. Where that fails the connection is dropped, and the next read answers a fault.
+    pub fn flush(&mut self)
+        ensures idle { self.old.waiting ≡ [] → self.new ≡ self.old }
+        ensures flushed { 0 < length self.old.waiting → IsFlushed C.moved self.old self.new }
+    {
+        if self.waiting.is_empty() {
+            return;
+        }
+        match send_on(&mut self.connection, self.waiting.as_slice()) {
+            Ok(went) => self.waiting.remove_front(went),
+            Err(_) => self.part(Parting::Failed, End::Failed),
+        }
+    }
+
+    /// A connection, or none, is there anew.
+    fn resume(&mut self, connection: Option<C>)
+        ensures { self.new ≡ resumed connection self.old }
+    {
+        self.connection = connection;
+        self.next = None;
+        self.parting = None;
+        self.waiting.clear();
+        self.readable = true;
+        self.answered = false;
+        self.due = self.clock.saturating_add(QUIET_TIME);
+        self.heard = self.clock;
+    }
+
+    /// The connection is dropped with what waits, and the next read is to tell.
+    fn part(&mut self, parting: Parting, end: End)
+        ensures { self.new ≡ parted parting end self.old }
+    {
+        self.connection = None;
+        self.waiting.clear();
+        self.parting = Some(parting);
+        self.end = Some(end);
+    }
+
+    /// Takes the next connection, if there is one.
+    fn advance(&mut self)
+        ensures { self.new ≡ resumed self.old.next self.old }
+    {
+        let next = self.next.take();
+        self.resume(next);
+    }
+
+    /// Counts a failure.
+    fn fail(&mut self)
+        ensures stands { self.new ≡ failed self.old }
+        ensures counts { self.old.failures ≤ self.new.failures }
+        ensures counted { IsCounted self.old.failures self.new.failures }
+    {
+        self.failures = self.failures.saturating_add(1);
+    }
+
+    /// What it answers where nothing came of reading.
+    fn answer(&mut self) -> Result<Reading, WireFault>
+        ensures answer { IsAnswer self.old result self.new }
+        ensures counts { self.old.failures ≤ self.new.failures }
+        ensures counted { OnErr result (IsCounted self.old.failures self.new.failures) }
+    {
+        match self.parting {
+            Some(Parting::Closed) => {
+                self.advance();
+                Ok(Reading::Closed)
+            }
+            Some(Parting::Failed) => {
+                self.fail();
+                self.advance();
+                Err(WireFault)
+            }
+            None => Ok(self.silence()),
+        }
+    }
+
+    /// What it answers where nothing came.
+    fn silence(&mut self) -> Reading
+        ensures { IsSilence self.old result self.new }
+    {
+        if self.connection.is_none() {
+            return Reading::Absent;
+        }
+        if self.clock < self.due {
+            return Reading::Pending;
+        }
+        self.due = self.clock.saturating_add(QUIET_TIME);
+        Reading::Quiet
+    }
+
+    /// Whether something may be there to read and no end is to be told.
+    fn is_open(&self) -> bool
+        ensures { IsTrue result ↔ IsOpen self.now }
+    {
+        self.connection.is_some() && self.readable && self.parting.is_none()
+    }
+
+    /// Reads the connection, and answers how many bytes came.
+    fn receive(&mut self, into: &mut [u8]) -> usize
+        requires open { IsOpen self.old }
+        requires room { 0 < length into.old }
+        ensures received { Receives C.moved self.old (take result into.new) self.new }
+        ensures within { result ≤ length into.new }
+    {
+        let (count, stop) = receive_on(&mut self.connection, into);
+        self.stop(stop);
+        count
+    }
+
+    /// Keeps why no more bytes came.
+    fn stop(&mut self, stop: Stop)
+        ensures { self.new ≡ stopped stop self.old }
+    {
+        match stop {
+            Stop::Full => {}
+            Stop::Dry => self.readable = false,
+            Stop::Ended => {
+                self.parting = Some(Parting::Closed);
+                self.end = Some(End::Ended);
+            }
+            Stop::Failed => {
+                self.parting = Some(Parting::Failed);
+                self.end = Some(End::Failed);
+            }
+        }
+    }
+
+    /// Bytes came now.
+    fn hear(&mut self)
+        ensures { self.new ≡ hearing self.old }
+    {
+        self.due = self.clock.saturating_add(QUIET_TIME);
+        self.heard = self.clock;
+    }
+
+    /// Gives the connection up.
+    fn give_up(&mut self, end: End)
+        ensures stands { self.new ≡ given_up end self.old }
+        ensures counts { self.old.failures ≤ self.new.failures }
+        ensures counted { IsCounted self.old.failures self.new.failures }
+    {
+        self.part(Parting::Failed, end);
+        self.fail();
+        self.advance();
+    }
+
+    /// What it answers while bytes wait to go out.
+    fn wait_to_send(&mut self) -> Result<Reading, WireFault>
+        ensures answer { IsWait self.old result self.new }
+        ensures counts { self.old.failures ≤ self.new.failures }
+        ensures counted { OnErr result (IsCounted self.old.failures self.new.failures) }
+    {
+        if self.clock.saturating_sub(self.since) < STALL_TIME {
+            return Ok(Reading::Pending);
+        }
+        self.give_up(End::Stalled);
+        Err(WireFault)
+    }
+
+    /// What it answers while nothing waits to go out.
+    fn read_open(&mut self, into: &mut [u8]) -> Result<Reading, WireFault>
+        requires { 0 < length into.old }
+        ensures read { IsRead C.moved self.old result into.new self.new }
+        ensures within { IfOk result (IsReading (length into.new)) }
+        ensures counts { self.old.failures ≤ self.new.failures }
+        ensures counted { OnErr result (IsCounted self.old.failures self.new.failures) }
+    {
+        if self.is_open() {
+            let count = self.receive(into);
+            if count > 0 {
+                self.hear();
+                return Ok(Reading::Bytes(count));
+            }
+        }
+        self.answer()
+    }
+
+    /// Writes a frame: what doesn't go out at once waits. Answers whether it could.
+    fn put(&mut self, frame: &[u8]) -> bool
+        ensures written { IsTrue result → IsWritten C.moved self.old frame.now self.new }
+        ensures unwritten { ¬ IsTrue result → self.new ≡ record self.old { connection = self.new.connection } }
+        ensures succeeds { IsSome self.old.connection → IsTrue self.old.answered →
+            length self.old.waiting + length frame.now ≤ ROOM → IsTrue result }
+    {
+        match self.send_at_once(frame) {
+            Some(went) => {
+                let (_, rest) = frame.split_at(went);
+                self.keep(rest)
+            }
+            None => false,
+        }
+    }
+
+    /// Sends what goes out of a frame at once, and answers how many bytes. None does where bytes wait or a frame was written since
+    /// the last read.
+    fn send_at_once(&mut self, frame: &[u8]) -> Option<usize>
+        ensures within { IfSome result (λ went. went ≤ length frame.now) }
+        ensures sends { IfSome result (λ went. Sends C.moved self.old.connection (take went frame.now) self.new.connection) }
+        ensures once { IfSome result (λ went. IsTrue self.old.answered → went ≡ 0) }
+        ensures order { IfSome result (λ went. 0 < length self.old.waiting → went ≡ 0) }
+        ensures stands { self.new ≡ record self.old { connection = self.new.connection } }
+        ensures succeeds { IsSome self.old.connection → IsTrue self.old.answered → IsSome result }
+    {
+        if self.answered || !self.waiting.is_empty() {
+            return send_none(&mut self.connection);
+        }
+        match send_on(&mut self.connection, frame) {
+            Ok(went) => Some(went),
+            Err(_) => None,
+        }
+    }
+
+    /// Has bytes wait, if there is room for them, and answers whether there was.
+    fn keep(&mut self, rest: &[u8]) -> bool
+        ensures fits { IsTrue result ↔ (length self.old.waiting + length rest.now ≤ ROOM) }
+        ensures kept { IsTrue result → self.new ≡ keeping rest.now self.old }
+        ensures unkept { ¬ IsTrue result → self.new ≡ self.old }
+    {
+        let since = if self.waiting.is_empty() {
+            self.clock
+        } else {
+            self.since
+        };
+        if !self.waiting.add(rest) {
+            return false;
+        }
+        self.since = since;
+        self.answered = true;
+        true
+    }
+}
+
+impl<C: Connection + Drop> Wire for LineWire<C> {
+    ghost use Rattle.std.specs.Prelude.{⊤};
+
+    // What passes is in the clauses of `read` and `write`.
+    ghost passed = { λ before after acts. ⊤ };
+
+    ghost count = { λ wire. wire.failures };
+
+    ghost none = { λ s. tt };
+
+    ghost more = { λ a b c xs ys first then. tt };
+
+    fn failures(&self) -> u64 {
+        self.failures
+    }
+
+    fn read(&mut self, into: &mut [u8]) -> Result<Reading, WireFault>
+        requires { 0 < length into.old }
+        ensures answered { ⊤ }
+        ensures waits { 0 < length self.old.waiting → IsWait (unanswered self.old) result self.new }
+        ensures reads { self.old.waiting ≡ [] → IsRead C.moved (unanswered self.old) result into.new self.new }
+        ensures within { IfOk result (IsReading (length into.new)) }
+        ensures counts { self.old.failures ≤ self.new.failures }
+        ensures counted { OnErr result (IsCounted self.old.failures self.new.failures) }
+    {
+        self.answered = false;
+        if !self.waiting.is_empty() {
+            return self.wait_to_send();
+        }
+        self.read_open(into)
+    }
+
+    fn write(&mut self, frame: &[u8]) -> Result<(), WireFault>
+        ensures ok { ⊤ }
+        ensures err { ⊤ }
+        ensures written { OnOk result (IsWritten C.moved self.old frame.now self.new) }
+        ensures failed { OnErr result (self.new ≡ given_up Failed self.old) }
+        ensures succeeds { IsSome self.old.connection → IsTrue self.old.answered →
+            length self.old.waiting + length frame.now ≤ ROOM → IsOk result }
+        ensures counts { self.old.failures ≤ self.new.failures }
+        ensures counted { OnErr result (IsCounted self.old.failures self.new.failures) }
+    {
+        if self.put(frame) {
+            return Ok(());
+        }
+        self.give_up(End::Failed);
+        Err(WireFault)
+    }
+}
