@@ -1,5 +1,5 @@
 -- What a wire of a line answers, and how it stands then.
-use Rattle.std.specs.Prelude.{◌≡◌, ◌≢◌, ℕ, ◌+◌, ◌-◌, ◌<◌, ◌≤◌, ◌⊎◌, true, false, IsTrue, List, [], ◌++◌, length, take, drop}
+use Rattle.std.specs.Prelude.{◌≡◌, ◌≢◌, ℕ, ◌-◌, ◌<◌, ◌≤◌, ◌⊎◌, false, IsTrue, List, [], ◌++◌, length, take, drop}
 use Rattle.std.specs.Prelude.{Option, Some, None, IsSome, Result, Ok, Err}
 use Rattle.njh_hub.specs.declared.reading.Reading.{Reading}
 use Rattle.njh_hub.specs.declared.reading.Reading.TheVariants as reading
@@ -60,7 +60,8 @@ IsWait s (Ok reading.Quiet) new = ⊥
 IsWait s (Ok reading.Closed) new = ⊥
 IsWait s (Ok reading.Absent) new = ⊥
 
--- What a wire answers at a read while nothing waits: the bytes that the connection gave, or what `IsAnswer` says where it gave none.
+-- What a wire answers at a read while nothing waits: the bytes that the connection gave, or what `IsAnswer` says where
+-- it gave none.
 abbrev pub IsRead : {C : Type 0} → (C → C → List ℕ → List ℕ → Type 0) → Standing C → Result Reading WireFault → List ℕ →
     Standing C → Type 0
 IsRead {C = C} moved s (Ok (reading.Bytes n)) buffer new =
@@ -85,7 +86,8 @@ pub record Sends {C : Type 0} (moved : C → C → List ℕ → List ℕ → Typ
   pub moves : moved before after [] bytes
   pub stands : new ≡ Some after
 
--- A frame was written: so many bytes of it went out, and the others wait. None goes out past what waits, and once a read.
+-- A frame was written: so many bytes of it went out, and the others wait. None goes out past what waits, nor of a second
+-- frame after one read.
 pub record IsWritten {C : Type 0} (moved : C → C → List ℕ → List ℕ → Type 0) (s : Standing C) (frame : List ℕ)
     (new : Standing C) : Type 0 where
   pub went : ℕ

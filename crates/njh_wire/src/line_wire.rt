@@ -1,15 +1,19 @@
 //! The wire of a line, over connections that never wait.
 
-ghost use Rattle.std.specs.Prelude.{true, false, None, Some, ◌≡◌, ◌≢◌, ◌+◌, ◌-◌, ◌<◌, ◌≤◌, [], ◌++◌, length, take, IsTrue, ◌↔◌, ◌⊎◌, min, ⊤, IsSome, IsOk, IfSome, OnOk, OnErr, IfOk};
+ghost use Rattle.std.specs.Prelude.{◌≡◌, ◌+◌, ◌-◌, ◌<◌, ◌≤◌, [], length, min, IsTrue, ◌↔◌, ◌⊎◌, ⊤};
+ghost use Rattle.std.specs.Prelude.{true, None, IsSome, IsOk, OnOk, OnErr, IfOk};
 ghost use Rattle.njh_hub.specs.Sent.{IsCounted};
 ghost use Rattle.njh_hub.specs.Wires.{IsReading};
 ghost use Rattle.njh_wire.specs.declared.end.End.TheVariants.{Failed};
-ghost use Rattle.njh_wire.specs.Standing.{later, opened, resumed, parted, failed, given_up, displaced, admitted, closed, stopped, hearing, keeping};
-ghost use Rattle.njh_wire.specs.Answers.{IsSilence, IsAnswer, IsOpen, Sends, IsWait, IsRead, IsWritten, IsSentOn, IsFlushed, GivesNone, Receives, unanswered};
+ghost use Rattle.njh_wire.specs.Standing.{opened, resumed, parted, failed, given_up, displaced, admitted, closed};
+ghost use Rattle.njh_wire.specs.Answers.{IsOpen, IsWait, IsRead, IsWritten, IsFlushed, unanswered};
 
-use crate::calls::{receive_on, send_none, send_on};
+mod reading;
+mod writing;
+
+use crate::calls::send_on;
 use crate::connection::Connection;
-use crate::end::{End, Parting, Stop};
+use crate::end::{End, Parting};
 use crate::outbox::{Outbox, ROOM};
 use njh_hub::{Reading, Wire, WireFault};
 use std::alloc::{AllocError, Global};
@@ -62,8 +66,8 @@ impl<C: Connection + Drop> Model for LineWire<C> {
 }
 
 impl<C: Connection + Drop> LineWire<C> {
-    /// A wire on which nobody is connected. Takes the room for bytes that wait, and no memory later; out of memory is the only
-    /// refusal.
+    /// A wire on which nobody is connected. Takes the room for bytes that wait, and no memory later; out of memory is
+    /// the only refusal.
     pub fn new(alloc: Global) -> Result<Self, AllocError>
         ensures { IfOk result (λ wire. wire ≡ opened) }
     {
@@ -105,7 +109,8 @@ impl<C: Connection + Drop> LineWire<C> {
         self.end.take()
     }
 
-    /// Takes a connection. Where there is one it is dropped, the next read answers that it is closed, and then the new one is read.
+    /// Takes a connection. Where there is one it is dropped, the next read answers that it is closed, and then the new
+    /// one is read.
     pub fn connect(&mut self, connection: C)
         ensures { self.new ≡ admitted connection (displaced self.old) }
     {
@@ -135,7 +140,8 @@ impl<C: Connection + Drop> LineWire<C> {
         self.connection.is_some() || self.next.is_some()
     }
 
-    /// Whether the next read is to be made now, whatever the time: something may be there to read, or an end is to be told.
+    /// Whether the next read is to be made now, whatever the time: something may be there to read, or an end is to be
+    /// told.
     pub fn is_ready(&self) -> bool
         ensures { IsTrue result ↔ ((self.now.waiting ≡ []) × (IsSome self.now.parting ⊎ IsOpen self.now)) }
     {
@@ -149,8 +155,8 @@ impl<C: Connection + Drop> LineWire<C> {
         !self.waiting.is_empty()
     }
 
-    /// When its next read can answer something other than `Pending` though nothing came, in milliseconds: at its next quiet, or when
-    /// bytes will have waited for a second. `u64::MAX` where nobody is connected.
+    /// When its next read can answer something other than `Pending` though nothing came, in milliseconds: at its next
+    /// quiet, or when bytes will have waited for a second. `u64::MAX` where nobody is connected.
     pub fn due(&self) -> u64
         ensures waits { 0 < length self.now.waiting → result ≡ min (self.now.since + 1000) u64.MAX }
         ensures quiet { self.now.waiting ≡ [] → IsSome self.now.connection → result ≡ self.now.due }
@@ -173,7 +179,8 @@ impl<C: Connection + Drop> LineWire<C> {
         self.clock.saturating_sub(self.heard)
     }
 
-    /// Sends on what waits, as far as it goes now. Where that fails the connection is dropped, and the next read answers a fault.
+    /// Sends on what waits, as far as it goes now. Where that fails the connection is dropped, and the next read answers
+    /// a fault.
     pub fn flush(&mut self)
         ensures idle { self.old.waiting ≡ [] → self.new ≡ self.old }
         ensures flushed { 0 < length self.old.waiting → IsFlushed C.moved self.old self.new }
@@ -228,83 +235,11 @@ impl<C: Connection + Drop> LineWire<C> {
         self.failures = self.failures.saturating_add(1);
     }
 
-    /// What it answers where nothing came of reading.
-    fn answer(&mut self) -> Result<Reading, WireFault>
-        ensures answer { IsAnswer self.old result self.new }
-        ensures counts { self.old.failures ≤ self.new.failures }
-        ensures counted { OnErr result (IsCounted self.old.failures self.new.failures) }
-    {
-        match self.parting {
-            Some(Parting::Closed) => {
-                self.advance();
-                Ok(Reading::Closed)
-            }
-            Some(Parting::Failed) => {
-                self.fail();
-                self.advance();
-                Err(WireFault)
-            }
-            None => Ok(self.silence()),
-        }
-    }
-
-    /// What it answers where nothing came.
-    fn silence(&mut self) -> Reading
-        ensures { IsSilence self.old result self.new }
-    {
-        if self.connection.is_none() {
-            return Reading::Absent;
-        }
-        if self.clock < self.due {
-            return Reading::Pending;
-        }
-        self.due = self.clock.saturating_add(QUIET_TIME);
-        Reading::Quiet
-    }
-
     /// Whether something may be there to read and no end is to be told.
     fn is_open(&self) -> bool
         ensures { IsTrue result ↔ IsOpen self.now }
     {
         self.connection.is_some() && self.readable && self.parting.is_none()
-    }
-
-    /// Reads the connection, and answers how many bytes came.
-    fn receive(&mut self, into: &mut [u8]) -> usize
-        requires open { IsOpen self.old }
-        requires room { 0 < length into.old }
-        ensures received { Receives C.moved self.old (take result into.new) self.new }
-        ensures within { result ≤ length into.new }
-    {
-        let (count, stop) = receive_on(&mut self.connection, into);
-        self.stop(stop);
-        count
-    }
-
-    /// Keeps why no more bytes came.
-    fn stop(&mut self, stop: Stop)
-        ensures { self.new ≡ stopped stop self.old }
-    {
-        match stop {
-            Stop::Full => {}
-            Stop::Dry => self.readable = false,
-            Stop::Ended => {
-                self.parting = Some(Parting::Closed);
-                self.end = Some(End::Ended);
-            }
-            Stop::Failed => {
-                self.parting = Some(Parting::Failed);
-                self.end = Some(End::Failed);
-            }
-        }
-    }
-
-    /// Bytes came now.
-    fn hear(&mut self)
-        ensures { self.new ≡ hearing self.old }
-    {
-        self.due = self.clock.saturating_add(QUIET_TIME);
-        self.heard = self.clock;
     }
 
     /// Gives the connection up.
@@ -316,91 +251,6 @@ impl<C: Connection + Drop> LineWire<C> {
         self.part(Parting::Failed, end);
         self.fail();
         self.advance();
-    }
-
-    /// What it answers while bytes wait to go out.
-    fn wait_to_send(&mut self) -> Result<Reading, WireFault>
-        ensures answer { IsWait self.old result self.new }
-        ensures counts { self.old.failures ≤ self.new.failures }
-        ensures counted { OnErr result (IsCounted self.old.failures self.new.failures) }
-    {
-        if self.clock.saturating_sub(self.since) < STALL_TIME {
-            return Ok(Reading::Pending);
-        }
-        self.give_up(End::Stalled);
-        Err(WireFault)
-    }
-
-    /// What it answers while nothing waits to go out.
-    fn read_open(&mut self, into: &mut [u8]) -> Result<Reading, WireFault>
-        requires { 0 < length into.old }
-        ensures read { IsRead C.moved self.old result into.new self.new }
-        ensures within { IfOk result (IsReading (length into.new)) }
-        ensures counts { self.old.failures ≤ self.new.failures }
-        ensures counted { OnErr result (IsCounted self.old.failures self.new.failures) }
-    {
-        if self.is_open() {
-            let count = self.receive(into);
-            if count > 0 {
-                self.hear();
-                return Ok(Reading::Bytes(count));
-            }
-        }
-        self.answer()
-    }
-
-    /// Writes a frame: what doesn't go out at once waits. Answers whether it could.
-    fn put(&mut self, frame: &[u8]) -> bool
-        ensures written { IsTrue result → IsWritten C.moved self.old frame.now self.new }
-        ensures unwritten { ¬ IsTrue result → self.new ≡ record self.old { connection = self.new.connection } }
-        ensures succeeds { IsSome self.old.connection → IsTrue self.old.answered →
-            length self.old.waiting + length frame.now ≤ ROOM → IsTrue result }
-    {
-        match self.send_at_once(frame) {
-            Some(went) => {
-                let (_, rest) = frame.split_at(went);
-                self.keep(rest)
-            }
-            None => false,
-        }
-    }
-
-    /// Sends what goes out of a frame at once, and answers how many bytes. None does where bytes wait or a frame was written since
-    /// the last read.
-    fn send_at_once(&mut self, frame: &[u8]) -> Option<usize>
-        ensures within { IfSome result (λ went. went ≤ length frame.now) }
-        ensures sends { IfSome result (λ went. Sends C.moved self.old.connection (take went frame.now) self.new.connection) }
-        ensures once { IfSome result (λ went. IsTrue self.old.answered → went ≡ 0) }
-        ensures order { IfSome result (λ went. 0 < length self.old.waiting → went ≡ 0) }
-        ensures stands { self.new ≡ record self.old { connection = self.new.connection } }
-        ensures succeeds { IsSome self.old.connection → IsTrue self.old.answered → IsSome result }
-    {
-        if self.answered || !self.waiting.is_empty() {
-            return send_none(&mut self.connection);
-        }
-        match send_on(&mut self.connection, frame) {
-            Ok(went) => Some(went),
-            Err(_) => None,
-        }
-    }
-
-    /// Has bytes wait, if there is room for them, and answers whether there was.
-    fn keep(&mut self, rest: &[u8]) -> bool
-        ensures fits { IsTrue result ↔ (length self.old.waiting + length rest.now ≤ ROOM) }
-        ensures kept { IsTrue result → self.new ≡ keeping rest.now self.old }
-        ensures unkept { ¬ IsTrue result → self.new ≡ self.old }
-    {
-        let since = if self.waiting.is_empty() {
-            self.clock
-        } else {
-            self.since
-        };
-        if !self.waiting.add(rest) {
-            return false;
-        }
-        self.since = since;
-        self.answered = true;
-        true
     }
 }
 

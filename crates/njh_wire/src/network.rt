@@ -48,7 +48,8 @@ pub trait Network {
     /// Whether a connection that was dialled was made. A fault where it was refused.
     fn is_connected(&mut self, connection: &mut Self::Connection) -> io::Result<bool>;
 
-    /// Waits until something is ready, so many milliseconds at most, and marks what is ready of each line, by place. Clears no mark.
+    /// Waits until something is ready, so many milliseconds at most, and marks what is ready of each line, by place.
+    /// Clears no mark.
     fn wait(&mut self, milliseconds: u64, ready: &mut [Readiness]) -> io::Result<()>;
 
     /// Milliseconds on a clock that never goes back.

@@ -1,4 +1,4 @@
-use Rattle.std.proofs.Common.{List, ℕ, [], length, subst, rules, arith, length-append, Ok}
+use Rattle.std.proofs.Common.{[], length, subst, arith, length-append, Ok}
 use Rattle.njh_wire.specs.declared.connection.Received.{Received}
 use Rattle.njh_wire.specs.Moved.{came, IsReceived}
 use Rattle.njh_wire.proofs.MovedLaws.{moved_more, moved_none}

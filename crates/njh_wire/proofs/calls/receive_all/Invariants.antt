@@ -1,4 +1,4 @@
-use Rattle.std.proofs.Common.{length, ◌-◌, ◌≡◌, ◌≤◌, [], take}
+use Rattle.std.proofs.Common.{length, ◌-◌, ◌≤◌, [], take}
 use Rattle.njh_wire.proofs.calls.receive_all.Given as goal
 
 -- what came so far stands at the front

@@ -1,0 +1,118 @@
+//! What a wire of a line answers at a read.
+
+ghost use Rattle.std.specs.Prelude.{◌≡◌, ◌<◌, ◌≤◌, length, take, IfOk, OnErr};
+ghost use Rattle.njh_hub.specs.Sent.{IsCounted};
+ghost use Rattle.njh_hub.specs.Wires.{IsReading};
+ghost use Rattle.njh_wire.specs.Standing.{stopped, hearing};
+ghost use Rattle.njh_wire.specs.Answers.{IsSilence, IsAnswer, IsOpen, IsWait, IsRead, Receives};
+
+use super::{LineWire, QUIET_TIME, STALL_TIME};
+use crate::calls::receive_on;
+use crate::connection::Connection;
+use crate::end::{End, Parting, Stop};
+use njh_hub::{Reading, WireFault};
+
+impl<C: Connection + Drop> LineWire<C> {
+    /// What it answers while bytes wait to go out.
+    pub(super) fn wait_to_send(&mut self) -> Result<Reading, WireFault>
+        ensures answer { IsWait self.old result self.new }
+        ensures counts { self.old.failures ≤ self.new.failures }
+        ensures counted { OnErr result (IsCounted self.old.failures self.new.failures) }
+    {
+        if self.clock.saturating_sub(self.since) < STALL_TIME {
+            return Ok(Reading::Pending);
+        }
+        self.give_up(End::Stalled);
+        Err(WireFault)
+    }
+
+    /// What it answers while nothing waits to go out.
+    pub(super) fn read_open(&mut self, into: &mut [u8]) -> Result<Reading, WireFault>
+        requires { 0 < length into.old }
+        ensures read { IsRead C.moved self.old result into.new self.new }
+        ensures within { IfOk result (IsReading (length into.new)) }
+        ensures counts { self.old.failures ≤ self.new.failures }
+        ensures counted { OnErr result (IsCounted self.old.failures self.new.failures) }
+    {
+        if self.is_open() {
+            let count = self.receive(into);
+            if count > 0 {
+                self.hear();
+                return Ok(Reading::Bytes(count));
+            }
+        }
+        self.answer()
+    }
+
+    /// What it answers where nothing came of reading.
+    fn answer(&mut self) -> Result<Reading, WireFault>
+        ensures answer { IsAnswer self.old result self.new }
+        ensures counts { self.old.failures ≤ self.new.failures }
+        ensures counted { OnErr result (IsCounted self.old.failures self.new.failures) }
+    {
+        match self.parting {
+            Some(Parting::Closed) => {
+                self.advance();
+                Ok(Reading::Closed)
+            }
+            Some(Parting::Failed) => {
+                self.fail();
+                self.advance();
+                Err(WireFault)
+            }
+            None => Ok(self.silence()),
+        }
+    }
+
+    /// What it answers where nothing came.
+    fn silence(&mut self) -> Reading
+        ensures { IsSilence self.old result self.new }
+    {
+        if self.connection.is_none() {
+            return Reading::Absent;
+        }
+        if self.clock < self.due {
+            return Reading::Pending;
+        }
+        self.due = self.clock.saturating_add(QUIET_TIME);
+        Reading::Quiet
+    }
+
+    /// Reads the connection, and answers how many bytes came.
+    fn receive(&mut self, into: &mut [u8]) -> usize
+        requires open { IsOpen self.old }
+        requires room { 0 < length into.old }
+        ensures received { Receives C.moved self.old (take result into.new) self.new }
+        ensures within { result ≤ length into.new }
+    {
+        let (count, stop) = receive_on(&mut self.connection, into);
+        self.stop(stop);
+        count
+    }
+
+    /// Keeps why no more bytes came.
+    fn stop(&mut self, stop: Stop)
+        ensures { self.new ≡ stopped stop self.old }
+    {
+        match stop {
+            Stop::Full => {}
+            Stop::Dry => self.readable = false,
+            Stop::Ended => {
+                self.parting = Some(Parting::Closed);
+                self.end = Some(End::Ended);
+            }
+            Stop::Failed => {
+                self.parting = Some(Parting::Failed);
+                self.end = Some(End::Failed);
+            }
+        }
+    }
+
+    /// Bytes came now.
+    fn hear(&mut self)
+        ensures { self.new ≡ hearing self.old }
+    {
+        self.due = self.clock.saturating_add(QUIET_TIME);
+        self.heard = self.clock;
+    }
+}
