@@ -1,0 +1,18 @@
+//! The time of a line of the log.
+
+use jiff::Timestamp;
+use std::fmt;
+
+/// So many seconds since 1970, shown as a date and a time in UTC.
+#[derive(Clone, Copy, Debug, Drop)]
+pub(crate) struct Moment(pub(crate) i64);
+
+impl fmt::Display for Moment {
+    fn fmt<W: fmt::Write>(&self, f: &mut fmt::Formatter<W>) -> fmt::Result {
+        let second = self.0;
+        match Timestamp::from_second(second) {
+            Ok(time) => write!(f, "{time}"),
+            Err(_) => write!(f, "{second}"),
+        }
+    }
+}
