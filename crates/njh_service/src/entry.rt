@@ -1,8 +1,12 @@
 //! What the log tells.
 
 use njh_ebcdic::{Name, text_of};
+use njh_header::{Destination, FileName, User};
 use std::fmt;
 use std::net::SocketAddr;
+
+/// A blank in EBCDIC.
+const BLANK: u8 = 0x40;
 
 /// What happened, and where.
 #[derive(Clone, Copy, Drop)]
@@ -10,7 +14,7 @@ pub struct Entry<'a> {
     /// Where it happened.
     pub place: Place<'a>,
     /// What happened.
-    pub happening: Happening<'a>,
+    pub happening: Happening,
 }
 
 /// Where something happened.
@@ -24,7 +28,7 @@ pub enum Place<'a> {
 
 /// Something that an operator wants to know.
 #[derive(Clone, Copy, Drop)]
-pub enum Happening<'a> {
+pub enum Happening {
     /// A peer connected from this address.
     ConnectedFrom(SocketAddr),
     /// The hub connected to this address.
@@ -42,13 +46,13 @@ pub enum Happening<'a> {
     /// The session is down.
     SessionDown(Ending),
     /// A file came whole, and waits.
-    FileIn(FileLine<'a>),
+    FileIn(FileLine),
     /// A file came whole, and is held.
-    FileHeld(FileLine<'a>),
+    FileHeld(FileLine),
     /// A file went out whole.
-    FileOut(FileLine<'a>),
-    /// A file was refused, with this notice.
-    FileRefused(&'a str),
+    FileOut(FileLine),
+    /// The peer refused a file.
+    FileRefused(FileLine),
     /// So many blocks of its quota are used.
     NearQuota(u32, u32),
     /// It was given new routes.
@@ -79,13 +83,13 @@ pub enum Ending {
 
 /// What is told of a file.
 #[derive(Clone, Copy, Drop)]
-pub struct FileLine<'a> {
-    /// Its name, in EBCDIC.
-    pub name: &'a [u8],
+pub struct FileLine {
+    /// What it is called.
+    pub name: Option<FileName>,
     /// Whose it is.
-    pub owner: &'a [u8],
-    /// The node for which it is.
-    pub destination: &'a [u8],
+    pub owner: Option<User>,
+    /// Where it goes.
+    pub destination: Option<Destination>,
     /// How many records it has.
     pub records: u32,
     /// How many blocks it takes.
@@ -107,7 +111,7 @@ impl fmt::Display for Place<'_> {
     }
 }
 
-impl fmt::Display for Happening<'_> {
+impl fmt::Display for Happening {
     fn fmt<W: fmt::Write>(&self, f: &mut fmt::Formatter<W>) -> fmt::Result {
         match self {
             Happening::ConnectedFrom(address) => write!(f, "connected from {address}"),
@@ -121,7 +125,7 @@ impl fmt::Display for Happening<'_> {
             Happening::FileIn(file) => write!(f, "file in: {file}"),
             Happening::FileHeld(file) => write!(f, "file held: {file}"),
             Happening::FileOut(file) => write!(f, "file out: {file}"),
-            Happening::FileRefused(notice) => write!(f, "file refused: {notice}"),
+            Happening::FileRefused(file) => write!(f, "file refused: {file}"),
             Happening::NearQuota(used, quota) => write!(f, "{used} of {quota} blocks are used"),
             Happening::NewRoutes => write!(f, "new routes"),
         }
@@ -148,29 +152,67 @@ impl fmt::Display for Ending {
     }
 }
 
-impl fmt::Display for FileLine<'_> {
+impl fmt::Display for FileLine {
     fn fmt<W: fmt::Write>(&self, f: &mut fmt::Formatter<W>) -> fmt::Result {
-        let name = Text(self.name);
-        let owner = Text(self.owner);
-        let destination = Text(self.destination);
-        let records = self.records;
-        let blocks = self.blocks;
-        write!(
-            f,
-            "{name} of {owner} for {destination}, {records} records, {blocks} blocks"
-        )
+        self.write_name(f)?;
+        self.write_owner(f)?;
+        self.write_destination(f)?;
+        write!(f, ", {} records, {} blocks", self.records, self.blocks)
     }
 }
 
-/// Bytes of EBCDIC, shown as characters.
-#[derive(Clone, Copy, Drop)]
-struct Text<'a>(&'a [u8]);
-
-impl fmt::Display for Text<'_> {
-    fn fmt<W: fmt::Write>(&self, f: &mut fmt::Formatter<W>) -> fmt::Result {
-        for byte in self.0 {
-            f.write_char(text_of(*byte))?;
+impl FileLine {
+    /// Writes what it is called.
+    fn write_name<W: fmt::Write>(&self, f: &mut fmt::Formatter<W>) -> fmt::Result {
+        match self.name {
+            Some(name) => write!(f, "{}.{}", name.node, name.number),
+            None => f.write_str("?"),
         }
-        Ok(())
     }
+
+    /// Writes whose it is.
+    fn write_owner<W: fmt::Write>(&self, f: &mut fmt::Formatter<W>) -> fmt::Result {
+        f.write_str(" of ")?;
+        match self.owner {
+            Some(owner) => {
+                write!(f, "{}", owner.node)?;
+                write_user(f, &owner.user)
+            }
+            None => f.write_str("?"),
+        }
+    }
+
+    /// Writes where it goes.
+    fn write_destination<W: fmt::Write>(&self, f: &mut fmt::Formatter<W>) -> fmt::Result {
+        f.write_str(" for ")?;
+        match self.destination {
+            Some(destination) => {
+                write_field(f, &destination.node)?;
+                write_user(f, &destination.user)
+            }
+            None => f.write_str("?"),
+        }
+    }
+}
+
+/// Writes a user behind the node, where there is one.
+fn write_user<W: fmt::Write>(f: &mut fmt::Formatter<W>, user: &[u8]) -> fmt::Result {
+    match user.first() {
+        Some(&BLANK) => Ok(()),
+        _ => {
+            f.write_str(".")?;
+            write_field(f, user)
+        }
+    }
+}
+
+/// Writes the characters of a field, up to its first blank.
+fn write_field<W: fmt::Write>(f: &mut fmt::Formatter<W>, field: &[u8]) -> fmt::Result {
+    for byte in field {
+        if *byte == BLANK {
+            return Ok(());
+        }
+        f.write_char(text_of(*byte))?;
+    }
+    Ok(())
 }

@@ -1,0 +1,201 @@
+//! What the attendant does with one line.
+
+use crate::dial::Dial;
+use crate::entry::{Entry, Failure, Happening, Place};
+use crate::log::Log;
+use crate::post::{Door, Label, Post};
+use njh_hub::Hub;
+use njh_wire::{End, LineWire, Network, Readiness};
+use std::io::Write;
+use std::net::SocketAddr;
+
+/// For how long a connection is silent when another may take its place, in milliseconds.
+const SILENCE: u64 = 10_000;
+
+/// For how long a line is silent when it is quiet.
+const QUIET: u64 = 100;
+
+/// How long after a failure to take a connection the next one is tried.
+const PAUSE: u64 = 1_000;
+
+/// How often connections of a line are told at most.
+const TELL: u64 = 1_000;
+
+/// The network, the time on its clock, and the log.
+#[derive(Drop)]
+pub(crate) struct Desk<N: Network + Drop, L: Write + Drop> {
+    pub(crate) network: N,
+    pub(crate) log: Log<L>,
+    pub(crate) now: u64,
+}
+
+impl<N: Network + Drop, L: Write + Drop> Desk<N, L> {
+    /// Looks at a line of which something is ready, or whose door's moment came.
+    pub(crate) fn attend(
+        &mut self,
+        place: usize,
+        post: &mut Post<N::Listener, N::Connection>,
+        wire: &mut LineWire<N::Connection>,
+        mark: Readiness,
+    ) {
+        if mark.reads {
+            wire.mark_readable();
+        }
+        if mark.writes {
+            wire.flush();
+        }
+        match &mut post.door {
+            Door::Listens(listener) => {
+                if mark.listener || post.moment <= self.now {
+                    post.moment = self.admit(place, listener, &mut post.label, wire);
+                }
+            }
+            Door::Dials(address, dial) => {
+                self.drive(place, *address, dial, &mut post.label, wire);
+                post.moment = dial.moment();
+            }
+        }
+    }
+
+    /// Ends the connection of a line whose session gave up, and tells what changed, where something came. Answers when the line wants to be
+    /// looked at.
+    pub(crate) fn settle(
+        &mut self,
+        post: &mut Post<N::Listener, N::Connection>,
+        hub: &Hub,
+        wire: &mut LineWire<N::Connection>,
+    ) -> u64 {
+        let soon = self.now.saturating_add(QUIET);
+        let due = wire.due();
+        if due != post.seen || due == soon {
+            self.look(post, hub, wire);
+            if due != post.seen && !wire.is_connected() {
+                post.seen = due;
+                return self.now;
+            }
+            post.seen = due;
+        }
+        if wire.waits_to_send() {
+            return soon.min(post.moment);
+        }
+        if wire.is_ready() {
+            return self.now;
+        }
+        due.min(post.moment)
+    }
+
+    /// Looks at a line on which something came.
+    fn look(
+        &mut self,
+        post: &mut Post<N::Listener, N::Connection>,
+        _hub: &Hub,
+        wire: &mut LineWire<N::Connection>,
+    ) {
+        if let Some(end) = wire.take_end() {
+            self.tell_end(&mut post.label, end);
+            post.lose(self.now);
+        }
+    }
+
+    /// Takes a connection that waits, where the line has none or one that is silent. Answers when the listener is to be looked at again.
+    fn admit(
+        &mut self,
+        place: usize,
+        listener: &mut N::Listener,
+        label: &mut Label,
+        wire: &mut LineWire<N::Connection>,
+    ) -> u64 {
+        let silent = wire.silent_for();
+        if wire.is_connected() && silent < SILENCE {
+            return self.now.saturating_add(SILENCE - silent);
+        }
+        match self.network.accept(listener, place) {
+            Ok(Some((connection, address))) => {
+                wire.connect(connection);
+                self.tell_connected(label, Happening::ConnectedFrom(address));
+                self.now
+            }
+            Ok(None) => u64::MAX,
+            Err(_) => {
+                self.tell(label, Happening::AcceptFailed);
+                self.now.saturating_add(PAUSE)
+            }
+        }
+    }
+
+    /// Dials, or sees whether a dial was answered.
+    fn drive(
+        &mut self,
+        place: usize,
+        address: SocketAddr,
+        dial: &mut Dial<N::Connection>,
+        label: &mut Label,
+        wire: &mut LineWire<N::Connection>,
+    ) {
+        if dial.is_to_come(self.now) {
+            match self.network.dial(address, place) {
+                Ok(connection) => dial.begin(connection, self.now),
+                Err(_) => self.give_up(address, dial, label),
+            }
+            return;
+        }
+        let Some(connection) = dial.connection() else {
+            return;
+        };
+        match self.network.is_connected(connection) {
+            Ok(true) => {
+                if let Some(connection) = dial.take() {
+                    wire.connect(connection);
+                    self.tell_connected(label, Happening::ConnectedTo(address));
+                }
+            }
+            Ok(false) => {
+                if dial.moment() <= self.now {
+                    self.give_up(address, dial, label);
+                }
+            }
+            Err(_) => self.give_up(address, dial, label),
+        }
+    }
+
+    /// A dial failed.
+    fn give_up(&mut self, address: SocketAddr, dial: &mut Dial<N::Connection>, label: &Label) {
+        dial.fail(self.now);
+        self.tell(label, Happening::DialFailed(address));
+    }
+
+    /// Tells of a new connection, unless one was told in the second before.
+    fn tell_connected(&mut self, label: &mut Label, happening: Happening) {
+        label.connected = label.again <= self.now;
+        if !label.connected {
+            return;
+        }
+        label.again = self.now.saturating_add(TELL);
+        self.tell(label, happening);
+    }
+
+    /// Tells of the end of a connection that was told.
+    pub(crate) fn tell_end(&mut self, label: &mut Label, end: End) {
+        if !label.connected {
+            return;
+        }
+        label.connected = false;
+        self.tell(
+            label,
+            match end {
+                End::Ended => Happening::Closed,
+                End::Closed => Happening::Closed,
+                End::Failed => Happening::Failed(Failure::Reset),
+                End::Stalled => Happening::Failed(Failure::Stalled),
+                End::Replaced => Happening::Failed(Failure::Replaced),
+            },
+        );
+    }
+
+    /// Writes a line of the log.
+    pub(crate) fn tell(&mut self, label: &Label, happening: Happening) {
+        let second = self.network.utc();
+        let place = Place::Line(label.customer, label.line.as_str());
+        self.log.write(second, &Entry { place, happening });
+    }
+}

@@ -1,0 +1,80 @@
+//! A line that is served, as the attendant sees it.
+
+use crate::dial::Dial;
+use crate::way::Way;
+use arrayvec::ArrayString;
+use njh_ebcdic::Name;
+use njh_table::LineId;
+use std::net::SocketAddr;
+
+/// How many bytes the name of a line has at most.
+const NAME: usize = 8;
+
+/// What the log calls a line, and what it told of it.
+#[derive(Clone, Copy, Drop)]
+pub(crate) struct Label {
+    pub(crate) customer: Name,
+    pub(crate) line: ArrayString<NAME>,
+    /// From when on a connection may be told again.
+    pub(crate) again: u64,
+    /// Whether the line's connection was told.
+    pub(crate) connected: bool,
+    /// Whether its session had given up.
+    pub(crate) given_up: bool,
+}
+
+/// How a line gets its connections, and how that stands.
+#[derive(Drop)]
+pub(crate) enum Door<Li: Drop, C: Drop> {
+    /// Peers connect to this listener.
+    Listens(Li),
+    /// The hub connects to this address.
+    Dials(SocketAddr, Dial<C>),
+}
+
+/// A line that is served.
+#[derive(Drop)]
+pub(crate) struct Post<Li: Drop, C: Drop> {
+    /// When its door is to be looked at, on the service's clock; `u64::MAX` where nobody waits there.
+    pub(crate) moment: u64,
+    /// When its wire was due as it was last looked at.
+    pub(crate) seen: u64,
+    pub(crate) line: LineId,
+    pub(crate) door: Door<Li, C>,
+    pub(crate) label: Label,
+}
+
+impl<Li: Drop, C: Drop> Post<Li, C> {
+    /// A line on which nothing happened yet.
+    pub(crate) fn new(line: LineId, customer: Name, name: &str, way: Way<Li>) -> Post<Li, C> {
+        let mut short = ArrayString::new();
+        let _whole = short.try_push_str(name).is_ok();
+        Post {
+            moment: 0,
+            seen: u64::MAX,
+            line,
+            door: match way {
+                Way::Listens(listener) => Door::Listens(listener),
+                Way::Dials(address) => Door::Dials(address, Dial::new()),
+            },
+            label: Label {
+                customer,
+                line: short,
+                again: 0,
+                connected: false,
+                given_up: false,
+            },
+        }
+    }
+
+    /// The line has no connection any more.
+    pub(crate) fn lose(&mut self, now: u64) {
+        match &mut self.door {
+            Door::Listens(_) => self.moment = self.moment.min(now),
+            Door::Dials(_, dial) => {
+                dial.lose(now);
+                self.moment = dial.moment();
+            }
+        }
+    }
+}
