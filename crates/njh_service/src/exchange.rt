@@ -50,6 +50,11 @@ impl<N: Network + Drop, L: Write + Drop> Exchange<N, L> {
         }
     }
 
+    /// The log.
+    pub fn log(&self) -> &Log<L> {
+        &self.desk.log
+    }
+
     /// Serves a further line. Out of memory is the only refusal.
     pub fn add(
         &mut self,
@@ -64,7 +69,7 @@ impl<N: Network + Drop, L: Write + Drop> Exchange<N, L> {
     }
 
     /// Waits until a line is ready or due, and looks at each that is.
-    pub fn before(&mut self, wires: &mut [LineWire<N::Connection>]) {
+    pub(crate) fn begin_round(&mut self, wires: &mut [LineWire<N::Connection>]) {
         let wait = self.wait();
         let _waited = self.desk.network.wait(wait, &mut self.ready).is_ok();
         self.desk.now = self.desk.network.now();
@@ -99,7 +104,7 @@ impl<N: Network + Drop, L: Write + Drop> Exchange<N, L> {
     }
 
     /// Sends what waits on each wire, ends connections whose session gave up, and tells what changed.
-    pub fn after(&mut self, hub: &Hub, wires: &mut [LineWire<N::Connection>]) {
+    pub(crate) fn end_round(&mut self, hub: &Hub, wires: &mut [LineWire<N::Connection>]) {
         self.next = u64::MAX;
         for place in 0..wires.len() {
             let moment = self.settle(place, hub, &mut wires[place]);

@@ -1,6 +1,7 @@
 //! The attendant of a service: it accepts and dials, keeps the clocks of all lines, and writes the log.
 #![tactic(auto)]
 
+mod attending;
 mod desk;
 mod dial;
 mod entry;

@@ -1,0 +1,26 @@
+-- Between rounds no wire fails less often.
+use Rattle.std.proofs.Common.{◌≡◌, ◌≢◌, ℕ, ◌<◌, ◌≤◌, List, length, set, get_or, sym, ap, ◌∙◌, arith, ⊎_elim}
+use Rattle.std.specs.Prelude.{⊤}
+use Rattle.std.proofs.lemmas.Bool.{cases_eq}
+use Rattle.std.proofs.lemmas.List.{get_or-set_same, get_or-set_other, get_or_read}
+use Rattle.njh_hub.specs.Service.{AreStill}
+
+-- the i-th wire changed, and failed no less often
+pub still_more : {S : Type 0} (count : S → ℕ) (first now : List S) (i : ℕ) (was new : S) →
+    i < length now → was ≡ get_or now i was → count was ≤ count new →
+    AreStill (λ a b acts. ⊤) count first now → AreStill (λ a b acts. ⊤) count first (set now i new)
+still_more {S} count first now i was new there read rises still = record {
+  passed_none = λ k d w. tt;
+  counts = λ k d w. ⊎_elim (λ (here : k ≡ i).
+      let new_is : count (get_or (set now i new) k d) ≡ count new =
+      ap count (ap (λ (n : ℕ). get_or (set now i new) n d) here ∙ get_or-set_same now i new d there) in
+      let was_is : count (get_or now k d) ≡ count was =
+      ap count (ap (λ (n : ℕ). get_or now n d) here ∙ sym (get_or_read now i was there read d)) in
+      let before : count (get_or first k d) ≤ count (get_or now k d) = still.counts k d w in
+      omega (arith, new_is, was_is, before, rises))
+      (λ (other : k ≢ i).
+      let same : count (get_or (set now i new) k d) ≡ count (get_or now k d) = ap count (get_or-set_other now i k new d other) in
+      let before : count (get_or first k d) ≤ count (get_or now k d) = still.counts k d w in
+      omega (arith, same, before))
+      (cases_eq k i);
+}
