@@ -1,10 +1,14 @@
 //! What the attendant does with one line.
 
+ghost use Rattle.std.specs.Prelude.{◌≤◌};
+
 use crate::dial::Dial;
-use crate::entry::{Entry, Failure, Happening, Place};
+use crate::entry::{Ending, Entry, Failure, Happening, Place};
 use crate::log::Log;
 use crate::post::{Door, Label, Post};
 use njh_hub::Hub;
+use njh_line::Phase;
+use njh_table::LineId;
 use njh_wire::{End, LineWire, Network, Readiness};
 use std::io::Write;
 use std::net::SocketAddr;
@@ -37,7 +41,9 @@ impl<N: Network + Drop, L: Write + Drop> Desk<N, L> {
         post: &mut Post<N::Listener, N::Connection>,
         wire: &mut LineWire<N::Connection>,
         mark: Readiness,
-    ) {
+    )
+        ensures { wire.old.failures ≤ wire.new.failures }
+    {
         if mark.reads {
             wire.mark_readable();
         }
@@ -57,14 +63,17 @@ impl<N: Network + Drop, L: Write + Drop> Desk<N, L> {
         }
     }
 
-    /// Ends the connection of a line whose session gave up, and tells what changed, where something came. Answers when the line wants to be
+    /// Ends the connection of a line whose session gave up, and tells what changed, where something came.
+    /// Answers when the line wants to be
     /// looked at.
     pub(crate) fn settle(
         &mut self,
         post: &mut Post<N::Listener, N::Connection>,
         hub: &Hub,
         wire: &mut LineWire<N::Connection>,
-    ) -> u64 {
+    ) -> u64
+        ensures { wire.old.failures ≤ wire.new.failures }
+    {
         let soon = self.now.saturating_add(QUIET);
         let due = wire.due();
         if due != post.seen || due == soon {
@@ -88,31 +97,63 @@ impl<N: Network + Drop, L: Write + Drop> Desk<N, L> {
     fn look(
         &mut self,
         post: &mut Post<N::Listener, N::Connection>,
-        _hub: &Hub,
+        hub: &Hub,
         wire: &mut LineWire<N::Connection>,
-    ) {
-        if let Some(end) = wire.take_end() {
+    )
+        ensures { wire.old.failures ≤ wire.new.failures }
+    {
+        let gave_up = hub.has_given_up(post.line);
+        if gave_up && !post.label.given_up {
+            wire.close();
+        }
+        let end = wire.take_end();
+        let ending = if gave_up {
+            Ending::NoAnswer
+        } else if end.is_some() {
+            Ending::Lost
+        } else {
+            Ending::ByPeer
+        };
+        self.tell_session(&mut post.label, is_up(hub, post.line), ending);
+        post.label.given_up = gave_up;
+        if let Some(end) = end {
             self.tell_end(&mut post.label, end);
             post.lose(self.now);
         }
     }
 
-    /// Takes a connection that waits, where the line has none or one that is silent. Answers when the listener is to be looked at again.
+    /// Tells of a session that went up or down.
+    fn tell_session(&mut self, label: &mut Label, up: bool, ending: Ending) {
+        if up == label.up {
+            return;
+        }
+        label.up = up;
+        let happening = if up {
+            Happening::SessionUp(label.node)
+        } else {
+            Happening::SessionDown(ending)
+        };
+        self.tell(label, happening);
+    }
+
+    /// Takes a connection that waits, where the line has none or one that is silent. Answers when the listener
+    /// is to be looked at again.
     fn admit(
         &mut self,
         place: usize,
         listener: &mut N::Listener,
         label: &mut Label,
         wire: &mut LineWire<N::Connection>,
-    ) -> u64 {
+    ) -> u64
+        ensures { wire.old.failures ≤ wire.new.failures }
+    {
         let silent = wire.silent_for();
         if wire.is_connected() && silent < SILENCE {
             return self.now.saturating_add(SILENCE - silent);
         }
         match self.network.accept(listener, place) {
             Ok(Some((connection, address))) => {
-                wire.connect(connection);
-                self.tell_connected(label, Happening::ConnectedFrom(address));
+                self.connect(label, wire, connection, Happening::ConnectedFrom(address));
                 self.now
             }
             Ok(None) => u64::MAX,
@@ -123,6 +164,23 @@ impl<N: Network + Drop, L: Write + Drop> Desk<N, L> {
         }
     }
 
+    /// Gives a line a connection, in place of one that it has.
+    fn connect(
+        &mut self,
+        label: &mut Label,
+        wire: &mut LineWire<N::Connection>,
+        connection: N::Connection,
+        happening: Happening,
+    )
+        ensures { wire.old.failures ≤ wire.new.failures }
+    {
+        wire.connect(connection);
+        if let Some(end) = wire.take_end() {
+            self.tell_end(label, end);
+        }
+        self.tell_connected(label, happening);
+    }
+
     /// Dials, or sees whether a dial was answered.
     fn drive(
         &mut self,
@@ -131,7 +189,9 @@ impl<N: Network + Drop, L: Write + Drop> Desk<N, L> {
         dial: &mut Dial<N::Connection>,
         label: &mut Label,
         wire: &mut LineWire<N::Connection>,
-    ) {
+    )
+        ensures { wire.old.failures ≤ wire.new.failures }
+    {
         if dial.is_to_come(self.now) {
             match self.network.dial(address, place) {
                 Ok(connection) => dial.begin(connection, self.now),
@@ -145,8 +205,7 @@ impl<N: Network + Drop, L: Write + Drop> Desk<N, L> {
         match self.network.is_connected(connection) {
             Ok(true) => {
                 if let Some(connection) = dial.take() {
-                    wire.connect(connection);
-                    self.tell_connected(label, Happening::ConnectedTo(address));
+                    self.connect(label, wire, connection, Happening::ConnectedTo(address));
                 }
             }
             Ok(false) => {
@@ -197,5 +256,13 @@ impl<N: Network + Drop, L: Write + Drop> Desk<N, L> {
         let second = self.network.utc();
         let place = Place::Line(label.customer, label.line.as_str());
         self.log.write(second, &Entry { place, happening });
+    }
+}
+
+/// Whether a line's session is up.
+fn is_up(hub: &Hub, line: LineId) -> bool {
+    match hub.session(line) {
+        Ok(session) => session.phase == Phase::Up,
+        Err(_) => false,
     }
 }

@@ -1,10 +1,12 @@
 //! The attendant of a service.
 
+ghost use Rattle.std.specs.Prelude.{◌≤◌, ⊤};
+ghost use Rattle.njh_hub.specs.Service.{AreStill};
+
 use crate::desk::Desk;
 use crate::log::Log;
-use crate::post::Post;
+use crate::post::{Label, LineNames, Post};
 use crate::way::Way;
-use njh_ebcdic::Name;
 use njh_hub::Hub;
 use njh_table::LineId;
 use njh_wire::{LineWire, Network, Readiness};
@@ -24,7 +26,8 @@ const NOTHING: Readiness = Readiness {
     writes: false,
 };
 
-/// What stands beside the turns of a service's lines: it waits for the network, accepts, dials, ends connections, sends what waits, and
+/// What stands beside the turns of a service's lines: it waits for the network, accepts, dials, ends connections,
+/// sends what waits, and
 /// writes the log.
 #[derive(Drop)]
 pub struct Exchange<N: Network + Drop, L: Write + Drop> {
@@ -59,17 +62,19 @@ impl<N: Network + Drop, L: Write + Drop> Exchange<N, L> {
     pub fn add(
         &mut self,
         line: LineId,
-        customer: Name,
-        name: &str,
+        names: &LineNames<'_>,
         way: Way<N::Listener>,
     ) -> Result<(), AllocError> {
-        self.posts.push(Post::new(line, customer, name, way))?;
+        let label = Label::of(names);
+        self.posts.push(Post::new(line, label, way))?;
         self.ready.push(NOTHING)?;
         Ok(())
     }
 
     /// Waits until a line is ready or due, and looks at each that is.
-    pub(crate) fn begin_round(&mut self, wires: &mut [LineWire<N::Connection>]) {
+    pub(crate) fn begin_round(&mut self, wires: &mut [LineWire<N::Connection>])
+        ensures { AreStill (λ a b acts. ⊤) (λ wire. wire.failures) wires.old wires.new }
+    {
         let wait = self.wait();
         let _waited = self.desk.network.wait(wait, &mut self.ready).is_ok();
         self.desk.now = self.desk.network.now();
@@ -89,7 +94,9 @@ impl<N: Network + Drop, L: Write + Drop> Exchange<N, L> {
     }
 
     /// Sets a wire's clock, and looks at its line where something is ready or its door's moment came.
-    fn begin(&mut self, place: usize, wire: &mut LineWire<N::Connection>) {
+    fn begin(&mut self, place: usize, wire: &mut LineWire<N::Connection>)
+        ensures { wire.old.failures ≤ wire.new.failures }
+    {
         wire.set_clock(self.desk.now);
         let (Some(post), Some(ready)) = (self.posts.get_mut(place), self.ready.get_mut(place))
         else {
@@ -104,7 +111,9 @@ impl<N: Network + Drop, L: Write + Drop> Exchange<N, L> {
     }
 
     /// Sends what waits on each wire, ends connections whose session gave up, and tells what changed.
-    pub(crate) fn end_round(&mut self, hub: &Hub, wires: &mut [LineWire<N::Connection>]) {
+    pub(crate) fn end_round(&mut self, hub: &Hub, wires: &mut [LineWire<N::Connection>])
+        ensures { AreStill (λ a b acts. ⊤) (λ wire. wire.failures) wires.old wires.new }
+    {
         self.next = u64::MAX;
         for place in 0..wires.len() {
             let moment = self.settle(place, hub, &mut wires[place]);
@@ -113,7 +122,9 @@ impl<N: Network + Drop, L: Write + Drop> Exchange<N, L> {
     }
 
     /// Settles a line. Answers when it wants to be looked at.
-    fn settle(&mut self, place: usize, hub: &Hub, wire: &mut LineWire<N::Connection>) -> u64 {
+    fn settle(&mut self, place: usize, hub: &Hub, wire: &mut LineWire<N::Connection>) -> u64
+        ensures { wire.old.failures ≤ wire.new.failures }
+    {
         if wire.waits_to_send() {
             wire.flush();
         }

@@ -15,4 +15,5 @@ mod way;
 pub use entry::{Ending, Entry, Failure, FileLine, Happening, Place};
 pub use exchange::Exchange;
 pub use log::Log;
+pub use post::LineNames;
 pub use way::Way;

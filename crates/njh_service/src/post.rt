@@ -10,6 +10,17 @@ use std::net::SocketAddr;
 /// How many bytes the name of a line has at most.
 const NAME: usize = 8;
 
+/// What a line is called.
+#[derive(Clone, Copy, Drop)]
+pub struct LineNames<'a> {
+    /// Its customer.
+    pub customer: Name,
+    /// Its name on this hub.
+    pub line: &'a str,
+    /// The node at its other end.
+    pub node: Name,
+}
+
 /// What the log calls a line, and what it told of it.
 #[derive(Clone, Copy, Drop)]
 pub(crate) struct Label {
@@ -19,8 +30,29 @@ pub(crate) struct Label {
     pub(crate) again: u64,
     /// Whether the line's connection was told.
     pub(crate) connected: bool,
+    /// The node at its other end.
+    pub(crate) node: Name,
+    /// Whether its session was up.
+    pub(crate) up: bool,
     /// Whether its session had given up.
     pub(crate) given_up: bool,
+}
+
+impl Label {
+    /// A line of these names, of which nothing was told.
+    pub(crate) fn of(names: &LineNames<'_>) -> Label {
+        let mut line = ArrayString::new();
+        let _whole = line.try_push_str(names.line).is_ok();
+        Label {
+            customer: names.customer,
+            line,
+            node: names.node,
+            up: false,
+            given_up: false,
+            again: 0,
+            connected: false,
+        }
+    }
 }
 
 /// How a line gets its connections, and how that stands.
@@ -46,9 +78,7 @@ pub(crate) struct Post<Li: Drop, C: Drop> {
 
 impl<Li: Drop, C: Drop> Post<Li, C> {
     /// A line on which nothing happened yet.
-    pub(crate) fn new(line: LineId, customer: Name, name: &str, way: Way<Li>) -> Post<Li, C> {
-        let mut short = ArrayString::new();
-        let _whole = short.try_push_str(name).is_ok();
+    pub(crate) fn new(line: LineId, label: Label, way: Way<Li>) -> Post<Li, C> {
         Post {
             moment: 0,
             seen: u64::MAX,
@@ -57,13 +87,7 @@ impl<Li: Drop, C: Drop> Post<Li, C> {
                 Way::Listens(listener) => Door::Listens(listener),
                 Way::Dials(address) => Door::Dials(address, Dial::new()),
             },
-            label: Label {
-                customer,
-                line: short,
-                again: 0,
-                connected: false,
-                given_up: false,
-            },
+            label,
         }
     }
 
