@@ -2,13 +2,14 @@
 //! by hand but for the counts of random runs and traffic.
 //!
 //! First come the stored scripts, then damaged input, what runs have of one customer beside others, streams that fail,
-//! the steps of a hub, new routes, the names of faults, and traffic at random. Last it is the program itself on its own
-//! arguments, whose tables are refused, and ends as the program ends then.
+//! the steps of a hub, what is seen of it, new routes, the names of faults, and traffic at random. Last it is the program
+//! itself on its own arguments, whose tables are refused, and ends as the program ends then.
 #![tactic(auto)]
 
 mod customers;
 mod damage;
 mod devices;
+mod looks;
 mod new_routes;
 mod peers;
 mod random_events;
@@ -36,6 +37,7 @@ fn tried<R: Files + Net + Print + AllocGlobal>(rt: &R) -> Result<(), Failure> {
     streams::fail(rt)?;
     steps::take(rt)?;
     steps::keep(rt)?;
+    looks::look(rt)?;
     new_routes::refuse(rt)?;
     route_lines::try_each(rt)?;
     steps::refuse(rt)?;

@@ -1,0 +1,167 @@
+//! What is seen of a hub while a file comes in and goes out, and of a line whose peer falls silent.
+
+use crate::steps::{CONTACT, FILE, REQUEST, SIGN_ON, bytes_of, of_hub, open};
+use njh_hub::{FileSummaryView, Hub};
+use njh_program::Failure;
+use njh_spool::FileId;
+use njh_stream::Receiver;
+use njh_table::{LineId, Tables};
+use std::fs;
+use std::rt::Files;
+
+/// LYON's line of ACME, on which the file comes.
+const A1: LineId = LineId {
+    customer: 0,
+    line: 0,
+};
+
+/// METZ's, on which it goes.
+const A2: LineId = LineId {
+    customer: 0,
+    line: 1,
+};
+
+/// No line.
+const NOWHERE: LineId = LineId {
+    customer: 0,
+    line: 2,
+};
+
+/// The sign-on of METZ.
+const METZ: &str =
+    "1002a08fcff0c929d4c5e3e940404040010000000000000400404040404040404040404040404040400000000000001026";
+
+/// METZ acknowledges, lets SYSOUT 1 come, and has all of it.
+const ACK0: &str = "1070";
+
+const PERMISSION: &str = "1002808fcfa09900001026";
+
+const COMPLETION: &str = "1002818fcfc09900001026";
+
+/// A step by bytes of a line, and then what is seen of the line.
+fn take<R: Print + AllocGlobal>(
+    rt: &R,
+    hub: &mut Hub,
+    line: LineId,
+    digits: &str,
+) -> Result<(), Failure> {
+    let piece = bytes_of(rt.alloc(), digits)?;
+    let mut out = Vec::new(rt.alloc());
+    match hub.take(line, &piece, &mut out) {
+        Ok(_) => show_line(rt, hub, line),
+        Err(fault) => Err(of_hub(fault)),
+    }
+}
+
+/// A tick of a line, and then what is seen of the line.
+fn tick<R: Print + AllocGlobal>(rt: &R, hub: &mut Hub, line: LineId) -> Result<(), Failure> {
+    let mut out = Vec::new(rt.alloc());
+    match hub.tick(line, &mut out) {
+        Ok(()) => show_line(rt, hub, line),
+        Err(fault) => Err(of_hub(fault)),
+    }
+}
+
+/// What is seen of a line: its session, and SYSOUT 1 to the hub and from it.
+fn show_line<R: Print>(rt: &R, hub: &Hub, line: LineId) -> Result<(), Failure> {
+    let given_up = hub.has_given_up(line);
+    match hub.session(line) {
+        Ok(session) => println!(rt; "look: {session:?} {given_up}")?,
+        Err(fault) => println!(rt; "look: {fault} {given_up}")?,
+    }
+    match hub.receivers(line) {
+        Ok(receivers) => println!(rt; "in: {:?}", receivers[4])?,
+        Err(fault) => println!(rt; "in: {fault}")?,
+    }
+    match hub.senders(line) {
+        Ok(senders) => println!(rt; "out: {:?}", senders[4])?,
+        Err(fault) => println!(rt; "out: {fault}")?,
+    }
+    Ok(())
+}
+
+/// The file that comes on SYSOUT 1 of a line.
+fn file_coming(hub: &Hub, line: LineId) -> Option<FileId> {
+    match hub.receivers(line) {
+        Ok(receivers) => match receivers[4] {
+            Receiver::Open { file, .. } => Some(file),
+            Receiver::Idle | Receiver::Draining => None,
+        },
+        Err(_) => None,
+    }
+}
+
+/// What is seen of ACME's file of a number.
+fn show_file<R: Print>(rt: &R, hub: &Hub, file: FileId) -> Result<(), Failure> {
+    match hub.file_summary(0, file) {
+        Some(
+            FileSummaryView {
+                kind,
+                state,
+                records,
+                blocks,
+                ..
+            },
+        ) => println!(rt; "file: {kind:?} {state:?} {records} records {blocks} blocks")?,
+        None => println!(rt; "file: none")?,
+    }
+    Ok(())
+}
+
+/// A file comes on a1.
+fn come<R: Print + AllocGlobal>(rt: &R, hub: &mut Hub) -> Result<(), Failure> {
+    show_line(rt, hub, A1)?;
+    for digits in [CONTACT, SIGN_ON, REQUEST] {
+        take(rt, hub, A1, digits)?;
+    }
+    Ok(())
+}
+
+/// The file is whole, and goes on a2.
+fn go<R: Print + AllocGlobal>(rt: &R, hub: &mut Hub, file: FileId) -> Result<(), Failure> {
+    show_file(rt, hub, file)?;
+    take(rt, hub, A1, FILE)?;
+    show_file(rt, hub, file)?;
+    for digits in [CONTACT, METZ, ACK0, PERMISSION] {
+        take(rt, hub, A2, digits)?;
+    }
+    show_file(rt, hub, file)?;
+    take(rt, hub, A2, COMPLETION)?;
+    show_file(rt, hub, file)
+}
+
+/// LYON answers no more.
+fn fall_silent<R: Print + AllocGlobal>(rt: &R, hub: &mut Hub) -> Result<(), Failure> {
+    for _ in 0..6 {
+        tick(rt, hub, A1)?;
+    }
+    show_line(rt, hub, A2)?;
+    show_line(rt, hub, NOWHERE)
+}
+
+/// Says a customer's quota.
+fn show_quota<R: Print>(rt: &R, hub: &Hub, customer: u16) -> Result<(), Failure> {
+    match hub.quota(customer) {
+        Ok(blocks) => println!(rt; "quota: {blocks}")?,
+        Err(fault) => println!(rt; "quota: {fault}")?,
+    }
+    Ok(())
+}
+
+/// A line from Down to Up, a file in and out, and a line whose tries are used up.
+pub fn look<R: Files + Print + AllocGlobal>(rt: &R) -> Result<(), Failure> {
+    let tables = fs::read_to_string(rt, "two_networks.toml")?;
+    let mut hub = open(rt.alloc(), Tables::read(rt.alloc(), tables.as_str())?)?;
+    look_all(rt, &mut hub)
+}
+
+fn look_all<R: Print + AllocGlobal>(rt: &R, hub: &mut Hub) -> Result<(), Failure> {
+    come(rt, hub)?;
+    match file_coming(hub, A1) {
+        Some(file) => go(rt, hub, file)?,
+        None => println!(rt; "in: nothing")?,
+    }
+    fall_silent(rt, hub)?;
+    show_quota(rt, hub, 0)?;
+    show_quota(rt, hub, 2)
+}
