@@ -1,8 +1,9 @@
 -- What the arguments name, from the matches of a parse.
-use Rattle.std.proofs.Common.{◌≡◌, Result, Ok, Err, OnOk, IfErr, Bool, true, false, cond, List, [], ◌∷◌, map, Option}
-use Rattle.std.proofs.Common.{Some, None, option_and_then, refl, sym, ap, subst, ◌∙◌}
-use Rattle.std.specs.Prelude.{IfSome, IsSomeAnd, codes, find, option_map, slice_get, bytes_eq}
+use Rattle.std.proofs.Common.{◌≡◌, Result, Ok, Err, OnOk, IfOk, IfErr, Bool, true, false, cond, List, [], ◌∷◌, map, Option}
+use Rattle.std.proofs.Common.{Some, None, option_and_then, refl, sym, ap, subst, ◌∙◌, ◌↔◌, IsTrue}
+use Rattle.std.specs.Prelude.{codes, find, option_map, slice_get, bytes_eq}
 use Rattle.std.proofs.lemmas.Option.{slice_get-map}
+use Rattle.std.proofs.lemmas.Slice.Eq.{bytes_eq-Decides}
 use Rattle.std.specs.Box.{box_value}
 use Rattle.clap.proofs.OnLiterals.{clap_on_literals}
 use Rattle.clap.specs.Faults.{is_simple_and_free}
@@ -15,8 +16,10 @@ use Rattle.clap.specs.declared.parser.matches.ArgMatches.{ArgMatches}
 use Rattle.clap.specs.declared.parser.matches.ArgMatches.TheViews.{out-ArgMatches, out-SubCommand}
 use Rattle.njh_program.specs.declared.arguments.Request.{Request}
 use Rattle.njh_program.specs.declared.arguments.Request.TheVariants.{Replay, Serve}
-use Rattle.njh_program.specs.Arguments.{CountsTurns, ServesBy, Spells, choice_in, choice_of, choice_of_rows, program_app, turns_in}
-use Rattle.njh_program.specs.Arguments.{turns_of_rows}
+use Rattle.njh_program.specs.declared.serve_options.Unasked.{Unasked}
+use Rattle.njh_program.specs.declared.serve_options.Unasked.TheVariants.{Missing, NoAddress}
+use Rattle.njh_program.specs.Arguments.{HasNoAddress, HasOptions, IsUnasked, IsUnaskedBy, ServesBy, choice_in, choice_of, choice_of_rows}
+use Rattle.njh_program.specs.Arguments.{program_app}
 
 cond-map : {X Y : Type 0} (f : X → Y) (b : Bool) (x : X) (o : Option Y) (later : Option X) → o ≡ option_map f later
     → cond b (Some (f x)) o ≡ option_map f (cond b (Some x) later)
@@ -77,18 +80,29 @@ pub FailsBy-err : {A : Type 0} (kinds : Kinds) (r : Result A Error) → FailsBy 
 FailsBy-err kinds (Ok x) fails = tt
 FailsBy-err kinds (Err e) fails = fails
 
--- what is asked for by the rows of `serve`
-pub serves_asked : (m : ArgMatches) (rows : List Row) → subcommand_rows_of m ≡ Some (codes "serve", rows) → (r : Option Request) →
-    IfSome r (ServesBy rows) → IfSome r (λ request. choice_in m ≡ Some (choice_of request))
-serves_asked m rows named None serves = tt
-serves_asked m rows named (Some (Replay tables)) serves = absurd serves
-serves_asked m rows named (Some (Serve tables turns)) serves =
+-- what is asked for by the rows of `serve`, or why nothing is
+pub serves_asked : (m : ArgMatches) (rows : List Row) → subcommand_rows_of m ≡ Some (codes "serve", rows) → (r : Result Request Unasked)
+    → IfOk r (ServesBy rows) → IfOk r (λ request. choice_in m ≡ Some (choice_of request))
+serves_asked m rows named (Err why) serves = tt
+serves_asked m rows named (Ok (Replay tables)) serves = absurd serves
+serves_asked m rows named (Ok (Serve tables turns listen quiet)) serves =
     ap choice_of_rows named ∙ ap (λ (t : Option Text). Some (codes "serve", t)) serves.0
 
-pub serves_turns : (m : ArgMatches) (rows : List Row) → subcommand_rows_of m ≡ Some (codes "serve", rows) → (r : Option Request) →
-    IfSome r (ServesBy rows) → IfSome r (CountsTurns (turns_in m))
-serves_turns m rows named None serves = tt
-serves_turns m rows named (Some (Replay tables)) serves = tt
-serves_turns m rows named (Some (Serve tables turns)) serves =
-    let P : Option Text → Type 0 = λ o. IsSomeAnd o (λ t. Spells t turns) in
-    subst P (sym (ap turns_of_rows named)) serves.1
+pub serves_options : (m : ArgMatches) (rows : List Row) → subcommand_rows_of m ≡ Some (codes "serve", rows) → (r : Result Request Unasked)
+    → IfOk r (ServesBy rows) → IfOk r (HasOptions (subcommand_rows_of m))
+serves_options m rows named (Err why) serves = tt
+serves_options m rows named (Ok (Replay tables)) serves = tt
+serves_options m rows named (Ok (Serve tables turns listen quiet)) serves =
+    subst (λ (o : Option (Text × List Row)). HasOptions o (Serve tables turns listen quiet)) (sym named) serves
+
+pub serves_refused : (m : ArgMatches) (rows : List Row) → subcommand_rows_of m ≡ Some (codes "serve", rows) → (r : Result Request Unasked)
+    → IfErr r (IsUnasked rows) → IfErr r (IsUnaskedBy (subcommand_rows_of m))
+serves_refused m rows named (Ok request) unasked = tt
+serves_refused m rows named (Err Missing) unasked = tt
+serves_refused m rows named (Err (NoAddress text)) unasked = subst HasNoAddress (sym named) unasked
+
+-- a text that is tested for a word
+pub spells_word : (b : Bool) (text word : Text) → b ≡ bytes_eq text word → IsTrue b ↔ (Some text ≡ Some word)
+spells_word b text word same =
+    let d = bytes_eq-Decides text word in
+    (λ yes. ap (λ (t : Text). Some t) (d.0 (sym same ∙ yes)), λ e. let is : text ≡ word = cc e in same ∙ d.1 is)

@@ -1,13 +1,19 @@
 -- The arguments of the command line.
-use Rattle.std.specs.Prelude.{◌≡◌, ℕ, pos, List, codes, true, Option, Some, option_map, option_and_then, IsSomeAnd, ⊤}
+use Rattle.std.specs.Prelude.{◌≡◌, ◌↔◌, ◌⊎◌, ℕ, pos, List, [], ◌∷◌, codes, true, Option, Some, None, option_map, IsSomeAnd, IsTrue, ⊤}
+use Rattle.std.specs.Net.Grammar.{IsIpText}
+use Rattle.std.specs.declared.net.ip_addr.IpAddr.{IpAddr}
 use Rattle.std.specs.Str.Parse.{IsNumeral, digits_value, without_leading_plus}
 use Rattle.clap.specs.declared.builder.value_parser.ValueParser.TheVariants.{Signed}
-use Rattle.clap.specs.Words.{App, Row, Rule, Text, first_of, new_app, new_rule, subcommand_of, subcommand_rows_of}
-use Rattle.clap.specs.Words.{with_rule, with_subcommand}
-use Rattle.clap.specs.declared.builder.ArgAction.TheVariants.{Set}
+use Rattle.clap.specs.Words.{App, HasKind, Row, Rule, Text, fault_of, first_of, kind_of, new_app, new_rule, subcommand_of}
+use Rattle.clap.specs.Words.{subcommand_rows_of, with_rule, with_subcommand}
+use Rattle.clap.specs.declared.builder.ArgAction.TheVariants.{Set, SetTrue}
+use Rattle.clap.specs.declared.error.Error.{Error}
+use Rattle.clap.specs.declared.error.kind.ErrorKind.TheVariants.{MissingSubcommand, ValueValidation}
 use Rattle.clap.specs.declared.parser.matches.ArgMatches.{ArgMatches}
 use Rattle.njh_program.specs.declared.arguments.Request.{Request}
 use Rattle.njh_program.specs.declared.arguments.Request.TheVariants.{Replay, Serve}
+use Rattle.njh_program.specs.declared.serve_options.Unasked.{Unasked}
+use Rattle.njh_program.specs.declared.serve_options.Unasked.TheVariants.{Missing, NoAddress}
 
 -- a text is this number's digits, before which a plus may stand
 abbrev pub Spells : Text → ℕ → Type 0
@@ -21,7 +27,8 @@ tables_rule = record (new_rule (codes "tables")) { long = Some (codes "tables");
 abbrev pub replay_app : App
 replay_app = with_rule (new_app (codes "replay")) tables_rule
 
--- the options of `serve`, which it must have: a table file and a number of turns
+-- the options of `serve`: a table file, which it must have, a number of turns, and an address, which is this machine's own where none is
+-- given
 abbrev pub wanted_tables_rule : Rule
 wanted_tables_rule = record tables_rule { required = true }
 
@@ -30,12 +37,26 @@ turns_rule = record (new_rule (codes "turns")) {
   long = Some (codes "turns");
   value_names = 1;
   action = Some Set;
-  required = true;
   parser = Some (Signed (pos 1) (pos 1000000));
 }
 
+abbrev pub listen_rule : Rule
+listen_rule = record (new_rule (codes "listen")) {
+  long = Some (codes "listen");
+  value_names = 1;
+  action = Some Set;
+  defaults = codes "127.0.0.1" ∷ [];
+}
+
+-- and the flag `--quiet`
+abbrev pub quiet_rule : Rule
+quiet_rule = record (new_rule (codes "quiet")) { long = Some (codes "quiet"); action = Some SetTrue }
+
+abbrev pub bounded_serve_app : App
+bounded_serve_app = with_rule (with_rule (new_app (codes "serve")) wanted_tables_rule) turns_rule
+
 abbrev pub serve_app : App
-serve_app = with_rule (with_rule (new_app (codes "serve")) wanted_tables_rule) turns_rule
+serve_app = with_rule (with_rule bounded_serve_app listen_rule) quiet_rule
 
 -- a program whose first word is a subcommand
 abbrev pub bare_app : App
@@ -66,25 +87,53 @@ choice_in found = choice_of_rows (subcommand_rows_of found)
 -- those of a request
 abbrev pub choice_of : Request → Text × Option Text
 choice_of (Replay tables) = (codes "replay", option_map (λ s. s.now) tables)
-choice_of (Serve tables turns) = (codes "serve", Some tables.now)
+choice_of (Serve tables turns listen quiet) = (codes "serve", Some tables.now)
 
--- what `--turns` has in its rows
-abbrev pub turns_of_rows : Option (Text × List Row) → Option Text
-turns_of_rows rows = option_and_then (λ p. first_of (codes "turns") p.1) rows
+-- as many turns as a text spells, or no end of them where there is none
+abbrev pub CountsTurns : Option Text → Option ℕ → Type 0
+CountsTurns None turns = turns ≡ None
+CountsTurns (Some text) turns = IsSomeAnd turns (Spells text)
 
-abbrev pub turns_by : List Text → Option Text
-turns_by arguments = turns_of_rows (subcommand_of program_app arguments)
+-- lines listen at the address that a text spells
+abbrev pub ListensAt : Option Text → IpAddr → Type 0
+ListensAt text address = IsSomeAnd text (λ t. IsIpText t address)
 
-abbrev pub turns_in : ArgMatches → Option Text
-turns_in found = turns_of_rows (subcommand_rows_of found)
-
--- the turns of a request are the number that a text spells
-abbrev pub CountsTurns : Option Text → Request → Type 0
-CountsTurns text (Replay tables) = ⊤
-CountsTurns text (Serve tables turns) = IsSomeAnd text (λ t. Spells t turns)
-
--- a request to serve, by the rows of `serve`
+-- a request to serve, by the rows of `serve`: these tables, so many turns, at that address, and with a log or without
 abbrev pub ServesBy : List Row → Request → Type 0
 ServesBy rows (Replay tables) = ⊥
-ServesBy rows (Serve tables turns) = (first_of (codes "tables") rows ≡ Some tables.now)
-    × IsSomeAnd (first_of (codes "turns") rows) (λ t. Spells t turns)
+ServesBy rows (Serve tables turns listen quiet) = (first_of (codes "tables") rows ≡ Some tables.now)
+    × CountsTurns (first_of (codes "turns") rows) turns
+    × ListensAt (first_of (codes "listen") rows) listen
+    × (IsTrue quiet ↔ (first_of (codes "quiet") rows ≡ Some (codes "true")))
+
+-- a request has the options of the subcommand that was named
+abbrev pub HasOptions : Option (Text × List Row) → Request → Type 0
+HasOptions named (Replay tables) = ⊤
+HasOptions named (Serve tables turns listen quiet) = IsSomeAnd named (λ p. ServesBy p.1 (Serve tables turns listen quiet))
+
+-- the text of `--listen` is no address
+abbrev pub NamesNoAddress : List Row → Type 0
+NamesNoAddress rows = IsSomeAnd (first_of (codes "listen") rows) (λ text. (address : IpAddr) → ¬ IsIpText text address)
+
+abbrev pub HasNoAddress : Option (Text × List Row) → Type 0
+HasNoAddress named = IsSomeAnd named (λ p. NamesNoAddress p.1)
+
+-- why the rows of `serve` ask for nothing
+abbrev pub IsUnasked : List Row → Unasked → Type 0
+IsUnasked rows Missing = ⊤
+IsUnasked rows (NoAddress text) = NamesNoAddress rows
+
+-- and why a parse does
+abbrev pub IsUnaskedBy : Option (Text × List Row) → Unasked → Type 0
+IsUnaskedBy named Missing = ⊤
+IsUnaskedBy named (NoAddress text) = HasNoAddress named
+
+-- the refusal that says so
+abbrev pub IsRefusalOf : Unasked → Error → Type 0
+IsRefusalOf Missing error = kind_of error ≡ MissingSubcommand
+IsRefusalOf (NoAddress text) error = kind_of error ≡ ValueValidation
+
+-- The arguments are refused so: as clap's definitions say of this program, or since an address is none.
+abbrev pub AreRefusedBy : List Text → Error → Type 0
+AreRefusedBy arguments error = HasKind (MissingSubcommand ∷ fault_of program_app arguments) error
+    ⊎ ((kind_of error ≡ ValueValidation) × HasNoAddress (subcommand_of program_app arguments))

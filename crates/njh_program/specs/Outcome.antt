@@ -1,14 +1,13 @@
 -- What the program did, and why it failed.
-use Rattle.std.specs.Prelude.{◌≡◌, ◌∷◌, ◌⊎◌, ℕ, List, codes, Option, Some, ⊤}
+use Rattle.std.specs.Prelude.{◌≡◌, ◌⊎◌, ℕ, List, codes, Option, Some, ⊤}
 use Rattle.std.specs.Io.KnownBytes.{Keeps}
-use Rattle.clap.specs.Words.{Text, HasKind, fault_of}
-use Rattle.clap.specs.declared.error.kind.ErrorKind.TheVariants.{MissingSubcommand}
+use Rattle.clap.specs.Words.{Text}
 use Rattle.njh_table.specs.TableFile.{TableFile}
 use Rattle.njh_hub.specs.declared.fault.HubFault.TheVariants.{Memory}
 use Rattle.njh_program.specs.declared.failure.Failure.{Failure}
 use Rattle.njh_program.specs.declared.failure.Failure.TheVariants.{Arguments, Tables, Replay}
 use Rattle.njh_program.specs.declared.fault.ReplayFault.TheVariants.{TooLong, Script, Device, Hub}
-use Rattle.njh_program.specs.Arguments.{choice_by, program_app}
+use Rattle.njh_program.specs.Arguments.{AreRefusedBy, choice_by}
 use Rattle.njh_program.specs.Replayed.{HasTooLong, HasBadLine, IsBegun, IsReplayed}
 use Rattle.njh_program.specs.TableBytes.{AreGiven, AreRefused}
 
@@ -35,7 +34,7 @@ IsBegunFor arguments left old new = (tables : TableFile) × Chooses arguments ta
 
 -- Why it failed: by the arguments, which are asked first, by the tables, or by the script; or a device failed, or memory ran out.
 abbrev pub IsFailed : (arguments : List Text) (left : Option (List ℕ)) → Failure → Type 0
-IsFailed arguments left (Arguments error) = HasKind (MissingSubcommand ∷ fault_of program_app arguments) error
+IsFailed arguments left (Arguments error) = AreRefusedBy arguments error
 IsFailed arguments left (Tables fault) = ChoosesRefused arguments (Tables fault)
 IsFailed arguments left (Replay TooLong) = (tables : TableFile) × Chooses arguments tables × HasTooLong left
 IsFailed arguments left (Replay (Script number)) = (tables : TableFile) × Chooses arguments tables

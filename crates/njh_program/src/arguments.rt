@@ -1,16 +1,17 @@
 //! The arguments of the command line.
 
-ghost use Rattle.std.specs.Prelude.{◌≡◌, [], ◌∷◌, false, map, codes, IfOk, IfErr, IfSome, OnOk};
-ghost use Rattle.clap.specs.Words.{app_of, fault_of, found_of, kind_of, new_app, rows_of, rule_of, HasKind};
+ghost use Rattle.std.specs.Prelude.{◌≡◌, ◌≢◌, [], ◌∷◌, false, map, codes, IfOk, IfErr, OnOk};
+ghost use Rattle.clap.specs.Words.{app_of, fault_of, kind_of, new_app, rule_of, subcommand_of, subcommand_rows_of, HasKind};
 ghost use Rattle.clap.specs.declared.builder.command.Command.TheViews.{out-Command};
-ghost use Rattle.njh_program.specs.Arguments.{CountsTurns, ServesBy, turns_by, turns_in};
-ghost use Rattle.njh_program.specs.Arguments.{bare_app, choice_by, choice_in, choice_of, program_app, replay_app, replaying_app, serve_app, tables_rule, turns_rule};
+ghost use Rattle.njh_program.specs.Arguments.{AreRefusedBy, HasOptions, IsRefusalOf, IsUnaskedBy, choice_by, choice_in, choice_of};
+ghost use Rattle.njh_program.specs.Arguments.{bare_app, program_app, replay_app, replaying_app, tables_rule};
 
-use clap::builder::ValueParser;
+use crate::serve_options::{Unasked, serve_command, served_in};
 use clap::error::ErrorKind;
 use clap::{Arg, ArgAction, ArgMatches, Command, Error};
 use std::alloc::{AllocError, Global};
 use std::convert::AsStr;
+use std::net::IpAddr;
 
 /// What the arguments ask for.
 #[derive(Clone, Copy)]
@@ -24,8 +25,12 @@ pub enum Request<'a> {
     Serve {
         /// The table file.
         tables: &'a str,
-        /// For how many turns.
-        turns: u32,
+        /// For how many turns, if they end.
+        turns: Option<u32>,
+        /// Where lines listen.
+        listen: IpAddr,
+        /// Without a log.
+        quiet: bool,
     },
 }
 
@@ -33,16 +38,16 @@ pub enum Request<'a> {
 /// `--help` is one. Both are as `clap`'s definitions say of this program.
 pub fn request_of<'a, S: AsStr>(alloc: Global, arguments: &'a [S]) -> Result<Request<'a>, Error>
     ensures asked { IfOk result (λ request. choice_by (map S.text arguments.entry.now) ≡ Some (choice_of request)) }
-    ensures turns { IfOk result (CountsTurns (turns_by (map S.text arguments.entry.now))) }
+    ensures options { IfOk result (HasOptions (subcommand_of program_app (map S.text arguments.entry.now))) }
     ensures taken { OnOk result (fault_of program_app (map S.text arguments.entry.now) ≡ []) }
     // Out of memory, or of a kind that these arguments give.
-    ensures refused { IfErr result (HasKind (ErrorKind.MissingSubcommand ∷ fault_of program_app (map S.text arguments.entry.now))) }
+    ensures refused { IfErr result (AreRefusedBy (map S.text arguments.entry.now)) }
 {
     let mut program = program_command(alloc)?;
     let found = matches_of(&mut program, arguments)?;
     match request_in(&found) {
-        Some(request) => Ok(request),
-        None => Err(program.error(ErrorKind::MissingSubcommand, "no subcommand")?),
+        Ok(request) => Ok(request),
+        Err(why) => Err(refusal_of(alloc, &mut program, why)?),
     }
 }
 
@@ -60,35 +65,44 @@ fn matches_of<'a, S: AsStr>(
 ) -> Result<ArgMatches<'a>, Error>
     requires { app_of program.old ≡ program_app }
     ensures asked { IfOk result (λ found. choice_in found ≡ choice_by (map S.text arguments.entry.now)) }
-    ensures turns { IfOk result (λ found. turns_in found ≡ turns_by (map S.text arguments.entry.now)) }
+    ensures rows { IfOk result (λ found. subcommand_rows_of found ≡ subcommand_of program_app (map S.text arguments.entry.now)) }
     ensures taken { OnOk result (fault_of program_app (map S.text arguments.entry.now) ≡ []) }
     ensures refused { IfErr result (HasKind (fault_of program_app (map S.text arguments.entry.now))) }
 {
     program.try_get_matches_from_mut(arguments)
 }
 
-/// What a parse asks for, if it found a subcommand.
-fn request_in<'a>(found: &ArgMatches<'a>) -> Option<Request<'a>>
-    ensures asked { IfSome result (λ request. choice_in found.now ≡ Some (choice_of request)) }
-    ensures turns { IfSome result (CountsTurns (turns_in found.now)) }
+/// What a parse asks for.
+fn request_in<'a>(found: &ArgMatches<'a>) -> Result<Request<'a>, Unasked<'a>>
+    ensures asked { IfOk result (λ request. choice_in found.now ≡ Some (choice_of request)) }
+    ensures options { IfOk result (HasOptions (subcommand_rows_of found.now)) }
+    ensures refused { IfErr result (IsUnaskedBy (subcommand_rows_of found.now)) }
 {
     match found.subcommand() {
-        Some(("replay", options)) => Some(Request::Replay {
+        Some(("replay", options)) => Ok(Request::Replay {
             tables: options.get_str("tables"),
         }),
         Some(("serve", options)) => served_in(options),
-        _ => None,
+        _ => Err(Unasked::Missing),
     }
 }
 
-/// What the options of `serve` ask for, which `clap` has seen to be there.
-fn served_in<'a>(options: &ArgMatches<'a>) -> Option<Request<'a>>
-    ensures { IfSome result (ServesBy (rows_of (found_of options.now))) }
+/// The refusal of a parse that asks for nothing.
+fn refusal_of(
+    alloc: Global,
+    program: &mut Command<'_>,
+    why: Unasked<'_>,
+) -> Result<Error, AllocError>
+    ensures { IfOk result (IsRefusalOf why.entry) }
 {
-    let tables = options.get_str("tables")?;
-    match options.get_str("turns")?.parse::<u32>() {
-        Ok(turns) => Some(Request::Serve { tables, turns }),
-        Err(_) => None,
+    match why {
+        Unasked::Missing => program.error(ErrorKind::MissingSubcommand, "no subcommand"),
+        Unasked::NoAddress(text) => {
+            let message = format!(in alloc;
+                "invalid value '{text}' for '--listen <ADDRESS>': invalid IP address syntax"
+            )?;
+            program.error(ErrorKind::ValueValidation, message.as_str())
+        }
     }
 }
 
@@ -131,41 +145,8 @@ fn replay_command<'a>(alloc: Global) -> Result<Command<'a>, AllocError>
         .arg(tables_option(alloc))
 }
 
-/// `serve`, with its two options.
-fn serve_command<'a>(alloc: Global) -> Result<Command<'a>, AllocError>
-    ensures app { IfOk result (λ command. app_of command ≡ serve_app) }
-    ensures local { IfOk result (λ command. (out-Command command).has_globals ≡ false) }
-{
-    let tables = tables_option(alloc).required(true);
-    bare_serve(alloc).arg(tables)?.arg(turns_option(alloc))
-}
-
-/// `serve` without its options.
-fn bare_serve<'a>(alloc: Global) -> Command<'a>
-    ensures app { app_of result ≡ new_app (codes "serve") }
-    ensures local { (out-Command result).has_globals ≡ false }
-{
-    Command::new(alloc, "serve").about(
-        "Serves the lines that have a port on sockets of this machine, for so many turns",
-    )
-}
-
-/// `--turns N`.
-fn turns_option<'a>(alloc: Global) -> Arg<'a>
-    ensures rule { rule_of result ≡ turns_rule }
-    ensures local { result.global ≡ false }
-{
-    Arg::new(alloc, "turns")
-        .long("turns")
-        .value_name("N")
-        .help("How many turns, 1 to 1000000; in each turn each line is read once")
-        .action(ArgAction::Set)
-        .required(true)
-        .value_parser(ValueParser::Signed(1, 1_000_000))
-}
-
 /// `--tables F`.
-fn tables_option<'a>(alloc: Global) -> Arg<'a>
+pub(crate) fn tables_option<'a>(alloc: Global) -> Arg<'a>
     ensures rule { rule_of result ≡ tables_rule }
     ensures local { result.global ≡ false }
 {

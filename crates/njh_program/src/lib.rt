@@ -16,6 +16,7 @@ mod program;
 mod replaying;
 mod script;
 mod script_routes;
+mod serve_options;
 mod start;
 mod table_file;
 

@@ -85,9 +85,9 @@ pub fn carry_out<F: Files + Net + AllocGlobal, S: AsStr, R: Read, W: Write>(
             replay(rt.alloc(), tables, script, out)?;
             Ok(())
         }
-        Request::Serve { tables, turns } => {
+        Request::Serve { tables, turns, .. } => {
             let tables = tables_of(rt, Some(tables))?;
-            serve(rt, tables, turns)?;
+            serve(rt, tables, turns.unwrap_or(u32::MAX))?;
             Ok(())
         }
     }

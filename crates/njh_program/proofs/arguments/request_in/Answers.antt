@@ -3,7 +3,7 @@ use Rattle.clap.specs.Matches.{found_of, subcommand_name_of}
 use Rattle.clap.specs.Simple.{subcommand_rows_of}
 use Rattle.clap.specs.Walk.{Row, Text, first_of, rows_of}
 use Rattle.njh_program.specs.Arguments.{choice_of_rows}
-use Rattle.njh_program.proofs.ArgumentLaws.{first_value-rows, serves_asked, serves_turns, subcommand_is}
+use Rattle.njh_program.proofs.ArgumentLaws.{first_value-rows, serves_asked, serves_options, serves_refused, subcommand_is}
 use Rattle.njh_program.proofs.arguments.request_in.Goals as goal
 
 pub returns-in-Some-replay-default-clause-asked : goal.returns-in-Some-replay-default-clause-asked
@@ -26,14 +26,24 @@ returns-in-Some-serve-default-clause-asked c =
     let named : subcommand_rows_of c.args.found.now ≡ Some (codes "serve", rows) =
     subcommand_is c.args.found.now name rows c.in-Some-serve-default.ensures.name c.in-Some-serve-default.ensures.rows
     ∙ ap (λ (n : Text). Some (n, rows)) serve in
-    serves_asked c.args.found.now rows named c.served_in.result c.served_in.ensures
+    serves_asked c.args.found.now rows named c.served_in.result c.served_in.ensures.asked
 
-pub returns-in-Some-serve-default-clause-turns : goal.returns-in-Some-serve-default-clause-turns
-returns-in-Some-serve-default-clause-turns c =
+pub returns-in-Some-serve-default-clause-options : goal.returns-in-Some-serve-default-clause-options
+returns-in-Some-serve-default-clause-options c =
     let name = c.in-Some-serve-default.field-0-0.now in
     let rows = rows_of (found_of c.in-Some-serve-default.options.now) in
     let serve : name ≡ codes "serve" = search rules in
     let named : subcommand_rows_of c.args.found.now ≡ Some (codes "serve", rows) =
     subcommand_is c.args.found.now name rows c.in-Some-serve-default.ensures.name c.in-Some-serve-default.ensures.rows
     ∙ ap (λ (n : Text). Some (n, rows)) serve in
-    serves_turns c.args.found.now rows named c.served_in.result c.served_in.ensures
+    serves_options c.args.found.now rows named c.served_in.result c.served_in.ensures.asked
+
+pub returns-in-Some-serve-default-clause-refused : goal.returns-in-Some-serve-default-clause-refused
+returns-in-Some-serve-default-clause-refused c =
+    let name = c.in-Some-serve-default.field-0-0.now in
+    let rows = rows_of (found_of c.in-Some-serve-default.options.now) in
+    let serve : name ≡ codes "serve" = search rules in
+    let named : subcommand_rows_of c.args.found.now ≡ Some (codes "serve", rows) =
+    subcommand_is c.args.found.now name rows c.in-Some-serve-default.ensures.name c.in-Some-serve-default.ensures.rows
+    ∙ ap (λ (n : Text). Some (n, rows)) serve in
+    serves_refused c.args.found.now rows named c.served_in.result c.served_in.ensures.refused

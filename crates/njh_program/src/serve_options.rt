@@ -1,0 +1,143 @@
+//! The options of `serve`.
+
+ghost use Rattle.std.specs.Prelude.{◌≡◌, ◌↔◌, codes, false, true, IfOk, IfErr, IsTrue, Some};
+ghost use Rattle.clap.specs.Words.{app_of, first_of, found_of, new_app, rows_of, rule_of};
+ghost use Rattle.clap.specs.declared.builder.command.Command.TheViews.{out-Command};
+ghost use Rattle.njh_program.specs.Arguments.{CountsTurns, IsUnasked, ListensAt, ServesBy};
+ghost use Rattle.njh_program.specs.Arguments.{bounded_serve_app, listen_rule, quiet_rule, serve_app, turns_rule};
+
+use crate::arguments::{Request, tables_option};
+use clap::builder::ValueParser;
+use clap::{Arg, ArgAction, ArgMatches, Command};
+use std::alloc::{AllocError, Global};
+use std::net::IpAddr;
+
+/// Why a parse asks for nothing.
+#[derive(Clone, Copy)]
+pub(crate) enum Unasked<'a> {
+    /// It has no subcommand, or lacks what `clap` sees to.
+    Missing,
+    /// The text of `--listen` is no address.
+    NoAddress(&'a str),
+}
+
+/// What the options of `serve` ask for.
+pub(crate) fn served_in<'a>(options: &ArgMatches<'a>) -> Result<Request<'a>, Unasked<'a>>
+    ensures asked { IfOk result (ServesBy (rows_of (found_of options.now))) }
+    ensures refused { IfErr result (IsUnasked (rows_of (found_of options.now))) }
+{
+    let Some(tables) = options.get_str("tables") else {
+        return Err(Unasked::Missing);
+    };
+    let turns = turns_in(options)?;
+    let listen = address_in(options)?;
+    Ok(Request::Serve {
+        tables,
+        turns,
+        listen,
+        quiet: is_quiet(options),
+    })
+}
+
+/// How many turns there are to be, if they end.
+fn turns_in<'a>(options: &ArgMatches<'a>) -> Result<Option<u32>, Unasked<'a>>
+    ensures asked { IfOk result (CountsTurns (first_of (codes "turns") (rows_of (found_of options.now)))) }
+    ensures refused { IfErr result (IsUnasked (rows_of (found_of options.now))) }
+{
+    match options.get_str("turns") {
+        Some(text) => match text.parse::<u32>() {
+            Ok(turns) => Ok(Some(turns)),
+            Err(_) => Err(Unasked::Missing),
+        },
+        None => Ok(None),
+    }
+}
+
+/// Where lines are to listen.
+fn address_in<'a>(options: &ArgMatches<'a>) -> Result<IpAddr, Unasked<'a>>
+    ensures asked { IfOk result (λ listen. ListensAt (first_of (codes "listen") (rows_of (found_of options.now))) listen) }
+    ensures refused { IfErr result (IsUnasked (rows_of (found_of options.now))) }
+{
+    match options.get_str("listen") {
+        Some(text) => match text.parse::<IpAddr>() {
+            Ok(address) => Ok(address),
+            Err(_) => Err(Unasked::NoAddress(text)),
+        },
+        None => Err(Unasked::Missing),
+    }
+}
+
+/// Whether there is to be no log.
+fn is_quiet(options: &ArgMatches<'_>) -> bool
+    ensures { IsTrue result ↔ (first_of (codes "quiet") (rows_of (found_of options.now)) ≡ Some (codes "true")) }
+{
+    match options.get_str("quiet") {
+        Some(text) => text == "true",
+        None => false,
+    }
+}
+
+/// `serve`, with its options.
+pub(crate) fn serve_command<'a>(alloc: Global) -> Result<Command<'a>, AllocError>
+    ensures app { IfOk result (λ command. app_of command ≡ serve_app) }
+    ensures local { IfOk result (λ command. (out-Command command).has_globals ≡ false) }
+{
+    let bounded = bounded_command(alloc)?;
+    bounded.arg(listen_option(alloc))?.arg(quiet_option(alloc))
+}
+
+/// `serve`, with its tables and turns.
+fn bounded_command<'a>(alloc: Global) -> Result<Command<'a>, AllocError>
+    ensures app { IfOk result (λ command. app_of command ≡ bounded_serve_app) }
+    ensures local { IfOk result (λ command. (out-Command command).has_globals ≡ false) }
+{
+    let tables = tables_option(alloc).required(true);
+    bare_serve(alloc).arg(tables)?.arg(turns_option(alloc))
+}
+
+/// `serve` without its options.
+fn bare_serve<'a>(alloc: Global) -> Command<'a>
+    ensures app { app_of result ≡ new_app (codes "serve") }
+    ensures local { (out-Command result).has_globals ≡ false }
+{
+    Command::new(alloc, "serve").about(
+        "Serves the lines that have a port or a peer on sockets of this machine, until it is ended",
+    )
+}
+
+/// `--turns N`.
+fn turns_option<'a>(alloc: Global) -> Arg<'a>
+    ensures rule { rule_of result ≡ turns_rule }
+    ensures local { result.global ≡ false }
+{
+    Arg::new(alloc, "turns")
+        .long("turns")
+        .value_name("N")
+        .help("Ends after so many turns, 1 to 1000000; in each turn each line is read once at most")
+        .action(ArgAction::Set)
+        .value_parser(ValueParser::Signed(1, 1_000_000))
+}
+
+/// `--listen ADDRESS`.
+fn listen_option<'a>(alloc: Global) -> Arg<'a>
+    ensures rule { rule_of result ≡ listen_rule }
+    ensures local { result.global ≡ false }
+{
+    Arg::new(alloc, "listen")
+        .long("listen")
+        .value_name("ADDRESS")
+        .help("The IP address on whose ports the lines listen")
+        .action(ArgAction::Set)
+        .default_value("127.0.0.1")
+}
+
+/// `--quiet`.
+fn quiet_option<'a>(alloc: Global) -> Arg<'a>
+    ensures rule { rule_of result ≡ quiet_rule }
+    ensures local { result.global ≡ false }
+{
+    Arg::new(alloc, "quiet")
+        .long("quiet")
+        .help("No log on standard error")
+        .action(ArgAction::SetTrue)
+}
