@@ -17,6 +17,7 @@ mod replaying;
 mod script;
 mod script_routes;
 mod serve_options;
+mod standard_error;
 mod start;
 mod table_file;
 
@@ -26,4 +27,5 @@ pub use fault::ReplayFault;
 pub use program::{carry_out, end, run};
 pub use replaying::replay;
 pub use script::LIMIT;
+pub use standard_error::StandardError;
 pub use table_file::tables_of;
