@@ -1,5 +1,5 @@
 -- The tables that a file's bytes give, and those that the program goes by.
-use Rattle.std.specs.Prelude.{◌≡◌, ◌≢◌, ◌⊎◌, ℕ, List, Option, Some, None, Result, Ok, Err, if◌then◌else◌}
+use Rattle.std.specs.Prelude.{◌≡◌, ◌≢◌, ◌≤◌, ◌⊎◌, ℕ, List, length, Option, Some, None, Result, Ok, Err, if◌then◌else◌}
 use Rattle.std.specs.Str.{is_utf8}
 use Rattle.njh_table.specs.declared.fault.TableFault.{TableFault}
 use Rattle.njh_table.specs.declared.fault.TableFault.TheVariants.{BadToml, Memory, TooMany}
@@ -19,6 +19,14 @@ tables_in bytes = if is_utf8 bytes then tables_of bytes else Err BadToml
 abbrev pub AreGiven : {Path : Type 0} → Option Path → TableFile → Type 0
 AreGiven None tables = tables ≡ base_tables
 AreGiven (Some path) tables = (bytes : List ℕ) × (tables_in bytes ≡ Ok tables)
+
+-- the tables are those that at most so many bytes give
+abbrev pub AreGivenWithin : ℕ → TableFile → Type 0
+AreGivenWithin most tables = (bytes : List ℕ) × (length bytes ≤ most) × (tables_in bytes ≡ Ok tables)
+
+-- how many bytes of a table file are read while a hub runs
+abbrev pub most_changed_bytes : ℕ
+most_changed_bytes = 2000000
 
 -- why a file isn't read: it can't be, or memory ran out, or it is longer than any tables need
 abbrev pub IsUnread : Failure → Type 0

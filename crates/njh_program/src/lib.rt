@@ -20,6 +20,7 @@ mod serve_options;
 mod standard_error;
 mod start;
 mod table_file;
+mod table_source;
 
 pub use arguments::{Request, request_of};
 pub use failure::Failure;
@@ -29,3 +30,4 @@ pub use replaying::replay;
 pub use script::LIMIT;
 pub use standard_error::StandardError;
 pub use table_file::tables_of;
+pub use table_source::{ChangeFault, TableFileSource};

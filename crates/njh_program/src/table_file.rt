@@ -41,7 +41,7 @@ fn table_bytes<R: Files + AllocGlobal>(rt: &R, path: &str) -> Result<Vec<u8>, Fa
 }
 
 /// The tables of a file's bytes. A file that is no UTF-8 is no TOML.
-fn tables_in(alloc: Global, bytes: &[u8]) -> Result<Tables, TableFault>
+pub(crate) fn tables_in(alloc: Global, bytes: &[u8]) -> Result<Tables, TableFault>
     ensures read { IfOk result (λ tables. tables_in bytes.now ≡ Ok tables) }
     ensures fault { IfErr result (λ fault. fault ≢ TableFault.Memory → tables_in bytes.now ≡ Err fault) }
 {

@@ -1,0 +1,105 @@
+//! The table file of a hub that runs: it is read again where it changed.
+
+ghost use Rattle.std.specs.Prelude.{◌≡◌, ◌≤◌, vec_len, IfOk, IfSome};
+ghost use Rattle.njh_program.specs.TableBytes.{AreGivenWithin, most_changed_bytes};
+
+use crate::fault::ReplayFault;
+use crate::input::read_text;
+use crate::table_file::tables_in;
+use njh_table::{TableFault, Tables};
+use std::fs;
+use std::fs::File;
+use std::rt::Files;
+use std::time::SystemTime;
+use thiserror::Error;
+
+/// The most bytes of a table file that is read while a hub runs, 2 MB.
+const MOST_CHANGED_BYTES: usize = 2_000_000;
+
+/// Why a table file that changed gives no tables.
+#[derive(Clone, Copy, Debug, PartialEq, Eq, Error)]
+pub enum ChangeFault {
+    /// It can't be read, or there was no memory for its bytes.
+    #[error("not read")]
+    Unread,
+    /// It has more bytes than are read while a hub runs.
+    #[error("longer than 2000000 bytes")]
+    TooLong,
+    /// It is refused.
+    #[error("{0}")]
+    Tables(TableFault),
+}
+
+/// What tells one state of a file from another.
+#[derive(Clone, Copy, PartialEq, Eq)]
+struct Stamp {
+    modified: Option<SystemTime>,
+    length: u64,
+}
+
+/// The table file of a hub that runs.
+#[derive(Drop)]
+pub struct TableFileSource<'a, R: Files + AllocGlobal> {
+    rt: &'a R,
+    path: &'a str,
+    seen: Option<Stamp>,
+}
+
+impl<'a, R: Files + AllocGlobal> TableFileSource<'a, R> {
+    /// The file as it is now. It is to be made before the tables are first read, so that no change is missed.
+    pub fn new(rt: &'a R, path: &'a str) -> TableFileSource<'a, R> {
+        TableFileSource {
+            rt,
+            path,
+            seen: stamp_of(rt, path),
+        }
+    }
+
+    /// The tables of the file, or why it gives none, where it isn't as it was at the last look. One that is gone is as it was.
+    ///
+    /// Its time and its length are looked at, and no more than 2 MB of it are read.
+    pub fn changed(&mut self) -> Option<Result<Tables, ChangeFault>>
+        ensures { IfSome result (λ read. IfOk read (AreGivenWithin most_changed_bytes)) }
+    {
+        let stamp = stamp_of(self.rt, self.path)?;
+        if self.seen == Some(stamp) {
+            return None;
+        }
+        self.seen = Some(stamp);
+        Some(changed_tables(self.rt, self.path))
+    }
+}
+
+/// What tells the state of a file, if it is there.
+fn stamp_of<R: Files>(rt: &R, path: &str) -> Option<Stamp> {
+    let metadata = fs::metadata(rt, path).ok()?;
+    Some(Stamp {
+        modified: metadata.modified().ok(),
+        length: metadata.len(),
+    })
+}
+
+/// The tables of a file that changed.
+fn changed_tables<R: Files + AllocGlobal>(rt: &R, path: &str) -> Result<Tables, ChangeFault>
+    ensures { IfOk result (AreGivenWithin most_changed_bytes) }
+{
+    let bytes = changed_bytes(rt, path)?;
+    match tables_in(rt.alloc(), &bytes) {
+        Ok(tables) => Ok(tables),
+        Err(fault) => Err(ChangeFault::Tables(fault)),
+    }
+}
+
+/// The bytes of a file that changed.
+fn changed_bytes<R: Files + AllocGlobal>(rt: &R, path: &str) -> Result<Vec<u8>, ChangeFault>
+    ensures { IfOk result (λ bytes. vec_len bytes ≤ most_changed_bytes) }
+{
+    let Ok(mut file) = File::open(rt, path) else {
+        return Err(ChangeFault::Unread);
+    };
+    match read_text(rt.alloc(), MOST_CHANGED_BYTES, &mut file) {
+        Ok(bytes) => Ok(bytes),
+        Err(ReplayFault::TooLong) => Err(ChangeFault::TooLong),
+        Err(_) => Err(ChangeFault::Unread),
+    }
+}
