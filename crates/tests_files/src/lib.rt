@@ -15,6 +15,8 @@ mod header_tests;
 #[cfg(test)]
 mod line_tests;
 #[cfg(test)]
+mod memory_attendant;
+#[cfg(test)]
 mod memory_wire;
 #[cfg(test)]
 mod nmr_tests;
@@ -22,6 +24,8 @@ mod nmr_tests;
 mod record_tests;
 #[cfg(test)]
 mod same;
+#[cfg(test)]
+mod service_tests;
 #[cfg(test)]
 mod serving;
 #[cfg(test)]

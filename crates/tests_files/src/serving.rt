@@ -3,7 +3,7 @@
 ghost use Rattle.std.specs.Prelude.{All, IfOk};
 ghost use Rattle.njh_hub.specs.Whole.{HasLine};
 
-use njh_hub::{Hub, Wire, serve_turns};
+use njh_hub::{Attendant, Hub, Rounds, Wire, attend, serve_turns};
 use njh_table::{LineId, Tables};
 use std::alloc::{AllocError, Global};
 use std::process::Abort;
@@ -103,6 +103,25 @@ fn serve_on<W: Wire, R: Abort>(
     let known = known_lines(alloc, hub, &LINES[..wires.len()])?;
     assert_eq!(rt; known.len(), wires.len());
     serve_turns(alloc, hub, wires, &known, turns)?;
+    Ok(())
+}
+
+/// A service of wires of a hub's first lines, on a hub that is opened for them: so many rounds, and then so many more.
+pub fn attend_twice<W: Wire, A: Attendant<W>, R: Abort>(
+    rt: &R,
+    alloc: Global,
+    wires: &mut [W],
+    attendant: &mut A,
+    first: u64,
+    then: u64,
+) -> Result<(), Fail> {
+    let mut hub = opened(alloc)?;
+    assert!(rt; wires.len() <= LINES.len());
+    let known = known_lines(alloc, &hub, &LINES[..wires.len()])?;
+    assert_eq!(rt; known.len(), wires.len());
+    let mut rounds = Rounds::new(alloc, &known)?;
+    attend(&mut hub, wires, &mut rounds, attendant, first);
+    attend(&mut hub, wires, &mut rounds, attendant, then);
     Ok(())
 }
 

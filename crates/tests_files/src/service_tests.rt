@@ -1,0 +1,78 @@
+//! A service over wires in memory, with an attendant in memory.
+
+use crate::memory_attendant::MemoryAttendant;
+use crate::memory_wire::{MemoryWire, Step};
+use crate::serving::{LINES, attend_twice};
+use njh_ebcdic::Name;
+use njh_hub::{HubFault, NewRoutes, RouteList};
+use njh_table::{LineId, RouteEntry, TableFault};
+use std::alloc::Global;
+use std::process::Abort;
+use std::test::Fail;
+
+const CONTACT: Step = Step::Bytes(0, 2);
+
+/// A wire of a1 on which contact is made, and then nothing comes.
+fn quiet_wire() -> [MemoryWire; 1] {
+    [MemoryWire::new(
+        [
+            CONTACT,
+            Step::Quiet,
+            Step::Quiet,
+            Step::Pending,
+            Step::Quiet,
+        ],
+        100,
+    )]
+}
+
+/// A route to METZ on a line, for the first customer.
+fn metz_by(alloc: Global, line: LineId) -> Result<NewRoutes, Fail> {
+    let node = Name::of_text("METZ")?;
+    let entry = RouteEntry {
+        node,
+        line,
+        second: None,
+    };
+    let routes = RouteList::of(alloc, &[entry])?;
+    Ok(NewRoutes {
+        customer: 0,
+        routes,
+    })
+}
+
+/// The tenth quiet is a tick, whatever call of the service it falls in; after a contact it is answered by NAK.
+#[test]
+fn quiets_outlive_a_call(rt: HostRuntime) -> Result<(), Fail> {
+    let mut attendant = MemoryAttendant::new(None);
+    let mut wires = quiet_wire();
+    attend_twice(&rt, rt.alloc(), &mut wires, &mut attendant, 6, 5)?;
+    assert_eq!(rt; wires[0].sent(), b"\x10\x70".as_slice());
+    let mut wires = quiet_wire();
+    attend_twice(&rt, rt.alloc(), &mut wires, &mut attendant, 6, 6)?;
+    assert_eq!(rt; wires[0].sent(), b"\x10\x70\x3d".as_slice());
+    assert_eq!(rt; attendant.before, 23);
+    assert_eq!(rt; attendant.after, 23);
+    Ok(())
+}
+
+/// Routes are given before the first round; those on a line of another customer are refused. Each is told to the attendant.
+#[test]
+fn routes_are_given_once(rt: HostRuntime) -> Result<(), Fail> {
+    let alloc = rt.alloc();
+    let mut attendant = MemoryAttendant::new(Some(metz_by(alloc, LINES[0])?));
+    let mut wires = quiet_wire();
+    attend_twice(&rt, alloc, &mut wires, &mut attendant, 2, 1)?;
+    assert_eq!(rt; attendant.given, 1);
+    assert_eq!(rt; attendant.refused, None);
+    let mut attendant = MemoryAttendant::new(Some(metz_by(alloc, LINES[2])?));
+    attend_twice(&rt, alloc, &mut wires, &mut attendant, 2, 1)?;
+    assert_eq!(rt; attendant.given, 0);
+    assert_eq!(rt;
+        attendant.refused,
+        Some(HubFault::BadRoutes {
+            cause: TableFault::UnknownLine
+        })
+    );
+    Ok(())
+}
