@@ -1,0 +1,47 @@
+//! A connection over a socket.
+
+use mio::net::TcpStream;
+use njh_wire::{Connection, ConnectionFault, Received};
+use std::io::{ErrorKind, Read, Write};
+
+/// A connection over a socket whose calls never wait.
+#[derive(Drop)]
+pub struct MioConnection {
+    pub(crate) stream: TcpStream,
+}
+
+impl Connection for MioConnection {
+    ghost use Rattle.std.specs.Prelude.{⊤};
+
+    // No clause says what a socket takes and gives, so this holds of any two. That the bytes are the right ones is tested.
+    ghost moved = { λ before after came went. ⊤ };
+
+    ghost none = { λ s. tt };
+
+    ghost more = { λ a b c came next_came went next_went first then. tt };
+
+    fn receive(&mut self, into: &mut [u8]) -> Result<Received, ConnectionFault> {
+        match self.stream.read(into) {
+            Ok(0) => Ok(Received::Ended),
+            Ok(count) => Ok(Received::Bytes(count)),
+            Err(error) if is_wait(error.kind()) => Ok(Received::Nothing),
+            Err(_) => Err(ConnectionFault),
+        }
+    }
+
+    fn send(&mut self, bytes: &[u8]) -> Result<usize, ConnectionFault> {
+        match self.stream.write(bytes) {
+            Ok(count) => Ok(count),
+            Err(error) if is_wait(error.kind()) => Ok(0),
+            Err(_) => Err(ConnectionFault),
+        }
+    }
+}
+
+/// The call would have waited; a later one may do more.
+pub(crate) fn is_wait(kind: ErrorKind) -> bool {
+    match kind {
+        ErrorKind::WouldBlock | ErrorKind::Interrupted => true,
+        _ => false,
+    }
+}
