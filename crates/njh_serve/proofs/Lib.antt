@@ -1,1 +1,3 @@
+mod EndpointLaws
+mod OpenedLaws
 mod PortLaws

@@ -2,9 +2,11 @@
 #![tactic(auto)]
 
 mod connection;
+mod endpoints;
 mod fault;
 mod listening;
 mod network;
+mod opening;
 mod ports;
 mod serving;
 mod socket_wire;
@@ -12,8 +14,10 @@ mod stream;
 mod waits;
 
 pub use connection::MioConnection;
+pub use endpoints::{Endpoint, Site, endpoints_of};
 pub use fault::ServeFault;
 pub use network::{MioListener, MioNetwork};
+pub use opening::{OpenCause, OpenFault, Way, open};
 pub use ports::{Port, ports_of};
 pub use serving::{serve, serve_ports};
 pub use socket_wire::{SocketWire, listen};

@@ -1,0 +1,53 @@
+-- Tables' lines with sockets, and the lines of a hub that was opened on these tables.
+use Rattle.std.proofs.Common.{◌≡◌, ℕ, zero, suc, ◌+◌, ◌<◌, List, [], ◌∷◌, ◌++◌, length, map, get_or, take, Option, refl}
+use Rattle.std.proofs.Common.{sym, ap, subst, ◌∙◌, arith}
+use Rattle.std.specs.Prelude.{All}
+use Rattle.std.specs.List.{filter_map, cons_option}
+use Rattle.std.proofs.lemmas.List.{length-map, take_more}
+use Rattle.std.proofs.lemmas.List.Elements.{filter_map-append, All-map}
+use Rattle.njh_table.specs.declared.LineId.{LineId}
+use Rattle.njh_table.specs.TableFile.{TableFile, NamedLine, no_customer, customer_at, entry_of, HasLine}
+use Rattle.njh_hub.specs.Parts.{entries_of}
+use Rattle.njh_hub.specs.Whole.{Part, opened}
+use Rattle.njh_hub.specs.Whole as hub
+use Rattle.njh_serve.specs.declared.endpoints.Endpoint.{Endpoint}
+
+get_or-map_default : {X Y : Type 0} (f : X → Y) (xs : List X) (k : ℕ) (d : X) → get_or (map f xs) k (f d) ≡ f (get_or xs k d)
+get_or-map_default f [] k d = refl
+get_or-map_default f (x ∷ xs) zero d = refl
+get_or-map_default f (x ∷ xs) (suc k) d = get_or-map_default f xs k d
+
+-- a customer's part is that of its entry
+opened_part : (t : TableFile) (c : ℕ) → hub.part c (map opened (entries_of t)) ≡ opened (entry_of (customer_at t c))
+opened_part t c = get_or-map_default opened (entries_of t) c hub.no_entry
+    ∙ ap opened (get_or-map_default entry_of t.customers c no_customer)
+
+-- the hub has the lines of its tables
+opened_line : (t : TableFile) (line : LineId) → HasLine t line → hub.HasLine (map opened (entries_of t)) line
+opened_line t line known =
+    let e = entry_of (customer_at t line.customer) in
+    let here : length (hub.part line.customer (map opened (entries_of t))).customer.lines ≡ length (opened e).customer.lines =
+    ap (λ (p : Part). length p.customer.lines) (opened_part t line.customer) in
+    let states : length (opened e).customer.lines ≡ length e.lines = length-map e.lines _ in
+    let entries : length e.lines ≡ length (customer_at t line.customer).lines =
+    length-map (customer_at t line.customer).lines (λ (l : NamedLine). l.entry) in
+    omega (arith, known, here, states, entries)
+
+-- so the lines of endpoints are lines of the hub
+pub opened_endpoints : (t : TableFile) (parts : List Part) (endpoints : List Endpoint) → parts ≡ map opened (entries_of t)
+    → All (λ endpoint. HasLine t endpoint.line) endpoints → All (λ endpoint. hub.HasLine parts endpoint.line) endpoints
+opened_endpoints t parts endpoints fresh known = λ k port within.
+    let here = opened_line t (get_or endpoints k port).line (known k port within) in
+    subst (λ (ps : List Part). hub.HasLine ps (get_or endpoints k port).line) (sym fresh) here
+
+pub opened_lines : (parts : List Part) (endpoints : List Endpoint) (lines : List LineId) → lines ≡ map (λ endpoint. endpoint.line) endpoints
+    → All (λ endpoint. hub.HasLine parts endpoint.line) endpoints → All (hub.HasLine parts) lines
+opened_lines parts endpoints lines same known =
+    subst (λ (ls : List LineId). All (hub.HasLine parts) ls) (sym same) (All-map (hub.HasLine parts) (λ (endpoint : Endpoint). endpoint.line) endpoints known)
+
+-- what a function gives of one item more
+pub filter_map_more : {X Y : Type 0} (h : X → Option Y) (xs : List X) (n : ℕ) (x : X) → n < length xs → x ≡ get_or xs n x
+    → filter_map h (take (n + 1) xs) ≡ filter_map h (take n xs) ++ cons_option (h x) []
+filter_map_more {X} h xs n x within at =
+    let front : take (n + 1) xs ≡ take n xs ++ x ∷ [] = take_more xs n x within ∙ ap (λ (y : X). take n xs ++ y ∷ []) (sym at) in
+    rw (front, filter_map-append) refl
