@@ -23,7 +23,7 @@ opened_part t c = get_or-map_default opened (entries_of t) c hub.no_entry
     ∙ ap opened (get_or-map_default entry_of t.customers c no_customer)
 
 -- the hub has the lines of its tables
-opened_line : (t : TableFile) (line : LineId) → HasLine t line → hub.HasLine (map opened (entries_of t)) line
+pub opened_line : (t : TableFile) (line : LineId) → HasLine t line → hub.HasLine (map opened (entries_of t)) line
 opened_line t line known =
     let e = entry_of (customer_at t line.customer) in
     let here : length (hub.part line.customer (map opened (entries_of t))).customer.lines ≡ length (opened e).customer.lines =
@@ -34,20 +34,32 @@ opened_line t line known =
     omega (arith, known, here, states, entries)
 
 -- so the lines of endpoints are lines of the hub
-pub opened_endpoints : (t : TableFile) (parts : List Part) (endpoints : List Endpoint) → parts ≡ map opened (entries_of t)
+pub opened_endpoints : (t : TableFile) (parts : List Part) (endpoints : List Endpoint)
+    → parts ≡ map opened (entries_of t)
     → All (λ endpoint. HasLine t endpoint.line) endpoints → All (λ endpoint. hub.HasLine parts endpoint.line) endpoints
 opened_endpoints t parts endpoints fresh known = λ k port within.
     let here = opened_line t (get_or endpoints k port).line (known k port within) in
     subst (λ (ps : List Part). hub.HasLine ps (get_or endpoints k port).line) (sym fresh) here
 
-pub opened_lines : (parts : List Part) (endpoints : List Endpoint) (lines : List LineId) → lines ≡ map (λ endpoint. endpoint.line) endpoints
-    → All (λ endpoint. hub.HasLine parts endpoint.line) endpoints → All (hub.HasLine parts) lines
+pub opened_lines : (parts : List Part) (endpoints : List Endpoint) (lines : List LineId)
+    → lines ≡ map (λ endpoint. endpoint.line) endpoints → All (λ endpoint. hub.HasLine parts endpoint.line) endpoints
+    → All (hub.HasLine parts) lines
 opened_lines parts endpoints lines same known =
-    subst (λ (ls : List LineId). All (hub.HasLine parts) ls) (sym same) (All-map (hub.HasLine parts) (λ (endpoint : Endpoint). endpoint.line) endpoints known)
+    subst (λ (ls : List LineId). All (hub.HasLine parts) ls) (sym same)
+    (All-map (hub.HasLine parts) (λ (endpoint : Endpoint). endpoint.line) endpoints known)
 
 -- what a function gives of one item more
-pub filter_map_more : {X Y : Type 0} (h : X → Option Y) (xs : List X) (n : ℕ) (x : X) → n < length xs → x ≡ get_or xs n x
+pub filter_map_more : {X Y : Type 0} (h : X → Option Y) (xs : List X) (n : ℕ) (x : X)
+    → n < length xs → x ≡ get_or xs n x
     → filter_map h (take (n + 1) xs) ≡ filter_map h (take n xs) ++ cons_option (h x) []
 filter_map_more {X} h xs n x within at =
-    let front : take (n + 1) xs ≡ take n xs ++ x ∷ [] = take_more xs n x within ∙ ap (λ (y : X). take n xs ++ y ∷ []) (sym at) in
+    let front : take (n + 1) xs ≡ take n xs ++ x ∷ [] =
+    take_more xs n x within ∙ ap (λ (y : X). take n xs ++ y ∷ []) (sym at) in
     rw (front, filter_map-append) refl
+
+-- lines that are served: one for each wire, and known to a hub of their tables
+pub served_lines : (t : TableFile) (parts : List Part) (endpoints : List Endpoint) (lines : List LineId)
+    → parts ≡ map opened (entries_of t) → lines ≡ map (λ endpoint. endpoint.line) endpoints
+    → All (λ endpoint. HasLine t endpoint.line) endpoints → All (hub.HasLine parts) lines
+served_lines t parts endpoints lines fresh same known =
+    opened_lines parts endpoints lines same (opened_endpoints t parts endpoints fresh known)

@@ -12,7 +12,8 @@ use Rattle.njh_serve.specs.Opened.{IsApart, is_same_port}
 none_passes : {X : Type 0} (test : X → Bool) (xs : List X) → list_any test xs ≡ false
     → (k : ℕ) (d : X) → k < length xs → test (get_or xs k d) ≡ false
 none_passes test xs none k d within =
-    false_from_ne_true (test (get_or xs k d)) (λ passes. both_ways (list_any test xs) none (list_any_at test xs k d within passes))
+    false_from_ne_true (test (get_or xs k d))
+    (λ passes. both_ways (list_any test xs) none (list_any_at test xs k d within passes))
 
 -- ports that differ, and one more that is none of them
 pub apart_more : (es : List Endpoint) (n : ℕ) (d : Endpoint) → n < length es → IsApart (take n es)

@@ -1,3 +1,4 @@
 pub mod Endpoints
 pub mod Opened
 pub mod Served
+pub mod Serving

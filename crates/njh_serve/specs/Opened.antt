@@ -22,7 +22,8 @@ site_on address (site.Peer peer) = Dials peer
 
 -- what a line has
 abbrev pub site_opened : {L : Type 0} → (L → SocketAddr) → Way L → Opened
-site_opened address_of (way.Listens listener) = Listens (socket_ip (address_of listener)) (socket_port (address_of listener))
+site_opened address_of (way.Listens listener) =
+    Listens (socket_ip (address_of listener)) (socket_port (address_of listener))
 site_opened address_of (way.Dials peer) = Dials peer
 
 -- two lines have the same port

@@ -61,7 +61,8 @@ fn add_endpoint(
     line: &Line,
     endpoints: &mut Vec<Endpoint>,
 ) -> Result<(), AllocError>
-    ensures added { OnOk result (endpoints.new.items ≡ endpoints.old.items ++ cons_option (endpoint_of tables.now line.now) []) }
+    ensures added { OnOk result (endpoints.new.items
+        ≡ endpoints.old.items ++ cons_option (endpoint_of tables.now line.now) []) }
     ensures known { All (λ endpoint. HasLine tables.now endpoint.line) endpoints.old.items
         → OnOk result (All (λ endpoint. HasLine tables.now endpoint.line) endpoints.new.items) }
 {

@@ -58,7 +58,8 @@ pub fn open<N: Network>(
     address: IpAddr,
     endpoints: &[Endpoint],
 ) -> Result<Vec<Way<N::Listener>>, OpenFault>
-    ensures opened { IfOk result (λ ways. map (site_opened N.address_of) ways.items ≡ map (λ endpoint. site_on address endpoint.site) endpoints.now) }
+    ensures opened { IfOk result (λ ways. map (site_opened N.address_of) ways.items
+        ≡ map (λ endpoint. site_on address endpoint.site) endpoints.now) }
     ensures apart { IfOk result (λ ways. IsApart endpoints.now) }
     ensures same { IfErr result (λ fault. fault.cause ≡ cause.SamePort → IsRepeated endpoints.now fault.endpoint) }
     ensures other { IfErr result (λ fault. fault.cause ≢ cause.SamePort → IsApart endpoints.now) }
@@ -110,7 +111,8 @@ fn open_all<N: Network>(
     address: IpAddr,
     endpoints: &[Endpoint],
 ) -> Result<Vec<Way<N::Listener>>, OpenFault>
-    ensures opened { IfOk result (λ ways. map (site_opened N.address_of) ways.items ≡ map (λ endpoint. site_on address endpoint.site) endpoints.now) }
+    ensures opened { IfOk result (λ ways. map (site_opened N.address_of) ways.items
+        ≡ map (λ endpoint. site_on address endpoint.site) endpoints.now) }
     ensures cause { IfErr result (λ fault. fault.cause ≢ cause.SamePort) }
     ensures known { IfErr result (λ fault. Contains endpoints.now fault.endpoint) }
 {

@@ -4,4 +4,5 @@ use Rattle.njh_serve.proofs.opening.open_all.Given as goal
 
 abbrev pub invariant-loop-place : goal.invariant-loop-place
 invariant-loop-place g l =
-    map (site_opened g.N.Network.address_of) l.ways.items ≡ map (λ endpoint. site_on l.address endpoint.site) (take l.place l.endpoints)
+    map (site_opened g.N.Network.address_of) l.ways.items
+    ≡ map (λ endpoint. site_on l.address endpoint.site) (take l.place l.endpoints)

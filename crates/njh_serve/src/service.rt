@@ -1,0 +1,122 @@
+//! A hub, the wires of its lines that are served, and who attends them.
+
+ghost use Rattle.std.specs.Prelude.{◌≡◌, length, map, All, IfOk, OnErr, Err};
+ghost use Rattle.njh_hub.specs.Parts.{entries_of};
+ghost use Rattle.njh_hub.specs.Turns.{no_quiets};
+ghost use Rattle.njh_hub.specs.Whole.{opened};
+ghost use Rattle.njh_table.specs.TableFile.{HasLine};
+ghost use Rattle.njh_serve.specs.Endpoints.{lines_of};
+ghost use Rattle.njh_serve.specs.Serving.{HasServed, turn_count};
+
+use crate::endpoints::Endpoint;
+use njh_hub::{Attendant, Hub, HubFault, Rounds, Wire, attend};
+use njh_table::{LineId, Tables};
+use std::alloc::{AllocError, Global};
+use std::marker::Model;
+
+/// A hub, the wires of those of its lines that are served, and their attendant.
+#[derive(Drop)]
+pub struct Service<W: Drop, A: Drop> {
+    hub: Hub,
+    wires: Vec<W>,
+    rounds: Rounds,
+    attendant: A,
+}
+
+impl<W: Drop, A: Drop> Model for Service<W, A> {
+    ghost use Rattle.std.specs.Prelude.{◌≡◌, length, All};
+    ghost use Rattle.njh_hub.specs.Whole.{HasLine as HubHasLine};
+    ghost use Rattle.njh_serve.specs.Serving.{Served};
+
+    ghost Value = { Served W };
+
+    ghost view = { λ s. record {
+      hub = s.hub;
+      lines = s.rounds.lines;
+      quiets = s.rounds.quiets;
+      wires = s.wires.items;
+    } };
+
+    ghost invariant = { λ s. (length s.wires.items ≡ length s.rounds.lines) × All (HubHasLine s.hub) s.rounds.lines };
+}
+
+impl<W: Wire + Drop, A: Attendant<W> + Drop> Service<W, A> {
+    /// So many turns of each line, or turns without an end where no number is given: as many as can be counted.
+    pub fn run(&mut self, turns: Option<u32>)
+        ensures { HasServed W.passed W.count (turn_count turns) self.old self.new }
+    {
+        let turns = turn_count(turns);
+        attend(
+            &mut self.hub,
+            &mut self.wires,
+            &mut self.rounds,
+            &mut self.attendant,
+            turns,
+        );
+    }
+}
+
+/// How many turns there are.
+fn turn_count(turns: Option<u32>) -> u64
+    ensures { result ≡ turn_count turns }
+{
+    match turns {
+        Some(turns) => u64::from(turns),
+        None => u64::MAX,
+    }
+}
+
+impl<W: Drop, A: Drop> Service<W, A> {
+    /// A hub of these tables, of which these lines are served, each on its own wire. Want of memory is the only
+    /// refusal.
+    pub fn new(
+        alloc: Global,
+        tables: Tables,
+        endpoints: &[Endpoint],
+        wires: Vec<W>,
+        attendant: A,
+    ) -> Result<Service<W, A>, HubFault>
+        requires same { length wires.items ≡ length endpoints.now }
+        requires known { All (λ endpoint. HasLine tables endpoint.line) endpoints.now }
+        ensures hub { IfOk result (λ service. service.hub ≡ map opened (entries_of tables)) }
+        ensures lines { IfOk result (λ service. service.lines ≡ lines_of endpoints.now) }
+        ensures calm { IfOk result (λ service. service.quiets ≡ no_quiets (lines_of endpoints.now)) }
+        ensures wires { IfOk result (λ service. service.wires ≡ wires.items) }
+        ensures memory { OnErr result (result ≡ Err HubFault.Memory) }
+    {
+        let lines = lines_of(alloc, endpoints)?;
+        let rounds = Rounds::new(alloc, &lines)?;
+        let hub = Hub::open(alloc, tables)?;
+        Ok(Service {
+            hub,
+            wires,
+            rounds,
+            attendant,
+        })
+    }
+
+    /// The hub.
+    pub fn hub(&self) -> &Hub
+        ensures { result.now ≡ self.now.hub }
+    {
+        &self.hub
+    }
+
+    /// The lines that are served, in the order of their turns.
+    pub fn lines(&self) -> &[LineId]
+        ensures { result.now ≡ self.now.lines }
+    {
+        self.rounds.lines()
+    }
+}
+
+/// The lines of endpoints.
+fn lines_of(alloc: Global, endpoints: &[Endpoint]) -> Result<Vec<LineId>, AllocError>
+    ensures { IfOk result (λ lines. lines.items ≡ lines_of endpoints.now) }
+{
+    let mut lines = Vec::new(alloc);
+    for endpoint in endpoints {
+        lines.push(endpoint.line)?;
+    }
+    Ok(lines)
+}
