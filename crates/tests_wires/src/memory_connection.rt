@@ -1,0 +1,123 @@
+//! Connections in memory.
+
+ghost use Rattle.std.specs.Prelude.{◌≤◌, length, IfOk};
+ghost use Rattle.njh_wire.specs.Moved.{IsReceived};
+
+use njh_wire::{Connection, ConnectionFault, Received};
+use std::cell::Cell;
+
+/// The other end of a connection. All bytes count up from 0, modulo 256, so that one that is lost or comes too early shows.
+#[derive(Drop)]
+pub struct Peer {
+    /// How many bytes are there to read, and whether then the end is.
+    pub coming: Cell<usize>,
+    pub ended: Cell<bool>,
+    /// Whether every call fails once nothing is there to read.
+    pub broken: Cell<bool>,
+    /// How many bytes it still takes, how many it took, and in how many calls.
+    pub room: Cell<usize>,
+    pub taken: Cell<usize>,
+    pub sends: Cell<usize>,
+    /// Whether a byte was another than the next.
+    pub mixed: Cell<bool>,
+    given: Cell<u8>,
+    expected: Cell<u8>,
+}
+
+impl Peer {
+    /// One that takes as many bytes as come.
+    pub fn new() -> Peer {
+        Peer {
+            coming: Cell::new(0),
+            ended: Cell::new(false),
+            broken: Cell::new(false),
+            room: Cell::new(1_000_000),
+            taken: Cell::new(0),
+            sends: Cell::new(0),
+            mixed: Cell::new(false),
+            given: Cell::new(0),
+            expected: Cell::new(0),
+        }
+    }
+
+    /// The next byte that it gives.
+    fn give(&self) -> u8 {
+        let byte = self.given.get();
+        self.given.set(byte.wrapping_add(1));
+        byte
+    }
+
+    /// Takes a byte.
+    fn take(&self, byte: u8) {
+        if byte != self.expected.get() {
+            self.mixed.set(true);
+        }
+        self.expected.set(byte.wrapping_add(1));
+    }
+}
+
+/// A connection with a peer.
+#[derive(Drop)]
+pub struct MemoryConnection<'a> {
+    /// The other end.
+    pub peer: &'a Peer,
+}
+
+impl<'a> MemoryConnection<'a> {
+    /// Puts bytes that are there into a buffer, and answers how many.
+    fn fill(&self, into: &mut [u8]) -> usize
+        ensures { result ≤ length into.new }
+    {
+        let count = self.peer.coming.get().min(into.len());
+        for byte in into[..count].iter_mut() {
+            *byte = self.peer.give();
+        }
+        self.peer
+            .coming
+            .set(self.peer.coming.get().saturating_sub(count));
+        count
+    }
+}
+
+impl<'a> Connection for MemoryConnection<'a> {
+    ghost use Rattle.std.specs.Prelude.{⊤};
+
+    // What moves is compared when a test runs.
+    ghost moved = { λ before after came went. ⊤ };
+
+    ghost none = { λ s. tt };
+
+    ghost more = { λ a b c came next_came went next_went first then. tt };
+
+    fn receive(&mut self, into: &mut [u8]) -> Result<Received, ConnectionFault> {
+        let count = self.fill(into);
+        if count > 0 {
+            return Ok(Received::Bytes(count));
+        }
+        if self.peer.broken.get() {
+            return Err(ConnectionFault);
+        }
+        if self.peer.ended.get() {
+            return Ok(Received::Ended);
+        }
+        Ok(Received::Nothing)
+    }
+
+    fn send(&mut self, bytes: &[u8]) -> Result<usize, ConnectionFault> {
+        if self.peer.broken.get() {
+            return Err(ConnectionFault);
+        }
+        let count = self.peer.room.get().min(bytes.len());
+        for byte in &bytes[..count] {
+            self.peer.take(*byte);
+        }
+        self.peer
+            .room
+            .set(self.peer.room.get().saturating_sub(count));
+        self.peer
+            .taken
+            .set(self.peer.taken.get().saturating_add(count));
+        self.peer.sends.set(self.peer.sends.get().saturating_add(1));
+        Ok(count)
+    }
+}

@@ -1,0 +1,230 @@
+//! What a wire of a line answers, step by step.
+
+use crate::play::{Step, play};
+use njh_hub::{Reading, WireFault};
+use njh_wire::End;
+use std::test::Fail;
+
+const QUIET: Step = Step::Read(Ok(Reading::Quiet));
+
+const PENDING: Step = Step::Read(Ok(Reading::Pending));
+
+const CLOSED: Step = Step::Read(Ok(Reading::Closed));
+
+const ABSENT: Step = Step::Read(Ok(Reading::Absent));
+
+const FAULT: Step = Step::Read(Err(WireFault));
+
+/// A read gives so many bytes.
+const fn bytes(count: usize) -> Step {
+    Step::Read(Ok(Reading::Bytes(count)))
+}
+
+#[test]
+fn silence(rt: HostRuntime) -> Result<(), Fail> {
+    let steps = [
+        ABSENT,
+        Step::Due(u64::MAX),
+        Step::At(5000),
+        Step::Connect(0),
+        PENDING,
+        Step::Is(false, false),
+        Step::Due(5100),
+        Step::At(5099),
+        PENDING,
+        PENDING,
+        Step::At(5100),
+        QUIET,
+        PENDING,
+        Step::Due(5200),
+        Step::At(5150),
+        Step::Comes(0, 7),
+        Step::Is(true, false),
+        bytes(7),
+        Step::Due(5250),
+        Step::At(5249),
+        PENDING,
+        Step::At(5250),
+        QUIET,
+    ];
+    play(&rt, rt.alloc(), "silence", &steps)
+}
+
+#[test]
+fn ten_quiets_take_a_second(rt: HostRuntime) -> Result<(), Fail> {
+    let steps = [
+        Step::Connect(0),
+        PENDING,
+        Step::At(100),
+        QUIET,
+        Step::At(200),
+        QUIET,
+        Step::At(300),
+        QUIET,
+        Step::At(400),
+        QUIET,
+        Step::At(500),
+        QUIET,
+        Step::At(600),
+        QUIET,
+        Step::At(700),
+        QUIET,
+        Step::At(800),
+        QUIET,
+        Step::At(900),
+        QUIET,
+        Step::At(999),
+        PENDING,
+        Step::At(1000),
+        QUIET,
+    ];
+    play(&rt, rt.alloc(), "ten quiets", &steps)
+}
+
+#[test]
+fn slow_reader(rt: HostRuntime) -> Result<(), Fail> {
+    let steps = [
+        Step::Connect(0),
+        Step::Comes(0, 2),
+        bytes(2),
+        Step::Takes(0, 10),
+        Step::Write(30, true),
+        Step::Took(0, 10, 1),
+        Step::Is(false, true),
+        Step::Due(1000),
+        Step::Comes(0, 5),
+        Step::At(400),
+        PENDING,
+        Step::Takes(0, 15),
+        Step::Flush,
+        Step::Took(0, 25, 2),
+        Step::At(999),
+        PENDING,
+        Step::Takes(0, 100),
+        Step::Flush,
+        Step::Took(0, 30, 3),
+        bytes(5),
+    ];
+    play(&rt, rt.alloc(), "slow reader", &steps)
+}
+
+#[test]
+fn reader_that_stalls(rt: HostRuntime) -> Result<(), Fail> {
+    let steps = [
+        Step::Connect(0),
+        Step::At(50),
+        Step::Takes(0, 0),
+        Step::Write(3, true),
+        Step::Flush,
+        Step::At(1049),
+        PENDING,
+        Step::At(1050),
+        FAULT,
+        Step::Ended(Some(End::Stalled)),
+        Step::Ended(None),
+        ABSENT,
+    ];
+    play(&rt, rt.alloc(), "stalled", &steps)
+}
+
+#[test]
+fn answers_of_one_read_take_two_sends(rt: HostRuntime) -> Result<(), Fail> {
+    let steps = [
+        Step::Connect(0),
+        Step::Comes(0, 8),
+        bytes(8),
+        Step::Write(2, true),
+        Step::Write(2, true),
+        Step::Write(2, true),
+        Step::Took(0, 2, 1),
+        Step::Flush,
+        Step::Took(0, 6, 2),
+        Step::Comes(0, 2),
+        bytes(2),
+        Step::Write(2, true),
+        Step::Took(0, 8, 3),
+        Step::Is(false, false),
+    ];
+    play(&rt, rt.alloc(), "flood", &steps)
+}
+
+#[test]
+fn no_room(rt: HostRuntime) -> Result<(), Fail> {
+    let steps = [
+        Step::Connect(0),
+        Step::Takes(0, 0),
+        Step::Write(65_535, true),
+        Step::Write(1, true),
+        Step::Write(1, false),
+        Step::Ended(Some(End::Failed)),
+        ABSENT,
+        Step::Write(1, false),
+    ];
+    play(&rt, rt.alloc(), "no room", &steps)
+}
+
+#[test]
+fn ends(rt: HostRuntime) -> Result<(), Fail> {
+    let steps = [
+        Step::Connect(0),
+        Step::Close,
+        Step::Is(true, false),
+        CLOSED,
+        Step::Ended(Some(End::Closed)),
+        ABSENT,
+        Step::Close,
+        ABSENT,
+        Step::Connect(0),
+        Step::Comes(0, 3),
+        Step::Ends(0),
+        bytes(3),
+        Step::Write(2, true),
+        Step::Took(0, 2, 1),
+        Step::Is(true, false),
+        CLOSED,
+        Step::Ended(Some(End::Ended)),
+        ABSENT,
+    ];
+    play(&rt, rt.alloc(), "ends", &steps)
+}
+
+#[test]
+fn another_takes_its_place(rt: HostRuntime) -> Result<(), Fail> {
+    let steps = [
+        Step::Connect(0),
+        Step::Takes(0, 0),
+        Step::Write(4, true),
+        Step::Connect(1),
+        Step::Comes(1, 6),
+        Step::Write(2, false),
+        bytes(6),
+        Step::Ended(Some(End::Failed)),
+        Step::Connect(0),
+        Step::Ended(Some(End::Replaced)),
+        CLOSED,
+        PENDING,
+        Step::Took(1, 0, 0),
+    ];
+    play(&rt, rt.alloc(), "replaced", &steps)
+}
+
+#[test]
+fn faults(rt: HostRuntime) -> Result<(), Fail> {
+    let steps = [
+        Step::Connect(0),
+        Step::Comes(0, 3),
+        Step::Breaks(0),
+        bytes(3),
+        FAULT,
+        Step::Ended(Some(End::Failed)),
+        ABSENT,
+        Step::Connect(1),
+        Step::Takes(1, 0),
+        Step::Write(2, true),
+        Step::Breaks(1),
+        Step::Flush,
+        FAULT,
+        ABSENT,
+    ];
+    play(&rt, rt.alloc(), "faults", &steps)
+}
