@@ -17,6 +17,7 @@ mod replaying;
 mod script;
 mod script_routes;
 mod serve_options;
+mod service;
 mod standard_error;
 mod start;
 mod table_file;

@@ -9,23 +9,25 @@ ghost use Rattle.njh_program.specs.Status.{status_after, status_of};
 use crate::arguments::{Request, not_utf8, request_of};
 use crate::failure::Failure;
 use crate::replaying::replay;
+use crate::service::{Options, serve_file};
+use crate::standard_error::StandardError;
 use crate::table_file::tables_of;
-use njh_serve::serve;
+use njh_service::Log;
 use std::convert::AsStr;
 use std::io::{BufWriter, ErrorKind, Read, Write};
 use std::net::Net;
 use std::process::ExitCode;
-use std::rt::{Env, Files};
+use std::rt::{Clock, Env, Files};
 use std::{env, io};
 
 /// Runs the program, and answers the status to end with. Why it failed, if it did, goes to `errors`.
-pub fn run<R: Env + Files + Net + Input + Print + AllocGlobal, E: Print>(
+pub fn run<R: Env + Files + Net + Clock + Input + Print + AllocGlobal, E: Print>(
     rt: &R,
     errors: &E,
 ) -> ExitCode
     ensures { exit_status result ≤ 2 }
 {
-    end(outcome_of(rt), errors)
+    end(outcome_of(rt, errors), errors)
 }
 
 /// Says why the program failed, if it did, and answers the status to end with.
@@ -42,11 +44,15 @@ pub fn end<E: Print>(outcome: Result<(), Failure>, errors: &E) -> ExitCode
     }
 }
 
-/// Does what the program's own arguments ask for, over its own streams.
-fn outcome_of<R: Env + Files + Net + Input + Print + AllocGlobal>(rt: &R) -> Result<(), Failure> {
+/// Does what the program's own arguments ask for, over its own streams. The log of a service goes to `errors`.
+fn outcome_of<R: Env + Files + Net + Clock + Input + Print + AllocGlobal, E: Print>(
+    rt: &R,
+    errors: &E,
+) -> Result<(), Failure> {
     let arguments = arguments_of(rt)?;
     let mut out = BufWriter::new(rt.alloc(), io::writer(rt))?;
-    carry_out(rt, &arguments, &mut rt.reader(), &mut out)
+    let log = StandardError::new(errors);
+    carry_out(rt, &arguments, &mut rt.reader(), &mut out, log)
 }
 
 /// The program's arguments.
@@ -66,13 +72,14 @@ fn arguments_of<R: Env + AllocGlobal>(rt: &R) -> Result<Vec<String>, Failure> {
     }
 }
 
-/// Does what the arguments ask for: the arguments are checked first, then the tables, then the script.
-pub fn carry_out<F: Files + Net + AllocGlobal, S: AsStr, R: Read, W: Write>(
-    rt: &F,
-    arguments: &[S],
-    script: &mut R,
-    out: &mut W,
-) -> Result<(), Failure>
+/// Does what the arguments ask for: the arguments are checked first, then the tables, then the script. The log of a service goes to `log`.
+pub fn carry_out<
+    F: Files + Net + Clock + AllocGlobal,
+    S: AsStr,
+    R: Read,
+    W: Write,
+    L: Write + Drop,
+>(rt: &F, arguments: &[S], script: &mut R, out: &mut W, log: L) -> Result<(), Failure>
     ensures done { OnOk result (IsDone (map S.text arguments.now) (R.remaining script.old) (W.contents out.old) (W.contents out.new)) }
     ensures failed { IfErr result (IsFailed (map S.text arguments.now) (R.remaining script.old)) }
     ensures begun { OnErr result (Keeps (W.contents out.old) (W.contents out.new)
@@ -85,10 +92,14 @@ pub fn carry_out<F: Files + Net + AllocGlobal, S: AsStr, R: Read, W: Write>(
             replay(rt.alloc(), tables, script, out)?;
             Ok(())
         }
-        Request::Serve { tables, turns, .. } => {
-            let tables = tables_of(rt, Some(tables))?;
-            serve(rt, tables, turns.unwrap_or(u32::MAX))?;
-            Ok(())
+        Request::Serve {
+            tables,
+            turns,
+            listen,
+            quiet,
+        } => {
+            let log = Log::new(if quiet { None } else { Some(log) });
+            serve_file(rt, tables, Options { turns, listen }, log)
         }
     }
 }

@@ -1,3 +1,2 @@
 mod EndpointLaws
 mod OpenedLaws
-mod PortLaws

@@ -1,4 +1,3 @@
 pub mod Endpoints
 pub mod Opened
-pub mod Served
 pub mod Serving

@@ -7,8 +7,8 @@ use Rattle.std.specs.Net.Socket.{socket_ip, socket_port}
 use Rattle.njh_serve.specs.declared.endpoints.Endpoint.{Endpoint}
 use Rattle.njh_serve.specs.declared.endpoints.Site.{Site}
 use Rattle.njh_serve.specs.declared.endpoints.Site.TheVariants as site
-use Rattle.njh_serve.specs.declared.opening.Way.{Way}
-use Rattle.njh_serve.specs.declared.opening.Way.TheVariants as way
+use Rattle.njh_service.specs.declared.way.Way.{Way}
+use Rattle.njh_service.specs.declared.way.Way.TheVariants as way
 
 -- Where a line's peer connects to, by address and port, or where the hub does.
 pub data Opened : Type 0 where

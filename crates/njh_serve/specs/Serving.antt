@@ -1,9 +1,14 @@
 -- A service, and what it leaves.
-use Rattle.std.specs.Prelude.{◌≡◌, ℕ, List, Option, Some, None}
+use Rattle.std.specs.Prelude.{◌≡◌, ℕ, List, length, map, All, Option, Some, None}
 use Rattle.njh_table.specs.declared.LineId.{LineId}
-use Rattle.njh_hub.specs.Service.{IsAttended}
-use Rattle.njh_hub.specs.Whole.{Part}
+use Rattle.njh_table.specs.TableFile.{TableFile}
+use Rattle.njh_hub.specs.Service.{Happening, ArePossible, IsAttended, service_rounds}
+use Rattle.njh_hub.specs.Parts.{entries_of}
+use Rattle.njh_hub.specs.Turns.{no_quiets}
+use Rattle.njh_hub.specs.Whole.{Part, opened}
 use Rattle.njh_hub.specs.Wires.{WireAct}
+use Rattle.njh_serve.specs.Endpoints.{endpoints_of, lines_of}
+use Rattle.njh_serve.specs.Opened.{IsApart}
 
 -- A hub with the lines of it that are served, the quiets in a row on each, and their wires.
 pub record Served (W : Type 0) : Type 0 where
@@ -23,3 +28,25 @@ pub record HasServed {W : Type 0} (passed : W → W → List WireAct → Type 0)
     (old new : Served W) : Type 0 where
   pub attended : IsAttended passed count old.lines turns old.hub old.quiets old.wires new.hub new.quiets new.wires
   pub lines : new.lines ≡ old.lines
+
+-- A service that was just opened on tables: a hub of these, and its lines that have a port or a peer, no two on one port.
+pub record IsOpened {W : Type 0} (tables : TableFile) (service : Served W) : Type 0 where
+  pub apart : IsApart (endpoints_of tables)
+  pub hub : service.hub ≡ map opened (entries_of tables)
+  pub lines : service.lines ≡ lines_of (endpoints_of tables)
+  pub calm : service.quiets ≡ no_quiets (lines_of (endpoints_of tables))
+
+-- The lines of tables that have a port or a peer had so many turns each, and a hub of these tables was told of these, of new routes and
+-- of nothing else. Of what a socket gave and took nothing is known.
+pub record AreServed (tables : TableFile) (turns : Option ℕ) : Type 0 where
+  pub apart : IsApart (endpoints_of tables)
+  pub hub : List Part
+  pub lines : List LineId
+  pub quiets : List ℕ
+  pub story : List Happening
+  pub hub_of : hub ≡ map opened (entries_of tables)
+  pub lines_of_tables : lines ≡ lines_of (endpoints_of tables)
+  pub calm : quiets ≡ no_quiets (lines_of (endpoints_of tables))
+  pub many : length (service_rounds story) ≡ turn_count turns
+  pub each : All (λ round. length round ≡ length lines) (service_rounds story)
+  pub possible : ArePossible hub lines quiets story

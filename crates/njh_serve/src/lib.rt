@@ -4,23 +4,16 @@
 mod connection;
 mod endpoints;
 mod fault;
-mod listening;
 mod network;
 mod opening;
-mod ports;
+mod refusal;
 mod service;
 mod serving;
-mod socket_wire;
-mod stream;
-mod waits;
 
 pub use connection::MioConnection;
 pub use endpoints::{Endpoint, Site, endpoints_of};
 pub use fault::ServeFault;
-pub use network::{MioListener, MioNetwork};
-pub use opening::{OpenCause, OpenFault, Way, open};
-pub use ports::{Port, ports_of};
+pub use network::{MioListener, MioNetwork, utc_seconds};
+pub use opening::{OpenCause, OpenFault, open};
 pub use service::Service;
-pub use serving::{serve, serve_ports};
-pub use socket_wire::{SocketWire, listen};
-pub use waits::Waits;
+pub use serving::{Station, serve, service_on};

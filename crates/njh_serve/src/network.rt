@@ -111,10 +111,15 @@ impl<'a, R: Net + Clock> Network for MioNetwork<'a, R> {
     }
 
     fn utc(&mut self) -> i64 {
-        match SystemTime::now(self.rt) {
-            Ok(time) => seconds_since_1970(time),
-            Err(_) => 0,
-        }
+        utc_seconds(self.rt)
+    }
+}
+
+/// Seconds since the beginning of 1970, 0 where the clock fails or stands before that.
+pub fn utc_seconds<R: Clock>(rt: &R) -> i64 {
+    match SystemTime::now(rt) {
+        Ok(time) => seconds_since_1970(time),
+        Err(_) => 0,
     }
 }
 

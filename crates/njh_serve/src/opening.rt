@@ -6,20 +6,12 @@ ghost use Rattle.njh_serve.specs.declared.opening.OpenCause.TheVariants as cause
 ghost use Rattle.njh_serve.specs.Opened.{IsApart, IsRepeated, is_same_port, site_on, site_opened};
 
 use crate::endpoints::{Endpoint, Site};
+use njh_service::Way;
 use njh_wire::Network;
 use std::alloc::Global;
 use std::io;
 use std::io::ErrorKind;
 use std::net::{IpAddr, SocketAddr};
-
-/// How a line gets its connections.
-#[derive(Drop)]
-pub enum Way<L: Drop> {
-    /// Its peer connects to this listener.
-    Listens(L),
-    /// The hub connects to this address.
-    Dials(SocketAddr),
-}
 
 /// A line whose socket could not be opened.
 #[derive(Clone, Copy, Drop)]

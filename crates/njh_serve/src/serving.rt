@@ -1,101 +1,166 @@
-//! Serves lines for so many turns.
+//! Serves the lines of tables on sockets of this machine.
 
-ghost use Rattle.std.specs.Prelude.{◌≡◌, All, length, IfOk, OnOk, OnErr};
-ghost use Rattle.njh_hub.specs.Whole.{HasLine as HubHasLine};
+ghost use Rattle.std.specs.Prelude.{◌≡◌, length, map, All, IfOk, OnOk};
+ghost use Rattle.njh_hub.specs.Parts.{entries_of};
+ghost use Rattle.njh_hub.specs.Turns.{no_quiets};
+ghost use Rattle.njh_hub.specs.Whole.{opened};
 ghost use Rattle.njh_table.specs.TableFile.{HasLine};
-ghost use Rattle.njh_serve.specs.Served.{HasServed, lines_of};
+ghost use Rattle.njh_serve.specs.Endpoints.{endpoints_of, lines_of};
+ghost use Rattle.njh_serve.specs.Opened.{IsApart};
+ghost use Rattle.njh_serve.specs.Serving.{AreServed, IsOpened};
 
+use crate::endpoints::{Endpoint, endpoints_of};
 use crate::fault::ServeFault;
-use crate::listening::wires_on;
-use crate::ports::{Port, ports_of};
-use crate::waits::Waits;
-use njh_hub::{Hub, Wire, serve_turns};
+use crate::network::MioNetwork;
+use crate::opening::{OpenCause, open};
+use crate::refusal::Refusal;
+use crate::service::Service;
+use njh_service::{Exchange, LineNames, Log, Way};
 use njh_table::{LineId, Tables};
+use njh_wire::{Connection, LineWire, Network};
 use std::alloc::{AllocError, Global};
-use std::net::Net;
+use std::io::Write;
+use std::net::{IpAddr, Net};
+use std::time::Clock;
 
-/// Serves the lines of tables that have a port, on sockets of this machine, for so many turns.
-///
-/// `Device` where a port can't be listened on, `Memory` where there is no room for the hub or its wires; nothing was read then.
-pub fn serve<R: Net + AllocGlobal>(rt: &R, tables: Tables, turns: u32) -> Result<(), ServeFault> {
-    let ports = ports_of(rt.alloc(), &tables)?;
-    serve_tables(rt, tables, &ports, turns)
+/// What lines are served with.
+#[derive(Drop)]
+pub struct Station<N: Drop, L: Write + Drop> {
+    /// The network; nobody is connected on it yet.
+    pub network: N,
+    /// Where ports are listened on.
+    pub address: IpAddr,
+    /// The log.
+    pub log: Log<L>,
 }
 
-/// Serves lines of these tables.
-fn serve_tables<R: Net + AllocGlobal>(
+/// Serves the lines of tables that have a port or a peer, on sockets of this machine, for so many turns; where no number is given, until
+/// the program is ended. Ports are listened on at this address.
+///
+/// `Device` where a port can't be listened on, or where no line has a port or a peer and no number of turns is given: the log says why.
+/// `Memory` where there is no room for the hub or its wires. Nothing was read then.
+pub fn serve<R: Net + Clock + AllocGlobal, L: Write + Drop>(
     rt: &R,
     tables: Tables,
-    ports: &[Port],
-    turns: u32,
+    address: IpAddr,
+    turns: Option<u32>,
+    log: Log<L>,
 ) -> Result<(), ServeFault>
-    requires { All (λ port. HasLine tables port.line) ports.now }
+    ensures { OnOk result (AreServed tables turns) }
 {
-    match Hub::open(rt.alloc(), tables) {
-        Ok(mut hub) => serve_ports(rt, &mut hub, ports, turns),
-        Err(_) => Err(ServeFault::Memory),
-    }
+    let station = Station {
+        network: MioNetwork::new(rt)?,
+        address,
+        log,
+    };
+    let mut service = service_on(rt.alloc(), tables, station, turns.is_none())?;
+    service.run(turns);
+    Ok(())
 }
 
-/// Serves lines of a hub on sockets of this machine, for so many turns. Where it is refused the hub was told of nothing.
-pub fn serve_ports<R: Net + AllocGlobal>(
-    rt: &R,
-    hub: &mut Hub,
-    ports: &[Port],
-    turns: u32,
-) -> Result<(), ServeFault>
-    requires known { All (λ port. HubHasLine hub.old port.line) ports.now }
-    ensures served { OnOk result (HasServed (lines_of ports.now) turns hub.old hub.new) }
-    ensures err { OnErr result (hub.new ≡ hub.old) }
-{
-    let lines = lines_of(rt.alloc(), ports)?;
-    serve_lines(rt, hub, ports, &lines, turns)
-}
-
-/// The lines of ports.
-fn lines_of(alloc: Global, ports: &[Port]) -> Result<Vec<LineId>, AllocError>
-    ensures { IfOk result (λ lines. lines.items ≡ lines_of ports.now) }
-{
-    let mut lines = Vec::new(alloc);
-    for port in ports {
-        lines.push(port.line)?;
-    }
-    Ok(lines)
-}
-
-/// Serves these lines on these ports.
-fn serve_lines<R: Net + AllocGlobal>(
-    rt: &R,
-    hub: &mut Hub,
-    ports: &[Port],
-    lines: &[LineId],
-    turns: u32,
-) -> Result<(), ServeFault>
-    requires same { length ports.now ≡ length lines.now }
-    requires known { All (HubHasLine hub.old) lines.now }
-    ensures served { OnOk result (HasServed lines.now turns hub.old hub.new) }
-    ensures err { OnErr result (hub.new ≡ hub.old) }
-{
-    let waits = Waits::new();
-    let mut wires = wires_on(rt, ports, &waits)?;
-    serve_wires(rt.alloc(), hub, &mut wires, lines, turns)
-}
-
-/// Serves these lines on these wires.
-fn serve_wires<W: Wire>(
+/// A service of the lines of tables that have a port or a peer. Where `needed`, tables without such a line are refused.
+///
+/// Refusals are those of `serve`.
+pub fn service_on<N: Network + Drop, L: Write + Drop>(
     alloc: Global,
-    hub: &mut Hub,
-    wires: &mut [W],
-    lines: &[LineId],
-    turns: u32,
-) -> Result<(), ServeFault>
-    requires same { length wires.old ≡ length lines.now }
-    requires known { All (HubHasLine hub.old) lines.now }
-    ensures served { OnOk result (HasServed lines.now turns hub.old hub.new) }
-    ensures err { OnErr result (hub.new ≡ hub.old) }
+    tables: Tables,
+    station: Station<N, L>,
+    needed: bool,
+) -> Result<Service<LineWire<N::Connection>, Exchange<N, L>>, ServeFault>
+    ensures { IfOk result (IsOpened tables) }
 {
-    match serve_turns(alloc, hub, wires, lines, turns) {
-        Ok(()) => Ok(()),
+    let endpoints = endpoints_of(alloc, &tables)?;
+    let exchange = exchange_on(alloc, &tables, &endpoints, station, needed)?;
+    let wires = wires_for(alloc, &endpoints)?;
+    match Service::new(alloc, tables, &endpoints, wires, exchange) {
+        Ok(service) => Ok(service),
         Err(_) => Err(ServeFault::Memory),
+    }
+}
+
+/// A wire for each, on which nobody is connected.
+fn wires_for<C: Connection + Drop>(
+    alloc: Global,
+    endpoints: &[Endpoint],
+) -> Result<Vec<LineWire<C>>, AllocError>
+    ensures { IfOk result (λ wires. length wires.items ≡ length endpoints.now) }
+{
+    let mut wires = Vec::new(alloc);
+    for _endpoint in endpoints {
+        wires.push(LineWire::new(alloc)?)?;
+    }
+    Ok(wires)
+}
+
+/// The attendant of lines, with their sockets. Where one can't be opened the log says why.
+fn exchange_on<N: Network + Drop, L: Write + Drop>(
+    alloc: Global,
+    tables: &Tables,
+    endpoints: &[Endpoint],
+    station: Station<N, L>,
+    needed: bool,
+) -> Result<Exchange<N, L>, ServeFault>
+    requires { All (λ endpoint. HasLine tables.now endpoint.line) endpoints.now }
+    ensures { OnOk result (IsApart endpoints.now) }
+{
+    let Station {
+        mut network,
+        address,
+        mut log,
+    } = station;
+    if needed && endpoints.is_empty() {
+        log.write(network.utc(), &"no line of the tables has a port or a peer");
+        return Err(ServeFault::Device);
+    }
+    match open(alloc, &mut network, address, endpoints) {
+        Ok(ways) => {
+            let mut exchange = Exchange::new(alloc, network, log);
+            add_lines(&mut exchange, tables, endpoints, ways)?;
+            Ok(exchange)
+        }
+        Err(fault) => {
+            log.write(network.utc(), &Refusal::of(tables, endpoints, fault));
+            Err(fault_of(fault.cause))
+        }
+    }
+}
+
+/// Why lines aren't served where a socket can't be opened.
+fn fault_of(cause: OpenCause) -> ServeFault {
+    match cause {
+        OpenCause::Memory => ServeFault::Memory,
+        _ => ServeFault::Device,
+    }
+}
+
+/// Adds lines to their attendant, each with its socket.
+fn add_lines<N: Network + Drop, L: Write + Drop>(
+    exchange: &mut Exchange<N, L>,
+    tables: &Tables,
+    endpoints: &[Endpoint],
+    ways: Vec<Way<N::Listener>>,
+) -> Result<(), AllocError>
+    requires { All (λ endpoint. HasLine tables.now endpoint.line) endpoints.now }
+{
+    let mut ways = ways.into_iter();
+    for place in 0..endpoints.len() {
+        let line = endpoints[place].line;
+        let Some(way) = ways.next() else {
+            return Ok(());
+        };
+        exchange.add(line, &names_of(tables, line), way)?;
+    }
+    Ok(())
+}
+
+/// What a line is called.
+fn names_of<'a>(tables: &'a Tables, line: LineId) -> LineNames<'a>
+    requires { HasLine tables.now line }
+{
+    let entry = tables.line(line);
+    LineNames {
+        customer: tables.customer(line.customer).name(),
+        line: entry.name(),
+        node: entry.node(),
     }
 }

@@ -1,0 +1,88 @@
+//! Serves the lines of a table file.
+
+ghost use Rattle.std.specs.Prelude.{Some, OnOk, IfErr};
+ghost use Rattle.njh_program.specs.Outcome.{AreServedOf};
+ghost use Rattle.njh_program.specs.TableBytes.{AreRefused, IsUnread};
+
+use crate::failure::Failure;
+use crate::fault::ReplayFault;
+use crate::table_file::tables_of;
+use njh_serve::{serve, utc_seconds};
+use njh_service::Log;
+use std::fmt;
+use std::fs::File;
+use std::io::{ErrorKind, Write};
+use std::net::{IpAddr, Net};
+use std::rt::{Clock, Files};
+
+/// How lines are served.
+#[derive(Clone, Copy)]
+pub(crate) struct Options {
+    /// For how many turns, if they end.
+    pub(crate) turns: Option<u32>,
+    /// Where they listen.
+    pub(crate) listen: IpAddr,
+}
+
+/// Serves the lines of a table file. Where it can't be read, or its lines can't be served, the log says why.
+pub(crate) fn serve_file<F: Files + Net + Clock + AllocGlobal, L: Write + Drop>(
+    rt: &F,
+    path: &str,
+    options: Options,
+    mut log: Log<L>,
+) -> Result<(), Failure>
+    ensures served { OnOk result (AreServedOf path.now options.turns) }
+    ensures refused { IfErr result (AreRefused (Some path.now)) }
+{
+    match tables_of(rt, Some(path)) {
+        Ok(tables) => {
+            serve(rt, tables, options.listen, options.turns, log)?;
+            Ok(())
+        }
+        Err(failure) => {
+            if is_device(&failure) {
+                log.write(
+                    utc_seconds(rt),
+                    &Unread {
+                        path,
+                        why: why_unread(rt, path),
+                    },
+                );
+            }
+            Err(failure)
+        }
+    }
+}
+
+/// Whether a device failed.
+fn is_device(failure: &Failure) -> bool {
+    match failure {
+        Failure::Replay(ReplayFault::Device) => true,
+        _ => false,
+    }
+}
+
+/// Why a file can't be read.
+fn why_unread<F: Files>(rt: &F, path: &str) -> &'static str {
+    match File::open(rt, path) {
+        Ok(_) => "not readable",
+        Err(error) => match error.kind() {
+            ErrorKind::NotFound => "not found",
+            ErrorKind::PermissionDenied => "not permitted",
+            _ => "not readable",
+        },
+    }
+}
+
+/// A table file that can't be read.
+#[derive(Clone, Copy, Drop)]
+struct Unread<'a> {
+    path: &'a str,
+    why: &'static str,
+}
+
+impl fmt::Display for Unread<'_> {
+    fn fmt<W: fmt::Write>(&self, f: &mut fmt::Formatter<W>) -> fmt::Result {
+        write!(f, "table file {}: {}", self.path, self.why)
+    }
+}

@@ -1,0 +1,20 @@
+use Rattle.njh_serve.proofs.serving.serve.Goals as goal
+
+-- the story of the service that was opened
+pub returns : goal.returns
+returns g c =
+    let opened = c.in_ok-service.ensures in
+    let ran = c.run.ensures.attended in
+    record {
+      apart = opened.apart;
+      hub = c.in_ok-service.service.hub;
+      lines = c.in_ok-service.service.lines;
+      quiets = c.in_ok-service.service.quiets;
+      story = ran.story;
+      hub_of = opened.hub;
+      lines_of_tables = opened.lines;
+      calm = opened.calm;
+      many = ran.many;
+      each = ran.each;
+      possible = ran.possible;
+    }
