@@ -1,5 +1,5 @@
 //! Tests of names, frames, records, blocks, headers, nodal messages, lines, tables, the spool and streams, of what is printed of faults, and
-//! of turns over wires in memory and one over a socket: all over the public items of their crates.
+//! of turns over wires in memory and which lines are served: all over the public items of their crates.
 #![tactic(auto)]
 
 #[cfg(test)]
@@ -8,6 +8,8 @@ mod bisync_tests;
 mod block_tests;
 #[cfg(test)]
 mod ebcdic_tests;
+#[cfg(test)]
+mod endpoint_tests;
 #[cfg(test)]
 mod fault_tests;
 #[cfg(test)]
@@ -28,8 +30,6 @@ mod same;
 mod service_tests;
 #[cfg(test)]
 mod serving;
-#[cfg(test)]
-mod socket_tests;
 #[cfg(test)]
 mod spool_tests;
 #[cfg(test)]

@@ -4,7 +4,7 @@ use crate::scripts::print_run;
 use njh_program::Failure;
 use std::alloc::{AllocError, Global};
 use std::net::Net;
-use std::rt::Files;
+use std::rt::{Clock, Files};
 
 /// A stored script of two customers, and its table file.
 const FIRST: (&str, &str) = ("two_customers", "two_networks.toml");
@@ -20,7 +20,7 @@ const OTHERS: [(&str, &str); 3] = [
 const OWN: [&[u8]; 3] = [b"a1 ", b"a2 ", b"ACME "];
 
 /// Says of each of the other runs whether ACME's lines are those of the first.
-pub fn compare<R: Files + Net + Print + AllocGlobal>(rt: &R) -> Result<(), Failure> {
+pub fn compare<R: Files + Net + Clock + Print + AllocGlobal>(rt: &R) -> Result<(), Failure> {
     let wanted = own_lines(rt, FIRST)?;
     println!(rt; "{}: {} bytes of ACME", FIRST.0, wanted.len())?;
     for run in OTHERS {
@@ -35,7 +35,10 @@ pub fn compare<R: Files + Net + Print + AllocGlobal>(rt: &R) -> Result<(), Failu
 }
 
 /// ACME's lines of what a run prints.
-fn own_lines<R: Files + Net + AllocGlobal>(rt: &R, run: (&str, &str)) -> Result<Vec<u8>, Failure> {
+fn own_lines<R: Files + Net + Clock + AllocGlobal>(
+    rt: &R,
+    run: (&str, &str),
+) -> Result<Vec<u8>, Failure> {
     let (name, tables) = run;
     let mut text = Vec::new(rt.alloc());
     print_run(rt, name, &[name, "replay", "--tables", tables], &mut text)?;

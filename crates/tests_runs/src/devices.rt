@@ -9,7 +9,7 @@ use njh_program::{Failure, carry_out};
 use std::alloc::Global;
 use std::io::{ErrorKind, Read, Write};
 use std::net::Net;
-use std::rt::Files;
+use std::rt::{Clock, Files};
 use std::{fs, io};
 
 /// How many bytes a read gives at most.
@@ -86,7 +86,7 @@ impl Write for Drain {
 }
 
 /// Tries each script over streams that fail or fall short.
-pub fn compare_all<R: Files + Net + Print + AllocGlobal>(rt: &R) -> Result<(), Failure> {
+pub fn compare_all<R: Files + Net + Clock + Print + AllocGlobal>(rt: &R) -> Result<(), Failure> {
     let index = fs::read_to_string(rt, "replayed")?;
     for line in index.as_str().lines() {
         let words: Vec<&str> = line.split(' ').collect(rt.alloc())?;
@@ -99,7 +99,7 @@ pub fn compare_all<R: Files + Net + Print + AllocGlobal>(rt: &R) -> Result<(), F
 }
 
 /// Says how a script ends where one read, or one write, goes amiss.
-fn compare<R: Files + Net + Print + AllocGlobal>(
+fn compare<R: Files + Net + Clock + Print + AllocGlobal>(
     rt: &R,
     name: &str,
     arguments: &[&str],
@@ -122,7 +122,7 @@ fn compare<R: Files + Net + Print + AllocGlobal>(
 }
 
 /// The first call at which a mishap ends otherwise than it must, if there is one.
-fn first_other<R: Files + Net + AllocGlobal>(
+fn first_other<R: Files + Net + Clock + AllocGlobal>(
     rt: &R,
     arguments: &[&str],
     script: &[u8],
@@ -147,7 +147,7 @@ fn first_other<R: Files + Net + AllocGlobal>(
                 mishap,
             },
         };
-        let ended = carry_out(rt, arguments, &mut source, &mut drain);
+        let ended = carry_out(rt, arguments, &mut source, &mut drain, io::sink());
         let had = if is_read {
             source.calls.had
         } else {

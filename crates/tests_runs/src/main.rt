@@ -17,6 +17,7 @@ mod random_runs;
 mod route_lines;
 mod scripts;
 mod second_lines;
+mod served;
 mod soak;
 mod steps;
 mod streams;
@@ -25,10 +26,10 @@ use njh_program::Failure;
 use std::alloc::Global;
 use std::net::Net;
 use std::process::ExitCode;
-use std::rt::Files;
+use std::rt::{Clock, Files};
 
 /// Tries all but the end of the program.
-fn tried<R: Files + Net + Print + AllocGlobal>(rt: &R) -> Result<(), Failure> {
+fn tried<R: Files + Net + Clock + Print + AllocGlobal>(rt: &R) -> Result<(), Failure> {
     scripts::compare_all(rt)?;
     damage::compare_all(rt)?;
     devices::compare_all(rt)?;
@@ -38,6 +39,7 @@ fn tried<R: Files + Net + Print + AllocGlobal>(rt: &R) -> Result<(), Failure> {
     steps::take(rt)?;
     steps::keep(rt)?;
     looks::look(rt)?;
+    served::serve(rt)?;
     new_routes::refuse(rt)?;
     route_lines::try_each(rt)?;
     steps::refuse(rt)?;

@@ -6,11 +6,11 @@
 use njh_program::{Failure, carry_out};
 use std::alloc::Global;
 use std::net::Net;
-use std::rt::Files;
+use std::rt::{Clock, Files};
 use std::{fs, io};
 
 /// Compares what each script prints with what is stored.
-pub fn compare_all<R: Files + Net + Print + AllocGlobal>(rt: &R) -> Result<(), Failure> {
+pub fn compare_all<R: Files + Net + Clock + Print + AllocGlobal>(rt: &R) -> Result<(), Failure> {
     let index = fs::read_to_string(rt, "index")?;
     for line in index.as_str().lines() {
         let words: Vec<&str> = line.split(' ').collect(rt.alloc())?;
@@ -23,7 +23,7 @@ pub fn compare_all<R: Files + Net + Print + AllocGlobal>(rt: &R) -> Result<(), F
 }
 
 /// Says whether a script prints what is stored, and the program's status.
-fn compare<R: Files + Net + Print + AllocGlobal>(
+fn compare<R: Files + Net + Clock + Print + AllocGlobal>(
     rt: &R,
     name: &str,
     arguments: &[&str],
@@ -41,7 +41,7 @@ fn compare<R: Files + Net + Print + AllocGlobal>(
 
 /// Runs the program with a stored script, and gives its status; the line of its failure follows what it prints. The text for
 /// arguments that are refused is that of `clap`, and isn't compared.
-pub fn print_run<R: Files + Net + AllocGlobal>(
+pub fn print_run<R: Files + Net + Clock + AllocGlobal>(
     rt: &R,
     name: &str,
     arguments: &[&str],
@@ -50,7 +50,7 @@ pub fn print_run<R: Files + Net + AllocGlobal>(
     let file = format!(in rt.alloc(); "{name}.script")?;
     let script = fs::read(rt, file.as_str())?;
     let mut left = script.as_slice();
-    match carry_out(rt, arguments, &mut left, out) {
+    match carry_out(rt, arguments, &mut left, out, io::sink()) {
         Ok(()) => Ok(0),
         Err(Failure::Arguments(_)) => Ok(1),
         Err(failure) => {
