@@ -33,6 +33,7 @@ from peers import Crowd, Peer
 WIDTHS = (22, 8, 10, 10)
 
 GONE = "127.0.0.9"
+TEXT_END = b"\x10\x26"
 
 # A frame that is begun and not ended.
 BEGUN = bytes.fromhex("1002808fcf9a")
@@ -61,7 +62,13 @@ def asked(peer):
 def signed_on(port, node, **given):
     peer = connected(port, **given)
     asked(peer)
-    answered(peer, sign_on(0xC9, node), 50)
+    peer.sendall(sign_on(0xC9, node))
+    got = b""
+    while not got.endswith(TEXT_END):
+        more = peer.recv(4096)
+        if not more:
+            raise ConnectionError("closed")
+        got += more
     return peer
 
 
