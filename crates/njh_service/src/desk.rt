@@ -61,10 +61,11 @@ impl<N: Network + Drop, L: Write + Drop> Desk<N, L> {
                 post.moment = dial.moment();
             }
         }
+        // A connection that ends in the round to come is seen to have been there.
+        post.linked = post.linked || wire.is_connected();
     }
 
-    /// Ends the connection of a line whose session gave up, and tells what changed, where something came.
-    /// Answers when the line wants to be
+    /// Ends the connection of a line whose session gave up, and tells what changed, where something came. Answers when the line wants to be
     /// looked at.
     pub(crate) fn settle(
         &mut self,
@@ -76,13 +77,10 @@ impl<N: Network + Drop, L: Write + Drop> Desk<N, L> {
     {
         let soon = self.now.saturating_add(QUIET);
         let due = wire.due();
-        if due != post.seen || due == soon {
+        if due != post.seen || due == soon || (post.linked && !wire.is_connected()) {
             self.look(post, hub, wire);
-            if due != post.seen && !wire.is_connected() {
-                post.seen = due;
-                return self.now;
-            }
             post.seen = due;
+            post.linked = wire.is_connected() || wire.is_ready();
         }
         if wire.waits_to_send() {
             return soon.min(post.moment);
@@ -90,7 +88,7 @@ impl<N: Network + Drop, L: Write + Drop> Desk<N, L> {
         if wire.is_ready() {
             return self.now;
         }
-        due.min(post.moment)
+        wire.due().min(post.moment)
     }
 
     /// Looks at a line on which something came.
@@ -102,28 +100,35 @@ impl<N: Network + Drop, L: Write + Drop> Desk<N, L> {
     )
         ensures { wire.old.failures ≤ wire.new.failures }
     {
-        let gave_up = hub.has_given_up(post.line);
-        if gave_up && !post.label.given_up {
+        let gave_up = post.label.in_session && hub.has_given_up(post.line);
+        if gave_up {
             wire.close();
         }
-        let end = wire.take_end();
+        // An end is told once the hub has heard of it.
+        let end = if wire.is_connected() {
+            None
+        } else {
+            wire.take_end()
+        };
         let ending = if gave_up {
             Ending::NoAnswer
-        } else if end.is_some() {
+        } else if end.is_some() || post.label.lost {
             Ending::Lost
         } else {
             Ending::ByPeer
         };
-        self.tell_session(&mut post.label, is_up(hub, post.line), ending);
-        post.label.given_up = gave_up;
+        self.tell_session(&mut post.label, phase_of(hub, post.line), ending);
         if let Some(end) = end {
             self.tell_end(&mut post.label, end);
+            post.label.lost = true;
             post.lose(self.now);
         }
     }
 
     /// Tells of a session that went up or down.
-    fn tell_session(&mut self, label: &mut Label, up: bool, ending: Ending) {
+    fn tell_session(&mut self, label: &mut Label, phase: Phase, ending: Ending) {
+        label.in_session = is_session(phase);
+        let up = phase == Phase::Up;
         if up == label.up {
             return;
         }
@@ -158,7 +163,10 @@ impl<N: Network + Drop, L: Write + Drop> Desk<N, L> {
             }
             Ok(None) => u64::MAX,
             Err(_) => {
-                self.tell(label, Happening::AcceptFailed);
+                if label.again <= self.now {
+                    label.again = self.now.saturating_add(TELL);
+                    self.tell(label, Happening::AcceptFailed);
+                }
                 self.now.saturating_add(PAUSE)
             }
         }
@@ -178,6 +186,7 @@ impl<N: Network + Drop, L: Write + Drop> Desk<N, L> {
         if let Some(end) = wire.take_end() {
             self.tell_end(label, end);
         }
+        label.lost = false;
         self.tell_connected(label, happening);
     }
 
@@ -259,10 +268,18 @@ impl<N: Network + Drop, L: Write + Drop> Desk<N, L> {
     }
 }
 
-/// Whether a line's session is up.
-fn is_up(hub: &Hub, line: LineId) -> bool {
+/// How far a line's session is.
+fn phase_of(hub: &Hub, line: LineId) -> Phase {
     match hub.session(line) {
-        Ok(session) => session.phase == Phase::Up,
-        Err(_) => false,
+        Ok(session) => session.phase,
+        Err(_) => Phase::Down,
+    }
+}
+
+/// Whether a line in this phase is in a session.
+fn is_session(phase: Phase) -> bool {
+    match phase {
+        Phase::Down | Phase::Calling => false,
+        Phase::Answered | Phase::SentI | Phase::Up => true,
     }
 }

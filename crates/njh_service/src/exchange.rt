@@ -75,6 +75,7 @@ impl<N: Network + Drop, L: Write + Drop> Exchange<N, L> {
     pub(crate) fn begin_round(&mut self, wires: &mut [LineWire<N::Connection>])
         ensures { AreStill (λ a b acts. ⊤) (λ wire. wire.failures) wires.old wires.new }
     {
+        self.desk.now = self.desk.network.now();
         let wait = self.wait();
         let _waited = self.desk.network.wait(wait, &mut self.ready).is_ok();
         self.desk.now = self.desk.network.now();

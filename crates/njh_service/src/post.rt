@@ -34,8 +34,10 @@ pub(crate) struct Label {
     pub(crate) node: Name,
     /// Whether its session was up.
     pub(crate) up: bool,
-    /// Whether its session had given up.
-    pub(crate) given_up: bool,
+    /// Whether it was in a session, up or on the way there.
+    pub(crate) in_session: bool,
+    /// Whether its last connection's end was told.
+    pub(crate) lost: bool,
 }
 
 impl Label {
@@ -48,7 +50,8 @@ impl Label {
             line,
             node: names.node,
             up: false,
-            given_up: false,
+            in_session: false,
+            lost: false,
             again: 0,
             connected: false,
         }
@@ -71,6 +74,8 @@ pub(crate) struct Post<Li: Drop, C: Drop> {
     pub(crate) moment: u64,
     /// When its wire was due as it was last looked at.
     pub(crate) seen: u64,
+    /// Whether its wire had a connection, or an end to tell, when it was last looked at.
+    pub(crate) linked: bool,
     pub(crate) line: LineId,
     pub(crate) door: Door<Li, C>,
     pub(crate) label: Label,
@@ -82,6 +87,7 @@ impl<Li: Drop, C: Drop> Post<Li, C> {
         Post {
             moment: 0,
             seen: u64::MAX,
+            linked: false,
             line,
             door: match way {
                 Way::Listens(listener) => Door::Listens(listener),
