@@ -1,5 +1,6 @@
 //! One byte after another through the frame grammar.
-ghost use Rattle.std.specs.Prelude.{◌≡◌, ◌+◌, ◌++◌, ◌<◌, ◌≤◌, ◌∷◌, [], true, false, drop, take, length, IfOk, option_map, vec_len, vec_capacity};
+ghost use Rattle.std.specs.Prelude.{◌≡◌, ◌+◌, ◌++◌, ◌<◌, ◌≤◌, ◌∷◌, [], true, false, drop, take, length, IfOk};
+ghost use Rattle.std.specs.Prelude.{option_map, vec_len, vec_capacity};
 ghost use Rattle.njh_bisync.specs.Fed.{turn, fed, kept_with};
 ghost use Rattle.njh_bisync.specs.Plain.{fed_on, kept_all, plain_len};
 ghost use Rattle.njh_bisync.specs.Frames.{text_or_spoiled, IsShort};
@@ -111,8 +112,8 @@ impl Scanner {
         self.place = Place::Between;
     }
 
-    /// Takes one byte, or the two that begin a text, or in a text all that stand before the next DLE, or that DLE and the byte behind it:
-    /// how many, and the frame that they end.
+    /// Takes one byte, or the two that begin a text, or in a text all that stand before the next DLE, or that DLE and
+    /// the byte behind it: how many, and the frame that they end.
     fn take_some(&mut self, bytes: &[u8]) -> (usize, Option<Ended>)
         requires { 0 < length bytes.now }
         ensures some { 0 < result.0 }

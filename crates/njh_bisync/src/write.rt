@@ -1,5 +1,6 @@
 //! Frames written.
-ghost use Rattle.std.specs.Prelude.{◌≡◌, ◌+◌, ◌*◌, ◌≤◌, ◌++◌, ◌∷◌, [], length, flat_map, IsOk, OnOk, OnErr, vec_len, vec_capacity};
+ghost use Rattle.std.specs.Prelude.{◌≡◌, ◌+◌, ◌*◌, ◌≤◌, ◌++◌, ◌∷◌, [], length, flat_map, IsOk, OnOk, OnErr, vec_len};
+ghost use Rattle.std.specs.Prelude.{vec_capacity};
 ghost use Rattle.njh_bisync.specs.Written.{bytes_of_data, text_bytes, control_bytes};
 
 use crate::frame::{Control, LONGEST_FRAME, LONGEST_TEXT};

@@ -1,5 +1,5 @@
--- The grammar of a block (IBM SC23-0070, multileaving): a text is a block control byte, a function control sequence and records, up to
--- its end or to a 00 in the place of an RCB.
+-- The grammar of a block (IBM SC23-0070, multileaving): a text is a block control byte, a function control sequence and
+-- records, up to its end or to a 00 in the place of an RCB.
 use Rattle.std.specs.Prelude.{◌≡◌, ℕ, ◌<◌, ◌≤◌, ◌⊎◌, false, List, [], ◌∷◌, ◌++◌, length, slice_index, IsTrue}
 use Rattle.std.specs.List.{flat_map}
 use Rattle.njh_record.specs.Spelling.{Spelling}
@@ -9,7 +9,8 @@ use Rattle.njh_block.specs.declared.fault.BlockFault.{BlockFault}
 use Rattle.njh_block.specs.declared.fault.BlockFault.TheVariants.{TooShort, BadBcb, BadFcs, BadRcb, BadRecord}
 use Rattle.njh_block.specs.declared.rcb.ControlRcb.{ControlRcb}
 use Rattle.njh_block.specs.declared.rcb.Form.TheVariants as form
-use Rattle.njh_block.specs.Blocks.{Item, Data, Aborted, Long, Control, General, Block, control_byte, form_of, is_bcb, is_fcs}
+use Rattle.njh_block.specs.Blocks.{Item, Data, Aborted, Long, Control, General, Block, control_byte, form_of, is_bcb}
+use Rattle.njh_block.specs.Blocks.{is_fcs}
 
 -- an RCB, an SRCB and a spelling
 pub record IsSpelled (rcb srcb : ℕ) (contents : List ℕ) (end : End) (bytes : List ℕ) : Type 0 where

@@ -1,11 +1,13 @@
 -- A block that is being written (IBM SC23-0070, multileaving).
-use Rattle.std.specs.Prelude.{◌≡◌, ℕ, ◌≤◌, Bool, true, false, List, [], ◌∷◌, ◌++◌, ◌-◌, length, take, drop, slice_index, not, ◌&&◌}
+use Rattle.std.specs.Prelude.{◌≡◌, ℕ, ◌≤◌, Bool, true, false, List, [], ◌∷◌, ◌++◌, ◌-◌, length, take, drop, slice_index}
+use Rattle.std.specs.Prelude.{not, ◌&&◌}
 use Rattle.std.specs.Prelude.{nat_le, IsTrue}
 use Rattle.std.specs.List.{list_any}
 use Rattle.std.specs.Result.{result_unwrap_or}
 use Rattle.njh_block.specs.declared.rcb.ControlRcb.{ControlRcb}
 use Rattle.njh_block.specs.declared.rcb.Form.TheVariants as form
-use Rattle.njh_block.specs.Blocks.{Item, Data, Aborted, Long, Control, General, control_byte, form_of, is_bcb, is_fcs, items_in, text_of}
+use Rattle.njh_block.specs.Blocks.{Item, Data, Aborted, Long, Control, General, control_byte, form_of, is_bcb, is_fcs}
+use Rattle.njh_block.specs.Blocks.{items_in, text_of}
 
 -- What the text may hold at most, its first bytes, and the items so far.
 pub record Writing : Type 0 where

@@ -35,8 +35,8 @@ impl<'a> Model for Block<'a> {
 }
 
 impl<'a> Block<'a> {
-    /// Reads a text (IBM SC23-0070, "Multileaving"). It is checked to its end before any record is given: `TooShort` comes first, and then
-    /// the first fault from the left is told.
+    /// Reads a text (IBM SC23-0070, "Multileaving"). It is checked to its end before any record is given: `TooShort`
+    /// comes first, and then the first fault from the left is told.
     pub fn read(text: &'a [u8]) -> Result<Self, BlockFault>
         // It is the block that the text is by the grammar, or the fault that the text has by it.
         ensures block { (block : Seen) → (result ≡ Ok block) ↔ IsBlock text.now block }

@@ -8,7 +8,8 @@ ghost use Rattle.njh_block.specs.Grammar.{IsBlock, IsFault};
 
 use crate::fault::BlockFault;
 
-/// Reading gives exactly the block that a text is by the grammar, or the first fault from the left. So a text has one reading.
+/// Reading gives exactly the block that a text is by the grammar, or the first fault from the left. So a text has one
+/// reading.
 pub fn one_reading()
     ensures block { (text : List ℕ) (b : Block) → AreBytes text → (read_block text ≡ Ok b) ↔ IsBlock text b }
     ensures fault { (text : List ℕ) (f : BlockFault) → AreBytes text → (read_block text ≡ Err f) ↔ IsFault text f }

@@ -1,7 +1,8 @@
 //! Reading: the record at the front of some bytes.
 
 ghost use Rattle.std.specs.Prelude.{◌≡◌, ◌↔◌, ℕ, [], Err, IsOk, IsTrue, MatchResult, None, Ok, option_map};
-ghost use Rattle.njh_block.specs.Blocks.{form_of, after_control, record_of_spelling, record_of_form, first_record, items_in};
+ghost use Rattle.njh_block.specs.Blocks.{form_of, after_control, record_of_spelling, record_of_form, first_record};
+ghost use Rattle.njh_block.specs.Blocks.{items_in};
 ghost use Rattle.njh_record.specs.Unspelled.{unspelled};
 ghost use Rattle.njh_block.specs.Skipped.{rest_shown, rest_behind};
 ghost use Rattle.njh_block.specs.Shown.{first_shown, general_at, contents_after};
@@ -68,8 +69,8 @@ fn read_formed<'a>(
     Ok(Some((item, rest)))
 }
 
-/// The record at the front of the bytes behind a function control sequence; none where the block ends. A record other than `Data`
-/// leaves `contents` empty.
+/// The record at the front of the bytes behind a function control sequence; none where the block ends. A record other
+/// than `Data` leaves `contents` empty.
 #[inline(always)]
 pub(crate) fn read_first<'a>(
     bytes: &'a [u8],
@@ -100,7 +101,8 @@ pub(crate) fn ends(bytes: &[u8]) -> bool
     }
 }
 
-/// Whether the bytes behind a function control sequence are whole records up to their end, or the first fault from the left.
+/// Whether the bytes behind a function control sequence are whole records up to their end, or the first fault from the
+/// left.
 pub(crate) fn check_records(bytes: &[u8]) -> Result<(), BlockFault>
     ensures { MatchResult result (λ _. IsOk (items_in bytes.now)) (λ e. items_in bytes.now ≡ Err e) }
 {

@@ -1,5 +1,7 @@
--- What a command does to the sender's files, and what it is answered: filters and maps over the files in order of arrival.
-use Rattle.std.specs.Prelude.{ℕ, ◌+◌, Bool, true, false, List, [], ◌∷◌, ◌++◌, length, take, map, filter, Option, Some, None, ◌==◌, cond}
+-- What a command does to the sender's files, and what it is answered: filters and maps over the files in order of
+-- arrival.
+use Rattle.std.specs.Prelude.{ℕ, ◌+◌, Bool, true, false, List, [], ◌∷◌, ◌++◌, length, take, map, filter, Option, Some}
+use Rattle.std.specs.Prelude.{None, ◌==◌, cond}
 use Rattle.std.specs.Prelude.{not, ◌&&◌, bytes_eq}
 use Rattle.njh_spool.specs.declared.State.{State}
 use Rattle.njh_spool.specs.declared.State.TheVariants.{Ready, Held, Refused, Sending}
@@ -14,10 +16,11 @@ use Rattle.njh_stream.specs.Sending.{file_in, aborted}
 use Rattle.njh_command.specs.declared.command.Command.{Command}
 use Rattle.njh_command.specs.declared.command.Command.TheVariants as commands
 use Rattle.njh_command.specs.Words.{command_of}
-use Rattle.njh_command.specs.Replies.{file_line, files_line, held, released, cancelled, rerouted_to, not_found, bad_command, being_sent}
+use Rattle.njh_command.specs.Replies.{file_line, files_line, held, released, cancelled, rerouted_to, not_found}
+use Rattle.njh_command.specs.Replies.{bad_command, being_sent}
 
--- What is answered, what is left in the spool, and the numbers of the files that were removed while they were being sent, in order of
--- arrival.
+-- What is answered, what is left in the spool, and the numbers of the files that were removed while they were being
+-- sent, in order of arrival.
 pub record Outcome : Type 0 where
   pub replies : List (List ℕ)
   pub spool : CustomerSpool

@@ -1,4 +1,5 @@
--- What the hub replies to a command, a definition a reply. NJH020 and NJH022 stand in njh_header, since notices say them too.
+-- What the hub replies to a command, a definition a reply. NJH020 and NJH022 stand in njh_header, since notices say
+-- them too.
 use Rattle.std.specs.Prelude.{ℕ, List, [], ◌∷◌, ◌++◌, length, Option, Some, None, codes}
 use Rattle.njh_ebcdic.specs.Names.{digits, ebcdic, trimmed}
 use Rattle.njh_record.specs.declared.Kind.{Kind}

@@ -1,5 +1,6 @@
 -- What a message of a user commands: its words, and the command that they are.
-use Rattle.std.specs.Prelude.{ℕ, Bool, List, [], ◌∷◌, length, map, filter, Option, Some, None, ◌==◌, nat_le, cond, not, ◌&&◌, bytes_eq}
+use Rattle.std.specs.Prelude.{ℕ, Bool, List, [], ◌∷◌, length, map, filter, Option, Some, None, ◌==◌, nat_le, cond, not}
+use Rattle.std.specs.Prelude.{◌&&◌, bytes_eq}
 use Rattle.std.specs.Prelude.{codes}
 use Rattle.std.specs.List.{list_all, slice_split}
 use Rattle.std.specs.Option.{option_map, option_and_then}

@@ -2,9 +2,11 @@
 //!
 //! A place is below the number of the customer's whole files: the caller's condition.
 
-ghost use Rattle.std.specs.Prelude.{◌≡◌, ◌+◌, ◌<◌, ◌≤◌, ℕ, length, slice_set, slice_get, slice_index_or, Some, IsSomeAnd};
+ghost use Rattle.std.specs.Prelude.{◌≡◌, ◌+◌, ◌<◌, ◌≤◌, ℕ, length, slice_set, slice_get, slice_index_or, Some};
+ghost use Rattle.std.specs.Prelude.{IsSomeAnd};
 ghost use Rattle.njh_record.specs.Bytes.{with_field};
-ghost use Rattle.njh_spool.specs.CustomerSpool.{WholeFile, whole_numbered, on_file, removed, at_index, rewritten_record};
+ghost use Rattle.njh_spool.specs.CustomerSpool.{WholeFile, whole_numbered, on_file, removed, at_index};
+ghost use Rattle.njh_spool.specs.CustomerSpool.{rewritten_record};
 ghost use Rattle.njh_spool.specs.Headers.{summary};
 ghost use Rattle.njh_spool.specs.Spools.{part};
 ghost use Rattle.njh_command.specs.Commands as commands;
@@ -64,7 +66,8 @@ pub(crate) fn summary_of(spool: &Spool, customer: u16, index: u32) -> FileSummar
     spool.summary_at(customer, index)
 }
 
-/// Puts the bytes of the file's n-th record in place of what `into` held, and gives its SRCB. The next record is read on from there.
+/// Puts the bytes of the file's n-th record in place of what `into` held, and gives its SRCB. The next record is read
+/// on from there.
 pub(crate) fn read_record(
     spool: &mut Spool,
     customer: u16,

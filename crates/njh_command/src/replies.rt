@@ -13,10 +13,12 @@ use std::marker::Model;
 /// The most replies to one command; those behind them aren't said.
 pub const MOST_REPLIES: usize = 64;
 
-/// The replies to a command, in order: messages in EBCDIC of at most 148 bytes. They are at most 64, and take no memory.
+/// The replies to a command, in order: messages in EBCDIC of at most 148 bytes. They are at most 64, and take no
+/// memory.
 #[derive(Debug, Drop)]
 pub struct Replies {
-    /// The replies, and behind them texts of earlier commands, in whose places later ones come: none is cleared for a command.
+    /// The replies, and behind them texts of earlier commands, in whose places later ones come: none is cleared for a
+    /// command.
     texts: ArrayVec<MessageText, MOST_REPLIES>,
     /// How many replies there are.
     count: usize,
@@ -33,7 +35,8 @@ impl Model for Replies {
 }
 
 impl Replies {
-    /// No replies yet. They take ten thousand bytes, so a caller makes room for them once, and lends it to each command.
+    /// No replies yet. They take ten thousand bytes, so a caller makes room for them once, and lends it to each
+    /// command.
     pub fn new() -> Self
         ensures { result ≡ [] }
     {

@@ -18,7 +18,8 @@ use njh_header::{MessageText, User, no_files_for, node_unknown};
 use njh_spool::Spool;
 use njh_table::{Route, Tables};
 
-/// Does what a message of a user to the hub says, or answers that it is no command. The user is told by node and user field.
+/// Does what a message of a user to the hub says, or answers that it is no command. The user is told by node and user
+/// field.
 pub fn obey<S: Senders>(
     message: &[u8],
     from: Name,
@@ -46,8 +47,9 @@ pub fn obey<S: Senders>(
     }
 }
 
-/// Does what a user commands, to the user's own whole files alone, in their order of arrival, and says what is replied. The user
-/// is told by node and user field. A file that is removed while it is being sent is given up by the customer's streams.
+/// Does what a user commands, to the user's own whole files alone, in their order of arrival, and says what is replied.
+/// The user is told by node and user field. A file that is removed while it is being sent is given up by the customer's
+/// streams.
 pub fn run<S: Senders>(
     command: Command,
     from: Name,

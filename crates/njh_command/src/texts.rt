@@ -120,8 +120,8 @@ pub(crate) fn put_file_line(text: &mut MessageText, file: &FileSummary)
     );
 }
 
-/// What NJH001 says of a file, behind its number: its name, destination, kind, number of records and state. It leaves out a name or a
-/// destination that there isn't.
+/// What NJH001 says of a file, behind its number: its name, destination, kind, number of records and state. It leaves
+/// out a name or a destination that there isn't.
 #[tactic(auto, unfolding(crate::specs::Replies::file_text))]
 pub fn file_text(
     name: Option<FileName>,

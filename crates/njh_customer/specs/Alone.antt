@@ -1,5 +1,6 @@
 -- A customer alone: what each frame and each signal on one of its lines does and sends.
-use Rattle.std.specs.Prelude.{ℕ, Bool, true, false, ◌&&◌, not, List, [], length, replicate, slice_set, Result, Ok, Err, nat_lt, cond}
+use Rattle.std.specs.Prelude.{ℕ, Bool, true, false, ◌&&◌, not, List, [], length, replicate, slice_set, Result, Ok, Err}
+use Rattle.std.specs.Prelude.{nat_lt, cond}
 use Rattle.njh_bisync.specs.Frames as frame
 use Rattle.njh_bisync.specs.Frames.{Received}
 use Rattle.njh_block.specs.Blocks.{Block, read_block, general_first}
@@ -50,7 +51,8 @@ quiet x = record x {
   served = 7;
 }
 
--- The files that it was sending may go again, and so may those that were refused and go by it; the files that came in on it are gone.
+-- The files that it was sending may go again, and so may those that were refused and go by it; the files that came in
+-- on it are gone.
 abbrev pub spool_over : CustomerEntry → ℕ → CustomerLine → CustomerSpool → CustomerSpool
 spool_over entry l x s = without_all_open x.receivers (tried_again entry l (all_ended x.senders s))
 

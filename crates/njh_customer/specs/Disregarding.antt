@@ -13,14 +13,14 @@ use Rattle.njh_customer.specs.Alone.{Step, silent, session_ended, frame_came, si
 abbrev pub session_on : ℕ → Customer → Session
 session_on l c = (line_at l c.lines).state.session
 
--- The customer is what it was but for the session of a line: its files, whole and partial, all streams of all its lines, and all that waits on
--- them.
+-- The customer is what it was but for the session of a line: its files, whole and partial, all streams of all its
+-- lines, and all that waits on them.
 pub record IsButSession (l : ℕ) (c d : Customer) : Type 0 where
   pub session : Session
   pub after : d ≡ record c { lines = on_line l (in_state (with_session session)) c.lines }
 
--- What is disregarded does nothing where no session is on, and in a session it moves nothing else; but where five tries were made, the session
--- ends.
+-- What is disregarded does nothing where no session is on, and in a session it moves nothing else; but where five tries
+-- were made, the session ends.
 pub record IsDisregarded (l : ℕ) (c : Customer) (s : Step) : Type 0 where
   pub down : in_session (session_on l c).phase ≡ false → s ≡ silent c
   pub goes_on : (session_on l c).tries ≢ 5 → IsButSession l c s.after

@@ -1,4 +1,5 @@
--- Bytes on one line: each frame that they make whole acts at once. The bytes come one by one, so it doesn't matter how they were cut.
+-- Bytes on one line: each frame that they make whole acts at once. The bytes come one by one, so it doesn't matter how
+-- they were cut.
 use Rattle.std.specs.Prelude.{ℕ, ◌+◌, List, [], ◌∷◌, ◌++◌, Option, Some, None}
 use Rattle.njh_bisync.specs.Frames.{Received}
 use Rattle.njh_bisync.specs.Reading.{Rest}

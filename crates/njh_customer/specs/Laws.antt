@@ -60,7 +60,8 @@ EventsKeepLines = (p : Part) (event : OwnEvent) → length (event_run p event).a
 
 -- ---- the marks of the lines
 
--- The lines that are marked as up are those that are up: so when the hub is opened, after each event, and after each step by bytes.
+-- The lines that are marked as up are those that are up: so when the hub is opened, after each event, and after each
+-- step by bytes.
 pub record MarksAreRight : Type 0 where
   pub fresh : (entry : CustomerEntry) → IsMarked (fresh_customer entry)
   pub events : (p : Part) (event : OwnEvent) → IsMarked p.customer → IsMarked (event_run p event).after.customer

@@ -1,6 +1,7 @@
--- What may happen to a customer's whole files and to its streams from the hub, one small thing at a time. All that comes on a line, and new
--- routes, lead from what they were to what they are by such moves and no others.
-use Rattle.std.specs.Prelude.{◌≡◌, ℕ, ◌+◌, Bool, true, List, [], ◌∷◌, ◌++◌, length, map, filter, find, replicate, Some, None, Ok, fold, cond, not}
+-- What may happen to a customer's whole files and to its streams from the hub, one small thing at a time. All that
+-- comes on a line, and new routes, lead from what they were to what they are by such moves and no others.
+use Rattle.std.specs.Prelude.{◌≡◌, ℕ, ◌+◌, Bool, true, List, [], ◌∷◌, ◌++◌, length, map, filter, find, replicate, Some}
+use Rattle.std.specs.Prelude.{None, Ok, fold, cond, not}
 use Rattle.std.specs.List.{Contains}
 use Rattle.njh_block.specs.Blocks.{Item, Data, Control, stream_of}
 use Rattle.njh_block.specs.Codes.{kind_of}
@@ -23,7 +24,8 @@ use Rattle.njh_command.specs.Words.{command_of}
 use Rattle.njh_command.specs.Commands.{changed_file, chosen, is_busy, rerouted, with_state, without_file}
 use Rattle.njh_customer.specs.Customer.{with_marks}
 use Rattle.njh_customer.specs.NewRoutes.{entry_with}
-use Rattle.njh_customer.specs.Outgoing.{Outgoing, each_stream, marked, record_numbered, stream_at, streams_of, with_files, with_stream, with_streams, without}
+use Rattle.njh_customer.specs.Outgoing.{Outgoing, each_stream, marked, record_numbered, stream_at, streams_of}
+use Rattle.njh_customer.specs.Outgoing.{with_files, with_stream, with_streams, without}
 
 -- ---- by a record that comes
 
@@ -131,7 +133,8 @@ pub data Moves (entry : CustomerEntry) (l : ℕ) (items : List Item) (x y : Outg
 
 -- ---- by new routes
 
--- The files that are Ready or Refused and whose node has no route are Held. Each other file stays what it was, and each stream.
+-- The files that are Ready or Refused and whose node has no route are Held. Each other file stays what it was, and each
+-- stream.
 abbrev pub routeless_held : CustomerEntry → Outgoing → Outgoing
 routeless_held entry x = with_files (map (λ f. cond (has_lost_route entry f) (held f) f) x.files) x
 

@@ -1,5 +1,6 @@
 -- What is said of how a customer's whole files and its streams from the hub move.
-use Rattle.std.specs.Prelude.{◌≡◌, ℕ, ◌+◌, ◌<◌, ◌⊎◌, Bool, true, false, List, [], find, flat_map, length, take, Some, None, Ok, Err}
+use Rattle.std.specs.Prelude.{◌≡◌, ℕ, ◌+◌, ◌<◌, ◌⊎◌, Bool, true, false, List, [], find, flat_map, length, take, Some}
+use Rattle.std.specs.Prelude.{None, Ok, Err}
 use Rattle.std.specs.List.{Contains}
 use Rattle.njh_bisync.specs.Fed.{frames_after}
 use Rattle.njh_bisync.specs.Frames.{Received}
@@ -38,8 +39,8 @@ FramesDoSo = (l : ℕ) (received : Received) (c : Customer) → Does l (records_
 abbrev pub SignalsDoSo : Type 0
 SignalsDoSo = (l : ℕ) (signal : Signal) (c : Customer) → Does l [] c (signal_came l signal c)
 
--- What new routes do. They send nothing, and leave all lines as they are, what waits on them, and the partial files. Without a fault they are
--- the customer's from then on; else nothing is changed.
+-- What new routes do. They send nothing, and leave all lines as they are, what waits on them, and the partial files.
+-- Without a fault they are the customer's from then on; else nothing is changed.
 pub record RoutesDo (p : Part) (routes : List NewRoute) (r : Run) : Type 0 where
   pub sent : r.sent ≡ []
   pub rests : r.after.rests ≡ p.rests
@@ -71,7 +72,8 @@ TakesMoveSo =
 
 -- ---- how a file leaves
 
--- A file of number n leaves by the command CANCEL of its owner by its name, or by C0 to the stream that sent its end of file.
+-- A file of number n leaves by the command CANCEL of its owner by its name, or by C0 to the stream that sent its end of
+-- file.
 pub data Leaves (entry : CustomerEntry) (l : ℕ) (items : List Item) (n : ℕ) (x : Outgoing) : Type 0 where
   cancelled :
       (i : Item) (who : List ℕ × List ℕ) (name : List ℕ × ℕ) (f : WholeFile) → Contains items i → Commands entry who (Cancel name) i
@@ -136,9 +138,9 @@ IdleStreamsTakeFiles =
 
 -- ---- what becomes of a file's records
 
--- A whole file after a move is one that was there, with its records; or it has just come; or it is one that was there and wasn't being sent,
--- and a command REROUTE of its owner by its name gave it another destination: each of its records is what it was, or has the eight bytes
--- of the node in the place of the destination's.
+-- A whole file after a move is one that was there, with its records; or it has just come; or it is one that was there
+-- and wasn't being sent, and a command REROUTE of its owner by its name gave it another destination: each of its
+-- records is what it was, or has the eight bytes of the node in the place of the destination's.
 pub data FileMoves (entry : CustomerEntry) (items : List Item) (x : Outgoing) (g : WholeFile) : Type 0 where
   stays :
       (f : WholeFile) → Contains x.files f → g.number ≡ f.number → g.kind ≡ f.kind → g.records ≡ f.records → FileMoves entry items x g

@@ -13,8 +13,8 @@ use Rattle.njh_customer.specs.Part.{Part}
 abbrev pub entry_with : List RouteEntry → CustomerEntry → CustomerEntry
 entry_with routes entry = record entry { routes = routes }
 
--- Its files that are Ready or Refused and whose node has no route now are Held. All else stays: the files that are being sent, the partial
--- files, which were judged by the routes that there were, and what waits on its lines.
+-- Its files that are Ready or Refused and whose node has no route now are Held. All else stays: the files that are
+-- being sent, the partial files, which were judged by the routes that there were, and what waits on its lines.
 abbrev pub given : List RouteEntry → Customer → Customer
 given routes c =
     let entry = entry_with routes c.entry in

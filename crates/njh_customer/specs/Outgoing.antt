@@ -1,5 +1,6 @@
 -- A customer's whole files, and its streams from the hub.
-use Rattle.std.specs.Prelude.{ℕ, Bool, List, [], map, filter, find, slice_get, slice_index_or, slice_set, Option, ◌==◌, cond, not}
+use Rattle.std.specs.Prelude.{ℕ, Bool, List, [], map, filter, find, slice_get, slice_index_or, slice_set, Option, ◌==◌}
+use Rattle.std.specs.Prelude.{cond, not}
 use Rattle.std.specs.List.{list_any}
 use Rattle.njh_record.specs.Stored.{Stored}
 use Rattle.njh_spool.specs.CustomerSpool.{WholeFile}

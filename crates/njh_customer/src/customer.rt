@@ -1,5 +1,5 @@
-//! What a frame or a signal on one of a customer's lines does. The frame that answers it is put into `out`, which is empty then where
-//! none does.
+//! What a frame or a signal on one of a customer's lines does. The frame that answers it is put into `out`, which is
+//! empty then where none does.
 
 ghost use Rattle.std.specs.Prelude.{◌≡◌, ◌<◌, ◌&&◌, length, not};
 ghost use Rattle.std.specs.Option.{option_map};

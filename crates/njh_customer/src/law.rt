@@ -5,8 +5,10 @@ ghost use Rattle.njh_table.specs.Entries.{CustomerEntry};
 ghost use Rattle.njh_customer.specs.Customer.{IsCoherent, fresh_customer};
 ghost use Rattle.njh_customer.specs.Disregarding.{BadBlocksAreDisregarded, GarbledIsDisregarded, SpoiledIsDisregarded};
 ghost use Rattle.njh_customer.specs.Laws.{CutsAreLike, FirstBytesSendFirst, NoBytesDoNothing, StepsFollowBytes};
-ghost use Rattle.njh_customer.specs.Laws.{EventsKeepEntries, EventsKeepFaults, EventsKeepLines, MarksAreRight, TakesKeepEntries};
-ghost use Rattle.njh_customer.specs.MovingLaws.{EventsMoveSo, FilesLeaveSo, FilesLeaveSoBetween, FramesDoSo, IdleStreamsTakeFiles};
+ghost use Rattle.njh_customer.specs.Laws.{EventsKeepEntries, EventsKeepFaults, EventsKeepLines, MarksAreRight};
+ghost use Rattle.njh_customer.specs.Laws.{TakesKeepEntries};
+ghost use Rattle.njh_customer.specs.MovingLaws.{EventsMoveSo, FilesLeaveSo, FilesLeaveSoBetween, FramesDoSo};
+ghost use Rattle.njh_customer.specs.MovingLaws.{IdleStreamsTakeFiles};
 ghost use Rattle.njh_customer.specs.MovingLaws.{RecordsChangeSo, RoutesDoSo, SignalsDoSo, StreamsMoveSo, TakesMoveSo};
 
 use njh_header::redirected_by_records;
@@ -37,8 +39,9 @@ pub fn first_bytes_send_first()
     ensures { FirstBytesSendFirst }
 {}
 
-/// An event changes a customer's routes and the marks of its lines alone in what the tables say of it, so the same routes may be given to it
-/// before the event and behind it; and it has as many lines. A step by bytes changes the marks alone.
+/// An event changes a customer's routes and the marks of its lines alone in what the tables say of it, so the same
+/// routes may be given to it before the event and behind it; and it has as many lines. A step by bytes changes the
+/// marks alone.
 pub fn events_keep_entries()
     ensures entry { EventsKeepEntries }
     ensures takes { TakesKeepEntries }
@@ -62,10 +65,11 @@ pub fn opened_is_coherent()
     streams_stay_tied();
 }
 
-/// What each frame and each signal does to the customer's whole files and to its streams from the hub: its records act, a frame goes out,
-/// and the session goes on or ends. A new block carries, under each stream's RCB, the stream's file from its place before the block to its
-/// place behind it, each record once and in order, and the end of file only behind the last. Any other frame moves nothing, the last
-/// transmission that goes out again among them. New routes move no line and send nothing.
+/// What each frame and each signal does to the customer's whole files and to its streams from the hub: its records act,
+/// a frame goes out, and the session goes on or ends. A new block carries, under each stream's RCB, the stream's file
+/// from its place before the block to its place behind it, each record once and in order, and the end of file only
+/// behind the last. Any other frame moves nothing, the last transmission that goes out again among them. New routes
+/// move no line and send nothing.
 pub fn frames_do_so()
     ensures frames { FramesDoSo }
     ensures signals { SignalsDoSo }
@@ -77,8 +81,9 @@ pub fn frames_do_so()
     nothing_where_all_is_suspended();
 }
 
-/// An event, and a step by bytes, move the customer's whole files and its streams from the hub by a few kinds of moves and no others. New
-/// routes move no stream, and of the files those alone that are Ready or Refused and whose node has no route by them: these are Held.
+/// An event, and a step by bytes, move the customer's whole files and its streams from the hub by a few kinds of moves
+/// and no others. New routes move no stream, and of the files those alone that are Ready or Refused and whose node has
+/// no route by them: these are Held.
 pub fn events_move_so()
     ensures events { EventsMoveSo }
     ensures takes { TakesMoveSo }
@@ -86,31 +91,32 @@ pub fn events_move_so()
     frames_do_so();
 }
 
-/// A whole file leaves the spool only by the command CANCEL of its owner by its name, or by C0 to the stream that has sent its end of file;
-/// by new routes none does.
+/// A whole file leaves the spool only by the command CANCEL of its owner by its name, or by C0 to the stream that has
+/// sent its end of file; by new routes none does.
 pub fn files_leave_so()
     ensures one { FilesLeaveSo }
     ensures between { FilesLeaveSoBetween }
 {}
 
-/// How a stream from the hub moves. It takes a file only where it is idle. A0 makes it send the file it asked for, from place 0 on. From then
-/// on its place moves only by the file's record at it going out in a new block, by one; and where there is no record at it the end of file
-/// goes out, and that alone makes it wait for C0. By new routes none moves.
+/// How a stream from the hub moves. It takes a file only where it is idle. A0 makes it send the file it asked for, from
+/// place 0 on. From then on its place moves only by the file's record at it going out in a new block, by one; and where
+/// there is no record at it the end of file goes out, and that alone makes it wait for C0. By new routes none moves.
 pub fn streams_move_so()
     ensures each { StreamsMoveSo }
     ensures taken { IdleStreamsTakeFiles }
 {}
 
-/// A whole file's records change by the command REROUTE of its owner by its name alone, in the eight bytes of a destination's node, and not
-/// while it is being sent. New routes change of a file at most its state, from Ready or Refused to Held.
+/// A whole file's records change by the command REROUTE of its owner by its name alone, in the eight bytes of a
+/// destination's node, and not while it is being sent. New routes change of a file at most its state, from Ready or
+/// Refused to Held.
 pub fn records_change_so()
     ensures { RecordsChangeSo }
 {
     redirected_by_records();
 }
 
-/// A text that is spoiled or is no block, and a block whose check failed, change no file, no stream and nothing that waits, on no line; but
-/// where five tries were made before, the line's session ends.
+/// A text that is spoiled or is no block, and a block whose check failed, change no file, no stream and nothing that
+/// waits, on no line; but where five tries were made before, the line's session ends.
 pub fn bad_texts_change_nothing()
     ensures spoiled { SpoiledIsDisregarded }
     ensures bad { BadBlocksAreDisregarded }

@@ -12,8 +12,8 @@ use njh_stream::{hold_unrouted, streams_stay_tied};
 use njh_table::Tables;
 
 impl Lines {
-    /// The tables have new routes for the customer: its files that are Ready or Refused and whose node has no route now are Held. Its
-    /// lines stay as they are, and no frame goes out.
+    /// The tables have new routes for the customer: its files that are Ready or Refused and whose node has no route now
+    /// are Held. Its lines stay as they are, and no frame goes out.
     pub fn take_routes(&self, customer: u16, tables: &Tables, spool: &mut Spool)
         requires known { customer < length tables.now.customers }
         requires spooled { customer < length spool.old }

@@ -3,8 +3,8 @@
 use njh_block::{Bcb, BlockWriter, Fcs};
 use njh_command::Replies;
 
-/// Room for the block that is being written, and for the replies to a command. Making it clears fourteen thousand bytes, so it is made
-/// once, and lent to each step.
+/// Room for the block that is being written, and for the replies to a command. Making it clears fourteen thousand
+/// bytes, so it is made once, and lent to each step.
 #[derive(Drop)]
 pub struct Room {
     pub(crate) block: BlockWriter,

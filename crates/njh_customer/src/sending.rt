@@ -1,4 +1,5 @@
-//! What a line sends. Every frame is put into `out`, which is empty then where none is sent, and the line keeps what it sent.
+//! What a line sends. Every frame is put into `out`, which is empty then where none is sent, and the line keeps what it
+//! sent.
 
 ghost use Rattle.std.specs.Prelude.{◌≡◌, ◌≤◌, ◌||◌};
 ghost use Rattle.njh_block.specs.Blocks.{all_suspended, same_fcs};

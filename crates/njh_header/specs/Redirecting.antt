@@ -13,9 +13,8 @@ abbrev pub is_after_header : Option ℕ → Bool
 is_after_header None = false
 is_after_header (Some before) = before == 0xe0
 
--- where a record names the file's destination, by the SRCB of the record before it: a job's file in its first record, an output file in
--- each
--- data set header that is no continuation
+-- where a record names the file's destination, by the SRCB of the record before it: a job's file in its first record,
+-- an output file in each data set header that is no continuation
 abbrev pub destination_place : Kind → Option ℕ → Stored → Option ℕ
 destination_place In None r = option_map (λ h. h.place) (result_ok (job_header r.bytes))
 destination_place In (Some before) r = None

@@ -1,6 +1,6 @@
--- The sections of a header (IBM SC23-0070): a prefix of four bytes, and sections, each with its length, of all its bytes, in its first
--- two bytes,
--- and its type and modifier in the next two. The first whose type and modifier are 00 00 is the general one.
+-- The sections of a header (IBM SC23-0070): a prefix of four bytes, and sections, each with its length, of all its
+-- bytes, in its first two bytes, and its type and modifier in the next two. The first whose type and modifier are 00 00
+-- is the general one.
 use Rattle.std.specs.Prelude.{◌≡◌, ◌≢◌, ℕ, ◌+◌, ◌<◌, ◌≤◌, ◌⊎◌, List, [], ◌++◌, length}
 use Rattle.std.specs.List.{flat_map, AllByRecursion}
 use Rattle.njh_record.specs.Bytes.{number_at}
@@ -44,8 +44,8 @@ pub record HasSmallGeneral (size : ℕ) (header : List ℕ) : Type 0 where
   pub begins : BeginsGeneral rest
   pub small : (number_at 0 rest < size) ⊎ (length rest < size)
 
--- something stands at the front, and it is less than a section's first four bytes, or a section shorter than these, or one of another kind
--- that isn't whole
+-- something stands at the front, and it is less than a section's first four bytes, or a section shorter than these, or
+-- one of another kind that isn't whole
 pub record IsCut (rest : List ℕ) : Type 0 where
   pub some_left : 0 < length rest
   pub short : (length rest < 4) ⊎ ((number_at 0 rest < 4) ⊎ ((number_at 2 rest ≢ 0) × (length rest < number_at 0 rest)))

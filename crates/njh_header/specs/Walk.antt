@@ -1,5 +1,5 @@
--- Where a header's general section begins, as a function over the sections one by one. It gives exactly what HasGeneral and LacksGeneral
--- say: the law `one_general_section`.
+-- Where a header's general section begins, as a function over the sections one by one. It gives exactly what HasGeneral
+-- and LacksGeneral say: the law `one_general_section`.
 use Rattle.std.specs.Prelude.{ℕ, zero, suc, ◌+◌, List, length, drop, Result, Ok, Err, ◌==◌, nat_lt, cond, ◌||◌}
 use Rattle.njh_record.specs.Bytes.{number_at}
 use Rattle.njh_header.specs.declared.fault.HeaderFault.{HeaderFault}

@@ -39,7 +39,8 @@ pub fn job_header_of<F: FileRecords>(file: &F) -> Option<JobHeader>
     }
 }
 
-/// The first data set header of a file: the first record behind its job header and the continuations of that, where it reads.
+/// The first data set header of a file: the first record behind its job header and the continuations of that, where it
+/// reads.
 pub fn data_set_header_of<F: FileRecords>(file: &F) -> Option<DataSetHeader>
     ensures { result ≡ headers.data_set_header_of (F.records file.now) }
 {

@@ -63,8 +63,9 @@ pub mod data_set {
     pub const DESTINATION_USER: usize = 12;
 }
 
-/// A sign-on from its length byte on, behind RCB and SRCB. Between these fields and behind them stand length (1) at 0, qualifier (1) at 9,
-/// event sequence (4), resistance (2), the node's own password (8) at 26, flag (1) and features (4).
+/// A sign-on from its length byte on, behind RCB and SRCB. Between these fields and behind them stand length (1) at 0,
+/// qualifier (1) at 9, event sequence (4), resistance (2), the node's own password (8) at 26, flag (1) and features
+/// (4).
 pub mod sign_on {
     /// What has to be there: all up to the block size.
     pub const SIZE: usize = 18;

@@ -20,16 +20,17 @@ pub record IsLike (c d : ℕ) (parts others : List Part) (events more : List Eve
   pub after : part c (hub_run parts events).parts ≡ part d (hub_run others more).parts
   pub sent : sent_to c (hub_run parts events).sent ≡ sent_to d (hub_run others more).sent
 
--- Two hubs with customers that stand alike, two lists of events with the same events of these: it doesn't matter which other customers
--- there are, what they hold, or which events of theirs come between.
+-- Two hubs with customers that stand alike, two lists of events with the same events of these: it doesn't matter which
+-- other customers there are, what they hold, or which events of theirs come between.
 abbrev pub TwoListsAreLike : Type 0
 TwoListsAreLike =
     (c d : ℕ) (parts others : List Part) (events more : List Event) →
     c < length parts → d < length others → part c parts ≡ part d others → events_of c events ≡ events_of d more →
     IsLike c d parts others events more
 
--- The headline: two hubs that were just opened, of tables that agree on a customer, and two lists of events with the same events of it. The
--- frames on its lines and its files are the same on both, and are those of the customer alone on a hub of its own.
+-- The headline: two hubs that were just opened, of tables that agree on a customer, and two lists of events with the
+-- same events of it. The frames on its lines and its files are the same on both, and are those of the customer alone on
+-- a hub of its own.
 abbrev pub CustomersNeverMeet : Type 0
 CustomersNeverMeet =
     (c d : ℕ) (entries others : List CustomerEntry) (events more : List Event) →
@@ -43,7 +44,8 @@ CustomersNeverMeet =
 abbrev pub OthersStay : Type 0
 OthersStay = (c : ℕ) (parts : List Part) (event : Event) → c ≢ customer_of event → part c (hub_event parts event).parts ≡ part c parts
 
--- A step on a customer's own line, or new routes of its own, do what they do on a hub of its own, whatever the others hold.
+-- A step on a customer's own line, or new routes of its own, do what they do on a hub of its own, whatever the others
+-- hold.
 abbrev pub OwnStepIsOwn : Type 0
 OwnStepIsOwn =
     (parts : List Part) (event : Event) → customer_of event < length parts →

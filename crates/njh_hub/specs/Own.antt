@@ -1,5 +1,6 @@
 -- What of a list of events is one customer's, and what of the frames that were sent.
-use Rattle.std.specs.Prelude.{ℕ, zero, suc, List, [], ◌∷◌, ◌++◌, ◌==◌, cond, take, length, Option, Some, None, slice_get}
+use Rattle.std.specs.Prelude.{ℕ, zero, suc, List, [], ◌∷◌, ◌++◌, ◌==◌, cond, take, length, Option, Some, None}
+use Rattle.std.specs.Prelude.{slice_get}
 use Rattle.njh_table.specs.declared.LineId.{LineId}
 use Rattle.njh_table.specs.declared.new_routes.RouteEntry.{RouteEntry}
 use Rattle.njh_table.specs.NewRoutes.{own_routes}

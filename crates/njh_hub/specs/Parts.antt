@@ -35,8 +35,8 @@ part_held table files lines c = part_with (entry_of (customer_at table c)) (spoo
 abbrev pub parts_of : TableFile → List CustomerSpool → List Lines → List Part
 parts_of table files lines = map (part_held table files lines) (range_with_len 0 (length table.customers))
 
--- What the hub keeps belongs together: files and lines of as many customers as the table has, each of which is coherent, and the lines that
--- the table marks as up are those that are up.
+-- What the hub keeps belongs together: files and lines of as many customers as the table has, each of which is
+-- coherent, and the lines that the table marks as up are those that are up.
 pub record IsHub (table : TableFile) (files : List CustomerSpool) (lines : List Lines) : Type 0 where
   pub spooled : length files ≡ length table.customers
   pub lined : length lines ≡ length table.customers

@@ -1,5 +1,6 @@
 -- A service: rounds of turns, and new routes between them.
-use Rattle.std.specs.Prelude.{◌≡◌, ℕ, ◌<◌, ◌≤◌, ◌==◌, cond, List, [], ◌∷◌, ◌++◌, length, Option, Some, None, ⊤, slice_index_or, All}
+use Rattle.std.specs.Prelude.{◌≡◌, ℕ, ◌<◌, ◌≤◌, ◌==◌, cond, List, [], ◌∷◌, ◌++◌, length, Option, Some, None, ⊤}
+use Rattle.std.specs.Prelude.{slice_index_or, All}
 use Rattle.std.specs.List.{flat_map}
 use Rattle.njh_table.specs.declared.LineId.{LineId}
 use Rattle.njh_table.specs.declared.new_routes.RouteEntry.{RouteEntry}
@@ -69,8 +70,8 @@ ArePossible parts lines quiets [] = ⊤
 ArePossible parts lines quiets (happening ∷ story) = IsPossible parts happening
     × ArePossible (hub_run parts (happening_events lines quiets happening)).parts lines (happening_quiets quiets happening) story
 
--- A service of so many rounds: each wire had one turn in each, in their order, and nothing else passed on it; the hub was told of these
--- turns, of new routes that it could give, and of nothing else.
+-- A service of so many rounds: each wire had one turn in each, in their order, and nothing else passed on it; the hub
+-- was told of these turns, of new routes that it could give, and of nothing else.
 pub record IsAttended {S : Type 0} (passed : S → S → List WireAct → Type 0) (count : S → ℕ) (lines : List LineId) (turns : ℕ)
     (parts : List Part) (quiets : List ℕ) (wires : List S) (new : List Part) (new_quiets : List ℕ) (new_wires : List S) : Type 0 where
   pub story : List Happening

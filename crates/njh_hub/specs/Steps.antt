@@ -1,13 +1,14 @@
 -- A step on one line of the hub, and what comes of it.
-use Rattle.std.specs.Prelude.{◌≡◌, ◌≢◌, ℕ, ◌+◌, ◌<◌, ◌≤◌, List, slice_set, Result, Err, OnOk, OnErr, Vec, vec_len, vec_capacity}
+use Rattle.std.specs.Prelude.{◌≡◌, ◌≢◌, ℕ, ◌+◌, ◌<◌, ◌≤◌, List, slice_set, Result, Err, OnOk, OnErr, Vec, vec_len}
+use Rattle.std.specs.Prelude.{vec_capacity}
 use Rattle.njh_bisync.specs.declared.frame.TheConstants.{LONGEST_FRAME}
 use Rattle.njh_table.specs.declared.LineId.{LineId}
 use Rattle.njh_hub.specs.declared.fault.HubFault.{HubFault}
 use Rattle.njh_hub.specs.declared.fault.HubFault.TheVariants.{UnknownLine, Memory}
 use Rattle.njh_hub.specs.Whole.{Part, part, HasLine, SameLines}
 
--- A step on a line leads that line's customer to `after` and no other anywhere, and puts what it sent in the place of what `out` held;
--- or it is refused, and nothing has changed.
+-- A step on a line leads that line's customer to `after` and no other anywhere, and puts what it sent in the place of
+-- what `out` held; or it is refused, and nothing has changed.
 pub record IsStep {A Z : Type 0} (parts : List Part) (line : LineId) (after : Part) (sent : List ℕ) (out : Vec ℕ Z)
     (result : Result A HubFault) (new : List Part) (new_out : Vec ℕ Z) : Type 0 where
   pub hub : OnOk result (new ≡ slice_set parts line.customer after)

@@ -1,5 +1,6 @@
 -- How far a run came, and why it stopped.
-use Rattle.std.specs.Prelude.{◌≡◌, ℕ, ◌<◌, ◌≤◌, ◌⊎◌, List, [], ◌∷◌, ◌++◌, length, Result, Ok, Err, OnOk, IfErr, Vec, vec_capacity, ⊤}
+use Rattle.std.specs.Prelude.{◌≡◌, ℕ, ◌<◌, ◌≤◌, ◌⊎◌, List, [], ◌∷◌, ◌++◌, length, Result, Ok, Err, OnOk, IfErr, Vec}
+use Rattle.std.specs.Prelude.{vec_capacity, ⊤}
 use Rattle.std.specs.Prelude.{IsSome, IsSomeAnd}
 use Rattle.njh_bisync.specs.declared.frame.TheConstants.{LONGEST_FRAME}
 use Rattle.njh_table.specs.declared.LineId.{LineId}
@@ -19,8 +20,8 @@ abbrev pub done : {A : Type 0} → List Event → Result A RunFault → List Eve
 done events (Ok x) = events
 done events (Err fault) = first_of events fault.events fault.bytes
 
--- Why the hub refuses an event: it has no such line; it has no such customer; that customer can't have the routes; or there was no memory
--- for an event that names what is there.
+-- Why the hub refuses an event: it has no such line; it has no such customer; that customer can't have the routes; or
+-- there was no memory for an event that names what is there.
 abbrev pub IsRefused : List Part → Event → HubFault → Type 0
 IsRefused parts event UnknownLine = IsSomeAnd (line_of event) (λ line. HasLine parts line → ⊥)
 IsRefused parts event UnknownCustomer = IsSomeAnd (routes_of event) (λ given. given.0 < length parts → ⊥)

@@ -80,7 +80,8 @@ impl Model for Records {
 }
 
 impl Records {
-    /// The records of the file of a number, whole or partial; none where there is no such file. Out of memory is the only refusal.
+    /// The records of the file of a number, whole or partial; none where there is no such file. Out of memory is the
+    /// only refusal.
     fn of(alloc: Global, spool: &Spool, customer: u16, file: FileId) -> Result<Records, AllocError>
         requires { customer < length spool.now }
         ensures { IfOk result (λ records. records ≡ records_in file (part customer spool.now)) }

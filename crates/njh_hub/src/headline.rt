@@ -15,7 +15,8 @@ use std::alloc::Global;
 
 /// Opens a hub of these tables, works off the events, and gives a customer's files.
 ///
-/// Where all of that was done, the frames on the customer's lines and its files are those of the customer alone on a hub of its own.
+/// Where all of that was done, the frames on the customer's lines and its files are those of the customer alone on a
+/// hub of its own.
 pub fn outcome<S: Sink>(
     alloc: Global,
     tables: Tables,
@@ -40,8 +41,9 @@ pub fn outcome<S: Sink>(
     }
 }
 
-/// Two such runs, of tables that agree on a customer and of events with the same events of it: the frames on its lines are equal, and so
-/// are its files. Its number may differ between the two; all other customers, and all their events, are free.
+/// Two such runs, of tables that agree on a customer and of events with the same events of it: the frames on its lines
+/// are equal, and so are its files. Its number may differ between the two; all other customers, and all their events,
+/// are free.
 pub fn two_runs<S: Sink, Z: Sink>(
     alloc: Global,
     tables: Tables,

@@ -23,7 +23,8 @@ use std::alloc::Global;
 use std::marker::Model;
 use std::mem;
 
-/// Customers with files and lines of their own, over one table and one spool. A caller sees it as the list of the customers' parts.
+/// Customers with files and lines of their own, over one table and one spool. A caller sees it as the list of the
+/// customers' parts.
 #[derive(Drop)]
 pub struct Hub {
     tables: Tables,
@@ -51,8 +52,8 @@ impl Hub {
     ghost use Rattle.njh_hub.specs.Whole.{opened};
     ghost use Rattle.njh_hub.specs.Parts.{entries_of};
 
-    /// A hub of these tables, with all the room that its files and lines need. No line is up at first, whatever the tables held. Want of
-    /// memory is the only refusal.
+    /// A hub of these tables, with all the room that its files and lines need. No line is up at first, whatever the
+    /// tables held. Want of memory is the only refusal.
     pub fn open(alloc: Global, tables: Tables) -> Result<Hub, HubFault>
         ensures opened { IfOk result (λ hub. hub ≡ map opened (entries_of tables)) }
         ensures memory { OnErr result (result ≡ Err HubFault.Memory) }
@@ -100,7 +101,8 @@ impl Hub {
         Ok(files)
     }
 
-    /// How many blocks a customer's files take, partial ones too: at most its quota. `UnknownCustomer` where the hub has no such customer.
+    /// How many blocks a customer's files take, partial ones too: at most its quota. `UnknownCustomer` where the hub
+    /// has no such customer.
     pub fn used(&self, customer: u16) -> Result<u32, HubFault>
         ensures used { IfOk result (λ blocks. blocks ≡ used (part customer self.now).customer.spool) }
         ensures quota { IfOk result (λ blocks. blocks ≤ (part customer self.now).customer.entry.quota) }
@@ -114,7 +116,8 @@ impl Hub {
         Ok(self.spool.used(customer))
     }
 
-    /// Which of a customer's lines count as up where a route has a second line: those whose sessions are up, and no others.
+    /// Which of a customer's lines count as up where a route has a second line: those whose sessions are up, and no
+    /// others.
     pub fn marks_hold(&self, customer: u16)
         requires { customer < length self.now }
         ensures { IsMarked (part customer self.now).customer }
@@ -127,10 +130,11 @@ impl Hub {
         self.alloc
     }
 
-    /// One step by bytes of a line: those up to the end of the first frame that is answered, or all. Answers how many were taken, and
-    /// puts the frame that is sent in the place of what `out` held; nothing where none is.
+    /// One step by bytes of a line: those up to the end of the first frame that is answered, or all. Answers how many
+    /// were taken, and puts the frame that is sent in the place of what `out` held; nothing where none is.
     ///
-    /// `UnknownLine` comes where the hub has no such line, `Memory` where `out` found no room for a frame past what it held.
+    /// `UnknownLine` comes where the hub has no such line, `Memory` where `out` found no room for a frame past what it
+    /// held.
     pub fn take(&mut self, line: LineId, piece: &[u8], out: &mut Vec<u8>) -> Result<usize, HubFault>
         ensures taken { IfOk result (λ taken. taken ≡ (bytes_taken (part line.customer self.old) line.line piece.now).taken) }
         ensures progress { IfOk result (λ taken. (0 < length piece.now → 0 < taken) × (taken ≤ length piece.now)) }

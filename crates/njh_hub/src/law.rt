@@ -1,22 +1,25 @@
 //! Laws of the definitions: what holds of all runs, whoever computes them.
 
-ghost use Rattle.njh_hub.specs.Laws.{EachIsAlone, TwoListsAreLike, CustomersNeverMeet, OthersStay, OwnStepIsOwn, SentInOrder};
+ghost use Rattle.njh_hub.specs.Laws.{EachIsAlone, TwoListsAreLike, CustomersNeverMeet, OthersStay, OwnStepIsOwn};
+ghost use Rattle.njh_hub.specs.Laws.{SentInOrder};
 
 use njh_customer::first_bytes_send_first;
 
-/// Whatever events come, each customer's part of the hub and the frames on its lines are those of that customer alone over its own
-/// events.
+/// Whatever events come, each customer's part of the hub and the frames on its lines are those of that customer alone
+/// over its own events.
 pub fn each_is_alone()
     ensures { EachIsAlone }
 {}
 
-/// Any two lists of events with the same events of a customer lead it to the same frames and the same part, on hubs where it stands alike.
+/// Any two lists of events with the same events of a customer lead it to the same frames and the same part, on hubs
+/// where it stands alike.
 pub fn two_lists_are_like()
     ensures { TwoListsAreLike }
 {}
 
-/// The headline: on any two hubs that were just opened on tables that agree on a customer, after any two lists of events with the same
-/// events of that customer, the frames on its lines and its files are equal, and are those of that customer alone on a hub of its own.
+/// The headline: on any two hubs that were just opened on tables that agree on a customer, after any two lists of
+/// events with the same events of that customer, the frames on its lines and its files are equal, and are those of that
+/// customer alone on a hub of its own.
 pub fn customers_never_meet()
     ensures { CustomersNeverMeet }
 {}

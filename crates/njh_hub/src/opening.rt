@@ -1,4 +1,5 @@
-//! What a hub keeps of its tables, just opened: these without marks, a spool under its customers' quotas, and their lines.
+//! What a hub keeps of its tables, just opened: these without marks, a spool under its customers' quotas, and their
+//! lines.
 
 ghost use Rattle.std.specs.Prelude.{◌≡◌, ℕ, ◌<◌, length, map, IfOk, OnErr, Err};
 ghost use Rattle.njh_customer.specs.Part.{opened, part_with};
@@ -56,7 +57,8 @@ fn quota_of(customer: &Customer) -> Quota
     }
 }
 
-/// The lines of each customer of the tables, each down, with no stream about a file. Want of memory is the only refusal.
+/// The lines of each customer of the tables, each down, with no stream about a file. Want of memory is the only
+/// refusal.
 pub(crate) fn open_lines(alloc: Global, tables: &Tables) -> Result<Vec<Lines>, AllocError>
     ensures count { IfOk result (λ lines. length lines.items ≡ length tables.now.customers) }
     ensures opened { IfOk result (λ lines. (c : ℕ) → c < length tables.now.customers →

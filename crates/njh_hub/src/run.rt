@@ -1,6 +1,7 @@
 //! Runs over lists of events.
 
-ghost use Rattle.std.specs.Prelude.{◌≡◌, ℕ, ◌+◌, ◌<◌, ◌≤◌, List, [], ◌∷◌, ◌⊎◌, length, slice_get, take, OnOk, OnErr, IfErr, IsSomeAnd, All};
+ghost use Rattle.std.specs.Prelude.{◌≡◌, ℕ, ◌+◌, ◌<◌, ◌≤◌, List, [], ◌∷◌, ◌⊎◌, length, slice_get, take, OnOk, OnErr};
+ghost use Rattle.std.specs.Prelude.{IfErr, IsSomeAnd, All};
 ghost use Rattle.njh_customer.specs.Feeding.{sent_on};
 ghost use Rattle.njh_customer.specs.Runs.{alone_run};
 ghost use Rattle.njh_hub.specs.Own.{events_of, event_by, sent_to, bytes_in_event};
@@ -21,8 +22,8 @@ impl Hub {
 
     /// Works off the events in order, and hands each frame that is sent to the sink. Stops at the first fault.
     ///
-    /// For every customer, whatever the others do: its part of the hub is what its own events lead it to by itself, and the sink was
-    /// handed on its lines what it sends by itself.
+    /// For every customer, whatever the others do: its part of the hub is what its own events lead it to by itself, and
+    /// the sink was handed on its lines what it sends by itself.
     pub fn run<S: Sink>(&mut self, events: &[Event], sink: &mut S) -> Result<(), RunFault>
         // For each customer: its part, and in order the frames on its lines, are those of that customer alone.
         ensures parts { (c : ℕ) → c < length self.old →
@@ -38,7 +39,8 @@ impl Hub {
         ensures customers { length self.new ≡ length self.old }
         ensures lines { SameLines self.old self.new }
 
-        // When it stops, and where: every event before the stop names a line of the hub, or a customer of it with routes that aren't refused.
+        // When it stops, and where: every event before the stop names a line of the hub, or a customer of it with
+        // routes that aren't refused.
         ensures known { OnOk result (All (IsNamed self.old) events.now) }
         ensures before { IfErr result (λ fault. All (IsNamed self.old) (take fault.events events.now)) }
         ensures few { IfErr result (λ fault. fault.events ≤ length events.now) }
@@ -150,7 +152,8 @@ impl Hub {
     }
 }
 
-/// Where a run stands whose sink refused the frame of a step that took bytes up to here: the event is done with its last step.
+/// Where a run stands whose sink refused the frame of a step that took bytes up to here: the event is done with its
+/// last step.
 fn after_sink(taken: usize, len: usize) -> RunFault
     ensures cause { result.cause ≡ Cause.Sink }
     ensures whole { len ≤ taken → (result.events ≡ 1) × (result.bytes ≡ 0) }

@@ -1,5 +1,5 @@
--- The count rule (IBM SC23-0070, multileaving). All that a session knows for it is its last BCB: that of the last block acted on,
--- those whose count isn't checked aside.
+-- The count rule (IBM SC23-0070, multileaving). All that a session knows for it is its last BCB: that of the last block
+-- acted on, those whose count isn't checked aside.
 use Rattle.std.specs.Prelude.{ℕ, ◌+◌, ◌/◌, ◌%◌, Bool, false, Option, Some, None, ◌==◌, cond, ◌||◌}
 use Rattle.njh_line.specs.declared.counts.Counted.{Counted}
 use Rattle.njh_line.specs.declared.counts.Counted.TheVariants.{Acts, Repeats, OutOfSequence}

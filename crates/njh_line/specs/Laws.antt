@@ -17,7 +17,8 @@ is_disregarded Bad = true
 is_disregarded Garbled = true
 is_disregarded _ = false
 
--- Nothing of the session moved but its tries: not its phase, turn, BCB, count, size, nor either FCS. It goes on, and no record acts.
+-- Nothing of the session moved but its tries: not its phase, turn, BCB, count, size, nor either FCS. It goes on, and no
+-- record acts.
 pub record MovesTriesAlone (s : Session) (x : Outcome) : Type 0 where
   pub session : x.session ≡ record s { tries = x.session.tries }
   pub ended : x.verdict.ended ≡ false

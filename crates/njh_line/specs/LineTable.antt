@@ -14,7 +14,8 @@ use Rattle.njh_line.specs.declared.opening.Opening.TheVariants.{Initial, Respons
 use Rattle.njh_line.specs.declared.session.Session.{Session}
 use Rattle.njh_line.specs.declared.table.Outcome.{Outcome}
 use Rattle.njh_line.specs.declared.verdict.Reply.{Reply}
-use Rattle.njh_line.specs.declared.verdict.Reply.TheVariants.{Nothing, Control, Again, SignOn as SendSignOn, Sequence, Next}
+use Rattle.njh_line.specs.declared.verdict.Reply.TheVariants.{Nothing, Control, Again, SignOn as SendSignOn, Sequence}
+use Rattle.njh_line.specs.declared.verdict.Reply.TheVariants.{Next}
 use Rattle.njh_line.specs.Counts.{counted, expected, after_acting}
 use Rattle.njh_line.specs.Openings.{First, fitting, shown_first}
 use Rattle.njh_line.specs.Sessions.{entered, acknowledged, down}

@@ -1,5 +1,6 @@
 -- The sign-ons of a session (IBM SC23-0070): I of the end that calls, J of the one that answers.
-use Rattle.std.specs.Prelude.{ℕ, Bool, true, List, [], ◌∷◌, Option, Some, None, Ok, Err, ◌==◌, nat_le, cond, ◌&&◌, bytes_eq}
+use Rattle.std.specs.Prelude.{ℕ, Bool, true, List, [], ◌∷◌, Option, Some, None, Ok, Err, ◌==◌, nat_le, cond, ◌&&◌}
+use Rattle.std.specs.Prelude.{bytes_eq}
 use Rattle.std.specs.Borrow.{Bor}
 use Rattle.njh_block.specs.Blocks.{General, text_of}
 use Rattle.njh_header.specs.SignOns.{SignOn, sign_on, sign_on_bytes}

@@ -12,8 +12,9 @@ ghost use Rattle.njh_line.specs.Openings.{First};
 ghost use Rattle.njh_line.specs.Sessions.{in_session};
 ghost use Rattle.njh_line.specs.Up.{InputsKeepUp};
 
-/// A text to be disregarded, one that is no block, and a block whose check failed move nothing but the tries; where five were made
-/// before, the session ends. No input changes a line but in its session: not the last transmission, nor what waits.
+/// A text to be disregarded, one that is no block, and a block whose check failed move nothing but the tries; where
+/// five were made before, the session ends. No input changes a line but in its session: not the last transmission, nor
+/// what waits.
 pub fn disregarded_changes_nothing()
     ensures rest { (line : LineState) (input : Input) → KeepsRest line (after_input input line) }
     ensures stays { (line : Config) (s : Session) (input : Input) → is_disregarded input ≡ true → s.tries < 5
@@ -22,8 +23,8 @@ pub fn disregarded_changes_nothing()
         → accepted line input s ≡ end s }
 {}
 
-/// A repeat acts on nothing and is a try, with the last transmission again. Only a block with the BCB of the last one acted on repeats,
-/// and it always does.
+/// A repeat acts on nothing and is a try, with the last transmission again. Only a block with the BCB of the last one
+/// acted on repeats, and it always does.
 pub fn repeats_are_tries()
     ensures tries { (line : Config) (s : Session) (bcb : ℕ) (fcs : ℕ × ℕ) (first : First) → in_session s.phase ≡ true
         → counted s.last_bcb bcb ≡ Repeats → accepted line (Block bcb fcs first) s ≡ try_again s }
@@ -39,7 +40,8 @@ pub fn tries_stay()
         → sets_tries input s ≡ false → s.tries ≤ (accepted line input s).session.tries }
 {}
 
-/// Within a session the counts taken are those of the BCB of the last block acted on whose count isn't unchecked, and of nothing else.
+/// Within a session the counts taken are those of the BCB of the last block acted on whose count isn't unchecked, and
+/// of nothing else.
 pub fn counts_are_of_the_last_block()
     ensures kept { (line : Config) (s : Session) (input : Input) → in_session s.phase ≡ true → (accepted line input s).verdict.ended ≡ false
         → (accepted line input s).session.last_bcb ≡ last_bcb_after input s }

@@ -23,7 +23,8 @@ const ANSWERS: usize = 32;
 /// How many nodal messages may wait.
 const MESSAGES: usize = 64;
 
-/// A line: its session, the last frame that it sent, NAKs aside, and what waits to be sent. All its memory is reserved by `new`.
+/// A line: its session, the last frame that it sent, NAKs aside, and what waits to be sent. All its memory is reserved
+/// by `new`.
 #[derive(Drop)]
 pub struct Line {
     config: Config,
@@ -63,8 +64,8 @@ impl Line {
     ghost use Rattle.njh_line.specs.Lines.{IsShort, after_end, after_input, after_sending, fresh_line, shown_sent};
     ghost use Rattle.njh_line.specs.Lines.{with_answer, with_message, without_answer, without_answers, without_message};
 
-    /// A line that is down, with room for all that may wait and for the longest frame. Want of memory is the only refusal, and no
-    /// other call takes any.
+    /// A line that is down, with room for all that may wait and for the longest frame. Want of memory is the only
+    /// refusal, and no other call takes any.
     pub fn new(alloc: Global, config: Config) -> Result<Line, AllocError>
         requires { IsConfig config }
         ensures { IfOk result (λ line. line ≡ fresh_line config) }
@@ -78,7 +79,8 @@ impl Line {
         })
     }
 
-    /// Decides by the line table what an input does. The hub then does what the verdict says, and tells by `sent` what it sent.
+    /// Decides by the line table what an input does. The hub then does what the verdict says, and tells by `sent` what
+    /// it sent.
     pub fn accept(&mut self, input: &Input<'_>) -> Verdict
         ensures verdict { result ≡ (accepted self.old.config (shown input.now) self.old.session).verdict }
         ensures line { self.new ≡ after_input (shown input.now) self.old }
@@ -95,8 +97,8 @@ impl Line {
         self.session.phase = Phase::Down;
     }
 
-    /// Keeps what was sent: the turn, the hub's own count and function control sequence, and a frame byte for byte, since it may be
-    /// sent again.
+    /// Keeps what was sent: the turn, the hub's own count and function control sequence, and a frame byte for byte,
+    /// since it may be sent again.
     pub fn sent(&mut self, sent: &Sent<'_>)
         requires { IsShort (shown_sent sent.now) }
         ensures { self.new ≡ after_sending (shown_sent sent.now) self.old }

@@ -1,10 +1,12 @@
 -- The arguments of the command line.
-use Rattle.std.specs.Prelude.{◌≡◌, ◌↔◌, ◌⊎◌, ℕ, pos, List, [], ◌∷◌, codes, true, Option, Some, None, option_map, IsSomeAnd, IsTrue, ⊤}
+use Rattle.std.specs.Prelude.{◌≡◌, ◌↔◌, ◌⊎◌, ℕ, pos, List, [], ◌∷◌, codes, true, Option, Some, None, option_map}
+use Rattle.std.specs.Prelude.{IsSomeAnd, IsTrue, ⊤}
 use Rattle.std.specs.Net.Grammar.{IsIpText}
 use Rattle.std.specs.declared.net.ip_addr.IpAddr.{IpAddr}
 use Rattle.std.specs.Str.Parse.{IsNumeral, digits_value, without_leading_plus}
 use Rattle.clap.specs.declared.builder.value_parser.ValueParser.TheVariants.{Signed}
-use Rattle.clap.specs.Words.{App, HasKind, Row, Rule, Text, fault_of, first_of, kind_of, new_app, new_rule, subcommand_of}
+use Rattle.clap.specs.Words.{App, HasKind, Row, Rule, Text, fault_of, first_of, kind_of, new_app, new_rule}
+use Rattle.clap.specs.Words.{subcommand_of}
 use Rattle.clap.specs.Words.{subcommand_rows_of, with_rule, with_subcommand}
 use Rattle.clap.specs.declared.builder.ArgAction.TheVariants.{Set, SetTrue}
 use Rattle.clap.specs.declared.error.Error.{Error}
@@ -27,8 +29,8 @@ tables_rule = record (new_rule (codes "tables")) { long = Some (codes "tables");
 abbrev pub replay_app : App
 replay_app = with_rule (new_app (codes "replay")) tables_rule
 
--- the options of `serve`: a table file, which it must have, a number of turns, and an address, which is this machine's own where none is
--- given
+-- the options of `serve`: a table file, which it must have, a number of turns, and an address, which is this machine's
+-- own where none is given
 abbrev pub wanted_tables_rule : Rule
 wanted_tables_rule = record tables_rule { required = true }
 

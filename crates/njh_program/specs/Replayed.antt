@@ -1,5 +1,6 @@
 -- What a replay answers.
-use Rattle.std.specs.Prelude.{◌≡◌, ℕ, ◌<◌, ◌≤◌, List, ◌++◌, length, map, take, slice_get, Option, IfSome, IsSomeAnd, Ok, Err, ⊤}
+use Rattle.std.specs.Prelude.{◌≡◌, ℕ, ◌<◌, ◌≤◌, List, ◌++◌, length, map, take, slice_get, Option, IfSome, IsSomeAnd, Ok}
+use Rattle.std.specs.Prelude.{Err, ⊤}
 use Rattle.std.specs.Io.KnownBytes.{Appends}
 use Rattle.njh_table.specs.TableFile.{TableFile}
 use Rattle.njh_hub.specs.Parts.{entries_of}
@@ -28,8 +29,8 @@ HasTooLong left = IfSome left (λ text. LIMIT < length text)
 abbrev pub HasBadLine : TableFile → Option (List ℕ) → ℕ → Type 0
 HasBadLine tables left number = IfSome left (λ text. (length text ≤ LIMIT) × (script_of tables text ≡ Err number))
 
--- the text of what a hub sends and then holds by these events: the frames with their lines' names, and the files of the customers of
--- these names, from the first on
+-- the text of what a hub sends and then holds by these events: the frames with their lines' names, and the files of the
+-- customers of these names, from the first on
 abbrev pub text_by : List (List (List ℕ)) → List Part → List Event → List (List ℕ) → List ℕ
 text_by names parts events customers =
     let x = hub_run parts events in text_of names x.sent ++ files_from 0 customers x.parts
@@ -46,14 +47,14 @@ text_of_run tables events = text_with tables events (customers_of tables)
 abbrev pub SameParts : (parts others : List Part) → ℕ → Type 0
 SameParts parts others count = (c : ℕ) → c < count → part c others ≡ part c parts
 
--- A script was replayed: what a reader had left is a good script, and the text of the run over its events came after what had
--- been written; each where that is known.
+-- A script was replayed: what a reader had left is a good script, and the text of the run over its events came after
+-- what had been written; each where that is known.
 abbrev pub IsReplayed : (tables : TableFile) (left old new : Option (List ℕ)) → Type 0
 IsReplayed tables left old new = (events : List Event) × HasScript tables left events
     × Appends old new (text_of_run tables events)
 
--- A script was replayed in part: it is a good script, and a beginning of the text of the run over its events came after what had been
--- written; each where that is known.
+-- A script was replayed in part: it is a good script, and a beginning of the text of the run over its events came after
+-- what had been written; each where that is known.
 abbrev pub IsBegun : (tables : TableFile) (left old new : Option (List ℕ)) → Type 0
 IsBegun tables left old new = (events : List Event) × HasScript tables left events
     × AppendsBeginning old new (text_of_run tables events)
@@ -63,14 +64,14 @@ abbrev pub IsSentUpTo : (names : List (List (List ℕ))) (parts : List Part) (ev
 IsSentUpTo names parts events old new = (count : ℕ) × IsSomeAnd (slice_get events count) IsRoutes
     × Appends old new (text_of names (hub_run parts (take count events)).sent)
 
--- A script was replayed up to an event that gives routes: it is a good script, and the frames of the events before that one came after
--- what had been written; each where that is known.
+-- A script was replayed up to an event that gives routes: it is a good script, and the frames of the events before that
+-- one came after what had been written; each where that is known.
 abbrev pub IsReplayedToRoutes : (tables : TableFile) (left old new : Option (List ℕ)) → Type 0
 IsReplayedToRoutes tables left old new = (events : List Event) × HasScript tables left events
     × IsSentUpTo (names_of tables) (map opened (entries_of tables)) events old new
 
--- A script was replayed up to a customer's files: it is a good script, and the text of the run over its events came after what had been
--- written, with the files of the customers before that one; each where that is known.
+-- A script was replayed up to a customer's files: it is a good script, and the text of the run over its events came
+-- after what had been written, with the files of the customers before that one; each where that is known.
 abbrev pub IsReplayedUpTo : (tables : TableFile) (left old new : Option (List ℕ)) → Type 0
 IsReplayedUpTo tables left old new = (events : List Event) × HasScript tables left events
     × IsPrintedUpTo (customers_of tables) old new (text_with tables events)

@@ -1,5 +1,6 @@
 -- The line of a script that gives a customer routes: `ROUTES`, the customer's name, and a pair for each route.
-use Rattle.std.specs.Prelude.{◌≡◌, ℕ, ◌<◌, ◌==◌, Bool, length, Ok, List, [], ◌∷◌, if◌then◌else◌, Option, Some, None, option_and_then, is_ok, position, bytes_eq}
+use Rattle.std.specs.Prelude.{◌≡◌, ℕ, ◌<◌, ◌==◌, Bool, length, Ok, List, [], ◌∷◌, if◌then◌else◌, Option, Some, None}
+use Rattle.std.specs.Prelude.{option_and_then, is_ok, position, bytes_eq}
 use Rattle.std.specs.List.{slice_split}
 use Rattle.std.specs.Option.{option_map}
 use Rattle.std.specs.Result.{result_ok}
@@ -37,7 +38,8 @@ route_by_lines tables node (line ∷ []) = route_by tables node line None
 route_by_lines tables node (line ∷ second ∷ []) = route_by tables node line (Some second)
 route_by_lines tables node lines = None
 
--- the route of a pair: a node, a colon and the name of a line, and another colon and the name of a second line where it has one
+-- the route of a pair: a node, a colon and the name of a line, and another colon and the name of a second line where it
+-- has one
 abbrev pub route_of_parts : TableFile → List (List ℕ) → Option RouteEntry
 route_of_parts tables [] = None
 route_of_parts tables (node ∷ lines) = route_by_lines tables node lines

@@ -1,9 +1,11 @@
 //! The arguments of the command line.
 
 ghost use Rattle.std.specs.Prelude.{◌≡◌, ◌≢◌, [], ◌∷◌, false, map, codes, IfOk, IfErr, OnOk};
-ghost use Rattle.clap.specs.Words.{app_of, fault_of, kind_of, new_app, rule_of, subcommand_of, subcommand_rows_of, HasKind};
+ghost use Rattle.clap.specs.Words.{app_of, fault_of, kind_of, new_app, rule_of, subcommand_of, subcommand_rows_of};
+ghost use Rattle.clap.specs.Words.{HasKind};
 ghost use Rattle.clap.specs.declared.builder.command.Command.TheViews.{out-Command};
-ghost use Rattle.njh_program.specs.Arguments.{AreRefusedBy, HasOptions, IsRefusalOf, IsUnaskedBy, choice_by, choice_in, choice_of};
+ghost use Rattle.njh_program.specs.Arguments.{AreRefusedBy, HasOptions, IsRefusalOf, IsUnaskedBy, choice_by, choice_in};
+ghost use Rattle.njh_program.specs.Arguments.{choice_of};
 ghost use Rattle.njh_program.specs.Arguments.{bare_app, program_app, replay_app, replaying_app, tables_rule};
 
 use crate::serve_options::{Unasked, serve_command, served_in};

@@ -10,8 +10,9 @@ use thiserror::Error;
 
 /// Why a script wasn't replayed to its end.
 ///
-/// `TooLong` comes before `Script`, and nothing was written then. After `Device` a beginning of the whole output was written, or
-/// nothing. Where memory ran out, nothing was written, or all up to the files of some customer.
+/// `TooLong` comes before `Script`, and nothing was written then. After `Device` a beginning of the whole output was
+/// written, or nothing. Where memory ran out, nothing was written, or the frames of all events before one that gives
+/// routes, or all up to the files of some customer.
 #[derive(Clone, Copy, Debug, PartialEq, Eq, Error)]
 pub enum ReplayFault {
     /// The script has more bytes than its limit.

@@ -17,7 +17,8 @@ use njh_table::Tables;
 use std::alloc::{AllocError, Global};
 use std::io::Write;
 
-/// Room for a file's line: at most 8 bytes of its customer's name, a blank, at most 148 of what is said of it, and the line's end.
+/// Room for a file's line: at most 8 bytes of its customer's name, a blank, at most 148 of what is said of it, and the
+/// line's end.
 type FileLine = ArrayVec<u8, 158>;
 
 /// The names of the customers, in their order. Out of memory is the only refusal.

@@ -1,5 +1,5 @@
-//! All of the program: replays a script of events through the hub, and prints the frames that the hub sends and then the files that it
-//! holds; or serves a hub's lines on sockets.
+//! All of the program: replays a script of events through the hub, and prints the frames that the hub sends and then
+//! the files that it holds; or serves a hub's lines on sockets.
 #![tactic(auto)]
 
 mod arguments;

@@ -3,7 +3,8 @@
 ghost use Rattle.std.specs.Prelude.{◌≡◌, ◌∷◌, Some, IfOk, IfSome};
 ghost use Rattle.njh_table.specs.TableFile.{owner_of};
 ghost use Rattle.njh_hub.specs.Own.{line_of};
-ghost use Rattle.njh_program.specs.Script.{bytes_on, event_of, event_of_words, event_on_line, piece_of, signal_of, words_of};
+ghost use Rattle.njh_program.specs.Script.{bytes_on, event_of, event_of_words, event_on_line, piece_of, signal_of};
+ghost use Rattle.njh_program.specs.Script.{words_of};
 ghost use Rattle.njh_program.specs.ScriptRoutes.{IsNamedIn};
 ghost use Rattle.njh_program.specs.Starts.{Begins, IsStart};
 

@@ -72,7 +72,8 @@ fn arguments_of<R: Env + AllocGlobal>(rt: &R) -> Result<Vec<String>, Failure> {
     }
 }
 
-/// Does what the arguments ask for: the arguments are checked first, then the tables, then the script. The log of a service goes to `log`.
+/// Does what the arguments ask for: the arguments are checked first, then the tables, then the script. The log of a
+/// service goes to `log`.
 pub fn carry_out<
     F: Files + Net + Clock + AllocGlobal,
     S: AsStr,

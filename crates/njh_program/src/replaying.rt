@@ -4,8 +4,10 @@ ghost use Rattle.std.specs.Prelude.{◌≡◌, ◌≤◌, ◌⊎◌, ℕ, length
 ghost use Rattle.std.specs.Io.KnownBytes.{Appends, Keeps};
 ghost use Rattle.njh_program.specs.Names.{customers_of, names_of};
 ghost use Rattle.njh_program.specs.Printed.{text_of, AppendsBeginning, IsPrintedUpTo};
-ghost use Rattle.njh_program.specs.Replayed.{fault_after, text_by, text_of_run, text_with, HasScript, HasTooLong, HasBadLine};
-ghost use Rattle.njh_program.specs.Replayed.{IsBegun, IsReplayed, IsReplayedToRoutes, IsReplayedUpTo, IsRefusal, IsSentUpTo, MayEnd, SameParts};
+ghost use Rattle.njh_program.specs.Replayed.{fault_after, text_by, text_of_run, text_with, HasScript, HasTooLong};
+ghost use Rattle.njh_program.specs.Replayed.{HasBadLine};
+ghost use Rattle.njh_program.specs.Replayed.{IsBegun, IsReplayed, IsReplayedToRoutes, IsReplayedUpTo, IsRefusal};
+ghost use Rattle.njh_program.specs.Replayed.{IsSentUpTo, MayEnd, SameParts};
 ghost use Rattle.njh_program.specs.ScriptRoutes.{IsNamedIn};
 ghost use Rattle.njh_hub.specs.Parts.{entries_of};
 ghost use Rattle.njh_hub.specs.Whole.{hub_run, opened, IsNamed};
@@ -23,16 +25,16 @@ use njh_table::Tables;
 use std::alloc::Global;
 use std::io::{Read, Write};
 
-/// Reads a whole script and checks it, then runs its events through a hub of these tables, and prints the frames that the hub sends and
-/// then the files that it holds.
+/// Reads a whole script and checks it, then runs its events through a hub of these tables, and prints the frames that
+/// the hub sends and then the files that it holds.
 pub fn replay<R: Read, W: Write>(
     alloc: Global,
     tables: Tables,
     script: &mut R,
     out: &mut W,
 ) -> Result<(), ReplayFault>
-    // What is written is the text of the frames that a hub of these tables sends over the events of the script, which is good
-    // from its first line to its last, and then of the files that each customer has.
+    // What is written is the text of the frames that a hub of these tables sends over the events of the script, which
+    // is good from its first line to its last, and then of the files that each customer has.
     ensures replayed { OnOk result (IsReplayed tables (R.remaining script.old) (W.contents out.old) (W.contents out.new)) }
 
     // It is refused where it is too long, or else at its first bad line, and then nothing is written.
@@ -41,8 +43,9 @@ pub fn replay<R: Read, W: Write>(
         HasBadLine tables (R.remaining script.old) number }
     ensures silent { IfErr result (λ fault. IsRefusal fault → out.new ≡ out.old) }
 
-    // Else a device failed, and a beginning of that text is written, or nothing; or memory ran out: before anything was written, at an
-    // event that gives routes, with the frames of those before it written, or with the text written up to the files of some customer.
+    // Else a device failed, and a beginning of that text is written, or nothing; or memory ran out: before anything was
+    // written, at an event that gives routes, with the frames of those before it written, or with the text written up
+    // to the files of some customer.
     ensures faults { IfErr result MayEnd }
     ensures begun { OnErr result (Keeps (W.contents out.old) (W.contents out.new)
         ⊎ IsBegun tables (R.remaining script.old) (W.contents out.old) (W.contents out.new)) }

@@ -17,8 +17,8 @@ use std::alloc::{AllocError, Global};
 /// How many bytes a script has at most.
 pub const LIMIT: usize = 1_048_576;
 
-/// The events of a script, all of which name what the tables have, or the number of its first bad line, counted from 1. The only
-/// other refusal is out of memory.
+/// The events of a script, all of which name what the tables have, or the number of its first bad line, counted from 1.
+/// The only other refusal is out of memory.
 pub fn events_of(alloc: Global, tables: &Tables, text: &[u8]) -> Result<Vec<Event>, ReplayFault>
     requires { length text.now ≤ LIMIT }
     ensures events { IfOk result (λ events. script_of tables.now text.now ≡ Ok events.items) }

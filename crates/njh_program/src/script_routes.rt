@@ -4,7 +4,8 @@ ghost use Rattle.std.specs.Prelude.{◌≡◌, ◌<◌, ◌==◌, ◌∷◌, len
 ghost use Rattle.std.specs.List.{slice_split};
 ghost use Rattle.njh_program.specs.Found.{parts_behind};
 ghost use Rattle.njh_program.specs.Script.{words_of};
-ghost use Rattle.njh_program.specs.ScriptRoutes.{customer_named, parts_of, routes_for, route_of_pair, route_by, route_by_lines};
+ghost use Rattle.njh_program.specs.ScriptRoutes.{customer_named, parts_of, routes_for, route_of_pair, route_by};
+ghost use Rattle.njh_program.specs.ScriptRoutes.{route_by_lines};
 ghost use Rattle.njh_program.specs.ScriptRoutes.{routes_event, routes_of_pairs, second_by, IsNamedIn};
 
 use njh_ebcdic::Name;
@@ -12,8 +13,8 @@ use njh_hub::{Event, RouteList};
 use njh_table::{Customer, LineId, RouteEntry, Tables};
 use std::alloc::{AllocError, Global};
 
-/// The event of the words behind `ROUTES`, if they have one: a customer's name and then a pair for each route, which the customer may
-/// have all together. Out of memory is the only refusal.
+/// The event of the words behind `ROUTES`, if they have one: a customer's name and then a pair for each route, which
+/// the customer may have all together. Out of memory is the only refusal.
 pub fn routes_event(
     alloc: Global,
     tables: &Tables,
@@ -96,7 +97,8 @@ fn routes_of_pairs(
     Ok(Some(routes))
 }
 
-/// The route of a pair: a node, a colon and the name of a line, and another colon and the name of a second line where it has one.
+/// The route of a pair: a node, a colon and the name of a line, and another colon and the name of a second line where
+/// it has one.
 fn route_of_pair(tables: &Tables, pair: &str) -> Option<RouteEntry>
     ensures { result ≡ route_of_pair tables.now pair.now }
 {

@@ -64,7 +64,8 @@ abbrev pub Holds : Bool → List ℕ → List ℕ → Type 0
 Holds true added contents = (contents ≡ added) × (length added ≤ 256)
 Holds false added contents = 256 < length added
 
--- the bytes up to a rest were read, and a record holds what they add: what the rest reads as, the whole does with that in front
+-- the bytes up to a rest were read, and a record holds what they add: what the rest reads as, the whole does with that
+-- in front
 pub record HasRead (bytes rest contents : List ℕ) (fits : Bool) : Type 0 where
   pub adds : List ℕ
   pub reads : (read : Result Unspelled Fault) → ReadsAs rest read → ReadsAs bytes (with_front adds read)

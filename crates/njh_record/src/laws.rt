@@ -9,8 +9,8 @@ ghost use Rattle.njh_record.specs.Reading.{Unspells};
 ghost use Rattle.njh_record.specs.Unspelled.{Unspelled, Fault, ReadsAs, unspelled};
 ghost use Rattle.njh_record.specs.Writing.{spelling_of};
 
-/// The function that reads gives what stands in the bytes, and nothing else stands there: a spelling at their front, or a
-/// bad string control byte behind whole items, or the front of a spelling alone.
+/// The function that reads gives what stands in the bytes, and nothing else stands there: a spelling at their front, or
+/// a bad string control byte behind whole items, or the front of a spelling alone.
 pub fn one_reading()
     ensures found { (bytes : List ℕ) → AreBytes bytes → ReadsAs bytes (unspelled bytes) }
     ensures only { (bytes : List ℕ) (read : Result Unspelled Fault) →

@@ -93,7 +93,8 @@ pub fn unspell(bytes: &[u8], contents: &mut Record) -> Result<(usize, End), Reco
     answer
 }
 
-/// What follows the spelling at the front of some bytes, if one stands there. It is not put together, and may be of any length.
+/// What follows the spelling at the front of some bytes, if one stands there. It is not put together, and may be of any
+/// length.
 pub fn skip(bytes: &[u8]) -> Option<&[u8]>
     ensures { option_map (λ rest. rest.now) result ≡ behind (unspelled bytes.now) }
 {

@@ -87,7 +87,8 @@ fn apart_len(bytes: &[u8]) -> usize
     }
 }
 
-/// How many bytes in front were looked at, none of which begins a run: at least the first, which is known to begin none.
+/// How many bytes in front were looked at, none of which begins a run: at least the first, which is known to begin
+/// none.
 fn passed_len(bytes: &[u8]) -> usize
     requires some { 0 < length bytes.now }
     requires first { begins_run bytes.now ≡ false }
@@ -167,8 +168,8 @@ fn first_item(bytes: &[u8]) -> Item<'_>
 }
 
 /// Writes the one spelling of a record (IBM SC23-0070, "Compression") behind what `out` holds: at each place the run of
-/// equal bytes there, 31 at most, where it has 2 blanks or 3 other bytes at least, else a literal of 63 bytes at most that
-/// stops where such a run begins. Of a record of 256 bytes it takes 262 at most: the law `spelling_bounds`.
+/// equal bytes there, 31 at most, where it has 2 blanks or 3 other bytes at least, else a literal of 63 bytes at most
+/// that stops where such a run begins. Of a record of 256 bytes it takes 262 at most: the law `spelling_bounds`.
 pub fn add_spelling<const N: usize>(contents: &[u8], out: &mut ArrayVec<u8, N>)
     requires { length out.old.items + length (spelling_of contents.now) ≤ N }
     ensures { out.new.items ≡ out.old.items ++ spelling_of contents.now }

@@ -1,5 +1,5 @@
--- What a block carries of a file that goes out on a stream: the file's records from the stream's place on, each once and in order, and behind
--- the last one the end of file.
+-- What a block carries of a file that goes out on a stream: the file's records from the stream's place on, each once
+-- and in order, and behind the last one the end of file.
 use Rattle.std.specs.Prelude.{◌≡◌, ℕ, ◌+◌, ◌≤◌, List, [], ◌∷◌, ◌++◌, length, take, drop, map, Option, Some, None}
 use Rattle.njh_block.specs.Blocks.{Item, Data, rcb_of}
 use Rattle.njh_record.specs.Stored.{Stored}
@@ -23,8 +23,9 @@ record_item k r = Data (rcb_of k) r.srcb r.bytes
 abbrev pub end_of_file : ℕ → Item
 end_of_file k = Data (rcb_of k) 0x80 []
 
--- Stream k sent a file of these records, the one at place p next. From then on so many more of them stand under its RCB behind those that
--- did before, and the next is behind them; or all the others do, with the end of file behind the last, and it waits for the peer.
+-- Stream k sent a file of these records, the one at place p next. From then on so many more of them stand under its RCB
+-- behind those that did before, and the next is behind them; or all the others do, with the end of file behind the
+-- last, and it waits for the peer.
 pub data Carries (k n p : ℕ) (records : List Stored) (before : List Item) (y : Filling) : Type 0 where
   on_its_way :
       (m : ℕ) → p + m ≤ length records → sender_at k y.outlet ≡ Sending n (p + m)

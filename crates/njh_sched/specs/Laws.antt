@@ -37,7 +37,8 @@ pub record Asks (goes : WholeFile → Bool) (k : ℕ) (x y : Filling) : Type 0 w
   pub after : sender_at k y.outlet ≡ Requested file.number
   pub items : records_under (rcb_of k) y.block.items ≡ records_under (rcb_of k) x.block.items
 
--- it sends a file, and the peer lets it: its next record, or its end of file behind the last, is added, and it moves on by it
+-- it sends a file, and the peer lets it: its next record, or its end of file behind the last, is added, and it moves on
+-- by it
 pub record Sends (k : ℕ) (x y : Filling) : Type 0 where
   pub lets : is_on x.outlet.peer k ≡ true
   pub before : is_sending (sender_at k x.outlet) ≡ true

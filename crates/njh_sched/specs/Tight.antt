@@ -1,5 +1,5 @@
--- When a customer's peers have to wait (IBM SC23-0070, function control sequences): little of its quota is left, and a file of its own
--- goes out.
+-- When a customer's peers have to wait (IBM SC23-0070, function control sequences): little of its quota is left, and a
+-- file of its own goes out.
 use Rattle.std.specs.Prelude.{ℕ, ◌-◌, Bool, true, false, nat_lt, cond, ◌&&◌}
 use Rattle.std.specs.List.{list_any}
 use Rattle.njh_spool.specs.CustomerSpool.{CustomerSpool, WholeFile, used}

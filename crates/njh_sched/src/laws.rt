@@ -3,7 +3,8 @@
 ghost use Rattle.std.specs.Prelude.{◌≡◌, ℕ, ◌<◌, ◌≤◌, Bool, true, false, List, length};
 ghost use Rattle.njh_block.specs.Blocks.{all_suspended, rcb_of};
 ghost use Rattle.njh_spool.specs.CustomerSpool.{WholeFile};
-ghost use Rattle.njh_sched.specs.NextBlock.{Filling, Source, after_source, after_sources, filled, is_sending, sender_at, sources};
+ghost use Rattle.njh_sched.specs.NextBlock.{Filling, Source, after_source, after_sources, filled, is_sending};
+ghost use Rattle.njh_sched.specs.NextBlock.{sender_at, sources};
 ghost use Rattle.njh_sched.specs.Laws.{Does, EachDoes, records_under};
 ghost use Rattle.njh_sched.specs.Carrying.{Carries, file_records};
 
@@ -15,9 +16,10 @@ pub fn nothing_where_all_is_suspended()
     ensures { (goes : WholeFile → Bool) (x : Filling) → all_suspended x.outlet.peer ≡ true → filled goes x ≡ x }
 {}
 
-/// What each source of a block does to a stream, one after the other. A stream that isn't sending, or that the peer suspends, has no record
-/// added under its RCB; one that is sending has the file's record at its place, and its place moves by that; where there is no such
-/// record it has the end of file. A stream asks for a file only where it was idle. Nothing else moves a stream.
+/// What each source of a block does to a stream, one after the other. A stream that isn't sending, or that the peer
+/// suspends, has no record added under its RCB; one that is sending has the file's record at its place, and its place
+/// moves by that; where there is no such record it has the end of file. A stream asks for a file only where it was
+/// idle. Nothing else moves a stream.
 pub fn sources_move_streams_so()
     ensures one { (goes : WholeFile → Bool) (k : ℕ) (source : Source) (x : Filling) → k < 8 → k < length x.outlet.senders
         → Does goes k x (after_source goes source x) }
@@ -32,8 +34,9 @@ pub fn sources_fill_the_block()
         → filled goes x ≡ after_sources goes (sources x.block.limit x.outlet) x }
 {}
 
-/// What a block carries under a stream's RCB. Of a stream that sends a file: the file's records from the place before the block to the place
-/// after it, each once and in order, and the end of file only behind the last one. Of any other stream nothing.
+/// What a block carries under a stream's RCB. Of a stream that sends a file: the file's records from the place before
+/// the block to the place after it, each once and in order, and the end of file only behind the last one. Of any other
+/// stream nothing.
 pub fn blocks_carry_files_in_order()
     ensures carried { (goes : WholeFile → Bool) (k n p : ℕ) (x : Filling) → k < 8 → k < length x.outlet.senders
         → sender_at k x.outlet ≡ Sender.Sending n p → p ≤ length (file_records n x.spool)

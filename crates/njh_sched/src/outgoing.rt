@@ -2,14 +2,15 @@
 
 ghost use Rattle.std.specs.Prelude.{◌≡◌, slice_get};
 ghost use Rattle.std.specs.Option.{option_map};
-ghost use Rattle.njh_sched.specs.NextBlock.{Outlet, without_answer, without_message, sender_at, with_sender, with_served};
+ghost use Rattle.njh_sched.specs.NextBlock.{Outlet, without_answer, without_message, sender_at, with_sender};
+ghost use Rattle.njh_sched.specs.NextBlock.{with_served};
 
 use njh_block::{Answer, Fcs, Stream};
 use njh_record::Record;
 use njh_stream::Sender;
 
-/// A line, as it is sent from: what waits, what its streams from the hub are about, and what its peer lets them send. A contract sees
-/// it as an `Outlet`.
+/// A line, as it is sent from: what waits, what its streams from the hub are about, and what its peer lets them send. A
+/// contract sees it as an `Outlet`.
 pub trait Outgoing {
     ghost outlet: { Self → Outlet };
 

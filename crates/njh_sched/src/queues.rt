@@ -2,8 +2,10 @@
 
 ghost use Rattle.std.specs.Prelude.{◌≡◌, ◌≤◌, IsTrue, length, slice_get, Some, Bool, true};
 ghost use Rattle.njh_spool.specs.CustomerSpool.{CustomerSpool, WholeFile};
-ghost use Rattle.njh_sched.specs.NextBlock.{Outlet, WaitingAnswer, WaitingMessage, waiting_answers, messages_where, waiting_messages};
-ghost use Rattle.njh_sched.specs.NextBlock.{without_answer, message_gone_where, after_source, after_sources, filling, filling_where};
+ghost use Rattle.njh_sched.specs.NextBlock.{Outlet, WaitingAnswer, WaitingMessage, waiting_answers, messages_where};
+ghost use Rattle.njh_sched.specs.NextBlock.{waiting_messages};
+ghost use Rattle.njh_sched.specs.NextBlock.{without_answer, message_gone_where, after_source, after_sources, filling};
+ghost use Rattle.njh_sched.specs.NextBlock.{filling_where};
 
 use crate::adding::{PLAIN, add_where_room};
 use crate::outgoing::Outgoing;

@@ -29,15 +29,16 @@ pub record HasServed {W : Type 0} (passed : W → W → List WireAct → Type 0)
   pub attended : IsAttended passed count old.lines turns old.hub old.quiets old.wires new.hub new.quiets new.wires
   pub lines : new.lines ≡ old.lines
 
--- A service that was just opened on tables: a hub of these, and its lines that have a port or a peer, no two on one port.
+-- A service that was just opened on tables: a hub of these, and its lines that have a port or a peer, no two on one
+-- port.
 pub record IsOpened {W : Type 0} (tables : TableFile) (service : Served W) : Type 0 where
   pub apart : IsApart (endpoints_of tables)
   pub hub : service.hub ≡ map opened (entries_of tables)
   pub lines : service.lines ≡ lines_of (endpoints_of tables)
   pub calm : service.quiets ≡ no_quiets (lines_of (endpoints_of tables))
 
--- The lines of tables that have a port or a peer had so many turns each, and a hub of these tables was told of these, of new routes and
--- of nothing else. Of what a socket gave and took nothing is known.
+-- The lines of tables that have a port or a peer had so many turns each, and a hub of these tables was told of these,
+-- of new routes and of nothing else. Of what a socket gave and took nothing is known.
 pub record AreServed (tables : TableFile) (turns : Option ℕ) : Type 0 where
   pub apart : IsApart (endpoints_of tables)
   pub hub : List Part

@@ -1,4 +1,5 @@
--- How the records of a file lie in its bytes: each its SRCB, its length in two bytes, the high byte first, and its bytes.
+-- How the records of a file lie in its bytes: each its SRCB, its length in two bytes, the high byte first, and its
+-- bytes.
 use Rattle.std.specs.Prelude.{ℕ, zero, suc, ◌+◌, ◌≤◌, List, [], ◌∷◌, ◌++◌, length, drop, slice_index}
 use Rattle.njh_record.specs.Bytes.{field, number_at, two_bytes}
 use Rattle.njh_record.specs.Stored.{Stored}

@@ -1,5 +1,6 @@
 -- What the slots of the files and the chains of the store are to each customer, and what always holds of them.
-use Rattle.std.specs.Prelude.{◌≡◌, ℕ, ◌+◌, ◌*◌, ◌<◌, ◌≤◌, Bool, true, false, List, [], ◌∷◌, length, take, map, cond, nat_lt}
+use Rattle.std.specs.Prelude.{◌≡◌, ℕ, ◌+◌, ◌*◌, ◌<◌, ◌≤◌, Bool, true, false, List, [], ◌∷◌, length, take, map, cond}
+use Rattle.std.specs.Prelude.{nat_lt}
 use Rattle.std.specs.Prelude.{sum_by, count_by, slice_index_or, ◌==◌}
 use Rattle.std.specs.List.{All}
 use Rattle.njh_record.specs.Stored.{Stored}
@@ -101,7 +102,8 @@ spools_from c (own ∷ others) files = spool_of own (files c) ∷ spools_from (c
 abbrev pub spools_of : List CustomerFiles → (ℕ → ℕ → Content) → List CustomerSpool
 spools_of customers files = spools_from 0 customers files
 
--- what always holds of a customer: its blocks are counted, its spool is sound, and its lists name each of its files once
+-- what always holds of a customer: its blocks are counted, its spool is sound, and its lists name each of its files
+-- once
 pub record IsOwn (own : CustomerFiles) (files : ℕ → Content) : Type 0 where
   pub counted : own.used ≡ used (spool_of own files)
   pub sound : IsSound (spool_of own files)
@@ -119,8 +121,8 @@ pub record ArePlaces (records : List Stored) (keys : List ℕ) (kept : KeptPlace
   pub last : IsPlace records keys kept.last
   pub next : IsPlace records keys kept.next
 
--- what always holds of a slot and its chain: the chain has the bytes of as many records as the slot counts, none where the slot
--- is free, and records begin at the places that the slot keeps
+-- what always holds of a slot and its chain: the chain has the bytes of as many records as the slot counts, none where
+-- the slot is free, and records begin at the places that the slot keeps
 pub record IsFile (slot : FileSlot) (chain : Chain) : Type 0 where
   pub bytes : chain.bytes ≡ packed (unpacked slot.count chain.bytes)
   pub short : All IsShort (unpacked slot.count chain.bytes)

@@ -1,5 +1,6 @@
 -- The spool as the list of its customers' spools: what its calls answer, and what holds of each after every call.
-use Rattle.std.specs.Prelude.{◌≡◌, ℕ, ◌+◌, ◌≤◌, Bool, true, false, List, length, count_by, slice_get, slice_index_or, Option, Some}
+use Rattle.std.specs.Prelude.{◌≡◌, ℕ, ◌+◌, ◌≤◌, Bool, true, false, List, length, count_by, slice_get, slice_index_or}
+use Rattle.std.specs.Prelude.{Option, Some}
 use Rattle.std.specs.Prelude.{None, Result, ◌==◌}
 use Rattle.std.specs.Option.{option_map, option_or, option_and_then, ok_or, is_some}
 use Rattle.njh_record.specs.Stored.{Stored}
@@ -7,7 +8,8 @@ use Rattle.njh_record.specs.declared.Kind.{Kind}
 use Rattle.njh_spool.specs.declared.SpoolFault.{SpoolFault}
 use Rattle.njh_spool.specs.declared.SpoolFault.TheVariants.{QuotaFull, TooManyFiles, NoSuchFile}
 use Rattle.njh_spool.specs.declared.quota.TheConstants.{MOST_BLOCKS, MOST_FILES}
-use Rattle.njh_spool.specs.CustomerSpool.{CustomerSpool, empty_spool, used, has_file_room, has_block, partial_numbered, whole_numbered}
+use Rattle.njh_spool.specs.CustomerSpool.{CustomerSpool, empty_spool, used, has_file_room, has_block, partial_numbered}
+use Rattle.njh_spool.specs.CustomerSpool.{whole_numbered}
 use Rattle.njh_spool.specs.CustomerSpool.{has_room_for}
 
 -- a customer that the spool does not have

@@ -2,7 +2,8 @@
 
 ghost use Rattle.std.specs.Prelude.{◌≡◌, ℕ, ◌+◌, ◌*◌, ◌<◌, ◌≤◌, ◌↔◌, true, false, List, length, sum_by, All};
 ghost use Rattle.njh_record.specs.Stored.{Stored};
-ghost use Rattle.njh_spool.specs.CustomerSpool.{stored_size, CustomerSpool, cost, used, is_number, next_number, has_file_room};
+ghost use Rattle.njh_spool.specs.CustomerSpool.{stored_size, CustomerSpool, cost, used, is_number, next_number};
+ghost use Rattle.njh_spool.specs.CustomerSpool.{has_file_room};
 ghost use Rattle.njh_spool.specs.Spools.{part};
 
 /// The cost is the least number of blocks of 252 bytes that hold the records.

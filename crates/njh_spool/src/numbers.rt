@@ -7,8 +7,8 @@ use crate::quota::MOST_FILES;
 use std::alloc::{AllocError, Global};
 use std::marker::Model;
 
-/// At most as many as a customer may have files. A number that is taken away leaves a hole, which is closed when a number is put
-/// last.
+/// At most as many as a customer may have files. A number that is taken away leaves a hole, which is closed when a
+/// number is put last.
 #[derive(Drop)]
 pub struct Numbers {
     entries: Entries,

@@ -12,7 +12,8 @@ use crate::store::Store;
 use njh_record::Record;
 use std::marker::Model;
 
-/// Reads a file's records from the first to the last, at the cost of their bytes. A contract sees the records that are left.
+/// Reads a file's records from the first to the last, at the cost of their bytes. A contract sees the records that are
+/// left.
 #[derive(Drop)]
 pub struct RecordReader<'a> {
     store: &'a Store,

@@ -4,7 +4,8 @@ mod partial;
 mod reads;
 mod whole;
 
-ghost use Rattle.std.specs.Prelude.{◌≡◌, ℕ, ◌+◌, ◌*◌, ◌<◌, ◌≤◌, length, map, IfOk, IsOkUnless, IsSomeAnd, All, Some, option_map, slice_get, sum_by};
+ghost use Rattle.std.specs.Prelude.{◌≡◌, ℕ, ◌+◌, ◌*◌, ◌<◌, ◌≤◌, length, map, IfOk, IsOkUnless, IsSomeAnd, All, Some};
+ghost use Rattle.std.specs.Prelude.{option_map, slice_get, sum_by};
 ghost use Rattle.njh_spool.specs.CustomerSpool.{empty_spool, used};
 ghost use Rattle.njh_spool.specs.Headers.{summary};
 ghost use Rattle.njh_spool.specs.Quotas.{IsWithinLimits};

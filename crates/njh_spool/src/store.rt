@@ -11,7 +11,8 @@ pub mod slot;
 
 ghost use Rattle.std.specs.Prelude.{◌≡◌, ℕ, ◌+◌, ◌<◌, ◌≤◌, ◌==◌, ◌++◌, length, replicate, count_by, sum_by, IfOk, All};
 ghost use Rattle.njh_record.specs.Bytes.{field, with_field};
-ghost use Rattle.njh_spool.specs.Chains.{empty_chain, chain_at, with_chain, with_bytes, blocks_for, blocks_of, blocks_used};
+ghost use Rattle.njh_spool.specs.Chains.{empty_chain, chain_at, with_chain, with_bytes, blocks_for, blocks_of};
+ghost use Rattle.njh_spool.specs.Chains.{blocks_used};
 ghost use Rattle.njh_spool.specs.Chains.{Grows, IsMark, IsNear};
 
 use block::{BLOCK_DATA, Block};
@@ -132,8 +133,8 @@ impl Store {
         self.put_rest(slot, mark, place + first.len(), second);
     }
 
-    /// Puts `n` bytes from a place on of a slot's string into `into`. They are looked for from a mark on, where the mark
-    /// isn't behind them, and else from the first block on. Gives a mark to read on from.
+    /// Puts `n` bytes from a place on of a slot's string into `into`. They are looked for from a mark on, where the
+    /// mark isn't behind them, and else from the first block on. Gives a mark to read on from.
     pub fn read(&self, slot: u32, from: Mark, place: u32, n: usize, into: &mut Record) -> Mark
         requires slot { slot < length self.now.chains }
         requires mark { IsMark (chain_at slot self.now).keys from }

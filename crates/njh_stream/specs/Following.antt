@@ -1,5 +1,5 @@
--- One stream of a line from a permitted request on, arrival by arrival, whatever the customer's other streams do between: what it
--- answers and tells in all, and what it leaves.
+-- One stream of a line from a permitted request on, arrival by arrival, whatever the customer's other streams do
+-- between: what it answers and tells in all, and what it leaves.
 use Rattle.std.specs.Prelude.{◌≡◌, ℕ, List, [], ◌∷◌, ◌++◌, Option, Some, None}
 use Rattle.njh_record.specs.Stored.{Stored}
 use Rattle.njh_record.specs.declared.Kind.{Kind}
@@ -12,8 +12,10 @@ use Rattle.njh_spool.specs.CustomerSpool.{CustomerSpool, partial_numbered, has_r
 use Rattle.njh_stream.specs.declared.receiver.Receiver.{Receiver}
 use Rattle.njh_stream.specs.declared.receiver.Receiver.TheVariants.{Idle, Open, Draining}
 use Rattle.njh_stream.specs.Transmissions.{Coming, Fitting, TooLong}
-use Rattle.njh_stream.specs.Outcomes.{Ending, EndOfFile, GivenUp, CutOff, Outcome, AFile, NotWhole, CancelledBy, Dropped}
-use Rattle.njh_stream.specs.Receiving.{Arrival, Data, Long, Abort, Notice, Received, received, unmoved, without_open, notice_of}
+use Rattle.njh_stream.specs.Outcomes.{Ending, EndOfFile, GivenUp, CutOff, Outcome, AFile, NotWhole, CancelledBy}
+use Rattle.njh_stream.specs.Outcomes.{Dropped}
+use Rattle.njh_stream.specs.Receiving.{Arrival, Data, Long, Abort, Notice, Received, received, unmoved, without_open}
+use Rattle.njh_stream.specs.Receiving.{notice_of}
 
 -- A record of a byte or more came, or one of more than 256 bytes, and found the customer's spool so.
 pub data Moment : Type 0 where

@@ -1,5 +1,6 @@
 -- What the code's verdict on a record says.
-use Rattle.std.specs.Prelude.{◌≡◌, ℕ, Bool, true, false, List, Option, None, Result, Ok, Err, ◌==◌, not, ◌&&◌, slice_set}
+use Rattle.std.specs.Prelude.{◌≡◌, ℕ, Bool, true, false, List, Option, None, Result, Ok, Err, ◌==◌, not, ◌&&◌}
+use Rattle.std.specs.Prelude.{slice_set}
 use Rattle.std.specs.Option.{option_map}
 use Rattle.njh_header.specs.Headers.{DataSetHeader, JobHeader}
 use Rattle.njh_header.specs.declared.fault.HeaderFault.{HeaderFault}

@@ -1,4 +1,5 @@
--- What becomes of a transmission to the hub (IBM SC23-0070, "Data streams"), by the whole list of the records that came and by how it ended.
+-- What becomes of a transmission to the hub (IBM SC23-0070, "Data streams"), by the whole list of the records that came
+-- and by how it ended.
 use Rattle.std.specs.Prelude.{◌≡◌, ℕ, true, false, ◌⊎◌, List, [], ◌∷◌, ◌++◌, Option}
 use Rattle.njh_record.specs.Stored.{Stored}
 use Rattle.njh_record.specs.declared.Kind.{Kind}
@@ -11,8 +12,8 @@ pub data Ending : Type 0 where
   GivenUp : Ending
   CutOff : Ending
 
--- What became of it: a file of these records, nothing for want of records, nothing since a record was not taken (the owner may be told
--- why), or nothing at all.
+-- What became of it: a file of these records, nothing for want of records, nothing since a record was not taken (the
+-- owner may be told why), or nothing at all.
 pub data Outcome : Type 0 where
   AFile : (records : List Stored) → Outcome
   NotWhole : Outcome

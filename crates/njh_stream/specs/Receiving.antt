@@ -1,4 +1,5 @@
--- One arrival on a stream to the hub: the stream, the spool and the answer after it, and what the owner of the file is told.
+-- One arrival on a stream to the hub: the stream, the spool and the answer after it, and what the owner of the file is
+-- told.
 use Rattle.std.specs.Prelude.{◌≡◌, ℕ, Bool, true, false, List, [], ◌∷◌, ◌++◌, Option, Some, None, ◌==◌, ◌&&◌}
 use Rattle.std.specs.List.{list_all}
 use Rattle.njh_record.specs.Stored.{Stored, has_srcb}
@@ -9,7 +10,8 @@ use Rattle.njh_block.specs.declared.rcb.ControlRcb.TheVariants.{Permission, Refu
 use Rattle.njh_header.specs.FileHeaders.{owner_of, destination_of}
 use Rattle.njh_table.specs.Entries.{CustomerEntry}
 use Rattle.njh_spool.specs.CustomerSpool.{CustomerSpool, PartialFile, has_file_room, has_block, next_number, begun}
-use Rattle.njh_spool.specs.CustomerSpool.{partial_numbered, partial_records, appended, has_room_for, abandoned, finished}
+use Rattle.njh_spool.specs.CustomerSpool.{partial_numbered, partial_records, appended, has_room_for, abandoned}
+use Rattle.njh_spool.specs.CustomerSpool.{finished}
 use Rattle.njh_stream.specs.declared.receiver.Progress.{Progress}
 use Rattle.njh_stream.specs.declared.receiver.Progress.TheVariants.{Beginning, JobHeader, Placed}
 use Rattle.njh_stream.specs.declared.receiver.Receiver.{Receiver}
@@ -71,7 +73,7 @@ pub record Received : Type 0 where
   pub answer : Option ControlRcb
   pub notice : Option Notice
 
--- SYSIN 1 to 4, then SYSOUT 1 to 4: the streams by their places
+-- the file of a stream that is open is given up
 abbrev pub without_open : Receiver → CustomerSpool → CustomerSpool
 without_open Idle s = s
 without_open (Open n progress) s = abandoned n s

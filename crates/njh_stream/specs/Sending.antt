@@ -1,6 +1,7 @@
--- Transmissions from the hub (IBM SC23-0070): what a peer's answers do to them, what the end of a session does, and which files a line's
--- streams are for.
-use Rattle.std.specs.Prelude.{ℕ, ◌+◌, Bool, true, false, List, [], ◌∷◌, map, slice_get, Option, Some, None, ◌==◌, cond, ◌&&◌}
+-- Transmissions from the hub (IBM SC23-0070): what a peer's answers do to them, what the end of a session does, and
+-- which files a line's streams are for.
+use Rattle.std.specs.Prelude.{ℕ, ◌+◌, Bool, true, false, List, [], ◌∷◌, map, slice_get, Option, Some, None, ◌==◌, cond}
+use Rattle.std.specs.Prelude.{◌&&◌}
 use Rattle.njh_ebcdic.specs.Names.{is_name}
 use Rattle.njh_record.specs.Stored.{Stored}
 use Rattle.njh_spool.specs.declared.State.{State}

@@ -32,8 +32,8 @@ pub record Comes (n : ℕ) (lines : List (List Receiver)) : Type 0 where
   pub stream : ℕ
   pub file : file_on (stream_at line stream lines) ≡ Some n
 
--- What ties a customer's streams to its files: each keeps what its partial file says, no two have the same file, and no partial file is
--- without a stream.
+-- What ties a customer's streams to its files: each keeps what its partial file says, no two have the same file, and no
+-- partial file is without a stream.
 pub record AreTied (lines : List (List Receiver)) (s : CustomerSpool) : Type 0 where
   pub agree : (l k : ℕ) → Agrees (kind_of k) (stream_at l k lines) s
   pub apart : (l k m j n : ℕ) → file_on (stream_at l k lines) ≡ Some n → file_on (stream_at m j lines) ≡ Some n → (l ≡ m) × (k ≡ j)

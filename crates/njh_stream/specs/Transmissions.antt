@@ -1,6 +1,7 @@
--- Transmissions to the hub (IBM SC23-0070, "Data streams"): which records are taken for a file, and what becomes of one.
--- A record is judged by the list of those that came before it.
-use Rattle.std.specs.Prelude.{ℕ, Bool, true, false, List, [], ◌∷◌, ◌++◌, Option, Some, None, Ok, Err, ◌==◌, cond, not, ◌&&◌, bytes_eq}
+-- Transmissions to the hub (IBM SC23-0070, "Data streams"): which records are taken for a file, and what becomes of
+-- one. A record is judged by the list of those that came before it.
+use Rattle.std.specs.Prelude.{ℕ, Bool, true, false, List, [], ◌∷◌, ◌++◌, Option, Some, None, Ok, Err, ◌==◌, cond, not}
+use Rattle.std.specs.Prelude.{◌&&◌, bytes_eq}
 use Rattle.std.specs.List.{list_all}
 use Rattle.std.specs.Option.{option_map}
 use Rattle.njh_ebcdic.specs.Names.{is_name}
@@ -20,8 +21,8 @@ pub data Verdict : Type 0 where
 
 -- ---- where a file goes
 
--- The node that a file is for, by the file's name and the line on which it comes: never the hub itself, nor a node that nobody has, nor
--- back by the line.
+-- The node that a file is for, by the file's name and the line on which it comes: never the hub itself, nor a node that
+-- nobody has, nor back by the line.
 abbrev pub judged_node : CustomerEntry → ℕ → List ℕ → Option (List ℕ × ℕ) → Verdict
 judged_node entry l node name =
     elim (route_of entry node) [
@@ -85,8 +86,8 @@ ends_in srcb (r ∷ s ∷ rs) = ends_in srcb (s ∷ rs)
 abbrev pub is_continuation : List Stored → Bool
 is_continuation earlier = ends_in 0xe0 earlier
 
--- A record of an output file behind its first: job headers directly after the first continue it, then comes a data set header. All other
--- records are data.
+-- A record of an output file behind its first: job headers directly after the first continue it, then comes a data set
+-- header. All other records are data.
 abbrev pub judged_output : CustomerEntry → ℕ → List Stored → Stored → Verdict
 judged_output entry l earlier r =
     elim (list_all (has_srcb 0xc0) earlier) [
@@ -106,7 +107,8 @@ is_whole records = ends_in 0xd0 records
 
 -- ---- with the room that there is
 
--- What comes of a transmission: a record, for which the spool has room at that moment or not, or one of more than 256 bytes.
+-- What comes of a transmission: a record, for which the spool has room at that moment or not, or one of more than 256
+-- bytes.
 pub data Coming : Type 0 where
   Fitting : (stored : Stored) → (room : Bool) → Coming
   TooLong : Coming

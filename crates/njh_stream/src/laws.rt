@@ -23,7 +23,8 @@ pub fn one_outcome()
 {}
 
 /// A stream that is followed from a permitted request on, arrival by arrival, answers, tells and leaves what the whole
-/// list of its records becomes, however they are spread over blocks and whatever the customer's other streams do between.
+/// list of its records becomes, however they are spread over blocks and whatever the customer's other streams do
+/// between.
 pub fn streams_end_so()
     ensures ends { (entry : CustomerEntry) (l : ℕ) (kind : Kind) (s last : CustomerSpool) (ms : List Moment) (ending : Ending) (srcb : ℕ)
         (outcome : Outcome) → (has_file_room s && has_block s) ≡ true
@@ -40,9 +41,9 @@ pub fn streams_end_so()
     next_number_is_least();
 }
 
-/// A customer's streams and its partial files stay tied: each open stream keeps what its file says, no two have the same
-/// file, and none is without a stream. So it is where nothing comes, and so it stays through every arrival on any stream,
-/// the end of any line's session, and all that touches no partial file.
+/// A customer's streams and its partial files stay tied: each open stream keeps what its file says, no two have the
+/// same file, and none is without a stream. So it is where nothing comes, and so it stays through every arrival on any
+/// stream, the end of any line's session, and all that touches no partial file.
 pub fn streams_stay_tied()
     ensures at_rest { (lines : List (List Receiver)) (s : CustomerSpool) → ((l k : ℕ) → stream_at l k lines ≡ Receiver.Idle)
         → s.partial ≡ [] → AreTied lines s }

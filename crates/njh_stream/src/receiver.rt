@@ -12,7 +12,8 @@ ghost use Rattle.njh_table.specs.TableFile.{customer_at, entry_of};
 ghost use Rattle.njh_stream.specs.Arrivals.{answer_on, arrival_of, received_on, IsShort};
 ghost use Rattle.njh_stream.specs.Judging.{IsAfter};
 ghost use Rattle.njh_stream.specs.Receiving.{Agrees, AgreesWith, closed, ends_whole, received};
-ghost use Rattle.njh_stream.specs.Receiving.{received_draining, received_idle, received_open, requested, without_open, Data};
+ghost use Rattle.njh_stream.specs.Receiving.{received_draining, received_idle, received_open, requested, without_open};
+ghost use Rattle.njh_stream.specs.Receiving.{Data};
 
 use crate::arrival::Arrival;
 use crate::notice::Notice;
@@ -114,8 +115,8 @@ impl After {
 }
 
 impl Receiver {
-    /// One arrival on a stream of a line. The stream, the customer's files, the answer to the peer and what the owner of
-    /// the file is told are those of the definition. An answer carries the stream's RCB.
+    /// One arrival on a stream of a line. The stream, the customer's files, the answer to the peer and what the owner
+    /// of the file is told are those of the definition. An answer carries the stream's RCB.
     pub fn step(
         &mut self,
         arrival: Arrival<'_>,
@@ -246,8 +247,8 @@ fn answer_of(answer: Option<ControlRcb>, stream: Stream) -> Option<Answer>
     }
 }
 
-/// A record that goes by, or that is stored without a look at its bytes: what the stream is about then. Nothing is answered, and no room
-/// for a notice is made and moved. Else none, and nothing is stored.
+/// A record that goes by, or that is stored without a look at its bytes: what the stream is about then. Nothing is
+/// answered, and no room for a notice is made and moved. Else none, and nothing is stored.
 fn receive_unread(
     receiver: Receiver,
     srcb: u8,

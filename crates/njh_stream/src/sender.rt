@@ -108,8 +108,8 @@ impl Sender {
     }
 
     /// Puts the record that is next in place of what `into` held, gives its SRCB and moves on by one. Where the end of
-    /// file is next, or nothing is being sent, it gives none and `into` is empty; after the end of file the stream waits
-    /// for the peer to say that it has the file.
+    /// file is next, or nothing is being sent, it gives none and `into` is empty; after the end of file the stream
+    /// waits for the peer to say that it has the file.
     pub fn next(&mut self, customer: u16, spool: &mut Spool, into: &mut Record) -> Option<u8>
         requires { customer < length spool.old }
         ensures sender { self.new ≡ (sending.next_of self.old (part customer spool.old)).sender }

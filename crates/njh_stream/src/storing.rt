@@ -1,6 +1,7 @@
 //! A record comes for a file that is open.
 
-ghost use Rattle.std.specs.Prelude.{◌≡◌, ℕ, ◌<◌, ◌≤◌, ◌++◌, ◌∷◌, [], List, length, slice_set, IsSome, IsTrue, MatchOption, None, Some};
+ghost use Rattle.std.specs.Prelude.{◌≡◌, ℕ, ◌<◌, ◌≤◌, ◌++◌, ◌∷◌, [], List, length, slice_set, IsSome, IsTrue};
+ghost use Rattle.std.specs.Prelude.{MatchOption, None, Some};
 ghost use Rattle.std.specs.Option.{option_map};
 ghost use Rattle.njh_header.specs.FileHeaders as headers;
 ghost use Rattle.njh_record.specs.Stored.{Stored};
@@ -53,8 +54,8 @@ pub(crate) fn store(
     }
 }
 
-/// Whether a record of a file whose header said where it goes is taken without a look at its bytes: all but a data set header that
-/// continues no other.
+/// Whether a record of a file whose header said where it goes is taken without a look at its bytes: all but a data set
+/// header that continues no other.
 fn is_taken_unread(kind: Kind, last: u8, srcb: u8) -> bool
     ensures { (node bytes : List ℕ) → IsTrue result → judged_placed kind node last srcb bytes ≡ transmissions.Taken }
 {
@@ -70,8 +71,9 @@ fn is_taken_unread(kind: Kind, last: u8, srcb: u8) -> bool
     }
 }
 
-/// A record with bytes for an open file, where it is taken without a look at its bytes and the quota has room for it: how far the file
-/// has come then. Else none, and nothing is stored. Most records come so, and there is no room for a notice to be made and moved.
+/// A record with bytes for an open file, where it is taken without a look at its bytes and the quota has room for it:
+/// how far the file has come then. Else none, and nothing is stored. Most records come so, and there is no room for a
+/// notice to be made and moved.
 pub(crate) fn store_unread(
     customer: u16,
     kind: Kind,

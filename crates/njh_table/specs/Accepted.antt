@@ -1,4 +1,5 @@
--- What holds of every table that is accepted: the limits, names that differ, and quotas that add to at most the capacity.
+-- What holds of every table that is accepted: the limits, names that differ, and quotas that add to at most the
+-- capacity.
 use Rattle.std.specs.Prelude.{◌≡◌, ◌≢◌, ℕ, ◌<◌, ◌≤◌, List, ◌∷◌, length, map, sum_by, All, AllPairs, IfSome, IsTrue}
 use Rattle.std.specs.Net.Socket.{socket_port}
 use Rattle.njh_table.specs.declared.limits.TheConstants.{MAX_CUSTOMERS, MAX_LINES, MAX_ROUTES, MAX_CAPACITY, MAX_QUOTA}

@@ -1,5 +1,6 @@
 -- New routes for a customer in place of its own: the first fault in them, or the entry with them.
-use Rattle.std.specs.Prelude.{ℕ, Bool, true, false, ◌==◌, ◌&&◌, not, nat_lt, cond, bytes_eq, List, [], ◌∷◌, ◌++◌, length, map, slice_set}
+use Rattle.std.specs.Prelude.{ℕ, Bool, true, false, ◌==◌, ◌&&◌, not, nat_lt, cond, bytes_eq, List, [], ◌∷◌, ◌++◌}
+use Rattle.std.specs.Prelude.{length, map, slice_set}
 use Rattle.std.specs.Prelude.{Option, Some, None, option_map, Ok}
 use Rattle.std.specs.List.{list_any}
 use Rattle.njh_table.specs.declared.LineId.{LineId}
@@ -18,8 +19,8 @@ pub data Second : Type 0 where
   Own : ℕ → Second  -- the customer's line of this number
   Foreign : Second  -- a line that isn't the customer's
 
--- A new route as its customer sees it: a node, the line by its number within the customer, or none where that isn't the customer's, and
--- the second line.
+-- A new route as its customer sees it: a node, the line by its number within the customer, or none where that isn't the
+-- customer's, and the second line.
 pub record NewRoute : Type 0 where
   pub node : List ℕ
   pub line : Option ℕ

@@ -1,5 +1,6 @@
--- The walk over a table file: the tables that it gives, or its first fault. Each element of a list is walked after those before it: a list
--- past its limit is refused before the element's keys, and keys that aren't named here are ignored.
+-- The walk over a table file: the tables that it gives, or its first fault. Each element of a list is walked after
+-- those before it: a list past its limit is refused before the element's keys, and keys that aren't named here are
+-- ignored.
 use Rattle.std.specs.Prelude.{◌≡◌, ◌≢◌, ℕ, Bool, true, false, ◌||◌, List, [], ◌∷◌, ◌++◌, length, map, codes, nat_le}
 use Rattle.std.specs.Prelude.{nat_lt, sum_by, bytes_eq}
 use Rattle.std.specs.Prelude.{Option, Some, None, ok_or, is_some, Result, Ok, Err, MatchResult}
@@ -68,8 +69,8 @@ number_of_second line_number (Some name) = do
   number ← ok_or (line_number name) UnknownLine
   Ok (Some number)
 
--- a customer's route for a node by the line of a name and perhaps a second, with its hub's name and what gives the number of a line of its
--- own by name: the hub's own name has no route, and another node one at most
+-- a customer's route for a node by the line of a name and perhaps a second, with its hub's name and what gives the
+-- number of a line of its own by name: the hub's own name has no route, and another node one at most
 unfoldable pub route_by : List ℕ → (List ℕ → Option ℕ) → List RouteEntry → List ℕ → List ℕ → Option (List ℕ) → Walked RouteEntry
 route_by hub line_number done node line second = do
   fault_where (is_routed hub done node) DoubleNode

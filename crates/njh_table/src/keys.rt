@@ -1,4 +1,5 @@
-//! The values of a table's keys. A key that must be there and isn't is `MissingKey`; a value of another type or out of range is `BadValue`.
+//! The values of a table's keys. A key that must be there and isn't is `MissingKey`; a value of another type or out of
+//! range is `BadValue`.
 
 ghost use Rattle.std.specs.Prelude.{◌≡◌, ◌≤◌, [], Some, None, IfOk, ok_or, option_map};
 ghost use Rattle.std.specs.List.{list_all};

@@ -7,7 +7,7 @@ pub enum End {
     Ended,
     /// It could not be read or written, or took more answers than there is room for.
     Failed,
-    /// It took nothing for a second while bytes waited to go out.
+    /// Bytes waited for a second to go out.
     Stalled,
     /// Another connection took its place.
     Replaced,

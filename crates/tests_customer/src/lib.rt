@@ -1,5 +1,5 @@
-//! Tests of a customer over public items: the next block of its lines, its users' commands, and the customer whole, with bytes written
-//! by hand; and the streams in memory that commands need.
+//! Tests of a customer over public items: the next block of its lines, its users' commands, and the customer whole,
+//! with bytes written by hand; and the streams in memory that commands need.
 #![tactic(auto)]
 
 mod streams;

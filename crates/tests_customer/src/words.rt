@@ -4,7 +4,8 @@ use njh_spool::{FileId, State};
 use njh_stream::Sender;
 use std::test::Fail;
 
-/// What a stream is about, as `Idle`, `Aborting`, `Requested 0` or `EofSent 0` of a file, or `Sending 0 3` of a file's record.
+/// What a stream is about, as `Idle`, `Aborting`, `Requested 0` or `EofSent 0` of a file, or `Sending 0 3` of a file's
+/// record.
 pub fn sender_in(files: &[FileId], what: &str) -> Result<Sender, Fail> {
     let (state, places) = what.split_once(" ").unwrap_or((what, ""));
     match state {

@@ -1,5 +1,6 @@
-//! Tests of names, frames, records, blocks, headers, nodal messages, lines, tables, the spool and streams, of what is printed of faults, and
-//! of turns over wires in memory and which lines are served: all over the public items of their crates.
+//! Tests of names, frames, records, blocks, headers, nodal messages, lines, tables, the spool and streams, of what is
+//! printed of faults, and of turns over wires in memory and which lines are served: all over the public items of their
+//! crates.
 #![tactic(auto)]
 
 #[cfg(test)]

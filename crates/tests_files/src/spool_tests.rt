@@ -74,8 +74,9 @@ const BLOCKS_THAT_ALTERNATE: &str = "
 0 on 0 2 = 80 08*249
 ";
 
-/// Records that end at a block's end, cross one link, and cross two (the third of the second case begins in the last byte of a
-/// block, and the sixth two bytes before an end): read on in order, from the first again after some, and by their index.
+/// Records that end at a block's end, cross one link, and cross two (the third of the second case begins in the last
+/// byte of a block, and the sixth two bytes before an end): read on in order, from the first again after some, and by
+/// their index.
 const RECORDS_CROSS_BLOCKS: &str = "
 20 1 2
 0 begin_out = 0

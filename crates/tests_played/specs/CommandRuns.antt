@@ -30,7 +30,8 @@ two_files_of_a_name_are_cancelled :
 unfolding Plays
 two_files_of_a_name_are_cancelled = refl
 
--- A file with a continuation of 131 blanks behind its job header, so that its destination lies in two blocks of the spool.
+-- A file with a continuation of 131 blanks behind its job header, so that its destination lies in two blocks of the
+-- spool.
 abbrev long_headed : String → List ℕ
 long_headed node =
     job_header 0x99 42 "ANNA" ++ hex "99 c0 9f9f9f9f 87 00" ++ data_set_header 0x99 node "PAUL" ++ trailer 0x99 ++ file_end 0x99

@@ -3,7 +3,8 @@ use Rattle.std.specs.Prelude.{ℕ, List, [], ◌∷◌, ◌++◌, refl}
 use Rattle.njh_table.specs.Entries.{CustomerEntry}
 use Rattle.tests_played.specs.Spelled.{hex, job_header, data_set_header, trailer, file_end, says, hears, block}
 use Rattle.tests_played.specs.Played.{Plays, on}
-use Rattle.tests_played.specs.Samples.{a1, acme, customer_of_quota, request, permission, refusal, completion, lyon_is_up, file_comes}
+use Rattle.tests_played.specs.Samples.{a1, acme, customer_of_quota, request, permission, refusal, completion}
+use Rattle.tests_played.specs.Samples.{lyon_is_up, file_comes}
 
 -- ANNA hears at once that nobody has PARIS
 file_for_an_unknown_node :

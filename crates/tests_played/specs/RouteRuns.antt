@@ -3,7 +3,8 @@ use Prim.Native.String.{String}
 use Rattle.std.specs.Prelude.{ℕ, List, [], ◌∷◌, ◌++◌, Some, None, refl}
 use Rattle.njh_customer.specs.declared.signal.Signal.TheVariants.{Tick, Lost}
 use Rattle.njh_table.specs.NewRoutes.{NewRoute, NoSecond}
-use Rattle.tests_played.specs.Spelled.{ebcdic, field, nodal_message, job_header, data_set_header, hello, trailer, file_end, says, hears, block}
+use Rattle.tests_played.specs.Spelled.{ebcdic, field, nodal_message, job_header, data_set_header, hello, trailer}
+use Rattle.tests_played.specs.Spelled.{file_end, says, hears, block}
 use Rattle.tests_played.specs.Played.{Plays, on, routes, signal}
 use Rattle.tests_played.specs.Samples.{
   a1,
@@ -30,7 +31,8 @@ to_foreign node = record { node = field node; line = None; second = NoSecond }
 abbrev one_file : String → List ℕ
 one_file line = hears "ANNA" line ++ hears "ANNA" "NJH002 1 FILES"
 
--- The file is Held when METZ has no route any more, also where it has one again, and goes when it is released. Routes with a fault do nothing.
+-- The file is Held when METZ has no route any more, also where it has one again, and goes when it is released. Routes
+-- with a fault do nothing.
 file_is_held_and_released :
     Plays acme
     (file_is_ready
@@ -48,8 +50,8 @@ file_is_held_and_released :
 unfolding Plays
 file_is_held_and_released = refl
 
--- A file that is being sent goes on, and a message that waits on its line goes out with it. When the line is lost the file is Ready, and no
--- line asks for it until METZ has a route again.
+-- A file that is being sent goes on, and a message that waits on its line goes out with it. When the line is lost the
+-- file is Ready, and no line asks for it until METZ has a route again.
 file_that_is_sent_goes_on :
     Plays acme
     (file_is_ready
@@ -67,7 +69,8 @@ file_that_is_sent_goes_on :
 unfolding Plays
 file_that_is_sent_goes_on = refl
 
--- A file that METZ refused is Held. One whose headers have come before goes on coming, and is Ready, though nobody asks for it.
+-- A file that METZ refused is Held. One whose headers have come before goes on coming, and is Ready, though nobody asks
+-- for it.
 refused_is_held_and_partial_comes :
     Plays acme
     (file_is_ready

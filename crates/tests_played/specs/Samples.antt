@@ -3,7 +3,8 @@ use Prim.Native.String.{String}
 use Rattle.std.specs.Prelude.{◌≡◌, ℕ, ◌+◌, false, List, [], ◌∷◌, ◌++◌, None, refl}
 use Rattle.njh_table.specs.Entries.{CustomerEntry}
 use Rattle.njh_table.specs.declared.Role.TheVariants.{Answer}
-use Rattle.tests_played.specs.Spelled.{hex, field, text, block, job_header, data_set_header, hello, trailer, file_end, says, hears}
+use Rattle.tests_played.specs.Spelled.{hex, field, text, block, job_header, data_set_header, hello, trailer, file_end}
+use Rattle.tests_played.specs.Spelled.{says, hears}
 use Rattle.tests_played.specs.Played.{Turn, on}
 
 -- the line to LYON, and the line to METZ

@@ -1,7 +1,8 @@
 -- Whole runs: files that go out, and what keeps them from it.
 use Rattle.std.specs.Prelude.{ℕ, List, [], ◌∷◌, ◌++◌, refl}
 use Rattle.njh_customer.specs.declared.signal.Signal.TheVariants.{Tick, Lost}
-use Rattle.tests_played.specs.Spelled.{hex, ebcdic, nodal_message, job_header, data_set_header, trailer, file_end, says, hears, text, block}
+use Rattle.tests_played.specs.Spelled.{hex, ebcdic, nodal_message, job_header, data_set_header, trailer, file_end, says}
+use Rattle.tests_played.specs.Spelled.{hears, text, block}
 use Rattle.tests_played.specs.Played.{Plays, Turn, on, signal}
 use Rattle.tests_played.specs.Samples.{
   a1,
@@ -58,7 +59,8 @@ file_is_sent_again_after_a_loss :
 unfolding Plays
 file_is_sent_again_after_a_loss = refl
 
--- HI of LYON to PAUL at METZ, in a record with two bytes more, which aren't sent on; it goes out behind the request for a file.
+-- HI of LYON to PAUL at METZ, in a record with two bytes more, which aren't sent on; it goes out behind the request for
+-- a file.
 message_goes_on :
     Plays acme
     (file_is_ready
@@ -100,7 +102,8 @@ abbrev verse : ℕ → List ℕ
 verse rcb =
     rcb ∷ hex "80 ff" ++ ebcdic "THE QUICK BROWN FOX JUMPS OVER THE LAZY DOG. THE DOG SLEEPS ON." ++ hex "c6" ++ ebcdic " MORE " ++ hex "00"
 
--- METZ takes texts of 300 bytes. The first block has 296 with all headers, the second 300 with all data; so the trailers are left.
+-- METZ takes texts of 300 bytes. The first block has 296 with all headers, the second 300 with all data; so the
+-- trailers are left.
 abbrev trailers_are_left : List Turn
 trailers_are_left =
     lyon_is_up

@@ -3,7 +3,8 @@ use Rattle.std.specs.Prelude.{[], ◌∷◌, ◌++◌, refl}
 use Rattle.njh_customer.specs.declared.signal.Signal.TheVariants.{Garbled, Lost}
 use Rattle.tests_played.specs.Spelled.{hex, text, block, says, hears}
 use Rattle.tests_played.specs.Played.{Plays, on, signal}
-use Rattle.tests_played.specs.Samples.{a1, a2, acme, enquiry, ack0, nak, lyon_signs_on, bureau_signs_on, lyon_is_up, with_small_texts}
+use Rattle.tests_played.specs.Samples.{a1, a2, acme, enquiry, ack0, nak, lyon_signs_on, bureau_signs_on, lyon_is_up}
+use Rattle.tests_played.specs.Samples.{with_small_texts}
 
 nothing_comes : Plays acme []
 unfolding Plays
@@ -19,7 +20,8 @@ list_without_files :
 unfolding Plays
 list_without_files = refl
 
--- Sixteen counts, and 0 again. The same block once more has the last frame sent again; a count out of turn ends the session.
+-- Sixteen counts, and 0 again. The same block once more has the last frame sent again; a count out of turn ends the
+-- session.
 counts_go_round :
     Plays acme
     (lyon_is_up

@@ -1,6 +1,7 @@
 -- Bytes written by hand: as hex, and as text in EBCDIC.
 use Prim.Native.String.{String}
-use Rattle.std.specs.Prelude.{ℕ, ◌+◌, ◌-◌, ◌*◌, ◌==◌, nat_lt, cond, not, List, [], ◌∷◌, ◌++◌, map, filter, length, replicate, codes}
+use Rattle.std.specs.Prelude.{ℕ, ◌+◌, ◌-◌, ◌*◌, ◌==◌, nat_lt, cond, not, List, [], ◌∷◌, ◌++◌, map, filter, length}
+use Rattle.std.specs.Prelude.{replicate, codes}
 
 -- the value of a hex digit, by its ASCII code
 abbrev digit : ℕ → ℕ
@@ -34,7 +35,8 @@ blanks_past text = 8 - length (codes text)
 abbrev pub field : String → List ℕ
 field text = ebcdic text ++ replicate (blanks_past text) 0x40
 
--- The same as it is spelled behind other bytes of a literal: a string control byte stands for its blanks, of which there are two at least.
+-- The same as it is spelled behind other bytes of a literal: a string control byte stands for its blanks, of which
+-- there are two at least.
 abbrev pub named : String → List ℕ
 named text = ebcdic text ++ (0x80 + blanks_past text) ∷ []
 

@@ -1,9 +1,13 @@
 //! Damaged input on a hub.
 //!
-//! `damaged` has a line for each script: its name, and how many bytes the piece of its `CUT` has, 0 where there is none.
-//! `NAME.script` has the steps, and `NAME.out` what they do. A step is a line of the program's own scripts, or `CUT`, which is `BYTES`
-//! with a piece that is cut, or `SHOW`, which says how many blocks the first customer's files take, partial ones too, and lists the
-//! whole ones. A script with a `CUT` is played on a new hub for each place behind which the piece is cut. What all these do is
+//! `damaged` has a line for each script: its name, and how many bytes the piece of its `CUT` has, 0 where there is
+//! none.
+//! `NAME.script` has the steps, and `NAME.out` what they do. A step is a line of the program's own scripts, or `CUT`,
+//! which is `BYTES`
+//! with a piece that is cut, or `SHOW`, which says how many blocks the first customer's files take, partial ones too,
+//! and lists the
+//! whole ones. A script with a `CUT` is played on a new hub for each place behind which the piece is cut. What all
+//! these do is
 //! said once where the steps do the same behind several places: `from N` begins what they do from the place N on.
 
 use crate::steps::{bytes_of, of_hub};

@@ -1,6 +1,7 @@
 //! Streams that fail, or fall short, at each of their calls in turn.
 //!
-//! `replayed` has a line for each script: its name and the arguments of the program. `NAME.script` is the script, and `NAME.out` what
+//! `replayed` has a line for each script: its name and the arguments of the program. `NAME.script` is the script, and
+//! `NAME.out` what
 //! the program prints.
 
 ghost use Rattle.std.specs.Prelude.{◌≤◌, IfOk};
@@ -164,7 +165,8 @@ fn first_other<R: Files + Net + Clock + AllocGlobal>(
     Ok(Some(MANY))
 }
 
-/// Whether a run ended as it must: with the whole output, or, where a call failed, as one whose device fails, with a beginning of it.
+/// Whether a run ended as it must: with the whole output, or, where a call failed, as one whose device fails, with a
+/// beginning of it.
 fn ends_so(
     alloc: Global,
     ended: Result<(), Failure>,

@@ -2,8 +2,8 @@
 //! by hand but for the counts of random runs and traffic.
 //!
 //! First come the stored scripts, then damaged input, what runs have of one customer beside others, streams that fail,
-//! the steps of a hub, what is seen of it, new routes, the names of faults, and traffic at random. Last it is the program
-//! itself on its own arguments, whose tables are refused, and ends as the program ends then.
+//! the steps of a hub, what is seen of it, new routes, the names of faults, and traffic at random. Last it is the
+//! program itself on its own arguments, whose tables are refused, and ends as the program ends then.
 #![tactic(auto)]
 
 mod customers;

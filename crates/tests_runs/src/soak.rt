@@ -1,9 +1,9 @@
 //! Traffic at random on a hub: valid traffic of all kinds on every line, damaged here and there, and signals.
 //!
-//! After every step no customer uses more blocks than its quota, no step is refused but on a line that isn't there, and at the end of each
-//! run, with every line lost, each used block belongs to a whole file. What has happened is counted and printed, which shows that the
-//! traffic came to everything. The counts in the file `stdout` aren't by hand but were taken from a run; only that what must not happen
-//! happened 0 times was known before.
+//! After every step no customer uses more blocks than its quota, no step is refused but on a line that isn't there, and
+//! at the end of each run, with every line lost, each used block belongs to a whole file. What has happened is counted
+//! and printed, which shows that the traffic came to everything. The counts in the file `stdout` aren't by hand but
+//! were taken from a run; only that what must not happen happened 0 times was known before.
 
 mod bench;
 mod counts;

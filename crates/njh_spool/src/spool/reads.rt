@@ -76,9 +76,9 @@ impl Spool {
         Ok(srcb)
     }
 
-    /// As `record_at`, and keeps in the file's slot where the record begins and where the one behind it does: reading it
-    /// again, as where it had no room in a block, or the one behind it costs no walk over the file, so reading a file from its
-    /// first record to its last costs the file's bytes. S3 where the number is no file's.
+    /// As `record_at`, and keeps in the file's slot where the record begins and where the one behind it does: reading
+    /// it again, as where it had no room in a block, or the one behind it costs no walk over the file, so reading a
+    /// file from its first record to its last costs the file's bytes. S3 where the number is no file's.
     pub fn read_on(
         &mut self,
         customer: u16,

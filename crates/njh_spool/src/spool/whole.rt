@@ -45,7 +45,8 @@ impl Spool {
         }
     }
 
-    /// What the headers of a whole file say of it, without a look at its records. S3 where the number is no whole file's.
+    /// What the headers of a whole file say of it, without a look at its records. S3 where the number is no whole
+    /// file's.
     pub fn headers(&self, customer: u16, id: FileId) -> Result<FileHeaders, SpoolFault>
         requires { customer < length self.now }
         ensures { result ≡ or_no_file (option_map (λ f. headers_of f.kind f.records) (whole_numbered id (part customer self.now))) }
@@ -101,8 +102,8 @@ impl Spool {
         Ok(())
     }
 
-    /// Writes eight bytes over those from a place on of the n-th record. Where that is one of the file's headers, what they say is
-    /// read again.
+    /// Writes eight bytes over those from a place on of the n-th record. Where that is one of the file's headers, what
+    /// they say is read again.
     ///
     /// S3 where the number is no whole file's.
     pub fn rewrite(

@@ -16,13 +16,15 @@ use std::test::Fail;
 
 /// Plays a script on two customers without files and the streams of a line. Its lines are:
 ///
-/// - `out USER NUMBERS RECORDS` or `in USER NUMBERS RECORDS`: files of the user come, whole, with these job numbers, as `42` or `1-63`;
+/// - `out USER NUMBERS RECORDS` or `in USER NUMBERS RECORDS`: files of the user come, whole, with these job numbers, as
+/// `42` or `1-63`;
 ///   behind each job header are these records
 /// - `say USER MESSAGE => REPLIES`: what a user at LYON says, and the replies, parted by strokes
 /// - `count USER MESSAGE => COUNT LAST`: the same, with how many replies there are, and the last
 /// - `state PLACE STATE`: a file of ACME has another state; files have places in order of arrival, those of BOLT too
 /// - `has PLACE RECORDS`: the file begins with these records
-/// - `set STREAM SENDER`: a stream is about something, as `Idle`, `Aborting`, `Sending 2 1` of a file's record or `EofSent 0` of a file
+/// - `set STREAM SENDER`: a stream is about something, as `Idle`, `Aborting`, `Sending 2 1` of a file's record or
+/// `EofSent 0` of a file
 /// - `is STREAM SENDER`: it is about that
 pub fn play<R: Abort>(rt: &R, alloc: Global, script: &str) -> Result<(), Fail> {
     let tables = Tables::read(alloc, TABLES)?;

@@ -13,18 +13,20 @@ use std::alloc::{AllocError, Global};
 use std::process::Abort;
 use std::test::Fail;
 
-/// Plays each of the cases, which are parted by empty lines. A case begins with where its line leads, LYON or METZ. Its other
-/// lines are:
+/// Plays each of the cases, which are parted by empty lines. A case begins with where its line leads, LYON or METZ. Its
+/// other lines are:
 ///
 /// - `out RECORDS` or `in RECORDS`: ACME has a file more, whole, of these records; `in*1024 RECORDS` has so many
 /// - `state PLACE STATE`: a file has another state; files have places in order of arrival
 /// - `streams COUNT`, `peer FCS`, `answers COUNT`, `message BYTES`: what the line has
-/// - `set STREAM SENDER`: a stream is about something, as `Idle`, `Aborting`, `Requested 0` or `EofSent 0` of a file, or
+/// - `set STREAM SENDER`: a stream is about something, as `Idle`, `Aborting`, `Requested 0` or `EofSent 0` of a file,
+/// or
 ///   `Sending 0 3` of a file's record
 /// - `is STREAM SENDER`: it is about that
 /// - `next SIZE = BYTES`: the next block of at most so many bytes has this text, or there is `none`
 /// - `ends SIZE = LENGTH BYTES`: the next block's text has so many bytes, and these are its last four
-/// - `rcbs SIZE RECORDS ENDS = LENGTH RCBS`: the next block's text has so many bytes, so many records of ten bytes behind its head
+/// - `rcbs SIZE RECORDS ENDS = LENGTH RCBS`: the next block's text has so many bytes, so many records of ten bytes
+/// behind its head
 ///   of three, and so many ends of file of three bytes, with these RCBs
 pub fn play<R: Abort>(rt: &R, alloc: Global, cases: &str) -> Result<(), Fail> {
     let tables = Tables::read(alloc, TABLES)?;

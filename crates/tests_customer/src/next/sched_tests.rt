@@ -63,8 +63,8 @@ next 1024 = 83 8f cf 99 80 40 00
 is 4 Idle
 ";
 
-/// Behind 98 answers, which make a text of 298 bytes, waits an answer, an abort, a request, a message or a record. Three bytes more
-/// are 301: one source's record has room there, and none in 300.
+/// Behind 98 answers, which make a text of 298 bytes, waits an answer, an abort, a request, a message or a record.
+/// Three bytes more are 301: one source's record has room there, and none in 300.
 const ROOM: &str = "
 METZ
 answers 98
@@ -182,7 +182,8 @@ answers 1
 next 1024 = 83 8f cf a0 99 00 a8 80 40 90 98 00 99 80 00 00
 ";
 
-/// Two files of each kind with equal names; the first of them is Ready or isn't; a line of two streams of each kind, or of one.
+/// Two files of each kind with equal names; the first of them is Ready or isn't; a line of two streams of each kind, or
+/// of one.
 const OLDEST: &str = "
 METZ
 streams 2

@@ -9,8 +9,8 @@ use std::fmt::Display;
 use std::process::Abort;
 use std::test::Fail;
 
-/// Plays each of the cases, which are parted by empty lines. The first line of a case has the blocks of two customers and the
-/// files of each.
+/// Plays each of the cases, which are parted by empty lines. The first line of a case has the blocks of two customers
+/// and the files of each.
 pub fn play<R: Abort>(rt: &R, alloc: Global, cases: &str) -> Result<(), Fail> {
     for case in cases.trim().split("\n\n") {
         play_case(rt, alloc, case)?;
@@ -67,8 +67,8 @@ fn go<R: Abort>(
     Ok(())
 }
 
-/// A line of a case: a customer, a call, the place of a file's number and two numbers more where the call has any, and behind `=`
-/// what is given.
+/// A line of a case: a customer, a call, the place of a file's number and two numbers more where the call has any, and
+/// behind `=` what is given.
 pub fn goes<R: Abort>(
     rt: &R,
     alloc: Global,

@@ -3,9 +3,9 @@
 use std::alloc::Global;
 use std::test::Fail;
 
-/// A name and its bytes in hex; `00*18` is 18 times 00. `JOB` with ANNA's node and name, and with the node and user where it
-/// is to run, is the header of her job PAYROLL, number 42. The last are NJH020 NODE OSLO UNKNOWN, NJH020 NODE PARIS UNKNOWN,
-/// NJH021 SPOOL FULL LYON.42, NJH022 NO FILES FOR BUREAU and NJH023 LYON.42 ROUTED BACK.
+/// A name and its bytes in hex; `00*18` is 18 times 00. `JOB` with ANNA's node and name, and with the node and user
+/// where it is to run, is the header of her job PAYROLL, number 42. The last are NJH020 NODE OSLO UNKNOWN, NJH020 NODE
+/// PARIS UNKNOWN, NJH021 SPOOL FULL LYON.42, NJH022 NO FILES FOR BUREAU and NJH023 LYON.42 ROUTED BACK.
 const PARTS: &str = "
 BLANK 40*8
 LYON d3e8d6d540404040

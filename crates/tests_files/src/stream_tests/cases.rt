@@ -1,7 +1,7 @@
 //! What comes on streams, with the answers and messages that are due.
 
-/// Output, a job with what continues its header, output with a record of 256 bytes and one that is longer, and two jobs of which one
-/// lacks its trailer.
+/// Output, a job with what continues its header, output with a record of 256 bytes and one that is longer, and two jobs
+/// of which one lacks its trailer.
 pub const STORED: &str = "
 4 100
 request = a0 99
@@ -87,7 +87,8 @@ c0 JOB+lyon+ANNA+OSLO+BLANK = b0 98
 size = 0 0
 ";
 
-/// A file's records take three bytes each more than they have, and a block holds 252. In the first case it has 505 bytes, and then 504.
+/// A file's records take three bytes each more than they have, and a block holds 252. In the first case it has 505
+/// bytes, and then 504.
 pub const QUOTAS: &str = "
 4 2
 request = a0 99
@@ -147,7 +148,8 @@ state = idle
 size = 2 2
 ";
 
-/// What continues a header isn't read. A later data set header is, and names the same node. The first file has 261 bytes.
+/// What continues a header isn't read. A later data set header is, and names the same node. The first file has 261
+/// bytes.
 pub const HEADERS: &str = "
 4 100
 request = a0 99

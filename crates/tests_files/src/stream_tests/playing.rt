@@ -7,8 +7,8 @@ use std::alloc::Global;
 use std::process::Abort;
 use std::test::Fail;
 
-/// Plays each of the cases, which are parted by empty lines. The first line of a case is a stream to the hub with the customer's
-/// blocks, or the state of a stream from the hub.
+/// Plays each of the cases, which are parted by empty lines. The first line of a case is a stream to the hub with the
+/// customer's blocks, or the state of a stream from the hub.
 pub fn play<R: Abort>(rt: &R, alloc: Global, cases: &str) -> Result<(), Fail> {
     let tables = Tables::read(alloc, TABLES)?;
     play_all(rt, alloc, &tables, cases)

@@ -13,8 +13,8 @@ use std::alloc::Global;
 use std::process::Abort;
 use std::test::Fail;
 
-/// Plays a case. The first line has the stream's place (SYSIN 1 to 4, then SYSOUT 1 to 4) and the customer's blocks. Each other
-/// line is what comes, the answer behind `=` and what is told behind `:`.
+/// Plays a case. The first line has the stream's place (SYSIN 1 to 4, then SYSOUT 1 to 4) and the customer's blocks.
+/// Each other line is what comes, the answer behind `=` and what is told behind `:`.
 pub fn play_case<R: Abort>(
     rt: &R,
     alloc: Global,

@@ -22,8 +22,8 @@ d0 END
 80 = c0 99
 ";
 
-/// Each case begins with the stream's state, and the file is in state Sending. Then come answers of the peer and what else
-/// happens, each with the stream's and the file's state after it.
+/// Each case begins with the stream's state, and the file is in state Sending. Then come answers of the peer and what
+/// else happens, each with the stream's and the file's state after it.
 const ANSWERS: &str = "
 idle
 granted = idle Sending

@@ -5,7 +5,8 @@ use crate::same::is_same;
 use std::process::Abort;
 use std::test::Fail;
 
-/// What comes of the base tables after changes. `A > B` puts B where A stands first; `/` is the end of a line, and `#` begins a comment.
+/// What comes of the base tables after changes. `A > B` puts B where A stands first; `/` is the end of a line, and `#`
+/// begins a comment.
 const ONE: &str = r#"
 K1 BadToml: capacity = 200 > capacity =
 K1 BadToml: capacity = 200 > capacity = 200/capacity = 200

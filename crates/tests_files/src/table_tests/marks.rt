@@ -6,8 +6,8 @@ use njh_table::{Customer, LineId};
 use std::process::Abort;
 use std::test::Fail;
 
-/// Steps one after the other, and the marks behind each: a line that is marked, by its customer and its number; one whose mark is taken
-/// away; and those of all lines.
+/// Steps one after the other, and the marks behind each: a line that is marked, by its customer and its number; one
+/// whose mark is taken away; and those of all lines.
 const STEPS: &str = "
 down 0 0 = a1 - a2 - b1 -
 up 0 1 = a1 - a2 up b1 -

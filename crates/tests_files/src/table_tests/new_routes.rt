@@ -6,8 +6,8 @@ use njh_table::{Customer, LineId, RouteEntry};
 use std::process::Abort;
 use std::test::Fail;
 
-/// Routes for the first customer, which has two lines, each a node with the customer and the number of its line, and then of its second
-/// line if it has one; and what comes of them: both customers' routes, or the fault.
+/// Routes for the first customer, which has two lines, each a node with the customer and the number of its line, and
+/// then of its second line if it has one; and what comes of them: both customers' routes, or the fault.
 const GIVEN: &str = "
 - = ACME; BOLT LYON by 0;
 LYON 0 0 = ACME LYON by 0; BOLT LYON by 0;

@@ -5,8 +5,8 @@ use crate::same::is_same;
 use std::process::Abort;
 use std::test::Fail;
 
-/// Customers, the lines of the first, routes of each, what stands last in the file, and what comes of it. What is past its limit is told
-/// before its keys, which are missing.
+/// Customers, the lines of the first, routes of each, what stands last in the file, and what comes of it. What is past
+/// its limit is told before its keys, which are missing.
 const SIZES: &str = "
 64 4 0  = taken
 1 4 512  = taken

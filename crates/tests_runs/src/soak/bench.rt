@@ -32,7 +32,8 @@ pub struct Watched {
 /// What nobody is to see.
 #[derive(Drop)]
 pub struct Faults {
-    /// Steps on a line of the hub that were refused, or on another that weren't; customers that aren't there and were answered.
+    /// Steps on a line of the hub that were refused, or on another that weren't; customers that aren't there and were
+    /// answered.
     pub refusals: u64,
     /// Looks at a customer that used more blocks than its quota.
     pub over: u64,
