@@ -1,3 +1,4 @@
+pub mod CursorLaws
 pub mod EachLaws
 pub mod FileLists
 pub mod KeptLaws

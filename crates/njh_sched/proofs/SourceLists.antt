@@ -1,12 +1,11 @@
 -- Sources one after the other.
-use Rattle.std.proofs.Common.{◌≡◌, ◌<◌, ℕ, zero, suc, ◌+◌, Bool, true, false, List, [], ◌∷◌, ◌++◌, length, drop, map, replicate, Some, None}
+use Rattle.std.proofs.Common.{◌≡◌, ◌<◌, ℕ, zero, suc, ◌+◌, Bool, true, false, List, [], ◌∷◌}
+use Rattle.std.proofs.Common.{◌++◌, length, drop, map, replicate, Some, None}
 use Rattle.std.proofs.Common.{slice_get, find, cond, refl, sym, ap, ◌∙◌, not-suc-le-zero, le_of_suc-le-suc, add-one}
 use Rattle.njh_block.specs.Writing.{Writing}
-use Rattle.njh_record.specs.declared.Kind.{Kind}
-use Rattle.njh_record.specs.declared.Kind.TheVariants.{In, Out}
 use Rattle.njh_spool.specs.CustomerSpool.{CustomerSpool, WholeFile}
-use Rattle.njh_sched.specs.NextBlock.{Outlet, Source, Filling, filling, filling_where, after_source, after_sources, streams, streams_of}
-use Rattle.njh_sched.specs.NextBlock.{requests, requests_of}
+use Rattle.njh_sched.specs.NextBlock.{Outlet, Source, Filling, filling, filling_where}
+use Rattle.njh_sched.specs.NextBlock.{after_source, after_sources, streams}
 
 pub stream_at : (place : ℕ) → place < 8 → slice_get streams place ≡ Some place
 unfolding streams
@@ -25,14 +24,6 @@ stream_at (suc (suc (suc (suc (suc (suc (suc (suc n)))))))) h =
 pub no_streams : (place : ℕ) → place ≡ 8 → drop place streams ≡ []
 unfolding streams
 no_streams place e = ap (λ n. drop n streams) e
-
-pub none_of_kind : (kind : Kind) (number : ℕ) → number ≡ 4 → drop number (streams_of kind) ≡ []
-none_of_kind In number e = ap (λ n. drop n (streams_of In)) e
-none_of_kind Out number e = ap (λ n. drop n (streams_of Out)) e
-
-pub both_kinds : requests ≡ requests_of In ++ requests_of Out
-unfolding streams
-both_kinds = refl
 
 -- the element at an index, and those behind it
 pub drop_at : (xs : List ℕ) (i x : ℕ) → slice_get xs i ≡ Some x → drop i xs ≡ x ∷ drop (i + 1) xs
@@ -86,7 +77,8 @@ module _ (goes : WholeFile → Bool) where
   -- the first of those that wait in a queue
   pub first_of_queue : {X : Type 0} (xs : List X) (a : X) (source : Source) (x y : Filling) → slice_get xs 0 ≡ Some a
       → after_source goes source x ≡ y
-      → after_sources goes (replicate (length xs) source) x ≡ after_sources goes (replicate (length (drop 1 xs)) source) y
+      → after_sources goes (replicate (length xs) source) x
+      ≡ after_sources goes (replicate (length (drop 1 xs)) source) y
   first_of_queue [] a source x y h e = absurd (cc h)
   first_of_queue (b ∷ xs) a source x y h e = one_more source (replicate (length xs) source) x y e
 
@@ -99,7 +91,8 @@ module _ (goes : WholeFile → Bool) where
   module _ (of : ℕ → Source) (ks : List ℕ) where
     -- one stream more, and it had room or nothing to send
     pub stream_went_on :
-        (i k : ℕ) (b : Bool) (x : Filling) (w : Writing) (o : Outlet) (s : CustomerSpool) → slice_get ks i ≡ Some k → b ≡ true
+        (i k : ℕ) (b : Bool) (x : Filling) (w : Writing) (o : Outlet) (s : CustomerSpool) → slice_get ks i ≡ Some k
+        → b ≡ true
         → after_source goes (of k) x ≡ filling_where b w o s
         → after_sources goes (map of (drop i ks)) x ≡ after_sources goes (map of (drop (i + 1) ks)) (filling w o s)
     stream_went_on i k b x w o s at room e =
@@ -108,12 +101,14 @@ module _ (goes : WholeFile → Bool) where
 
     -- one stream more, and it had no room
     pub stream_stopped :
-        (i k : ℕ) (b : Bool) (x : Filling) (w : Writing) (o : Outlet) (s : CustomerSpool) → slice_get ks i ≡ Some k → b ≡ false
+        (i k : ℕ) (b : Bool) (x : Filling) (w : Writing) (o : Outlet) (s : CustomerSpool) → slice_get ks i ≡ Some k
+        → b ≡ false
         → after_source goes (of k) x ≡ filling_where b w o s
         → after_sources goes (map of (drop i ks)) x ≡ filling_where false w o s
     stream_stopped i k b x w o s at room e =
         ap (λ more. after_sources goes (map of more) x) (drop_at ks i k at)
-        ∙ one_more (of k) (map of (drop (i + 1) ks)) x (filling_where false w o s) (e ∙ ap (λ v. filling_where v w o s) room)
+        ∙ one_more (of k) (map of (drop (i + 1) ks)) x (filling_where false w o s)
+        (e ∙ ap (λ v. filling_where v w o s) room)
         ∙ full_stays (map of (drop (i + 1) ks)) w o s
 
     pub streams_done : (i : ℕ) (x : Filling) → drop i ks ≡ [] → after_sources goes (map of (drop i ks)) x ≡ x

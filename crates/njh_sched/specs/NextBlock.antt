@@ -1,10 +1,10 @@
--- What the hub's next block holds (IBM SC23-0070, multileaving): what may come stands in one order, each is judged in the state that those
--- before it leave, and the block takes the longest front that has room.
-use Rattle.std.specs.Prelude.{◌≡◌, ◌≤◌, ℕ, ◌+◌, ◌-◌, ◌%◌, Bool, true, false, List}
-use Rattle.std.specs.Prelude.{[], ◌∷◌, ◌++◌, length, take, drop, set, map, replicate, find, slice_get}
+-- What the hub's next block holds (IBM SC23-0070, multileaving): what may come stands in one order, each is judged in
+-- the state that those before it leave, and the block takes the longest front that has room.
+use Rattle.std.specs.Prelude.{ℕ, ◌+◌, ◌-◌, ◌%◌, Bool, true, false, List}
+use Rattle.std.specs.Prelude.{[], ◌∷◌, ◌++◌, length, drop, set, map, replicate, find, slice_get}
 use Rattle.std.specs.Prelude.{slice_index_or, option_map, Option, Some, None, nat_lt, not, ◌&&◌}
-use Rattle.std.specs.List.{list_any}
-use Rattle.njh_block.specs.Blocks.{Item, Data, Aborted, Control, text_of, control_byte, rcb_of, is_on, all_suspended, messages_on}
+use Rattle.njh_block.specs.Blocks.{Item, Data, Aborted, Control, text_of, control_byte, rcb_of}
+use Rattle.njh_block.specs.Blocks.{is_on, all_suspended, messages_on}
 use Rattle.njh_block.specs.Codes.{kind_of}
 use Rattle.njh_block.specs.Writing.{Writing, has_room, with_last}
 use Rattle.njh_block.specs.declared.answer.Answer.{Answer}
@@ -88,7 +88,11 @@ oldest goes kind s = find (may_go goes kind) s.whole
 -- a stream asks for a file, which is Sending from then on
 abbrev pub asking : Outlet → CustomerSpool → ℕ → ℕ → Candidate
 asking o s k number =
-    record { item = Control 0x90 (rcb_of k); outlet = with_sender k (Requested number) o; spool = with_state number state.Sending s }
+    record {
+      item = Control 0x90 (rcb_of k);
+      outlet = with_sender k (Requested number) o;
+      spool = with_state number state.Sending s;
+    }
 
 abbrev pub is_idle : Sender → Bool
 is_idle Idle = true
@@ -115,7 +119,8 @@ data_item k (Some r) = Data (rcb_of k) r.srcb r.bytes
 data_item k None = Data (rcb_of k) 0x80 []
 
 abbrev pub serving : Outlet → CustomerSpool → ℕ → Next → Candidate
-serving o s k next = record { item = data_item k next.stored; outlet = with_served k (with_sender k next.sender o); spool = s }
+serving o s k next =
+    record { item = data_item k next.stored; outlet = with_served k (with_sender k next.sender o); spool = s }
 
 abbrev pub is_sending : Sender → Bool
 is_sending (Sending n place) = true
@@ -174,8 +179,8 @@ messages_where false messages = []
 abbrev pub waiting_messages : Outlet → List Source
 waiting_messages o = messages_where (messages_on o.peer) o.messages
 
--- The answers that wait, the streams' aborts, their requests, the messages that wait, and then the streams in turn: as often as the block
--- may have bytes, which is more than it has room for.
+-- The answers that wait, the streams' aborts, their requests, the messages that wait, and then the streams in turn: as
+-- often as the block may have bytes, which is more than it has room for.
 abbrev pub turns : ℕ → List Source
 turns most = replicate most StreamTurn
 
@@ -235,28 +240,6 @@ filling_where more w o s = record { block = w; outlet = o; spool = s; full = not
 -- how many bytes more a block may have
 abbrev pub room_of : Writing → ℕ
 room_of w = w.limit - length (text_of w.bcb w.fcs w.items)
-
--- the streams of a kind
-abbrev pub streams_of : Kind → List ℕ
-streams_of In = 0 ∷ 1 ∷ 2 ∷ 3 ∷ []
-streams_of Out = 4 ∷ 5 ∷ 6 ∷ 7 ∷ []
-
-abbrev pub requests_of : Kind → List Source
-requests_of kind = map StreamRequest (streams_of kind)
-
--- no file before an index may go on a stream of a kind
-pub record HasPassed (goes : WholeFile → Bool) (kind : Kind) (index : ℕ) (s : CustomerSpool) : Type 0 where
-  pub within : index ≤ length s.whole
-  pub none : list_any (may_go goes kind) (take index s.whole) ≡ false
-
--- nor on a stream of another kind
-abbrev pub HasPassedOthers : (WholeFile → Bool) → Kind → ℕ → CustomerSpool → Type 0
-HasPassedOthers goes kind index s = (other : Kind) → same_kind kind other ≡ false → HasPassed goes other index s
-
--- an index that has been passed, or not
-abbrev pub passed_where : Bool → ℕ → ℕ → ℕ
-passed_where true index before = index + 1
-passed_where false index before = before
 
 -- a block with one record more, where it has room
 abbrev pub with_last_where : Bool → Item → Writing → Writing

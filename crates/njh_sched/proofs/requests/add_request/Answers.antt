@@ -1,62 +1,40 @@
-use Rattle.std.proofs.Common.{◌≡◌, ◌∙◌, ◌≤◌, ◌+◌, sym, ap, subst, true, false, length, slice_get, arith}
-use Rattle.std.proofs.lemmas.Option.{slice_get_past}
-use Rattle.njh_block.specs.Codes.{kind_of}
+use Rattle.std.proofs.Common.{◌≡◌, ℕ, Some, sym, ap, subst, ◌∙◌}
 use Rattle.njh_spool.specs.Spools.{part}
-use Rattle.njh_stream.specs.Sending.{goes_by}
-use Rattle.njh_table.specs.TableFile.{entry_of}
-use Rattle.njh_sched.specs.NextBlock.{HasPassed, HasPassedOthers, oldest}
-use Rattle.njh_sched.proofs.RequestLaws.{not_asked, nothing_to_ask, asks, passed_more, others_stay}
+use Rattle.njh_table.specs.declared.LineId.{LineId}
+use Rattle.njh_sched.specs.NextBlock.{after_candidate, asking, filling, filling_where}
+use Rattle.njh_sched.specs.FileCursor.{files_of, goes_of}
+use Rattle.njh_sched.proofs.CursorLaws.{customer_is, sends_one}
+use Rattle.njh_sched.proofs.RequestLaws.{asks, not_asked, nothing_to_ask}
 use Rattle.njh_sched.proofs.requests.add_request.Goals as goal
 
 pub returns-then-not-may_ask-clause-source : goal.returns-then-not-may_ask-clause-source
 returns-then-not-may_ask-clause-source g c =
-    let idle : c.may_ask.result ≡ false = grind arith in
-    not_asked (goes_by (entry_of c.args.entry.now) c.args.id.line) c.args.stream c.args.writer.now (g.L.Outgoing.outlet c.args.line.now)
-    (part c.args.id.customer c.args.spool.now) (sym c.may_ask.ensures ∙ idle)
+    not_asked (goes_of c.args.cursor.now) c.args.stream c.args.writer.now (g.L.Outgoing.outlet c.args.line.now)
+    (files_of c.args.cursor.now c.args.spool.now) (sym c.may_ask.ensures ∙ c.if-not-may_ask.true)
 
-pub returns-then-index-files-clause-source : goal.returns-then-index-files-clause-source
-returns-then-index-files-clause-source g c =
-    let idle : c.may_ask.result ≡ true = grind arith in
-    let past : length (part c.args.id.customer c.args.spool.now).whole ≤ c.oldest_from-index.result = omega (arith, c.files.ensures) in
-    nothing_to_ask (goes_by (entry_of c.args.entry.now) c.args.id.line) c.args.stream c.args.writer.now
-    (g.L.Outgoing.outlet c.args.line.now)
-    (part c.args.id.customer c.args.spool.now) (sym c.may_ask.ensures ∙ idle)
-    (ap (λ kind. oldest (goes_by (entry_of c.args.entry.now) c.args.id.line) kind (part c.args.id.customer c.args.spool.now))
-    (sym c.kind.ensures)
-    ∙ c.oldest_from-index.ensures.oldest
-    ∙ slice_get_past (part c.args.id.customer c.args.spool.now).whole c.oldest_from-index.result past)
+pub returns-in-Some-clause-source : goal.returns-in-Some-clause-source
+returns-in-Some-clause-source g c =
+    asks (goes_of c.args.cursor.now) c.args.stream c.args.writer.now (g.L.Outgoing.outlet c.args.line.now)
+    (files_of c.args.cursor.now c.args.spool.now) c.kind.result c.oldest.result c.in-Some.file
+    (sym c.may_ask.ensures ∙ c.if-not-may_ask.false) c.kind.ensures c.oldest.ensures.oldest c.in-Some.is
+    ∙ subst (λ (m : ℕ). after_candidate
+    (Some (asking (g.L.Outgoing.outlet c.args.line.now) (part m c.args.spool.now) c.args.stream c.in-Some.file))
+    (filling c.args.writer.now (g.L.Outgoing.outlet c.args.line.now) (part m c.args.spool.now))
+    ≡ filling_where c.ask.result c.ask.new.writer (g.L.Outgoing.outlet c.ask.new.line) (part m c.ask.new.spool))
+    (ap (λ (i : LineId). i.customer) c.id.ensures
+    ∙ customer_is c.args.cursor.now c.oldest.new.self c.oldest.ensures.cursor.line)
+    c.ask.ensures.candidate
 
-pub returns-clause-source : goal.returns-clause-source
-returns-clause-source g c =
-    let idle : c.may_ask.result ≡ true = grind arith in
-    asks (goes_by (entry_of c.args.entry.now) c.args.id.line) c.args.stream c.args.writer.now (g.L.Outgoing.outlet c.args.line.now)
-    (part c.args.id.customer c.args.spool.now) (slice_get (part c.args.id.customer c.args.spool.now).whole c.oldest_from-index.result)
-    c.file_at-file.result (sym c.may_ask.ensures ∙ idle)
-    (ap (λ kind. oldest (goes_by (entry_of c.args.entry.now) c.args.id.line) kind (part c.args.id.customer c.args.spool.now))
-    (sym c.kind.ensures)
-    ∙ c.oldest_from-index.ensures.oldest)
-    c.file_at-file.ensures.number
-    ∙ c.ask.ensures.candidate
+pub returns-in-Some-clause-cursor : goal.returns-in-Some-clause-cursor
+returns-in-Some-clause-cursor g c room = record {
+  line = c.oldest.ensures.cursor.line;
+  over = sends_one c.oldest.new.self c.id.result.customer c.in-Some.file c.args.spool.now c.ask.new.spool
+      (ap (λ (i : LineId). i.customer) c.id.ensures) c.oldest.ensures.cursor.over c.ask.ensures.spool
+      (c.ask.ensures.state room);
+}
 
-pub returns-clause-passed : goal.returns-clause-passed
-returns-clause-passed g c room =
-    subst (HasPassed (goes_by (entry_of c.args.entry.now) c.args.id.line) (kind_of c.args.stream) (c.oldest_from-index.result + 1))
-    (sym (c.ask.ensures.state room))
-    (passed_more (goes_by (entry_of c.args.entry.now) c.args.id.line)
-    (kind_of c.args.stream) c.file_at-file.result c.oldest_from-index.result
-    (part c.args.id.customer c.args.spool.now)
-    (subst (λ kind. HasPassed (goes_by (entry_of c.args.entry.now) c.args.id.line) kind c.oldest_from-index.result
-    (part c.args.id.customer c.args.spool.now))
-    c.kind.ensures c.oldest_from-index.ensures.passed)
-    c.file_at-file.ensures.number)
-
-pub returns-clause-others : goal.returns-clause-others
-returns-clause-others g c room =
-    subst (HasPassedOthers (goes_by (entry_of c.args.entry.now) c.args.id.line) (kind_of c.args.stream) c.oldest_from-index.new.others)
-    (sym (c.ask.ensures.state room))
-    (others_stay (goes_by (entry_of c.args.entry.now) c.args.id.line)
-    (kind_of c.args.stream) c.file_at-file.result c.oldest_from-index.new.others
-    (part c.args.id.customer c.args.spool.now)
-    (subst (λ kind. HasPassedOthers (goes_by (entry_of c.args.entry.now) c.args.id.line) kind c.oldest_from-index.new.others
-    (part c.args.id.customer c.args.spool.now))
-    c.kind.ensures c.oldest_from-index.ensures.others))
+pub returns-in-None-clause-source : goal.returns-in-None-clause-source
+returns-in-None-clause-source g c =
+    nothing_to_ask (goes_of c.args.cursor.now) c.args.stream c.args.writer.now (g.L.Outgoing.outlet c.args.line.now)
+    (files_of c.args.cursor.now c.args.spool.now) c.kind.result c.oldest.result
+    (sym c.may_ask.ensures ∙ c.if-not-may_ask.false) c.kind.ensures c.oldest.ensures.oldest c.in-None.is
