@@ -28,8 +28,8 @@ use Rattle.njh_command.specs.declared.command.Command.{Command}
 use Rattle.njh_command.specs.declared.command.Command.TheVariants as commands
 use Rattle.njh_command.specs.Words.{command_of}
 use Rattle.njh_command.specs.Commands.{Outcome, chosen, obeyed, obeyed_where, rerouting}
-use Rattle.njh_customer.specs.Customer.{Customer, CustomerLine, line_at, on_line, receiver_at, with_receiver, sender_at}
-use Rattle.njh_customer.specs.Waiting.{answered, waits, said}
+use Rattle.njh_customer.specs.Customer.{Customer, CustomerLine, line_at, on_line, noted, receiver_at, with_receiver, sender_at}
+use Rattle.njh_customer.specs.Waiting.{answered, waits, said, notified}
 use Rattle.njh_customer.specs.Acting.{arrived, stream_came, with_sent, permitted, answer_came, refusal_of, request_came, peer_answered, given_up}
 use Rattle.njh_customer.specs.Acting.{with_outcome, command_came, unknown_told, message_routed, message_read, message_came, acted}
 use Rattle.njh_customer.specs.Outgoing.{outgoing, streams_from_hub, stream_at}
@@ -124,7 +124,8 @@ arrived_acts l k a i c ends = at_files (received_files c.entry l (kind_of k) (re
         let done = received c.entry l (kind_of k) (receiver_at k (line_at l c.lines)) a c.spool in
         let lines = on_line l (with_receiver k done.receiver) c.lines in
         let answer = option_map (answer_on k) done.answer in
-        notified_senders c.entry done.notice (answered l answer lines)
+        on_line_senders l (noted k done.receiver done.notice) (notified c.entry done.notice (answered l answer lines)) (λ x. refl)
+        ∙ notified_senders c.entry done.notice (answered l answer lines)
         ∙ answered_senders l answer lines
         ∙ on_line_senders l (with_receiver k done.receiver) c.lines (λ x. refl)
 

@@ -18,10 +18,10 @@ use Rattle.njh_stream.specs.Streams.{AreTied, streams_at, stream_at, with_stream
 use Rattle.njh_spool.specs.CustomerSpool.{CustomerSpool, PartialFile, has_file_room, has_block, has_room_for, partial_numbered, partial_records}
 use Rattle.njh_spool.specs.CustomerSpool.{abandoned, as_whole}
 use Rattle.njh_table.specs.Entries.{CustomerEntry}
-use Rattle.njh_customer.specs.Customer.{Customer, CustomerLine, no_line, line_at, on_line, receiver_at, with_receiver, streams_to_hub, HasStreams, IsCoherent}
-use Rattle.njh_customer.specs.Waiting.{answered}
+use Rattle.njh_customer.specs.Customer.{Customer, CustomerLine, no_line, line_at, on_line, noted, receiver_at, with_receiver, streams_to_hub, HasStreams, IsCoherent}
+use Rattle.njh_customer.specs.Waiting.{answered, notified}
 use Rattle.njh_customer.specs.Acting.{after_arrival, arrived}
-use Rattle.njh_customer.proofs.ShapeLaws.{shapes, same_streams, streamed_still, answered_shapes, notified_shapes}
+use Rattle.njh_customer.proofs.ShapeLaws.{shapes, same_streams, streamed_still, on_line_shapes, answered_shapes, notified_shapes}
 
 -- what the streams of a customer owe to each other, as the crate of streams says it
 abbrev pub ArrivalsTie : Type 0
@@ -154,7 +154,10 @@ keeps_arrived l k a c arrivals untied line_there stream_there coherent =
     coherent_still (after_arrival l k done c) (moved l k done c) untied
     (record {
       entry = refl;
-      lines = notified_shapes c.entry done.notice (answered l answer lines) ∙ answered_shapes l answer lines;
+      lines =
+          on_line_shapes l (noted k done.receiver done.notice) (notified c.entry done.notice (answered l answer lines)) (λ x. refl)
+          ∙ notified_shapes c.entry done.notice (answered l answer lines)
+          ∙ answered_shapes l answer lines;
       partial = refl;
       quota = refl;
     })

@@ -19,7 +19,7 @@ use Rattle.njh_command.specs.Commands.{Outcome, commanded}
 use Rattle.njh_line.specs.declared.Phase.{Phase}
 use Rattle.njh_line.specs.declared.config.Config.{Config}
 use Rattle.njh_line.specs.Lines.{with_answer, with_message}
-use Rattle.njh_customer.specs.Customer.{Customer, CustomerLine, no_line, line_at, on_line, in_state, receiver_at, with_receiver, sender_at, with_sender}
+use Rattle.njh_customer.specs.Customer.{Customer, CustomerLine, no_line, line_at, on_line, in_state, noted, receiver_at, with_receiver, sender_at, with_sender}
 use Rattle.njh_customer.specs.Waiting.{answered, waits, goes, said, all_said, notified}
 use Rattle.njh_customer.specs.Acting.{arrived, stream_came, with_sent, permitted, refusal_of, request_came, peer_answered, given_up}
 use Rattle.njh_customer.specs.Acting.{with_outcome, command_came, unknown_told, message_routed, message_read, message_came, acted}
@@ -82,7 +82,8 @@ arrived_keeps l k a c =
     let done = received c.entry l (kind_of k) (receiver_at k (line_at l c.lines)) a c.spool in
     let lines = on_line l (with_receiver k done.receiver) c.lines in
     let answer = option_map (answer_on k) done.answer in
-    notified_kepts c.entry done.notice (answered l answer lines)
+    on_line_kepts l (noted k done.receiver done.notice) (notified c.entry done.notice (answered l answer lines)) (λ x. refl)
+    ∙ notified_kepts c.entry done.notice (answered l answer lines)
     ∙ answered_kepts l answer lines
     ∙ on_line_kepts l (with_receiver k done.receiver) c.lines (λ x. refl)
 

@@ -26,7 +26,7 @@ use Rattle.njh_command.specs.Commands.{Outcome, obeyed, obeyed_where, chosen, re
 use Rattle.njh_line.specs.LineTable.{Input}
 use Rattle.njh_line.specs.Lines.{after_input}
 use Rattle.njh_customer.specs.Alone.{accepted_on, goes_up_by, raised}
-use Rattle.njh_customer.specs.Customer.{Customer, CustomerLine, no_line, line_at, on_line, in_state, sender_at, with_sender, with_receiver, receiver_at, IsCoherent}
+use Rattle.njh_customer.specs.Customer.{Customer, CustomerLine, no_line, line_at, on_line, in_state, sender_at, with_sender, noted, with_receiver, receiver_at, IsCoherent}
 use Rattle.njh_customer.specs.Waiting.{answered, waits, said, notified}
 use Rattle.njh_customer.specs.Acting.{arrived, stream_came, with_sent, permitted, answer_came, refusal_of, request_came, peer_answered}
 use Rattle.njh_customer.specs.Acting.{given_up, with_outcome, command_came, unknown_told, message_routed, message_read, message_came, acted, ends_session}
@@ -180,11 +180,14 @@ module _ (untied : NothingUnties) where
         let done = received c.entry l (kind_of k) (receiver_at k (line_at l c.lines)) a c.spool in
         let lines = on_line l (with_receiver k done.receiver) c.lines in
         let answer = option_map (answer_on k) done.answer in
+        let told = notified c.entry done.notice (answered l answer lines) in
         record {
           coherent = keeps_arrived l k a c arrivals untied line_there stream_there coherent;
           lines =
-              as_many (notified c.entry done.notice (answered l answer lines)) lines
-              (notified_shapes c.entry done.notice (answered l answer lines) ∙ answered_shapes l answer lines)
+              as_many (on_line l (noted k done.receiver done.notice) told) lines
+              (on_line_shapes l (noted k done.receiver done.notice) told (λ x. refl)
+              ∙ notified_shapes c.entry done.notice (answered l answer lines)
+              ∙ answered_shapes l answer lines)
               ∙ length-set c.lines l (with_receiver k done.receiver (line_at l c.lines));
         }
 

@@ -1,5 +1,6 @@
 -- What the records of a block do to a customer, one after the other (IBM SC23-0070, multileaving).
-use Rattle.std.specs.Prelude.{ℕ, Bool, true, false, List, [], ◌∷◌, fold, map, Option, Some, None, Result, Ok, Err, ◌==◌, ◌||◌, cond}
+use Rattle.std.specs.Prelude.{ℕ, Bool, true, false, List, [], ◌∷◌, fold, map, Option, Some, None, Result, Ok, Err, ◌==◌}
+use Rattle.std.specs.Prelude.{◌||◌, cond}
 use Rattle.std.specs.Option.{option_map}
 use Rattle.njh_block.specs.Blocks.{Item, Data, Aborted, Long, Control, General, stream_number, stream_of}
 use Rattle.njh_block.specs.Codes.{kind_of}
@@ -17,7 +18,8 @@ use Rattle.njh_stream.specs.Receiving as receiving
 use Rattle.njh_stream.specs.Receiving.{Arrival, Received, received}
 use Rattle.njh_stream.specs.Sending.{Sent, granted, refused, completed}
 use Rattle.njh_command.specs.Commands.{commanded, without_file, Outcome}
-use Rattle.njh_customer.specs.Customer.{Customer, CustomerLine, line_at, on_line, receiver_at, with_receiver, sender_at, with_sender}
+use Rattle.njh_customer.specs.Customer.{Customer, CustomerLine, line_at, on_line, noted, receiver_at, with_receiver}
+use Rattle.njh_customer.specs.Customer.{sender_at, with_sender}
 use Rattle.njh_customer.specs.Waiting.{answered, waits, said, all_said, notified}
 
 -- ---- streams to the hub
@@ -26,7 +28,9 @@ use Rattle.njh_customer.specs.Waiting.{answered, waits, said, all_said, notified
 abbrev pub after_arrival : ℕ → ℕ → Received → Customer → Customer
 after_arrival l k done c = record c {
   spool = done.spool;
-  lines = notified c.entry done.notice (answered l (option_map (answer_on k) done.answer) (on_line l (with_receiver k done.receiver) c.lines));
+  lines =
+      on_line l (noted k done.receiver done.notice)
+      (notified c.entry done.notice (answered l (option_map (answer_on k) done.answer) (on_line l (with_receiver k done.receiver) c.lines)));
 }
 
 abbrev pub arrived : ℕ → ℕ → Arrival → Customer → Customer
@@ -95,8 +99,8 @@ command_came n c = with_outcome n (commanded c.entry (n.origin, n.user) n.messag
 abbrev pub unknown_told : Nodal → Customer → Customer
 unknown_told n c = record c { lines = said c.entry (n.origin, n.user) (node_unknown n.to) c.lines }
 
--- A message that came on a line, by the route of its node: the hub's own are commands of users, others are sent on, but not back, and of a
--- node that nobody has the user hears who commanded something.
+-- A message that came on a line, by the route of its node: the hub's own are commands of users, others are sent on, but
+-- not back, and of a node that nobody has the user hears who commanded something.
 abbrev pub message_routed : ℕ → Nodal → List ℕ → Route → Customer → Customer
 message_routed l n bytes Here c = cond (is_user_command n) (command_came n c) c
 message_routed l n bytes (Line k) c = cond (k == l) c (record c { lines = waits k (cut_after_message bytes) c.lines })

@@ -1,5 +1,6 @@
 -- One customer by itself: its entry in the table, its files, and its lines.
-use Rattle.std.specs.Prelude.{◌≡◌, ℕ, ◌≤◌, Bool, All, length, List, [], ◌∷◌, map, replicate, slice_index_or, slice_set, Option, Some, None}
+use Rattle.std.specs.Prelude.{◌≡◌, ℕ, ◌≤◌, Bool, All, length, List, [], ◌∷◌, map, replicate, slice_index_or, slice_set}
+use Rattle.std.specs.Prelude.{Option, Some, None}
 use Rattle.njh_table.specs.Entries.{CustomerEntry, LineEntry}
 use Rattle.njh_table.specs.Marks.{entry_unmarked}
 use Rattle.njh_table.specs.declared.Role.{Role}
@@ -7,6 +8,7 @@ use Rattle.njh_table.specs.declared.Role.TheVariants.{Call, Answer}
 use Rattle.njh_spool.specs.CustomerSpool.{CustomerSpool, empty_spool}
 use Rattle.njh_stream.specs.declared.receiver.Receiver.{Receiver}
 use Rattle.njh_stream.specs.declared.receiver.Receiver.TheVariants as receiver
+use Rattle.njh_stream.specs.Receiving.{Notice}
 use Rattle.njh_stream.specs.declared.sender.Sender.{Sender}
 use Rattle.njh_stream.specs.declared.sender.Sender.TheVariants as sender
 use Rattle.njh_stream.specs.Streams.{AreTied}
@@ -21,6 +23,7 @@ pub record CustomerLine : Type 0 where
   pub state : LineState  -- its session, and what waits to be sent
   pub streams : ℕ  -- of each kind
   pub receivers : List Receiver  -- SYSIN 1 to 4, SYSOUT 1 to 4
+  pub notices : List (Option Notice)  -- on each of these, what the owner of the file that was refused last was told
   pub senders : List Sender
   pub served : ℕ  -- the stream last served
 
@@ -55,6 +58,7 @@ quiet_line config streams = record {
   state = fresh_line config;
   streams = streams;
   receivers = replicate 8 receiver.Idle;
+  notices = replicate 8 None;
   senders = replicate 8 sender.Idle;
   served = 7;
 }
@@ -79,6 +83,7 @@ no_line = record {
   state = fresh_line (record { hub = []; node = []; role = role.Answer; block = 0; password = None });
   streams = 0;
   receivers = [];
+  notices = [];
   senders = [];
   served = 0;
 }
@@ -101,6 +106,17 @@ receiver_at k x = slice_index_or x.receivers k receiver.Idle
 abbrev pub with_receiver : ℕ → Receiver → CustomerLine → CustomerLine
 with_receiver k r x = record x { receivers = slice_set x.receivers k r }
 
+-- a notice stands until a file opens on its stream
+abbrev pub notices_after : ℕ → Receiver → Option Notice → List (Option Notice) → List (Option Notice)
+notices_after k r (Some n) notices = slice_set notices k (Some n)
+notices_after k (receiver.Open n progress) None notices = slice_set notices k None
+notices_after k receiver.Idle None notices = notices
+notices_after k receiver.Draining None notices = notices
+
+-- an arrival left this on a stream to the hub, and the owner of the file was told this
+abbrev pub noted : ℕ → Receiver → Option Notice → CustomerLine → CustomerLine
+noted k r notice x = record x { notices = notices_after k r notice x.notices }
+
 abbrev pub sender_at : ℕ → CustomerLine → Sender
 sender_at k x = slice_index_or x.senders k sender.Idle
 
@@ -117,7 +133,8 @@ streams_to_hub lines = map (λ x. x.receivers) lines
 abbrev pub HasStreams : CustomerLine → Type 0
 HasStreams x = (length x.receivers ≡ 8) × (x.streams ≤ 4)
 
--- What a customer's streams keep of its partial files is what those are, its files stand under its own quota, and each of its lines has a mark.
+-- What a customer's streams keep of its partial files is what those are, its files stand under its own quota, and each
+-- of its lines has a mark.
 pub record IsCoherent (c : Customer) : Type 0 where
   pub tied : AreTied (streams_to_hub c.lines) c.spool
   pub streamed : All HasStreams c.lines

@@ -44,6 +44,7 @@ fn arrive(
     lines.set_receiver(line.line, stream, receiver);
     lines.push_answer(line.line, step.answer);
     lines.notify(tables.customer(line.customer), &step.notice);
+    lines.note(line.line, stream, receiver, step.notice);
 }
 
 /// An arrival on a stream, where the RCB names one of the line.
@@ -313,8 +314,8 @@ fn act(
     }
 }
 
-/// Whether a record ends the session: a count that the peer didn't expect, a sign-on I, J or K, or the sign-off B (IBM SC23-0070,
-/// "Multileaving").
+/// Whether a record ends the session: a count that the peer didn't expect, a sign-on I, J or K, or the sign-off B (IBM
+/// SC23-0070, "Multileaving").
 fn ends_session(item: &Item<'_>) -> bool
     ensures { (bytes : List ℕ) → result ≡ acting.ends_session (shown bytes item.now) }
 {

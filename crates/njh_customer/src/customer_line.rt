@@ -12,7 +12,8 @@ ghost use Rattle.njh_spool.specs.Spools.{part};
 ghost use Rattle.njh_sched.specs.Tight.{own_fcs};
 ghost use Rattle.njh_table.specs.TableFile.{customer_at, entry_of};
 ghost use Rattle.njh_customer.specs.Sending.{next_sent, reply_sent};
-ghost use Rattle.njh_customer.specs.Customer.{quiet_line, in_state, receiver_at, with_receiver, sender_at, with_sender};
+ghost use Rattle.njh_customer.specs.Customer.{quiet_line, in_state, noted, receiver_at, with_receiver, sender_at};
+ghost use Rattle.njh_customer.specs.Customer.{with_sender};
 
 use crate::frame_buffer::FrameBuffer;
 use crate::sending::{
@@ -24,7 +25,7 @@ use njh_line::{Config, Input, Line, Phase, Reply, Session, Verdict};
 use njh_record::Record;
 use njh_sched::{Outgoing, fill, own_fcs};
 use njh_spool::{FileId, Spool};
-use njh_stream::{Receiver, Sender, end_receivers, end_senders, retry_refused};
+use njh_stream::{Notice, Receiver, Sender, end_receivers, end_senders, retry_refused};
 use njh_table::{LineId, Tables};
 use std::alloc::{AllocError, Global};
 use std::marker::Model;
@@ -38,6 +39,8 @@ pub(crate) struct CustomerLine {
     streams: u8,
     /// The streams to the hub: SYSIN 1 to 4, SYSOUT 1 to 4.
     receivers: [Receiver; 8],
+    /// On each of these, what the owner of the file that was refused last was told: none once another file opens.
+    notices: [Option<Notice>; 8],
     /// The streams from the hub.
     senders: [Sender; 8],
     /// The stream last served.
@@ -54,6 +57,7 @@ impl Model for CustomerLine {
       state = x.line;
       streams = x.streams;
       receivers = x.receivers;
+      notices = x.notices;
       senders = x.senders;
       served = x.served;
     } };
@@ -72,6 +76,7 @@ impl CustomerLine {
             line: Line::new(alloc, config)?,
             streams,
             receivers: [Receiver::Idle; 8],
+            notices: [None, None, None, None, None, None, None, None],
             senders: [Sender::Idle; 8],
             served: Stream::at(7),
         })
@@ -97,6 +102,19 @@ impl CustomerLine {
         ensures { self.new ≡ with_receiver stream receiver self.old }
     {
         self.receivers[usize::from(stream.place())] = receiver;
+    }
+
+    /// Keeps what the owner of a file that came on a stream was told, up to the next file that opens there.
+    pub(crate) fn note(&mut self, stream: Stream, receiver: Receiver, notice: Option<Notice>)
+        ensures { self.new ≡ noted stream receiver notice self.old }
+    {
+        match notice {
+            Some(notice) => self.notices[usize::from(stream.place())] = Some(notice),
+            None => match receiver {
+                Receiver::Open { .. } => self.notices[usize::from(stream.place())] = None,
+                Receiver::Idle | Receiver::Draining => {}
+            },
+        }
     }
 
     /// What a stream from the hub is about.
@@ -133,6 +151,14 @@ impl CustomerLine {
         ensures eight { length result.now ≡ 8 }
     {
         &self.receivers
+    }
+
+    /// On each of its streams to the hub, what the owner of the file that was refused last was told.
+    pub(crate) fn notices(&self) -> &[Option<Notice>]
+        ensures same { result.now ≡ self.now.notices }
+        ensures eight { length result.now ≡ 8 }
+    {
+        &self.notices
     }
 
     /// What each of its streams from the hub is about.
@@ -239,8 +265,8 @@ impl CustomerLine {
         send_written(&mut self.line, or_ack0, block, fcs, out);
     }
 
-    /// The end of a session: the files that were being sent may go again, and so may those that were refused and go by this line; the
-    /// files that came in are gone, and so are the answers; SYSOUT 4 counts as served last.
+    /// The end of a session: the files that were being sent may go again, and so may those that were refused and go by
+    /// this line; the files that came in are gone, and so are the answers; SYSOUT 4 counts as served last.
     pub(crate) fn end_session(&mut self, line: LineId, tables: &Tables, spool: &mut Spool)
         requires known { line.customer < length tables.now.customers }
         requires spooled { line.customer < length spool.old }

@@ -12,7 +12,8 @@ ghost use Rattle.njh_line.specs.LineTable.{accepted, shown};
 ghost use Rattle.njh_line.specs.Laws.{is_up};
 ghost use Rattle.njh_line.specs.Lines.{after_end, after_input};
 ghost use Rattle.njh_customer.specs.Leading.{IsReady, Leads, customer_of};
-ghost use Rattle.njh_customer.specs.Customer.{in_state, line_at, on_line, receiver_at, with_receiver, sender_at, with_sender};
+ghost use Rattle.njh_customer.specs.Customer.{in_state, line_at, noted, on_line, receiver_at, with_receiver, sender_at};
+ghost use Rattle.njh_customer.specs.Customer.{with_sender};
 ghost use Rattle.njh_customer.specs.Waiting.{all_said, answered, goes, notified, said, waits};
 
 use crate::customer_line::CustomerLine;
@@ -147,7 +148,8 @@ impl CustomerLines {
         self.lines[usize::from(line.line)].send_reply(line, reply, tables, spool, block, out);
     }
 
-    /// The end of a line's session, by the marks as they are: what becomes of its streams' files, and its answers are gone.
+    /// The end of a line's session, by the marks as they are: what becomes of its streams' files, and its answers are
+    /// gone.
     pub(crate) fn end_session(&mut self, line: LineId, tables: &Tables, spool: &mut Spool)
         requires known { line.customer < length tables.now.customers }
         requires spooled { line.customer < length spool.old }
@@ -219,6 +221,21 @@ impl CustomerLines {
         let hub = customer.hub();
         for text in replies.texts() {
             self.say_by(route, hub, node, user, text);
+        }
+    }
+
+    /// Keeps what the owner of a file that came on a stream of a line was told, if the line is there.
+    pub(crate) fn note(
+        &mut self,
+        line: u16,
+        stream: Stream,
+        receiver: Receiver,
+        notice: Option<Notice>,
+    )
+        ensures { self.new ≡ on_line line (noted stream receiver notice) self.old }
+    {
+        if usize::from(line) < self.lines.len() {
+            self.lines[usize::from(line)].note(stream, receiver, notice);
         }
     }
 

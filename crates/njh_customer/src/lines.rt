@@ -21,7 +21,7 @@ use njh_bisync::Deframer;
 use njh_ebcdic::Name;
 use njh_line::{Config, Session};
 use njh_spool::Spool;
-use njh_stream::{Receiver, Sender};
+use njh_stream::{Notice, Receiver, Sender};
 use njh_table::{Customer, LineId, Role, Tables};
 use std::alloc::{AllocError, Global};
 use std::marker::Model;
@@ -92,6 +92,16 @@ impl Lines {
         self.lines.line(line).receivers()
     }
 
+    /// On each of a line's streams to the hub, what the owner of the file that was refused last was told, up to the
+    /// next file there.
+    pub fn notices(&self, line: u16) -> &[Option<Notice>]
+        requires { line < length self.now.lines }
+        ensures same { result.now ≡ (line_at line self.now.lines).notices }
+        ensures eight { length result.now ≡ 8 }
+    {
+        self.lines.line(line).notices()
+    }
+
     /// What each of a line's streams from the hub is about, in the same order.
     pub fn senders(&self, line: u16) -> &[Sender]
         requires { line < length self.now.lines }
@@ -101,8 +111,8 @@ impl Lines {
         self.lines.line(line).senders()
     }
 
-    /// One step by bytes of a line: those up to the end of the first frame that is answered, or all. Says how many. The frame that is
-    /// sent is put into `out`, which is empty then where none is. Nothing depends on what `room` held.
+    /// One step by bytes of a line: those up to the end of the first frame that is answered, or all. Says how many. The
+    /// frame that is sent is put into `out`, which is empty then where none is. Nothing depends on what `room` held.
     pub fn take_bytes(
         &mut self,
         line: LineId,
@@ -178,8 +188,8 @@ impl Lines {
         taken
     }
 
-    /// One step by a signal on a line: a frame that isn't whole is dropped first. The frame that is sent is put into `out`, which is empty
-    /// then where none is.
+    /// One step by a signal on a line: a frame that isn't whole is dropped first. The frame that is sent is put into
+    /// `out`, which is empty then where none is.
     pub fn take_signal(
         &mut self,
         line: LineId,

@@ -12,7 +12,7 @@ use crate::session_view::SessionView;
 use njh_customer::Lines;
 use njh_line::Phase;
 use njh_spool::FileId;
-use njh_stream::{Receiver, Sender};
+use njh_stream::{Notice, Receiver, Sender};
 use njh_table::LineId;
 
 /// How many tries in a row a session has.
@@ -43,8 +43,9 @@ impl Hub {
 
     /// Whether a line is down and its last session had made all its five tries.
     ///
-    /// So it is from the moment at which a session ends after its tries, until another session begins, and on a line that calls until
-    /// its next tick. A session that ends otherwise while it has made five tries looks the same: by the line's loss, say.
+    /// So it is from the moment at which a session ends after its tries, until another session begins, and on a line
+    /// that calls until its next tick. A session that ends otherwise while it has made five tries looks the same: by
+    /// the line's loss, say.
     pub fn has_given_up(&self, line: LineId) -> bool
         ensures { IsTrue result ↔ HasGivenUp self.now line }
     {
@@ -54,7 +55,8 @@ impl Hub {
         }
     }
 
-    /// What each of a line's streams to the hub is about: SYSIN 1 to 4, SYSOUT 1 to 4. `UnknownLine` comes where the hub has no such line.
+    /// What each of a line's streams to the hub is about: SYSIN 1 to 4, SYSOUT 1 to 4. `UnknownLine` comes where the
+    /// hub has no such line.
     pub fn receivers(&self, line: LineId) -> Result<&[Receiver], HubFault>
         ensures receivers { IfOk result (λ receivers. receivers.now ≡ (hub_line line self.now).receivers) }
         ensures eight { IfOk result (λ receivers. length receivers.now ≡ 8) }
@@ -65,7 +67,21 @@ impl Hub {
         Ok(lines.receivers(line.line))
     }
 
-    /// What each of a line's streams from the hub is about, in the same order. `UnknownLine` comes where the hub has no such line.
+    /// What the owner of the file was told that the hub refused last on each of a line's streams to the hub: none where
+    /// that file had no owner or there was nothing to say, and none once another file opens there. `UnknownLine` comes
+    /// where the hub has no such line.
+    pub fn notices(&self, line: LineId) -> Result<&[Option<Notice>], HubFault>
+        ensures notices { IfOk result (λ notices. notices.now ≡ (hub_line line self.now).notices) }
+        ensures eight { IfOk result (λ notices. length notices.now ≡ 8) }
+        ensures known { IsOk result ↔ HasLine self.now line }
+        ensures unknown { OnErr result (result ≡ Err HubFault.UnknownLine) }
+    {
+        let lines = self.lines_of(line)?;
+        Ok(lines.notices(line.line))
+    }
+
+    /// What each of a line's streams from the hub is about, in the same order. `UnknownLine` comes where the hub has no
+    /// such line.
     pub fn senders(&self, line: LineId) -> Result<&[Sender], HubFault>
         ensures senders { IfOk result (λ senders. senders.now ≡ (hub_line line self.now).senders) }
         ensures eight { IfOk result (λ senders. length senders.now ≡ 8) }
@@ -76,7 +92,8 @@ impl Hub {
         Ok(lines.senders(line.line))
     }
 
-    /// A customer's whole file of a number, without its records; none where it has none of that number, or the hub has no such customer.
+    /// A customer's whole file of a number, without its records; none where it has none of that number, or the hub has
+    /// no such customer.
     pub fn file_summary(&self, customer: u16, file: FileId) -> Option<FileSummaryView>
         ensures { result ≡ option_map file_summary (file_on customer file self.now) }
     {
