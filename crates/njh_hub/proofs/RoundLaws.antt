@@ -1,18 +1,19 @@
 -- Rounds of turns: one turn more, and one round more.
 use Rattle.std.proofs.Common.{◌≡◌, ℕ, ◌<◌, ◌≤◌, List, [], ◌∷◌, ◌++◌, length, set, get_or, refl}
 use Rattle.std.proofs.Common.{ap, sym, subst, ◌∙◌, ⊎_elim, arith, append_assoc, append-nil}
-use Rattle.std.specs.Prelude.{All, ◌⊎◌}
+use Rattle.std.specs.Prelude.{All, ◌⊎◌, None, IsSome}
 use Rattle.std.specs.List.{flat_map}
 use Rattle.std.proofs.lemmas.Bool.{cases_lt}
 use Rattle.std.proofs.lemmas.Grind.{flat_map-append}
 use Rattle.std.proofs.lemmas.List.{take-append-le, length-append, get_or-set_same, get_or-set_other, get_or_append_left, get_or_read}
+use Rattle.std.proofs.lemmas.List.{get_or_default, set-get_or}
 use Rattle.std.proofs.lemmas.List.Elements.{All-push}
 use Rattle.std.proofs.Math.Seq.{get_or-append_seam, take-append_seam}
 use Rattle.njh_table.specs.declared.LineId.{LineId}
 use Rattle.njh_hub.specs.declared.event.Event.{Event}
 use Rattle.njh_hub.specs.Sent.{IsCounted}
 use Rattle.njh_hub.specs.Whole.{Part, HubRun, hub_run}
-use Rattle.njh_hub.specs.Wires.{WireAct}
+use Rattle.njh_hub.specs.Wires.{Pending, Failed, WireAct}
 use Rattle.njh_hub.specs.Turns.{Turn, IsTurn, Placed, HadTurn, HadTurns, HasFault, IsRound, no_line, no_turn, quiet_after, turn_events}
 use Rattle.njh_hub.specs.Turns.{round_events, quiets_after, placed, placed_acts, placed_stop, all_events, all_quiets, turns_of}
 use Rattle.njh_hub.proofs.RunningLaws.{counted_from, hub_run-append}
@@ -170,6 +171,42 @@ round_more {S} {passed} {count} {lines} {parts} {quiets} {wires} {turns} {now} {
       rest = λ k d past. get_or-set_other now_wires i k new_wire d (omega (arith, g.at, past, length-append turns (turn ∷ [])))
           ∙ g.so_far.rest k d (omega (arith, past, length-append turns (turn ∷ [])));
     }
+
+-- The next wire is passed over: its turn is that of an answer that is pending.
+abbrev pub passed_over : Turn
+passed_over = record { heard = Pending; cut = None }
+
+pub round_over : {S : Type 0} {passed : S → S → List WireAct → Type 0} {count : S → ℕ} {lines : List LineId} {parts : List Part}
+    {quiets : List ℕ} {wires : List S} {turns : List Turn} {now : List Part} {now_quiets : List ℕ} (now_wires : List S) {i : ℕ} →
+    ((s : S) → passed s s []) → IsRound passed count lines parts quiets wires turns now now_quiets now_wires → length turns ≡ i →
+    i < length lines → i < length quiets → i < length now_wires →
+    IsRound passed count lines parts quiets wires (turns ++ passed_over ∷ []) now now_quiets now_wires
+round_over [] none h at lines_left quiets_left wires_left = absurd (omega (arith, wires_left))
+round_over {S} {passed} {count} {lines} {parts} {quiets} {wires} {turns} {now} {now_quiets} (w ∷ ws) {i} none h at lines_left quiets_left
+    wires_left =
+    let now_wires : List S = w ∷ ws in
+    let wire : S = get_or now_wires i w in
+    let goes : GoesRound passed count lines parts quiets wires turns now now_quiets now_wires i (get_or lines i no_line)
+    (get_or now_quiets i 0) passed_over wire now wire = record {
+      so_far = h;
+      at = at;
+      lines_left = lines_left;
+      quiets_left = quiets_left;
+      wires_left = wires_left;
+      line_is = refl;
+      quiet_is = refl;
+      wire_is = get_or_default now_wires i w wire wires_left;
+      did = record {
+        hub = refl;
+        acts = none wire;
+        stop = refl;
+        counts = omega arith;
+        counted = λ fault. ⊎_elim (λ (never : Pending ≡ Failed). cc) (λ (never : IsSome passed_over.cut). cc) fault;
+      };
+    } in
+    let P : List ℕ → Type 0 = λ qs. IsRound passed count lines parts quiets wires (turns ++ passed_over ∷ []) now qs (set now_wires i wire) in
+    let Q : List S → Type 0 = λ ss. IsRound passed count lines parts quiets wires (turns ++ passed_over ∷ []) now now_quiets ss in
+    subst Q (set-get_or now_wires i w) (subst P (set-get_or now_quiets i 0) (round_more goes))
 
 -- no wire had a turn yet
 pub round_none : {S : Type 0} (passed : S → S → List WireAct → Type 0) (count : S → ℕ) (lines : List LineId) (parts : List Part)

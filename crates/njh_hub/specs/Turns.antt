@@ -1,5 +1,6 @@
 -- Turns of wires: one of one wire, and turn after turn of many, wire by wire in their order.
-use Rattle.std.specs.Prelude.{◌≡◌, ℕ, ◌+◌, ◌<◌, ◌≤◌, ◌==◌, ◌⊎◌, cond, List, [], ◌∷◌, ◌++◌, length, replicate, take, Option, Some, None}
+use Rattle.std.specs.Prelude.{◌≡◌, ℕ, ◌+◌, ◌<◌, ◌≤◌, ◌==◌, ◌⊎◌, cond, List, [], ◌∷◌, ◌++◌, length, replicate, take}
+use Rattle.std.specs.Prelude.{Option, Some, None}
 use Rattle.std.specs.Prelude.{IsSome, slice_index_or, All}
 use Rattle.std.specs.List.{flat_map}
 use Rattle.njh_table.specs.declared.LineId.{LineId}
@@ -7,7 +8,8 @@ use Rattle.njh_hub.specs.declared.event.Event.{Event}
 use Rattle.njh_hub.specs.declared.event.Event.TheVariants.{Bytes, Tick, Lost}
 use Rattle.njh_hub.specs.Sent.{IsCounted}
 use Rattle.njh_hub.specs.Whole.{Part, hub_run}
-use Rattle.njh_hub.specs.Wires.{Heard, Came, Quiet, Pending, Closed, Absent, Failed, WireAct, Answered, told, written, IsStop}
+use Rattle.njh_hub.specs.Wires.{Heard, Came, Quiet, Pending, Closed, Absent, Failed, WireAct, answer_acts, told}
+use Rattle.njh_hub.specs.Wires.{written, IsStop}
 
 -- ---- one turn
 
@@ -16,8 +18,8 @@ pub record Turn : Type 0 where
   pub heard : Heard
   pub cut : Option ℕ
 
--- What the hub is told of an answer: bytes that came; a tick, at the tenth quiet in a row; the loss of a line that was closed or could
--- not be read.
+-- What the hub is told of an answer: bytes that came; a tick, at the tenth quiet in a row; the loss of a line that was
+-- closed or could not be read.
 abbrev pub event_of : LineId → ℕ → Heard → Option Event
 event_of line quiet (Came piece) = Some (Bytes line piece)
 event_of line quiet Quiet = cond (quiet == 9) (Some (Tick line)) None
@@ -60,9 +62,10 @@ pub record IsHeard {S : Type 0} (passed : S → S → List WireAct → Type 0) (
 abbrev pub turn_events : LineId → ℕ → Turn → List Event
 turn_events line quiet turn = told_where turn.cut (event_of line quiet turn.heard)
 
--- what passes on the wire in a turn
+-- What passes on the wire in a turn. Where its answer is pending that is nothing: a wire that isn't visited has such a
+-- turn.
 abbrev pub turn_acts : List Part → LineId → ℕ → Turn → List WireAct
-turn_acts parts line quiet turn = Answered turn.heard ∷ written_where parts turn.cut (event_of line quiet turn.heard)
+turn_acts parts line quiet turn = answer_acts turn.heard ++ written_where parts turn.cut (event_of line quiet turn.heard)
 
 -- a read or a write failed
 abbrev pub HasFault : Turn → Type 0
@@ -170,7 +173,8 @@ pub record HadTurns {S : Type 0} (passed : S → S → List WireAct → Type 0) 
 abbrev pub no_quiets : List LineId → List ℕ
 no_quiets lines = replicate (length lines) 0
 
--- So many rounds: each wire had one turn in each, in their order, and the hub was told of these turns and of nothing else.
+-- So many rounds: each wire had one turn in each, in their order, and the hub was told of these turns and of nothing
+-- else.
 pub record IsServed {S : Type 0} (passed : S → S → List WireAct → Type 0) (count : S → ℕ) (lines : List LineId) (turns : ℕ)
     (parts : List Part) (wires : List S) (new : List Part) (new_wires : List S) : Type 0 where
   pub rounds : List (List Turn)

@@ -39,11 +39,20 @@ IsReading room reading.Pending = ⊤
 IsReading room reading.Closed = ⊤
 IsReading room reading.Absent = ⊤
 
--- What passes on a wire: the answer of a read, a frame that went out, and one whose write failed.
+-- What passes on a wire: the answer of a read that isn't pending, a frame that went out, and one whose write failed.
 pub data WireAct : Type 0 where
   Answered : (heard : Heard) → WireAct
   Sent : (frame : List ℕ) → WireAct
   Unsent : (frame : List ℕ) → WireAct
+
+-- what passes by an answer: the answer, and nothing where it is pending
+abbrev pub answer_acts : Heard → List WireAct
+answer_acts (Came piece) = Answered (Came piece) ∷ []
+answer_acts Quiet = Answered Quiet ∷ []
+answer_acts Pending = []
+answer_acts Closed = Answered Closed ∷ []
+answer_acts Absent = Answered Absent ∷ []
+answer_acts Failed = Answered Failed ∷ []
 
 -- ---- an event of a wire
 

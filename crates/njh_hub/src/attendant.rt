@@ -16,8 +16,8 @@ pub struct NewRoutes {
     pub routes: RouteList,
 }
 
-/// Sees to the wires before and after each round of a service, and brings new routes. No byte passes on a wire by it,
-/// and the hub is told of the routes alone.
+/// Sees to the wires before and after each round of a service, says which of them are visited in it, and brings new
+/// routes. No byte passes on a wire by it, and the hub is told of the routes alone.
 pub trait Attendant<W: Wire> {
     /// Comes before each round, as the wait for what the wires have.
     fn before(&mut self, wires: &mut [W])
@@ -28,6 +28,10 @@ pub trait Attendant<W: Wire> {
 
     /// What came of the routes that it brought: those of `Hub::retable`.
     fn routes_given(&mut self, customer: u16, answer: Result<(), HubFault>);
+
+    /// Whether the wire at this place is visited in this round. One that isn't has the turn of an answer `Pending`: no
+    /// event, and its count of quiets stays.
+    fn is_due(&self, place: usize) -> bool;
 
     /// Comes after each round.
     fn after(&mut self, hub: &Hub, wires: &mut [W])

@@ -49,11 +49,13 @@ impl<T: Drop> From<AllocFailed<T>> for HubFault {
 }
 
 /// Who stopped a run.
-#[derive(Clone, Copy, Debug, PartialEq, Eq)]
+#[derive(Clone, Copy, Debug, PartialEq, Eq, Error)]
 pub enum Cause {
     /// The hub refused a step, or new routes.
+    #[error("{0}")]
     Hub(HubFault),
     /// The sink refused a frame.
+    #[error("the sink took no frame")]
     Sink,
 }
 
@@ -61,7 +63,8 @@ pub enum Cause {
 ///
 /// With cause `Hub` the refused step hasn't happened. With cause `Sink` it has, and is counted; its frame
 /// alone is missing.
-#[derive(Clone, Copy, Debug, PartialEq, Eq)]
+#[derive(Clone, Copy, Debug, PartialEq, Eq, Error)]
+#[error("{cause}: after {events} events and {bytes} bytes of the next")]
 pub struct RunFault {
     /// How many events are done whole.
     pub events: usize,

@@ -1,7 +1,10 @@
 //! What a wire answers.
 
+use thiserror::Error;
+
 /// A wire could not be read, or took no frame.
-#[derive(Clone, Copy, Debug, PartialEq, Eq)]
+#[derive(Clone, Copy, Debug, PartialEq, Eq, Error)]
+#[error("the wire could not be read, or took no frame")]
 pub struct WireFault;
 
 /// What the read of a wire answers.

@@ -4,6 +4,7 @@ ghost use Rattle.std.specs.Prelude.{◌≡◌, ◌<◌, List, length, All, IfOk,
 ghost use Rattle.njh_hub.specs.Turns.{Turn, IsRound, no_quiets};
 ghost use Rattle.njh_hub.specs.Whole.{HasLine, SameLines};
 
+use crate::attendant::Attendant;
 use crate::fault::HubFault;
 use crate::hub::Hub;
 use crate::turn::{TurnRoom, wire_turn};
@@ -65,6 +66,32 @@ impl Rounds {
     {
         serve_round(hub, wires, &self.lines, &mut self.quiets, &mut self.room);
     }
+
+    /// One turn of each wire, in the order of the lines, where only those are visited that are due. Any other has the
+    /// turn of an answer `Pending`. Takes no memory.
+    pub fn take_due<W: Wire, A: Attendant<W>>(
+        &mut self,
+        hub: &mut Hub,
+        wires: &mut [W],
+        attendant: &A,
+    )
+        requires same { length wires.old ≡ length self.old.lines }
+        requires known { All (HasLine hub.old) self.old.lines }
+        ensures round { (round : List Turn) × (length round ≡ length self.old.lines) ×
+            IsRound W.passed W.count self.old.lines hub.old self.old.quiets wires.old round
+            hub.new self.new.quiets wires.new }
+        ensures same { self.new.lines ≡ self.old.lines }
+        ensures lines { SameLines hub.old hub.new }
+    {
+        serve_due(
+            hub,
+            wires,
+            &self.lines,
+            &mut self.quiets,
+            &mut self.room,
+            attendant,
+        );
+    }
 }
 
 /// One turn of each wire, in their order.
@@ -85,6 +112,32 @@ fn serve_round<W: Wire>(
     ensures lines { SameLines hub.old hub.new }
 {
     for i in 0..lines.len() {
+        quiets[i] = wire_turn(hub, lines[i], &mut wires[i], quiets[i], room);
+    }
+}
+
+/// One turn of each wire, in their order, where only those are visited that are due.
+fn serve_due<W: Wire, A: Attendant<W>>(
+    hub: &mut Hub,
+    wires: &mut [W],
+    lines: &[LineId],
+    quiets: &mut [u8],
+    room: &mut TurnRoom,
+    attendant: &A,
+)
+    requires same { length wires.old ≡ length lines.now }
+    requires counts { length quiets.old ≡ length lines.now }
+    requires known { All (HasLine hub.old) lines.now }
+    requires few { All (λ quiet. quiet < 10) quiets.old }
+    ensures round { (round : List Turn) × (length round ≡ length lines.now) ×
+        IsRound W.passed W.count lines.now hub.old quiets.old wires.old round hub.new quiets.new wires.new }
+    ensures few { All (λ quiet. quiet < 10) quiets.new }
+    ensures lines { SameLines hub.old hub.new }
+{
+    for i in 0..lines.len() {
+        if !attendant.is_due(i) {
+            continue;
+        }
         quiets[i] = wire_turn(hub, lines[i], &mut wires[i], quiets[i], room);
     }
 }

@@ -10,8 +10,8 @@ use crate::hub::Hub;
 use crate::rounds::Rounds;
 use crate::wire::Wire;
 
-/// So many rounds of a hub's wires. Before each the attendant comes, and a customer is given new routes where it brings
-/// some; after each it comes again.
+/// So many rounds of a hub's wires, in each of which those are visited that the attendant calls due. Before each the
+/// attendant comes, and a customer is given new routes where it brings some; after each it comes again.
 ///
 /// Routes that `Hub::retable` refuses change nothing; the attendant is told. What fails on a wire loses its own line
 /// and no other.
@@ -32,7 +32,7 @@ pub fn attend<W: Wire, A: Attendant<W>>(
     for turn in 0..turns {
         attendant.before(wires);
         give_routes(hub, attendant);
-        rounds.take(hub, wires);
+        rounds.take_due(hub, wires, attendant);
         attendant.after(hub, wires);
     }
 }

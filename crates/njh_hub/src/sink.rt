@@ -4,9 +4,11 @@ ghost use Rattle.std.specs.Prelude.{◌≡◌, ℕ, ◌≤◌, List, [], ◌∷�
 ghost use Rattle.njh_hub.specs.Sent.{IsCounted};
 
 use njh_table::LineId;
+use thiserror::Error;
 
 /// A sink took no frame.
-#[derive(Clone, Copy, Debug, PartialEq, Eq)]
+#[derive(Clone, Copy, Debug, PartialEq, Eq, Error)]
+#[error("the sink took no frame")]
 pub struct SinkFault;
 
 /// Takes the frames that a run sends, each with its line.

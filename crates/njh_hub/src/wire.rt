@@ -2,14 +2,14 @@
 
 ghost use Rattle.std.specs.Prelude.{◌≡◌, ℕ, ◌<◌, ◌≤◌, List, [], ◌∷◌, ◌++◌, length, OnOk, OnErr, IfOk};
 ghost use Rattle.njh_hub.specs.Sent.{IsCounted};
-ghost use Rattle.njh_hub.specs.Wires.{Answered, Sent, Unsent, heard_of, IsReading};
+ghost use Rattle.njh_hub.specs.Wires.{Sent, Unsent, answer_acts, heard_of, IsReading};
 
 use crate::reading::{Reading, WireFault};
 
 /// A wire of a line: bytes come on it, and frames go out.
 ///
-/// A wire in memory keeps what passes on it; one on a socket doesn't. A fault is answered only where the count of failures
-/// rose, or stands at its greatest value.
+/// A wire in memory keeps what passes on it; one on a socket doesn't. A fault is answered only where the count of
+/// failures rose, or stands at its greatest value.
 pub trait Wire {
     ghost use Rattle.std.specs.Prelude.{ℕ, List};
     ghost use Rattle.njh_hub.specs.Wires.{WireAct};
@@ -27,7 +27,7 @@ pub trait Wire {
     /// Reads once: puts bytes that came at the front of the buffer, or says that there are none.
     fn read(&mut self, into: &mut [u8]) -> Result<Reading, WireFault>
         requires { 0 < length into.old }
-        ensures answered { passed self.old self.new (Answered (heard_of result into.new) ∷ []) }
+        ensures answered { passed self.old self.new (answer_acts (heard_of result into.new)) }
         ensures within { IfOk result (IsReading (length into.new)) }
         ensures counts { count self.old ≤ count self.new }
         ensures counted { OnErr result (IsCounted (count self.old) (count self.new)) };

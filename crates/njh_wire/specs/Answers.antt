@@ -7,7 +7,7 @@ use Rattle.njh_hub.specs.declared.reading.WireFault.{WireFault}
 use Rattle.njh_wire.specs.declared.end.End.TheVariants as ends
 use Rattle.njh_wire.specs.declared.end.Parting.TheVariants.{Closed, Failed}
 use Rattle.njh_wire.specs.declared.end.Stop.{Stop}
-use Rattle.njh_wire.specs.declared.end.Stop.TheVariants as stops
+use Rattle.njh_wire.specs.declared.end.Stop.TheVariants as why
 use Rattle.njh_wire.specs.Standing.{Standing, later, resumed, parted, failed, given_up, keeping, stopped, hearing}
 
 -- Nothing came. That is a quiet only when it is due, and then the next is due 100 milliseconds later.
@@ -35,20 +35,23 @@ unanswered s = record s { answered = false }
 abbrev pub IsOpen : {C : Type 0} → Standing C → Type 0
 IsOpen s = IsSome s.connection × IsTrue s.readable × (s.parting ≡ None)
 
--- The connection gave these bytes and no others, put none out, and then stopped.
-pub record Receives {C : Type 0} (moved : C → C → List ℕ → List ℕ → Type 0) (s : Standing C) (bytes : List ℕ)
-    (new : Standing C) : Type 0 where
+-- The connection gave these bytes and no others, put none out, and then said why no more come, unless there was no more
+-- room for any.
+pub record Receives {C : Type 0} (moved : C → C → List ℕ → List ℕ → Type 0) (stops : C → Stop → Type 0) (s : Standing C)
+    (bytes : List ℕ) (new : Standing C) : Type 0 where
   pub before : C
   pub after : C
   pub stop : Stop
   pub connected : s.connection ≡ Some before
   pub moves : moved before after bytes []
-  pub dry : length bytes ≡ 0 → stop ≢ stops.Full
+  pub dry : length bytes ≡ 0 → stop ≢ why.Full
+  pub says : stop ≢ why.Full → stops after stop
   pub stands : new ≡ stopped stop (record s { connection = Some after })
 
 -- No bytes came: the connection gave none, or wasn't read.
-pub record GivesNone {C : Type 0} (moved : C → C → List ℕ → List ℕ → Type 0) (s new : Standing C) : Type 0 where
-  pub received : IsOpen s → Receives moved s [] new
+pub record GivesNone {C : Type 0} (moved : C → C → List ℕ → List ℕ → Type 0) (stops : C → Stop → Type 0)
+    (s new : Standing C) : Type 0 where
+  pub received : IsOpen s → Receives moved stops s [] new
   pub shut : ¬ IsOpen s → new ≡ s
 
 -- What a wire answers at a read while bytes wait to go out: it waits for a second, and then gives the connection up.
@@ -62,20 +65,20 @@ IsWait s (Ok reading.Absent) new = ⊥
 
 -- What a wire answers at a read while nothing waits: the bytes that the connection gave, or what `IsAnswer` says where
 -- it gave none.
-abbrev pub IsRead : {C : Type 0} → (C → C → List ℕ → List ℕ → Type 0) → Standing C → Result Reading WireFault → List ℕ →
-    Standing C → Type 0
-IsRead {C = C} moved s (Ok (reading.Bytes n)) buffer new =
-    IsOpen s × ((middle : Standing C) × Receives moved s (take n buffer) middle × (new ≡ hearing middle))
-IsRead {C = C} moved s (Ok reading.Quiet) buffer new =
-    (middle : Standing C) × GivesNone moved s middle × IsAnswer middle (Ok reading.Quiet) new
-IsRead {C = C} moved s (Ok reading.Pending) buffer new =
-    (middle : Standing C) × GivesNone moved s middle × IsAnswer middle (Ok reading.Pending) new
-IsRead {C = C} moved s (Ok reading.Closed) buffer new =
-    (middle : Standing C) × GivesNone moved s middle × IsAnswer middle (Ok reading.Closed) new
-IsRead {C = C} moved s (Ok reading.Absent) buffer new =
-    (middle : Standing C) × GivesNone moved s middle × IsAnswer middle (Ok reading.Absent) new
-IsRead {C = C} moved s (Err fault) buffer new =
-    (middle : Standing C) × GivesNone moved s middle × IsAnswer middle (Err fault) new
+abbrev pub IsRead : {C : Type 0} → (C → C → List ℕ → List ℕ → Type 0) → (C → Stop → Type 0) → Standing C →
+    Result Reading WireFault → List ℕ → Standing C → Type 0
+IsRead {C = C} moved stops s (Ok (reading.Bytes n)) buffer new =
+    IsOpen s × ((middle : Standing C) × Receives moved stops s (take n buffer) middle × (new ≡ hearing middle))
+IsRead {C = C} moved stops s (Ok reading.Quiet) buffer new =
+    (middle : Standing C) × GivesNone moved stops s middle × IsAnswer middle (Ok reading.Quiet) new
+IsRead {C = C} moved stops s (Ok reading.Pending) buffer new =
+    (middle : Standing C) × GivesNone moved stops s middle × IsAnswer middle (Ok reading.Pending) new
+IsRead {C = C} moved stops s (Ok reading.Closed) buffer new =
+    (middle : Standing C) × GivesNone moved stops s middle × IsAnswer middle (Ok reading.Closed) new
+IsRead {C = C} moved stops s (Ok reading.Absent) buffer new =
+    (middle : Standing C) × GivesNone moved stops s middle × IsAnswer middle (Ok reading.Absent) new
+IsRead {C = C} moved stops s (Err fault) buffer new =
+    (middle : Standing C) × GivesNone moved stops s middle × IsAnswer middle (Err fault) new
 
 -- A connection put out these bytes and no others, and gave none.
 pub record Sends {C : Type 0} (moved : C → C → List ℕ → List ℕ → Type 0) (connection : Option C) (bytes : List ℕ)
@@ -86,8 +89,8 @@ pub record Sends {C : Type 0} (moved : C → C → List ℕ → List ℕ → Typ
   pub moves : moved before after [] bytes
   pub stands : new ≡ Some after
 
--- A frame was written: so many bytes of it went out, and the others wait. None goes out past what waits, nor of a second
--- frame after one read.
+-- A frame was written: so many bytes of it went out, and the others wait. None goes out past what waits, nor of a
+-- second frame after one read.
 pub record IsWritten {C : Type 0} (moved : C → C → List ℕ → List ℕ → Type 0) (s : Standing C) (frame : List ℕ)
     (new : Standing C) : Type 0 where
   pub went : ℕ

@@ -3,6 +3,8 @@ use Rattle.std.specs.Prelude.{ℕ, ◌<◌, ◌≤◌, List, [], take, Result, O
 use Rattle.njh_wire.specs.declared.connection.Received.{Received}
 use Rattle.njh_wire.specs.declared.connection.Received.TheVariants.{Bytes, Nothing, Ended}
 use Rattle.njh_wire.specs.declared.connection.ConnectionFault.{ConnectionFault}
+use Rattle.njh_wire.specs.declared.end.Stop.{Stop}
+use Rattle.njh_wire.specs.declared.end.Stop.TheVariants as stop
 
 -- the bytes that a read gave
 abbrev pub came : Result Received ConnectionFault → List ℕ → List ℕ
@@ -16,6 +18,13 @@ abbrev pub IsReceived : ℕ → Received → Type 0
 IsReceived room (Bytes n) = (0 < n) × (n ≤ room)
 IsReceived room Nothing = ⊤
 IsReceived room Ended = ⊤
+
+-- why no more bytes come, as a read said it
+abbrev pub IsStop : (Stop → Type 0) → Result Received ConnectionFault → Type 0
+IsStop stops (Ok (Bytes n)) = ⊤
+IsStop stops (Ok Nothing) = stops stop.Dry
+IsStop stops (Ok Ended) = stops stop.Ended
+IsStop stops (Err fault) = stops stop.Failed
 
 -- how many bytes a call put out
 abbrev pub gone : Result ℕ ConnectionFault → ℕ

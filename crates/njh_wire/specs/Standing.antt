@@ -10,6 +10,8 @@ use Rattle.njh_wire.specs.declared.end.Stop.TheVariants as stops
 
 -- How a wire of a line stands. Times are milliseconds on the service's clock.
 pub record Standing (C : Type 0) : Type 0 where
+  -- the line's place among those that are served
+  pub place : ℕ
   -- who is connected
   pub connection : Option C
   -- who takes the place of the connection that is gone, once its line was told
@@ -35,9 +37,10 @@ pub record Standing (C : Type 0) : Type 0 where
 abbrev pub later : ℕ → ℕ
 later clock = min (clock + 100) 18446744073709551615
 
--- nobody is connected, and the clock stands at 0
-abbrev pub opened : {C : Type 0} → Standing C
-opened = record {
+-- nobody is connected to the line of this place, and the clock stands at 0
+abbrev pub opened : {C : Type 0} → ℕ → Standing C
+opened place = record {
+  place = place;
   connection = None;
   next = None;
   parting = None;

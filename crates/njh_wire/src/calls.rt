@@ -1,6 +1,7 @@
 //! Calls of a connection that may be there.
 
-ghost use Rattle.std.specs.Prelude.{◌≡◌, ◌≤◌, [], length, take, IsSome, IfOk, IfSome};
+ghost use Rattle.std.specs.Prelude.{◌≡◌, ◌≢◌, ◌≤◌, [], length, take, IsSome, IfOk, IfSome};
+ghost use Rattle.std.specs.Option.{option_map};
 ghost use Rattle.njh_wire.specs.Answers.{Sends};
 ghost use Rattle.njh_wire.specs.declared.end.Stop.TheVariants.{Full};
 
@@ -12,6 +13,8 @@ fn receive_all<C: Connection>(connection: &mut C, into: &mut [u8]) -> (usize, St
     ensures moved { C.moved connection.old connection.new (take result.0 into.new) [] }
     ensures within { result.0 ≤ length into.new }
     ensures full { result.1 ≡ Full → result.0 ≡ length into.new }
+    ensures stops { result.1 ≢ Full → C.stops connection.new result.1 }
+    ensures place { C.place_of connection.new ≡ C.place_of connection.old }
 {
     let mut count = 0;
     while count < into.len() {
@@ -33,9 +36,10 @@ pub(crate) fn receive_on<C: Connection + Drop>(
 ) -> (usize, Stop)
     requires { IsSome connection.old }
     ensures moved { (before after : C) × (connection.old ≡ Some before) × (connection.new ≡ Some after) ×
-        C.moved before after (take result.0 into.new) [] }
+        C.moved before after (take result.0 into.new) [] × (result.1 ≢ Full → C.stops after result.1) }
     ensures within { result.0 ≤ length into.new }
     ensures full { result.1 ≡ Full → result.0 ≡ length into.new }
+    ensures place { option_map C.place_of connection.new ≡ option_map C.place_of connection.old }
 {
     match connection {
         Some(connection) => receive_all(connection, into),
@@ -50,6 +54,7 @@ pub(crate) fn send_on<C: Connection + Drop>(
 ) -> Result<usize, ConnectionFault>
     ensures moved { IfOk result (λ count. Sends C.moved connection.old (take count bytes.now) connection.new) }
     ensures within { IfOk result (λ count. count ≤ length bytes.now) }
+    ensures place { option_map C.place_of connection.new ≡ option_map C.place_of connection.old }
 {
     match connection {
         Some(connection) => connection.send(bytes),

@@ -1,7 +1,7 @@
 //! Connections whose calls never wait.
 
-ghost use Rattle.std.specs.Prelude.{◌<◌, ◌≤◌, [], ◌++◌, length, take, IfOk};
-ghost use Rattle.njh_wire.specs.Moved.{IsReceived, came, gone};
+ghost use Rattle.std.specs.Prelude.{◌≡◌, ◌<◌, ◌≤◌, [], ◌++◌, length, take, IfOk};
+ghost use Rattle.njh_wire.specs.Moved.{IsReceived, IsStop, came, gone};
 
 /// What a read of a connection gives.
 #[derive(Clone, Copy, Debug, PartialEq, Eq)]
@@ -18,23 +18,37 @@ pub enum Received {
 #[derive(Clone, Copy, Debug, PartialEq, Eq)]
 pub struct ConnectionFault;
 
-/// A connection whose calls never wait.
+/// A connection of one line, whose calls never wait.
 pub trait Connection {
     ghost use Rattle.std.specs.Prelude.{ℕ, List};
+    ghost use Rattle.njh_wire.specs.declared.end.Stop.{Stop};
 
     /// Between these two states these bytes came in and these went out, each in order, and nothing else.
     ghost moved: { Self → Self → List ℕ → List ℕ → Type 0 };
+
+    /// It came to this state by a read that said so why no more bytes come.
+    ghost stops: { Self → Stop → Type 0 };
+
+    /// The place of the line that it is of, among those that are served.
+    ghost place_of: { Self → ℕ };
+
+    /// The place of its line.
+    fn place(&self) -> usize
+        ensures { result ≡ place_of self.now };
 
     /// Reads what is there, up to the length of the buffer. A fault gives no bytes.
     fn receive(&mut self, into: &mut [u8]) -> Result<Received, ConnectionFault>
         requires { 0 < length into.old }
         ensures moved { moved self.old self.new (came result into.new) [] }
-        ensures within { IfOk result (IsReceived (length into.new)) };
+        ensures within { IfOk result (IsReceived (length into.new)) }
+        ensures stops { IsStop (stops self.new) result }
+        ensures place { place_of self.new ≡ place_of self.old };
 
     /// Sends as many of the bytes as go out now, and answers how many, 0 where none can. A fault sends none.
     fn send(&mut self, bytes: &[u8]) -> Result<usize, ConnectionFault>
         ensures moved { moved self.old self.new [] (take (gone result) bytes.now) }
-        ensures within { IfOk result (λ count. count ≤ length bytes.now) };
+        ensures within { IfOk result (λ count. count ≤ length bytes.now) }
+        ensures place { place_of self.new ≡ place_of self.old };
 
     /// Nothing moved where nothing happened.
     ghost none: { (s : Self) → moved s s [] [] };

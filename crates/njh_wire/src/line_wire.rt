@@ -6,6 +6,8 @@ ghost use Rattle.njh_hub.specs.Sent.{IsCounted};
 ghost use Rattle.njh_hub.specs.Wires.{IsReading};
 ghost use Rattle.njh_wire.specs.declared.end.End.TheVariants.{Failed};
 ghost use Rattle.njh_wire.specs.Standing.{opened, resumed, parted, failed, given_up, displaced, admitted, closed};
+ghost use Rattle.std.specs.Option.{option_map};
+ghost use Rattle.njh_wire.specs.Places.{IsAt, IsOwn};
 ghost use Rattle.njh_wire.specs.Answers.{IsOpen, IsWait, IsRead, IsWritten, IsFlushed, unanswered};
 
 mod reading;
@@ -30,6 +32,7 @@ pub const STALL_TIME: u64 = 1000;
 /// It looks at no clock: who serves it sets its time and marks it when its connection has something to read.
 #[derive(Drop)]
 pub struct LineWire<C: Connection + Drop> {
+    place: usize,
     connection: Option<C>,
     next: Option<C>,
     parting: Option<Parting>,
@@ -45,11 +48,14 @@ pub struct LineWire<C: Connection + Drop> {
 }
 
 impl<C: Connection + Drop> Model for LineWire<C> {
+    ghost use Rattle.std.specs.Option.{option_map};
+    ghost use Rattle.njh_wire.specs.Places.{IsAt};
     ghost use Rattle.njh_wire.specs.Standing.{Standing};
 
     ghost Value = { Standing C };
 
     ghost view = { λ wire. record {
+      place = wire.place;
       connection = wire.connection;
       next = wire.next;
       parting = wire.parting;
@@ -63,15 +69,19 @@ impl<C: Connection + Drop> Model for LineWire<C> {
       end = wire.end;
       failures = wire.failures;
     } };
+
+    ghost invariant = { λ wire. IsAt wire.place (option_map C.place_of wire.connection)
+        × IsAt wire.place (option_map C.place_of wire.next) };
 }
 
 impl<C: Connection + Drop> LineWire<C> {
-    /// A wire on which nobody is connected. Takes the room for bytes that wait, and no memory later; out of memory is
-    /// the only refusal.
-    pub fn new(alloc: Global) -> Result<Self, AllocError>
-        ensures { IfOk result (λ wire. wire ≡ opened) }
+    /// The wire of the line at this place. Nobody is connected on it. Takes the room for bytes that wait, and no
+    /// memory later; out of memory is the only refusal.
+    pub fn new(alloc: Global, place: usize) -> Result<Self, AllocError>
+        ensures { IfOk result (λ wire. wire ≡ opened place) }
     {
         Ok(LineWire {
+            place,
             connection: None,
             next: None,
             parting: None,
@@ -85,6 +95,14 @@ impl<C: Connection + Drop> LineWire<C> {
             end: None,
             failures: 0,
         })
+    }
+
+    /// The place of its line among those that are served. Each connection that it has is of that line.
+    pub fn place(&self) -> usize
+        ensures place { result ≡ self.now.place }
+        ensures own { IsOwn C.place_of self.now }
+    {
+        self.place
     }
 
     /// Sets the time, in milliseconds.
@@ -109,9 +127,10 @@ impl<C: Connection + Drop> LineWire<C> {
         self.end.take()
     }
 
-    /// Takes a connection. Where there is one it is dropped, the next read answers that it is closed, and then the new
-    /// one is read.
+    /// Takes a connection of its own line. Where there is one it is dropped, the next read answers that it is closed,
+    /// and then the new one is read.
     pub fn connect(&mut self, connection: C)
+        requires { C.place_of connection ≡ self.old.place }
         ensures { self.new ≡ admitted connection (displaced self.old) }
     {
         if self.connection.is_some() {
@@ -179,8 +198,8 @@ impl<C: Connection + Drop> LineWire<C> {
         self.clock.saturating_sub(self.heard)
     }
 
-    /// Sends on what waits, as far as it goes now. Where that fails the connection is dropped, and the next read answers
-    /// a fault.
+    /// Sends on what waits, as far as it goes now. Where that fails the connection is dropped, and the next read
+    /// answers a fault.
     pub fn flush(&mut self)
         ensures idle { self.old.waiting ≡ [] → self.new ≡ self.old }
         ensures flushed { 0 < length self.old.waiting → IsFlushed C.moved self.old self.new }
@@ -196,6 +215,7 @@ impl<C: Connection + Drop> LineWire<C> {
 
     /// A connection, or none, is there anew.
     fn resume(&mut self, connection: Option<C>)
+        requires { IsAt self.old.place (option_map C.place_of connection) }
         ensures { self.new ≡ resumed connection self.old }
     {
         self.connection = connection;
@@ -255,16 +275,17 @@ impl<C: Connection + Drop> LineWire<C> {
 }
 
 impl<C: Connection + Drop> Wire for LineWire<C> {
-    ghost use Rattle.std.specs.Prelude.{⊤};
+    ghost use Rattle.std.specs.Prelude.{refl};
+    ghost use Rattle.njh_wire.specs.PlaceLaws.{same_then};
 
-    // What passes is in the clauses of `read` and `write`.
-    ghost passed = { λ before after acts. ⊤ };
+    // What passes is in the clauses of `read` and `write`; here, that it stays the wire of its line.
+    ghost passed = { λ before after acts. before.place ≡ after.place };
 
     ghost count = { λ wire. wire.failures };
 
-    ghost none = { λ s. tt };
+    ghost none = { λ s. refl };
 
-    ghost more = { λ a b c xs ys first then. tt };
+    ghost more = { λ a b c xs ys first then. same_then first then };
 
     fn failures(&self) -> u64 {
         self.failures
@@ -272,9 +293,9 @@ impl<C: Connection + Drop> Wire for LineWire<C> {
 
     fn read(&mut self, into: &mut [u8]) -> Result<Reading, WireFault>
         requires { 0 < length into.old }
-        ensures answered { ⊤ }
+        ensures answered { self.old.place ≡ self.new.place }
         ensures waits { 0 < length self.old.waiting → IsWait (unanswered self.old) result self.new }
-        ensures reads { self.old.waiting ≡ [] → IsRead C.moved (unanswered self.old) result into.new self.new }
+        ensures reads { self.old.waiting ≡ [] → IsRead C.moved C.stops (unanswered self.old) result into.new self.new }
         ensures within { IfOk result (IsReading (length into.new)) }
         ensures counts { self.old.failures ≤ self.new.failures }
         ensures counted { OnErr result (IsCounted self.old.failures self.new.failures) }
@@ -287,8 +308,8 @@ impl<C: Connection + Drop> Wire for LineWire<C> {
     }
 
     fn write(&mut self, frame: &[u8]) -> Result<(), WireFault>
-        ensures ok { ⊤ }
-        ensures err { ⊤ }
+        ensures ok { OnOk result (self.old.place ≡ self.new.place) }
+        ensures err { OnErr result (self.old.place ≡ self.new.place) }
         ensures written { OnOk result (IsWritten C.moved self.old frame.now self.new) }
         ensures failed { OnErr result (self.new ≡ given_up Failed self.old) }
         ensures succeeds { IsSome self.old.connection → IsTrue self.old.answered →

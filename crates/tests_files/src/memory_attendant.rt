@@ -3,10 +3,22 @@
 use crate::memory_wire::MemoryWire;
 use njh_hub::{Attendant, Hub, HubFault, NewRoutes};
 
+/// Rounds in which a wire isn't due.
+#[derive(Clone, Copy)]
+pub struct Pause {
+    /// The place of the wire.
+    pub place: usize,
+    /// The first of these rounds, counted from 1 on.
+    pub from: u32,
+    /// The first round in which the wire is due again.
+    pub to: u32,
+}
+
 /// Brings routes once, and counts what it was called for.
 #[derive(Drop)]
 pub struct MemoryAttendant {
     brought: Option<NewRoutes>,
+    pause: Option<Pause>,
     /// How often it came before a round.
     pub before: u32,
     /// How often it came after one.
@@ -18,15 +30,23 @@ pub struct MemoryAttendant {
 }
 
 impl MemoryAttendant {
-    /// One that has these routes to bring.
+    /// One that has these routes to bring, and by which all wires are due.
     pub fn new(brought: Option<NewRoutes>) -> MemoryAttendant {
         MemoryAttendant {
             brought,
+            pause: None,
             before: 0,
             after: 0,
             given: 0,
             refused: None,
         }
+    }
+
+    /// One that brings no routes, and by which a wire has a pause.
+    pub fn with_pause(pause: Pause) -> MemoryAttendant {
+        let mut attendant = MemoryAttendant::new(None);
+        attendant.pause = Some(pause);
+        attendant
     }
 }
 
@@ -43,6 +63,15 @@ impl Attendant<MemoryWire> for MemoryAttendant {
         match answer {
             Ok(()) => self.given = self.given.saturating_add(1),
             Err(fault) => self.refused = Some(fault),
+        }
+    }
+
+    fn is_due(&self, place: usize) -> bool {
+        match self.pause {
+            Some(pause) => {
+                place != pause.place || self.before < pause.from || pause.to <= self.before
+            }
+            None => true,
         }
     }
 

@@ -71,6 +71,11 @@ impl MemoryWire {
         self.sent.as_slice()
     }
 
+    /// How often it was read.
+    pub fn reads(&self) -> u32 {
+        self.reads
+    }
+
     /// How many frames it was to send.
     pub fn writes(&self) -> u32 {
         self.writes

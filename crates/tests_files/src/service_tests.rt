@@ -1,6 +1,6 @@
 //! A service over wires in memory, with an attendant in memory.
 
-use crate::memory_attendant::MemoryAttendant;
+use crate::memory_attendant::{MemoryAttendant, Pause};
 use crate::memory_wire::{MemoryWire, Step};
 use crate::serving::{LINES, attend_twice};
 use njh_ebcdic::Name;
@@ -56,7 +56,8 @@ fn quiets_outlive_a_call(rt: HostRuntime) -> Result<(), Fail> {
     Ok(())
 }
 
-/// Routes are given before the first round; those on a line of another customer are refused. Each is told to the attendant.
+/// Routes are given before the first round; those on a line of another customer are refused. Each is told to the
+/// attendant.
 #[test]
 fn routes_are_given_once(rt: HostRuntime) -> Result<(), Fail> {
     let alloc = rt.alloc();
@@ -74,5 +75,60 @@ fn routes_are_given_once(rt: HostRuntime) -> Result<(), Fail> {
             cause: TableFault::UnknownLine
         })
     );
+    Ok(())
+}
+
+/// Wires of a1 and a2 on which contact is made, and then nothing comes.
+fn two_wires() -> [MemoryWire; 2] {
+    let steps = [CONTACT, Step::Quiet, Step::Quiet, Step::Quiet, Step::Quiet];
+    [MemoryWire::new(steps, 100), MemoryWire::new(steps, 100)]
+}
+
+/// The wire of a1 is passed over in five rounds, after two quiets: these count, those five rounds don't. Its tenth
+/// quiet is in round 16; that of the other wire is in round 11.
+#[test]
+fn quiets_outlive_a_pause(rt: HostRuntime) -> Result<(), Fail> {
+    let pause = Pause {
+        place: 0,
+        from: 4,
+        to: 9,
+    };
+    let mut attendant = MemoryAttendant::with_pause(pause);
+    let mut wires = two_wires();
+    attend_twice(&rt, rt.alloc(), &mut wires, &mut attendant, 8, 7)?;
+    assert_eq!(rt; wires[0].sent(), b"\x10\x70".as_slice());
+    assert_eq!(rt; wires[0].reads(), 10);
+    assert_eq!(rt; wires[1].sent(), b"\x10\x70\x3d".as_slice());
+    assert_eq!(rt; wires[1].reads(), 15);
+    let mut attendant = MemoryAttendant::with_pause(pause);
+    let mut wires = two_wires();
+    attend_twice(&rt, rt.alloc(), &mut wires, &mut attendant, 8, 8)?;
+    assert_eq!(rt; wires[0].sent(), b"\x10\x70\x3d".as_slice());
+    assert_eq!(rt; wires[0].reads(), 11);
+    assert_eq!(rt; wires[1].sent(), b"\x10\x70\x3d".as_slice());
+    assert_eq!(rt; wires[1].reads(), 16);
+    Ok(())
+}
+
+/// What came on a wire that is passed over waits there until it is due; the other wire is read in each round.
+#[test]
+fn bytes_wait_while_a_wire_is_passed_over(rt: HostRuntime) -> Result<(), Fail> {
+    let pause = Pause {
+        place: 0,
+        from: 1,
+        to: 4,
+    };
+    let mut attendant = MemoryAttendant::with_pause(pause);
+    let mut wires = two_wires();
+    attend_twice(&rt, rt.alloc(), &mut wires, &mut attendant, 2, 1)?;
+    assert_eq!(rt; wires[0].sent(), b"".as_slice());
+    assert_eq!(rt; wires[0].reads(), 0);
+    assert_eq!(rt; wires[1].sent(), b"\x10\x70".as_slice());
+    assert_eq!(rt; wires[1].reads(), 3);
+    let mut attendant = MemoryAttendant::with_pause(pause);
+    let mut wires = two_wires();
+    attend_twice(&rt, rt.alloc(), &mut wires, &mut attendant, 2, 2)?;
+    assert_eq!(rt; wires[0].sent(), b"\x10\x70".as_slice());
+    assert_eq!(rt; wires[0].reads(), 1);
     Ok(())
 }

@@ -6,7 +6,8 @@ ghost use Rattle.njh_wire.specs.Moved.{IsReceived};
 use njh_wire::{Connection, ConnectionFault, Received};
 use std::cell::Cell;
 
-/// The other end of a connection. All bytes count up from 0, modulo 256, so that one that is lost or comes too early shows.
+/// The other end of a connection. All bytes count up from 0, modulo 256, so that one that is lost or comes too early
+/// shows.
 #[derive(Drop)]
 pub struct Peer {
     /// How many bytes are there to read, and whether then the end is.
@@ -61,6 +62,8 @@ impl Peer {
 pub struct MemoryConnection<'a> {
     /// The other end.
     pub peer: &'a Peer,
+    /// The place of its line.
+    pub place: usize,
 }
 
 impl<'a> MemoryConnection<'a> {
@@ -85,9 +88,17 @@ impl<'a> Connection for MemoryConnection<'a> {
     // What moves is compared when a test runs.
     ghost moved = { λ before after came went. ⊤ };
 
+    ghost stops = { λ connection stop. ⊤ };
+
+    ghost place_of = { λ connection. connection.place };
+
     ghost none = { λ s. tt };
 
     ghost more = { λ a b c came next_came went next_went first then. tt };
+
+    fn place(&self) -> usize {
+        self.place
+    }
 
     fn receive(&mut self, into: &mut [u8]) -> Result<Received, ConnectionFault> {
         let count = self.fill(into);

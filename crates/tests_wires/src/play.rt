@@ -53,7 +53,7 @@ struct Player<'a> {
 pub fn play<R: Abort>(rt: &R, alloc: Global, name: &str, steps: &[Step]) -> Result<(), Fail> {
     let peers = [Peer::new(), Peer::new()];
     let mut player = Player {
-        wire: LineWire::new(alloc)?,
+        wire: LineWire::new(alloc, 0)?,
         peers: &peers,
         written: 0,
         alloc,
@@ -71,7 +71,8 @@ impl<'a> Player<'a> {
             Step::At(now) => self.wire.set_clock(now),
             Step::Connect(at) => {
                 let found = peer(rt, self.peers, at);
-                self.wire.connect(MemoryConnection { peer: found });
+                let place = self.wire.place();
+                self.wire.connect(MemoryConnection { peer: found, place });
             }
             Step::Comes(at, count) => {
                 peer(rt, self.peers, at).coming.set(count);

@@ -16,6 +16,7 @@ impl<C: Connection + Drop> LineWire<C> {
     /// What it answers while bytes wait to go out.
     pub(super) fn wait_to_send(&mut self) -> Result<Reading, WireFault>
         ensures answer { IsWait self.old result self.new }
+        ensures place { self.new.place ≡ self.old.place }
         ensures counts { self.old.failures ≤ self.new.failures }
         ensures counted { OnErr result (IsCounted self.old.failures self.new.failures) }
     {
@@ -29,8 +30,9 @@ impl<C: Connection + Drop> LineWire<C> {
     /// What it answers while nothing waits to go out.
     pub(super) fn read_open(&mut self, into: &mut [u8]) -> Result<Reading, WireFault>
         requires { 0 < length into.old }
-        ensures read { IsRead C.moved self.old result into.new self.new }
+        ensures read { IsRead C.moved C.stops self.old result into.new self.new }
         ensures within { IfOk result (IsReading (length into.new)) }
+        ensures place { self.new.place ≡ self.old.place }
         ensures counts { self.old.failures ≤ self.new.failures }
         ensures counted { OnErr result (IsCounted self.old.failures self.new.failures) }
     {
@@ -47,6 +49,7 @@ impl<C: Connection + Drop> LineWire<C> {
     /// What it answers where nothing came of reading.
     fn answer(&mut self) -> Result<Reading, WireFault>
         ensures answer { IsAnswer self.old result self.new }
+        ensures place { self.new.place ≡ self.old.place }
         ensures counts { self.old.failures ≤ self.new.failures }
         ensures counted { OnErr result (IsCounted self.old.failures self.new.failures) }
     {
@@ -66,7 +69,8 @@ impl<C: Connection + Drop> LineWire<C> {
 
     /// What it answers where nothing came.
     fn silence(&mut self) -> Reading
-        ensures { IsSilence self.old result self.new }
+        ensures answer { IsSilence self.old result self.new }
+        ensures place { self.new.place ≡ self.old.place }
     {
         if self.connection.is_none() {
             return Reading::Absent;
@@ -82,8 +86,9 @@ impl<C: Connection + Drop> LineWire<C> {
     fn receive(&mut self, into: &mut [u8]) -> usize
         requires open { IsOpen self.old }
         requires room { 0 < length into.old }
-        ensures received { Receives C.moved self.old (take result into.new) self.new }
+        ensures received { Receives C.moved C.stops self.old (take result into.new) self.new }
         ensures within { result ≤ length into.new }
+        ensures place { self.new.place ≡ self.old.place }
     {
         let (count, stop) = receive_on(&mut self.connection, into);
         self.stop(stop);
@@ -92,7 +97,8 @@ impl<C: Connection + Drop> LineWire<C> {
 
     /// Keeps why no more bytes came.
     fn stop(&mut self, stop: Stop)
-        ensures { self.new ≡ stopped stop self.old }
+        ensures stands { self.new ≡ stopped stop self.old }
+        ensures place { self.new.place ≡ self.old.place }
     {
         match stop {
             Stop::Full => {}

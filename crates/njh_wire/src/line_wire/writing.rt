@@ -16,6 +16,7 @@ impl<C: Connection + Drop> LineWire<C> {
         ensures unwritten { ¬ IsTrue result → self.new ≡ record self.old { connection = self.new.connection } }
         ensures succeeds { IsSome self.old.connection → IsTrue self.old.answered →
             length self.old.waiting + length frame.now ≤ ROOM → IsTrue result }
+        ensures place { self.new.place ≡ self.old.place }
     {
         match self.send_at_once(frame) {
             Some(went) => {

@@ -34,16 +34,16 @@ loop-turn-preserved g c =
     let story = c.loop-turn.invariant.story.0 in
     let many = c.loop-turn.invariant.story.1 in
     let given = c.give_routes.ensures.given in
-    let round = c.take.ensures.round in
+    let round = c.take_due.ensures.round in
     let told = with_given story given.0 in
     let before = at_still passed count lines start quiets wires story c.loop-turn.hub now_quiets c.loop-turn.wires
     c.before-in-loop-turn.new.wires more (omega (arith, c.requires.same)) c.loop-turn.invariant.story.2 c.before-in-loop-turn.ensures in
     let routed = at_given passed count lines start quiets wires story c.loop-turn.hub now_quiets c.before-in-loop-turn.new.wires given.0
     c.give_routes.new.hub before given.1 in
     let P : List LineId → Type 0 = λ ls. IsRound passed count ls c.give_routes.new.hub now_quiets c.before-in-loop-turn.new.wires round.0
-    c.take.new.hub c.take.new.self.quiets c.take.new.wires in
+    c.take_due.new.hub c.take_due.new.self.quiets c.take_due.new.wires in
     let taken = at_round passed count lines start quiets wires told c.give_routes.new.hub now_quiets c.before-in-loop-turn.new.wires round.0
-    c.take.new.hub c.take.new.self.quiets c.take.new.wires more routed (round.1 ∙ ap (λ (ls : List LineId). length ls) lines_is)
+    c.take_due.new.hub c.take_due.new.self.quiets c.take_due.new.wires more routed (round.1 ∙ ap (λ (ls : List LineId). length ls) lines_is)
     (subst P lines_is round.2) in
     let next = told ++ Round round.0 ∷ [] in
     let one_more : length (service_rounds next) ≡ length (service_rounds story) + 1 =
@@ -54,18 +54,18 @@ loop-turn-preserved g c =
       story = (
         next,
         omega (arith, many, one_more),
-        at_still passed count lines start quiets wires next c.take.new.hub c.take.new.self.quiets c.take.new.wires c.after.new.wires more
+        at_still passed count lines start quiets wires next c.take_due.new.hub c.take_due.new.self.quiets c.take_due.new.wires c.after.new.wires more
             (omega (arith, c.requires.same)) taken c.after.ensures,
       );
-      lines = c.take.ensures.same ∙ lines_is;
-      same = λ d. c.take.ensures.lines d ∙ c.give_routes.ensures.lines d ∙ c.loop-turn.invariant.same d;
+      lines = c.take_due.ensures.same ∙ lines_is;
+      same = λ d. c.take_due.ensures.lines d ∙ c.give_routes.ensures.lines d ∙ c.loop-turn.invariant.same d;
     }
 
-pub take-requires-clause-same : goal.take-requires-clause-same
-take-requires-clause-same g c = omega (arith, c.requires.same, ap (λ (ls : List LineId). length ls) c.loop-turn.invariant.lines)
+pub take_due-requires-clause-same : goal.take_due-requires-clause-same
+take_due-requires-clause-same g c = omega (arith, c.requires.same, ap (λ (ls : List LineId). length ls) c.loop-turn.invariant.lines)
 
-pub take-requires-clause-known : goal.take-requires-clause-known
-take-requires-clause-known g c =
+pub take_due-requires-clause-known : goal.take_due-requires-clause-known
+take_due-requires-clause-known g c =
     subst (λ (ls : List LineId). All (HasLine c.give_routes.new.hub) ls) (sym c.loop-turn.invariant.lines) (λ k d within.
     omega (
       arith,

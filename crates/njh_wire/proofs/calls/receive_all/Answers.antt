@@ -1,4 +1,4 @@
-use Rattle.std.proofs.Common.{[], length, subst, arith, length-append, Ok}
+use Rattle.std.proofs.Common.{[], length, subst, ◌∙◌, arith, length-append, Ok}
 use Rattle.njh_wire.specs.declared.connection.Received.{Received}
 use Rattle.njh_wire.specs.Moved.{came, IsReceived}
 use Rattle.njh_wire.proofs.MovedLaws.{moved_more, moved_none}
@@ -18,6 +18,7 @@ loop-count-preserved g c =
         subst Within c.in-Ok-Bytes.field-0-is c.in-Ok-Bytes.ensures.within,
         length-append c.split_at_mut-rest.result.0.now c.receive.new.into,
       ),
+      c.in-Ok-Bytes.ensures.place ∙ c.loop-count.invariant.2,
     )
 
 pub returns-in-Ok-Nothing-clause-moved : goal.returns-in-Ok-Nothing-clause-moved
