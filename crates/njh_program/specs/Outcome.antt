@@ -10,6 +10,7 @@ use Rattle.njh_program.specs.declared.arguments.Request.TheVariants.{Serve}
 use Rattle.njh_program.specs.declared.arguments.Request.TheVariants as request
 use Rattle.njh_program.specs.declared.failure.Failure.{Failure}
 use Rattle.njh_program.specs.declared.failure.Failure.TheVariants.{Arguments, Tables, Replay}
+use Rattle.njh_program.specs.declared.failure.Failure.TheVariants as failure
 use Rattle.njh_program.specs.declared.fault.ReplayFault.TheVariants.{TooLong, Script, Device, Hub}
 use Rattle.njh_program.specs.Arguments.{AreRefusedBy, HasOptions, choice_by, choice_of, program_app}
 use Rattle.njh_program.specs.Replayed.{HasTooLong, HasBadLine, IsBegun, IsReplayed}
@@ -46,7 +47,8 @@ IsDone arguments left old new = ((tables : TableFile) × Chooses arguments table
 abbrev pub IsBegunFor : (arguments : List Text) (left old new : Option (List ℕ)) → Type 0
 IsBegunFor arguments left old new = (tables : TableFile) × Chooses arguments tables × IsBegun tables left old new
 
--- Why it failed: by the arguments, which are asked first, by the tables, or by the script; or a device failed, or memory ran out.
+-- Why it failed: by the arguments, which are asked first, by the tables, or by the script; or a device failed, or
+-- memory ran out.
 abbrev pub IsFailed : (arguments : List Text) (left : Option (List ℕ)) → Failure → Type 0
 IsFailed arguments left (Arguments error) = AreRefusedBy arguments error
 IsFailed arguments left (Tables fault) = ChoosesRefused arguments (Tables fault)
@@ -55,3 +57,5 @@ IsFailed arguments left (Replay (Script number)) = (tables : TableFile) × Choos
     × HasBadLine tables left number
 IsFailed arguments left (Replay Device) = ⊤
 IsFailed arguments left (Replay (Hub fault)) = fault ≡ Memory
+IsFailed arguments left failure.Device = ⊤
+IsFailed arguments left failure.Memory = ⊤

@@ -2,8 +2,8 @@
 use Rattle.std.specs.Prelude.{◌≡◌, ◌≢◌, ◌⊎◌, ℕ, Result, Ok, Err}
 use Rattle.njh_program.specs.declared.failure.Failure.{Failure}
 use Rattle.njh_program.specs.declared.failure.Failure.TheVariants.{Arguments, Tables, Replay}
+use Rattle.njh_program.specs.declared.failure.Failure.TheVariants as failure
 use Rattle.njh_program.specs.declared.fault.ReplayFault.TheVariants.{TooLong, Script, Device, Hub}
-use Rattle.njh_hub.specs.declared.fault.HubFault.TheVariants as hub
 use Rattle.njh_serve.specs.declared.fault.ServeFault.{ServeFault}
 use Rattle.njh_serve.specs.declared.fault.ServeFault.TheVariants as serve
 use Rattle.njh_table.specs.declared.fault.TableFault.{TableFault}
@@ -22,21 +22,19 @@ status_of (Replay TooLong) = 1
 status_of (Replay (Script number)) = 1
 status_of (Replay Device) = 2
 status_of (Replay (Hub fault)) = 2
+status_of failure.Device = 2
+status_of failure.Memory = 2
 
 -- the status to end with: 0 where nothing failed
 abbrev pub status_after : {A : Type 0} → Result A Failure → ℕ
 status_after (Ok x) = 0
 status_after (Err failure) = status_of failure
 
--- out of memory, outside a replay
-abbrev pub no_memory : Failure
-no_memory = Replay (Hub hub.Memory)
-
 -- why lines weren't served
 abbrev pub failure_of : ServeFault → Failure
-failure_of serve.Device = Replay Device
-failure_of serve.Memory = no_memory
+failure_of serve.Device = failure.Device
+failure_of serve.Memory = failure.Memory
 
 -- an error becomes this failure, but out of memory where its kind says that
 abbrev pub Becomes : {Kind : Type 0} → (kind memory : Kind) → Failure → Failure → Type 0
-Becomes kind memory other failure = ((kind ≡ memory) × (failure ≡ no_memory)) ⊎ ((kind ≢ memory) × (failure ≡ other))
+Becomes kind memory other why = ((kind ≡ memory) × (why ≡ failure.Memory)) ⊎ ((kind ≢ memory) × (why ≡ other))

@@ -7,9 +7,8 @@ use Rattle.njh_table.specs.Base.{base_tables}
 use Rattle.njh_table.specs.TableFile.{TableFile}
 use Rattle.njh_table.specs.Walk.{tables_of}
 use Rattle.njh_program.specs.declared.failure.Failure.{Failure}
-use Rattle.njh_program.specs.declared.failure.Failure.TheVariants.{Tables, Replay}
-use Rattle.njh_program.specs.declared.fault.ReplayFault.TheVariants.{Device}
-use Rattle.njh_program.specs.Status.{no_memory}
+use Rattle.njh_program.specs.declared.failure.Failure.TheVariants.{Tables}
+use Rattle.njh_program.specs.declared.failure.Failure.TheVariants as failure
 
 -- what the text gives, where the bytes are one; a file that is no UTF-8 is no TOML
 unfoldable pub tables_in : List ℕ → Result TableFile TableFault
@@ -30,7 +29,7 @@ most_changed_bytes = 2000000
 
 -- why a file isn't read: it can't be, or memory ran out, or it is longer than any tables need
 abbrev pub IsUnread : Failure → Type 0
-IsUnread failure = (failure ≡ Replay Device) ⊎ (failure ≡ no_memory) ⊎ (failure ≡ Tables TooMany)
+IsUnread why = (why ≡ failure.Device) ⊎ (why ≡ failure.Memory) ⊎ (why ≡ Tables TooMany)
 
 -- why there are no tables: out of memory, or a file that isn't read, or one whose bytes give this fault
 abbrev pub AreRefused : {Path : Type 0} → Option Path → Failure → Type 0

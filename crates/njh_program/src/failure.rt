@@ -3,7 +3,7 @@
 ghost use Rattle.std.specs.Prelude.{◌≡◌};
 ghost use Rattle.std.specs.IoError.{error_kind};
 ghost use Rattle.clap.specs.Words.{kind_of};
-ghost use Rattle.njh_program.specs.Status.{status_of, no_memory, failure_of, Becomes};
+ghost use Rattle.njh_program.specs.Status.{status_of, failure_of, Becomes};
 
 use crate::fault::ReplayFault;
 use clap::error::ErrorKind;
@@ -13,7 +13,7 @@ use njh_table::TableFault;
 use std::alloc::{AllocError, AllocFailed};
 use std::{fmt, io};
 
-/// What ended the program. A device that fails, or memory that runs out, outside a replay counts as that of one.
+/// What ended the program.
 #[derive(Debug, Drop)]
 pub enum Failure {
     /// The arguments are refused, or ask for help.
@@ -22,6 +22,10 @@ pub enum Failure {
     Tables(TableFault),
     /// The replay ended early.
     Replay(ReplayFault),
+    /// A file or a stream failed outside a replay, or lines could not be served.
+    Device,
+    /// There was no memory, outside a replay.
+    Memory,
 }
 
 impl Failure {
@@ -38,6 +42,8 @@ impl Failure {
             Failure::Replay(ReplayFault::Script { .. }) => 1,
             Failure::Replay(ReplayFault::Device) => 2,
             Failure::Replay(ReplayFault::Hub(_)) => 2,
+            Failure::Device => 2,
+            Failure::Memory => 2,
         }
     }
 }
@@ -49,6 +55,8 @@ impl fmt::Display for Failure {
             Failure::Arguments(error) => write!(f, "{error}"),
             Failure::Tables(fault) => writeln!(f, "njehub: {fault}"),
             Failure::Replay(fault) => writeln!(f, "njehub: {fault}"),
+            Failure::Device => writeln!(f, "njehub: {}", ReplayFault::Device),
+            Failure::Memory => writeln!(f, "njehub: {}", HubFault::Memory),
         }
     }
 }
@@ -61,7 +69,7 @@ impl From<clap::Error> for Failure {
 
     fn from(error: clap::Error) -> Failure {
         match error.kind() {
-            ErrorKind::OutOfMemory => Failure::from(AllocError),
+            ErrorKind::OutOfMemory => Failure::Memory,
             _ => Failure::Arguments(error),
         }
     }
@@ -92,39 +100,42 @@ impl From<ServeFault> for Failure {
 
     fn from(fault: ServeFault) -> Failure {
         match fault {
-            ServeFault::Device => Failure::Replay(ReplayFault::Device),
-            ServeFault::Memory => Failure::from(AllocError),
+            ServeFault::Device => Failure::Device,
+            ServeFault::Memory => Failure::Memory,
         }
     }
 }
 
 impl From<AllocError> for Failure {
-    ghost from_gives = { λ _ failure. failure ≡ no_memory };
+    ghost use Rattle.njh_program.specs.declared.failure.Failure.TheVariants.{Memory};
+
+    ghost from_gives = { λ _ failure. failure ≡ Memory };
 
     fn from(_error: AllocError) -> Failure {
-        Failure::Replay(ReplayFault::Hub(HubFault::Memory))
+        Failure::Memory
     }
 }
 
 impl<T: Drop> From<AllocFailed<T>> for Failure {
-    ghost from_gives = { λ _ failure. failure ≡ no_memory };
+    ghost use Rattle.njh_program.specs.declared.failure.Failure.TheVariants.{Memory};
+
+    ghost from_gives = { λ _ failure. failure ≡ Memory };
 
     fn from(_error: AllocFailed<T>) -> Failure {
-        Failure::from(AllocError)
+        Failure::Memory
     }
 }
 
 impl From<io::Error> for Failure {
     ghost use Rattle.std.specs.declared.io.ErrorKind.TheVariants.{OutOfMemory};
-    ghost use Rattle.njh_program.specs.declared.failure.Failure.TheVariants.{Replay};
-    ghost use Rattle.njh_program.specs.declared.fault.ReplayFault.TheVariants.{Device};
+    ghost use Rattle.njh_program.specs.declared.failure.Failure.TheVariants.{Device};
 
-    ghost from_gives = { λ error failure. Becomes (error_kind error) OutOfMemory (Replay Device) failure };
+    ghost from_gives = { λ error failure. Becomes (error_kind error) OutOfMemory Device failure };
 
     fn from(error: io::Error) -> Failure {
         match error.kind() {
-            io::ErrorKind::OutOfMemory => Failure::from(AllocError),
-            _ => Failure::Replay(ReplayFault::Device),
+            io::ErrorKind::OutOfMemory => Failure::Memory,
+            _ => Failure::Device,
         }
     }
 }

@@ -5,10 +5,10 @@ ghost use Rattle.njh_program.specs.Outcome.{AreServedOf};
 ghost use Rattle.njh_program.specs.TableBytes.{AreRefused, IsUnread};
 
 use crate::failure::Failure;
-use crate::fault::ReplayFault;
-use crate::table_file::tables_of;
+use crate::table_file::tables_twice;
+use crate::table_source::TableFileSource;
 use njh_serve::{serve, utc_seconds};
-use njh_service::Log;
+use njh_service::{Log, Revision};
 use std::fmt;
 use std::fs::File;
 use std::io::{ErrorKind, Write};
@@ -34,9 +34,12 @@ pub(crate) fn serve_file<F: Files + Net + Clock + AllocGlobal, L: Write + Drop>(
     ensures served { OnOk result (AreServedOf path.now options.turns) }
     ensures refused { IfErr result (AreRefused (Some path.now)) }
 {
-    match tables_of(rt, Some(path)) {
-        Ok(tables) => {
-            serve(rt, tables, options.listen, options.turns, log)?;
+    // Before the tables are read, so that no change is missed.
+    let source = TableFileSource::new(rt, path);
+    match tables_twice(rt, path) {
+        Ok((tables, known)) => {
+            let revision = Revision::new(rt.alloc(), known, source)?;
+            serve(rt, tables, revision, options.listen, options.turns, log)?;
             Ok(())
         }
         Err(failure) => {
@@ -57,7 +60,7 @@ pub(crate) fn serve_file<F: Files + Net + Clock + AllocGlobal, L: Write + Drop>(
 /// Whether a device failed.
 fn is_device(failure: &Failure) -> bool {
     match failure {
-        Failure::Replay(ReplayFault::Device) => true,
+        Failure::Device => true,
         _ => false,
     }
 }

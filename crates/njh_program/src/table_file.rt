@@ -1,6 +1,6 @@
 //! The tables that the program goes by.
 
-ghost use Rattle.std.specs.Prelude.{◌≡◌, ◌≢◌, option_map, IfOk, IfErr};
+ghost use Rattle.std.specs.Prelude.{◌≡◌, ◌≢◌, option_map, Some, IfOk, IfErr};
 ghost use Rattle.njh_program.specs.TableBytes.{tables_in, AreGiven, AreRefused, IsUnread};
 
 use crate::failure::Failure;
@@ -16,8 +16,8 @@ const MOST_TABLE_BYTES: usize = 16_777_216;
 
 /// The tables of a file, or the base tables where none is named.
 ///
-/// No clause says which bytes a file holds, so of a file no more is known than that its tables are those of some bytes. It is read to a
-/// bound; one that is longer is `TooMany`.
+/// No clause says which bytes a file holds, so of a file no more is known than that its tables are those of some bytes.
+/// It is read to a bound; one that is longer is `TooMany`.
 pub fn tables_of<R: Files + AllocGlobal>(rt: &R, file: Option<&str>) -> Result<Tables, Failure>
     ensures given { IfOk result (AreGiven (option_map (λ path. path.now) file.entry)) }
     ensures refused { IfErr result (AreRefused (option_map (λ path. path.now) file.entry)) }
@@ -28,6 +28,20 @@ pub fn tables_of<R: Files + AllocGlobal>(rt: &R, file: Option<&str>) -> Result<T
     }
 }
 
+/// The tables of a file, twice: its bytes are read once. Refusals are those of `tables_of`.
+pub(crate) fn tables_twice<R: Files + AllocGlobal>(
+    rt: &R,
+    path: &str,
+) -> Result<(Tables, Tables), Failure>
+    ensures given { IfOk result (λ tables. AreGiven (Some path.now) tables.0) }
+    ensures refused { IfErr result (AreRefused (Some path.now)) }
+{
+    let bytes = table_bytes(rt, path)?;
+    let tables = tables_in(rt.alloc(), &bytes)?;
+    let again = tables_in(rt.alloc(), &bytes)?;
+    Ok((tables, again))
+}
+
 /// The bytes of a table file.
 fn table_bytes<R: Files + AllocGlobal>(rt: &R, path: &str) -> Result<Vec<u8>, Failure>
     ensures { IfErr result IsUnread }
@@ -36,7 +50,8 @@ fn table_bytes<R: Files + AllocGlobal>(rt: &R, path: &str) -> Result<Vec<u8>, Fa
     match read_text(rt.alloc(), MOST_TABLE_BYTES, &mut file) {
         Ok(bytes) => Ok(bytes),
         Err(ReplayFault::TooLong) => Err(Failure::Tables(TableFault::TooMany)),
-        Err(fault) => Err(Failure::Replay(fault)),
+        Err(ReplayFault::Device) => Err(Failure::Device),
+        Err(ReplayFault::Hub(_) | ReplayFault::Script { .. }) => Err(Failure::Memory),
     }
 }
 

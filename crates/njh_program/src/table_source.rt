@@ -6,9 +6,11 @@ ghost use Rattle.njh_program.specs.TableBytes.{AreGivenWithin, most_changed_byte
 use crate::fault::ReplayFault;
 use crate::input::read_text;
 use crate::table_file::tables_in;
+use njh_service::TableSource;
 use njh_table::{TableFault, Tables};
 use std::fs;
 use std::fs::File;
+use std::io::ErrorKind;
 use std::rt::Files;
 use std::time::SystemTime;
 use thiserror::Error;
@@ -19,9 +21,12 @@ const MOST_CHANGED_BYTES: usize = 2_000_000;
 /// Why a table file that changed gives no tables.
 #[derive(Clone, Copy, Debug, PartialEq, Eq, Error)]
 pub enum ChangeFault {
-    /// It can't be read, or there was no memory for its bytes.
-    #[error("not read")]
+    /// It can't be read.
+    #[error("not readable")]
     Unread,
+    /// There was no memory for its bytes.
+    #[error("no memory for it")]
+    Memory,
     /// It has more bytes than are read while a hub runs.
     #[error("longer than 2000000 bytes")]
     TooLong,
@@ -54,11 +59,16 @@ impl<'a, R: Files + AllocGlobal> TableFileSource<'a, R> {
             seen: stamp_of(rt, path),
         }
     }
+}
 
-    /// The tables of the file, or why it gives none, where it isn't as it was at the last look. One that is gone is as it was.
+impl<R: Files + AllocGlobal> TableSource for TableFileSource<'_, R> {
+    type Fault = ChangeFault;
+
+    /// The tables of the file, or why it gives none, where it isn't as it was at the last look. One that is gone is as
+    /// it was.
     ///
     /// Its time and its length are looked at, and no more than 2 MB of it are read.
-    pub fn changed(&mut self) -> Option<Result<Tables, ChangeFault>>
+    fn changed(&mut self) -> Option<Result<Tables, ChangeFault>>
         ensures { IfSome result (λ read. IfOk read (AreGivenWithin most_changed_bytes)) }
     {
         let stamp = stamp_of(self.rt, self.path)?;
@@ -94,12 +104,15 @@ fn changed_tables<R: Files + AllocGlobal>(rt: &R, path: &str) -> Result<Tables, 
 fn changed_bytes<R: Files + AllocGlobal>(rt: &R, path: &str) -> Result<Vec<u8>, ChangeFault>
     ensures { IfOk result (λ bytes. vec_len bytes ≤ most_changed_bytes) }
 {
-    let Ok(mut file) = File::open(rt, path) else {
-        return Err(ChangeFault::Unread);
+    let mut file = match File::open(rt, path) {
+        Ok(file) => file,
+        Err(error) if error.kind() == ErrorKind::OutOfMemory => return Err(ChangeFault::Memory),
+        Err(_) => return Err(ChangeFault::Unread),
     };
     match read_text(rt.alloc(), MOST_CHANGED_BYTES, &mut file) {
         Ok(bytes) => Ok(bytes),
         Err(ReplayFault::TooLong) => Err(ChangeFault::TooLong),
+        Err(ReplayFault::Hub(_)) => Err(ChangeFault::Memory),
         Err(_) => Err(ChangeFault::Unread),
     }
 }

@@ -8,6 +8,8 @@ use std::io::{ErrorKind, Read, Write};
 #[derive(Drop)]
 pub struct MioConnection {
     pub(crate) stream: TcpStream,
+    /// The place of its line among those that are served.
+    pub(crate) place: usize,
 }
 
 impl Connection for MioConnection {
@@ -17,9 +19,17 @@ impl Connection for MioConnection {
     // is tested.
     ghost moved = { λ before after came went. ⊤ };
 
+    ghost stops = { λ connection stop. ⊤ };
+
+    ghost place_of = { λ connection. connection.place };
+
     ghost none = { λ s. tt };
 
     ghost more = { λ a b c came next_came went next_went first then. tt };
+
+    fn place(&self) -> usize {
+        self.place
+    }
 
     fn receive(&mut self, into: &mut [u8]) -> Result<Received, ConnectionFault> {
         match self.stream.read(into) {

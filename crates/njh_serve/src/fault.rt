@@ -2,13 +2,16 @@
 
 use std::alloc::{AllocError, AllocFailed};
 use std::io;
+use thiserror::Error;
 
 /// Why lines weren't served. No wire was read then.
-#[derive(Clone, Copy, Debug, PartialEq, Eq)]
+#[derive(Clone, Copy, Debug, PartialEq, Eq, Error)]
 pub enum ServeFault {
     /// A port can't be listened on.
+    #[error("device")]
     Device,
     /// There was no memory.
+    #[error("U3 Memory")]
     Memory,
 }
 

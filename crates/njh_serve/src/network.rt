@@ -21,6 +21,8 @@ const EVENTS: usize = 512;
 pub struct MioListener {
     inner: TcpListener,
     address: SocketAddr,
+    /// The place of its line among those that are served.
+    place: usize,
 }
 
 impl MioListener {
@@ -60,23 +62,28 @@ impl<'a, R: Net + Clock> Network for MioNetwork<'a, R> {
 
     ghost address_of = { λ listener. listener.address };
 
+    ghost listener_place = { λ listener. listener.place };
+
     fn listen(&mut self, address: SocketAddr, place: usize) -> io::Result<MioListener> {
         let mut inner = TcpListener::bind(self.rt, address)?;
         self.poll
             .registry()
             .register(&mut inner, listener_token(place), Interest::READABLE)?;
-        Ok(MioListener { inner, address })
+        Ok(MioListener {
+            inner,
+            address,
+            place,
+        })
     }
 
     fn accept(
         &mut self,
         listener: &mut MioListener,
-        place: usize,
     ) -> io::Result<Option<(MioConnection, SocketAddr)>> {
         match listener.inner.accept() {
             Ok((stream, from)) => {
                 stream.set_nodelay(true)?;
-                Ok(Some((watched(&self.poll, stream, place)?, from)))
+                Ok(Some((watched(&self.poll, stream, listener.place)?, from)))
             }
             Err(error) if is_wait(error.kind()) => Ok(None),
             Err(error) => Err(error),
@@ -124,11 +131,13 @@ pub fn utc_seconds<R: Clock>(rt: &R) -> i64 {
 }
 
 /// Has a connection of a line reported.
-fn watched(poll: &Poll, mut stream: TcpStream, place: usize) -> io::Result<MioConnection> {
+fn watched(poll: &Poll, mut stream: TcpStream, place: usize) -> io::Result<MioConnection>
+    ensures { IfOk result (λ connection. connection.place ≡ place) }
+{
     let interest = Interest::READABLE | Interest::WRITABLE;
     poll.registry()
         .register(&mut stream, connection_token(place), interest)?;
-    Ok(MioConnection { stream })
+    Ok(MioConnection { stream, place })
 }
 
 /// Whether a connection that was dialled has a peer by now.

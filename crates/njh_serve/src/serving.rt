@@ -11,11 +11,11 @@ ghost use Rattle.njh_serve.specs.Serving.{AreServed, IsOpened};
 
 use crate::endpoints::{Endpoint, endpoints_of};
 use crate::fault::ServeFault;
-use crate::network::MioNetwork;
+use crate::network::{MioNetwork, utc_seconds};
 use crate::opening::{OpenCause, open};
 use crate::refusal::Refusal;
 use crate::service::Service;
-use njh_service::{Exchange, LineNames, Log, Way};
+use njh_service::{Exchange, LineNames, Log, Revision, TableSource, Way};
 use njh_table::{LineId, Tables};
 use njh_wire::{Connection, LineWire, Network};
 use std::alloc::{AllocError, Global};
@@ -25,33 +25,50 @@ use std::time::Clock;
 
 /// What lines are served with.
 #[derive(Drop)]
-pub struct Station<N: Drop, L: Write + Drop> {
+pub struct Station<N: Drop, L: Write + Drop, S: TableSource + Drop> {
     /// The network; nobody is connected on it yet.
     pub network: N,
     /// Where ports are listened on.
     pub address: IpAddr,
     /// The log.
     pub log: Log<L>,
+    /// Where new tables come from.
+    pub revision: Revision<S>,
 }
 
-/// Serves the lines of tables that have a port or a peer, on sockets of this machine, for so many turns; where no number is given, until
-/// the program is ended. Ports are listened on at this address.
+/// Serves the lines of tables that have a port or a peer, on sockets of this machine, for so many turns; where no
+/// number is given, until the program is ended. Ports are listened on at this address. Where new tables come, customers
+/// are given new routes by `revision`.
 ///
-/// `Device` where a port can't be listened on, or where no line has a port or a peer and no number of turns is given: the log says why.
+/// `Device` where a port can't be listened on, or where no line has a port or a peer and no number of turns is given:
+/// the log says why.
 /// `Memory` where there is no room for the hub or its wires. Nothing was read then.
-pub fn serve<R: Net + Clock + AllocGlobal, L: Write + Drop>(
+pub fn serve<R: Net + Clock + AllocGlobal, L: Write + Drop, S: TableSource + Drop>(
     rt: &R,
     tables: Tables,
+    revision: Revision<S>,
     address: IpAddr,
     turns: Option<u32>,
     log: Log<L>,
 ) -> Result<(), ServeFault>
     ensures { OnOk result (AreServed tables turns) }
 {
+    let mut log = log;
+    let network = match MioNetwork::new(rt) {
+        Ok(network) => network,
+        Err(error) => {
+            log.write(
+                utc_seconds(rt),
+                &"the sockets of this machine can't be waited for",
+            );
+            return Err(ServeFault::from(error));
+        }
+    };
     let station = Station {
-        network: MioNetwork::new(rt)?,
+        network,
         address,
         log,
+        revision,
     };
     let mut service = service_on(rt.alloc(), tables, station, turns.is_none())?;
     service.run(turns);
@@ -61,12 +78,12 @@ pub fn serve<R: Net + Clock + AllocGlobal, L: Write + Drop>(
 /// A service of the lines of tables that have a port or a peer. Where `needed`, tables without such a line are refused.
 ///
 /// Refusals are those of `serve`.
-pub fn service_on<N: Network + Drop, L: Write + Drop>(
+pub fn service_on<N: Network + Drop, L: Write + Drop, S: TableSource + Drop>(
     alloc: Global,
     tables: Tables,
-    station: Station<N, L>,
+    station: Station<N, L, S>,
     needed: bool,
-) -> Result<Service<LineWire<N::Connection>, Exchange<N, L>>, ServeFault>
+) -> Result<Service<LineWire<N::Connection>, Exchange<N, L, S>>, ServeFault>
     ensures { IfOk result (IsOpened tables) }
 {
     let endpoints = endpoints_of(alloc, &tables)?;
@@ -78,7 +95,7 @@ pub fn service_on<N: Network + Drop, L: Write + Drop>(
     }
 }
 
-/// A wire for each, on which nobody is connected.
+/// A wire for each, with the place of its line, on which nobody is connected.
 fn wires_for<C: Connection + Drop>(
     alloc: Global,
     endpoints: &[Endpoint],
@@ -86,20 +103,20 @@ fn wires_for<C: Connection + Drop>(
     ensures { IfOk result (λ wires. length wires.items ≡ length endpoints.now) }
 {
     let mut wires = Vec::new(alloc);
-    for _endpoint in endpoints {
-        wires.push(LineWire::new(alloc)?)?;
+    for place in 0..endpoints.len() {
+        wires.push(LineWire::new(alloc, place)?)?;
     }
     Ok(wires)
 }
 
 /// The attendant of lines, with their sockets. Where one can't be opened the log says why.
-fn exchange_on<N: Network + Drop, L: Write + Drop>(
+fn exchange_on<N: Network + Drop, L: Write + Drop, S: TableSource + Drop>(
     alloc: Global,
     tables: &Tables,
     endpoints: &[Endpoint],
-    station: Station<N, L>,
+    station: Station<N, L, S>,
     needed: bool,
-) -> Result<Exchange<N, L>, ServeFault>
+) -> Result<Exchange<N, L, S>, ServeFault>
     requires { All (λ endpoint. HasLine tables.now endpoint.line) endpoints.now }
     ensures { OnOk result (IsApart endpoints.now) }
 {
@@ -107,6 +124,7 @@ fn exchange_on<N: Network + Drop, L: Write + Drop>(
         mut network,
         address,
         mut log,
+        revision,
     } = station;
     if needed && endpoints.is_empty() {
         log.write(network.utc(), &"no line of the tables has a port or a peer");
@@ -114,7 +132,7 @@ fn exchange_on<N: Network + Drop, L: Write + Drop>(
     }
     match open(alloc, &mut network, address, endpoints) {
         Ok(ways) => {
-            let mut exchange = Exchange::new(alloc, network, log);
+            let mut exchange = Exchange::new(alloc, network, log, revision);
             add_lines(&mut exchange, tables, endpoints, ways)?;
             Ok(exchange)
         }
@@ -134,8 +152,8 @@ fn fault_of(cause: OpenCause) -> ServeFault {
 }
 
 /// Adds lines to their attendant, each with its socket.
-fn add_lines<N: Network + Drop, L: Write + Drop>(
-    exchange: &mut Exchange<N, L>,
+fn add_lines<N: Network + Drop, L: Write + Drop, S: TableSource + Drop>(
+    exchange: &mut Exchange<N, L, S>,
     tables: &Tables,
     endpoints: &[Endpoint],
     ways: Vec<Way<N::Listener>>,

@@ -1,1 +1,3 @@
+mod PostLaws
+mod AlikeLaws
 mod StillLaws

@@ -1,16 +1,26 @@
--- Between rounds no wire fails less often.
+-- Between rounds each wire stays that of its line, and none fails less often.
 use Rattle.std.proofs.Common.{◌≡◌, ◌≢◌, ℕ, ◌<◌, ◌≤◌, List, length, set, get_or, sym, ap, ◌∙◌, arith, ⊎_elim}
-use Rattle.std.specs.Prelude.{⊤}
 use Rattle.std.proofs.lemmas.Bool.{cases_eq}
 use Rattle.std.proofs.lemmas.List.{get_or-set_same, get_or-set_other, get_or_read}
 use Rattle.njh_hub.specs.Service.{AreStill}
 
--- the i-th wire changed, and failed no less often
-pub still_more : {S : Type 0} (count : S → ℕ) (first now : List S) (i : ℕ) (was new : S) →
-    i < length now → was ≡ get_or now i was → count was ≤ count new →
-    AreStill (λ a b acts. ⊤) count first now → AreStill (λ a b acts. ⊤) count first (set now i new)
-still_more {S} count first now i was new there read rises still = record {
-  passed_none = λ k d w. tt;
+-- what stays of each, as one of them changes and this of it stays
+same_more : {S : Type 0} (place : S → ℕ) (now : List S) (i : ℕ) (was new : S) → i < length now → was ≡ get_or now i was →
+    place was ≡ place new → (k : ℕ) (d : S) → place (get_or now k d) ≡ place (get_or (set now i new) k d)
+same_more {S} place now i was new there read same k d =
+    ⊎_elim (λ (here : k ≡ i).
+    ap place (ap (λ (n : ℕ). get_or now n d) here ∙ sym (get_or_read now i was there read d)) ∙ (same
+    ∙ sym (ap place (ap (λ (n : ℕ). get_or (set now i new) n d) here ∙ get_or-set_same now i new d there))))
+    (λ (other : k ≢ i). sym (ap place (get_or-set_other now i k new d other)))
+    (cases_eq k i)
+
+-- the i-th wire changed, stayed that of its line, and failed no less often
+pub still_more : {S : Type 0} (place count : S → ℕ) (first now : List S) (i : ℕ) (was new : S) →
+    i < length now → was ≡ get_or now i was → place was ≡ place new → count was ≤ count new →
+    AreStill (λ a b acts. place a ≡ place b) count first now →
+    AreStill (λ a b acts. place a ≡ place b) count first (set now i new)
+still_more {S} place count first now i was new there read same rises still = record {
+  passed_none = λ k d w. still.passed_none k d w ∙ same_more place now i was new there read same k d;
   counts = λ k d w. ⊎_elim (λ (here : k ≡ i).
       let new_is : count (get_or (set now i new) k d) ≡ count new =
       ap count (ap (λ (n : ℕ). get_or (set now i new) n d) here ∙ get_or-set_same now i new d there) in

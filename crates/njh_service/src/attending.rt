@@ -1,20 +1,28 @@
 //! The attendant's part in the rounds of a service.
 
 use crate::exchange::Exchange;
+use crate::table_source::TableSource;
 use njh_hub::{Attendant, Hub, HubFault, NewRoutes};
 use njh_wire::{LineWire, Network};
 use std::io::Write;
 
-impl<N: Network + Drop, L: Write + Drop> Attendant<LineWire<N::Connection>> for Exchange<N, L> {
+impl<N: Network + Drop, L: Write + Drop, S: TableSource + Drop> Attendant<LineWire<N::Connection>>
+    for Exchange<N, L, S> {
     fn before(&mut self, wires: &mut [LineWire<N::Connection>]) {
         self.begin_round(wires);
     }
 
     fn new_routes(&mut self) -> Option<NewRoutes> {
-        None
+        self.revise()
     }
 
-    fn routes_given(&mut self, _customer: u16, _answer: Result<(), HubFault>) {}
+    fn routes_given(&mut self, customer: u16, answer: Result<(), HubFault>) {
+        self.tell_routes(customer, answer);
+    }
+
+    fn is_due(&self, place: usize) -> bool {
+        self.is_due(place)
+    }
 
     fn after(&mut self, hub: &Hub, wires: &mut [LineWire<N::Connection>]) {
         self.end_round(hub, wires);

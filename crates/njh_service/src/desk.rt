@@ -1,6 +1,7 @@
 //! What the attendant does with one line.
 
-ghost use Rattle.std.specs.Prelude.{◌≤◌};
+ghost use Rattle.std.specs.Prelude.{◌≡◌, ◌≤◌};
+ghost use Rattle.njh_hub.specs.Views.{HasGivenUp};
 
 use crate::dial::Dial;
 use crate::entry::{Ending, Entry, Failure, Happening, Place};
@@ -9,7 +10,7 @@ use crate::post::{Door, Label, Post};
 use njh_hub::Hub;
 use njh_line::Phase;
 use njh_table::LineId;
-use njh_wire::{End, LineWire, Network, Readiness};
+use njh_wire::{Connection, End, LineWire, Network, Readiness};
 use std::io::Write;
 use std::net::SocketAddr;
 
@@ -25,12 +26,17 @@ const PAUSE: u64 = 1_000;
 /// How often connections of a line are told at most.
 const TELL: u64 = 1_000;
 
+/// How many customers a hub has at most.
+pub(crate) const CUSTOMERS: usize = 64;
+
 /// The network, the time on its clock, and the log.
 #[derive(Drop)]
 pub(crate) struct Desk<N: Network + Drop, L: Write + Drop> {
     pub(crate) network: N,
     pub(crate) log: Log<L>,
     pub(crate) now: u64,
+    /// Of each customer by its number: whether it was told that it is near its quota.
+    pub(crate) near: [bool; CUSTOMERS],
 }
 
 impl<N: Network + Drop, L: Write + Drop> Desk<N, L> {
@@ -42,7 +48,9 @@ impl<N: Network + Drop, L: Write + Drop> Desk<N, L> {
         wire: &mut LineWire<N::Connection>,
         mark: Readiness,
     )
-        ensures { wire.old.failures ≤ wire.new.failures }
+        ensures counts { wire.old.failures ≤ wire.new.failures }
+        ensures place { wire.new.place ≡ wire.old.place }
+        ensures line { post.new.line ≡ post.old.line }
     {
         if mark.reads {
             wire.mark_readable();
@@ -53,7 +61,7 @@ impl<N: Network + Drop, L: Write + Drop> Desk<N, L> {
         match &mut post.door {
             Door::Listens(listener) => {
                 if mark.listener || post.moment <= self.now {
-                    post.moment = self.admit(place, listener, &mut post.label, wire);
+                    post.moment = self.admit(listener, &mut post.label, wire);
                 }
             }
             Door::Dials(address, dial) => {
@@ -65,15 +73,18 @@ impl<N: Network + Drop, L: Write + Drop> Desk<N, L> {
         post.linked = post.linked || wire.is_connected();
     }
 
-    /// Ends the connection of a line whose session gave up, and tells what changed, where something came. Answers when the line wants to be
-    /// looked at.
+    /// Ends the connection of a line whose session gave up, and tells what changed, where something came. Answers when
+    /// the line wants to be looked at.
     pub(crate) fn settle(
         &mut self,
         post: &mut Post<N::Listener, N::Connection>,
         hub: &Hub,
         wire: &mut LineWire<N::Connection>,
     ) -> u64
-        ensures { wire.old.failures ≤ wire.new.failures }
+        ensures counts { wire.old.failures ≤ wire.new.failures }
+        ensures place { wire.new.place ≡ wire.old.place }
+        ensures line { post.new.line ≡ post.old.line }
+        ensures kept { ¬ HasGivenUp hub.now post.old.line → wire.new.connection ≡ wire.old.connection }
     {
         let soon = self.now.saturating_add(QUIET);
         let due = wire.due();
@@ -83,12 +94,12 @@ impl<N: Network + Drop, L: Write + Drop> Desk<N, L> {
             post.linked = wire.is_connected() || wire.is_ready();
         }
         if wire.waits_to_send() {
-            return soon.min(post.moment);
+            return soon.min(post.moment).min(wire.due());
         }
         if wire.is_ready() {
             return self.now;
         }
-        wire.due().min(post.moment)
+        wire.due().saturating_add(post.lag()).min(post.moment)
     }
 
     /// Looks at a line on which something came.
@@ -98,9 +109,13 @@ impl<N: Network + Drop, L: Write + Drop> Desk<N, L> {
         hub: &Hub,
         wire: &mut LineWire<N::Connection>,
     )
-        ensures { wire.old.failures ≤ wire.new.failures }
+        ensures counts { wire.old.failures ≤ wire.new.failures }
+        ensures place { wire.new.place ≡ wire.old.place }
+        ensures line { post.new.line ≡ post.old.line }
+        ensures kept { ¬ HasGivenUp hub.now post.old.line → wire.new.connection ≡ wire.old.connection }
     {
-        let gave_up = post.label.in_session && hub.has_given_up(post.line);
+        // Without a connection the session ended by its loss.
+        let gave_up = post.label.in_session && wire.is_connected() && hub.has_given_up(post.line);
         if gave_up {
             wire.close();
         }
@@ -117,6 +132,7 @@ impl<N: Network + Drop, L: Write + Drop> Desk<N, L> {
         } else {
             Ending::ByPeer
         };
+        self.tell_files(post.line, &post.label, &mut post.streams, hub);
         self.tell_session(&mut post.label, phase_of(hub, post.line), ending);
         if let Some(end) = end {
             self.tell_end(&mut post.label, end);
@@ -145,18 +161,18 @@ impl<N: Network + Drop, L: Write + Drop> Desk<N, L> {
     /// is to be looked at again.
     fn admit(
         &mut self,
-        place: usize,
         listener: &mut N::Listener,
         label: &mut Label,
         wire: &mut LineWire<N::Connection>,
     ) -> u64
-        ensures { wire.old.failures ≤ wire.new.failures }
+        ensures counts { wire.old.failures ≤ wire.new.failures }
+        ensures place { wire.new.place ≡ wire.old.place }
     {
         let silent = wire.silent_for();
         if wire.is_connected() && silent < SILENCE {
             return self.now.saturating_add(SILENCE - silent);
         }
-        match self.network.accept(listener, place) {
+        match self.network.accept(listener) {
             Ok(Some((connection, address))) => {
                 self.connect(label, wire, connection, Happening::ConnectedFrom(address));
                 self.now
@@ -172,7 +188,7 @@ impl<N: Network + Drop, L: Write + Drop> Desk<N, L> {
         }
     }
 
-    /// Gives a line a connection, in place of one that it has.
+    /// Gives a line a connection of its own, in place of one that it has. One of another line is dropped.
     fn connect(
         &mut self,
         label: &mut Label,
@@ -180,8 +196,12 @@ impl<N: Network + Drop, L: Write + Drop> Desk<N, L> {
         connection: N::Connection,
         happening: Happening,
     )
-        ensures { wire.old.failures ≤ wire.new.failures }
+        ensures counts { wire.old.failures ≤ wire.new.failures }
+        ensures place { wire.new.place ≡ wire.old.place }
     {
+        if connection.place() != wire.place() {
+            return;
+        }
         wire.connect(connection);
         if let Some(end) = wire.take_end() {
             self.tell_end(label, end);
@@ -199,7 +219,8 @@ impl<N: Network + Drop, L: Write + Drop> Desk<N, L> {
         label: &mut Label,
         wire: &mut LineWire<N::Connection>,
     )
-        ensures { wire.old.failures ≤ wire.new.failures }
+        ensures counts { wire.old.failures ≤ wire.new.failures }
+        ensures place { wire.new.place ≡ wire.old.place }
     {
         if dial.is_to_come(self.now) {
             match self.network.dial(address, place) {
@@ -253,7 +274,7 @@ impl<N: Network + Drop, L: Write + Drop> Desk<N, L> {
             match end {
                 End::Ended => Happening::Closed,
                 End::Closed => Happening::Closed,
-                End::Failed => Happening::Failed(Failure::Reset),
+                End::Failed => Happening::Failed(Failure::Broken),
                 End::Stalled => Happening::Failed(Failure::Stalled),
                 End::Replaced => Happening::Failed(Failure::Replaced),
             },

@@ -1,7 +1,11 @@
 //! What the log tells.
 
+use crate::notice_line::NoticeLine;
+use njh_block::Stream;
 use njh_ebcdic::{Name, text_of};
 use njh_header::{Destination, FileName, User};
+use njh_hub::{FileSummaryView, HubFault};
+use njh_record::Kind;
 use std::fmt;
 use std::net::SocketAddr;
 
@@ -51,20 +55,27 @@ pub enum Happening {
     FileHeld(FileLine),
     /// A file went out whole.
     FileOut(FileLine),
-    /// The peer refused a file.
+    /// The peer refused a file, which stays with the hub.
     FileRefused(FileLine),
+    /// The hub refused a file that was coming in on this stream, and told this to its owner, if it has one.
+    ComingRefused(Stream, Option<NoticeLine>),
+    /// A file that was coming in on this stream isn't kept: its peer gave it up, its session ended, or the hub refused
+    /// it, had nobody to tell, and its rest came at once.
+    ComingCutOff(Stream),
     /// So many blocks of its quota are used.
     NearQuota(u32, u32),
     /// It was given new routes.
     NewRoutes,
+    /// Its new routes were refused.
+    RoutesRefused(HubFault),
 }
 
 /// Why a connection failed.
 #[derive(Clone, Copy, Debug, Drop, PartialEq, Eq)]
 pub enum Failure {
-    /// The connection was reset.
-    Reset,
-    /// The peer took nothing for a second.
+    /// A read or a write failed: the connection was reset, or more was to be sent than had room to wait.
+    Broken,
+    /// The peer didn't take its bytes within a second.
     Stalled,
     /// Another connection took its place.
     Replaced,
@@ -126,8 +137,25 @@ impl fmt::Display for Happening {
             Happening::FileHeld(file) => write!(f, "file held: {file}"),
             Happening::FileOut(file) => write!(f, "file out: {file}"),
             Happening::FileRefused(file) => write!(f, "file refused: {file}"),
+            Happening::ComingRefused(stream, None) => write!(
+                f,
+                "file in refused: {}",
+                StreamName(*stream)
+            ),
+            Happening::ComingRefused(stream, Some(notice)) => write!(
+                f,
+                "file in refused: {}, {}",
+                StreamName(*stream),
+                notice
+            ),
+            Happening::ComingCutOff(stream) => write!(
+                f,
+                "file in cut off: {}",
+                StreamName(*stream)
+            ),
             Happening::NearQuota(used, quota) => write!(f, "{used} of {quota} blocks are used"),
             Happening::NewRoutes => write!(f, "new routes"),
+            Happening::RoutesRefused(fault) => write!(f, "new routes refused: {fault}"),
         }
     }
 }
@@ -135,8 +163,8 @@ impl fmt::Display for Happening {
 impl fmt::Display for Failure {
     fn fmt<W: fmt::Write>(&self, f: &mut fmt::Formatter<W>) -> fmt::Result {
         f.write_str(match self {
-            Failure::Reset => "reset",
-            Failure::Stalled => "the peer took nothing for a second",
+            Failure::Broken => "a read or a write failed",
+            Failure::Stalled => "the peer did not take its bytes within a second",
             Failure::Replaced => "replaced by another connection",
         })
     }
@@ -161,7 +189,33 @@ impl fmt::Display for FileLine {
     }
 }
 
+/// A stream, shown as SYSIN 1 to SYSOUT 4.
+#[derive(Clone, Copy, Drop)]
+struct StreamName(Stream);
+
+impl fmt::Display for StreamName {
+    fn fmt<W: fmt::Write>(&self, f: &mut fmt::Formatter<W>) -> fmt::Result {
+        let kind = match self.0.kind() {
+            Kind::In => "SYSIN",
+            Kind::Out => "SYSOUT",
+        };
+        let number = self.0.number().saturating_add(1);
+        write!(f, "{kind} {number}")
+    }
+}
+
 impl FileLine {
+    /// What is told of this file.
+    pub(crate) fn of(file: &FileSummaryView) -> FileLine {
+        FileLine {
+            name: file.name,
+            owner: file.owner,
+            destination: file.destination,
+            records: file.records,
+            blocks: file.blocks,
+        }
+    }
+
     /// Writes what it is called.
     fn write_name<W: fmt::Write>(&self, f: &mut fmt::Formatter<W>) -> fmt::Result {
         match self.name {
@@ -196,7 +250,7 @@ impl FileLine {
 }
 
 /// Writes a user behind the node, where there is one.
-fn write_user<W: fmt::Write>(f: &mut fmt::Formatter<W>, user: &[u8]) -> fmt::Result {
+pub(crate) fn write_user<W: fmt::Write>(f: &mut fmt::Formatter<W>, user: &[u8]) -> fmt::Result {
     match user.first() {
         Some(&BLANK) => Ok(()),
         _ => {

@@ -1,17 +1,22 @@
 //! The attendant of a service.
 
-ghost use Rattle.std.specs.Prelude.{◌≤◌, ⊤};
+ghost use Rattle.std.specs.Prelude.{◌≡◌, ◌≤◌, ◌∷◌, ◌++◌, [], Some, slice_get, OnOk, OnErr};
 ghost use Rattle.njh_hub.specs.Service.{AreStill};
+ghost use Rattle.njh_table.specs.declared.LineId.{LineId};
+ghost use Rattle.njh_hub.specs.Views.{HasGivenUp};
 
-use crate::desk::Desk;
+use crate::desk::{CUSTOMERS, Desk};
 use crate::log::Log;
 use crate::post::{Label, LineNames, Post};
+use crate::revision::Revision;
+use crate::table_source::TableSource;
 use crate::way::Way;
 use njh_hub::Hub;
 use njh_table::LineId;
 use njh_wire::{LineWire, Network, Readiness};
 use std::alloc::{AllocError, Global};
 use std::io::Write;
+use std::marker::Model;
 
 /// How long all lines wait at most, in milliseconds.
 const LONGEST: u64 = 100;
@@ -26,30 +31,62 @@ const NOTHING: Readiness = Readiness {
     writes: false,
 };
 
-/// What stands beside the turns of a service's lines: it waits for the network, accepts, dials, ends connections,
-/// sends what waits, and
-/// writes the log.
+/// What stands beside the turns of a service's lines: it waits for the network, accepts, dials, ends connections, sends
+/// what waits, brings new routes, and writes the log.
 #[derive(Drop)]
-pub struct Exchange<N: Network + Drop, L: Write + Drop> {
-    desk: Desk<N, L>,
+pub struct Exchange<N: Network + Drop, L: Write + Drop, S: TableSource + Drop> {
+    pub(crate) desk: Desk<N, L>,
     posts: Vec<Post<N::Listener, N::Connection>>,
     ready: Vec<Readiness>,
-    /// When a line wants to be looked at next.
+    watches: Vec<Watch>,
+    /// When the first line wants to be looked at next.
     next: u64,
+    /// The tables, and where new ones come from.
+    pub(crate) revision: Revision<S>,
 }
 
-impl<N: Network + Drop, L: Write + Drop> Exchange<N, L> {
+/// When a line is looked at.
+#[derive(Clone, Copy, Drop)]
+struct Watch {
+    /// When it wants to be looked at next, on the service's clock.
+    moment: u64,
+    /// Whether it is looked at in this round.
+    is_due: bool,
+}
+
+/// A line that wants to be looked at at once.
+const AT_ONCE: Watch = Watch {
+    moment: 0,
+    is_due: true,
+};
+
+impl<N: Network + Drop, L: Write + Drop, S: TableSource + Drop> Model for Exchange<N, L, S> {
+    ghost use Rattle.std.specs.Prelude.{List, map};
+    ghost use Rattle.njh_table.specs.declared.LineId.{LineId};
+
+    // the lines that it serves, by their places
+    ghost Value = { List LineId };
+
+    ghost view = { λ exchange. map (λ post. post.line) exchange.posts.items };
+}
+
+impl<N: Network + Drop, L: Write + Drop, S: TableSource + Drop> Exchange<N, L, S> {
     /// One that serves no line yet.
-    pub fn new(alloc: Global, network: N, log: Log<L>) -> Exchange<N, L> {
+    pub fn new(alloc: Global, network: N, log: Log<L>, revision: Revision<S>) -> Exchange<N, L, S>
+        ensures { result ≡ [] }
+    {
         Exchange {
             desk: Desk {
                 network,
                 log,
                 now: 0,
+                near: [false; CUSTOMERS],
             },
             posts: Vec::new(alloc),
             ready: Vec::new(alloc),
+            watches: Vec::new(alloc),
             next: 0,
+            revision,
         }
     }
 
@@ -64,16 +101,21 @@ impl<N: Network + Drop, L: Write + Drop> Exchange<N, L> {
         line: LineId,
         names: &LineNames<'_>,
         way: Way<N::Listener>,
-    ) -> Result<(), AllocError> {
+    ) -> Result<(), AllocError>
+        ensures added { OnOk result (self.new ≡ self.old ++ line ∷ []) }
+        ensures err { OnErr result (self.new ≡ self.old) }
+    {
         let label = Label::of(names);
-        self.posts.push(Post::new(line, label, way))?;
         self.ready.push(NOTHING)?;
+        self.watches.push(AT_ONCE)?;
+        self.posts.push(Post::new(line, label, way))?;
         Ok(())
     }
 
     /// Waits until a line is ready or due, and looks at each that is.
     pub(crate) fn begin_round(&mut self, wires: &mut [LineWire<N::Connection>])
-        ensures { AreStill (λ a b acts. ⊤) (λ wire. wire.failures) wires.old wires.new }
+        ensures still { AreStill (λ a b acts. a.place ≡ b.place) (λ wire. wire.failures) wires.old wires.new }
+        ensures lines { self.new ≡ self.old }
     {
         self.desk.now = self.desk.network.now();
         let wait = self.wait();
@@ -94,16 +136,25 @@ impl<N: Network + Drop, L: Write + Drop> Exchange<N, L> {
         left.saturating_add(GRID - 1 - now.saturating_add(left - 1) % GRID)
     }
 
-    /// Sets a wire's clock, and looks at its line where something is ready or its door's moment came.
+    /// Looks at a line where something of it is ready or its moment came, and sets its wire's clock then.
     fn begin(&mut self, place: usize, wire: &mut LineWire<N::Connection>)
-        ensures { wire.old.failures ≤ wire.new.failures }
+        ensures counts { wire.old.failures ≤ wire.new.failures }
+        ensures place { wire.new.place ≡ wire.old.place }
+        ensures lines { self.new ≡ self.old }
     {
-        wire.set_clock(self.desk.now);
-        let (Some(post), Some(ready)) = (self.posts.get_mut(place), self.ready.get_mut(place))
-        else {
+        let (Some(post), Some(ready), Some(watch)) = (
+            self.posts.get_mut(place),
+            self.ready.get_mut(place),
+            self.watches.get_mut(place),
+        ) else {
             return;
         };
         let mark = *ready;
+        watch.is_due = mark != NOTHING || watch.moment <= self.desk.now;
+        if !watch.is_due {
+            return;
+        }
+        wire.set_clock(self.desk.now);
         if mark == NOTHING && self.desk.now < post.moment {
             return;
         }
@@ -111,24 +162,56 @@ impl<N: Network + Drop, L: Write + Drop> Exchange<N, L> {
         self.desk.attend(place, post, wire, mark);
     }
 
-    /// Sends what waits on each wire, ends connections whose session gave up, and tells what changed.
-    pub(crate) fn end_round(&mut self, hub: &Hub, wires: &mut [LineWire<N::Connection>])
-        ensures { AreStill (λ a b acts. ⊤) (λ wire. wire.failures) wires.old wires.new }
-    {
-        self.next = u64::MAX;
-        for place in 0..wires.len() {
-            let moment = self.settle(place, hub, &mut wires[place]);
-            self.next = self.next.min(moment);
+    /// Whether a line is looked at in this round.
+    pub(crate) fn is_due(&self, place: usize) -> bool {
+        match self.watches.get(place) {
+            Some(watch) => watch.is_due,
+            None => true,
         }
     }
 
-    /// Settles a line. Answers when it wants to be looked at.
-    fn settle(&mut self, place: usize, hub: &Hub, wire: &mut LineWire<N::Connection>) -> u64
-        ensures { wire.old.failures ≤ wire.new.failures }
+    /// Of each line that was looked at, sends what waits, ends a connection whose session gave up, and tells what
+    /// changed.
+    pub(crate) fn end_round(&mut self, hub: &Hub, wires: &mut [LineWire<N::Connection>])
+        ensures still { AreStill (λ a b acts. a.place ≡ b.place) (λ wire. wire.failures) wires.old wires.new }
+        ensures lines { self.new ≡ self.old }
     {
+        let mut next = u64::MAX;
+        for place in 0..wires.len() {
+            let moment = self.end(place, hub, &mut wires[place]);
+            next = next.min(moment);
+        }
+        self.next = next;
+    }
+
+    /// Sends what waits on a line that was looked at, and settles it. Answers when a line wants to be looked at next.
+    fn end(&mut self, place: usize, hub: &Hub, wire: &mut LineWire<N::Connection>) -> u64
+        ensures counts { wire.old.failures ≤ wire.new.failures }
+        ensures place { wire.new.place ≡ wire.old.place }
+        ensures lines { self.new ≡ self.old }
+    {
+        match self.watches.get(place) {
+            Some(watch) if !watch.is_due => return watch.moment,
+            _ => {}
+        }
         if wire.waits_to_send() {
             wire.flush();
         }
+        let moment = self.settle(place, hub, wire);
+        if let Some(watch) = self.watches.get_mut(place) {
+            watch.moment = moment;
+        }
+        moment
+    }
+
+    /// Settles a line: its connection stays, unless its own session gave up. Answers when it wants to be looked at.
+    fn settle(&mut self, place: usize, hub: &Hub, wire: &mut LineWire<N::Connection>) -> u64
+        ensures counts { wire.old.failures ≤ wire.new.failures }
+        ensures place { wire.new.place ≡ wire.old.place }
+        ensures lines { self.new ≡ self.old }
+        ensures kept { (line : LineId) → slice_get self.old place ≡ Some line → ¬ HasGivenUp hub.now line →
+            wire.new.connection ≡ wire.old.connection }
+    {
         let Some(post) = self.posts.get_mut(place) else {
             return u64::MAX;
         };

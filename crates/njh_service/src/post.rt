@@ -1,11 +1,17 @@
 //! A line that is served, as the attendant sees it.
 
+ghost use Rattle.std.specs.Prelude.{◌≡◌};
+
 use crate::dial::Dial;
+use crate::streams::Streams;
 use crate::way::Way;
 use arrayvec::ArrayString;
 use njh_ebcdic::Name;
 use njh_table::LineId;
 use std::net::SocketAddr;
+
+/// By how much a line that the hub dials is looked at later, in milliseconds.
+const LAG: u64 = 5;
 
 /// How many bytes the name of a line has at most.
 const NAME: usize = 8;
@@ -79,11 +85,15 @@ pub(crate) struct Post<Li: Drop, C: Drop> {
     pub(crate) line: LineId,
     pub(crate) door: Door<Li, C>,
     pub(crate) label: Label,
+    /// What its streams were about when it was last looked at.
+    pub(crate) streams: Streams,
 }
 
 impl<Li: Drop, C: Drop> Post<Li, C> {
     /// A line on which nothing happened yet.
-    pub(crate) fn new(line: LineId, label: Label, way: Way<Li>) -> Post<Li, C> {
+    pub(crate) fn new(line: LineId, label: Label, way: Way<Li>) -> Post<Li, C>
+        ensures { result.line ≡ line }
+    {
         Post {
             moment: 0,
             seen: u64::MAX,
@@ -94,11 +104,23 @@ impl<Li: Drop, C: Drop> Post<Li, C> {
                 Way::Dials(address) => Door::Dials(address, Dial::new()),
             },
             label,
+            streams: Streams::idle(),
+        }
+    }
+
+    /// How much later than it is due the line is looked at, in milliseconds. The end that dialled is later, so that of
+    /// two hubs that are joined the other asks again first.
+    pub(crate) fn lag(&self) -> u64 {
+        match &self.door {
+            Door::Listens(_) => 0,
+            Door::Dials(_, _) => LAG,
         }
     }
 
     /// The line has no connection any more.
-    pub(crate) fn lose(&mut self, now: u64) {
+    pub(crate) fn lose(&mut self, now: u64)
+        ensures { self.new.line ≡ self.old.line }
+    {
         match &mut self.door {
             Door::Listens(_) => self.moment = self.moment.min(now),
             Door::Dials(_, dial) => {

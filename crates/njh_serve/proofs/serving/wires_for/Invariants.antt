@@ -2,5 +2,5 @@ use Rattle.std.proofs.Common.{◌≡◌, length}
 use Rattle.njh_serve.proofs.serving.wires_for.Given as goal
 
 -- a wire for each so far
-abbrev pub invariant-loop-endpoint : goal.invariant-loop-endpoint
-invariant-loop-endpoint g l = length l.wires.items ≡ l._endpoint-index
+abbrev pub invariant-loop-place : goal.invariant-loop-place
+invariant-loop-place g l = length l.wires.items ≡ l.place

@@ -1,0 +1,26 @@
+-- The lines of posts.
+use Rattle.std.proofs.Common.{◌≡◌, ℕ, ◌<◌, List, length, map, set, get_or, Some, sym, ap, subst, ◌∙◌, arith}
+use Rattle.std.specs.Prelude.{slice_get}
+use Rattle.std.proofs.lemmas.List.{length-map}
+use Rattle.std.proofs.lemmas.Option.{slice_get-get_or, same_Some}
+use Rattle.std.proofs.Math.ListN.{get_or-map}
+use Rattle.std.proofs.Math.Seq.{map-set_same}
+
+-- one of them changed, and keeps its line
+pub lines_stay : {P L : Type 0} (line_of : P → L) (posts : List P) (lines : List L) (place : ℕ) (was new : P)
+    → map line_of posts ≡ lines → was ≡ get_or posts place was → line_of new ≡ line_of was
+    → map line_of (set posts place new) ≡ lines
+lines_stay line_of posts lines place was new seen read same =
+    map-set_same line_of posts place new was (same ∙ ap line_of read) ∙ seen
+
+-- the line at a place is that of the post there
+pub line_there : {P L : Type 0} (line_of : P → L) (posts : List P) (lines : List L) (place : ℕ) (post : P) (line : L)
+    → map line_of posts ≡ lines → place < length posts → post ≡ get_or posts place post → slice_get lines place ≡ Some line
+    → line ≡ line_of post
+line_there {P} {L} line_of posts lines place post line seen there read found =
+    let within : place < length (map line_of posts) = omega (arith, there, length-map posts line_of) in
+    let At : List L → Type 0 = λ ls. slice_get ls place ≡ Some line in
+    let mapped : slice_get (map line_of posts) place ≡ Some line = subst At (sym seen) found in
+    same_Some line (get_or (map line_of posts) place (line_of post))
+    (sym mapped ∙ slice_get-get_or (map line_of posts) place (line_of post) within)
+    ∙ (get_or-map line_of posts place post ∙ sym (ap line_of read))

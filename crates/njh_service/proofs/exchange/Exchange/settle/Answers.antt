@@ -1,0 +1,21 @@
+use Rattle.std.proofs.Common.{ℕ, ◌<◌, subst, refl}
+use Rattle.njh_table.specs.declared.LineId.{LineId}
+use Rattle.njh_hub.specs.Views.{HasGivenUp}
+use Rattle.njh_service.specs.declared.post.Post.{Post}
+use Rattle.njh_service.proofs.PostLaws.{lines_stay, line_there}
+use Rattle.njh_service.proofs.exchange.Exchange.settle.Goals as goal
+
+pub returns-clause-lines : goal.returns-clause-lines
+returns-clause-lines g c =
+    lines_stay (λ (post : Post g.row.N-Listener.Denot g.row.N-Connection.Denot). post.line) c.self.inside.posts.items
+    c.args.self.now c.args.place c.in-Some.post.now c.settle.new.post c.self.view_is c.in-Some.ensures.value
+    c.settle.ensures.line
+
+pub returns-clause-kept : goal.returns-clause-kept
+returns-clause-kept g c = λ line found alive.
+    let Within : ℕ → Type 0 = λ many. c.args.place < many in
+    let IsAlive : LineId → Type 0 = λ own. ¬ HasGivenUp c.args.hub.now own in
+    let own = line_there (λ (post : Post g.row.N-Listener.Denot g.row.N-Connection.Denot). post.line)
+    c.self.inside.posts.items c.args.self.now c.args.place c.in-Some.post.now line c.self.view_is
+    (subst Within c.self.inside.posts.ok.0 (c.in-Some.ensures.variant.0 refl)) c.in-Some.ensures.value found in
+    c.settle.ensures.kept (subst IsAlive own alive)

@@ -1,0 +1,43 @@
+//! New routes, and what the log tells of them.
+
+use crate::entry::{Entry, Happening, Place};
+use crate::exchange::Exchange;
+use crate::table_source::TableSource;
+use njh_hub::{HubFault, NewRoutes};
+use njh_wire::Network;
+use std::io::Write;
+
+impl<N: Network + Drop, L: Write + Drop, S: TableSource + Drop> Exchange<N, L, S> {
+    /// Looks at the tables, where a second is over, and tells what came of that. Answers the routes of the next
+    /// customer that is to be given some.
+    pub(crate) fn revise(&mut self) -> Option<NewRoutes> {
+        match self.revision.look(self.desk.now) {
+            Some(notice) => {
+                let second = self.desk.network.utc();
+                self.desk.log.write(second, &notice);
+            }
+            None => {}
+        }
+        match self.revision.next_routes()? {
+            Ok(new) => Some(new),
+            Err(customer) => {
+                self.tell_routes(customer, Err(HubFault::Memory));
+                None
+            }
+        }
+    }
+
+    /// Tells what came of a customer's new routes.
+    pub(crate) fn tell_routes(&mut self, customer: u16, answer: Result<(), HubFault>) {
+        let Some(name) = self.revision.settle(customer, answer.is_ok()) else {
+            return;
+        };
+        let happening = match answer {
+            Ok(()) => Happening::NewRoutes,
+            Err(fault) => Happening::RoutesRefused(fault),
+        };
+        let place = Place::Customer(name);
+        let second = self.desk.network.utc();
+        self.desk.log.write(second, &Entry { place, happening });
+    }
+}

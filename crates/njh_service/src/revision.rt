@@ -1,0 +1,240 @@
+//! New tables for a hub that runs.
+
+ghost use Rattle.std.specs.Prelude.{◌≡◌, ◌<◌, length, option_map, Some, None, IfSome, IfOk};
+ghost use Rattle.njh_table.specs.TableFile.{customer_at};
+ghost use Rattle.njh_service.specs.Revisions.{given_routes, AreKept};
+
+use crate::customer_routes::{have_other_routes, routes_of};
+use crate::difference::{Difference, difference_of};
+use crate::table_source::{NoSource, TableSource};
+use njh_ebcdic::Name;
+use njh_hub::{HubFault, NewRoutes, RouteList};
+use njh_table::Tables;
+use std::alloc::{AllocError, Global};
+use std::fmt;
+use std::marker::Model;
+
+/// How often the source is looked at, in milliseconds.
+const SECOND: u64 = 1_000;
+
+/// Whether a customer has the routes of the tables that were last taken.
+#[derive(Clone, Copy, Debug, Drop, PartialEq, Eq)]
+enum Standing {
+    /// It has them.
+    Has,
+    /// It is to be given them.
+    Waits,
+    /// They could not be given.
+    Lacks,
+}
+
+/// The tables of a hub that runs, and their source. Tables that differ in routes alone are taken, and their customers
+/// are given these one after the other; others are passed over.
+#[derive(Drop)]
+pub struct Revision<S: TableSource + Drop> {
+    alloc: Global,
+    source: S,
+    tables: Option<Tables>,
+    /// How each customer stands.
+    standings: Vec<Standing>,
+    /// The customers before this one don't wait.
+    next: usize,
+    /// When the source is looked at next.
+    moment: u64,
+}
+
+impl<S: TableSource + Drop> Model for Revision<S> {
+    ghost use Rattle.std.specs.Prelude.{Option};
+    ghost use Rattle.njh_table.specs.TableFile.{TableFile};
+
+    ghost Value = { Option TableFile };
+
+    ghost view = { λ r. r.tables };
+}
+
+/// What came of a look at a source that changed.
+#[derive(Drop)]
+pub enum Notice<F: Drop> {
+    /// It gives no tables.
+    Refused(F),
+    /// More than routes differs, and this first.
+    Differs(Difference),
+    /// No routes differ.
+    Same,
+}
+
+impl Revision<NoSource> {
+    /// No new tables, ever.
+    pub fn none(alloc: Global) -> Revision<NoSource>
+        ensures { result ≡ None }
+    {
+        Revision {
+            alloc,
+            source: NoSource,
+            tables: None,
+            standings: Vec::new(alloc),
+            next: 0,
+            moment: 0,
+        }
+    }
+}
+
+impl<S: TableSource + Drop> Revision<S> {
+    /// The tables that a hub was opened with, and where new ones come from. Out of memory is the only refusal.
+    pub fn new(alloc: Global, tables: Tables, source: S) -> Result<Revision<S>, AllocError>
+        ensures { IfOk result (λ revision. revision ≡ Some tables) }
+    {
+        let mut standings = Vec::new(alloc);
+        for _customer in tables.customers() {
+            standings.push(Standing::Has)?;
+        }
+        Ok(Revision {
+            alloc,
+            source,
+            tables: Some(tables),
+            standings,
+            next: 0,
+            moment: 0,
+        })
+    }
+
+    /// The tables that were last taken.
+    pub fn tables(&self) -> Option<&Tables>
+        ensures { option_map (λ tables. tables.now) result ≡ self.now }
+    {
+        self.tables.as_ref()
+    }
+
+    /// Looks at the source, once a second on this clock, and takes its tables where they changed in routes alone.
+    pub fn look(&mut self, now: u64) -> Option<Notice<S::Fault>>
+        ensures { AreKept self.old self.new }
+    {
+        if now < self.moment {
+            return None;
+        }
+        self.moment = now.saturating_add(SECOND);
+        match self.source.changed()? {
+            Ok(tables) => self.take(tables),
+            Err(fault) => Some(Notice::Refused(fault)),
+        }
+    }
+
+    /// Takes new tables, where these differ in routes alone.
+    fn take(&mut self, tables: Tables) -> Option<Notice<S::Fault>>
+        ensures { AreKept self.old self.new }
+    {
+        let Some(known) = &self.tables else {
+            return None;
+        };
+        match difference_of(known, &tables) {
+            Some(difference) => return Some(Notice::Differs(difference)),
+            None => {}
+        }
+        let differ = mark(&mut self.standings, known, &tables);
+        self.next = 0;
+        self.tables = Some(tables);
+        if differ { None } else { Some(Notice::Same) }
+    }
+
+    /// The routes of the next customer that waits for some. Where there is no memory for them, the customer's number.
+    pub fn next_routes(&mut self) -> Option<Result<NewRoutes, u16>>
+        ensures routes { IfSome result (λ given. IfOk given (λ new. IfSome self.new (λ tables.
+            new.routes ≡ given_routes new.customer (customer_at tables new.customer).routes))) }
+        ensures kept { self.new ≡ self.old }
+    {
+        let customer = self.next_customer()?;
+        match routes_in(self.alloc, &self.tables, customer)? {
+            Ok(routes) => Some(Ok(NewRoutes { customer, routes })),
+            Err(_) => Some(Err(customer)),
+        }
+    }
+
+    /// The next customer that waits for routes.
+    fn next_customer(&mut self) -> Option<u16>
+        ensures { self.new ≡ self.old }
+    {
+        let Some(place) = first_waiting(&self.standings, self.next) else {
+            self.next = self.standings.len();
+            return None;
+        };
+        self.next = place;
+        u16::try_from(place).ok()
+    }
+
+    /// What came of a customer's routes: whether it has them now. Answers its name.
+    pub fn settle(&mut self, customer: u16, given: bool) -> Option<Name>
+        ensures { self.new ≡ self.old }
+    {
+        match self.standings.get_mut(usize::from(customer)) {
+            Some(standing) => *standing = if given {
+                Standing::Has
+            } else {
+                Standing::Lacks
+            },
+            None => {}
+        }
+        let customer = self
+            .tables
+            .as_ref()?
+            .customers()
+            .get(usize::from(customer))?;
+        Some(customer.name())
+    }
+}
+
+/// The routes of a customer of tables, where there is such a customer.
+fn routes_in(
+    alloc: Global,
+    tables: &Option<Tables>,
+    customer: u16,
+) -> Option<Result<RouteList, AllocError>>
+    ensures { IfSome result (λ given. IfOk given (λ routes. IfSome tables.now (λ tables.
+        routes ≡ given_routes customer (customer_at tables customer).routes))) }
+{
+    let tables = tables.as_ref()?;
+    if usize::from(customer) >= tables.customers().len() {
+        return None;
+    }
+    Some(routes_of(alloc, tables, customer))
+}
+
+/// The first customer from a place on that waits for routes.
+fn first_waiting(standings: &[Standing], from: usize) -> Option<usize> {
+    for place in from..standings.len() {
+        if standings[place] == Standing::Waits {
+            return Some(place);
+        }
+    }
+    None
+}
+
+/// Marks each customer that has to be given its routes of new tables: those differ from the ones that it has, or it
+/// lacks them. Says whether there is any.
+fn mark(standings: &mut [Standing], known: &Tables, tables: &Tables) -> bool {
+    let mut any = false;
+    for place in 0..standings.len() {
+        if standings[place] != Standing::Has || differ_at(place, known, tables) {
+            standings[place] = Standing::Waits;
+            any = true;
+        }
+    }
+    any
+}
+
+/// Whether the customer of a number has other routes in new tables.
+fn differ_at(place: usize, known: &Tables, tables: &Tables) -> bool {
+    match (known.customers().get(place), tables.customers().get(place)) {
+        (Some(customer), Some(new)) => have_other_routes(customer, new),
+        _ => false,
+    }
+}
+
+impl<F: fmt::Display + Drop> fmt::Display for Notice<F> {
+    fn fmt<W: fmt::Write>(&self, f: &mut fmt::Formatter<W>) -> fmt::Result {
+        match self {
+            Notice::Refused(fault) => write!(f, "table file: {fault}; nothing changes"),
+            Notice::Differs(difference) => write!(f, "table file: {difference}; nothing changes"),
+            Notice::Same => write!(f, "table file: no new routes"),
+        }
+    }
+}
