@@ -1,8 +1,12 @@
-//! What is seen of a hub while a file comes in and goes out, and of a line whose peer falls silent.
+//! What is seen of a hub while a file comes in and goes out, of a file that is refused, and of a line whose peer falls
+//! silent.
 
 use crate::steps::{CONTACT, FILE, REQUEST, SIGN_ON, bytes_of, of_hub, open};
+use njh_block::Stream;
+use njh_ebcdic::Name;
 use njh_hub::{FileSummaryView, Hub};
 use njh_program::Failure;
+use njh_service::{Entry, Happening, NoticeLine, Place};
 use njh_spool::FileId;
 use njh_stream::Receiver;
 use njh_table::{LineId, Tables};
@@ -37,6 +41,16 @@ const ACK0: &str = "1070";
 const PERMISSION: &str = "1002808fcfa09900001026";
 
 const COMPLETION: &str = "1002818fcfc09900001026";
+
+/// LYON sends a file for PARIS, which nobody has, and then the rest of it; then it asks for another.
+const FOR_PARIS: &str = concat!(
+    "1002818fcf99c0c20064a300c160a300c12ab200ccd7c1e8d9d6d3d340c1d5d5c184b800c4d3e8d6d584c4c1d5d5c184c4d4c5e3e98c00",
+    "99e0c20018a300c8140000d7c1d9c9e283c4d7c1e4d38400001026"
+);
+
+const REST: &str = "1002828fcf9980c605c8c5d3d3d60099d0c40004000000998000001026";
+
+const ANOTHER: &str = "1002838fcf909900001026";
 
 /// A step by bytes of a line, and then what is seen of the line.
 fn take<R: Print + AllocGlobal>(
@@ -148,11 +162,47 @@ fn show_quota<R: Print>(rt: &R, hub: &Hub, customer: u16) -> Result<(), Failure>
     Ok(())
 }
 
-/// A line from Down to Up, a file in and out, and a line whose tries are used up.
+/// What the log says of the file that was refused last on SYSOUT 1 of a1, if there is one.
+fn show_refusal<R: Print>(rt: &R, hub: &Hub, customer: Name) -> Result<(), Failure> {
+    let notices = match hub.notices(A1) {
+        Ok(notices) => notices,
+        Err(fault) => return Err(of_hub(fault)),
+    };
+    match notices[4].as_ref() {
+        Some(notice) => {
+            let place = Place::Line(customer, "a1");
+            let happening = Happening::ComingRefused(Stream::at(4), Some(NoticeLine::of(notice)));
+            println!(rt; "{}", Entry { place, happening })?
+        }
+        None => println!(rt; "no file refused")?,
+    }
+    Ok(())
+}
+
+/// A file is refused, and its notice stands until another file comes.
+fn refuse<R: Print + AllocGlobal>(rt: &R, hub: &mut Hub, customer: Name) -> Result<(), Failure> {
+    for digits in [CONTACT, SIGN_ON, REQUEST, FOR_PARIS, REST, ANOTHER] {
+        let piece = bytes_of(rt.alloc(), digits)?;
+        let mut out = Vec::new(rt.alloc());
+        match hub.take(A1, &piece, &mut out) {
+            Ok(_) => show_refusal(rt, hub, customer)?,
+            Err(fault) => return Err(of_hub(fault)),
+        }
+    }
+    Ok(())
+}
+
+/// A line from Down to Up, a file in and out, a line whose tries are used up, and a file that is refused.
 pub fn look<R: Files + Print + AllocGlobal>(rt: &R) -> Result<(), Failure> {
     let tables = fs::read_to_string(rt, "two_networks.toml")?;
     let mut hub = open(rt.alloc(), Tables::read(rt.alloc(), tables.as_str())?)?;
-    look_all(rt, &mut hub)
+    look_all(rt, &mut hub)?;
+    let tables = Tables::read(rt.alloc(), tables.as_str())?;
+    let Some(customer) = tables.customers().first().map(|customer| customer.name()) else {
+        return Ok(());
+    };
+    let mut hub = open(rt.alloc(), tables)?;
+    refuse(rt, &mut hub, customer)
 }
 
 fn look_all<R: Print + AllocGlobal>(rt: &R, hub: &mut Hub) -> Result<(), Failure> {

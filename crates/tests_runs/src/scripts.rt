@@ -1,6 +1,7 @@
 //! Stored scripts.
 //!
-//! `index` has a line for each: its name and the arguments of the program. `NAME.script` is the script and `NAME.out` what the
+//! `index` has a line for each: its name and the arguments of the program. `NAME.script` is the script and `NAME.out`
+//! what the
 //! program prints, with the line of its failure at the end where it fails; a file of tables is named by the arguments.
 
 use njh_program::{Failure, carry_out};
@@ -39,8 +40,8 @@ fn compare<R: Files + Net + Clock + Print + AllocGlobal>(
     Ok(())
 }
 
-/// Runs the program with a stored script, and gives its status; the line of its failure follows what it prints. The text for
-/// arguments that are refused is that of `clap`, and isn't compared.
+/// Runs the program with a stored script, and gives its status; the line of its failure follows what it prints. The
+/// text for arguments that are refused is that of `clap`, and isn't compared.
 pub fn print_run<R: Files + Net + Clock + AllocGlobal>(
     rt: &R,
     name: &str,
@@ -52,10 +53,11 @@ pub fn print_run<R: Files + Net + Clock + AllocGlobal>(
     let mut left = script.as_slice();
     match carry_out(rt, arguments, &mut left, out, io::sink()) {
         Ok(()) => Ok(0),
-        Err(Failure::Arguments(_)) => Ok(1),
         Err(failure) => {
-            let line = failure.to_string(rt.alloc())?;
-            out.extend_from_slice(line.as_bytes())?;
+            if !matches!(failure, Failure::Arguments(_)) {
+                let line = failure.to_string(rt.alloc())?;
+                out.extend_from_slice(line.as_bytes())?;
+            }
             Ok(failure.status())
         }
     }

@@ -1,5 +1,5 @@
-//! The program on `serve`: two lines of one hub that are joined by `connect`, and starts that are refused. Of the log's lines the times are
-//! left out.
+//! The program on `serve`: lines of one hub that are joined by `connect`, where lines listen, and starts that are
+//! refused. Of the log's lines the times are left out.
 
 use njh_program::{Failure, carry_out};
 use std::io;
@@ -35,7 +35,9 @@ pub fn serve<R: Files + Net + Clock + Print + AllocGlobal>(rt: &R) -> Result<(),
         rt,
         &["njehub", "serve", "--tables", "no_such.toml", "--quiet"],
     )?;
-    join(rt)
+    join(rt)?;
+    join_two(rt)?;
+    listen(rt)
 }
 
 /// Runs the program, and answers its status. What it logs goes to `told`.
@@ -98,6 +100,69 @@ fn join<R: Files + Net + Clock + Print + AllocGlobal>(rt: &R) -> Result<(), Fail
     let connected = count(&told, b"connected");
     let up = count(&told, b"session up");
     println!(rt; "serve: status {status}, {connected} connected, {up} sessions up")?;
+    Ok(())
+}
+
+/// Serves two pairs of lines of two customers, each pair joined, until all four sessions are up.
+fn join_two<R: Files + Net + Clock + Print + AllocGlobal>(rt: &R) -> Result<(), Failure> {
+    let words = [
+        "njehub",
+        "serve",
+        "--tables",
+        "two_pairs.toml",
+        "--turns",
+        "100",
+    ];
+    let mut told = Vec::new(rt.alloc());
+    let status = status_of(rt, &words, &mut told);
+    println!(rt; "serve: status {status}")?;
+    for line in [
+        "ACME a1: session up with FAR",
+        "ACME a2: session up with FAR",
+        "BOLT b1: session up with NEAR",
+        "BOLT b2: session up with NEAR",
+    ] {
+        print_count(rt, &told, line)?;
+    }
+    Ok(())
+}
+
+/// A line dials another of the same hub at 127.0.0.2: first where lines listen on 127.0.0.1, then where they listen
+/// there.
+fn listen<R: Files + Net + Clock + Print + AllocGlobal>(rt: &R) -> Result<(), Failure> {
+    let words = ["njehub", "serve", "--tables", "apart.toml", "--turns", "5"];
+    let mut told = Vec::new(rt.alloc());
+    let status = status_of(rt, &words, &mut told);
+    println!(rt; "serve: status {status}")?;
+    print_count(rt, &told, "BOLT b1: no connection to 127.0.0.2:27518")?;
+    print_count(rt, &told, "connected")?;
+    listen_there(rt)
+}
+
+/// Lines listen on 127.0.0.2.
+fn listen_there<R: Files + Net + Clock + Print + AllocGlobal>(rt: &R) -> Result<(), Failure> {
+    let words = [
+        "njehub",
+        "serve",
+        "--tables",
+        "apart.toml",
+        "--turns",
+        "60",
+        "--listen",
+        "127.0.0.2",
+    ];
+    let mut told = Vec::new(rt.alloc());
+    let status = status_of(rt, &words, &mut told);
+    println!(rt; "serve: status {status}")?;
+    print_count(rt, &told, "BOLT b1: connected to 127.0.0.2:27518")?;
+    print_count(rt, &told, "ACME a1: session up with FAR")?;
+    print_count(rt, &told, "BOLT b1: session up with NEAR")
+}
+
+/// Prints how often a text stands in a log.
+fn print_count<R: Print>(rt: &R, told: &[u8], text: &str) -> Result<(), Failure> {
+    let times = count(told, text.as_bytes());
+    println!(rt; "serve: {times} times {text}")?;
     Ok(())
 }
 

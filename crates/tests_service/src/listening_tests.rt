@@ -1,0 +1,194 @@
+//! Lines that listen: what becomes of silent peers, of peers that wait, stall or send no more, and of the others
+//! meanwhile.
+
+use crate::play::{add_text, play};
+use crate::world::{Act, Happens, at};
+use std::test::Fail;
+
+/// A line of each of two customers.
+pub const TABLES: &str = r#"
+capacity = 200
+[[customer]]
+name = "ACME"
+hub = "BUREAU"
+quota = 100
+files = 8
+line = [{ name = "a1", node = "LYON", role = "answer", block = 1024, streams = 4, port = 1 }]
+route = [{ node = "LYON", line = "a1" }]
+[[customer]]
+name = "BOLT"
+hub = "BUREAU"
+quota = 100
+files = 8
+line = [{ name = "b1", node = "LYON", role = "answer", block = 1024, streams = 4, port = 2 }]
+"#;
+
+/// A contact, which is answered by 10 70.
+pub const CONTACT: Act = Act::Sends(b"\x01\x2d");
+
+/// LYON signs on.
+const SIGN_ON: Act = Act::Sends(
+    b"\x10\x02\xa0\x8f\xcf\xf0\xc9\x29\xd3\xe8\xd6\xd5\x40\x40\x40\x40\x01\x00\x00\x00\x00\x00\
+    \x00\x04\x00\x40\x40\x40\x40\x40\x40\x40\x40\x40\x40\x40\x40\x40\x40\x40\x40\x00\x00\x00\x00\x00\
+    \x00\x10\x26",
+);
+
+/// LYON makes contact, signs on, and ANNA there asks for LIST.
+const ALL: Act = Act::Sends(
+    b"\x01\x2d\x10\x02\xa0\x8f\xcf\xf0\xc9\x29\xd3\xe8\xd6\xd5\x40\x40\x40\x40\x01\x00\x00\x00\x00\x00\
+    \x00\x04\x00\x40\x40\x40\x40\x40\x40\x40\x40\x40\x40\x40\x40\x40\x40\x40\x40\x00\x00\x00\x00\x00\
+    \x00\x10\x26\x10\x02\x80\x8f\xcf\x9a\x80\xca\xa0\x77\x00\x04\xc2\xe4\xd9\xc5\xc1\xe4\x82\xc5\x00\
+    \xc1\xd5\xd5\xc1\x84\xc4\xd3\xe8\xd6\xd5\x84\xc5\x00\xd3\xc9\xe2\xe3\x00\x00\x10\x26",
+);
+
+/// A session up that falls silent is asked five times, a second apart; then it is down and its connection is closed,
+/// and the next peer is answered.
+#[test]
+fn silence_ends_after_five_tries(rt: HostRuntime) -> Result<(), Fail> {
+    let acts = [
+        at(1000, 0, Act::Connects(1)),
+        at(1000, 0, CONTACT),
+        at(1050, 0, SIGN_ON),
+        at(8000, 1, Act::Connects(1)),
+        at(8050, 1, CONTACT),
+    ];
+    let wanted = "\
+1970-01-01T00:00:01Z ACME a1: connected from 10.0.0.0:5000
+1000 to 0: 1070
+1050 to 0: 1002a08fcff0d129c2e4d9c5c1e4404001000000000000040040404040404040404040404040404040\
+0000000000001026
+1970-01-01T00:00:01Z ACME a1: session up with LYON
+2050 to 0: 3d
+3050 to 0: 3d
+4050 to 0: 3d
+5050 to 0: 3d
+6050 to 0: 3d
+1970-01-01T00:00:07Z ACME a1: session down: no answer after five tries
+1970-01-01T00:00:07Z ACME a1: closed
+1970-01-01T00:00:08Z ACME a1: connected from 10.0.0.1:5000
+8050 to 1: 1070
+";
+    play(&rt, rt.alloc(), TABLES, &acts, 8900, wanted)
+}
+
+/// Who connects to a busy line waits until its peer has said nothing for ten seconds.
+#[test]
+fn another_takes_the_place_after_ten_seconds(rt: HostRuntime) -> Result<(), Fail> {
+    let acts = [
+        at(1000, 0, Act::Connects(1)),
+        at(2000, 1, Act::Connects(1)),
+        at(2000, 1, CONTACT),
+        at(5000, 0, Act::Sends(b"\x3d")),
+    ];
+    let wanted = "\
+1970-01-01T00:00:01Z ACME a1: connected from 10.0.0.0:5000
+1970-01-01T00:00:15Z ACME a1: failed: replaced by another connection
+1970-01-01T00:00:15Z ACME a1: connected from 10.0.0.1:5000
+15000 to 1: 1070
+";
+    play(&rt, rt.alloc(), TABLES, &acts, 15_500, wanted)
+}
+
+/// A peer that takes half an answer and no more is dropped a second later, and who waits gets in; the other line
+/// answers at once.
+#[test]
+fn peer_that_stalls(rt: HostRuntime) -> Result<(), Fail> {
+    let acts = [
+        at(1000, 0, Act::Connects(1)),
+        at(1000, 2, Act::Connects(2)),
+        at(1000, 0, CONTACT),
+        at(1000, 2, CONTACT),
+        at(1100, 0, Act::Takes(1)),
+        at(1200, 0, CONTACT),
+        at(1300, 2, CONTACT),
+        at(1500, 1, Act::Connects(1)),
+        at(1500, 1, CONTACT),
+        at(1600, 2, CONTACT),
+        at(2250, 2, CONTACT),
+    ];
+    let wanted = "\
+1970-01-01T00:00:01Z ACME a1: connected from 10.0.0.0:5000
+1970-01-01T00:00:01Z BOLT b1: connected from 10.0.0.2:5000
+1000 to 0: 1070
+1000 to 2: 1070
+1200 to 0: 10
+1300 to 2: 1070
+1600 to 2: 1070
+1970-01-01T00:00:02Z ACME a1: failed: the peer did not take its bytes within a second
+1970-01-01T00:00:02Z ACME a1: connected from 10.0.0.1:5000
+2200 to 1: 1070
+2250 to 2: 1070
+";
+    play(&rt, rt.alloc(), TABLES, &acts, 2300, wanted)
+}
+
+/// A peer that sends no more gets the answers to all that came before; then the line is lost.
+#[test]
+fn peer_that_sends_no_more(rt: HostRuntime) -> Result<(), Fail> {
+    let acts = [
+        at(1000, 0, Act::Connects(1)),
+        at(1000, 0, ALL),
+        at(1000, 0, Act::Ends),
+    ];
+    let wanted = "\
+1970-01-01T00:00:01Z ACME a1: connected from 10.0.0.0:5000
+1000 to 0: 1070
+1000 to 0: 1002a08fcff0d129c2e4d9c5c1e4404001000000000000040040404040404040404040404040404040\
+00000000000010261002808fcf9a80c82077000ed3e8d6d584c500c1d5d5c184c6c2e4d9c5c1e482cf00d5d1c8f0f0f2\
+40f040c6c9d3c5e200001026
+1970-01-01T00:00:01Z ACME a1: session up with LYON
+1970-01-01T00:00:01Z ACME a1: session down: the line was lost
+1970-01-01T00:00:01Z ACME a1: closed
+";
+    play(&rt, rt.alloc(), TABLES, &acts, 1500, wanted)
+}
+
+/// A reset in the middle of a frame is a failure of its own line, which then takes the next peer.
+#[test]
+fn reset_in_a_frame(rt: HostRuntime) -> Result<(), Fail> {
+    let acts = [
+        at(1000, 0, Act::Connects(1)),
+        at(1000, 0, CONTACT),
+        at(1100, 0, Act::Sends(b"\x10\x02\xa0\x8f")),
+        at(1200, 0, Act::Resets),
+        at(2500, 1, Act::Connects(1)),
+        at(2500, 1, CONTACT),
+    ];
+    let wanted = "\
+1970-01-01T00:00:01Z ACME a1: connected from 10.0.0.0:5000
+1000 to 0: 1070
+1970-01-01T00:00:01Z ACME a1: failed: a read or a write failed
+1970-01-01T00:00:02Z ACME a1: connected from 10.0.0.1:5000
+2500 to 1: 1070
+";
+    play(&rt, rt.alloc(), TABLES, &acts, 2700, wanted)
+}
+
+/// A silent line has its ticks a second apart, whatever comes on another line.
+#[test]
+fn silence_beside_a_busy_line(rt: HostRuntime) -> Result<(), Fail> {
+    let mut acts = Vec::new(rt.alloc());
+    let mut wanted = Vec::new(rt.alloc());
+    for happens in [
+        at(1000, 0, Act::Connects(1)),
+        at(1000, 0, CONTACT),
+        at(1000, 1, Act::Connects(2)),
+    ] {
+        acts.push(happens)?;
+    }
+    wanted.extend_from_slice(
+        b"1970-01-01T00:00:01Z ACME a1: connected from 10.0.0.0:5000\n\
+        1970-01-01T00:00:01Z BOLT b1: connected from 10.0.0.1:5000\n1000 to 0: 1070\n",
+    )?;
+    for moment in 1001..3500u64 {
+        if moment == 2000 || moment == 3000 {
+            add_text(&mut wanted, moment, " to 0: 3d\n");
+        }
+        if moment % 37 == 0 {
+            acts.push(at(moment, 1, CONTACT))?;
+            add_text(&mut wanted, moment, " to 1: 1070\n");
+        }
+    }
+    let wanted = str::from_utf8(&wanted).unwrap_or("no text");
+    play(&rt, rt.alloc(), TABLES, &acts, 3500, wanted)
+}

@@ -1,0 +1,343 @@
+//! The peers of a hub, their time, and what is seen of the hub.
+
+use std::alloc::Global;
+use std::cell::{Cell, RefCell};
+use std::io::Write;
+
+/// How many peers there are.
+pub const PEERS: usize = 4;
+
+/// How many lines may be served.
+const LINES: usize = 4;
+
+/// A peer whose answer to dials has this port; the peers behind it have the ports behind it.
+const FIRST_PORT: u16 = 9000;
+
+/// Something that a peer does.
+#[derive(Clone, Copy)]
+pub enum Act {
+    /// It connects to this port of the hub.
+    Connects(u16),
+    /// It sends these bytes. What was not read of those before is gone.
+    Sends(&'static [u8]),
+    /// It takes so many bytes more, and then none.
+    Takes(usize),
+    /// It sends no more.
+    Ends,
+    /// It is gone: every call on its connection fails.
+    Resets,
+    /// From now on this becomes of dials to it.
+    Answers(Answer),
+    /// From now on the log's writer takes so many bytes of a line, of whatever peer this is said.
+    LogTakes(usize),
+}
+
+/// What becomes of a dial.
+#[derive(Clone, Copy, PartialEq, Eq)]
+pub enum Answer {
+    /// It is refused at once.
+    Unreachable,
+    /// It is refused when it is looked at.
+    Refused,
+    /// Nothing.
+    Nothing,
+    /// It is made.
+    Made,
+}
+
+/// At a moment, in milliseconds, a peer does something.
+#[derive(Clone, Copy)]
+pub struct Happens {
+    /// When.
+    pub at: u64,
+    /// Which peer, from 0 on.
+    pub peer: usize,
+    /// What it does.
+    pub act: Act,
+}
+
+/// At a moment a peer does something.
+pub const fn at(at: u64, peer: usize, act: Act) -> Happens {
+    Happens { at, peer, act }
+}
+
+/// What is ready by an act, and at which line.
+#[derive(Clone, Copy)]
+pub struct Mark {
+    /// The line's place.
+    pub place: usize,
+    /// Somebody waits to be accepted.
+    pub listener: bool,
+    /// The connection has something to read.
+    pub reads: bool,
+    /// The connection takes bytes, or a dial was answered.
+    pub writes: bool,
+}
+
+/// The other end of a connection.
+#[derive(Drop)]
+pub struct Peer {
+    /// The port at which it waits to be accepted, 0 where it doesn't.
+    waits_at: Cell<u16>,
+    /// The line that it is connected to, if any.
+    place: Cell<Option<usize>>,
+    coming: Cell<&'static [u8]>,
+    room: Cell<usize>,
+    ended: Cell<bool>,
+    broken: Cell<bool>,
+    answer: Cell<Answer>,
+    /// Whether a dial to it was answered and nobody was told.
+    reports: Cell<bool>,
+}
+
+impl Peer {
+    /// One that takes as many bytes as come, and answers no dial.
+    fn new() -> Peer {
+        Peer {
+            waits_at: Cell::new(0),
+            place: Cell::new(None),
+            coming: Cell::new(&[]),
+            room: Cell::new(1_000_000),
+            ended: Cell::new(false),
+            broken: Cell::new(false),
+            answer: Cell::new(Answer::Nothing),
+            reports: Cell::new(false),
+        }
+    }
+
+    /// It has a new connection to a line.
+    fn connect(&self, place: usize) {
+        self.waits_at.set(0);
+        self.place.set(Some(place));
+    }
+
+    /// Whether calls on its connection fail.
+    pub fn is_broken(&self) -> bool {
+        self.broken.get()
+    }
+
+    /// Whether it sends no more.
+    pub fn has_ended(&self) -> bool {
+        self.ended.get()
+    }
+
+    /// What becomes of a dial to it.
+    pub fn answer(&self) -> Answer {
+        self.answer.get()
+    }
+
+    /// What it sent and nobody read.
+    pub fn coming(&self) -> &'static [u8] {
+        self.coming.get()
+    }
+
+    /// What it sent was read up to here.
+    pub fn leave(&self, rest: &'static [u8]) {
+        self.coming.set(rest);
+    }
+
+    /// Takes up to so many bytes, and answers how many.
+    pub fn take(&self, count: usize) -> usize {
+        let room = self.room.get();
+        let taken = count.min(room);
+        self.room.set(room.saturating_sub(taken));
+        taken
+    }
+
+    /// Does something on its connection.
+    fn act(&self, act: Act) {
+        match act {
+            Act::Connects(port) => self.begin(port),
+            Act::Sends(bytes) => self.coming.set(bytes),
+            Act::Takes(count) => self.room.set(count),
+            Act::Ends => self.ended.set(true),
+            Act::Resets => self.broken.set(true),
+            Act::Answers(answer) => self.answer.set(answer),
+            Act::LogTakes(_) => {}
+        }
+    }
+
+    /// Begins a connection afresh, at this port of the hub, or by a dial where that is 0.
+    fn begin(&self, port: u16) {
+        self.waits_at.set(port);
+        self.place.set(None);
+        self.coming.set(&[]);
+        self.ended.set(false);
+        self.broken.set(false);
+    }
+}
+
+/// The peers, what they do and when, and what was seen.
+#[derive(Drop)]
+pub struct World<'a> {
+    acts: &'a [Happens],
+    next: Cell<usize>,
+    now: Cell<u64>,
+    peers: [Peer; PEERS],
+    /// On which port each line listens.
+    ports: [Cell<u16>; LINES],
+    log_takes: Cell<usize>,
+    seen: RefCell<Vec<u8>>,
+}
+
+impl<'a> World<'a> {
+    /// One in which this happens, in this order.
+    pub fn new(alloc: Global, acts: &'a [Happens]) -> World<'a> {
+        World {
+            acts,
+            next: Cell::new(0),
+            now: Cell::new(0),
+            peers: [Peer::new(), Peer::new(), Peer::new(), Peer::new()],
+            ports: [Cell::new(0), Cell::new(0), Cell::new(0), Cell::new(0)],
+            log_takes: Cell::new(1_000_000),
+            seen: RefCell::new(Vec::new(alloc)),
+        }
+    }
+
+    /// Milliseconds since the beginning.
+    pub fn now(&self) -> u64 {
+        self.now.get()
+    }
+
+    /// A peer.
+    pub fn peer(&self, peer: usize) -> Option<&Peer> {
+        self.peers.get(peer)
+    }
+
+    /// A line listens on a port.
+    pub fn listen(&self, place: usize, port: u16) {
+        if let Some(found) = self.ports.get(place) {
+            found.set(port);
+        }
+    }
+
+    /// The first peer that waits at a port is connected to a line.
+    pub fn accept(&self, place: usize, port: u16) -> Option<usize> {
+        for (number, peer) in self.peers.iter().enumerate() {
+            if peer.waits_at.get() == port {
+                peer.connect(place);
+                return Some(number);
+            }
+        }
+        None
+    }
+
+    /// A line dials the peer of this port. None where that is refused at once.
+    pub fn dial(&self, place: usize, port: u16) -> Option<usize> {
+        let number = usize::from(port.saturating_sub(FIRST_PORT));
+        let peer = self.peers.get(number)?;
+        if peer.answer.get() == Answer::Unreachable {
+            return None;
+        }
+        peer.begin(0);
+        peer.connect(place);
+        peer.reports.set(peer.answer.get() != Answer::Nothing);
+        Some(number)
+    }
+
+    /// How many bytes of a line the log's writer takes.
+    pub fn log_takes(&self) -> usize {
+        self.log_takes.get()
+    }
+
+    /// Waits for the next act, until a moment at most. Not at all where a dial was answered.
+    pub fn wait_until(&self, moment: u64) {
+        if self.peers.iter().any(|peer| peer.reports.get()) {
+            return;
+        }
+        match self.acts.get(self.next.get()) {
+            Some(next) if next.at <= moment => self.now.set(self.now.get().max(next.at)),
+            _ => self.now.set(moment),
+        }
+    }
+
+    /// What the next act that has come, or an answer to a dial, makes ready, if there is one.
+    pub fn next_mark(&self) -> Option<Mark> {
+        for peer in &self.peers {
+            if peer.reports.get() {
+                peer.reports.set(false);
+                return Some(self.mark_of(Act::Answers(peer.answer.get()), peer));
+            }
+        }
+        self.next_act()
+    }
+
+    /// What the next act that has come makes ready, if there is one.
+    fn next_act(&self) -> Option<Mark> {
+        let next = self.acts.get(self.next.get())?;
+        if self.now.get() < next.at {
+            return None;
+        }
+        self.next.set(self.next.get().saturating_add(1));
+        if let Act::LogTakes(count) = next.act {
+            self.log_takes.set(count);
+        }
+        let peer = self.peers.get(next.peer)?;
+        peer.act(next.act);
+        Some(self.mark_of(next.act, peer))
+    }
+
+    /// What is ready by an act of a peer. Where it is at no line, nothing of any line.
+    fn mark_of(&self, act: Act, peer: &Peer) -> Mark {
+        let mut mark = Mark {
+            place: peer.place.get().unwrap_or(LINES),
+            listener: false,
+            reads: false,
+            writes: false,
+        };
+        match act {
+            Act::Connects(port) => {
+                mark.place = self.place_of(port);
+                mark.listener = true;
+            }
+            Act::Sends(_) | Act::Ends => mark.reads = true,
+            Act::Takes(_) | Act::Answers(_) => mark.writes = true,
+            Act::Resets => {
+                mark.reads = true;
+                mark.writes = true;
+            }
+            Act::LogTakes(_) => {}
+        }
+        mark
+    }
+
+    /// The line that listens on a port.
+    fn place_of(&self, port: u16) -> usize {
+        self.ports
+            .iter()
+            .position(|found| found.get() == port)
+            .unwrap_or(LINES)
+    }
+
+    /// The hub sent bytes to a peer.
+    pub fn see_sent(&self, number: usize, bytes: &[u8]) {
+        let now = self.now.get();
+        if let Ok(mut seen) = self.seen.try_borrow_mut() {
+            let _begun = write!(*seen, "{now} to {number}: ").is_ok();
+            for byte in bytes {
+                let _kept = write!(*seen, "{byte:02x}").is_ok();
+            }
+            let _ended = seen.push(b'\n').is_ok();
+        }
+    }
+
+    /// The hub dialled a port.
+    pub fn see_dial(&self, port: u16) {
+        let now = self.now.get();
+        if let Ok(mut seen) = self.seen.try_borrow_mut() {
+            let _kept = writeln!(*seen, "{now} dial {port}").is_ok();
+        }
+    }
+
+    /// The hub wrote this to its log.
+    pub fn see_log(&self, bytes: &[u8]) {
+        if let Ok(mut seen) = self.seen.try_borrow_mut() {
+            let _kept = seen.extend_from_slice(bytes).is_ok();
+        }
+    }
+
+    /// What was seen.
+    pub fn into_seen(self) -> Vec<u8> {
+        self.seen.into_inner()
+    }
+}
