@@ -1,14 +1,14 @@
 """Shows how many exchanges a second a busy line has, alone and beside silent lines, next to a bare epoll server.
 
-    python3 examples/trials/exchanges.py PROGRAM [--old] [--silent 0 1 15 255] [--slices 5] [--core N]
+    python3 examples/trials/exchanges.py PROGRAM [--old] [--silent 0 1 15 255] [--slices 10] [--core N]
 
 One client sends as soon as it has the answer to what it sent before, over a socket that waits: first 01 2D and then,
 signed on, blocks without records. The silent lines are of the same hub, signed on, and each answers its tick and says
 nothing else, from a process of its own. The bare server, bare_server.c beside this script, answers 10 70 to anything;
-cc builds it. The same client measures both with the same bytes, in turn, so many slices of a second of each, and the
-median is taken; the bare server has so many silent connections too. Where the system puts the processes moves the
-figures by a third; with --core all are on one core, and then only what they do counts, since one waits while the
-other works.
+cc builds it. The same client measures both with the same bytes, in turn, so many slices of half a second of each, so
+that neither is silent for a second and asked by the hub, and the median is taken; the bare server has so many silent
+connections too. Where the system puts the processes moves the figures by a third; with --core all are on one core, and
+then only what they do counts, since one waits while the other works.
 
 The table has a row for each number of silent lines: exchanges a second of the hub and of the bare server, with 01 2D
 and with blocks, and the hub's share of the bare server's in percent. What is wanted: 80 alone, and nine tenths of the
@@ -37,9 +37,9 @@ def exchange(peer, sent):
 
 
 def rate(peer, frames):
-    """Exchanges a second, in a slice of a second, of what is sent in turn and each answered by ACK0."""
+    """Exchanges a second, in a slice of half a second, of what is sent in turn and each answered by ACK0."""
     count, begin = 0, time.monotonic()
-    while time.monotonic() < begin + 1:
+    while time.monotonic() < begin + 0.5:
         for sent in frames:
             got = exchange(peer, sent)
             if got != ACK0:
@@ -89,7 +89,7 @@ def main():
     options = options_of(
         __doc__,
         (("--silent",), {"type": int, "nargs": "*", "default": [0, 1, 15, 255], "help": "how many silent lines"}),
-        (("--slices",), {"type": int, "default": 5, "help": "how many seconds each figure is measured"}),
+        (("--slices",), {"type": int, "default": 10, "help": "how many half seconds each figure is measured"}),
         (("--core",), {"type": int, "help": "run the client and both servers on this core"}),
     )
     with tempfile.TemporaryDirectory() as folder:
