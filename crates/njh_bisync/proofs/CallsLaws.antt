@@ -4,7 +4,7 @@ use Rattle.std.specs.Prelude.{map}
 use Rattle.std.proofs.lemmas.List.{append_assoc}
 use Rattle.njh_bisync.specs.Frames.{Received}
 use Rattle.njh_bisync.specs.Reading.{Rest, Nothing, Reads, frame_list}
-use Rattle.njh_bisync.specs.Fed.{fed, frames_after, rest_after}
+use Rattle.njh_bisync.specs.ByteSteps.{fed, frames_after, rest_after}
 use Rattle.njh_bisync.specs.Calls.{Call, Feed, Reset, taken_by, given_by, left_by}
 use Rattle.njh_bisync.proofs.FedLaws.{frames_after-append, rest_after-append, takes_front, reads_from, reads_frames, reads_rest}
 

@@ -6,7 +6,7 @@ use Rattle.std.specs.List.{cons_option}
 use Rattle.std.proofs.lemmas.List.{take-append-drop, take_all}
 use Rattle.njh_bisync.specs.Frames.{Received, LineUnit, Partial, nothing, Splits, frames_of}
 use Rattle.njh_bisync.specs.Reading.{Rest, Nothing, rest_of, Reads, frame_list, TakesFirst}
-use Rattle.njh_bisync.specs.Fed.{Turn, turn, Fed, ahead, stop_or, fed, frames_after, rest_after, GoesOn}
+use Rattle.njh_bisync.specs.ByteSteps.{Turn, turn, Fed, ahead, stop_or, fed, frames_after, rest_after, GoesOn}
 use Rattle.njh_bisync.proofs.UnitReader.{run, runs_as, run-split}
 
 cons_option-append : (frame : Option Received) (front back : List Received)

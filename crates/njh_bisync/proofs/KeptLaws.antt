@@ -8,7 +8,7 @@ use Rattle.std.proofs.lemmas.List.Concat.{flat_map-append}
 use Rattle.std.proofs.lemmas.List.Folds.{list_any-append}
 use Rattle.njh_bisync.specs.Frames.{Inner, plain, doubled, fill, stray, data_of_inner, is_stray, kept}
 use Rattle.njh_bisync.specs.Reading.{InText}
-use Rattle.njh_bisync.specs.Fed.{kept_with}
+use Rattle.njh_bisync.specs.ByteSteps.{kept_with}
 
 -- `kept` on what it looks at: whether something spoils the text, and its data
 abbrev kept_of : Bool → List ℕ → Option (List ℕ)

@@ -9,8 +9,8 @@ use Rattle.std.proofs.lemmas.List.Sums.{fails_before_first, passes_at_first, pre
 use Rattle.std.proofs.lemmas.List.Concat.{flat_map-append}
 use Rattle.std.proofs.lemmas.List.Folds.{length-prefix_len}
 use Rattle.njh_bisync.specs.Reading.{InText}
-use Rattle.njh_bisync.specs.Fed.{turn, ahead, fed, kept_with}
-use Rattle.njh_bisync.specs.Plain.{plain_len, kept_all}
+use Rattle.njh_bisync.specs.ByteSteps.{turn, ahead, fed, kept_with}
+use Rattle.njh_bisync.specs.code.PlainBytes.{plain_len, kept_all}
 use Rattle.njh_bisync.specs.Written.{bytes_of_data}
 
 -- one byte more, before the others

@@ -5,7 +5,7 @@ use Rattle.std.specs.Prelude.{flat_map, Option, Some}
 use Rattle.std.proofs.lemmas.Bool.{eqb-true, lt-ltb}
 use Rattle.njh_bisync.specs.Frames.{Text}
 use Rattle.njh_bisync.specs.Reading.{Nothing, InText, Reads}
-use Rattle.njh_bisync.specs.Fed.{turn, Fed, ahead, fed, kept_with}
+use Rattle.njh_bisync.specs.ByteSteps.{turn, Fed, ahead, fed, kept_with}
 use Rattle.njh_bisync.specs.Written.{bytes_of_data, text_bytes, control_bytes, control_frame}
 use Rattle.njh_bisync.specs.declared.frame.Control.{Control}
 use Rattle.njh_bisync.specs.declared.frame.Control.TheVariants.{Enquiry, Ack0, Nak}

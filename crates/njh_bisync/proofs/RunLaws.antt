@@ -4,8 +4,8 @@ use Rattle.std.specs.Prelude.{Option, Some, None}
 use Rattle.std.proofs.lemmas.Bool.{ne_eqb}
 use Rattle.njh_bisync.specs.Frames.{Received}
 use Rattle.njh_bisync.specs.Reading.{Rest, Nothing, InText}
-use Rattle.njh_bisync.specs.Fed.{turn, ahead, fed, stop_or}
-use Rattle.njh_bisync.specs.Plain.{fed_on, plain_len}
+use Rattle.njh_bisync.specs.ByteSteps.{turn, ahead, fed, stop_or}
+use Rattle.njh_bisync.specs.code.PlainBytes.{fed_on, plain_len}
 
 -- the beginning of a text
 pub fed-begin : (more : List ℕ) → fed Nothing (0x10 ∷ 0x02 ∷ more) ≡ ahead 2 (fed (InText (Some []) false) more)

@@ -10,7 +10,7 @@ use Rattle.njh_bisync.specs.Frames.{Inner, plain, doubled, fill, stray, bytes_of
 use Rattle.njh_bisync.specs.Frames.{enquiry, ack0, nak, eot, text, after_soh, after_dle, single, bytes_of_unit, IsUnit, kept, frame_of}
 use Rattle.njh_bisync.specs.Frames.{frames_of, Received, Partial, nothing, soh, dle, unended, bytes_of_partial, IsPartial}
 use Rattle.njh_bisync.specs.Reading.{InText, rest_of}
-use Rattle.njh_bisync.specs.Fed.{Turn, on_to, ends, turn, frames_after, rest_after}
+use Rattle.njh_bisync.specs.ByteSteps.{Turn, on_to, ends, turn, frames_after, rest_after}
 use Rattle.njh_bisync.proofs.KeptLaws.{kept-none, kept-plain, kept-doubled, kept-fill, kept-stray}
 
 -- the unit that a byte ends, or none, and the rest then

@@ -2,7 +2,7 @@
 use Rattle.std.specs.Prelude.{ℕ, List, [], ◌∷◌, ◌++◌, take}
 use Rattle.njh_bisync.specs.Frames.{Received}
 use Rattle.njh_bisync.specs.Reading.{Rest, Nothing, frame_list}
-use Rattle.njh_bisync.specs.Fed.{fed}
+use Rattle.njh_bisync.specs.ByteSteps.{fed}
 
 pub data Call : Type 0 where
   Feed : List ℕ → Call

@@ -4,7 +4,7 @@ ghost use Rattle.std.specs.Borrow.{sem};
 ghost use Rattle.std.specs.Io.BufRead.{Rests};
 ghost use Rattle.njh_bisync.specs.Frames.{Received, IsShort};
 ghost use Rattle.njh_bisync.specs.Reading.{Nothing, Reads, TakesFirst};
-ghost use Rattle.njh_bisync.specs.Fed.{fed, frames_after, rest_after, GoesOn};
+ghost use Rattle.njh_bisync.specs.ByteSteps.{fed, frames_after, rest_after, GoesOn};
 
 use crate::frame::Frame;
 use crate::scanner::Scanner;
@@ -21,7 +21,7 @@ pub struct Deframer {
 
 impl Model for Deframer {
     ghost use Rattle.njh_bisync.specs.Reading.{Rest};
-    ghost use Rattle.njh_bisync.specs.Scanned.{rest_in};
+    ghost use Rattle.njh_bisync.specs.code.Scanner.{rest_in};
 
     ghost Value = { Rest };
 
@@ -29,7 +29,7 @@ impl Model for Deframer {
 }
 
 impl Deframer {
-    ghost use Rattle.njh_bisync.specs.Lent.{received};
+    ghost use Rattle.njh_bisync.specs.LentFrames.{received};
     ghost use Rattle.njh_bisync.specs.contracts.deframer.Deframer.{the_row};
 
     /// Reserves the 4,096 bytes of the longest text. No other call takes memory.

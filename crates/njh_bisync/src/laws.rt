@@ -2,8 +2,8 @@
 ghost use Rattle.std.specs.Prelude.{◌≡◌, ◌≢◌, ℕ, ◌<◌, ◌≤◌, false, All, List, [], ◌∷◌, ◌++◌, length, Option, Some, None};
 ghost use Rattle.njh_bisync.specs.Frames.{Received, Text, LineUnit, Partial, Splits};
 ghost use Rattle.njh_bisync.specs.Reading.{Rest, Nothing, InText, Reads};
-ghost use Rattle.njh_bisync.specs.Fed.{ahead, fed, frames_after, rest_after, GoesOn};
-ghost use Rattle.njh_bisync.specs.Plain.{kept_all};
+ghost use Rattle.njh_bisync.specs.ByteSteps.{ahead, fed, frames_after, rest_after, GoesOn};
+ghost use Rattle.njh_bisync.specs.code.PlainBytes.{kept_all};
 ghost use Rattle.njh_bisync.specs.Written.{text_bytes, control_bytes, control_frame};
 ghost use Rattle.njh_bisync.specs.declared.frame.Control.{Control};
 

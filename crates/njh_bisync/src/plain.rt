@@ -1,6 +1,6 @@
 //! Runs of bytes in which no DLE stands.
 ghost use Rattle.std.specs.Prelude.{◌≡◌, ◌≤◌, length};
-ghost use Rattle.njh_bisync.specs.Plain.{plain_len};
+ghost use Rattle.njh_bisync.specs.code.PlainBytes.{plain_len};
 
 use crate::line_byte::DLE;
 

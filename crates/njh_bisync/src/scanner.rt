@@ -1,8 +1,8 @@
 //! One byte after another through the frame grammar.
 ghost use Rattle.std.specs.Prelude.{◌≡◌, ◌+◌, ◌++◌, ◌<◌, ◌≤◌, ◌∷◌, [], true, false, drop, take, length, IfOk};
 ghost use Rattle.std.specs.Prelude.{option_map, vec_len, vec_capacity};
-ghost use Rattle.njh_bisync.specs.Fed.{turn, fed, kept_with};
-ghost use Rattle.njh_bisync.specs.Plain.{fed_on, kept_all, plain_len};
+ghost use Rattle.njh_bisync.specs.ByteSteps.{turn, fed, kept_with};
+ghost use Rattle.njh_bisync.specs.code.PlainBytes.{fed_on, kept_all, plain_len};
 ghost use Rattle.njh_bisync.specs.Frames.{text_or_spoiled, IsShort};
 ghost use Rattle.njh_bisync.specs.Reading.{Nothing, InText};
 ghost use Rattle.njh_bisync.specs.declared.frame.TheConstants.{LONGEST_TEXT};
@@ -58,8 +58,8 @@ pub struct Scanner {
 }
 
 impl Scanner {
-    ghost use Rattle.njh_bisync.specs.Lent.{received};
-    ghost use Rattle.njh_bisync.specs.Scanned.{good_data, rest_in, frame_in};
+    ghost use Rattle.njh_bisync.specs.LentFrames.{received};
+    ghost use Rattle.njh_bisync.specs.code.Scanner.{good_data, rest_in, frame_in};
 
     /// Behind a whole unit, with room for the longest text.
     pub fn new(alloc: Global) -> Result<Scanner, AllocError>
@@ -175,7 +175,7 @@ impl Scanner {
     }
 
     /// Takes one byte; where it ends a frame, that frame.
-    #[tactic(auto, unfolding(crate::specs::Fed::turn))]
+    #[tactic(auto, unfolding(crate::specs::ByteSteps::turn))]
     fn take(&mut self, byte: u8) -> Option<Ended>
         ensures frame { option_map (frame_in self.new.held.items) result
             ≡ (turn (rest_in self.old) byte).frame }
@@ -197,7 +197,7 @@ impl Scanner {
     }
 
     /// Takes the byte behind a DLE in a text; where it ends a frame, that frame.
-    #[tactic(auto, unfolding(crate::specs::Fed::turn))]
+    #[tactic(auto, unfolding(crate::specs::ByteSteps::turn))]
     fn take_control(&mut self, byte: u8) -> Option<Ended>
         ensures frame { option_map (frame_in self.new.held.items) result
             ≡ (turn (InText (good_data self.old.spoiled self.old.held.items) true) byte).frame }

@@ -10,7 +10,7 @@ use Rattle.njh_block.specs.declared.rcb.Form.TheVariants as form
 use Rattle.njh_block.specs.Blocks.{Item, Data, Aborted, Long, Control, General, form_of, after_control, item_of, record_of_spelling}
 use Rattle.njh_block.specs.Blocks.{record_of_one_byte, record_of_form, with_item, items_in, general_first}
 use Rattle.njh_block.proofs.ReadingLaws.{items_from, items_in_step, items_or_none}
-use Rattle.njh_block.specs.Shown.{general_at}
+use Rattle.njh_block.specs.ItemViews.{general_at}
 use Rattle.njh_block.proofs.Forms.{FormFact, form_fact}
 
 general_at-other : (f : Form) (rcb srcb : ℕ) (rest : List ℕ) → form_of rcb ≡ f → (form.General ≡ f → ⊥)

@@ -14,7 +14,7 @@ use Rattle.njh_record.specs.Unspelled.{unspelled_within, Fault, BadScb, Truncate
 use Rattle.njh_block.specs.declared.fault.BlockFault.{BlockFault}
 use Rattle.njh_block.specs.declared.fault.BlockFault.TheVariants.{BadRecord}
 use Rattle.njh_block.specs.Blocks.{First, Data, Aborted, Long, record_of_spelling}
-use Rattle.njh_block.specs.Shown.{contents_after}
+use Rattle.njh_block.specs.ItemViews.{contents_after}
 
 -- ---- it leaves no more than there was
 

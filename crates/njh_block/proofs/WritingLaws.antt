@@ -17,7 +17,7 @@ use Rattle.njh_block.specs.Blocks.{Item, Data, Aborted, Long, Control, General, 
 use Rattle.njh_block.specs.Blocks.{with_item, items_in, is_bcb, is_fcs, block_with, read_block, written_bytes, text_of}
 use Rattle.njh_block.specs.declared.out.Out.{Out}
 use Rattle.njh_block.specs.declared.out.Out.TheVariants as out
-use Rattle.njh_block.specs.Shown.{outgoing_item, IsWritable}
+use Rattle.njh_block.specs.ItemViews.{outgoing_item, IsWritable}
 use Rattle.njh_block.specs.Writing.{Writing, IsWritten, is_general, AreWritten, has_room, with_last, read_back, without_end, writing_of}
 use Rattle.njh_block.specs.Writing.{IsWriting}
 use Rattle.njh_block.proofs.Forms.{form_of-control}

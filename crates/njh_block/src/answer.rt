@@ -2,7 +2,7 @@
 
 ghost use Rattle.std.specs.Prelude.{◌≡◌};
 ghost use Rattle.njh_block.specs.Blocks.{Control, control_byte};
-ghost use Rattle.njh_block.specs.Shown.{outgoing_item};
+ghost use Rattle.njh_block.specs.ItemViews.{outgoing_item};
 
 use crate::out::Out;
 use crate::rcb::{ControlRcb, Rcb};

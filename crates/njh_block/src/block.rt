@@ -3,14 +3,14 @@
 ghost use Rattle.std.specs.Prelude.{◌≡◌, ◌↔◌, [], IsTrue, drop, slice_get, option_map};
 ghost use Rattle.njh_block.specs.Blocks.{Block as Seen, read_block, general_first};
 ghost use Rattle.njh_block.specs.Grammar.{IsBlock, IsFault};
-ghost use Rattle.njh_block.specs.Shown.{shown, first_contents};
+ghost use Rattle.njh_block.specs.ItemViews.{shown, first_contents};
 
 use crate::bcb::Bcb;
 use crate::fault::BlockFault;
 use crate::fcs::Fcs;
 use crate::item::Item;
 use crate::laws::one_reading;
-use crate::reading::{check_records, ends, read_first, read_general};
+use crate::front_record::{check_records, ends, read_first, read_general};
 use njh_record::Record;
 use std::marker::Model;
 

@@ -2,7 +2,7 @@
 
 ghost use Rattle.std.specs.Prelude.{◌≡◌, ◌+◌, ◌≤◌, ◌++◌, [], ◌↔◌, length, IsTrue};
 ghost use Rattle.njh_block.specs.Blocks.{written_bytes, text_of};
-ghost use Rattle.njh_block.specs.Shown.{outgoing_item, IsWritable};
+ghost use Rattle.njh_block.specs.ItemViews.{outgoing_item, IsWritable};
 ghost use Rattle.njh_block.specs.Writing.{is_general, has_room, with_last};
 
 use crate::bcb::Bcb;

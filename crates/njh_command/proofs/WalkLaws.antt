@@ -10,7 +10,7 @@ use Rattle.njh_spool.specs.CustomerSpool.{CustomerSpool, WholeFile}
 use Rattle.njh_command.specs.declared.changing.Standing.TheVariants.{Other, Busy, Idle}
 use Rattle.njh_command.specs.Replies.{file_line}
 use Rattle.njh_command.specs.Commands.{changed_file, is_idle, kept, owned}
-use Rattle.njh_command.specs.Changes.{numbers_where, standing_by, without_where}
+use Rattle.njh_command.specs.code.Changes.{numbers_where, standing_by, without_where}
 use Rattle.njh_command.specs.Files.{file_at, no_file, with_file}
 use Rattle.njh_command.proofs.UpTo.{changed_up_to, count_up_to, left_up_to, removed_up_to}
 use Rattle.njh_command.proofs.OnlyOneLaws.{changed_more, not_yet}

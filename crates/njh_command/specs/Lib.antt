@@ -2,4 +2,4 @@ pub mod Words
 pub mod Replies
 pub mod Commands
 pub mod Files
-pub mod Changes
+pub mod code

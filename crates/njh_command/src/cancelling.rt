@@ -2,7 +2,7 @@
 
 ghost use Rattle.std.specs.Prelude.{◌≡◌, ◌<◌, fold, length, slice_set};
 ghost use Rattle.njh_spool.specs.Spools.{part};
-ghost use Rattle.njh_command.specs.Changes.{numbers_where, without_where};
+ghost use Rattle.njh_command.specs.code.Changes.{numbers_where, without_where};
 ghost use Rattle.njh_command.specs.Commands.{cancelling, chosen, count, is_busy, without_file};
 ghost use Rattle.njh_command.specs.Files.{file_at};
 

@@ -2,7 +2,7 @@
 
 ghost use Rattle.std.specs.Prelude.{◌≡◌, ◌<◌, length, slice_set};
 ghost use Rattle.njh_spool.specs.Spools.{part};
-ghost use Rattle.njh_command.specs.Changes.{change_by, standing_of, text_of};
+ghost use Rattle.njh_command.specs.code.Changes.{change_by, standing_of, text_of};
 ghost use Rattle.njh_command.specs.Commands.{change_replies, changed, changed_file, chosen, count, is_busy, is_idle};
 ghost use Rattle.njh_command.specs.Files.{file_at, with_file};
 

@@ -32,7 +32,7 @@ use Rattle.njh_customer.specs.Customer.{Customer, CustomerLine, line_at, on_line
 use Rattle.njh_customer.specs.Waiting.{answered, waits, said, notified}
 use Rattle.njh_customer.specs.Acting.{arrived, stream_came, with_sent, permitted, answer_came, refusal_of, request_came, peer_answered, given_up}
 use Rattle.njh_customer.specs.Acting.{with_outcome, command_came, unknown_told, message_routed, message_read, message_came, acted}
-use Rattle.njh_customer.specs.Outgoing.{outgoing, streams_from_hub, stream_at}
+use Rattle.njh_customer.specs.OutgoingFiles.{outgoing, streams_from_hub, stream_at}
 use Rattle.njh_customer.specs.Moves as moves
 use Rattle.njh_customer.specs.Moves.{Acts, Commands, Tells, busy_numbers}
 use Rattle.njh_customer.proofs.OutgoingLaws.{of_parts, on_line_senders, answered_senders, waits_senders, said_senders, all_said_senders, notified_senders}

@@ -17,10 +17,10 @@ use Rattle.njh_sched.specs.NextBlock.{Filling, Source, after_source, after_sourc
 use Rattle.njh_sched.specs.Laws.{Does, EachDoes, left, gives_up, asks, sends, is_under, records_under}
 use Rattle.njh_sched.specs.Carrying.{end_of_file, file_records, record_item, records_of}
 use Rattle.njh_sched.specs.Carrying as carrying
-use Rattle.njh_customer.specs.Outgoing.{Outgoing, marked, records_numbered}
+use Rattle.njh_customer.specs.OutgoingFiles.{Outgoing, marked, records_numbered}
 use Rattle.njh_customer.specs.Moves as moves
 use Rattle.njh_customer.specs.Moves.{Sends}
-use Rattle.njh_customer.specs.Doing.{Carries, nothing, on_its_way, to_its_end}
+use Rattle.njh_customer.specs.FrameEffects.{Carries, nothing, on_its_way, to_its_end}
 use Rattle.njh_customer.proofs.SendingMoves.{GivesOne, out_of, stream_now, gives}
 use Rattle.njh_customer.proofs.SendingMoves as sending
 use Rattle.njh_customer.proofs.DoingLaws.{BlocksCarry}

@@ -32,10 +32,10 @@ use Rattle.njh_customer.specs.Acting.{acted_where}
 use Rattle.njh_customer.specs.Sending.{LineSent, Sending, control_sent, no_block_sent, empty_sent, block_sent, next_block, outlet_of, own_block, reply_sent, with_outlet}
 use Rattle.njh_customer.specs.Alone.{Step, silent, quiet, raised, goes_up_by, replied, replied_to, session_over, session_over_where, session_ended, carried_out, verdict_on}
 use Rattle.njh_customer.specs.Alone.{accepted_on, input_came, block_input, behind_records, block_came, text_read, text_came, received_on, signal_input, frame_came, signal_came}
-use Rattle.njh_customer.specs.Outgoing.{Outgoing, outgoing, streams_from_hub, streams_of}
+use Rattle.njh_customer.specs.OutgoingFiles.{Outgoing, outgoing, streams_from_hub, streams_of}
 use Rattle.njh_customer.specs.Moves.{Leads, nowhere, OneActs, Sends}
-use Rattle.njh_customer.specs.Doing.{Carries, Ends, still_on, over_now, GoesOut, no_block, new_block, Does, block_records, records_in}
-use Rattle.njh_customer.specs.Doing.{IsNoNewBlock, nothing_sent, control, again, sign_on, count, without_records}
+use Rattle.njh_customer.specs.FrameEffects.{Carries, Ends, still_on, over_now, GoesOut, no_block, new_block, Does, block_records, records_in}
+use Rattle.njh_customer.specs.FrameEffects.{IsNoNewBlock, nothing_sent, control, again, sign_on, count, without_records}
 use Rattle.njh_customer.proofs.OutgoingLaws.{of_parts, on_line_senders}
 use Rattle.njh_customer.proofs.SendingMoves.{out_of, filled_leads, filled_with_none}
 use Rattle.njh_customer.proofs.EndingMoves.{over_so}

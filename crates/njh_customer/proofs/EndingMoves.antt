@@ -14,7 +14,7 @@ use Rattle.njh_stream.specs.Receiving.{without_open, without_all_open}
 use Rattle.njh_stream.specs.Sending.{all_ended, ended, file_in, may_go_again, ready, tried_again}
 use Rattle.njh_customer.specs.Customer.{Customer, no_line, line_at}
 use Rattle.njh_customer.specs.Alone.{quiet, session_over}
-use Rattle.njh_customer.specs.Outgoing.{marked, outgoing, streams_from_hub}
+use Rattle.njh_customer.specs.OutgoingFiles.{marked, outgoing, streams_from_hub}
 use Rattle.njh_customer.specs.Moves.{Over}
 
 pub marked_ready : (n : ℕ) (state : State) (files : List WholeFile) → map ready (marked n state files) ≡ map ready files

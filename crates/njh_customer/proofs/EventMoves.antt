@@ -3,7 +3,7 @@ use Rattle.std.proofs.Common.{◌≡◌, ℕ, Bool, true, false, List, [], ◌�
 use Rattle.std.proofs.lemmas.List.Elements.{Contains-append_left, Contains-append_right}
 use Rattle.std.specs.Prelude.{flat_map}
 use Rattle.std.specs.List.{Contains, cons_option}
-use Rattle.njh_bisync.specs.Fed.{frames_after, turn}
+use Rattle.njh_bisync.specs.ByteSteps.{frames_after, turn}
 use Rattle.njh_bisync.specs.Frames.{Received}
 use Rattle.njh_bisync.specs.Reading.{Rest}
 use Rattle.njh_block.specs.Blocks.{Item}
@@ -14,9 +14,9 @@ use Rattle.njh_customer.specs.Alone.{Step, raised, signal_came}
 use Rattle.njh_customer.specs.Feeding.{acted_on, bytes_run}
 use Rattle.njh_customer.specs.Part.{bytes_taken, rest_on}
 use Rattle.njh_customer.specs.Runs.{OwnBytes, OwnSignal, OwnRoutes, Run, event_run}
-use Rattle.njh_customer.specs.Outgoing.{Outgoing, outgoing}
+use Rattle.njh_customer.specs.OutgoingFiles.{Outgoing, outgoing}
 use Rattle.njh_customer.specs.Moves.{Leads, nowhere, onward, Moves, MovesBy, Records, by_record, by_sending, by_end, OneActs, Sends}
-use Rattle.njh_customer.specs.Doing.{Does, Ends, still_on, over_now, GoesOut, no_block, new_block, records_in}
+use Rattle.njh_customer.specs.FrameEffects.{Does, Ends, still_on, over_now, GoesOut, no_block, new_block, records_in}
 use Rattle.njh_customer.specs.MovingLaws.{EventsMoveSo, FramesDoSo, SignalsDoSo, TakesMoveSo, coming}
 use Rattle.njh_customer.specs.Laws.{followed_by}
 use Rattle.njh_customer.proofs.PieceLaws.{no_bytes_do_nothing, steps_follow_bytes}

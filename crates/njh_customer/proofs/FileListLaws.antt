@@ -10,7 +10,7 @@ use Rattle.njh_spool.specs.CustomerSpool.{WholeFile}
 use Rattle.njh_spool.specs.declared.State.{State}
 use Rattle.njh_stream.specs.Sending.{ready}
 use Rattle.njh_command.specs.Commands.{changed_file, is_idle}
-use Rattle.njh_customer.specs.Outgoing.{marked}
+use Rattle.njh_customer.specs.OutgoingFiles.{marked}
 use Rattle.njh_customer.proofs.EndingMoves.{marked_ready}
 
 -- ---- the elements of lists

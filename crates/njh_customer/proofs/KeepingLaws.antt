@@ -1,6 +1,6 @@
 -- What no event changes of a customer.
 use Rattle.std.proofs.Common.{◌≡◌, ℕ, List, [], ◌∷◌, Option, Some, None, length, refl, sym, ap, ◌∙◌}
-use Rattle.njh_bisync.specs.Fed.{turn}
+use Rattle.njh_bisync.specs.ByteSteps.{turn}
 use Rattle.njh_bisync.specs.Frames.{Received}
 use Rattle.njh_bisync.specs.Reading.{Rest}
 use Rattle.njh_table.specs.Entries.{CustomerEntry}
@@ -12,7 +12,7 @@ use Rattle.njh_customer.specs.MovingLaws.{FramesDoSo, SignalsDoSo}
 use Rattle.njh_customer.specs.Customer.{Customer, with_marks}
 use Rattle.njh_customer.specs.Alone.{signal_came}
 use Rattle.njh_customer.specs.Feeding.{acted_on, byte_step, or_later, take_step, Taking}
-use Rattle.njh_customer.specs.Doing.{records_in}
+use Rattle.njh_customer.specs.FrameEffects.{records_in}
 use Rattle.njh_customer.specs.Laws.{EventsKeepEntries, EventsKeepFaults, EventsKeepLines, TakesKeepEntries}
 use Rattle.njh_customer.proofs.EventMoves.{bytes_move, does_entry}
 use Rattle.njh_customer.proofs.RoutesMoves.{routes_do, routes_keep_entry}

@@ -12,7 +12,7 @@ use Rattle.njh_stream.specs.declared.sender.Sender.TheVariants.{EofSent}
 use Rattle.njh_command.specs.Commands.{chosen, rerouted, with_state, without_file}
 use Rattle.njh_customer.specs.Customer.{with_marks}
 use Rattle.njh_customer.specs.NewRoutes.{entry_with}
-use Rattle.njh_customer.specs.Outgoing.{Outgoing, each_stream, has_file, with_files}
+use Rattle.njh_customer.specs.OutgoingFiles.{Outgoing, each_stream, has_file, with_files}
 use Rattle.njh_customer.specs.Moves as moves
 use Rattle.njh_customer.specs.Moves.{Acts, Records, Routes, Leads, nowhere, onward, Moves, MovesBy, by_record, by_sending, by_end, Sends, without_files}
 use Rattle.njh_customer.specs.MovingLaws as laws

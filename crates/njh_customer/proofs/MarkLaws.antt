@@ -5,7 +5,7 @@ use Rattle.std.proofs.Math.ListN.{get_or-map}
 use Rattle.std.proofs.Math.Seq.{map-set_same}
 use Rattle.std.proofs.lemmas.List.{map-set, set-get_or, set-set}
 use Rattle.std.proofs.lemmas.Simd.{map-map}
-use Rattle.njh_bisync.specs.Fed.{turn}
+use Rattle.njh_bisync.specs.ByteSteps.{turn}
 use Rattle.njh_bisync.specs.Frames as frame
 use Rattle.njh_bisync.specs.Frames.{Received}
 use Rattle.njh_bisync.specs.Reading.{Rest}

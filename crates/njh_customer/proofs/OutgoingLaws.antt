@@ -17,7 +17,7 @@ use Rattle.njh_line.specs.Lines.{with_answer, with_message}
 use Rattle.njh_customer.specs.Customer.{Customer, CustomerLine, no_line, line_at, on_line, in_state, sender_at, with_sender}
 use Rattle.njh_customer.specs.Waiting.{answered, waits, goes, said, all_said, notified}
 use Rattle.njh_customer.specs.Acting.{given_up}
-use Rattle.njh_customer.specs.Outgoing.{Outgoing, outgoing, streams_from_hub, stream_at, with_stream, with_files}
+use Rattle.njh_customer.specs.OutgoingFiles.{Outgoing, outgoing, streams_from_hub, stream_at, with_stream, with_files}
 use Rattle.njh_customer.specs.Moves.{without_files}
 
 abbrev pub of_parts : List WholeFile → List (List Sender) → Outgoing

@@ -17,7 +17,7 @@ use Rattle.njh_line.specs.declared.verdict.Verdict.{Verdict}
 use Rattle.njh_customer.specs.Alone.{Step, accepted_on, behind_records, block_came, block_input, carried_out, goes_up_by, input_came, raised, silent}
 use Rattle.njh_customer.specs.Alone.{verdict_on, where_there}
 use Rattle.njh_customer.specs.Acting.{acted, acted_where, all_acted, ended_or, ends_session}
-use Rattle.njh_customer.specs.Leading.{Brings, Leads, IsReady, IsRetold, customer_of, with_customer}
+use Rattle.njh_customer.specs.CustomerSteps.{Brings, Leads, IsReady, IsRetold, customer_of, with_customer}
 use Rattle.njh_customer.proofs.StepLaws.{Stays}
 
 pub next_ready :

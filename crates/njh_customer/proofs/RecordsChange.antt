@@ -29,7 +29,7 @@ use Rattle.njh_command.specs.Commands.{changed_file, chosen, is_idle, is_sending
 use Rattle.njh_command.specs.Files.{no_file}
 use Rattle.njh_customer.specs.Customer.{with_marks}
 use Rattle.njh_customer.specs.NewRoutes.{entry_with}
-use Rattle.njh_customer.specs.Outgoing.{Outgoing, marked, with_files}
+use Rattle.njh_customer.specs.OutgoingFiles.{Outgoing, marked, with_files}
 use Rattle.njh_customer.specs.Moves as moves
 use Rattle.njh_customer.specs.Moves.{Acts, Commands, Records, Routes, Moves, by_record, by_sending, by_end, Over, Sends}
 use Rattle.njh_customer.specs.MovingLaws as laws

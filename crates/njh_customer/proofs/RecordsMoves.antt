@@ -6,7 +6,7 @@ use Rattle.std.specs.List.{Contains}
 use Rattle.njh_block.specs.Blocks.{Item}
 use Rattle.njh_customer.specs.Customer.{Customer}
 use Rattle.njh_customer.specs.Acting.{acted, ends_session, ended_or, all_acted, acted_where}
-use Rattle.njh_customer.specs.Outgoing.{outgoing}
+use Rattle.njh_customer.specs.OutgoingFiles.{outgoing}
 use Rattle.njh_customer.specs.Moves.{Acts, Leads, nowhere, onward, OneActs}
 use Rattle.njh_customer.proofs.ActingMoves.{Acted, acts_so}
 use Rattle.njh_customer.proofs.KeptLines.{kept, kepts, acted_keeps}

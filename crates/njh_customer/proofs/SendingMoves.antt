@@ -16,7 +16,7 @@ use Rattle.njh_sched.specs.NextBlock.{Candidate, Filling, Source, WaitingAnswer,
 use Rattle.njh_sched.specs.NextBlock.{abort_where, answering, asking, candidate, is_idle, may_ask, next_served, oldest, sender_at, serving, telling}
 use Rattle.njh_sched.specs.NextBlock.{added_where, after_candidate, after_source, after_source_where, after_sources, filled, filled_where, sources}
 use Rattle.njh_sched.specs.Carrying.{records_of}
-use Rattle.njh_customer.specs.Outgoing.{Outgoing, record_numbered, stream_at, with_stream}
+use Rattle.njh_customer.specs.OutgoingFiles.{Outgoing, record_numbered, stream_at, with_stream}
 use Rattle.njh_customer.specs.Moves as moves
 use Rattle.njh_customer.specs.Moves.{Leads, nowhere, onward, Sends}
 use Rattle.njh_customer.proofs.OutgoingLaws.{of_parts}

@@ -13,7 +13,7 @@ use Rattle.njh_stream.specs.declared.sender.Sender.TheVariants.{Idle, Requested,
 use Rattle.njh_stream.specs.Sending.{file_in, goes_by}
 use Rattle.njh_sched.specs.NextBlock.{may_go}
 use Rattle.njh_command.specs.Commands.{aborted_where, chosen, is_about, without_file}
-use Rattle.njh_customer.specs.Outgoing.{Outgoing, each_stream, marked, stream_at, streams_of, with_files, with_stream, without}
+use Rattle.njh_customer.specs.OutgoingFiles.{Outgoing, each_stream, marked, stream_at, streams_of, with_files, with_stream, without}
 use Rattle.njh_customer.specs.Customer.{with_marks}
 use Rattle.njh_customer.specs.Moves as moves
 use Rattle.njh_customer.specs.Moves.{Acts, Records, Routes, Moves, by_record, by_sending, by_end, Sends, Tells, without_files}

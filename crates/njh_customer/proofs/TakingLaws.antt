@@ -3,7 +3,7 @@ use Rattle.std.proofs.Common.{◌≡◌, ℕ, suc, ◌+◌, ◌<◌, ◌≤◌, 
 use Rattle.std.proofs.Common.{◌∙◌, arith, add_assoc}
 use Rattle.njh_bisync.specs.Frames.{Received}
 use Rattle.njh_bisync.specs.Reading.{Rest}
-use Rattle.njh_bisync.specs.Fed.{turn, stop_or, Fed, fed}
+use Rattle.njh_bisync.specs.ByteSteps.{turn, stop_or, Fed, fed}
 use Rattle.njh_customer.specs.Customer.{Customer}
 use Rattle.njh_customer.specs.Feeding.{acted_on, Taking, later_by, or_later, take_step}
 

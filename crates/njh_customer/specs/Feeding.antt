@@ -3,7 +3,7 @@
 use Rattle.std.specs.Prelude.{ℕ, ◌+◌, List, [], ◌∷◌, ◌++◌, Option, Some, None}
 use Rattle.njh_bisync.specs.Frames.{Received}
 use Rattle.njh_bisync.specs.Reading.{Rest}
-use Rattle.njh_bisync.specs.Fed.{turn}
+use Rattle.njh_bisync.specs.ByteSteps.{turn}
 use Rattle.njh_customer.specs.Customer.{Customer}
 use Rattle.njh_customer.specs.Alone.{Step, frame_came}
 

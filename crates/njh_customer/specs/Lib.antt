@@ -7,10 +7,10 @@ pub mod Feeding
 pub mod Part
 pub mod Runs
 pub mod Laws
-pub mod Leading
-pub mod Outgoing
+pub mod CustomerSteps
+pub mod OutgoingFiles
 pub mod Moves
-pub mod Doing
+pub mod FrameEffects
 pub mod MovingLaws
 pub mod Disregarding
 pub mod NewRoutes

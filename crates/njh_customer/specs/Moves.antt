@@ -24,8 +24,8 @@ use Rattle.njh_command.specs.Words.{command_of}
 use Rattle.njh_command.specs.Commands.{changed_file, chosen, is_busy, rerouted, with_state, without_file}
 use Rattle.njh_customer.specs.Customer.{with_marks}
 use Rattle.njh_customer.specs.NewRoutes.{entry_with}
-use Rattle.njh_customer.specs.Outgoing.{Outgoing, each_stream, marked, record_numbered, stream_at, streams_of}
-use Rattle.njh_customer.specs.Outgoing.{with_files, with_stream, with_streams, without}
+use Rattle.njh_customer.specs.OutgoingFiles.{Outgoing, each_stream, marked, record_numbered, stream_at, streams_of}
+use Rattle.njh_customer.specs.OutgoingFiles.{with_files, with_stream, with_streams, without}
 
 -- ---- by a record that comes
 

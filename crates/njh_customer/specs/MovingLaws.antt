@@ -2,7 +2,7 @@
 use Rattle.std.specs.Prelude.{◌≡◌, ℕ, ◌+◌, ◌<◌, ◌⊎◌, Bool, true, false, List, [], find, flat_map, length, take, Some}
 use Rattle.std.specs.Prelude.{None, Ok, Err}
 use Rattle.std.specs.List.{Contains}
-use Rattle.njh_bisync.specs.Fed.{frames_after}
+use Rattle.njh_bisync.specs.ByteSteps.{frames_after}
 use Rattle.njh_bisync.specs.Frames.{Received}
 use Rattle.njh_block.specs.Blocks.{Item, Data}
 use Rattle.njh_block.specs.Codes.{kind_of}
@@ -26,9 +26,9 @@ use Rattle.njh_customer.specs.Alone.{frame_came, signal_came}
 use Rattle.njh_customer.specs.Part.{Part, bytes_taken, rest_on}
 use Rattle.njh_customer.specs.NewRoutes.{entry_with}
 use Rattle.njh_customer.specs.Runs.{OwnEvent, OwnBytes, OwnSignal, OwnRoutes, Run, event_run}
-use Rattle.njh_customer.specs.Outgoing.{Outgoing, outgoing, has_file, record_numbered, stream_at}
+use Rattle.njh_customer.specs.OutgoingFiles.{Outgoing, outgoing, has_file, record_numbered, stream_at}
 use Rattle.njh_customer.specs.Moves.{Coming, Records, Routes, Commands, Leads, MovesBy, Sends, Tells}
-use Rattle.njh_customer.specs.Doing.{Does, records_in}
+use Rattle.njh_customer.specs.FrameEffects.{Does, records_in}
 
 -- ---- what comes
 

@@ -4,7 +4,7 @@ ghost use Rattle.std.specs.Prelude.{◌≡◌, ◌<◌, ◌≤◌, ℕ, List, le
 ghost use Rattle.njh_block.specs.Blocks.{control_byte, stream_number, stream_of};
 ghost use Rattle.njh_header.specs.Texts.{node_unknown};
 ghost use Rattle.njh_nmr.specs.Nodal.{cut_after_message, record_of};
-ghost use Rattle.njh_block.specs.Shown.{shown};
+ghost use Rattle.njh_block.specs.ItemViews.{shown};
 ghost use Rattle.njh_spool.specs.Spools.{part};
 ghost use Rattle.njh_stream.specs.Arrivals.{IsShort, arrival_of};
 ghost use Rattle.njh_stream.specs.Receiving as receiving;
@@ -12,7 +12,7 @@ ghost use Rattle.njh_stream.specs.Sending as sending;
 ghost use Rattle.njh_table.specs.TableFile.{entry_of};
 ghost use Rattle.njh_customer.specs.Acting as acting;
 ghost use Rattle.njh_customer.specs.Customer.{line_at, on_line, sender_at, with_sender};
-ghost use Rattle.njh_customer.specs.Leading.{IsReady, Leads, customer_of};
+ghost use Rattle.njh_customer.specs.CustomerSteps.{IsReady, Leads, customer_of};
 ghost use Rattle.njh_customer.specs.Waiting.{said, waits};
 
 use crate::customer_lines::CustomerLines;

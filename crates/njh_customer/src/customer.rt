@@ -4,12 +4,12 @@
 ghost use Rattle.std.specs.Prelude.{◌≡◌, ◌<◌, ◌&&◌, length, not};
 ghost use Rattle.std.specs.Option.{option_map};
 ghost use Rattle.njh_customer.specs.Feeding.{acted_on};
-ghost use Rattle.njh_bisync.specs.Lent.{received};
+ghost use Rattle.njh_bisync.specs.LentFrames.{received};
 ghost use Rattle.njh_line.specs.LineTable.{shown};
 ghost use Rattle.njh_table.specs.TableFile.{HasLine, customer_at, entry_of};
 ghost use Rattle.njh_customer.specs.Acting.{acted_where};
 ghost use Rattle.njh_customer.specs.Alone as alone;
-ghost use Rattle.njh_customer.specs.Leading.{Brings, IsReady, IsRetold, Leads, customer_of};
+ghost use Rattle.njh_customer.specs.CustomerSteps.{Brings, IsReady, IsRetold, Leads, customer_of};
 
 use crate::acting::all_act;
 use crate::customer_lines::CustomerLines;

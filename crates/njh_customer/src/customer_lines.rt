@@ -11,7 +11,7 @@ ghost use Rattle.njh_customer.specs.Alone.{replied_to, session_closed, signal_in
 ghost use Rattle.njh_line.specs.LineTable.{accepted, shown};
 ghost use Rattle.njh_line.specs.Laws.{is_up};
 ghost use Rattle.njh_line.specs.Lines.{after_end, after_input};
-ghost use Rattle.njh_customer.specs.Leading.{IsReady, Leads, customer_of};
+ghost use Rattle.njh_customer.specs.CustomerSteps.{IsReady, Leads, customer_of};
 ghost use Rattle.njh_customer.specs.Customer.{in_state, line_at, noted, on_line, receiver_at, with_receiver, sender_at};
 ghost use Rattle.njh_customer.specs.Customer.{with_sender};
 ghost use Rattle.njh_customer.specs.Waiting.{all_said, answered, goes, notified, said, waits};

@@ -8,7 +8,7 @@ mod customer;
 mod customer_line;
 mod customer_lines;
 mod frame_buffer;
-mod law;
+mod laws;
 mod lines;
 mod new_routes;
 mod room;
@@ -16,7 +16,7 @@ mod sending;
 mod signal;
 
 pub use frame_buffer::FrameBuffer;
-pub use law::{
+pub use laws::{
     bad_texts_change_nothing, cuts_are_like, events_keep_entries, events_move_so, files_leave_so,
     first_bytes_send_first, frames_do_so, marks_are_right, no_bytes_do_nothing, opened_is_coherent,
     records_change_so, steps_follow_bytes, streams_move_so,

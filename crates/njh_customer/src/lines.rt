@@ -1,14 +1,14 @@
 //! A customer's lines, with what has come of the next frame on each.
 
 ghost use Rattle.std.specs.Prelude.{◌≡◌, ◌<◌, ◌≤◌, length, map, slice_set, IfOk};
-ghost use Rattle.njh_bisync.specs.Fed.{fed};
+ghost use Rattle.njh_bisync.specs.ByteSteps.{fed};
 ghost use Rattle.njh_spool.specs.CustomerSpool.{empty_spool};
 ghost use Rattle.njh_spool.specs.Spools.{part};
 ghost use Rattle.njh_table.specs.Marks.{entry_unmarked};
 ghost use Rattle.njh_table.specs.TableFile.{customer_at, entry_of, password_bytes};
 ghost use Rattle.njh_customer.specs.Customer.{config_of, line_at, password_in, role_of};
 ghost use Rattle.njh_customer.specs.Feeding.{acted_on};
-ghost use Rattle.njh_customer.specs.Leading.{Brings, IsReady, IsRetold, customer_of};
+ghost use Rattle.njh_customer.specs.CustomerSteps.{Brings, IsReady, IsRetold, customer_of};
 ghost use Rattle.njh_customer.specs.Part.{rest_at};
 
 use crate::customer::{take_frame, take_signal};

@@ -13,13 +13,13 @@ use Rattle.njh_hub.specs.declared.event.Event.{Event}
 use Rattle.njh_hub.specs.declared.event.Event.TheVariants.{Bytes, Tick, Garbled, Lost, Routes}
 use Rattle.njh_customer.specs.Laws.{EventsKeepFaults}
 use Rattle.njh_customer.specs.Runs.{OwnEvent, alone_run, event_run}
-use Rattle.njh_hub.specs.Own.{customer_of, line_of, routes_of, own, events_of}
+use Rattle.njh_hub.specs.OwnEvents.{customer_of, line_of, routes_of, own, events_of}
 use Rattle.njh_hub.specs.declared.fault.Cause.{Cause}
 use Rattle.njh_hub.specs.declared.fault.Cause.TheVariants.{Hub, Sink}
 use Rattle.njh_hub.specs.declared.fault.HubFault.{HubFault}
 use Rattle.njh_hub.specs.declared.fault.HubFault.TheVariants.{UnknownLine, UnknownCustomer, Memory, BadRoutes}
-use Rattle.njh_hub.specs.Stops.{IfHub, IsRefused, IsRoutes}
-use Rattle.njh_hub.specs.Whole.{Part, part, HasLine, IsNamed, SameLines, hub_run}
+use Rattle.njh_hub.specs.RunStops.{IfHub, IsRefused, IsRoutes}
+use Rattle.njh_hub.specs.WholeHub.{Part, part, HasLine, IsNamed, SameLines, hub_run}
 use Rattle.njh_hub.proofs.RunLaws.{each_is_alone}
 
 -- a hub keeps its customers over a run

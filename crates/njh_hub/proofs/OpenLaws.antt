@@ -11,7 +11,7 @@ use Rattle.njh_table.specs.Marks.{customer_unmarked, entry_unmarked, unmarked}
 use Rattle.njh_table.specs.TableFile.{TableFile, no_customer, customer_at, entry_of}
 use Rattle.njh_customer.specs.Customer.{IsCoherent, IsMarked, fresh_customer}
 use Rattle.njh_customer.specs.Part.{Lines, part_with}
-use Rattle.njh_hub.specs.Whole.{Part, opened, no_entry, no_part}
+use Rattle.njh_hub.specs.WholeHub.{Part, opened, no_entry, no_part}
 use Rattle.njh_hub.specs.Parts.{IsHub, empty_files, entries_of, lines_at, part_held, parts_of}
 use Rattle.njh_hub.proofs.PartsLaws.{length-parts_of, part-there}
 

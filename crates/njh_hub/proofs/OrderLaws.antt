@@ -7,8 +7,8 @@ use Rattle.njh_customer.specs.Runs.{OwnBytes, event_run}
 use Rattle.njh_hub.specs.declared.event.Event.{Event}
 use Rattle.njh_hub.specs.declared.event.Event.TheVariants.{Bytes, Tick, Garbled, Lost, Routes}
 use Rattle.njh_hub.specs.Laws.{Begins, SentInOrder}
-use Rattle.njh_hub.specs.Own.{first_bytes, first_of}
-use Rattle.njh_hub.specs.Whole.{Part, part, sent_by, hub_event, hub_run}
+use Rattle.njh_hub.specs.OwnEvents.{first_bytes, first_of}
+use Rattle.njh_hub.specs.WholeHub.{Part, part, sent_by, hub_event, hub_run}
 use Rattle.njh_hub.proofs.PieceLaws.{sent_by-append}
 
 sent_by-begins : (c : ℕ) (front whole : List (ℕ × List ℕ)) → Begins front whole → Begins (sent_by c front ++ []) (sent_by c whole)

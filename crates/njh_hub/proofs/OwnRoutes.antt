@@ -4,7 +4,7 @@ use Rattle.njh_table.specs.declared.LineId.{LineId}
 use Rattle.njh_table.specs.declared.new_routes.RouteEntry.{RouteEntry}
 use Rattle.njh_customer.specs.Runs.{OwnEvent}
 use Rattle.njh_hub.specs.declared.event.Event.TheVariants.{Routes}
-use Rattle.njh_hub.specs.Own.{own, events_of}
+use Rattle.njh_hub.specs.OwnEvents.{own, events_of}
 use Rattle.njh_hub.specs.Service.{Happening, Round, NewRoutes, service_events, own_story, OwnWiresAndRoutesDecide}
 use Rattle.njh_hub.specs.Turns.{quiets_after, round_events}
 use Rattle.njh_hub.specs.WireLaws.{own_wires}

@@ -5,7 +5,7 @@ use Rattle.njh_table.specs.declared.LineId.{LineId}
 use Rattle.njh_customer.specs.Runs.{OwnEvent}
 use Rattle.njh_hub.specs.declared.event.Event.{Event}
 use Rattle.njh_hub.specs.declared.event.Event.TheVariants.{Bytes, Tick, Garbled, Lost, Routes}
-use Rattle.njh_hub.specs.Own.{customer_of, line_of, own, events_of}
+use Rattle.njh_hub.specs.OwnEvents.{customer_of, line_of, own, events_of}
 use Rattle.njh_hub.specs.Wires.{Heard, Came, Quiet, Pending, Closed, Absent, Failed, cut_to, loss_of, told}
 use Rattle.njh_hub.specs.Turns.{Turn, event_of, told_where, turn_events, quiet_after, round_events, quiets_after, all_events, no_quiets}
 use Rattle.njh_hub.specs.WireLaws.{own_wires, OwnWiresDecide}

@@ -7,7 +7,7 @@ use Rattle.njh_customer.specs.Laws.{NoBytesDoNothing, StepsFollowBytes}
 use Rattle.njh_customer.specs.Part.{bytes_taken}
 use Rattle.njh_customer.specs.Runs.{OwnBytes, Run, event_run}
 use Rattle.njh_hub.specs.declared.event.Event.TheVariants.{Bytes}
-use Rattle.njh_hub.specs.Whole.{Part, no_part, part, sent_by, HubRun, hub_event}
+use Rattle.njh_hub.specs.WholeHub.{Part, no_part, part, sent_by, HubRun, hub_event}
 
 pub sent_by-append : (c : ℕ) (xs ys : List (ℕ × List ℕ)) → sent_by c (xs ++ ys) ≡ sent_by c xs ++ sent_by c ys
 sent_by-append c [] ys = refl

@@ -9,7 +9,7 @@ use Rattle.njh_table.specs.TableFile.{TableFile, customer_at, entry_of, no_custo
 use Rattle.njh_customer.specs.Customer.{IsCoherent, IsMarked}
 use Rattle.njh_customer.specs.NewRoutes.{RoutesKeepCoherent, routes_taken}
 use Rattle.njh_customer.specs.Part.{Part, Lines, part_with}
-use Rattle.njh_hub.specs.Whole.{part}
+use Rattle.njh_hub.specs.WholeHub.{part}
 use Rattle.njh_hub.specs.Parts.{IsHub, lines_at, no_lines, part_held, parts_of}
 use Rattle.njh_hub.proofs.PartsLaws.{DifferAt, Moves, differ-nowhere, differ-set, part-there, parts-moved}
 

@@ -12,7 +12,7 @@ use Rattle.std.proofs.Math.Seq.{get_or-append_seam, take-append_seam}
 use Rattle.njh_table.specs.declared.LineId.{LineId}
 use Rattle.njh_hub.specs.declared.event.Event.{Event}
 use Rattle.njh_hub.specs.Sent.{IsCounted}
-use Rattle.njh_hub.specs.Whole.{Part, HubRun, hub_run}
+use Rattle.njh_hub.specs.WholeHub.{Part, HubRun, hub_run}
 use Rattle.njh_hub.specs.Wires.{Pending, Failed, WireAct}
 use Rattle.njh_hub.specs.Turns.{Turn, IsTurn, Placed, HadTurn, HadTurns, HasFault, IsRound, no_line, no_turn, quiet_after, turn_events}
 use Rattle.njh_hub.specs.Turns.{round_events, quiets_after, placed, placed_acts, placed_stop, all_events, all_quiets, turns_of}

@@ -8,8 +8,8 @@ use Rattle.njh_table.specs.Entries.{CustomerEntry}
 use Rattle.njh_table.specs.declared.LineId.{LineId}
 use Rattle.njh_hub.specs.declared.event.Event.{Event}
 use Rattle.njh_customer.specs.Runs.{OwnEvent, Run, event_run, alone_run}
-use Rattle.njh_hub.specs.Own.{customer_of, own, events_of, sent_to}
-use Rattle.njh_hub.specs.Whole.{Part, opened, no_entry, no_part, part, sent_by, own_event, hub_run}
+use Rattle.njh_hub.specs.OwnEvents.{customer_of, own, events_of, sent_to}
+use Rattle.njh_hub.specs.WholeHub.{Part, opened, no_entry, no_part, part, sent_by, own_event, hub_run}
 use Rattle.njh_hub.specs.Files.{files_of}
 use Rattle.njh_hub.specs.Laws.{IsAlone, EachIsAlone, TwoListsAreLike, CustomersNeverMeet, OthersStay, OwnStepIsOwn}
 use Rattle.njh_hub.specs.Outcome.{Outcome, entry_at}

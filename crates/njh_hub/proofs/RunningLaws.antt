@@ -18,12 +18,12 @@ use Rattle.njh_customer.specs.declared.signal.Signal.{Signal}
 use Rattle.njh_customer.specs.declared.signal.Signal.TheVariants as signal
 use Rattle.njh_customer.specs.NewRoutes.{routes_taken, taken_where}
 use Rattle.njh_customer.specs.Part.{bytes_taken, signal_taken}
-use Rattle.njh_hub.specs.Own.{line_of, event_by, first_bytes, first_of}
+use Rattle.njh_hub.specs.OwnEvents.{line_of, event_by, first_bytes, first_of}
 use Rattle.njh_hub.specs.declared.fault.Cause.{Cause}
 use Rattle.njh_hub.specs.declared.fault.Cause.TheVariants.{Hub, Sink}
 use Rattle.njh_hub.specs.declared.fault.RunFault.{RunFault}
-use Rattle.njh_hub.specs.Stops.{HandedUntil, IsWithinOne}
-use Rattle.njh_hub.specs.Whole.{Part, no_part, part, HasLine, IsNamed, sent_by, HubRun, hub_event, hub_run}
+use Rattle.njh_hub.specs.RunStops.{HandedUntil, IsWithinOne}
+use Rattle.njh_hub.specs.WholeHub.{Part, no_part, part, HasLine, IsNamed, sent_by, HubRun, hub_event, hub_run}
 use Rattle.njh_hub.specs.Sent.{IsCounted}
 use Rattle.njh_hub.proofs.PieceLaws.{after_bytes, after_bytes-none, after_bytes-step}
 

@@ -14,7 +14,7 @@ use Rattle.njh_hub.specs.Service.{Happening, Round, NewRoutes, happening_events,
 use Rattle.njh_hub.specs.Service.{IsPossible, ArePossible, service_events, service_quiets, service_rounds, service_turns, AreStill, IsGiven}
 use Rattle.std.specs.List.{flat_map}
 use Rattle.njh_hub.specs.Turns.{Turn, Placed, HadTurn, HadTurns, IsRound, placed, placed_acts, quiets_after, round_events}
-use Rattle.njh_hub.specs.Whole.{Part, HubRun, part, hub_run}
+use Rattle.njh_hub.specs.WholeHub.{Part, HubRun, part, hub_run}
 use Rattle.njh_hub.specs.Wires.{WireAct}
 use Rattle.njh_hub.proofs.RoundLaws.{had_more}
 use Rattle.njh_hub.proofs.RunningLaws.{hub_run-append, routes_done}

@@ -3,12 +3,12 @@ use Rattle.std.proofs.Common.{◌≡◌, ℕ, ◌<◌, ◌≤◌, List, [], ◌�
 use Rattle.std.specs.Prelude.{OnErr, IsSome}
 use Rattle.std.proofs.lemmas.Bool.{cases_lt}
 use Rattle.njh_table.specs.declared.LineId.{LineId}
-use Rattle.njh_hub.specs.declared.reading.Reading.{Reading}
-use Rattle.njh_hub.specs.declared.reading.Reading.TheVariants as reading
-use Rattle.njh_hub.specs.declared.reading.WireFault.{WireFault}
+use Rattle.njh_hub.specs.declared.wire_reading.Reading.{Reading}
+use Rattle.njh_hub.specs.declared.wire_reading.Reading.TheVariants as reading
+use Rattle.njh_hub.specs.declared.wire_reading.WireFault.{WireFault}
 use Rattle.njh_hub.specs.Sent.{IsCounted}
 use Rattle.njh_hub.specs.Turns.{IsTurn, IsHeard, event_of, written_where}
-use Rattle.njh_hub.specs.Whole.{Part}
+use Rattle.njh_hub.specs.WholeHub.{Part}
 use Rattle.njh_hub.specs.Wires.{Failed, heard_of, WireAct, answer_acts}
 use Rattle.njh_hub.proofs.RunningLaws.{counted_from}
 

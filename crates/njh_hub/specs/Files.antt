@@ -6,7 +6,7 @@ use Rattle.njh_header.specs.FileHeaders.{name_of, owner_of, destination_of}
 use Rattle.njh_spool.specs.CustomerSpool.{CustomerSpool, WholeFile}
 use Rattle.njh_spool.specs.declared.State.{State}
 use Rattle.njh_command.specs.Replies.{file_text}
-use Rattle.njh_hub.specs.Whole.{Part, part}
+use Rattle.njh_hub.specs.WholeHub.{Part, part}
 
 -- What its headers don't say, since one of them doesn't read, is None; the hub stores no such file.
 pub record FileView : Type 0 where

@@ -4,8 +4,8 @@ use Rattle.njh_table.specs.Entries.{CustomerEntry}
 use Rattle.njh_hub.specs.declared.event.Event.{Event}
 use Rattle.njh_customer.specs.Runs.{alone_run, event_run}
 use Rattle.njh_hub.specs.Outcome.{alone, entry_at, outcome_of}
-use Rattle.njh_hub.specs.Own.{customer_of, events_of, first_of, own, sent_to}
-use Rattle.njh_hub.specs.Whole.{Part, part, hub_event, hub_run}
+use Rattle.njh_hub.specs.OwnEvents.{customer_of, events_of, first_of, own, sent_to}
+use Rattle.njh_hub.specs.WholeHub.{Part, part, hub_event, hub_run}
 
 -- Events lead customer c's part of a hub, and what is sent on its lines, as its own events lead that part alone.
 pub record IsAlone (c : ℕ) (parts : List Part) (events : List Event) : Type 0 where

@@ -5,8 +5,8 @@ use Rattle.njh_table.specs.declared.LineId.{LineId}
 use Rattle.njh_customer.specs.Runs.{OwnEvent, alone_run}
 use Rattle.njh_hub.specs.declared.event.Event.{Event}
 use Rattle.njh_hub.specs.Files.{FileView, files_at, files_of}
-use Rattle.njh_hub.specs.Own.{sent_to}
-use Rattle.njh_hub.specs.Whole.{opened, no_entry, hub_run}
+use Rattle.njh_hub.specs.OwnEvents.{sent_to}
+use Rattle.njh_hub.specs.WholeHub.{opened, no_entry, hub_run}
 
 -- The frames on its lines, in order, each with its line; and its files, in order of arrival.
 pub record Outcome : Type 0 where

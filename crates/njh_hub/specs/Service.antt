@@ -6,10 +6,10 @@ use Rattle.njh_table.specs.declared.LineId.{LineId}
 use Rattle.njh_table.specs.declared.new_routes.RouteEntry.{RouteEntry}
 use Rattle.njh_hub.specs.declared.event.Event.{Event}
 use Rattle.njh_hub.specs.declared.event.Event.TheVariants.{Routes}
-use Rattle.njh_hub.specs.Own.{events_of}
+use Rattle.njh_hub.specs.OwnEvents.{events_of}
 use Rattle.njh_hub.specs.Turns.{Turn, Placed, HadTurns, placed, quiets_after, round_events}
 use Rattle.njh_hub.specs.WireLaws.{own_wires}
-use Rattle.njh_hub.specs.Whole.{Part, IsNamed, hub_run}
+use Rattle.njh_hub.specs.WholeHub.{Part, IsNamed, hub_run}
 use Rattle.njh_hub.specs.Wires.{WireAct}
 
 -- ---- what happens

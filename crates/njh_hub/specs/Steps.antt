@@ -5,7 +5,7 @@ use Rattle.njh_bisync.specs.declared.frame.TheConstants.{LONGEST_FRAME}
 use Rattle.njh_table.specs.declared.LineId.{LineId}
 use Rattle.njh_hub.specs.declared.fault.HubFault.{HubFault}
 use Rattle.njh_hub.specs.declared.fault.HubFault.TheVariants.{UnknownLine, Memory}
-use Rattle.njh_hub.specs.Whole.{Part, part, HasLine, SameLines}
+use Rattle.njh_hub.specs.WholeHub.{Part, part, HasLine, SameLines}
 
 -- A step on a line leads that line's customer to `after` and no other anywhere, and puts what it sent in the place of
 -- what `out` held; or it is refused, and nothing has changed.

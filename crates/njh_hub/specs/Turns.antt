@@ -7,7 +7,7 @@ use Rattle.njh_table.specs.declared.LineId.{LineId}
 use Rattle.njh_hub.specs.declared.event.Event.{Event}
 use Rattle.njh_hub.specs.declared.event.Event.TheVariants.{Bytes, Tick, Lost}
 use Rattle.njh_hub.specs.Sent.{IsCounted}
-use Rattle.njh_hub.specs.Whole.{Part, hub_run}
+use Rattle.njh_hub.specs.WholeHub.{Part, hub_run}
 use Rattle.njh_hub.specs.Wires.{Heard, Came, Quiet, Pending, Closed, Absent, Failed, WireAct, answer_acts, told}
 use Rattle.njh_hub.specs.Wires.{written, IsStop}
 

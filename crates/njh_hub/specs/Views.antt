@@ -8,7 +8,7 @@ use Rattle.njh_table.specs.declared.LineId.{LineId}
 use Rattle.njh_customer.specs.Customer.{CustomerLine, line_at}
 use Rattle.njh_hub.specs.declared.file_summary.FileSummaryView.{FileSummaryView}
 use Rattle.njh_hub.specs.declared.session_view.SessionView.{SessionView}
-use Rattle.njh_hub.specs.Whole.{Part, part, HasLine}
+use Rattle.njh_hub.specs.WholeHub.{Part, part, HasLine}
 
 -- a line of the hub
 abbrev pub hub_line : LineId → List Part → CustomerLine

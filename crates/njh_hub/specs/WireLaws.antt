@@ -2,7 +2,7 @@
 use Rattle.std.specs.Prelude.{◌≡◌, ℕ, ◌==◌, cond, List, [], ◌∷◌, map}
 use Rattle.njh_table.specs.declared.LineId.{LineId}
 use Rattle.njh_hub.specs.declared.event.Event.{Event}
-use Rattle.njh_hub.specs.Own.{events_of}
+use Rattle.njh_hub.specs.OwnEvents.{events_of}
 use Rattle.njh_hub.specs.Turns.{Turn, all_events, no_quiets}
 
 -- of a list with an entry for each wire, those of customer c's wires

@@ -5,12 +5,12 @@ use Rattle.njh_bisync.specs.declared.frame.TheConstants.{LONGEST_FRAME}
 use Rattle.njh_table.specs.declared.LineId.{LineId}
 use Rattle.njh_hub.specs.declared.event.Event.{Event}
 use Rattle.njh_hub.specs.declared.event.Event.TheVariants.{Bytes, Tick, Garbled, Lost, Routes}
-use Rattle.njh_hub.specs.declared.reading.Reading.{Reading}
-use Rattle.njh_hub.specs.declared.reading.Reading.TheVariants as reading
-use Rattle.njh_hub.specs.declared.reading.WireFault.{WireFault}
-use Rattle.njh_hub.specs.Own.{line_of, bytes_in_event}
+use Rattle.njh_hub.specs.declared.wire_reading.Reading.{Reading}
+use Rattle.njh_hub.specs.declared.wire_reading.Reading.TheVariants as reading
+use Rattle.njh_hub.specs.declared.wire_reading.WireFault.{WireFault}
+use Rattle.njh_hub.specs.OwnEvents.{line_of, bytes_in_event}
 use Rattle.njh_hub.specs.Sent.{IsCounted}
-use Rattle.njh_hub.specs.Whole.{Part, HubRun, SameLines, hub_run}
+use Rattle.njh_hub.specs.WholeHub.{Part, HubRun, SameLines, hub_run}
 
 -- ---- what a wire does
 

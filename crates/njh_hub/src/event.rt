@@ -2,7 +2,7 @@
 
 ghost use Rattle.std.specs.Prelude.{◌≡◌, ◌≤◌, ◌<◌, take, IfOk};
 
-use crate::route_list::RouteList;
+use crate::given_routes::RouteList;
 use njh_table::LineId;
 use std::alloc::{AllocError, Global};
 use std::marker::Model;

@@ -2,7 +2,7 @@
 
 ghost use Rattle.std.specs.Prelude.{◌≡◌, IfOk};
 ghost use Rattle.njh_hub.specs.Outcome.{alone, entry_at, AreEqual, IsOutcome};
-ghost use Rattle.njh_hub.specs.Own.{events_of};
+ghost use Rattle.njh_hub.specs.OwnEvents.{events_of};
 ghost use Rattle.njh_hub.specs.Parts.{entries_of};
 
 use crate::event::Event;

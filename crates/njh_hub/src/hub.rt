@@ -7,10 +7,10 @@ ghost use Rattle.njh_customer.specs.Part.{bytes_taken, signal_taken};
 ghost use Rattle.njh_spool.specs.CustomerSpool.{used};
 ghost use Rattle.njh_hub.specs.Files.{files_at};
 ghost use Rattle.njh_hub.specs.Steps.{IsStep};
-ghost use Rattle.njh_hub.specs.Whole.{part, HasLine};
+ghost use Rattle.njh_hub.specs.WholeHub.{part, HasLine};
 
 mod looking;
-mod retable;
+mod new_routes;
 
 use crate::fault::HubFault;
 use crate::file_view::{FileView, files_of};
@@ -37,7 +37,7 @@ pub struct Hub {
 
 impl Model for Hub {
     ghost use Rattle.std.specs.Prelude.{List};
-    ghost use Rattle.njh_hub.specs.Whole.{Part};
+    ghost use Rattle.njh_hub.specs.WholeHub.{Part};
     ghost use Rattle.njh_hub.specs.Parts.{parts_of, IsHub};
 
     ghost Value = { List Part };
@@ -49,7 +49,7 @@ impl Model for Hub {
 
 impl Hub {
     ghost use Rattle.std.specs.Prelude.{map};
-    ghost use Rattle.njh_hub.specs.Whole.{opened};
+    ghost use Rattle.njh_hub.specs.WholeHub.{opened};
     ghost use Rattle.njh_hub.specs.Parts.{entries_of};
 
     /// A hub of these tables, with all the room that its files and lines need. No line is up at first, whatever the

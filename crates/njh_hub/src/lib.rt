@@ -6,13 +6,12 @@ mod event;
 mod fault;
 mod file_summary;
 mod file_view;
+mod given_routes;
 mod headline;
 mod hub;
-mod law;
+mod laws;
 mod opening;
-mod reading;
 mod rounds;
-mod route_list;
 mod run;
 mod serve;
 mod service;
@@ -20,7 +19,8 @@ mod session_view;
 mod sink;
 mod turn;
 mod wire;
-mod wire_law;
+mod wire_laws;
+mod wire_reading;
 
 pub use attendant::{Attendant, NewRoutes};
 pub use event::{Event, Piece, SHORT_PIECE};
@@ -29,18 +29,18 @@ pub use file_summary::FileSummaryView;
 pub use file_view::{FileRecord, FileView};
 pub use headline::{outcome, two_runs};
 pub use hub::Hub;
-pub use law::{
+pub use laws::{
     customers_never_meet, each_is_alone, others_stay, own_step_is_own, sent_in_order,
     two_lists_are_like,
 };
 pub use njh_customer::{Signal, cuts_are_like};
-pub use reading::{Reading, WireFault};
+pub use wire_reading::{Reading, WireFault};
 pub use rounds::Rounds;
-pub use route_list::RouteList;
+pub use given_routes::RouteList;
 pub use serve::serve_turns;
 pub use service::attend;
 pub use session_view::SessionView;
 pub use sink::{Sink, SinkFault};
 pub use turn::{TurnRoom, wire_turn};
 pub use wire::Wire;
-pub use wire_law::{own_wires_and_routes_decide, own_wires_decide};
+pub use wire_laws::{own_wires_and_routes_decide, own_wires_decide};

@@ -2,7 +2,7 @@
 
 ghost use Rattle.std.specs.Prelude.{◌≡◌, ◌<◌, List, length, All, IfOk, OnErr, Err};
 ghost use Rattle.njh_hub.specs.Turns.{Turn, IsRound, no_quiets};
-ghost use Rattle.njh_hub.specs.Whole.{HasLine, SameLines};
+ghost use Rattle.njh_hub.specs.WholeHub.{HasLine, SameLines};
 
 use crate::attendant::Attendant;
 use crate::fault::HubFault;

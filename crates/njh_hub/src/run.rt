@@ -4,10 +4,10 @@ ghost use Rattle.std.specs.Prelude.{◌≡◌, ℕ, ◌+◌, ◌<◌, ◌≤◌,
 ghost use Rattle.std.specs.Prelude.{IfErr, IsSomeAnd, All};
 ghost use Rattle.njh_customer.specs.Feeding.{sent_on};
 ghost use Rattle.njh_customer.specs.Runs.{alone_run};
-ghost use Rattle.njh_hub.specs.Own.{events_of, event_by, sent_to, bytes_in_event};
+ghost use Rattle.njh_hub.specs.OwnEvents.{events_of, event_by, sent_to, bytes_in_event};
 ghost use Rattle.njh_hub.specs.Sent.{IsCounted};
-ghost use Rattle.njh_hub.specs.Stops.{done, Handed, IfHub, IsEventRun, IsRefused, IsRoutes};
-ghost use Rattle.njh_hub.specs.Whole.{part, IsNamed, SameLines, sent_by, hub_run};
+ghost use Rattle.njh_hub.specs.RunStops.{done, Handed, IfHub, IsEventRun, IsRefused, IsRoutes};
+ghost use Rattle.njh_hub.specs.WholeHub.{part, IsNamed, SameLines, sent_by, hub_run};
 ghost use Rattle.njh_hub.specs.declared.event.Event.TheVariants.{Bytes};
 
 use crate::event::Event;

@@ -2,7 +2,7 @@
 
 ghost use Rattle.std.specs.Prelude.{◌≡◌, length, OnOk, OnErr, Err, All};
 ghost use Rattle.njh_hub.specs.Turns.{IsServed, no_quiets};
-ghost use Rattle.njh_hub.specs.Whole.{HasLine, SameLines};
+ghost use Rattle.njh_hub.specs.WholeHub.{HasLine, SameLines};
 
 use crate::fault::HubFault;
 use crate::hub::Hub;

@@ -3,7 +3,7 @@
 ghost use Rattle.std.specs.Prelude.{◌≡◌, ℕ, List, length, Option, All};
 ghost use Rattle.njh_table.specs.declared.new_routes.RouteEntry.{RouteEntry};
 ghost use Rattle.njh_hub.specs.Service.{IsAttended, IsGiven};
-ghost use Rattle.njh_hub.specs.Whole.{HasLine, SameLines};
+ghost use Rattle.njh_hub.specs.WholeHub.{HasLine, SameLines};
 
 use crate::attendant::{Attendant, NewRoutes};
 use crate::hub::Hub;

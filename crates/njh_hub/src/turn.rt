@@ -4,15 +4,15 @@ ghost use Rattle.std.specs.Prelude.{◌≡◌, ℕ, ◌<◌, ◌≤◌, [], ◌�
 ghost use Rattle.std.specs.Vec.{vec_capacity};
 ghost use Rattle.njh_customer.specs.Part.{bytes_taken, signal_taken};
 ghost use Rattle.njh_hub.specs.declared.event.Event.TheVariants.{Bytes, Lost};
-ghost use Rattle.njh_hub.specs.Own.{event_by};
+ghost use Rattle.njh_hub.specs.OwnEvents.{event_by};
 ghost use Rattle.njh_hub.specs.Sent.{IsCounted};
 ghost use Rattle.njh_hub.specs.Turns.{Turn, IsTurn, IsHeard, event_of, quiet_after};
-ghost use Rattle.njh_hub.specs.Whole.{part, HasLine, SameLines, hub_run};
+ghost use Rattle.njh_hub.specs.WholeHub.{part, HasLine, SameLines, hub_run};
 ghost use Rattle.njh_hub.specs.Wires.{IsDone, Unsent, IsReading, heard_of, frame_acts, IsTaken};
 
 use crate::fault::HubFault;
 use crate::hub::Hub;
-use crate::reading::{Reading, WireFault};
+use crate::wire_reading::{Reading, WireFault};
 use crate::wire::Wire;
 use njh_bisync::LONGEST_FRAME;
 use njh_customer::{Signal, cuts_are_like, no_bytes_do_nothing, steps_follow_bytes};

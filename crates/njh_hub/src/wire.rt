@@ -4,7 +4,7 @@ ghost use Rattle.std.specs.Prelude.{◌≡◌, ℕ, ◌<◌, ◌≤◌, List, []
 ghost use Rattle.njh_hub.specs.Sent.{IsCounted};
 ghost use Rattle.njh_hub.specs.Wires.{Sent, Unsent, answer_acts, heard_of, IsReading};
 
-use crate::reading::{Reading, WireFault};
+use crate::wire_reading::{Reading, WireFault};
 
 /// A wire of a line: bytes come on it, and frames go out.
 ///

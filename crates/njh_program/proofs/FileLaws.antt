@@ -9,7 +9,7 @@ use Rattle.std.proofs.lemmas.Bool.{and_parts, cond_both}
 use Rattle.njh_ebcdic.specs.Characters.{character_of, shown, table}
 use Rattle.njh_hub.specs.declared.event.Event.{Event}
 use Rattle.njh_hub.specs.Files.{files_at, files_of}
-use Rattle.njh_hub.specs.Whole.{Part, hub_run}
+use Rattle.njh_hub.specs.WholeHub.{Part, hub_run}
 use Rattle.njh_program.specs.Printed.{files_from, files_text, text_of, AppendsBeginning, IsPrintedUpTo}
 use Rattle.njh_program.specs.Replayed.{text_by, SameParts}
 use Rattle.njh_program.proofs.PrintedParts.{beginning-after}

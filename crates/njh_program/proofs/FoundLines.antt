@@ -8,7 +8,7 @@ use Rattle.std.proofs.lemmas.List.Sums.{fails_before_first, position_or_len_is, 
 use Rattle.std.proofs.lemmas.List.Splits.{slice_split_none, slice_split_first}
 use Rattle.memchr.specs.Find.{IsFirstByte, is_byte}
 use Rattle.njh_program.specs.Script.{lines_of}
-use Rattle.njh_program.specs.Found.{line_len}
+use Rattle.njh_program.specs.code.FirstLines.{line_len}
 
 pub line_len_within : (text : List ℕ) → line_len text ≤ length text
 line_len_within text = prefix_len-le-length (λ b. not (b == 10)) text

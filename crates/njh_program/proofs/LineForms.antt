@@ -15,7 +15,7 @@ use Rattle.njh_table.specs.declared.LineId.{LineId}
 use Rattle.njh_table.specs.TableFile.{TableFile, owner_of, HasLine}
 use Rattle.njh_hub.specs.declared.event.Event.{Event}
 use Rattle.njh_hub.specs.declared.event.Event.TheVariants.{Bytes, Tick, Garbled, Lost, Routes}
-use Rattle.njh_hub.specs.Own.{line_of}
+use Rattle.njh_hub.specs.OwnEvents.{line_of}
 use Rattle.njh_program.specs.Script.{words_of, event_of_words, event_on_line, bytes_on, piece_of, some_bytes, signal_of}
 use Rattle.njh_program.specs.ScriptRoutes.{routes_event, IsNamedIn}
 use Rattle.njh_program.proofs.Parting.{parts-first, parts-none, parts-some, parts-whole}

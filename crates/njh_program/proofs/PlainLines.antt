@@ -13,7 +13,7 @@ use Rattle.hex.proofs.HexLemmas.{decode_of-ok}
 use Rattle.njh_table.specs.declared.LineId.{LineId}
 use Rattle.njh_table.specs.TableFile.{TableFile, owner_of}
 use Rattle.njh_hub.specs.declared.event.Event.TheVariants.{Bytes}
-use Rattle.njh_program.specs.Starts.{IsStart}
+use Rattle.njh_program.specs.code.LineStarts.{IsStart}
 use Rattle.njh_program.specs.Script.{words_of, event_of, event_of_words, event_on_line, bytes_on, piece_of, some_bytes}
 use Rattle.njh_program.proofs.LineForms.{is_blank, digits_event}
 

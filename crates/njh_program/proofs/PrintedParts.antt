@@ -5,7 +5,7 @@ use Rattle.std.proofs.KnownBytes.{Appends-kept, Appends-nil, Appends-trans}
 use Rattle.njh_table.specs.declared.LineId.{LineId}
 use Rattle.hex.specs.Hex.{encode_lower}
 use Rattle.njh_program.specs.Printed.{frame_text, pair_text, text_of, AppendsBeginning, IsPrinted, IsPrintedInPart}
-use Rattle.njh_program.specs.PrintedLaws.{text_of-append}
+use Rattle.njh_program.specs.code.PrintedLaws.{text_of-append}
 
 -- nothing, or all, is a beginning
 pub beginning-none : (known : Option (List ℕ)) (whole : List ℕ) → AppendsBeginning known known whole

@@ -17,16 +17,16 @@ use Rattle.njh_hub.specs.declared.fault.Cause.{Cause}
 use Rattle.njh_hub.specs.declared.fault.Cause.TheVariants as cause
 use Rattle.njh_hub.specs.declared.fault.HubFault.{HubFault}
 use Rattle.njh_hub.specs.declared.fault.HubFault.TheVariants.{UnknownLine, UnknownCustomer, Memory, BadRoutes}
-use Rattle.njh_hub.specs.Own.{first_of}
+use Rattle.njh_hub.specs.OwnEvents.{first_of}
 use Rattle.njh_hub.specs.Parts.{entries_of}
-use Rattle.njh_hub.specs.Whole.{Part, opened}
+use Rattle.njh_hub.specs.WholeHub.{Part, opened}
 use Rattle.njh_hub.specs.Laws.{Begins}
-use Rattle.njh_hub.specs.Stops.{HandedUntil, IfHub, IsRefused, IsRoutes}
-use Rattle.njh_hub.specs.Whole as hub
-use Rattle.njh_program.specs.Names.{customers_of, names_of}
+use Rattle.njh_hub.specs.RunStops.{HandedUntil, IfHub, IsRefused, IsRoutes}
+use Rattle.njh_hub.specs.WholeHub as hub
+use Rattle.njh_program.specs.LineNames.{customers_of, names_of}
 use Rattle.njh_program.specs.declared.fault.ReplayFault.TheVariants.{Hub}
 use Rattle.njh_program.specs.Printed.{text_of, AppendsBeginning, IsPrinted}
-use Rattle.njh_program.specs.PrintedLaws.{text_of-append}
+use Rattle.njh_program.specs.code.PrintedLaws.{text_of-append}
 use Rattle.njh_program.specs.Replayed.{MayEnd, fault_after, text_by, text_with, IsSentUpTo}
 use Rattle.njh_program.specs.ScriptRoutes.{IsNamedIn}
 

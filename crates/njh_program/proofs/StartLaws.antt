@@ -10,7 +10,7 @@ use Rattle.std.proofs.Math.Seq.{take-append_seam}
 use Rattle.memchr.specs.Find.{IsFirstByte, is_byte}
 use Rattle.njh_table.specs.declared.LineId.{LineId}
 use Rattle.njh_table.specs.TableFile.{TableFile, owner_of, HasLine}
-use Rattle.njh_program.specs.Starts.{IsStart}
+use Rattle.njh_program.specs.code.LineStarts.{IsStart}
 use Rattle.njh_program.proofs.LineForms.{is_blank}
 
 -- the first word of what stands behind a blank, and that it is there

@@ -1,12 +1,10 @@
 pub mod Arguments
-pub mod Names
+pub mod LineNames
 pub mod Outcome
 pub mod Printed
-pub mod PrintedLaws
 pub mod Replayed
 pub mod Script
 pub mod ScriptRoutes
-pub mod Found
-pub mod Starts
 pub mod Status
 pub mod TableBytes
+pub mod code

@@ -7,8 +7,8 @@ use Rattle.njh_table.specs.declared.LineId.{LineId}
 use Rattle.njh_ebcdic.specs.Characters.{shown_text}
 use Rattle.njh_ebcdic.specs.Names.{trimmed}
 use Rattle.njh_hub.specs.Files.{FileView, files_at, line_of}
-use Rattle.njh_hub.specs.Whole.{Part}
-use Rattle.njh_program.specs.Names.{name_at}
+use Rattle.njh_hub.specs.WholeHub.{Part}
+use Rattle.njh_program.specs.LineNames.{name_at}
 
 -- a frame: the name of its line, a blank, its bytes in lower-case hex, and the end of the line
 abbrev pub frame_text : List ℕ → List ℕ → List ℕ

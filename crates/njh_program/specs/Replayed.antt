@@ -4,8 +4,8 @@ use Rattle.std.specs.Prelude.{Err, ⊤}
 use Rattle.std.specs.Io.KnownBytes.{Appends}
 use Rattle.njh_table.specs.TableFile.{TableFile}
 use Rattle.njh_hub.specs.Parts.{entries_of}
-use Rattle.njh_hub.specs.Stops.{IsRoutes}
-use Rattle.njh_hub.specs.Whole.{Part, opened, part, hub_run}
+use Rattle.njh_hub.specs.RunStops.{IsRoutes}
+use Rattle.njh_hub.specs.WholeHub.{Part, opened, part, hub_run}
 use Rattle.njh_hub.specs.declared.event.Event.{Event}
 use Rattle.njh_hub.specs.declared.fault.Cause.{Cause}
 use Rattle.njh_hub.specs.declared.fault.Cause.TheVariants as cause
@@ -13,7 +13,7 @@ use Rattle.njh_program.specs.declared.fault.ReplayFault.{ReplayFault}
 use Rattle.njh_program.specs.declared.fault.ReplayFault.TheVariants.{TooLong, Script, Device, Hub}
 use Rattle.njh_program.specs.declared.script.TheConstants.{LIMIT}
 use Rattle.njh_hub.specs.declared.fault.HubFault.TheVariants.{Memory}
-use Rattle.njh_program.specs.Names.{customers_of, names_of}
+use Rattle.njh_program.specs.LineNames.{customers_of, names_of}
 use Rattle.njh_program.specs.Printed.{files_from, text_of, AppendsBeginning, IsPrintedUpTo}
 use Rattle.njh_program.specs.Script.{script_of}
 

@@ -4,7 +4,7 @@ ghost use Rattle.std.specs.Prelude.{◌≡◌, ◌+◌, ◌<◌, ◌≤◌, ◌+
 ghost use Rattle.std.specs.Io.KnownBytes.{Appends, Keeps};
 ghost use Rattle.njh_ebcdic.specs.Characters.{shown_text};
 ghost use Rattle.njh_hub.specs.Files.{files_at};
-ghost use Rattle.njh_program.specs.Names.{customers_of};
+ghost use Rattle.njh_program.specs.LineNames.{customers_of};
 ghost use Rattle.njh_program.specs.Printed.{file_text, files_from, files_text, AppendsBeginning, IsPrintedUpTo};
 ghost use Rattle.njh_program.specs.Replayed.{IsRefusal, MayEnd};
 

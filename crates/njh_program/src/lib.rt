@@ -3,23 +3,23 @@
 #![tactic(auto)]
 
 mod arguments;
-mod cutting;
 mod failure;
 mod fault;
 mod files;
 mod input;
 mod line;
-mod names;
+mod line_names;
+mod line_starts;
 mod print;
 mod printer;
 mod program;
 mod replaying;
 mod script;
+mod script_lines;
 mod script_routes;
 mod serve_options;
 mod service;
 mod standard_error;
-mod start;
 mod table_file;
 mod table_source;
 

@@ -2,14 +2,14 @@
 
 ghost use Rattle.std.specs.Prelude.{◌≡◌, ◌∷◌, Some, IfOk, IfSome};
 ghost use Rattle.njh_table.specs.TableFile.{owner_of};
-ghost use Rattle.njh_hub.specs.Own.{line_of};
+ghost use Rattle.njh_hub.specs.OwnEvents.{line_of};
 ghost use Rattle.njh_program.specs.Script.{bytes_on, event_of, event_of_words, event_on_line, piece_of, signal_of};
 ghost use Rattle.njh_program.specs.Script.{words_of};
 ghost use Rattle.njh_program.specs.ScriptRoutes.{IsNamedIn};
-ghost use Rattle.njh_program.specs.Starts.{Begins, IsStart};
+ghost use Rattle.njh_program.specs.code.LineStarts.{Begins, IsStart};
 
 use crate::script_routes::routes_event;
-use crate::start::Start;
+use crate::line_starts::Start;
 use hex::FromHexError;
 use njh_hub::{Event, Piece, SHORT_PIECE};
 use njh_table::{LineId, Tables};

@@ -3,9 +3,9 @@
 ghost use Rattle.std.specs.Prelude.{◌≡◌, [], ◌∷◌, refl};
 ghost use Rattle.std.specs.Bool.{OnTrue, OnFalse};
 ghost use Rattle.njh_program.specs.Printed.{IsPrinted, IsPrintedInPart};
-ghost use Rattle.njh_program.specs.PrintedLaws.{IsPrinted-none, IsPrinted-more, same_then};
+ghost use Rattle.njh_program.specs.code.PrintedLaws.{IsPrinted-none, IsPrinted-more, same_then};
 
-use crate::names::LineNames;
+use crate::line_names::LineNames;
 use crate::print::{FrameRoom, print_frame};
 use njh_hub::{Sink, SinkFault};
 use njh_table::LineId;

@@ -2,7 +2,7 @@
 
 ghost use Rattle.std.specs.Prelude.{◌≡◌, ◌≤◌, ◌⊎◌, ℕ, length, map, All, IfOk, IfErr, OnOk, OnErr};
 ghost use Rattle.std.specs.Io.KnownBytes.{Appends, Keeps};
-ghost use Rattle.njh_program.specs.Names.{customers_of, names_of};
+ghost use Rattle.njh_program.specs.LineNames.{customers_of, names_of};
 ghost use Rattle.njh_program.specs.Printed.{text_of, AppendsBeginning, IsPrintedUpTo};
 ghost use Rattle.njh_program.specs.Replayed.{fault_after, text_by, text_of_run, text_with, HasScript, HasTooLong};
 ghost use Rattle.njh_program.specs.Replayed.{HasBadLine};
@@ -10,12 +10,12 @@ ghost use Rattle.njh_program.specs.Replayed.{IsBegun, IsReplayed, IsReplayedToRo
 ghost use Rattle.njh_program.specs.Replayed.{IsSentUpTo, MayEnd, SameParts};
 ghost use Rattle.njh_program.specs.ScriptRoutes.{IsNamedIn};
 ghost use Rattle.njh_hub.specs.Parts.{entries_of};
-ghost use Rattle.njh_hub.specs.Whole.{hub_run, opened, IsNamed};
+ghost use Rattle.njh_hub.specs.WholeHub.{hub_run, opened, IsNamed};
 
 use crate::fault::ReplayFault;
 use crate::files::{customer_names, print_files};
 use crate::input::read_text;
-use crate::names::LineNames;
+use crate::line_names::LineNames;
 use crate::print::FrameRoom;
 use crate::printer::Printer;
 use crate::script::{LIMIT, events_of};

@@ -4,12 +4,12 @@ ghost use Rattle.std.specs.Prelude.{◌≡◌, ℕ, ◌≤◌, ◌⊎◌, ◌++�
 ghost use Rattle.std.specs.List.{cons_option};
 ghost use Rattle.njh_program.specs.Script.{can_stand, event_in, is_skipped, script_of};
 ghost use Rattle.njh_program.specs.ScriptRoutes.{IsNamedIn};
-ghost use Rattle.njh_program.specs.Starts.{Begins, IsStart};
+ghost use Rattle.njh_program.specs.code.LineStarts.{Begins, IsStart};
 
-use crate::cutting::first_line;
+use crate::script_lines::first_line;
 use crate::fault::ReplayFault;
 use crate::line::event_of;
-use crate::start::{Start, start_of};
+use crate::line_starts::{Start, start_of};
 use njh_hub::{Event, HubFault};
 use njh_table::Tables;
 use std::alloc::{AllocError, Global};

@@ -2,7 +2,7 @@
 
 ghost use Rattle.std.specs.Prelude.{◌≡◌, ◌<◌, ◌==◌, ◌∷◌, length, option_map, position, bytes_eq, IfOk, IfSome};
 ghost use Rattle.std.specs.List.{slice_split};
-ghost use Rattle.njh_program.specs.Found.{parts_behind};
+ghost use Rattle.njh_program.specs.code.FirstLines.{parts_behind};
 ghost use Rattle.njh_program.specs.Script.{words_of};
 ghost use Rattle.njh_program.specs.ScriptRoutes.{customer_named, parts_of, routes_for, route_of_pair, route_by};
 ghost use Rattle.njh_program.specs.ScriptRoutes.{route_by_lines};

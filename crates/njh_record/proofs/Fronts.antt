@@ -8,7 +8,7 @@ use Rattle.njh_record.specs.declared.End.{End}
 use Rattle.njh_record.specs.declared.End.TheVariants.{Record, Abort}
 use Rattle.njh_record.specs.Spelling.{Item, blanks, repeat, literal, IsItem, item_bytes, end_byte}
 use Rattle.njh_record.specs.Unspelled.{Front, OfItem, OfEnd, Bad, Cut, repeat_front, literal_front, front_of}
-use Rattle.njh_record.specs.Parts.{IsCounted, IsCutItem, StandsFirst}
+use Rattle.njh_record.specs.code.Parts.{IsCounted, IsCutItem, StandsFirst}
 
 -- ---- what the function gives stands there
 

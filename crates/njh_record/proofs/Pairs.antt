@@ -8,7 +8,7 @@ use Rattle.std.proofs.lemmas.List.{get_or-drop, get_or-take, length-drop}
 use Rattle.std.proofs.lemmas.List.Sums.{prefix_len-le-length, prefix_len_passes}
 use Rattle.std.proofs.lemmas.Simd.{get_or-zip2, leading_from_mask_l, length-zip2, mask_l-mod, tops_compared, trailing_mask_l}
 use Rattle.std.specs.Int.Count.{count_trailing_zeros}
-use Rattle.njh_record.specs.Written.{AreApart}
+use Rattle.njh_record.specs.code.Written.{AreApart}
 
 -- which of the first 16 bytes equal the next
 abbrev pub pairs_of : List ℕ → List Bool

@@ -8,7 +8,7 @@ use Rattle.njh_record.specs.declared.End.{End}
 use Rattle.njh_record.specs.Spelling.{Item, IsItem, item_bytes, added, end_byte, Spelling}
 use Rattle.njh_record.specs.Unspelled.{Front, OfItem, OfEnd, Bad, Cut, Fault, BadScb, Truncated, Unspelled, with_front}
 use Rattle.njh_record.specs.Unspelled.{unspelled, ReadsAs}
-use Rattle.njh_record.specs.Parts.{StandsFirst}
+use Rattle.njh_record.specs.code.Parts.{StandsFirst}
 use Rattle.njh_record.proofs.Fronts.{cut_item, front_leaves_less, IsCounted-item}
 use Rattle.njh_record.proofs.ReadingLaws.{read_on, by_steps, unspelled-first}
 

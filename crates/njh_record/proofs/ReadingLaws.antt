@@ -9,7 +9,7 @@ use Rattle.njh_record.specs.Spelling.{Item, blanks, IsItem, item_bytes, added, e
 use Rattle.njh_record.specs.Reading.{HasBadScb, IsTruncated}
 use Rattle.njh_record.specs.Unspelled.{Front, OfItem, OfEnd, Bad, Cut, front_of, Fault, BadScb, Truncated, Unspelled, with_front}
 use Rattle.njh_record.specs.Unspelled.{unspelled_within, unspelled, ReadsAs}
-use Rattle.njh_record.specs.Parts.{IsCutItem, StandsFirst}
+use Rattle.njh_record.specs.code.Parts.{IsCutItem, StandsFirst}
 use Rattle.njh_record.proofs.Fronts.{front-stands, front_only, some_item, front_leaves_less, IsItem-counted}
 
 -- ---- a step

@@ -6,7 +6,7 @@ use Rattle.std.proofs.lemmas.List.{take-take, take_all, append-nil, take_more, d
 use Rattle.std.proofs.lemmas.List.Sums.{prefix_len-le-length, prefix_len_passes}
 use Rattle.std.specs.List.{prefix_len}
 use Rattle.njh_record.specs.Writing.{first_of, run_of, is_run, begins_run, before_run}
-use Rattle.njh_record.specs.Written.{AreApart, NoRunBefore}
+use Rattle.njh_record.specs.code.Written.{AreApart, NoRunBefore}
 
 -- ---- runs
 

@@ -6,7 +6,7 @@ use Rattle.njh_record.specs.declared.RecordFault.TheVariants as faults
 use Rattle.njh_record.specs.Spelling.{Item, added}
 use Rattle.njh_record.specs.Unspelled.{Unspelled, Fault, OfItem, OfEnd, Bad, Cut, with_front, unspelled}
 use Rattle.njh_record.specs.Skipped.{behind}
-use Rattle.njh_record.specs.Parts.{StandsFirst, Leads}
+use Rattle.njh_record.specs.code.Parts.{StandsFirst, Leads}
 use Rattle.njh_record.proofs.ReadingLaws.{unspelled-first}
 
 behind-with_front : (front : List ℕ) (read : Result Unspelled Fault) → behind (with_front front read) ≡ behind read

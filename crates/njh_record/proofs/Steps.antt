@@ -10,7 +10,7 @@ use Rattle.njh_record.specs.declared.RecordFault.TheVariants as faults
 use Rattle.njh_record.specs.Spelling.{Item, added, end_byte}
 use Rattle.njh_record.specs.Reading.{Begins, Unspells}
 use Rattle.njh_record.specs.Unspelled.{OfItem, OfEnd, BadScb, Truncated, with_front, ReadsAs}
-use Rattle.njh_record.specs.Parts.{StandsFirst, Leads, Takes, Holds, HasRead}
+use Rattle.njh_record.specs.code.Parts.{StandsFirst, Leads, Takes, Holds, HasRead}
 use Rattle.njh_record.proofs.Fronts.{front_leaves_less}
 use Rattle.njh_record.proofs.ReadingLaws.{AreBytes-left, item_reads, bad_reads, truncated_at, Spelling-end}
 use Rattle.njh_record.proofs.ReadBack.{with_front-with_front, with_front-nil}

@@ -8,7 +8,7 @@ use Rattle.njh_record.specs.declared.End.TheVariants.{Record}
 use Rattle.njh_record.specs.Spelling.{Item, blanks, repeat, literal, IsItem, item_bytes, added, Spelling}
 use Rattle.njh_record.specs.Writing.{first_of, run_of, is_run, begins_run, before_run, run_item, first_item, after_first, items_past}
 use Rattle.njh_record.specs.Writing.{spelling_of}
-use Rattle.njh_record.specs.Written.{SpellsFront}
+use Rattle.njh_record.specs.code.Written.{SpellsFront}
 use Rattle.njh_record.proofs.ReadingLaws.{Spelling-item, Spelling-end}
 use Rattle.njh_record.proofs.Runs.{is_run-two, is_run-three, run_of-short, run_of-within, take-run_of, before_run-past}
 use Rattle.njh_record.proofs.Runs.{stands_before}

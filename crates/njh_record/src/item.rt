@@ -2,7 +2,7 @@
 
 ghost use Rattle.std.specs.Prelude.{◌≡◌, ◌+◌, ◌≤◌, ◌++◌, length, replicate};
 ghost use Rattle.njh_record.specs.Spelling.{added, item_bytes, IsItem};
-ghost use Rattle.njh_record.specs.Parts.{item_of, IsCounted, Takes};
+ghost use Rattle.njh_record.specs.code.Parts.{item_of, IsCounted, Takes};
 
 use crate::Record;
 use crate::scb::{BLANK, BLANKS, LITERAL, LONGEST_RUN, REPEAT};

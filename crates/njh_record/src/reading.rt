@@ -1,7 +1,7 @@
 //! Reading: from a spelling to the record that it spells.
 
 ghost use Rattle.std.specs.Prelude.{◌≡◌, [], option_map};
-ghost use Rattle.njh_record.specs.Parts.{Leads, kept_by};
+ghost use Rattle.njh_record.specs.code.Parts.{Leads, kept_by};
 ghost use Rattle.njh_record.specs.Reading.{Unspells};
 ghost use Rattle.njh_record.specs.Unspelled.{unspelled};
 ghost use Rattle.njh_record.specs.Skipped.{behind};

@@ -2,10 +2,10 @@
 
 ghost use Rattle.std.specs.Prelude.{◌≡◌, ◌+◌, ◌≤◌, ◌<◌, ◌++◌, ◌==◌, false, length, take, min};
 ghost use Rattle.std.specs.List.{prefix_len};
-ghost use Rattle.njh_record.specs.Parts.{item_of};
+ghost use Rattle.njh_record.specs.code.Parts.{item_of};
 ghost use Rattle.njh_record.specs.Spelling.{added, item_bytes};
 ghost use Rattle.njh_record.specs.Writing.{run_of, begins_run, before_run, run_item, first_item, spelling_of};
-ghost use Rattle.njh_record.specs.Written.{AreApart, NoRunBefore, SpellsFront};
+ghost use Rattle.njh_record.specs.code.Written.{AreApart, NoRunBefore, SpellsFront};
 
 use crate::item::Item;
 use crate::scb::{BLANK, END_OF_RECORD, LONGEST_LITERAL, LONGEST_RUN};

@@ -2,4 +2,4 @@ pub mod Tight
 pub mod NextBlock
 pub mod Laws
 pub mod Carrying
-pub mod FileCursor
+pub mod code

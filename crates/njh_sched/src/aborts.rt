@@ -4,7 +4,7 @@ ghost use Rattle.std.specs.Prelude.{◌≡◌, Bool};
 ghost use Rattle.njh_spool.specs.CustomerSpool.{CustomerSpool, WholeFile};
 ghost use Rattle.njh_sched.specs.NextBlock.{StreamAbort, aborts, after_source, after_sources, filling, filling_where};
 
-use crate::adding::{PLAIN, add_where_room};
+use crate::record_room::{PLAIN, add_where_room};
 use crate::outgoing::Outgoing;
 use njh_block::{BlockWriter, Out, Stream};
 use njh_stream::Sender;

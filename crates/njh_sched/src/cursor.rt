@@ -6,8 +6,8 @@ ghost use Rattle.njh_spool.specs.Spools.{part};
 ghost use Rattle.njh_stream.specs.Sending.{destination_goes_by, node_goes_by};
 ghost use Rattle.njh_table.specs.TableFile.{entry_of};
 ghost use Rattle.njh_sched.specs.NextBlock.{is_ready, oldest, same_kind};
-ghost use Rattle.njh_sched.specs.FileCursor.{GoesOn, HasPassed, IsOver, files_of, first_file, goes_of, index_of};
-ghost use Rattle.njh_sched.specs.FileCursor.{is_known_to_go, moved, other};
+ghost use Rattle.njh_sched.specs.code.FileCursor.{GoesOn, HasPassed, IsOver, files_of, first_file, goes_of, index_of};
+ghost use Rattle.njh_sched.specs.code.FileCursor.{is_known_to_go, moved, other};
 
 use crate::files::{Elsewhere, goes_there, is_among, is_ready, other, pass_where, same_kind};
 use njh_header::Destination;
@@ -33,7 +33,7 @@ impl<'a> Model for Cursor<'a> {
     ghost use Rattle.std.specs.List.{list_any};
     ghost use Rattle.njh_stream.specs.Sending.{node_goes_by};
     ghost use Rattle.njh_table.specs.TableFile.{entry_of};
-    ghost use Rattle.njh_sched.specs.FileCursor.{FileCursor};
+    ghost use Rattle.njh_sched.specs.code.FileCursor.{FileCursor};
 
     ghost Value = { FileCursor };
 

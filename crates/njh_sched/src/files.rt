@@ -8,7 +8,7 @@ ghost use Rattle.njh_spool.specs.Spools.{part};
 ghost use Rattle.njh_stream.specs.Sending.{node_goes_by};
 ghost use Rattle.njh_table.specs.TableFile.{entry_of};
 ghost use Rattle.njh_sched.specs.NextBlock.{is_ready, same_kind};
-ghost use Rattle.njh_sched.specs.FileCursor.{other, passed_where};
+ghost use Rattle.njh_sched.specs.code.FileCursor.{other, passed_where};
 
 use arrayvec::ArrayVec;
 use njh_record::Kind;

@@ -3,16 +3,16 @@
 #![tactic(auto)]
 
 mod aborts;
-mod adding;
 mod cursor;
 mod files;
 mod filling;
 mod laws;
 mod outgoing;
 mod queues;
+mod record_room;
 mod records;
 mod requests;
-mod tight;
+mod waiting_peers;
 
 pub use filling::fill;
 pub use laws::{
@@ -20,4 +20,4 @@ pub use laws::{
     sources_move_streams_so,
 };
 pub use outgoing::Outgoing;
-pub use tight::own_fcs;
+pub use waiting_peers::own_fcs;

@@ -7,7 +7,7 @@ ghost use Rattle.njh_sched.specs.NextBlock.{waiting_messages};
 ghost use Rattle.njh_sched.specs.NextBlock.{without_answer, message_gone_where, after_source, after_sources, filling};
 ghost use Rattle.njh_sched.specs.NextBlock.{filling_where};
 
-use crate::adding::{PLAIN, add_where_room};
+use crate::record_room::{PLAIN, add_where_room};
 use crate::outgoing::Outgoing;
 use njh_block::{Answer, BlockWriter, Out, Rcb};
 

@@ -7,7 +7,7 @@ ghost use Rattle.njh_stream.specs.Sending.{next_of};
 ghost use Rattle.njh_sched.specs.NextBlock.{turns, may_send, next_served, room_of, sender_at, serving};
 ghost use Rattle.njh_sched.specs.NextBlock.{after_candidate, after_sources, filling, filling_where};
 
-use crate::adding::{PLAIN, add_where_room};
+use crate::record_room::{PLAIN, add_where_room};
 use crate::outgoing::Outgoing;
 use njh_block::{BlockWriter, Out, Stream};
 use njh_record::Record;

@@ -7,9 +7,9 @@ ghost use Rattle.njh_stream.specs.Sending.{goes_by};
 ghost use Rattle.njh_table.specs.TableFile.{entry_of};
 ghost use Rattle.njh_sched.specs.NextBlock.{StreamRequest, after_candidate, after_source, after_sources, asking};
 ghost use Rattle.njh_sched.specs.NextBlock.{filling, filling_where, may_ask, requests};
-ghost use Rattle.njh_sched.specs.FileCursor.{GoesOn, IsOver, files_of, goes_of};
+ghost use Rattle.njh_sched.specs.code.FileCursor.{GoesOn, IsOver, files_of, goes_of};
 
-use crate::adding::add_where_room;
+use crate::record_room::add_where_room;
 use crate::cursor::Cursor;
 use crate::outgoing::Outgoing;
 use njh_block::{BlockWriter, ControlRcb, Out, Stream};

@@ -8,8 +8,8 @@ use Rattle.std.proofs.lemmas.List.Elements.{filter_map-append, All-map}
 use Rattle.njh_table.specs.declared.LineId.{LineId}
 use Rattle.njh_table.specs.TableFile.{TableFile, NamedLine, no_customer, customer_at, entry_of, HasLine}
 use Rattle.njh_hub.specs.Parts.{entries_of}
-use Rattle.njh_hub.specs.Whole.{Part, opened}
-use Rattle.njh_hub.specs.Whole as hub
+use Rattle.njh_hub.specs.WholeHub.{Part, opened}
+use Rattle.njh_hub.specs.WholeHub as hub
 use Rattle.njh_serve.specs.declared.endpoints.Endpoint.{Endpoint}
 
 get_or-map_default : {X Y : Type 0} (f : X → Y) (xs : List X) (k : ℕ) (d : X) → get_or (map f xs) k (f d) ≡ f (get_or xs k d)

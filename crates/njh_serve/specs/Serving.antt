@@ -5,7 +5,7 @@ use Rattle.njh_table.specs.TableFile.{TableFile}
 use Rattle.njh_hub.specs.Service.{Happening, ArePossible, IsAttended, service_rounds}
 use Rattle.njh_hub.specs.Parts.{entries_of}
 use Rattle.njh_hub.specs.Turns.{no_quiets}
-use Rattle.njh_hub.specs.Whole.{Part, opened}
+use Rattle.njh_hub.specs.WholeHub.{Part, opened}
 use Rattle.njh_hub.specs.Wires.{WireAct}
 use Rattle.njh_serve.specs.Endpoints.{endpoints_of, lines_of}
 use Rattle.njh_serve.specs.Opened.{IsApart}

@@ -3,7 +3,7 @@
 ghost use Rattle.std.specs.Prelude.{◌≡◌, length, map, All, IfOk, OnErr, Err};
 ghost use Rattle.njh_hub.specs.Parts.{entries_of};
 ghost use Rattle.njh_hub.specs.Turns.{no_quiets};
-ghost use Rattle.njh_hub.specs.Whole.{opened};
+ghost use Rattle.njh_hub.specs.WholeHub.{opened};
 ghost use Rattle.njh_table.specs.TableFile.{HasLine};
 ghost use Rattle.njh_serve.specs.Endpoints.{lines_of};
 ghost use Rattle.njh_serve.specs.Serving.{HasServed, turn_count};
@@ -25,7 +25,7 @@ pub struct Service<W: Drop, A: Drop> {
 
 impl<W: Drop, A: Drop> Model for Service<W, A> {
     ghost use Rattle.std.specs.Prelude.{◌≡◌, length, All};
-    ghost use Rattle.njh_hub.specs.Whole.{HasLine as HubHasLine};
+    ghost use Rattle.njh_hub.specs.WholeHub.{HasLine as HubHasLine};
     ghost use Rattle.njh_serve.specs.Serving.{Served};
 
     ghost Value = { Served W };

@@ -1,7 +1,7 @@
 //! What the streams of a line were about when it was last looked at.
 
 ghost use Rattle.std.specs.Prelude.{◌≡◌, ◌<◌, ◌↔◌, length, IsTrue, IfSome};
-ghost use Rattle.njh_service.specs.Streams.{first_gone, is_gone, near_after};
+ghost use Rattle.njh_service.specs.code.Streams.{first_gone, is_gone, near_after};
 
 use crate::entry::FileLine;
 use njh_spool::FileId;

@@ -14,7 +14,7 @@ use Rattle.njh_spool.specs.declared.customer_files.CustomerFiles.{CustomerFiles}
 use Rattle.njh_spool.specs.CustomerSpool.{CustomerSpool, WholeFile, PartialFile, used, has_file_room, has_block, is_number, next_number}
 use Rattle.njh_spool.specs.CustomerSpool.{begun}
 use Rattle.njh_spool.specs.Spools.{begin_fault, fault_unless}
-use Rattle.njh_spool.specs.Slots.{Content, is_partial, is_whole, is_free, whole_file, partial_file, spool_of, IsOwn}
+use Rattle.njh_spool.specs.code.Slots.{Content, is_partial, is_whole, is_free, whole_file, partial_file, spool_of, IsOwn}
 use Rattle.njh_spool.proofs.OnlyOne.{list_any-from_count, count_by_none}
 use Rattle.njh_spool.proofs.NumberLaws.{least_from_is, next_number-below, next_number-free}
 use Rattle.njh_spool.proofs.BegunLaws.{used-begun, sound_begun}

@@ -8,13 +8,13 @@ use Rattle.njh_spool.specs.declared.file_slot.Stage.{Stage}
 use Rattle.njh_spool.specs.declared.file_slot.Stage.TheVariants.{Free, Partial, Whole}
 use Rattle.njh_spool.specs.declared.file_slot.FileSlot.{FileSlot}
 use Rattle.njh_spool.specs.declared.customer_files.CustomerFiles.{CustomerFiles}
-use Rattle.njh_spool.specs.Chains.{Chain, StoreValue, empty_chain, chain_at, with_chain, blocks_of, blocks_used}
+use Rattle.njh_spool.specs.code.Chains.{Chain, StoreValue, empty_chain, chain_at, with_chain, blocks_of, blocks_used}
 use Rattle.njh_spool.specs.CustomerSpool.{CustomerSpool, WholeFile, cost, used, stored_size, partial_numbered}
 use Rattle.njh_spool.specs.CustomerSpool.{whole_numbered, abandoned, finished, removed, on_file}
 use Rattle.njh_spool.specs.Spools.{part, append_fault, records_numbered}
-use Rattle.njh_spool.specs.Packing.{packed_record}
-use Rattle.njh_spool.specs.Slots.{Content, contents, slot_of, chain_of, is_free, is_partial, is_whole}
-use Rattle.njh_spool.specs.Slots.{whole_file, partial_file, spools_of, IsKept}
+use Rattle.njh_spool.specs.code.Packing.{packed_record}
+use Rattle.njh_spool.specs.code.Slots.{Content, contents, slot_of, chain_of, is_free, is_partial, is_whole}
+use Rattle.njh_spool.specs.code.Slots.{whole_file, partial_file, spools_of, IsKept}
 use Rattle.njh_spool.proofs.CostLaws.{cost_push}
 use Rattle.njh_spool.proofs.IndexLaws.{at_is, small_used}
 use Rattle.njh_spool.proofs.KeptLaws.{own_of, HasOwn, has_own, stays, used_all}

@@ -14,14 +14,14 @@ use Rattle.njh_spool.specs.declared.file_slot.Stage.TheVariants.{Partial, Whole}
 use Rattle.njh_spool.specs.declared.file_slot.FileSlot.{FileSlot}
 use Rattle.njh_spool.specs.declared.file_slot.KeptPlaces.{KeptPlaces}
 use Rattle.njh_spool.specs.declared.customer_files.CustomerFiles.{CustomerFiles}
-use Rattle.njh_spool.specs.Chains.{Chain, StoreValue, empty_chain, with_chain, blocks_of}
+use Rattle.njh_spool.specs.code.Chains.{Chain, StoreValue, empty_chain, with_chain, blocks_of}
 use Rattle.njh_spool.specs.CustomerSpool.{CustomerSpool, cost, stored_size, next_number}
 use Rattle.njh_spool.specs.CustomerSpool.{begun, appended, abandoned, finished, removed, with_state, rewritten}
 use Rattle.njh_spool.specs.CustomerSpool.{at_index, rewritten_record}
 use Rattle.njh_spool.specs.Spools.{part}
-use Rattle.njh_spool.specs.Packing.{packed_record, packed, unpacked, IsShort}
-use Rattle.njh_spool.specs.Slots.{Content, content, contents, slot_of, chain_of, free_slot, no_files, is_free, is_partial, is_whole}
-use Rattle.njh_spool.specs.Slots.{whole_file, spool_of, spools_of, first_places, ArePlaces, IsOwn, IsFile, KeepsHeaders, IsKept}
+use Rattle.njh_spool.specs.code.Packing.{packed_record, packed, unpacked, IsShort}
+use Rattle.njh_spool.specs.code.Slots.{Content, content, contents, slot_of, chain_of, free_slot, no_files, is_free, is_partial, is_whole}
+use Rattle.njh_spool.specs.code.Slots.{whole_file, spool_of, spools_of, first_places, ArePlaces, IsOwn, IsFile, KeepsHeaders, IsKept}
 use Rattle.njh_spool.specs.Headers.{header_count, kept_headers}
 use Rattle.njh_spool.specs.declared.file_headers.KeptHeaders.{KeptHeaders}
 use Rattle.njh_spool.proofs.HeaderLaws.{kept_headers-behind}

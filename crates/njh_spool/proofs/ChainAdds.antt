@@ -9,9 +9,9 @@ use Rattle.slab.specs.Slab.{Slab, get, slab_len, ContainsKey, with_value, Update
 use Rattle.slab.proofs.SlabLemmas.{Updates-with_value}
 use Rattle.njh_spool.specs.declared.store.block.Block.{Block}
 use Rattle.njh_spool.specs.declared.store.slot.Slot.{Slot}
-use Rattle.njh_spool.specs.Chains.{blocks_for}
-use Rattle.njh_spool.specs.ChainedBlocks.{link_in, data_in, blocks_in, data_at, blocks_at, keys_from, keys_of, data_of, chain_of}
-use Rattle.njh_spool.specs.ChainedBlocks.{times_in, IsChained}
+use Rattle.njh_spool.specs.code.Chains.{blocks_for}
+use Rattle.njh_spool.specs.code.ChainedBlocks.{link_in, data_in, blocks_in, data_at, blocks_at, keys_from, keys_of, data_of, chain_of}
+use Rattle.njh_spool.specs.code.ChainedBlocks.{times_in, IsChained}
 use Rattle.njh_spool.proofs.ChainLists.{take-right}
 use Rattle.njh_spool.proofs.ChainKeys.{times-cons, one_itself, one_other, keys_from-linked, data_of-same, length-keys_from}
 use Rattle.njh_spool.proofs.ChainMoves.{Moves}

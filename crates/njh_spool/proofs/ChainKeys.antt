@@ -7,7 +7,7 @@ use Rattle.std.proofs.lemmas.List.Sums.{sum_by-cons}
 use Rattle.slab.specs.Slab.{Slab}
 use Rattle.njh_record.specs.Bytes.{field, with_field}
 use Rattle.njh_spool.specs.declared.store.block.Block.{Block}
-use Rattle.njh_spool.specs.ChainedBlocks.{next_at, data_at, keys_from, data_of, times_in}
+use Rattle.njh_spool.specs.code.ChainedBlocks.{next_at, data_at, keys_from, data_of, times_in}
 use Rattle.njh_spool.proofs.ChainLists.{with_field-left, with_field-right, drop-right, field-left}
 
 pub times-cons : (key k : ℕ) (rest : List ℕ) → times_in key (k ∷ rest) ≡ cond {A = ℕ} (eqb k key) 1 0 + times_in key rest

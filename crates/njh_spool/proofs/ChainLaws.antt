@@ -8,9 +8,9 @@ use Rattle.std.proofs.lemmas.List.Sums.{sum_by-cons, get_or-le-sum_by}
 use Rattle.slab.specs.Slab.{Slab, get, slab_len, ContainsKey}
 use Rattle.njh_spool.specs.declared.store.block.Block.{Block}
 use Rattle.njh_spool.specs.declared.store.slot.Slot.{Slot}
-use Rattle.njh_spool.specs.Chains.{Chain, StoreValue, empty_chain, chain_at, blocks_for, blocks_of, blocks_used}
-use Rattle.njh_spool.specs.ChainedBlocks.{blocks_in, data_at, blocks_at, keys_from, keys_of, data_of, chain_of, chains_of, times_in}
-use Rattle.njh_spool.specs.ChainedBlocks.{no_slot, KnowsLast, LiesInOne, IsChained}
+use Rattle.njh_spool.specs.code.Chains.{Chain, StoreValue, empty_chain, chain_at, blocks_for, blocks_of, blocks_used}
+use Rattle.njh_spool.specs.code.ChainedBlocks.{blocks_in, data_at, blocks_at, keys_from, keys_of, data_of, chain_of, chains_of, times_in}
+use Rattle.njh_spool.specs.code.ChainedBlocks.{no_slot, KnowsLast, LiesInOne, IsChained}
 use Rattle.njh_spool.proofs.ChainLists.{sum_by-same, sum_by-two}
 use Rattle.njh_spool.proofs.ChainKeys.{length-keys_from, length-data_of, times_at}
 

@@ -2,8 +2,8 @@
 use Rattle.std.proofs.Common.{◌≡◌, ℕ, ◌≤◌, List, length, get_or, take, Some, sym, ap, ◌∙◌, arith, length-take}
 use Rattle.std.proofs.lemmas.List.{get_or-take}
 use Rattle.std.proofs.lemmas.Option.{slice_get-get_or, slice_get_within, get_or_from_slice_get}
-use Rattle.njh_spool.specs.declared.store.mark.Mark.{Mark}
-use Rattle.njh_spool.specs.Chains.{IsMark}
+use Rattle.njh_spool.specs.declared.store.block_mark.Mark.{Mark}
+use Rattle.njh_spool.specs.code.Chains.{IsMark}
 
 -- the first block of any chain
 pub IsMark-first : (keys : List ℕ) → IsMark keys (record { block = 0; key = 0 })

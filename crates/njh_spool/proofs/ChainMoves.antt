@@ -8,9 +8,9 @@ use Rattle.std.proofs.lemmas.List.Sums.{sum_by-set}
 use Rattle.slab.specs.Slab.{Slab, get, slab_len}
 use Rattle.njh_spool.specs.declared.store.block.Block.{Block}
 use Rattle.njh_spool.specs.declared.store.slot.Slot.{Slot}
-use Rattle.njh_spool.specs.Chains.{Chain, StoreValue, Grows, empty_chain, chain_at, blocks_for, with_chain}
-use Rattle.njh_spool.specs.ChainedBlocks.{link_in, data_in, data_at, blocks_at, keys_of, data_of, chain_of, chains_of, times_in}
-use Rattle.njh_spool.specs.ChainedBlocks.{KnowsLast, IsChained}
+use Rattle.njh_spool.specs.code.Chains.{Chain, StoreValue, Grows, empty_chain, chain_at, blocks_for, with_chain}
+use Rattle.njh_spool.specs.code.ChainedBlocks.{link_in, data_in, data_at, blocks_at, keys_of, data_of, chain_of, chains_of, times_in}
+use Rattle.njh_spool.specs.code.ChainedBlocks.{KnowsLast, IsChained}
 use Rattle.njh_spool.proofs.ChainLists.{sum_by-two, sum_by-but, map-but}
 use Rattle.njh_spool.proofs.ChainKeys.{keys_from-same, data_of-same}
 

@@ -6,8 +6,8 @@ use Rattle.slab.specs.Slab.{Slab, get, ContainsKey}
 use Rattle.njh_record.specs.Bytes.{field}
 use Rattle.njh_spool.specs.declared.store.block.Block.{Block}
 use Rattle.njh_spool.specs.declared.store.slot.Slot.{Slot}
-use Rattle.njh_spool.specs.Chains.{StoreValue, chain_at, blocks_for}
-use Rattle.njh_spool.specs.ChainedBlocks.{link_in, data_in, next_at, keys_from, keys_of, data_of, chains_of, IsChained}
+use Rattle.njh_spool.specs.code.Chains.{StoreValue, chain_at, blocks_for}
+use Rattle.njh_spool.specs.code.ChainedBlocks.{link_in, data_in, next_at, keys_from, keys_of, data_of, chains_of, IsChained}
 use Rattle.njh_spool.proofs.ChainLists.{field-take}
 use Rattle.njh_spool.proofs.ChainKeys.{length-keys_from, field-data_of}
 use Rattle.njh_spool.proofs.ChainLaws.{len_is, keys_is, bytes_is, head_here, has_here, full_here, key_lies}

@@ -10,9 +10,9 @@ use Rattle.slab.proofs.SlabLemmas.{ContainsKey-within, Updates-with_value}
 use Rattle.njh_record.specs.Bytes.{with_field}
 use Rattle.njh_spool.specs.declared.store.block.Block.{Block}
 use Rattle.njh_spool.specs.declared.store.slot.Slot.{Slot}
-use Rattle.njh_spool.specs.Chains.{blocks_for}
-use Rattle.njh_spool.specs.ChainedBlocks.{link_in, data_in, blocks_in, next_at, data_at, blocks_at, keys_of, keys_from, data_of}
-use Rattle.njh_spool.specs.ChainedBlocks.{chain_of, times_in, IsChained}
+use Rattle.njh_spool.specs.code.Chains.{blocks_for}
+use Rattle.njh_spool.specs.code.ChainedBlocks.{link_in, data_in, blocks_in, next_at, data_at, blocks_at, keys_of, keys_from, data_of}
+use Rattle.njh_spool.specs.code.ChainedBlocks.{chain_of, times_in, IsChained}
 use Rattle.njh_spool.proofs.ChainKeys.{keys_from-same, data_of-put, length-keys_from}
 use Rattle.njh_spool.proofs.ChainMoves.{Moves}
 use Rattle.njh_spool.proofs.ChainLaws.{once_here, block_here, has_here, full_here, last_here, key_lies, length_data, blocks_for_is}

@@ -7,9 +7,9 @@ use Rattle.std.proofs.lemmas.List.Concat.{flat_map-cons}
 use Rattle.slab.specs.Slab.{Slab, get, slab_len, ContainsKey, Updates}
 use Rattle.njh_spool.specs.declared.store.block.Block.{Block}
 use Rattle.njh_spool.specs.declared.store.slot.Slot.{Slot}
-use Rattle.njh_spool.specs.Chains.{blocks_for}
-use Rattle.njh_spool.specs.ChainedBlocks.{link_in, data_in, blocks_in, next_at, data_at, blocks_at, keys_from, keys_of, data_of}
-use Rattle.njh_spool.specs.ChainedBlocks.{chain_of, times_in, IsChained}
+use Rattle.njh_spool.specs.code.Chains.{blocks_for}
+use Rattle.njh_spool.specs.code.ChainedBlocks.{link_in, data_in, blocks_in, next_at, data_at, blocks_at, keys_from, keys_of, data_of}
+use Rattle.njh_spool.specs.code.ChainedBlocks.{chain_of, times_in, IsChained}
 use Rattle.njh_spool.proofs.ChainLists.{take-right}
 use Rattle.njh_spool.proofs.ChainKeys.{times-cons, one_itself, one_other, keys_from-same, data_of-same}
 use Rattle.njh_spool.proofs.ChainMoves.{Moves}

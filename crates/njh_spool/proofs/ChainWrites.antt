@@ -7,8 +7,8 @@ use Rattle.slab.specs.Slab.{Slab, get, slab_len, ContainsKey, with_value, Update
 use Rattle.njh_record.specs.Bytes.{with_field}
 use Rattle.njh_spool.specs.declared.store.block.Block.{Block}
 use Rattle.njh_spool.specs.declared.store.slot.Slot.{Slot}
-use Rattle.njh_spool.specs.Chains.{Chain, StoreValue, Grows, chain_at, with_chain, with_bytes, blocks_for, blocks_of}
-use Rattle.njh_spool.specs.ChainedBlocks.{next_at, data_at, keys_of, chain_of, chains_of, IsChained}
+use Rattle.njh_spool.specs.code.Chains.{Chain, StoreValue, Grows, chain_at, with_chain, with_bytes, blocks_for, blocks_of}
+use Rattle.njh_spool.specs.code.ChainedBlocks.{next_at, data_at, keys_of, chain_of, chains_of, IsChained}
 use Rattle.njh_spool.proofs.ChainKeys.{length-keys_from}
 use Rattle.njh_spool.proofs.ChainMoves.{chained_moved, view_moved, grows_from}
 use Rattle.njh_spool.proofs.ChainLaws.{len_is, keys_is, chain_is, count_within, last_here}

@@ -5,7 +5,7 @@ use Rattle.std.specs.List.{list_any}
 use Rattle.std.proofs.lemmas.Bool.{ltb-true}
 use Rattle.std.proofs.lemmas.List.{take_all, take_more, append-nil, length-set, get_or-set_same, get_or-set_other}
 use Rattle.std.proofs.lemmas.List.Elements.{filter-append}
-use Rattle.njh_spool.specs.Entries.{is_number, numbers_in, IsIndex}
+use Rattle.njh_spool.specs.code.NumberEntries.{is_number, numbers_in, IsIndex}
 use Rattle.njh_spool.proofs.EntryLaws.{few_passed, filter_push, filter_twice, take-set_out}
 use Rattle.njh_spool.proofs.HoleLaws.{empty_index, not_before, pushed}
 

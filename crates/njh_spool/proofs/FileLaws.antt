@@ -8,11 +8,11 @@ use Rattle.njh_record.specs.Stored.{Stored}
 use Rattle.njh_spool.specs.declared.file_slot.FileSlot.{FileSlot}
 use Rattle.njh_spool.specs.declared.file_slot.RecordPlace.{RecordPlace}
 use Rattle.njh_spool.specs.declared.file_slot.KeptPlaces.{KeptPlaces}
-use Rattle.njh_spool.specs.declared.store.mark.Mark.{Mark}
-use Rattle.njh_spool.specs.Chains.{Chain, IsMark}
+use Rattle.njh_spool.specs.declared.store.block_mark.Mark.{Mark}
+use Rattle.njh_spool.specs.code.Chains.{Chain, IsMark}
 use Rattle.njh_spool.specs.CustomerSpool.{stored_size}
-use Rattle.njh_spool.specs.Packing.{packed_record, packed, unpacked, IsShort}
-use Rattle.njh_spool.specs.Slots.{is_free, first_place, first_places, IsPlace, ArePlaces, IsFile}
+use Rattle.njh_spool.specs.code.Packing.{packed_record, packed, unpacked, IsShort}
+use Rattle.njh_spool.specs.code.Slots.{is_free, first_place, first_places, IsPlace, ArePlaces, IsFile}
 use Rattle.njh_spool.proofs.PackingLaws.{length-packed_record, length-packed, packed-append, length-unpacked, unpacked-packed}
 
 -- the records of bytes that are packed

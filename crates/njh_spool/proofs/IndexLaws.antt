@@ -5,8 +5,8 @@ use Rattle.std.proofs.Math.Path.{fun_ext}
 use Rattle.std.proofs.lemmas.Bool.{cases_eq, cases_lt, lt-ltb, le-ltb, both_ways}
 use Rattle.std.proofs.lemmas.List.{get_or-set_same, get_or-set_other}
 use Rattle.njh_spool.specs.declared.file_slot.FileSlot.{FileSlot}
-use Rattle.njh_spool.specs.Chains.{Chain, empty_chain}
-use Rattle.njh_spool.specs.Slots.{Content, content, contents, slot_of, chain_of, free_slot, is_free}
+use Rattle.njh_spool.specs.code.Chains.{Chain, empty_chain}
+use Rattle.njh_spool.specs.code.Slots.{Content, content, contents, slot_of, chain_of, free_slot, is_free}
 
 -- of a list, what a customer has at a number
 abbrev at : {X : Type 0} → List X → X → ℕ → ℕ → X

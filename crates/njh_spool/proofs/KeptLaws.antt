@@ -7,11 +7,11 @@ use Rattle.std.proofs.lemmas.List.{get_or-set_same, get_or-set_other, get_or_def
 use Rattle.std.proofs.lemmas.List.Sums.{sum_by-set, sum_by-cons}
 use Rattle.njh_spool.specs.declared.file_slot.FileSlot.{FileSlot}
 use Rattle.njh_spool.specs.declared.customer_files.CustomerFiles.{CustomerFiles}
-use Rattle.njh_spool.specs.Chains.{Chain, StoreValue, empty_chain, with_chain, blocks_of, blocks_used}
+use Rattle.njh_spool.specs.code.Chains.{Chain, StoreValue, empty_chain, with_chain, blocks_of, blocks_used}
 use Rattle.njh_spool.specs.CustomerSpool.{CustomerSpool, used}
 use Rattle.njh_spool.specs.Spools.{no_spool, part}
-use Rattle.njh_spool.specs.Slots.{Content, content, contents, slot_of, chain_of, no_files, spool_of, spools_from, spools_of, IsOwn}
-use Rattle.njh_spool.specs.Slots.{IsFile, KeepsHeaders, IsKept}
+use Rattle.njh_spool.specs.code.Slots.{Content, content, contents, slot_of, chain_of, no_files, spool_of, spools_from, spools_of, IsOwn}
+use Rattle.njh_spool.specs.code.Slots.{IsFile, KeepsHeaders, IsKept}
 use Rattle.njh_spool.proofs.IndexLaws.{put, at_is, slot-same, chain-same, slot-other, chain-other, contents-same, contents-other}
 
 abbrev pub own_of : List CustomerFiles → ℕ → CustomerFiles

@@ -9,12 +9,12 @@ use Rattle.njh_spool.specs.declared.quota.Quota.{Quota}
 use Rattle.njh_spool.specs.declared.file_slot.FileSlot.{FileSlot}
 use Rattle.njh_spool.specs.declared.file_slot.Stage.TheVariants.{Free}
 use Rattle.njh_spool.specs.declared.customer_files.CustomerFiles.{CustomerFiles}
-use Rattle.njh_spool.specs.Chains.{Chain, StoreValue, empty_chain, blocks_of}
+use Rattle.njh_spool.specs.code.Chains.{Chain, StoreValue, empty_chain, blocks_of}
 use Rattle.njh_spool.specs.CustomerSpool.{CustomerSpool, empty_spool}
 use Rattle.njh_spool.specs.Quotas.{IsWithinLimits}
 use Rattle.njh_spool.specs.Spools.{IsSound}
-use Rattle.njh_spool.specs.Slots.{Content, contents, slot_of, chain_of, is_whole, free_slot, no_files}
-use Rattle.njh_spool.specs.Slots.{spools_from, IsOwn, IsFile, IsKept}
+use Rattle.njh_spool.specs.code.Slots.{Content, contents, slot_of, chain_of, is_whole, free_slot, no_files}
+use Rattle.njh_spool.specs.code.Slots.{spools_from, IsOwn, IsFile, IsKept}
 use Rattle.njh_spool.proofs.KeptLaws.{own_of}
 use Rattle.njh_spool.proofs.FileLaws.{file_of, first_are}
 

@@ -8,7 +8,7 @@ use Rattle.std.proofs.lemmas.List.Sums.{sum_by-cons}
 use Rattle.njh_record.specs.Bytes.{field, number_at}
 use Rattle.njh_record.specs.Stored.{Stored}
 use Rattle.njh_spool.specs.CustomerSpool.{stored_size}
-use Rattle.njh_spool.specs.Packing.{packed_record, packed, first_record, unpacked, IsShort}
+use Rattle.njh_spool.specs.code.Packing.{packed_record, packed, first_record, unpacked, IsShort}
 
 pub length-packed_record : (r : Stored) → length (packed_record r) ≡ 3 + length r.bytes
 length-packed_record r = omega arith

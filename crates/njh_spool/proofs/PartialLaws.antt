@@ -14,7 +14,7 @@ use Rattle.njh_spool.specs.declared.customer_files.CustomerFiles.{CustomerFiles}
 use Rattle.njh_spool.specs.CustomerSpool.{CustomerSpool, WholeFile, PartialFile, cost, used, partial_numbered, whole_numbered}
 use Rattle.njh_spool.specs.CustomerSpool.{abandoned, appended, finished, as_whole, has_room_for}
 use Rattle.njh_spool.specs.Spools.{IsSound, append_fault, fault_unless}
-use Rattle.njh_spool.specs.Slots.{Content, is_partial, is_whole, whole_file, partial_file, spool_of, IsOwn}
+use Rattle.njh_spool.specs.code.Slots.{Content, is_partial, is_whole, whole_file, partial_file, spool_of, IsOwn}
 use Rattle.njh_spool.proofs.OnlyOne.{list_any-from_count, filter_none, find_none}
 use Rattle.njh_spool.proofs.SpoolLaws as laws
 use Rattle.njh_spool.proofs.IndexLaws.{put, put_same}

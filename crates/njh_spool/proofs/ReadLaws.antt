@@ -8,7 +8,7 @@ use Rattle.njh_spool.specs.declared.file_slot.Stage.TheVariants.{Free, Partial, 
 use Rattle.njh_spool.specs.declared.customer_files.CustomerFiles.{CustomerFiles}
 use Rattle.njh_spool.specs.CustomerSpool.{WholeFile, PartialFile, partial_numbered}
 use Rattle.njh_spool.specs.Spools.{kind_numbered, records_numbered}
-use Rattle.njh_spool.specs.Slots.{Content, is_free, is_partial, is_whole, spool_of, IsOwn}
+use Rattle.njh_spool.specs.code.Slots.{Content, is_free, is_partial, is_whole, spool_of, IsOwn}
 use Rattle.njh_spool.proofs.PartialLaws as partial
 use Rattle.njh_spool.proofs.WholeLaws as whole
 

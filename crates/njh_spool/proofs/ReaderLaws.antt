@@ -6,9 +6,9 @@ use Rattle.std.proofs.lemmas.Option.{slice_get_within, get_or_from_slice_get}
 use Rattle.njh_record.specs.Stored.{Stored}
 use Rattle.njh_spool.specs.declared.file_slot.FileSlot.{FileSlot}
 use Rattle.njh_spool.specs.declared.file_slot.RecordPlace.{RecordPlace}
-use Rattle.njh_spool.specs.Chains.{Chain}
-use Rattle.njh_spool.specs.Packing.{unpacked}
-use Rattle.njh_spool.specs.Reading.{records_from}
+use Rattle.njh_spool.specs.code.Chains.{Chain}
+use Rattle.njh_spool.specs.code.Packing.{unpacked}
+use Rattle.njh_spool.specs.code.RecordReader.{records_from}
 use Rattle.njh_spool.proofs.PackingLaws.{length-unpacked}
 
 pub none_left : (slot : FileSlot) (chain : Chain) (from : RecordPlace) → slot.count ≤ from.record_index → records_from slot chain from ≡ []

@@ -8,12 +8,12 @@ use Rattle.std.proofs.lemmas.List.Sums.{sum_by-cons}
 use Rattle.njh_record.specs.Bytes.{field, two_bytes}
 use Rattle.njh_record.specs.Stored.{Stored}
 use Rattle.njh_spool.specs.declared.file_slot.FileSlot.{FileSlot}
-use Rattle.njh_spool.specs.Chains.{Chain, IsMark}
+use Rattle.njh_spool.specs.code.Chains.{Chain, IsMark}
 use Rattle.njh_spool.specs.CustomerSpool.{stored_size}
-use Rattle.njh_spool.specs.Packing.{packed_record, packed, unpacked, IsShort}
+use Rattle.njh_spool.specs.code.Packing.{packed_record, packed, unpacked, IsShort}
 use Rattle.njh_spool.specs.declared.file_slot.RecordPlace.{RecordPlace}
-use Rattle.njh_spool.specs.declared.store.mark.Mark.{Mark}
-use Rattle.njh_spool.specs.Slots.{IsPlace, IsFile}
+use Rattle.njh_spool.specs.declared.store.block_mark.Mark.{Mark}
+use Rattle.njh_spool.specs.code.Slots.{IsPlace, IsFile}
 use Rattle.njh_spool.proofs.PackingLaws.{length-packed_record, length-unpacked}
 
 -- where a record lies

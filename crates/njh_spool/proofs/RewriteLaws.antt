@@ -9,8 +9,8 @@ use Rattle.njh_record.specs.Bytes.{with_field, two_bytes}
 use Rattle.njh_record.specs.Stored.{Stored}
 use Rattle.njh_spool.specs.declared.file_slot.RecordPlace.{RecordPlace}
 use Rattle.njh_spool.specs.CustomerSpool.{stored_size, at_index, rewritten_record}
-use Rattle.njh_spool.specs.Packing.{packed_record, packed, IsShort}
-use Rattle.njh_spool.specs.Slots.{IsPlace}
+use Rattle.njh_spool.specs.code.Packing.{packed_record, packed, IsShort}
+use Rattle.njh_spool.specs.code.Slots.{IsPlace}
 use Rattle.njh_spool.proofs.CostLaws.{length-with_field}
 use Rattle.njh_spool.proofs.PackingLaws.{length-packed_record}
 

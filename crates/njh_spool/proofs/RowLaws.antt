@@ -9,8 +9,8 @@ use Rattle.std.proofs.lemmas.List.{get_or-set_same, get_or-set_other}
 use Rattle.std.proofs.lemmas.Bool.{cases_eq}
 use Rattle.std.proofs.Math.Nat.{mul-suc}
 use Rattle.njh_spool.specs.declared.file_slot.FileSlot.{FileSlot}
-use Rattle.njh_spool.specs.Slots.{free_slot}
-use Rattle.njh_spool.specs.SlotRows.{row_of, slots_in, IsWholeRow}
+use Rattle.njh_spool.specs.code.Slots.{free_slot}
+use Rattle.njh_spool.specs.code.SlotRows.{row_of, slots_in, IsWholeRow}
 
 pub length-row_of : (written : List FileSlot) (room : ℕ) → length written ≤ room → length (row_of written room) ≡ room
 length-row_of written room fits = omega (

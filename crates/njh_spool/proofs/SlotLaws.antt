@@ -7,7 +7,7 @@ use Rattle.std.proofs.lemmas.Bool.{cases_Bool, cases_eq, or_parts, or_from, eqb-
 use Rattle.std.proofs.lemmas.List.Sums.{sum_by-cons}
 use Rattle.njh_spool.specs.declared.file_slot.Stage.{Stage}
 use Rattle.njh_spool.specs.CustomerSpool.{WholeFile, PartialFile}
-use Rattle.njh_spool.specs.Slots.{Content, state_of, whole_file, partial_file}
+use Rattle.njh_spool.specs.code.Slots.{Content, state_of, whole_file, partial_file}
 use Rattle.njh_spool.proofs.OnlyOne.{list_any-from_count, filter_one}
 use Rattle.njh_spool.proofs.SpoolLaws as laws
 use Rattle.njh_spool.proofs.IndexLaws.{put}

@@ -9,11 +9,11 @@ use Rattle.njh_spool.specs.declared.file_headers.FileHeaders.{FileHeaders}
 use Rattle.njh_spool.specs.declared.file_headers.FileSummary.{FileSummary}
 use Rattle.njh_spool.specs.declared.file_headers.KeptHeaders.{KeptHeaders}
 use Rattle.njh_spool.specs.declared.customer_files.CustomerFiles.{CustomerFiles}
-use Rattle.njh_spool.specs.Chains.{StoreValue}
+use Rattle.njh_spool.specs.code.Chains.{StoreValue}
 use Rattle.njh_spool.specs.CustomerSpool.{CustomerSpool}
 use Rattle.njh_spool.specs.Spools.{part}
 use Rattle.njh_spool.specs.Headers.{headers_of, summary}
-use Rattle.njh_spool.specs.Slots.{Content, contents, slot_of, chain_of, is_whole, state_of, whole_file, spools_of, IsKept}
+use Rattle.njh_spool.specs.code.Slots.{Content, contents, slot_of, chain_of, is_whole, state_of, whole_file, spools_of, IsKept}
 use Rattle.njh_spool.proofs.KeptLaws.{has_own, own_of}
 use Rattle.njh_spool.proofs.PackingLaws.{length-unpacked}
 

@@ -2,7 +2,7 @@
 
 ghost use Rattle.std.specs.Prelude.{◌≡◌, [], map, IfOk};
 
-use crate::numbers::Numbers;
+use crate::number_list::Numbers;
 use crate::quota::Quota;
 use std::alloc::{AllocError, Global};
 

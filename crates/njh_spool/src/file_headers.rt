@@ -3,10 +3,10 @@
 ghost use Rattle.std.specs.Prelude.{◌≡◌, ◌<◌, ◌≤◌, length};
 ghost use Rattle.std.specs.Option.{option_map};
 ghost use Rattle.njh_header.specs.FileHeaders.{job_header_of, data_set_header_of};
-ghost use Rattle.njh_spool.specs.Chains.{chain_at};
+ghost use Rattle.njh_spool.specs.code.Chains.{chain_at};
 ghost use Rattle.njh_spool.specs.Headers.{by_headers, kept_headers, reach_of};
-ghost use Rattle.njh_spool.specs.Packing.{unpacked};
-ghost use Rattle.njh_spool.specs.Slots.{IsFile};
+ghost use Rattle.njh_spool.specs.code.Packing.{unpacked};
+ghost use Rattle.njh_spool.specs.code.Slots.{IsFile};
 
 use crate::State;
 use crate::file_id::FileId;

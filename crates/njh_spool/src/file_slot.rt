@@ -5,7 +5,7 @@ ghost use Rattle.std.specs.Prelude.{◌≡◌};
 use crate::State;
 use crate::file_headers::{FileSummary, KeptHeaders};
 use crate::file_id::FileId;
-use crate::store::mark::{FIRST_BLOCK, Mark};
+use crate::store::block_mark::{FIRST_BLOCK, Mark};
 use njh_record::Kind;
 
 /// Whether a file is in a slot, and whether it is whole yet.
@@ -60,7 +60,7 @@ impl KeptPlaces {
 }
 
 impl FileSlot {
-    ghost use Rattle.njh_spool.specs.Slots.{free_slot, is_free, is_partial, is_whole, state_of};
+    ghost use Rattle.njh_spool.specs.code.Slots.{free_slot, is_free, is_partial, is_whole, state_of};
 
     /// A slot in which a file begins, or none is.
     pub fn empty(stage: Stage, kind: Kind) -> Self

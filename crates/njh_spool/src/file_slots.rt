@@ -1,7 +1,7 @@
 //! The slots of all files, by customer and number.
 
 ghost use Rattle.std.specs.Prelude.{◌≡◌, ◌+◌, ◌*◌, ◌<◌, ◌≤◌, length, replicate, slice_set, IfOk};
-ghost use Rattle.njh_spool.specs.Slots.{slot_of, place_of, free_slot};
+ghost use Rattle.njh_spool.specs.code.Slots.{slot_of, place_of, free_slot};
 
 use crate::file_id::FileId;
 use crate::file_slot::FileSlot;
@@ -20,7 +20,7 @@ pub struct FileSlots {
 impl Model for FileSlots {
     ghost use Rattle.std.specs.Prelude.{List, All};
     ghost use Rattle.njh_spool.specs.declared.file_slot.FileSlot.{FileSlot};
-    ghost use Rattle.njh_spool.specs.SlotRows.{slots_in, IsWholeRow};
+    ghost use Rattle.njh_spool.specs.code.SlotRows.{slots_in, IsWholeRow};
 
     ghost Value = { List FileSlot };
 

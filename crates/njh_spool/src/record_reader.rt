@@ -2,12 +2,12 @@
 
 ghost use Rattle.std.specs.Prelude.{◌≡◌, ◌<◌, length, drop, slice_get, None};
 ghost use Rattle.std.specs.Option.{option_map};
-ghost use Rattle.njh_spool.specs.Chains.{chain_at};
-ghost use Rattle.njh_spool.specs.Packing.{unpacked};
-ghost use Rattle.njh_spool.specs.Slots.{IsFile};
+ghost use Rattle.njh_spool.specs.code.Chains.{chain_at};
+ghost use Rattle.njh_spool.specs.code.Packing.{unpacked};
+ghost use Rattle.njh_spool.specs.code.Slots.{IsFile};
 
 use crate::file_slot::{FileSlot, RecordPlace};
-use crate::reading::read_record;
+use crate::record_places::read_record;
 use crate::store::Store;
 use njh_record::Record;
 use std::marker::Model;
@@ -26,8 +26,8 @@ pub struct RecordReader<'a> {
 impl<'a> Model for RecordReader<'a> {
     ghost use Rattle.std.specs.Prelude.{List};
     ghost use Rattle.njh_record.specs.Stored.{Stored};
-    ghost use Rattle.njh_spool.specs.Chains.{chain_at};
-    ghost use Rattle.njh_spool.specs.Reading.{records_from, IsReading};
+    ghost use Rattle.njh_spool.specs.code.Chains.{chain_at};
+    ghost use Rattle.njh_spool.specs.code.RecordReader.{records_from, IsReading};
 
     ghost Value = { List Stored };
 

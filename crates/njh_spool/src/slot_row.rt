@@ -2,8 +2,8 @@
 
 ghost use Rattle.std.specs.Prelude.{◌≡◌, ◌<◌, ◌++◌, ◌∷◌, [], length, replicate, slice_index_or, slice_set, IfOk};
 ghost use Rattle.std.specs.Vec.{vec_len, vec_capacity};
-ghost use Rattle.njh_spool.specs.Slots.{free_slot};
-ghost use Rattle.njh_spool.specs.SlotRows.{row_of};
+ghost use Rattle.njh_spool.specs.code.Slots.{free_slot};
+ghost use Rattle.njh_spool.specs.code.SlotRows.{row_of};
 
 use crate::file_headers::{FileHeaders, KeptHeaders};
 use crate::file_slot::{FileSlot, KeptPlaces, Stage};
@@ -25,8 +25,8 @@ impl Model for SlotRow {
     ghost use Rattle.std.specs.Prelude.{◌≡◌, List};
     ghost use Rattle.std.specs.Vec.{vec_capacity};
     ghost use Rattle.njh_spool.specs.declared.file_slot.FileSlot.{FileSlot};
-    ghost use Rattle.njh_spool.specs.Slots.{free_slot};
-    ghost use Rattle.njh_spool.specs.SlotRows.{row_of};
+    ghost use Rattle.njh_spool.specs.code.Slots.{free_slot};
+    ghost use Rattle.njh_spool.specs.code.SlotRows.{row_of};
 
     ghost Value = { List FileSlot };
 

@@ -16,7 +16,7 @@ use crate::customer_files::{CustomerFiles, open_all};
 use crate::file_headers::FileSummary;
 use crate::file_id::FileId;
 use crate::file_slots::FileSlots;
-use crate::places::slot_at;
+use crate::slot_places::slot_at;
 use crate::quota::{MOST_CUSTOMERS, MOST_FILES, Quota};
 use crate::store::{MOST_CAPACITY, Store};
 use std::alloc::Global;
@@ -33,7 +33,7 @@ pub struct Spool {
 impl Model for Spool {
     ghost use Rattle.std.specs.Prelude.{List};
     ghost use Rattle.njh_spool.specs.CustomerSpool.{CustomerSpool};
-    ghost use Rattle.njh_spool.specs.Slots.{contents, spools_of, IsKept};
+    ghost use Rattle.njh_spool.specs.code.Slots.{contents, spools_of, IsKept};
 
     ghost Value = { List CustomerSpool };
 

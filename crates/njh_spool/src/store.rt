@@ -2,22 +2,22 @@
 //!
 //! All memory is taken by `open`.
 
+mod appending;
 pub mod block;
-mod growing;
+pub mod block_mark;
 mod laws;
-pub mod mark;
-mod places;
 pub mod slot;
+mod string_places;
 
 ghost use Rattle.std.specs.Prelude.{◌≡◌, ℕ, ◌+◌, ◌<◌, ◌≤◌, ◌==◌, ◌++◌, length, replicate, count_by, sum_by, IfOk, All};
 ghost use Rattle.njh_record.specs.Bytes.{field, with_field};
-ghost use Rattle.njh_spool.specs.Chains.{empty_chain, chain_at, with_chain, with_bytes, blocks_for, blocks_of};
-ghost use Rattle.njh_spool.specs.Chains.{blocks_used};
-ghost use Rattle.njh_spool.specs.Chains.{Grows, IsMark, IsNear};
+ghost use Rattle.njh_spool.specs.code.Chains.{empty_chain, chain_at, with_chain, with_bytes, blocks_for, blocks_of};
+ghost use Rattle.njh_spool.specs.code.Chains.{blocks_used};
+ghost use Rattle.njh_spool.specs.code.Chains.{Grows, IsMark, IsNear};
 
 use block::{BLOCK_DATA, Block};
 pub use laws::each_block_lies_once;
-use mark::Mark;
+use block_mark::Mark;
 use njh_record::Record;
 use slab::Slab;
 use slot::{Slot, empty_slots};
@@ -36,8 +36,8 @@ pub struct Store {
 }
 
 impl Model for Store {
-    ghost use Rattle.njh_spool.specs.Chains.{StoreValue};
-    ghost use Rattle.njh_spool.specs.ChainedBlocks.{chains_of, IsChained};
+    ghost use Rattle.njh_spool.specs.code.Chains.{StoreValue};
+    ghost use Rattle.njh_spool.specs.code.ChainedBlocks.{chains_of, IsChained};
 
     ghost Value = { StoreValue };
 

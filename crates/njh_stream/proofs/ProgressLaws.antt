@@ -16,7 +16,7 @@ use Rattle.njh_stream.specs.declared.receiver.Progress.TheVariants.{Beginning, J
 use Rattle.njh_header.specs.declared.fault.HeaderFault.{HeaderFault}
 use Rattle.njh_stream.specs.declared.judging as declared_judging
 use Rattle.njh_stream.specs.declared.judging.Verdict.TheVariants as declared
-use Rattle.njh_stream.specs.Judging.{judged_placed, IsTakenAt, IsProgress, IsHeaderPlaced}
+use Rattle.njh_stream.specs.code.Verdicts.{judged_placed, IsTakenAt, IsProgress, IsHeaderPlaced}
 use Rattle.njh_stream.specs.Transmissions.{Verdict, Taken, ends_in, judged, judged_against, judged_later, judged_data_set}
 use Rattle.njh_stream.specs.Receiving.{progress_of, placed, last_srcb}
 

@@ -13,7 +13,7 @@ use Rattle.njh_stream.specs.declared.receiver.Progress.TheVariants.{JobHeader}
 use Rattle.njh_spool.specs.Spools.{IsSound, part, no_spool}
 use Rattle.std.proofs.lemmas.List.{set-set, get_or-set_same}
 use Rattle.njh_stream.specs.declared.receiver.After.{After}
-use Rattle.njh_stream.specs.Judging.{IsAfter}
+use Rattle.njh_stream.specs.code.Verdicts.{IsAfter}
 use Rattle.njh_stream.specs.SpoolFiles.{records_in}
 use Rattle.njh_stream.specs.Transmissions.{is_whole}
 use Rattle.njh_stream.specs.Receiving.{AgreesWith, progress_of, placed, ends_whole, last_srcb}

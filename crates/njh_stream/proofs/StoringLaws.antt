@@ -12,7 +12,7 @@ use Rattle.njh_spool.specs.Spools.{fault_unless}
 use Rattle.njh_spool.specs.declared.SpoolFault.{SpoolFault}
 use Rattle.njh_spool.specs.declared.SpoolFault.TheVariants.{NoSuchFile, QuotaFull}
 use Rattle.njh_stream.specs.declared.receiver.Progress.TheVariants.{Placed}
-use Rattle.njh_stream.specs.Judging.{appended_where, judged_placed}
+use Rattle.njh_stream.specs.code.Verdicts.{appended_where, judged_placed}
 use Rattle.njh_stream.proofs.ProgressLaws.{placed_judged, placed_stays}
 use Rattle.njh_stream.specs.Transmissions.{Taken, Cancelled, judged, with_room}
 use Rattle.njh_stream.specs.Receiving.{stored, stored_by, cancelled, notice_of, progress_of}

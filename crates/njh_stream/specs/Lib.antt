@@ -3,9 +3,8 @@ pub mod Receiving
 pub mod Sending
 pub mod SpoolFiles
 pub mod Holding
-pub mod Judging
 pub mod Arrivals
-pub mod Routing
 pub mod Outcomes
 pub mod Following
 pub mod Streams
+pub mod code

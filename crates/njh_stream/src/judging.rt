@@ -4,7 +4,7 @@ ghost use Rattle.std.specs.Prelude.{◌≡◌, ◌++◌, ◌∷◌, []};
 ghost use Rattle.njh_header.specs.Headers.{data_set_header};
 ghost use Rattle.njh_table.specs.TableFile.{entry_of};
 ghost use Rattle.njh_stream.specs.Receiving.{progress_of};
-ghost use Rattle.njh_stream.specs.Judging.{said, judged_placed, IsHeaderPlaced, IsPlaced, IsProgress, IsTakenAt};
+ghost use Rattle.njh_stream.specs.code.Verdicts.{said, judged_placed, IsHeaderPlaced, IsPlaced, IsProgress, IsTakenAt};
 ghost use Rattle.njh_stream.specs.Transmissions as transmissions;
 
 use crate::receiver::Progress;

@@ -4,7 +4,7 @@ ghost use Rattle.std.specs.Prelude.{◌≡◌, ◌<◌, length, slice_set, Some,
 ghost use Rattle.njh_spool.specs.CustomerSpool.{WholeFile, whole_numbered};
 ghost use Rattle.njh_spool.specs.Spools.{part};
 ghost use Rattle.njh_table.specs.TableFile.{entry_of};
-ghost use Rattle.njh_stream.specs.Routing.{retried};
+ghost use Rattle.njh_stream.specs.code.FileRouting.{retried};
 ghost use Rattle.njh_stream.specs.Sending as sending;
 
 use njh_ebcdic::{FIELD, Name};

@@ -9,7 +9,7 @@ ghost use Rattle.njh_spool.specs.CustomerSpool.{has_room_for, partial_numbered};
 ghost use Rattle.njh_spool.specs.Spools.{part};
 ghost use Rattle.njh_table.specs.Entries.{CustomerEntry};
 ghost use Rattle.njh_table.specs.TableFile.{entry_of};
-ghost use Rattle.njh_stream.specs.Judging.{appended_where, judged_placed, IsAfter};
+ghost use Rattle.njh_stream.specs.code.Verdicts.{appended_where, judged_placed, IsAfter};
 ghost use Rattle.njh_stream.specs.SpoolFiles.{records_in};
 ghost use Rattle.njh_stream.specs.Receiving.{AgreesWith, cancelled, notice_of, stored};
 ghost use Rattle.njh_stream.specs.Transmissions as transmissions;

@@ -276,7 +276,7 @@ impl<C: Connection + Drop> LineWire<C> {
 
 impl<C: Connection + Drop> Wire for LineWire<C> {
     ghost use Rattle.std.specs.Prelude.{refl};
-    ghost use Rattle.njh_wire.specs.PlaceLaws.{same_then};
+    ghost use Rattle.njh_wire.specs.code.PlaceLaws.{same_then};
 
     // What passes is in the clauses of `read` and `write`; here, that it stays the wire of its line.
     ghost passed = { λ before after acts. before.place ≡ after.place };

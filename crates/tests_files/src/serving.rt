@@ -1,7 +1,7 @@
 //! A hub with four lines, served over any wires.
 
 ghost use Rattle.std.specs.Prelude.{All, IfOk};
-ghost use Rattle.njh_hub.specs.Whole.{HasLine};
+ghost use Rattle.njh_hub.specs.WholeHub.{HasLine};
 
 use njh_hub::{Attendant, Hub, Rounds, Wire, attend, serve_turns};
 use njh_table::{LineId, Tables};

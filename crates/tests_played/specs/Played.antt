@@ -1,7 +1,7 @@
 -- Runs of one customer by itself: what came on its lines, and what it sent.
 use Rattle.std.specs.Prelude.{◌≡◌, ℕ, List, [], ◌∷◌, map, flat_map}
 use Rattle.njh_ebcdic.specs.Characters.{character_of, byte_of_character}
-use Rattle.njh_bisync.specs.Fed.{turn}
+use Rattle.njh_bisync.specs.ByteSteps.{turn}
 use Rattle.njh_bisync.specs.Frames.{kept}
 use Rattle.njh_bisync.specs.Written.{text_bytes}
 use Rattle.njh_record.specs.Writing.{before_run, first_item, items_past, spelling_of}

@@ -3,7 +3,7 @@
 ghost use Rattle.std.specs.Prelude.{◌≡◌, ◌<◌, ◌↔◌, length, IsTrue, IfOk, IsOk, OnErr, Err};
 ghost use Rattle.std.specs.Option.{option_map};
 ghost use Rattle.njh_hub.specs.Views.{HasGivenUp, file_on, file_summary, hub_line, session_view};
-ghost use Rattle.njh_hub.specs.Whole.{part, HasLine};
+ghost use Rattle.njh_hub.specs.WholeHub.{part, HasLine};
 
 use crate::fault::HubFault;
 use crate::file_summary::{FileSummaryView, file_summary};

@@ -3,15 +3,15 @@
 ghost use Rattle.std.specs.Prelude.{◌≡◌, ◌<◌, ◌≤◌, ◌^◌, length, MatchOption, IfOk, OnOk, OnErr, IsOk, slice_set};
 ghost use Rattle.std.specs.Option.{option_map};
 ghost use Rattle.njh_spool.specs.CustomerSpool.{next_number, begun, appended, finished, abandoned, partial_numbered};
-ghost use Rattle.njh_spool.specs.Chains.{blocks_for};
+ghost use Rattle.njh_spool.specs.code.Chains.{blocks_for};
 ghost use Rattle.njh_spool.specs.Spools.{part, begin_fault, append_fault, or_no_file};
 
 use crate::file_headers::read_headers;
 use crate::file_id::FileId;
 use crate::file_slot::{FileSlot, Stage};
 use crate::laws::quotas_leave_room;
-use crate::places::{free_number, place, slot_at};
-use crate::reading::{RECORD_HEAD, head_of};
+use crate::slot_places::{free_number, place, slot_at};
+use crate::record_places::{RECORD_HEAD, head_of};
 use crate::spool::Spool;
 use crate::store::block::BLOCK_DATA;
 use crate::{SpoolFault, State};

@@ -9,8 +9,8 @@ ghost use Rattle.njh_spool.specs.Spools.{part, or_no_file};
 use crate::file_headers::{FileHeaders, FileSummary, headers_behind};
 use crate::file_id::FileId;
 use crate::file_slot::{FileSlot, Stage};
-use crate::places::{place, slot_at};
-use crate::reading::{RECORD_HEAD, place_of_record};
+use crate::slot_places::{place, slot_at};
+use crate::record_places::{RECORD_HEAD, place_of_record};
 use crate::spool::Spool;
 use crate::spool::partial::blocks_for;
 use crate::{SpoolFault, State};
@@ -125,7 +125,7 @@ impl Spool {
         if !slot.is_whole() {
             return Err(SpoolFault::NoSuchFile);
         }
-        let at = crate::places::place(customer, id);
+        let at = crate::slot_places::place(customer, id);
         let begins = place_of_record(&self.store, at, &slot, n);
         let from = begins.place + (RECORD_HEAD + place) as u32;
         self.store.overwrite(at, begins.mark, from, bytes);

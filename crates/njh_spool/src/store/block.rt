@@ -3,7 +3,7 @@
 ghost use Rattle.std.specs.Prelude.{◌≡◌, ◌+◌, ◌-◌, ◌≤◌, ◌++◌, length, replicate};
 ghost use Rattle.slab.specs.Slab.{ContainsKey, with_value};
 ghost use Rattle.njh_record.specs.Bytes.{with_field};
-ghost use Rattle.njh_spool.specs.ChainedBlocks.{next_at, data_at};
+ghost use Rattle.njh_spool.specs.code.ChainedBlocks.{next_at, data_at};
 
 use slab::Slab;
 

@@ -2,8 +2,8 @@
 
 ghost use Rattle.std.specs.Prelude.{◌≡◌, ℕ, List, length, All};
 ghost use Rattle.slab.specs.Slab.{Slab, ContainsKey};
-ghost use Rattle.njh_spool.specs.Chains.{blocks_for};
-ghost use Rattle.njh_spool.specs.ChainedBlocks.{keys_of, LiesInOne, IsChained};
+ghost use Rattle.njh_spool.specs.code.Chains.{blocks_for};
+ghost use Rattle.njh_spool.specs.code.ChainedBlocks.{keys_of, LiesInOne, IsChained};
 ghost use Rattle.njh_spool.specs.declared.store.block.Block.{Block};
 ghost use Rattle.njh_spool.specs.declared.store.slot.Slot.{Slot};
 

@@ -1,5 +1,5 @@
 use Rattle.std.proofs.Common.{◌≡◌, ◌+◌, drop}
-use Rattle.njh_bisync.specs.Plain.{plain_len}
+use Rattle.njh_bisync.specs.code.PlainBytes.{plain_len}
 use Rattle.njh_bisync.proofs.plain.first_dle.Given as goal
 
 abbrev pub invariant-loop-index : goal.invariant-loop-index

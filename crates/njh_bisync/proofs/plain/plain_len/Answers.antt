@@ -1,7 +1,7 @@
 use Rattle.std.proofs.Common.{◌≡◌, ◌+◌, ◌==◌, false, take, length, ap, arith}
 use Rattle.std.specs.List.{AllWithin}
 use Rattle.std.proofs.lemmas.List.{length-take-le}
-use Rattle.njh_bisync.specs.Plain.{plain_len}
+use Rattle.njh_bisync.specs.code.PlainBytes.{plain_len}
 use Rattle.njh_bisync.proofs.PlainLaws.{plain_len-group}
 use Rattle.njh_bisync.proofs.plain.plain_len.Goals as goal
 

@@ -1,5 +1,5 @@
 use Rattle.std.proofs.Common.{◌≡◌, ◌-◌, ◌+◌, ◌≤◌, length}
-use Rattle.njh_bisync.specs.Plain.{plain_len}
+use Rattle.njh_bisync.specs.code.PlainBytes.{plain_len}
 use Rattle.njh_bisync.proofs.plain.plain_len.Given as goal
 
 -- What was passed over is plain.

@@ -1,7 +1,7 @@
 use Rattle.std.proofs.Common.{◌≡◌, ◌∷◌, ◌++◌, length, drop, ap, ◌∙◌, arith, rules}
 use Rattle.std.specs.Prelude.{ℕ, flat_map}
 use Rattle.std.proofs.lemmas.List.{length-append, length-take-le}
-use Rattle.njh_bisync.specs.Plain.{plain_len}
+use Rattle.njh_bisync.specs.code.PlainBytes.{plain_len}
 use Rattle.njh_bisync.specs.Written.{bytes_of_data}
 use Rattle.njh_bisync.proofs.WrittenLaws.{length-data_bytes}
 use Rattle.njh_bisync.proofs.PlainLaws.{written-run, written-whole, put-run}

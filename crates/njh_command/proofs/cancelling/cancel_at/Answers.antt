@@ -1,7 +1,7 @@
 -- The file is none of them, and nothing is done.
 use Rattle.std.proofs.Common.{◌≡◌, Bool, true, false, rules, sym, ap, ◌∙◌, slice_set}
 use Rattle.njh_spool.specs.Spools.{part}
-use Rattle.njh_command.specs.Changes.{standing_by, without_where}
+use Rattle.njh_command.specs.code.Changes.{standing_by, without_where}
 use Rattle.njh_command.specs.declared.changing.Standing.TheVariants.{Other}
 use Rattle.njh_command.specs.Commands.{chosen, is_sending}
 use Rattle.njh_command.specs.Files.{file_at}

@@ -3,7 +3,7 @@ use Rattle.std.proofs.Common.{◌≡◌, ◌<◌, ◌≤◌, ◌+◌, ℕ, true,
 use Rattle.std.proofs.Common.{slice_set}
 use Rattle.njh_spool.specs.CustomerSpool.{CustomerSpool, WholeFile}
 use Rattle.njh_spool.specs.Spools.{part}
-use Rattle.njh_command.specs.Changes.{numbers_where, without_where}
+use Rattle.njh_command.specs.code.Changes.{numbers_where, without_where}
 use Rattle.njh_command.specs.Commands.{chosen, is_busy, without_file}
 use Rattle.njh_command.specs.Files.{file_at}
 use Rattle.njh_command.proofs.UpTo.{removed_up_to}

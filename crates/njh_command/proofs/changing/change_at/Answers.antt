@@ -2,7 +2,7 @@
 use Rattle.std.proofs.Common.{◌≡◌, false, inl, inr, sym, ap, ◌∙◌, slice_set}
 use Rattle.njh_spool.specs.CustomerSpool.{WholeFile}
 use Rattle.njh_spool.specs.Spools.{part}
-use Rattle.njh_command.specs.Changes.{change_by}
+use Rattle.njh_command.specs.code.Changes.{change_by}
 use Rattle.njh_command.specs.Commands.{chosen, is_idle, is_sending}
 use Rattle.njh_command.specs.Files.{file_at, with_file}
 use Rattle.njh_command.proofs.WalkLaws.{unmoved, same_file, unchanged, as_other, as_busy}

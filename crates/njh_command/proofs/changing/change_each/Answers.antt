@@ -2,7 +2,7 @@
 use Rattle.std.proofs.Common.{◌≡◌, ◌<◌, ◌+◌, ℕ, true, false, length, sym, ap, subst, ◌∙◌, arith, slice_set}
 use Rattle.njh_spool.specs.CustomerSpool.{CustomerSpool, WholeFile}
 use Rattle.njh_spool.specs.Spools.{part}
-use Rattle.njh_command.specs.Changes.{change_by, standing_of}
+use Rattle.njh_command.specs.code.Changes.{change_by, standing_of}
 use Rattle.njh_command.specs.Commands.{changed_file, chosen, is_busy, is_idle, is_sending}
 use Rattle.njh_command.specs.Files.{file_at, with_file}
 use Rattle.njh_command.proofs.UpTo.{changed_up_to}

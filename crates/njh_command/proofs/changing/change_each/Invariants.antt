@@ -1,6 +1,6 @@
 use Rattle.std.proofs.Common.{◌≡◌, ◌+◌, ◌≤◌, slice_set}
 use Rattle.njh_spool.specs.Spools.{part}
-use Rattle.njh_command.specs.Changes.{change_by}
+use Rattle.njh_command.specs.code.Changes.{change_by}
 use Rattle.njh_command.specs.Commands.{changed_file, chosen, is_busy, is_idle}
 use Rattle.njh_command.proofs.UpTo.{changed_up_to, count_up_to}
 use Rattle.njh_command.proofs.changing.change_each.Given as goal

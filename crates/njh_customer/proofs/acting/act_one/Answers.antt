@@ -1,7 +1,7 @@
 -- The customer stays coherent.
 use Rattle.njh_customer.specs.Acting.{acted}
-use Rattle.njh_block.specs.Shown.{shown}
-use Rattle.njh_customer.specs.Leading.{customer_of}
+use Rattle.njh_block.specs.ItemViews.{shown}
+use Rattle.njh_customer.specs.CustomerSteps.{customer_of}
 use Rattle.njh_customer.proofs.StepLaws.{acted_stays}
 use Rattle.njh_customer.proofs.ReadyLaws.{next_ready}
 use Rattle.njh_customer.proofs.acting.act_one.Goals as goal

@@ -1,8 +1,8 @@
 -- One record more acted.
 use Rattle.std.proofs.Common.{◌≡◌, Some, slice_get, drop, ap, ◌∙◌, rules}
-use Rattle.njh_block.specs.Shown.{shown}
+use Rattle.njh_block.specs.ItemViews.{shown}
 use Rattle.njh_customer.specs.Acting.{all_acted}
-use Rattle.njh_customer.specs.Leading.{customer_of}
+use Rattle.njh_customer.specs.CustomerSteps.{customer_of}
 use Rattle.njh_customer.proofs.ReadyLaws.{others_twice, one_acted}
 use Rattle.njh_customer.proofs.acting.all_act.Goals as goal
 

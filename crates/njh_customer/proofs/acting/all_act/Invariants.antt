@@ -1,7 +1,7 @@
 use Rattle.std.proofs.Common.{◌≡◌, length, slice_set}
 use Rattle.njh_spool.specs.Spools.{part}
 use Rattle.njh_customer.specs.Acting.{all_acted}
-use Rattle.njh_customer.specs.Leading.{IsReady, customer_of}
+use Rattle.njh_customer.specs.CustomerSteps.{IsReady, customer_of}
 use Rattle.njh_customer.proofs.acting.all_act.Given as goal
 
 -- what is left to act is what leads on from here

@@ -4,7 +4,7 @@ use Rattle.njh_block.specs.Codes.{kind_of}
 use Rattle.njh_spool.specs.Spools.{part}
 use Rattle.njh_stream.specs.Receiving.{Agrees}
 use Rattle.njh_customer.specs.Customer.{receiver_at}
-use Rattle.njh_customer.specs.Leading.{customer_of}
+use Rattle.njh_customer.specs.CustomerSteps.{customer_of}
 use Rattle.njh_customer.proofs.CoherenceLaws.{agrees_there}
 use Rattle.njh_customer.proofs.acting.arrive.Goals as goal
 

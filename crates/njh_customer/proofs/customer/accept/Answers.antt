@@ -1,7 +1,7 @@
 -- A line's session and its mark are nothing that ties the customer's parts to each other.
 use Rattle.njh_line.specs.LineTable.{shown}
 use Rattle.njh_customer.specs.Alone.{accepted_on}
-use Rattle.njh_customer.specs.Leading.{customer_of}
+use Rattle.njh_customer.specs.CustomerSteps.{customer_of}
 use Rattle.njh_customer.proofs.StepLaws.{accepted_stays}
 use Rattle.njh_customer.proofs.ReadyLaws.{accepted_so, known_line, still_brought}
 use Rattle.njh_customer.proofs.customer.accept.Goals as goal

@@ -3,7 +3,7 @@ use Rattle.std.proofs.Common.{◌≡◌, true, false, sym, ap, ◌∙◌, rules}
 use Rattle.njh_line.specs.LineTable.{Block}
 use Rattle.njh_line.specs.Openings.{shown_first}
 use Rattle.njh_customer.specs.Alone.{accepted_on, block_input, verdict_on}
-use Rattle.njh_customer.specs.Leading.{customer_of}
+use Rattle.njh_customer.specs.CustomerSteps.{customer_of}
 use Rattle.njh_customer.proofs.ReadyLaws.{brought_by_block}
 use Rattle.njh_customer.proofs.customer.block_came.Goals as goal
 

@@ -1,7 +1,7 @@
 -- Where the session ends, it does so behind what was sent.
 use Rattle.std.proofs.Common.{sym, subst}
 use Rattle.njh_customer.specs.Alone.{replied_to, session_over, session_over_where}
-use Rattle.njh_customer.specs.Leading.{Brings, customer_of}
+use Rattle.njh_customer.specs.CustomerSteps.{Brings, customer_of}
 use Rattle.njh_customer.proofs.ReadyLaws.{as_brings, brought_on, known_line}
 use Rattle.njh_customer.proofs.customer.carry_out.Goals as goal
 

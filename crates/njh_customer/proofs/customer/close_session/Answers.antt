@@ -1,7 +1,7 @@
 -- The line's mark is taken away behind the end of its session.
 use Rattle.std.proofs.Common.{false}
 use Rattle.njh_customer.specs.Alone.{session_closed}
-use Rattle.njh_customer.specs.Leading.{customer_of}
+use Rattle.njh_customer.specs.CustomerSteps.{customer_of}
 use Rattle.njh_customer.proofs.ReadyLaws.{marked_behind}
 use Rattle.njh_customer.proofs.customer.close_session.Goals as goal
 

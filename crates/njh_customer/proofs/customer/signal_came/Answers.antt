@@ -1,7 +1,7 @@
 -- The line table's verdict, and what it asks for.
 use Rattle.std.proofs.Common.{sym, subst}
 use Rattle.njh_customer.specs.Alone.{input_came, signal_came, signal_input}
-use Rattle.njh_customer.specs.Leading.{Brings, customer_of}
+use Rattle.njh_customer.specs.CustomerSteps.{Brings, customer_of}
 use Rattle.njh_customer.proofs.ReadyLaws.{brought_by_verdict, there_steps}
 use Rattle.njh_customer.proofs.customer.signal_came.Goals as goal
 

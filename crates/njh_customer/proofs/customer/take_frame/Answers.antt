@@ -1,9 +1,9 @@
 -- The customer stays coherent, and has as many lines.
 use Rattle.std.proofs.Common.{length, ap, ◌∙◌}
 use Rattle.std.specs.Option.{option_map}
-use Rattle.njh_bisync.specs.Lent.{received}
+use Rattle.njh_bisync.specs.LentFrames.{received}
 use Rattle.njh_customer.specs.Feeding.{acted_on}
-use Rattle.njh_customer.specs.Leading.{customer_of}
+use Rattle.njh_customer.specs.CustomerSteps.{customer_of}
 use Rattle.njh_customer.proofs.ReadyLaws.{next_brought}
 use Rattle.njh_customer.proofs.SessionLaws.{frame_stays}
 use Rattle.njh_customer.proofs.customer.take_frame.Goals as goal

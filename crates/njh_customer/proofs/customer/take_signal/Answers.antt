@@ -1,7 +1,7 @@
 -- The customer stays coherent, and has as many lines.
 use Rattle.std.proofs.Common.{length, ap, ◌∙◌}
 use Rattle.njh_customer.specs.Alone.{signal_came}
-use Rattle.njh_customer.specs.Leading.{customer_of}
+use Rattle.njh_customer.specs.CustomerSteps.{customer_of}
 use Rattle.njh_customer.proofs.ReadyLaws.{next_brought}
 use Rattle.njh_customer.proofs.SessionLaws.{signal_stays}
 use Rattle.njh_customer.proofs.customer.take_signal.Goals as goal

@@ -1,7 +1,7 @@
 use Rattle.std.proofs.Common.{◌≡◌, ◌<◌, List, length}
 use Rattle.std.specs.Prelude.{All}
 use Rattle.njh_hub.specs.Turns.{Turn, IsRound}
-use Rattle.njh_hub.specs.Whole.{SameLines}
+use Rattle.njh_hub.specs.WholeHub.{SameLines}
 use Rattle.njh_hub.proofs.rounds.serve_round.Given as goal
 
 -- the first wires had their turns

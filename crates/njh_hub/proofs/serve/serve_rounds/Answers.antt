@@ -3,7 +3,7 @@ use Rattle.std.specs.Prelude.{All}
 use Rattle.std.proofs.lemmas.List.{length-append}
 use Rattle.njh_table.specs.declared.LineId.{LineId}
 use Rattle.njh_hub.specs.Turns.{IsRound, no_quiets}
-use Rattle.njh_hub.specs.Whole.{HasLine}
+use Rattle.njh_hub.specs.WholeHub.{HasLine}
 use Rattle.njh_hub.proofs.RoundLaws.{AreOver, over_none, over_more}
 use Rattle.njh_hub.proofs.serve.serve_rounds.Goals as goal
 

@@ -1,6 +1,6 @@
 use Rattle.std.proofs.Common.{◌≡◌, List, length}
 use Rattle.njh_hub.specs.Turns.{Turn, no_quiets}
-use Rattle.njh_hub.specs.Whole.{SameLines}
+use Rattle.njh_hub.specs.WholeHub.{SameLines}
 use Rattle.njh_hub.proofs.RoundLaws.{AreOver}
 use Rattle.njh_hub.proofs.serve.serve_rounds.Given as goal
 

@@ -1,6 +1,6 @@
 use Rattle.std.proofs.Common.{◌≡◌, List, length}
 use Rattle.njh_hub.specs.Service.{Happening, service_rounds}
-use Rattle.njh_hub.specs.Whole.{SameLines}
+use Rattle.njh_hub.specs.WholeHub.{SameLines}
 use Rattle.njh_hub.proofs.ServiceLaws.{IsAt}
 use Rattle.njh_hub.proofs.service.attend.Given as goal
 

@@ -1,7 +1,7 @@
 use Rattle.std.proofs.Common.{◌≡◌, ℕ, ◌+◌, ◌<◌, ◌≤◌, List, [], ◌∷◌, length, map, take, Some, None, ap, sym, subst, ◌∙◌, refl, arith}
 use Rattle.std.proofs.lemmas.List.{take_all}
 use Rattle.njh_hub.specs.declared.event.Event.TheVariants.{Bytes}
-use Rattle.njh_hub.specs.Whole.{HubRun, HasLine, hub_run}
+use Rattle.njh_hub.specs.WholeHub.{HubRun, HasLine, hub_run}
 use Rattle.njh_hub.specs.Wires.{WireAct, Unsent, sent_act, frame_acts}
 use Rattle.njh_hub.proofs.PieceLaws.{after_bytes, after_bytes-none}
 use Rattle.njh_hub.proofs.RunningLaws.{GoesOn, step_done, whole_done, counted_from}

@@ -1,7 +1,7 @@
 use Rattle.std.proofs.Common.{◌≡◌, ◌≤◌, ◌-◌, length, map, take}
 use Rattle.std.specs.Vec.{vec_capacity}
 use Rattle.njh_bisync.specs.declared.frame.TheConstants.{LONGEST_FRAME}
-use Rattle.njh_hub.specs.Whole.{SameLines}
+use Rattle.njh_hub.specs.WholeHub.{SameLines}
 use Rattle.njh_hub.specs.Wires.{sent_act}
 use Rattle.njh_hub.proofs.PieceLaws.{after_bytes}
 use Rattle.njh_hub.proofs.turn.pass_bytes.Given as goal

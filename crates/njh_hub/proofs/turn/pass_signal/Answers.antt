@@ -1,7 +1,7 @@
 use Rattle.std.proofs.Common.{◌≡◌, ℕ, ◌<◌, List, [], ◌∷◌, length, Some, ap, sym, subst, ◌∙◌, arith}
 use Rattle.njh_hub.specs.declared.event.Event.{Event}
-use Rattle.njh_hub.specs.Whole.{HubRun, hub_run}
-use Rattle.njh_hub.specs.Own.{event_by}
+use Rattle.njh_hub.specs.WholeHub.{HubRun, hub_run}
+use Rattle.njh_hub.specs.OwnEvents.{event_by}
 use Rattle.njh_hub.specs.Wires.{WireAct, Unsent, cut_to}
 use Rattle.njh_hub.proofs.RunningLaws.{signal_done}
 use Rattle.njh_hub.proofs.WireLaws.{signal_unsent, signal_stops, lost_after, cut_to-event_by}

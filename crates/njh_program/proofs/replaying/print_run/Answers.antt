@@ -1,8 +1,8 @@
 use Rattle.std.proofs.Common.{◌≡◌, ◌∙◌, rules}
 use Rattle.std.proofs.KnownBytes.{Appends-kept}
 use Rattle.njh_hub.specs.declared.fault.HubFault.TheVariants.{Memory}
-use Rattle.njh_hub.specs.Own.{first_of}
-use Rattle.njh_hub.specs.Whole.{hub_run}
+use Rattle.njh_hub.specs.OwnEvents.{first_of}
+use Rattle.njh_hub.specs.WholeHub.{hub_run}
 use Rattle.njh_program.specs.declared.fault.ReplayFault.TheVariants.{Hub}
 use Rattle.njh_program.specs.Replayed.{fault_after}
 use Rattle.njh_program.specs.Printed.{text_of, AppendsBeginning}

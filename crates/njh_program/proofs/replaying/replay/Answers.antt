@@ -2,8 +2,8 @@ use Rattle.std.proofs.Common.{List, map, inl, inr, subst}
 use Rattle.std.specs.Io.KnownBytes.{Appends}
 use Rattle.njh_hub.specs.declared.event.Event.{Event}
 use Rattle.njh_hub.specs.Parts.{entries_of}
-use Rattle.njh_hub.specs.Whole.{opened}
-use Rattle.njh_program.specs.Names.{customers_of, names_of}
+use Rattle.njh_hub.specs.WholeHub.{opened}
+use Rattle.njh_program.specs.LineNames.{customers_of, names_of}
 use Rattle.njh_program.specs.Printed.{AppendsBeginning, IsPrintedUpTo}
 use Rattle.njh_program.specs.Replayed.{text_of_run, text_with, IsSentUpTo}
 use Rattle.njh_program.proofs.PrintedParts.{on_err_then}

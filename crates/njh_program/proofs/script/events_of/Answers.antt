@@ -1,6 +1,6 @@
 use Rattle.std.proofs.Common.{◌≡◌, ◌+◌, ◌<◌, [], refl, length-drop, true, false, length, drop, ap, ◌∙◌, arith, rules}
 use Rattle.njh_program.specs.Script.{lines_of, can_stand}
-use Rattle.njh_program.specs.Found.{lines_behind}
+use Rattle.njh_program.specs.code.FirstLines.{lines_behind}
 use Rattle.njh_program.proofs.FoundLines.{IsNext-from}
 use Rattle.njh_program.proofs.Lines.{Reads-more, Reads-bad, Reads-all}
 use Rattle.njh_program.proofs.script.events_of.Goals as goal

@@ -2,7 +2,7 @@ use Rattle.std.proofs.Common.{◌≡◌, ◌+◌, ◌≤◌, length, drop}
 use Rattle.std.specs.Prelude.{All, IfSome}
 use Rattle.njh_program.specs.Script.{lines_of}
 use Rattle.njh_program.specs.ScriptRoutes.{IsNamedIn}
-use Rattle.njh_program.specs.Starts.{IsStart}
+use Rattle.njh_program.specs.code.LineStarts.{IsStart}
 use Rattle.njh_program.proofs.Lines.{Reads}
 use Rattle.njh_program.proofs.script.events_of.Given as goal
 

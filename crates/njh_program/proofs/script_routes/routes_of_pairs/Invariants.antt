@@ -1,6 +1,6 @@
 use Rattle.std.proofs.Common.{◌≡◌, ◌++◌}
 use Rattle.std.specs.Option.{option_map}
-use Rattle.njh_program.specs.Found.{parts_behind, length_behind}
+use Rattle.njh_program.specs.code.FirstLines.{parts_behind, length_behind}
 use Rattle.njh_program.specs.ScriptRoutes.{routes_of_pairs}
 use Rattle.njh_program.proofs.script_routes.routes_of_pairs.Given as goal
 

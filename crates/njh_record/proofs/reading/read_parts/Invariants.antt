@@ -1,5 +1,5 @@
 use Rattle.std.proofs.Common.{length}
-use Rattle.njh_record.specs.Parts.{HasRead}
+use Rattle.njh_record.specs.code.Parts.{HasRead}
 use Rattle.njh_record.proofs.reading.read_parts.Given as goal
 
 abbrev pub invariant-loop-part : goal.invariant-loop-part

@@ -1,6 +1,6 @@
 use Rattle.std.proofs.Common.{◌≡◌, true, drop, sym, ◌∙◌, arith}
 use Rattle.njh_record.specs.Writing.{begins_run}
-use Rattle.njh_record.specs.Written.{NoRunBefore}
+use Rattle.njh_record.specs.code.Written.{NoRunBefore}
 use Rattle.njh_record.proofs.Runs.{NoRunBefore-then, NoRunBefore-at, NoRunBefore-limit}
 use Rattle.njh_record.proofs.writing.literal_len.Goals as goal
 

@@ -1,5 +1,5 @@
 use Rattle.std.proofs.Common.{◌≤◌, ◌-◌, length}
-use Rattle.njh_record.specs.Written.{NoRunBefore}
+use Rattle.njh_record.specs.code.Written.{NoRunBefore}
 use Rattle.njh_record.proofs.writing.literal_len.Given as goal
 
 abbrev pub invariant-loop-place : goal.invariant-loop-place

@@ -1,5 +1,5 @@
 use Rattle.std.proofs.Common.{drop, arith, refl}
-use Rattle.njh_record.specs.Written.{NoRunBefore}
+use Rattle.njh_record.specs.code.Written.{NoRunBefore}
 use Rattle.njh_record.proofs.Runs.{NoRunBefore-apart, NoRunBefore-more, NoRunBefore-then}
 use Rattle.njh_record.proofs.writing.passed_len.Goals as goal
 

@@ -3,7 +3,7 @@ use Rattle.njh_spool.specs.Spools.{part}
 use Rattle.njh_stream.specs.Sending.{goes_by}
 use Rattle.njh_table.specs.TableFile.{entry_of}
 use Rattle.njh_sched.specs.NextBlock.{StreamRequest, filling, streams}
-use Rattle.njh_sched.specs.FileCursor.{FileCursor, GoesOn, first_file}
+use Rattle.njh_sched.specs.code.FileCursor.{FileCursor, GoesOn, first_file}
 use Rattle.njh_sched.proofs.CursorLaws.{again, from_first, stays}
 use Rattle.njh_sched.proofs.RequestLaws.{no_files, source_is, spool_is}
 use Rattle.njh_sched.proofs.SourceLists.{no_streams, stream_at, stream_stopped, stream_went_on, streams_done}

@@ -3,7 +3,7 @@ use Rattle.njh_spool.specs.Spools.{part}
 use Rattle.njh_stream.specs.Sending.{goes_by}
 use Rattle.njh_table.specs.TableFile.{entry_of}
 use Rattle.njh_sched.specs.NextBlock.{StreamRequest, after_sources, filling, requests, streams}
-use Rattle.njh_sched.specs.FileCursor.{GoesOn, first_file}
+use Rattle.njh_sched.specs.code.FileCursor.{GoesOn, first_file}
 use Rattle.njh_sched.proofs.requests.add_requests.Given as goal
 
 abbrev pub invariant-loop-place : goal.invariant-loop-place

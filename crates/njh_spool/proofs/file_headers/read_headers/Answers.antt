@@ -1,5 +1,5 @@
 use Rattle.std.proofs.Common.{length, ap, ◌∙◌}
-use Rattle.njh_spool.specs.Chains.{chain_at}
+use Rattle.njh_spool.specs.code.Chains.{chain_at}
 use Rattle.njh_spool.proofs.PackingLaws.{length-unpacked}
 use Rattle.njh_spool.proofs.file_headers.read_headers.Goals as goal
 

@@ -1,7 +1,7 @@
 use Rattle.std.proofs.Common.{ℕ, List, [], ◌∷◌, ◌++◌, ap, ◌∙◌, arith, vec_capacity}
 use Rattle.njh_spool.specs.declared.file_slot.FileSlot.{FileSlot}
-use Rattle.njh_spool.specs.Slots.{free_slot}
-use Rattle.njh_spool.specs.SlotRows.{row_of}
+use Rattle.njh_spool.specs.code.Slots.{free_slot}
+use Rattle.njh_spool.specs.code.SlotRows.{row_of}
 use Rattle.njh_spool.proofs.RowLaws.{row_of-more}
 use Rattle.njh_spool.proofs.slot_row.reach.Goals as goal
 

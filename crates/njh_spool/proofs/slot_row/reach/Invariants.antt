@@ -1,5 +1,5 @@
 use Rattle.std.proofs.Common.{◌≡◌, ◌+◌, ◌-◌, length, vec_capacity}
-use Rattle.njh_spool.specs.SlotRows.{row_of}
+use Rattle.njh_spool.specs.code.SlotRows.{row_of}
 use Rattle.njh_spool.proofs.slot_row.reach.Given as goal
 
 abbrev pub invariant-loop-slots : goal.invariant-loop-slots

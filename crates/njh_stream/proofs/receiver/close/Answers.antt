@@ -1,7 +1,7 @@
 -- What is kept says whether the file is whole.
 use Rattle.std.proofs.Common.{sym, ap, ◌∙◌, subst}
 use Rattle.njh_spool.specs.Spools.{part}
-use Rattle.njh_stream.specs.Judging.{IsAfter}
+use Rattle.njh_stream.specs.code.Verdicts.{IsAfter}
 use Rattle.njh_stream.specs.Receiving.{closed_by}
 use Rattle.njh_stream.proofs.ReceivingLaws.{closed_as}
 use Rattle.njh_stream.proofs.receiver.close.Goals as goal

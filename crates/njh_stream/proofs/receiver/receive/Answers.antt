@@ -1,7 +1,7 @@
 use Rattle.std.proofs.Common.{sym, subst, ap₂}
 use Rattle.njh_table.specs.TableFile.{entry_of}
 use Rattle.njh_stream.specs.Arrivals.{arrival_of}
-use Rattle.njh_stream.specs.Judging.{IsAfter}
+use Rattle.njh_stream.specs.code.Verdicts.{IsAfter}
 use Rattle.njh_stream.specs.Receiving.{received}
 use Rattle.njh_spool.specs.CustomerSpool.{abandoned}
 use Rattle.njh_spool.specs.Spools.{part}

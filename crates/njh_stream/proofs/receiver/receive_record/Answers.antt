@@ -1,7 +1,7 @@
 use Rattle.std.proofs.Common.{rules, ◌≢◌, length, sym, subst}
 use Rattle.njh_spool.specs.Spools.{part}
 use Rattle.njh_table.specs.TableFile.{entry_of}
-use Rattle.njh_stream.specs.Judging.{IsAfter}
+use Rattle.njh_stream.specs.code.Verdicts.{IsAfter}
 use Rattle.njh_stream.proofs.ReceivingLaws.{record_stored}
 use Rattle.njh_stream.proofs.receiver.receive_record.Goals as goal
 

@@ -1,6 +1,6 @@
 use Rattle.std.proofs.Common.{rules, ◌≢◌, None, length, sym, ap, ◌∙◌, subst}
 use Rattle.njh_spool.specs.Spools.{part}
-use Rattle.njh_stream.specs.Judging.{IsAfter}
+use Rattle.njh_stream.specs.code.Verdicts.{IsAfter}
 use Rattle.njh_stream.specs.Receiving.{Data, received}
 use Rattle.njh_stream.specs.declared.receiver.Receiver.TheVariants.{Open}
 use Rattle.njh_stream.proofs.ReceivingLaws.{record_stored}

@@ -4,7 +4,7 @@ use Rattle.std.proofs.lemmas.List.{get_or-set_same}
 use Rattle.njh_spool.specs.Spools.{part, no_spool, IsSound}
 use Rattle.njh_table.specs.TableFile.{entry_of}
 use Rattle.njh_spool.specs.declared.State.TheVariants.{Ready}
-use Rattle.njh_stream.specs.Routing.{retried}
+use Rattle.njh_stream.specs.code.FileRouting.{retried}
 use Rattle.njh_stream.specs.Sending.{may_go_again}
 use Rattle.njh_stream.proofs.EndingLaws.{moved_twice}
 use Rattle.njh_stream.proofs.RoutingLaws.{one_more_at, restated_up_to}

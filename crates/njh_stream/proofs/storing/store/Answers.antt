@@ -6,7 +6,7 @@ use Rattle.njh_spool.specs.Spools.{part}
 use Rattle.njh_spool.specs.CustomerSpool.{has_room_for}
 use Rattle.njh_header.specs.FileHeaders.{job_header_of}
 use Rattle.njh_table.specs.TableFile.{entry_of}
-use Rattle.njh_stream.specs.Judging.{IsAfter, appended_where}
+use Rattle.njh_stream.specs.code.Verdicts.{IsAfter, appended_where}
 use Rattle.njh_stream.specs.Receiving.{cancelled, notice_of, progress_of}
 use Rattle.njh_stream.proofs.ReceivingLaws.{partial_records_in, progress_in}
 use Rattle.njh_stream.proofs.StoringLaws.{stored_cancelled, stored_taken}

@@ -4,7 +4,7 @@ use Rattle.std.specs.Option.{is_some}
 use Rattle.njh_record.specs.Stored.{Stored}
 use Rattle.njh_spool.specs.Spools.{part}
 use Rattle.njh_spool.specs.CustomerSpool.{has_room_for, partial_numbered}
-use Rattle.njh_stream.specs.Judging.{IsAfter}
+use Rattle.njh_stream.specs.code.Verdicts.{IsAfter}
 use Rattle.njh_stream.specs.declared.receiver.Progress.TheVariants.{Placed}
 use Rattle.njh_stream.specs.declared.receiver.Receiver.TheVariants.{Open}
 use Rattle.njh_stream.proofs.ReceivingLaws.{progress_in}

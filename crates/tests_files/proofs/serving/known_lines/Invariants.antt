@@ -1,5 +1,5 @@
 use Rattle.std.specs.Prelude.{All}
-use Rattle.njh_hub.specs.Whole.{HasLine}
+use Rattle.njh_hub.specs.WholeHub.{HasLine}
 use Rattle.tests_files.proofs.serving.known_lines.Given as goal
 
 abbrev pub invariant-loop-line : goal.invariant-loop-line

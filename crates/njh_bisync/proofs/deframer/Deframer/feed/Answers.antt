@@ -1,7 +1,7 @@
 use Rattle.std.proofs.Common.{rules, ◌≡◌, refl}
 use Rattle.std.specs.Prelude.{Some, None}
-use Rattle.njh_bisync.specs.Fed.{fed}
-use Rattle.njh_bisync.specs.Lent.{received}
+use Rattle.njh_bisync.specs.ByteSteps.{fed}
+use Rattle.njh_bisync.specs.LentFrames.{received}
 use Rattle.njh_bisync.proofs.FedLaws.{feeds}
 use Rattle.njh_bisync.proofs.deframer.Deframer.feed.Goals as goal
 

@@ -1,6 +1,6 @@
 use Rattle.std.proofs.Common.{sym, subst}
 use Rattle.njh_bisync.specs.Reading.{Rest, Reads}
-use Rattle.njh_bisync.specs.Fed.{frames_after, rest_after}
+use Rattle.njh_bisync.specs.ByteSteps.{frames_after, rest_after}
 use Rattle.njh_bisync.proofs.FedLaws.{reads_from}
 use Rattle.njh_bisync.proofs.deframer.Deframer.reset.Goals as goal
 

@@ -1,6 +1,6 @@
 use Rattle.std.proofs.Common.{◌≡◌, ◌-◌, ◌≤◌, length, drop}
-use Rattle.njh_bisync.specs.Fed.{fed, ahead}
-use Rattle.njh_bisync.specs.Scanned.{rest_in}
+use Rattle.njh_bisync.specs.ByteSteps.{fed, ahead}
+use Rattle.njh_bisync.specs.code.Scanner.{rest_in}
 use Rattle.njh_bisync.proofs.scanner.Scanner.scan.Given as goal
 
 -- What was taken so far, put before what is taken of the rest of the piece, is what is taken of all of it.

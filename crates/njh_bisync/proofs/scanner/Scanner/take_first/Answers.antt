@@ -1,5 +1,5 @@
 use Rattle.std.proofs.Common.{◌∙◌, ap, drop, refl}
-use Rattle.njh_bisync.specs.Fed.{fed}
+use Rattle.njh_bisync.specs.ByteSteps.{fed}
 use Rattle.njh_bisync.specs.Reading.{Nothing}
 use Rattle.njh_bisync.proofs.RunLaws.{fed-begin}
 use Rattle.njh_bisync.proofs.scanner.Scanner.take_first.Goals as goal

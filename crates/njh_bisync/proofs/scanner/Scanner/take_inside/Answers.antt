@@ -1,5 +1,5 @@
 use Rattle.std.proofs.Common.{◌≡◌, ◌<◌, length, get_or, arith, rules}
-use Rattle.njh_bisync.specs.Scanned.{good_data}
+use Rattle.njh_bisync.specs.code.Scanner.{good_data}
 use Rattle.njh_bisync.proofs.PlainLaws.{fed-front}
 use Rattle.njh_bisync.proofs.RunLaws.{fed-behind, fed-dle, run-some}
 use Rattle.njh_bisync.proofs.scanner.Scanner.take_inside.Goals as goal

@@ -1,6 +1,6 @@
 use Rattle.std.proofs.Common.{◌≡◌, List, Ok, Some, drop, sym, ap}
 use Rattle.njh_block.specs.Blocks.{Item, first_record}
-use Rattle.njh_block.specs.Shown.{shown}
+use Rattle.njh_block.specs.ItemViews.{shown}
 use Rattle.njh_block.proofs.ReadingLaws.{takes_first}
 use Rattle.njh_block.proofs.block.Block.next.Goals as goal
 

@@ -1,6 +1,6 @@
 use Rattle.std.proofs.Common.{◌∷◌, [], ◌++◌, ◌∙◌, sym, ap, subst, IsTrue}
 use Rattle.njh_block.specs.Blocks.{written_bytes}
-use Rattle.njh_block.specs.Shown.{outgoing_item}
+use Rattle.njh_block.specs.ItemViews.{outgoing_item}
 use Rattle.njh_block.specs.Writing.{Writing, without_end, writing_of, with_last, has_room}
 use Rattle.njh_block.proofs.WritingLaws.{Adds, written_on, IsWritten-outgoing}
 use Rattle.njh_block.proofs.writer.BlockWriter.add.Goals as goal

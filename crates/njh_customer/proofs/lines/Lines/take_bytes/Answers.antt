@@ -3,7 +3,7 @@ use Rattle.std.proofs.Common.{◌≡◌, [], ◌∙◌, sym, rules, List, ℕ, �
 use Rattle.std.proofs.lemmas.List.{set-set}
 use Rattle.njh_bisync.specs.Reading.{Rest}
 use Rattle.njh_customer.specs.Feeding.{or_later, take_step}
-use Rattle.njh_customer.specs.Leading.{customer_of}
+use Rattle.njh_customer.specs.CustomerSteps.{customer_of}
 use Rattle.njh_customer.specs.Part.{rest_at}
 use Rattle.njh_customer.proofs.ReadyLaws.{others_twice, retold_twice}
 use Rattle.njh_customer.proofs.TakingLaws.{takes_on}

@@ -1,7 +1,7 @@
 use Rattle.std.proofs.Common.{◌≡◌, ◌+◌, ◌<◌, length, set, slice_set}
 use Rattle.njh_spool.specs.Spools.{part}
 use Rattle.njh_customer.specs.Feeding.{take_step, or_later}
-use Rattle.njh_customer.specs.Leading.{IsReady, IsRetold, customer_of}
+use Rattle.njh_customer.specs.CustomerSteps.{IsReady, IsRetold, customer_of}
 use Rattle.njh_customer.specs.Part.{rest_at}
 use Rattle.njh_customer.proofs.lines.Lines.take_bytes.Given as goal
 

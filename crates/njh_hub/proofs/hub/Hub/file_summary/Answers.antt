@@ -3,7 +3,7 @@ use Rattle.std.specs.Option.{option_map}
 use Rattle.std.proofs.lemmas.List.{get_or_past}
 use Rattle.njh_spool.specs.CustomerSpool.{whole_numbered}
 use Rattle.njh_hub.specs.Views.{file_on, file_summary}
-use Rattle.njh_hub.specs.Whole.{Part, no_part}
+use Rattle.njh_hub.specs.WholeHub.{Part, no_part}
 use Rattle.njh_hub.proofs.PartsLaws.{length-parts_of, part-there}
 use Rattle.njh_hub.proofs.hub.Hub.file_summary.Goals as goal
 

@@ -1,6 +1,6 @@
 use Rattle.std.proofs.Common.{◌<◌, List, length, ap, sym, ◌∙◌, arith}
 use Rattle.njh_hub.specs.Files.{files_at, files_of}
-use Rattle.njh_hub.specs.Whole.{Part}
+use Rattle.njh_hub.specs.WholeHub.{Part}
 use Rattle.njh_hub.proofs.PartsLaws.{length-parts_of, part-there}
 use Rattle.njh_hub.proofs.hub.Hub.files.Goals as goal
 

@@ -2,7 +2,7 @@ use Rattle.std.proofs.Common.{◌≡◌, ◌<◌, List, length, ap, subst, sym, 
 use Rattle.std.proofs.lemmas.List.{get_or_read}
 use Rattle.njh_customer.specs.Part.{Lines}
 use Rattle.njh_hub.specs.Parts.{lines_at, no_lines}
-use Rattle.njh_hub.specs.Whole.{Part, HasLine, part}
+use Rattle.njh_hub.specs.WholeHub.{Part, HasLine, part}
 use Rattle.njh_hub.proofs.PartsLaws.{line-there, part-there}
 use Rattle.njh_hub.proofs.hub.Hub.lines_of.Goals as goal
 

@@ -1,6 +1,6 @@
 use Rattle.std.proofs.Common.{◌<◌, List, length, ap, subst, sym, arith}
 use Rattle.njh_customer.specs.Customer.{IsMarked}
-use Rattle.njh_hub.specs.Whole.{Part, part}
+use Rattle.njh_hub.specs.WholeHub.{Part, part}
 use Rattle.njh_hub.proofs.PartsLaws.{length-parts_of, part-there}
 use Rattle.njh_hub.proofs.hub.Hub.marks_hold.Goals as goal
 

@@ -1,7 +1,7 @@
 use Rattle.std.proofs.Common.{◌<◌, List, length, ap, sym, ◌∙◌, refl, arith}
 use Rattle.std.proofs.lemmas.Bool.{false≢true}
 use Rattle.njh_table.specs.TableFile.{NamedCustomer}
-use Rattle.njh_hub.specs.Whole.{Part}
+use Rattle.njh_hub.specs.WholeHub.{Part}
 use Rattle.njh_hub.proofs.PartsLaws.{entry-there, length-parts_of}
 use Rattle.njh_table.specs.Entries.{CustomerEntry}
 use Rattle.njh_hub.proofs.hub.Hub.quota.Goals as goal

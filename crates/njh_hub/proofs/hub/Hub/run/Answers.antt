@@ -7,9 +7,9 @@ use Rattle.std.proofs.lemmas.List.{take_all, length-append}
 use Rattle.njh_customer.specs.Runs.{alone_run}
 use Rattle.njh_hub.specs.declared.event.Event.{Event}
 use Rattle.njh_hub.specs.declared.fault.RunFault.{RunFault}
-use Rattle.njh_hub.specs.Own.{line_of, events_of, bytes_in_event, first_of}
-use Rattle.njh_hub.specs.Stops.{HandedUntil, IfHub, IsRefused, IsRoutes}
-use Rattle.njh_hub.specs.Whole.{Part, part, HubRun, IsNamed, hub_run}
+use Rattle.njh_hub.specs.OwnEvents.{line_of, events_of, bytes_in_event, first_of}
+use Rattle.njh_hub.specs.RunStops.{HandedUntil, IfHub, IsRefused, IsRoutes}
+use Rattle.njh_hub.specs.WholeHub.{Part, part, HubRun, IsNamed, hub_run}
 use Rattle.njh_hub.proofs.RunLaws.{each_is_alone}
 use Rattle.njh_hub.proofs.RunningLaws.{stopped_in, went_on, HandedUntil-after, HandedUntil-some}
 use Rattle.njh_hub.proofs.NamedLaws.{All-more, LedOn, behind-known, either_event, found_at, hub_run-length, led_on, named-before, refused_at}

@@ -2,8 +2,8 @@ use Rattle.std.proofs.Common.{◌≡◌, ◌≤◌, ◌⊎◌, take}
 use Rattle.std.specs.Prelude.{All}
 use Rattle.std.specs.Vec.{vec_capacity}
 use Rattle.njh_bisync.specs.declared.frame.TheConstants.{LONGEST_FRAME}
-use Rattle.njh_hub.specs.Stops.{IsRoutes}
-use Rattle.njh_hub.specs.Whole.{IsNamed, SameLines, hub_run}
+use Rattle.njh_hub.specs.RunStops.{IsRoutes}
+use Rattle.njh_hub.specs.WholeHub.{IsNamed, SameLines, hub_run}
 use Rattle.njh_hub.proofs.hub.Hub.run.Given as goal
 
 -- so many events have happened

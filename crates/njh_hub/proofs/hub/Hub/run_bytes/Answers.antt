@@ -4,9 +4,9 @@ use Rattle.njh_table.specs.declared.LineId.{LineId}
 use Rattle.njh_customer.specs.Feeding.{sent_on}
 use Rattle.njh_hub.specs.declared.event.Event.TheVariants.{Bytes}
 use Rattle.njh_hub.specs.declared.fault.Cause.{Cause}
-use Rattle.njh_hub.specs.Own.{first_of}
-use Rattle.njh_hub.specs.Stops.{HandedUntil, IfHub, IsRefused}
-use Rattle.njh_hub.specs.Whole.{HubRun, HasLine, sent_by, hub_run}
+use Rattle.njh_hub.specs.OwnEvents.{first_of}
+use Rattle.njh_hub.specs.RunStops.{HandedUntil, IfHub, IsRefused}
+use Rattle.njh_hub.specs.WholeHub.{HubRun, HasLine, sent_by, hub_run}
 use Rattle.njh_hub.proofs.PieceLaws.{after_bytes}
 use Rattle.njh_hub.proofs.RunningLaws.{GoesOn, step_done, sink_done, whole_done, sent_pair, is_within_one, counted_from}
 use Rattle.njh_hub.proofs.hub.Hub.run_bytes.Goals as goal

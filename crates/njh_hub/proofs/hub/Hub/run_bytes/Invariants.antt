@@ -1,7 +1,7 @@
 use Rattle.std.proofs.Common.{◌≡◌, ◌<◌, ◌≤◌, ◌-◌, length, take}
 use Rattle.std.specs.Vec.{vec_capacity}
 use Rattle.njh_bisync.specs.declared.frame.TheConstants.{LONGEST_FRAME}
-use Rattle.njh_hub.specs.Whole.{HasLine, SameLines}
+use Rattle.njh_hub.specs.WholeHub.{HasLine, SameLines}
 use Rattle.njh_hub.proofs.PieceLaws.{after_bytes}
 use Rattle.njh_hub.proofs.hub.Hub.run_bytes.Given as goal
 

@@ -1,6 +1,6 @@
 use Rattle.std.proofs.Common.{◌≡◌, ◌∙◌, sym, List, [], ℕ, ap, rules}
 use Rattle.njh_customer.specs.Feeding.{sent_on}
-use Rattle.njh_hub.specs.Whole.{HubRun, sent_by}
+use Rattle.njh_hub.specs.WholeHub.{HubRun, sent_by}
 use Rattle.njh_hub.proofs.RunningLaws.{named-event_by, sent_pair, signal_done}
 use Rattle.njh_hub.proofs.hub.Hub.run_signal.Goals as goal
 

@@ -2,7 +2,7 @@ use Rattle.std.proofs.Common.{◌≡◌, ◌<◌, List, length, ap, sym, ◌∙�
 use Rattle.std.proofs.lemmas.Bool.{false≢true}
 use Rattle.njh_spool.specs.CustomerSpool.{used}
 use Rattle.njh_spool.specs.Spools as spools
-use Rattle.njh_hub.specs.Whole.{Part, part}
+use Rattle.njh_hub.specs.WholeHub.{Part, part}
 use Rattle.njh_hub.proofs.PartsLaws.{length-parts_of, part-there}
 use Rattle.njh_hub.proofs.hub.Hub.used.Goals as goal
 

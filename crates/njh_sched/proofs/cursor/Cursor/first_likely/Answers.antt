@@ -2,7 +2,7 @@ use Rattle.std.proofs.Common.{◌≡◌, ◌<◌, ℕ, length, slice_get, option
 use Rattle.njh_spool.specs.Headers.{summary}
 use Rattle.njh_spool.specs.Spools.{part}
 use Rattle.njh_table.specs.declared.LineId.{LineId}
-use Rattle.njh_sched.specs.FileCursor.{HasPassed, files_of, goes_of, other}
+use Rattle.njh_sched.specs.code.FileCursor.{HasPassed, files_of, goes_of, other}
 use Rattle.njh_sched.proofs.CursorLaws.{known, one_passed, other_passed}
 use Rattle.njh_sched.proofs.cursor.Cursor.first_likely.Goals as goal
 use Rattle.njh_sched.proofs.cursor.Cursor.first_likely.Goals.{After-is_likely}

@@ -1,5 +1,5 @@
 use Rattle.std.proofs.Common.{◌≤◌}
-use Rattle.njh_sched.specs.FileCursor.{HasPassed, files_of, goes_of, index_of, other}
+use Rattle.njh_sched.specs.code.FileCursor.{HasPassed, files_of, goes_of, index_of, other}
 use Rattle.njh_sched.proofs.cursor.Cursor.first_likely.Given as goal
 
 abbrev pub invariant-loop-index : goal.invariant-loop-index

@@ -1,7 +1,7 @@
 use Rattle.std.proofs.Common.{◌≡◌, ◌<◌, ◌≤◌, ◌+◌, ℕ, Bool, true, false, length, sym, ap, subst, ◌∙◌, arith}
 use Rattle.njh_spool.specs.Spools.{part}
 use Rattle.njh_table.specs.declared.LineId.{LineId}
-use Rattle.njh_sched.specs.FileCursor.{FileCursor, GoesOn, index_of, is_known_to_go, moved}
+use Rattle.njh_sched.specs.code.FileCursor.{FileCursor, GoesOn, index_of, is_known_to_go, moved}
 use Rattle.njh_sched.proofs.CursorLaws.{again, found_at, goes_to, known_is, moved_again, none_at_end, passes_on}
 use Rattle.njh_sched.proofs.cursor.Cursor.oldest.Goals as goal
 use Rattle.njh_sched.proofs.cursor.Cursor.oldest.Goals.{After-may_go}

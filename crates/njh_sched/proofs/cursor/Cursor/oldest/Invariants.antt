@@ -1,5 +1,5 @@
 use Rattle.std.proofs.Common.{◌-◌}
-use Rattle.njh_sched.specs.FileCursor.{GoesOn, index_of}
+use Rattle.njh_sched.specs.code.FileCursor.{GoesOn, index_of}
 use Rattle.njh_sched.proofs.cursor.Cursor.oldest.Given as goal
 
 abbrev pub invariant-loop-kind : goal.invariant-loop-kind

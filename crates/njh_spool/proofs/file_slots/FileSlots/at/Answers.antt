@@ -1,6 +1,6 @@
 use Rattle.std.proofs.Common.{ℕ, ◌<◌, List, length, get_or, ap, ◌∙◌, arith}
 use Rattle.njh_spool.specs.declared.file_slot.FileSlot.{FileSlot}
-use Rattle.njh_spool.specs.Slots.{slot_of, free_slot}
+use Rattle.njh_spool.specs.code.Slots.{slot_of, free_slot}
 use Rattle.njh_spool.proofs.RowLaws.{length-slots_in, slot_in_row}
 use Rattle.njh_spool.proofs.file_slots.FileSlots.at.Goals as goal
 

@@ -1,6 +1,6 @@
 use Rattle.std.proofs.Common.{◌≡◌, ℕ, ◌*◌, replicate, ap, ◌∙◌, arith}
-use Rattle.njh_spool.specs.Slots.{free_slot}
-use Rattle.njh_spool.specs.SlotRows.{slots_in}
+use Rattle.njh_spool.specs.code.Slots.{free_slot}
+use Rattle.njh_spool.specs.code.SlotRows.{slots_in}
 use Rattle.njh_spool.proofs.RowLaws.{slots_in-free}
 use Rattle.njh_spool.proofs.file_slots.FileSlots.open.Goals as goal
 

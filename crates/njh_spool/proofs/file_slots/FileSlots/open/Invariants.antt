@@ -1,5 +1,5 @@
 use Rattle.std.proofs.Common.{◌≡◌, replicate, vec_capacity}
-use Rattle.njh_spool.specs.Slots.{free_slot}
+use Rattle.njh_spool.specs.code.Slots.{free_slot}
 use Rattle.njh_spool.proofs.file_slots.FileSlots.open.Given as goal
 
 abbrev pub invariant-loop-done : goal.invariant-loop-done

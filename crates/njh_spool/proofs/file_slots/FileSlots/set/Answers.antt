@@ -1,6 +1,6 @@
 use Rattle.std.proofs.Common.{◌≡◌, ℕ, ◌+◌, ◌*◌, ◌<◌, List, length, set, ap, ◌∙◌, arith}
 use Rattle.njh_spool.specs.declared.file_slot.FileSlot.{FileSlot}
-use Rattle.njh_spool.specs.SlotRows.{slots_in}
+use Rattle.njh_spool.specs.code.SlotRows.{slots_in}
 use Rattle.njh_spool.proofs.RowLaws.{length-slots_in, slots_in-set}
 use Rattle.njh_spool.proofs.file_slots.FileSlots.set.Goals as goal
 

@@ -1,7 +1,7 @@
 use Rattle.std.proofs.Common.{List, drop, sym, ap, ◌∙◌, arith}
 use Rattle.std.specs.Prelude.{slice_get}
 use Rattle.njh_record.specs.Stored.{Stored}
-use Rattle.njh_spool.specs.Chains.{chain_at}
+use Rattle.njh_spool.specs.code.Chains.{chain_at}
 use Rattle.njh_spool.proofs.ReaderLaws.{none_left, one_less}
 use Rattle.njh_spool.proofs.record_reader.RecordReader.next.Goals as goal
 

@@ -2,16 +2,16 @@ use Rattle.std.proofs.Common.{◌≡◌, ℕ, ◌+◌, ◌-◌, ◌*◌, ◌≤�
 use Rattle.std.proofs.Common.{refl, sym, ap, subst, ◌∙◌, arith}
 use Rattle.njh_spool.specs.declared.file_slot.FileSlot.{FileSlot}
 use Rattle.njh_spool.specs.declared.customer_files.CustomerFiles.{CustomerFiles}
-use Rattle.njh_spool.specs.Chains.{Chain, chain_at}
+use Rattle.njh_spool.specs.code.Chains.{Chain, chain_at}
 use Rattle.njh_spool.specs.CustomerSpool.{CustomerSpool, appended}
 use Rattle.njh_spool.specs.Spools.{part}
-use Rattle.njh_spool.specs.Slots.{contents, slot_of, chain_of, is_partial, spools_of}
+use Rattle.njh_spool.specs.code.Slots.{contents, slot_of, chain_of, is_partial, spools_of}
 use Rattle.njh_spool.proofs.KeptLaws.{own_of, own_is, Moves}
 use Rattle.njh_spool.proofs.CallFinds as finds
 use Rattle.njh_spool.proofs.CallLaws as call
 use Rattle.std.proofs.Common.{◌/◌, take, length-append}
-use Rattle.njh_spool.specs.Chains.{with_chain, blocks_of}
-use Rattle.njh_spool.specs.Packing.{packed_record}
+use Rattle.njh_spool.specs.code.Chains.{with_chain, blocks_of}
+use Rattle.njh_spool.specs.code.Packing.{packed_record}
 use Rattle.njh_spool.proofs.PackingLaws.{length-packed_record}
 use Rattle.njh_spool.proofs.KeptLaws.{within_all, quotas_fit}
 use Rattle.njh_spool.proofs.spool.Spool.append.Goals as goal

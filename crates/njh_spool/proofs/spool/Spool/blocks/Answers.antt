@@ -1,8 +1,8 @@
 use Rattle.std.proofs.Common.{◌≡◌, ℕ, Ok, length}
 use Rattle.std.proofs.Common.{refl, sym, ap, ◌∙◌, ◌+◌, ◌/◌, arith}
 use Rattle.njh_spool.specs.declared.file_slot.FileSlot.{FileSlot}
-use Rattle.njh_spool.specs.Chains.{Chain, chain_at}
-use Rattle.njh_spool.specs.Slots.{slot_of, is_whole}
+use Rattle.njh_spool.specs.code.Chains.{Chain, chain_at}
+use Rattle.njh_spool.specs.code.Slots.{slot_of, is_whole}
 use Rattle.njh_spool.proofs.CallFinds as finds
 use Rattle.njh_spool.proofs.spool.Spool.blocks.Goals as goal
 use Rattle.njh_spool.proofs.spool.Spool.blocks.Goals.{After-is_whole}

@@ -1,5 +1,5 @@
 use Rattle.std.proofs.Common.{arith}
-use Rattle.njh_spool.specs.Slots.{contents}
+use Rattle.njh_spool.specs.code.Slots.{contents}
 use Rattle.njh_spool.proofs.KeptLaws.{length-spools_from}
 use Rattle.njh_spool.proofs.spool.Spool.customers.Goals as goal
 

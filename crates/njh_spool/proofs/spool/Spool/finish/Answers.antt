@@ -5,10 +5,10 @@ use Rattle.njh_spool.specs.declared.file_slot.Stage.TheVariants.{Whole}
 use Rattle.njh_spool.specs.declared.customer_files.CustomerFiles.{CustomerFiles}
 use Rattle.njh_spool.specs.CustomerSpool.{CustomerSpool, finished}
 use Rattle.njh_spool.specs.Spools.{part}
-use Rattle.njh_spool.specs.Slots.{contents, slot_of, is_partial, is_whole, spools_of, IsFile}
-use Rattle.njh_spool.specs.Chains.{Chain, chain_at}
+use Rattle.njh_spool.specs.code.Slots.{contents, slot_of, is_partial, is_whole, spools_of, IsFile}
+use Rattle.njh_spool.specs.code.Chains.{Chain, chain_at}
 use Rattle.njh_spool.specs.Headers.{kept_headers}
-use Rattle.njh_spool.specs.Packing.{unpacked}
+use Rattle.njh_spool.specs.code.Packing.{unpacked}
 use Rattle.njh_spool.proofs.KeptLaws.{own_of, own_is, Moves}
 use Rattle.njh_spool.proofs.CallFinds as finds
 use Rattle.njh_spool.proofs.CallLaws as call
@@ -18,7 +18,7 @@ use Rattle.njh_spool.proofs.ReadLaws.{partial_stage}
 use Rattle.std.proofs.lemmas.List.{length-map}
 use Rattle.std.proofs.lemmas.List.Sums.{count_by-le-length}
 use Rattle.njh_spool.specs.declared.State.TheVariants.{Ready}
-use Rattle.njh_spool.specs.Slots.{whole_file, partial_file}
+use Rattle.njh_spool.specs.code.Slots.{whole_file, partial_file}
 use Rattle.njh_spool.proofs.SlotLaws.{once_some}
 use Rattle.njh_spool.proofs.spool.Spool.finish.Goals as goal
 use Rattle.njh_spool.proofs.spool.Spool.finish.Goals.{After-set, After-is_partial, After-index_mut-own, After-place-at}

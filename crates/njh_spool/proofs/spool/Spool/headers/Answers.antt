@@ -2,7 +2,7 @@ use Rattle.std.proofs.Common.{◌≡◌, Ok}
 use Rattle.std.proofs.Common.{refl, sym, ap, ◌∙◌, arith}
 use Rattle.njh_spool.specs.declared.file_slot.FileSlot.{FileSlot}
 use Rattle.njh_spool.specs.declared.file_headers.KeptHeaders.{KeptHeaders}
-use Rattle.njh_spool.specs.Slots.{slot_of, is_whole}
+use Rattle.njh_spool.specs.code.Slots.{slot_of, is_whole}
 use Rattle.njh_spool.proofs.CallFinds as finds
 use Rattle.njh_spool.proofs.spool.Spool.headers.Goals as goal
 use Rattle.njh_spool.proofs.spool.Spool.headers.Goals.{After-is_whole}

@@ -1,6 +1,6 @@
 use Rattle.std.proofs.Common.{ℕ, ◌*◌, length, replicate, refl, ap, ◌∙◌}
-use Rattle.njh_spool.specs.Chains.{empty_chain}
-use Rattle.njh_spool.specs.Slots.{contents}
+use Rattle.njh_spool.specs.code.Chains.{empty_chain}
+use Rattle.njh_spool.specs.code.Slots.{contents}
 use Rattle.njh_spool.proofs.OpenLaws.{kept_opened, spools_from-opened}
 use Rattle.njh_spool.proofs.spool.Spool.open.Goals as goal
 

@@ -1,9 +1,9 @@
 use Rattle.std.proofs.Common.{ℕ, Ok}
 use Rattle.std.proofs.Common.{refl, sym, ap, ◌∙◌, arith}
 use Rattle.njh_spool.specs.declared.file_slot.FileSlot.{FileSlot}
-use Rattle.njh_spool.specs.Chains.{Chain, chain_at}
-use Rattle.njh_spool.specs.Packing.{unpacked}
-use Rattle.njh_spool.specs.Slots.{contents, slot_of, is_free}
+use Rattle.njh_spool.specs.code.Chains.{Chain, chain_at}
+use Rattle.njh_spool.specs.code.Packing.{unpacked}
+use Rattle.njh_spool.specs.code.Slots.{contents, slot_of, is_free}
 use Rattle.njh_spool.proofs.CallFinds as finds
 use Rattle.njh_spool.proofs.IndexLaws.{small_used}
 use Rattle.njh_spool.proofs.KeptLaws.{has_own, own_of}

@@ -1,10 +1,10 @@
 use Rattle.std.proofs.Common.{◌≡◌, ℕ, false, List}
 use Rattle.std.proofs.Common.{Some, refl, sym, ap, ◌∙◌, arith}
 use Rattle.njh_spool.specs.declared.file_slot.FileSlot.{FileSlot}
-use Rattle.njh_spool.specs.Chains.{Chain, chain_at}
+use Rattle.njh_spool.specs.code.Chains.{Chain, chain_at}
 use Rattle.njh_spool.specs.CustomerSpool.{CustomerSpool}
 use Rattle.njh_spool.specs.Spools.{part, records_numbered}
-use Rattle.njh_spool.specs.Slots.{slot_of, chain_of, is_free}
+use Rattle.njh_spool.specs.code.Slots.{slot_of, chain_of, is_free}
 use Rattle.njh_spool.proofs.IndexLaws.{small_used}
 use Rattle.njh_spool.proofs.CallFinds as finds
 use Rattle.njh_spool.proofs.spool.Spool.record_at.Goals as goal
@@ -12,7 +12,7 @@ use Rattle.njh_spool.proofs.spool.Spool.record_at.Goals.{After-is_free, After-pl
 use Rattle.std.specs.Prelude.{slice_get}
 use Rattle.std.specs.Option.{option_and_then}
 use Rattle.njh_record.specs.Stored.{Stored}
-use Rattle.njh_spool.specs.Packing.{unpacked}
+use Rattle.njh_spool.specs.code.Packing.{unpacked}
 use Rattle.njh_spool.proofs.PackingLaws.{length-unpacked}
 
 pub slot_at-slot-requires : goal.slot_at-slot-requires

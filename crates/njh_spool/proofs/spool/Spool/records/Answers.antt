@@ -1,7 +1,7 @@
 use Rattle.std.proofs.Common.{ℕ, Ok}
 use Rattle.std.proofs.Common.{refl, sym, ap, ◌∙◌, arith}
 use Rattle.njh_spool.specs.declared.file_slot.FileSlot.{FileSlot}
-use Rattle.njh_spool.specs.Slots.{contents, slot_of, chain_of, is_free}
+use Rattle.njh_spool.specs.code.Slots.{contents, slot_of, chain_of, is_free}
 use Rattle.njh_spool.proofs.KeptLaws.{has_own, own_of}
 use Rattle.njh_spool.proofs.ReadLaws.{has_file, has_no_file}
 use Rattle.njh_spool.proofs.PackingLaws.{length-unpacked}

@@ -1,24 +1,24 @@
 use Rattle.std.proofs.Common.{◌≡◌, ℕ, ◌+◌, ◌*◌, ◌<◌, ◌≤◌, List, length, set}
 use Rattle.std.proofs.Common.{Some, refl, sym, ap, subst, ◌∙◌, arith}
 use Rattle.njh_spool.specs.declared.file_slot.FileSlot.{FileSlot}
-use Rattle.njh_spool.specs.Chains.{Chain, StoreValue, chain_at, empty_chain}
+use Rattle.njh_spool.specs.code.Chains.{Chain, StoreValue, chain_at, empty_chain}
 use Rattle.njh_spool.specs.Headers.{kept_headers}
 use Rattle.std.proofs.lemmas.List.{get_or-set_same}
 use Rattle.std.proofs.Common.{length-set, true}
 use Rattle.njh_spool.specs.CustomerSpool.{CustomerSpool}
 use Rattle.njh_spool.specs.CustomerSpool.{rewritten}
 use Rattle.njh_spool.specs.Spools.{part}
-use Rattle.njh_spool.specs.Slots.{contents, slot_of, chain_of, is_whole, spools_of, IsPlace}
+use Rattle.njh_spool.specs.code.Slots.{contents, slot_of, chain_of, is_whole, spools_of, IsPlace}
 use Rattle.njh_spool.proofs.KeptLaws.{Moves}
 use Rattle.njh_spool.proofs.CallFinds as finds
 use Rattle.njh_spool.proofs.CallLaws as call
 use Rattle.std.proofs.Common.{take}
 use Rattle.std.specs.Prelude.{slice_get, IsSomeAnd}
-use Rattle.njh_spool.specs.Chains.{with_chain}
+use Rattle.njh_spool.specs.code.Chains.{with_chain}
 use Rattle.njh_spool.specs.CustomerSpool.{stored_size, whole_numbered, at_index, rewritten_record}
 use Rattle.njh_record.specs.Bytes.{with_field}
-use Rattle.njh_spool.specs.Packing.{unpacked}
-use Rattle.njh_spool.specs.Slots.{whole_file}
+use Rattle.njh_spool.specs.code.Packing.{unpacked}
+use Rattle.njh_spool.specs.code.Slots.{whole_file}
 use Rattle.njh_spool.proofs.PackingLaws.{length-unpacked}
 use Rattle.njh_spool.proofs.PlaceLaws.{within_some}
 use Rattle.njh_spool.proofs.RecordLaws.{in_file}

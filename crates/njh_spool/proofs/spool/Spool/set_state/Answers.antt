@@ -4,7 +4,7 @@ use Rattle.njh_spool.specs.declared.file_slot.FileSlot.{FileSlot}
 use Rattle.njh_spool.specs.declared.file_slot.Stage.TheVariants.{Whole}
 use Rattle.njh_spool.specs.CustomerSpool.{CustomerSpool, with_state}
 use Rattle.njh_spool.specs.Spools.{part}
-use Rattle.njh_spool.specs.Slots.{contents, slot_of, is_whole, spools_of}
+use Rattle.njh_spool.specs.code.Slots.{contents, slot_of, is_whole, spools_of}
 use Rattle.njh_spool.proofs.KeptLaws.{Moves}
 use Rattle.njh_spool.proofs.CallFinds as finds
 use Rattle.njh_spool.proofs.CallLaws as call

@@ -2,7 +2,7 @@ use Rattle.std.proofs.Common.{Ok}
 use Rattle.std.proofs.Common.{refl, sym, ap, ◌∙◌, arith}
 use Rattle.njh_spool.specs.declared.file_slot.FileSlot.{FileSlot}
 use Rattle.njh_spool.specs.declared.file_slot.Stage.{Stage}
-use Rattle.njh_spool.specs.Slots.{contents, is_partial, is_whole, state_of}
+use Rattle.njh_spool.specs.code.Slots.{contents, is_partial, is_whole, state_of}
 use Rattle.njh_spool.proofs.KeptLaws.{has_own, own_of}
 use Rattle.njh_spool.proofs.WholeLaws.{whole_is, has_no_whole}
 use Rattle.njh_spool.proofs.spool.Spool.state.Goals as goal

@@ -2,7 +2,7 @@ use Rattle.std.proofs.Common.{◌≡◌, ◌<◌, get_or, Some, subst, arith}
 use Rattle.std.proofs.lemmas.List.{get_or_default}
 use Rattle.slab.specs.Slab.{slab_len, Updates}
 use Rattle.njh_spool.specs.declared.store.block.Block.{Block}
-use Rattle.njh_spool.specs.ChainedBlocks.{no_slot}
+use Rattle.njh_spool.specs.code.ChainedBlocks.{no_slot}
 use Rattle.njh_spool.proofs.ChainLaws.{slot_within, used_is, len_is}
 use Rattle.njh_spool.proofs.ChainWrites.{begun, grows_begun}
 use Rattle.njh_spool.proofs.store.Store.add_first.Goals as goal

@@ -1,7 +1,7 @@
 use Rattle.std.proofs.Common.{◌≡◌, ◌*◌, ◌<◌, Some, sym, subst, arith}
 use Rattle.slab.specs.Slab.{slab_len, Updates}
 use Rattle.njh_spool.specs.declared.store.block.Block.{Block}
-use Rattle.njh_spool.specs.Chains.{blocks_for}
+use Rattle.njh_spool.specs.code.Chains.{blocks_for}
 use Rattle.njh_spool.proofs.ChainLaws.{slot_within, used_is, len_is}
 use Rattle.njh_spool.proofs.ChainWrites.{has_last_block, fits_longer, linked, grows_linked}
 use Rattle.njh_spool.proofs.store.Store.add_next.Goals as goal

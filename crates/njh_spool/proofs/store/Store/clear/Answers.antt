@@ -1,5 +1,5 @@
 use Rattle.std.proofs.Common.{length, ap, arith, length-drop}
-use Rattle.njh_spool.specs.Chains.{Chain, chain_at}
+use Rattle.njh_spool.specs.code.Chains.{Chain, chain_at}
 use Rattle.njh_spool.proofs.ChainSlots.{Only-within, Only-chain, Only-then}
 use Rattle.njh_spool.proofs.store.Store.clear.Goals as goal
 

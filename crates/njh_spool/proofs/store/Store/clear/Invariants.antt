@@ -1,5 +1,5 @@
 use Rattle.std.proofs.Common.{length}
-use Rattle.njh_spool.specs.Chains.{chain_at}
+use Rattle.njh_spool.specs.code.Chains.{chain_at}
 use Rattle.njh_spool.proofs.ChainSlots.{Only}
 use Rattle.njh_spool.proofs.store.Store.clear.Given as goal
 

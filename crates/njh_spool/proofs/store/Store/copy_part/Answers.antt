@@ -1,7 +1,7 @@
 use Rattle.std.proofs.Common.{◌≡◌, ◌-◌, ◌*◌, ◌++◌, get_or, ap, ◌∙◌, arith, rules}
 use Rattle.std.proofs.lemmas.List.{get_or_default}
 use Rattle.njh_record.specs.Bytes.{field}
-use Rattle.njh_spool.specs.ChainedBlocks.{no_slot}
+use Rattle.njh_spool.specs.code.ChainedBlocks.{no_slot}
 use Rattle.njh_spool.proofs.ChainLaws.{slot_within}
 use Rattle.njh_spool.proofs.ChainPlaces.{key_has, part_is}
 use Rattle.njh_spool.proofs.store.Store.copy_part.Goals as goal

@@ -1,6 +1,6 @@
 use Rattle.std.proofs.Common.{length, sym, ap, ◌∙◌}
 use Rattle.njh_spool.proofs.ChainKeys.{length-keys_from}
-use Rattle.njh_spool.specs.Chains.{blocks_for}
+use Rattle.njh_spool.specs.code.Chains.{blocks_for}
 use Rattle.njh_spool.proofs.ChainLaws.{len_is, keys_is, slot_within}
 use Rattle.njh_spool.proofs.store.Store.len.Goals as goal
 

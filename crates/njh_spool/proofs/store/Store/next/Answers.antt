@@ -1,6 +1,6 @@
 use Rattle.std.proofs.Common.{get_or, arith}
 use Rattle.std.proofs.lemmas.List.{get_or_default}
-use Rattle.njh_spool.specs.ChainedBlocks.{no_slot}
+use Rattle.njh_spool.specs.code.ChainedBlocks.{no_slot}
 use Rattle.njh_spool.proofs.ChainLaws.{slot_within, count_within}
 use Rattle.njh_spool.proofs.ChainPlaces.{few, key_has, next_key}
 use Rattle.njh_spool.proofs.store.Store.next.Goals as goal

@@ -1,6 +1,6 @@
 use Rattle.std.proofs.Common.{List, ap, ◌∙◌}
-use Rattle.njh_spool.specs.Chains.{Chain}
-use Rattle.njh_spool.specs.ChainedBlocks.{chains_of}
+use Rattle.njh_spool.specs.code.Chains.{Chain}
+use Rattle.njh_spool.specs.code.ChainedBlocks.{chains_of}
 use Rattle.njh_spool.proofs.ChainLaws.{chains_of-empty}
 use Rattle.njh_spool.proofs.store.Store.open.Goals as goal
 

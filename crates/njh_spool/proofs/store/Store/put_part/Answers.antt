@@ -1,6 +1,6 @@
 use Rattle.std.proofs.Common.{◌-◌, ◌*◌, get_or, arith}
 use Rattle.std.proofs.lemmas.List.{get_or_default}
-use Rattle.njh_spool.specs.ChainedBlocks.{no_slot}
+use Rattle.njh_spool.specs.code.ChainedBlocks.{no_slot}
 use Rattle.njh_spool.proofs.ChainLaws.{slot_within}
 use Rattle.njh_spool.proofs.ChainPlaces.{key_has}
 use Rattle.njh_spool.proofs.ChainWrites.{overwritten, view_overwritten}

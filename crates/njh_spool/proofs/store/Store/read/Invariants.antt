@@ -1,6 +1,6 @@
 use Rattle.std.proofs.Common.{◌≡◌, ◌+◌, ◌≤◌, ◌-◌, length}
 use Rattle.njh_record.specs.Bytes.{field}
-use Rattle.njh_spool.specs.Chains.{chain_at, IsMark, IsNear}
+use Rattle.njh_spool.specs.code.Chains.{chain_at, IsMark, IsNear}
 use Rattle.njh_spool.proofs.store.Store.read.Given as goal
 
 abbrev pub invariant-loop-into : goal.invariant-loop-into

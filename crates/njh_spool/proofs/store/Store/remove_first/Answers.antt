@@ -1,5 +1,5 @@
 use Rattle.std.proofs.Common.{◌<◌, drop, sym, ap, ◌∙◌, arith}
-use Rattle.njh_spool.specs.Chains.{Chain, with_chain}
+use Rattle.njh_spool.specs.code.Chains.{Chain, with_chain}
 use Rattle.njh_spool.proofs.ChainLaws.{slot_within, len_is, chain_is}
 use Rattle.njh_spool.proofs.ChainMoves.{chained_moved, view_moved}
 use Rattle.njh_spool.proofs.ChainRemoves.{has_head, moves_rest, chain_rest}

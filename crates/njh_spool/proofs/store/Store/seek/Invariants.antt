@@ -1,5 +1,5 @@
 use Rattle.std.proofs.Common.{◌*◌, ◌≤◌, ◌-◌}
-use Rattle.njh_spool.specs.Chains.{chain_at, IsMark}
+use Rattle.njh_spool.specs.code.Chains.{chain_at, IsMark}
 use Rattle.njh_spool.proofs.store.Store.seek.Given as goal
 
 abbrev pub invariant-loop-mark : goal.invariant-loop-mark

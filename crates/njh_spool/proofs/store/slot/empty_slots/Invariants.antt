@@ -1,5 +1,5 @@
 use Rattle.std.proofs.Common.{◌≡◌, replicate, vec_capacity}
-use Rattle.njh_spool.specs.ChainedBlocks.{no_slot}
+use Rattle.njh_spool.specs.code.ChainedBlocks.{no_slot}
 use Rattle.njh_spool.proofs.store.slot.empty_slots.Given as goal
 
 abbrev pub invariant-loop-done : goal.invariant-loop-done

@@ -1,5 +1,0 @@
-use Rattle.njh_customer.proofs.OpenedLaws.{fresh_coherent}
-use Rattle.njh_customer.proofs.law.opened_is_coherent.Goals as goal
-
-pub returns : goal.returns
-returns c entry streams = fresh_coherent entry streams c.streams_stay_tied.ensures.at_rest

@@ -1,0 +1,8 @@
+use Rattle.njh_customer.proofs.EventMoves.{events_move, takes_move}
+use Rattle.njh_customer.proofs.laws.events_move_so.Goals as goal
+
+pub returns-clause-events : goal.returns-clause-events
+returns-clause-events c = events_move c.frames_do_so.ensures.frames c.frames_do_so.ensures.signals
+
+pub returns-clause-takes : goal.returns-clause-takes
+returns-clause-takes c = takes_move c.frames_do_so.ensures.frames

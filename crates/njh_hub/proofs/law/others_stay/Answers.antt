@@ -1,5 +1,0 @@
-use Rattle.njh_hub.proofs.RunLaws as laws
-use Rattle.njh_hub.proofs.law.others_stay.Goals as goal
-
-pub returns : goal.returns
-returns c = laws.others_stay

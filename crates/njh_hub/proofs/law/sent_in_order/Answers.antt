@@ -1,5 +1,0 @@
-use Rattle.njh_hub.proofs.OrderLaws as laws
-use Rattle.njh_hub.proofs.law.sent_in_order.Goals as goal
-
-pub returns : goal.returns
-returns c = laws.sent_in_order c.first_bytes_send_first.ensures

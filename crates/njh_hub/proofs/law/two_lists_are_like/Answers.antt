@@ -1,5 +1,0 @@
-use Rattle.njh_hub.proofs.RunLaws as laws
-use Rattle.njh_hub.proofs.law.two_lists_are_like.Goals as goal
-
-pub returns : goal.returns
-returns c = laws.two_lists_are_like

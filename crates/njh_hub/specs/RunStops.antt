@@ -1,0 +1,83 @@
+-- How far a run came, and why it stopped.
+use Rattle.std.specs.Prelude.{◌≡◌, ℕ, ◌<◌, ◌≤◌, ◌⊎◌, List, [], ◌∷◌, ◌++◌, length, Result, Ok, Err, OnOk, IfErr, Vec}
+use Rattle.std.specs.Prelude.{vec_capacity, ⊤}
+use Rattle.std.specs.Prelude.{IsSome, IsSomeAnd}
+use Rattle.njh_bisync.specs.declared.frame.TheConstants.{LONGEST_FRAME}
+use Rattle.njh_table.specs.declared.LineId.{LineId}
+use Rattle.njh_table.specs.NewRoutes.{own_routes, routes_checked}
+use Rattle.njh_hub.specs.declared.event.Event.{Event}
+use Rattle.njh_hub.specs.declared.fault.HubFault.{HubFault}
+use Rattle.njh_hub.specs.declared.fault.HubFault.TheVariants.{UnknownLine, UnknownCustomer, Memory, BadRoutes}
+use Rattle.njh_hub.specs.declared.fault.Cause.{Cause}
+use Rattle.njh_hub.specs.declared.fault.Cause.TheVariants.{Hub, Sink}
+use Rattle.njh_hub.specs.declared.fault.RunFault.{RunFault}
+use Rattle.njh_hub.specs.OwnEvents.{line_of, routes_of, first_of, bytes_in_event}
+use Rattle.njh_hub.specs.Sent.{IsCounted}
+use Rattle.njh_hub.specs.WholeHub.{Part, part, HasLine, IsNamed, SameLines, hub_run}
+
+-- the events that happened: all, or up to where the run stopped
+abbrev pub done : {A : Type 0} → List Event → Result A RunFault → List Event
+done events (Ok x) = events
+done events (Err fault) = first_of events fault.events fault.bytes
+
+-- Why the hub refuses an event: it has no such line; it has no such customer; that customer can't have the routes; or
+-- there was no memory for an event that names what is there.
+abbrev pub IsRefused : List Part → Event → HubFault → Type 0
+IsRefused parts event UnknownLine = IsSomeAnd (line_of event) (λ line. HasLine parts line → ⊥)
+IsRefused parts event UnknownCustomer = IsSomeAnd (routes_of event) (λ given. given.0 < length parts → ⊥)
+IsRefused parts event (BadRoutes cause) = IsSomeAnd (routes_of event) (λ given. (given.0 < length parts) ×
+    (routes_checked (part given.0 parts).customer.entry (own_routes given.0 given.1) ≡ Err cause))
+IsRefused parts event Memory = IsNamed parts event
+
+-- where the hub is the cause, and not the sink, this is so of its refusal
+abbrev pub IfHub : Cause → (HubFault → Type 0) → Type 0
+IfHub (Hub why) P = P why
+IfHub Sink P = ⊤
+
+-- an event that gives a customer routes
+abbrev pub IsRoutes : Event → Type 0
+IsRoutes event = IsSome (routes_of event)
+
+-- A sink took all of these frames but the last, and refused that one.
+pub record RefusedLast {S : Type 0} (took : S → S → List (LineId × List ℕ) → Type 0) (refused : S → S → LineId × List ℕ → Type 0)
+    (before after : S) (sent : List (LineId × List ℕ)) : Type 0 where
+  pub front : List (LineId × List ℕ)
+  pub last : LineId × List ℕ
+  pub between : S
+  pub are : sent ≡ front ++ last ∷ []
+  pub took_front : took before between front
+  pub refused_last : refused between after last
+
+-- What a sink took where a run was stopped: the frames that were sent, or all but the last, which it then refused.
+abbrev pub HandedUntil : {S : Type 0} → (S → S → List (LineId × List ℕ) → Type 0) → (S → S → LineId × List ℕ → Type 0) → Cause → S →
+    S → List (LineId × List ℕ) → Type 0
+HandedUntil took refused (Hub fault) before after sent = took before after sent
+HandedUntil took refused Sink before after sent = RefusedLast took refused before after sent
+
+-- What it took in a run.
+abbrev pub Handed : {S A : Type 0} → (S → S → List (LineId × List ℕ) → Type 0) → (S → S → LineId × List ℕ → Type 0) →
+    Result A RunFault → S → S → List (LineId × List ℕ) → Type 0
+Handed took refused (Ok x) before after sent = took before after sent
+Handed took refused (Err fault) before after sent = HandedUntil took refused fault.cause before after sent
+
+-- A stop within one event: before it or after so many of its bytes, and not all; or right after it.
+abbrev pub IsWithinOne : Event → RunFault → Type 0
+IsWithinOne event fault = (0 < fault.bytes → (fault.events ≡ 0) × (fault.bytes < bytes_in_event event)) ×
+    ((fault.events ≡ 0) ⊎ ((fault.events ≡ 1) × (fault.bytes ≡ 0)))
+
+-- One event of a run. A fault speaks of it as of the only one.
+pub record IsEventRun {S A Z : Type 0} (took : S → S → List (LineId × List ℕ) → Type 0)
+    (refused : S → S → LineId × List ℕ → Type 0) (count : S → ℕ) (parts : List Part) (event : Event) (out : Vec ℕ Z) (sink : S)
+    (result : Result A RunFault) (new : List Part) (new_out : Vec ℕ Z) (new_sink : S) : Type 0 where
+  pub leads : new ≡ (hub_run parts (done (event ∷ []) result)).parts
+  pub handed : Handed took refused result sink new_sink (hub_run parts (done (event ∷ []) result)).sent
+  pub known : OnOk result (IsNamed parts event)
+  pub lines : SameLines parts new
+  pub room : OnOk result (IsSome (line_of event) ⊎ (LONGEST_FRAME ≤ vec_capacity out) → LONGEST_FRAME ≤ vec_capacity new_out)
+  pub one : IfErr result (IsWithinOne event)
+  pub behind : IfErr result (λ fault. fault.events ≡ 1 → IsNamed parts event)
+  pub causes : IfErr result (λ fault. IfHub fault.cause (λ why. (fault.events ≡ 0) × IsRefused parts event why))
+  pub memory : IfErr result (λ fault. fault.cause ≡ Hub Memory → (fault.events ≡ 0) × (fault.bytes ≡ 0) ×
+      (IsRoutes event ⊎ (vec_capacity out < LONGEST_FRAME)))
+  pub counts : count sink ≤ count new_sink
+  pub counted : IfErr result (λ fault. fault.cause ≡ Sink → IsCounted (count sink) (count new_sink))

@@ -1,0 +1,62 @@
+-- The hub as the list of its customers' parts: an event of one moves that one as if it were alone, and no other.
+use Rattle.std.specs.Prelude.{◌≡◌, ℕ, ◌<◌, List, [], ◌∷◌, ◌++◌, length, slice_index_or, slice_set, Ok}
+use Rattle.njh_table.specs.declared.LineId.{LineId}
+use Rattle.njh_table.specs.Entries.{CustomerEntry}
+use Rattle.njh_table.specs.NewRoutes.{own_routes, routes_checked}
+pub use Rattle.njh_customer.specs.Part.{Part, opened}
+use Rattle.njh_customer.specs.Runs.{OwnEvent, event_run}
+use Rattle.njh_hub.specs.OwnEvents.{customer_of, own}
+use Rattle.njh_hub.specs.declared.event.Event.{Event}
+use Rattle.njh_hub.specs.declared.event.Event.TheVariants.{Bytes, Tick, Garbled, Lost, Routes}
+
+abbrev pub no_entry : CustomerEntry
+no_entry = record { hub = []; quota = 0; files = 0; lines = []; up = []; routes = [] }
+
+-- a customer that has no line
+abbrev pub no_part : Part
+no_part = opened no_entry
+
+-- a customer's part of the hub
+abbrev pub part : ℕ → List Part → Part
+part c parts = slice_index_or parts c no_part
+
+-- the hub has this line
+abbrev pub HasLine : List Part → LineId → Type 0
+HasLine parts line = line.line < length (part line.customer parts).customer.lines
+
+-- An event names a line of the hub, or a customer of it with routes that aren't refused.
+abbrev pub IsNamed : List Part → Event → Type 0
+IsNamed parts (Bytes line piece) = HasLine parts line
+IsNamed parts (Tick line) = HasLine parts line
+IsNamed parts (Garbled line) = HasLine parts line
+IsNamed parts (Lost line) = HasLine parts line
+IsNamed parts (Routes c routes) = (c < length parts) × (routes_checked (part c parts).customer.entry (own_routes c routes) ≡ Ok tt)
+
+-- each customer has as many lines in both
+abbrev pub SameLines : List Part → List Part → Type 0
+SameLines old new = (c : ℕ) → length (part c new).customer.lines ≡ length (part c old).customer.lines
+
+-- what a customer sent, with its lines as the hub names them
+abbrev pub sent_by : ℕ → List (ℕ × List ℕ) → List (LineId × List ℕ)
+sent_by c [] = []
+sent_by c (pair ∷ pairs) = (record { customer = c; line = pair.0 }, pair.1) ∷ sent_by c pairs
+
+-- what events lead a whole hub to, and all frames that are sent
+pub record HubRun : Type 0 where
+  pub parts : List Part
+  pub sent : List (LineId × List ℕ)
+
+abbrev pub own_event : List Part → ℕ → OwnEvent → HubRun
+own_event parts c event =
+    let x = event_run (part c parts) event in
+    record { parts = slice_set parts c x.after; sent = sent_by c x.sent }
+
+abbrev pub hub_event : List Part → Event → HubRun
+hub_event parts event = own_event parts (customer_of event) (own event)
+
+abbrev pub hub_run : List Part → List Event → HubRun
+hub_run parts [] = record { parts = parts; sent = [] }
+hub_run parts (event ∷ events) =
+    let x = hub_event parts event in
+    let later = hub_run x.parts events in
+    record { parts = later.parts; sent = x.sent ++ later.sent }

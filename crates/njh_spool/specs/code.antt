@@ -1,0 +1,8 @@
+-- What only bodies and proofs speak of.
+pub mod ChainedBlocks
+pub mod Chains
+pub mod NumberEntries
+pub mod Packing
+pub mod RecordReader
+pub mod SlotRows
+pub mod Slots

@@ -1,0 +1,95 @@
+-- How byte strings lie in the blocks of one slab, each block linked to the next of its chain.
+use Rattle.std.specs.Prelude.{◌≡◌, ◌≢◌, ℕ, zero, suc, ◌-◌, ◌*◌, ◌<◌, ◌≤◌, ◌^◌, ◌==◌, List, [], ◌∷◌, length, map, take}
+use Rattle.std.specs.Prelude.{count_by, sum_by}
+use Rattle.std.specs.Prelude.{slice_index, slice_index_or, Option, Some, None}
+use Rattle.std.specs.List.{flat_map, All}
+use Rattle.slab.specs.Slab.{Slab, get, slab_len}
+use Rattle.njh_spool.specs.declared.store.block.Block.{Block}
+use Rattle.njh_spool.specs.declared.store.slot.Slot.{Slot}
+use Rattle.njh_spool.specs.declared.store.TheConstants.{MOST_CAPACITY}
+use Rattle.njh_spool.specs.code.Chains.{Chain, blocks_for}
+
+-- a block's link
+abbrev pub link_in : Option Block → ℕ
+link_in (Some block) = block.next
+link_in None = 0
+
+-- its data bytes
+abbrev pub data_in : Option Block → List ℕ
+data_in (Some block) = block.bytes
+data_in None = []
+
+-- how many blocks there are, one or none
+abbrev pub blocks_in : Option Block → ℕ
+blocks_in (Some block) = 1
+blocks_in None = 0
+
+-- of the block at a key
+abbrev pub next_at : Slab Block → ℕ → ℕ
+next_at blocks key = link_in (get blocks key)
+
+abbrev pub data_at : Slab Block → ℕ → List ℕ
+data_at blocks key = data_in (get blocks key)
+
+abbrev pub blocks_at : Slab Block → ℕ → ℕ
+blocks_at blocks key = blocks_in (get blocks key)
+
+-- so many keys, the first and from each the one that its block is linked to
+abbrev pub keys_from : Slab Block → ℕ → ℕ → List ℕ
+keys_from blocks zero key = []
+keys_from blocks (suc more) key = key ∷ keys_from blocks more (next_at blocks key)
+
+-- the data bytes at keys, in a row
+abbrev pub data_of : Slab Block → List ℕ → List ℕ
+data_of blocks keys = flat_map (data_at blocks) keys
+
+-- a slot with no byte
+abbrev pub no_slot : Slot
+no_slot = record { head = 0; last = 0; len = 0 }
+
+-- the keys of a slot's blocks
+abbrev pub keys_of : Slab Block → Slot → List ℕ
+keys_of blocks slot = keys_from blocks (blocks_for slot.len) slot.head
+
+-- the chain of a slot
+abbrev pub chain_of : Slab Block → Slot → Chain
+chain_of blocks slot = record { keys = keys_of blocks slot; bytes = take slot.len (data_of blocks (keys_of blocks slot)) }
+
+abbrev pub chains_of : Slab Block → List Slot → List Chain
+chains_of blocks slots = map (chain_of blocks) slots
+
+-- how many times a key stands in a list of keys
+abbrev pub times_in : ℕ → List ℕ → ℕ
+times_in key keys = count_by (λ k. k == key) keys
+
+-- how many times a key stands in the chains of all slots together
+abbrev pub times : Slab Block → List Slot → ℕ → ℕ
+times blocks slots key = sum_by (λ slot. times_in key (keys_of blocks slot)) slots
+
+-- how many times a key stands in the chain of one slot
+abbrev pub times_at : Slab Block → List Slot → ℕ → ℕ → ℕ
+times_at blocks slots slot key = times_in key (keys_of blocks (slice_index_or slots slot no_slot))
+
+-- a key stands once in the chain of exactly one slot
+pub record LiesInOne (blocks : Slab Block) (slots : List Slot) (key : ℕ) : Type 0 where
+  pub slot : ℕ
+  pub within : slot < length slots
+  pub once : times_at blocks slots slot key ≡ 1
+  pub others : (other : ℕ) → other < length slots → other ≢ slot → times_at blocks slots other key ≡ 0
+
+-- a slot knows the last key of its chain
+abbrev pub KnowsLast : Slab Block → Slot → Type 0
+KnowsLast blocks slot = 0 < slot.len → slice_index (keys_of blocks slot) (blocks_for slot.len - 1) ≡ slot.last
+
+pub record IsChained (blocks : Slab Block) (slots : List Slot) (capacity : ℕ) : Type 0 where
+  -- each block that isn't vacant lies once in the chain of exactly one slot, and no vacant one in any
+  pub once : (key : ℕ) → times blocks slots key ≡ blocks_at blocks key
+  -- there are as many blocks as the strings need
+  pub counted : slab_len blocks ≡ sum_by (λ slot. blocks_for slot.len) slots
+  -- where they are fewer than the capacity, a vacant one is left
+  pub within : slab_len blocks ≤ capacity
+  pub room : capacity ≤ blocks.capacity
+  pub full : (key : ℕ) → length (data_at blocks key) ≡ 252 * blocks_at blocks key
+  pub last : All (KnowsLast blocks) slots
+  pub small : capacity ≤ MOST_CAPACITY
+  pub keys_fit : blocks.capacity ≤ 2 ^ 32
