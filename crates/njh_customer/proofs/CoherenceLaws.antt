@@ -11,14 +11,18 @@ use Rattle.njh_record.specs.declared.Kind.{Kind}
 use Rattle.njh_stream.specs.declared.receiver.Receiver.{Receiver}
 use Rattle.njh_stream.specs.declared.receiver.Receiver.TheVariants.{Idle, Open, Draining}
 use Rattle.njh_stream.specs.Arrivals.{answer_on}
-use Rattle.njh_stream.specs.Receiving.{Agrees, Arrival, Request, Data, Long, Abort, Received, received, without_all_open}
+use Rattle.njh_stream.specs.Receiving.{Arrival, Request, Data, Long, Abort, Received, received, without_all_open}
+use Rattle.njh_stream.specs.code.Agreement.{Agrees}
 use Rattle.njh_stream.specs.Receiving.{requested, requested_where, closed_by, stored_by}
 use Rattle.njh_stream.specs.Transmissions.{Verdict, Taken, Cancelled, Fitting, is_whole, judged_coming}
-use Rattle.njh_stream.specs.Streams.{AreTied, streams_at, stream_at, with_stream, without_streams}
+use Rattle.njh_stream.specs.Streams.{streams_at, stream_at, with_stream, without_streams}
+use Rattle.njh_stream.specs.code.Agreement.{AreTied}
 use Rattle.njh_spool.specs.CustomerSpool.{CustomerSpool, PartialFile, has_file_room, has_block, has_room_for, partial_numbered, partial_records}
 use Rattle.njh_spool.specs.CustomerSpool.{abandoned, as_whole}
 use Rattle.njh_table.specs.Entries.{CustomerEntry}
-use Rattle.njh_customer.specs.Customer.{Customer, CustomerLine, no_line, line_at, on_line, noted, receiver_at, with_receiver, streams_to_hub, HasStreams, IsCoherent}
+use Rattle.njh_customer.specs.Customer.{Customer, CustomerLine, no_line, line_at, on_line, noted, receiver_at}
+use Rattle.njh_customer.specs.Customer.{with_receiver}
+use Rattle.njh_customer.specs.code.Coherence.{streams_to_hub, HasStreams, IsCoherent}
 use Rattle.njh_customer.specs.Waiting.{answered, notified}
 use Rattle.njh_customer.specs.Acting.{after_arrival, arrived}
 use Rattle.njh_customer.proofs.ShapeLaws.{shapes, same_streams, streamed_still, on_line_shapes, answered_shapes, notified_shapes}

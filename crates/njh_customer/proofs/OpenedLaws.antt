@@ -5,10 +5,12 @@ use Rattle.std.specs.List.{All}
 use Rattle.std.proofs.lemmas.List.Elements.{All-map}
 use Rattle.njh_stream.specs.declared.receiver.Receiver.{Receiver}
 use Rattle.njh_stream.specs.declared.receiver.Receiver.TheVariants as receiver
-use Rattle.njh_stream.specs.Streams.{AreTied, stream_at}
+use Rattle.njh_stream.specs.Streams.{stream_at}
+use Rattle.njh_stream.specs.code.Agreement.{AreTied}
 use Rattle.njh_spool.specs.CustomerSpool.{CustomerSpool, empty_spool}
 use Rattle.njh_table.specs.Entries.{CustomerEntry, LineEntry}
-use Rattle.njh_customer.specs.Customer.{IsCoherent, HasStreams, config_of, fresh_customer, quiet_line, streams_to_hub}
+use Rattle.njh_customer.specs.Customer.{config_of, fresh_customer, quiet_line}
+use Rattle.njh_customer.specs.code.Coherence.{IsCoherent, HasStreams, streams_to_hub}
 
 eight_idle : (k : ℕ) → get_or (replicate 8 receiver.Idle) k receiver.Idle ≡ receiver.Idle
 eight_idle k = idle 8 k

@@ -11,7 +11,8 @@ use Rattle.njh_table.specs.TableFile.{NamedCustomer, TableFile, HasLine, custome
 use Rattle.njh_line.specs.Laws.{is_up}
 use Rattle.njh_line.specs.LineTable.{Input}
 use Rattle.njh_line.specs.Lines.{after_input}
-use Rattle.njh_customer.specs.Customer.{Customer, CustomerLine, IsCoherent, customer_with, in_state, line_at, no_line, on_line}
+use Rattle.njh_customer.specs.Customer.{Customer, CustomerLine, customer_with, in_state, line_at, no_line, on_line}
+use Rattle.njh_customer.specs.code.Coherence.{IsCoherent}
 use Rattle.njh_block.specs.Blocks.{Block, Item}
 use Rattle.njh_line.specs.declared.verdict.Verdict.{Verdict}
 use Rattle.njh_customer.specs.Alone.{Step, accepted_on, behind_records, block_came, block_input, carried_out, goes_up_by, input_came, raised, silent}

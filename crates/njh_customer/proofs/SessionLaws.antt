@@ -16,7 +16,8 @@ use Rattle.njh_stream.specs.declared.receiver.Receiver.TheVariants as receiver
 use Rattle.njh_stream.specs.declared.sender.Sender.{Sender}
 use Rattle.njh_stream.specs.Receiving.{without_open, without_all_open}
 use Rattle.njh_stream.specs.Sending.{all_ended, ended, file_in, goes_by, tried_again}
-use Rattle.njh_stream.specs.Streams.{AreTied, streams_at}
+use Rattle.njh_stream.specs.Streams.{streams_at}
+use Rattle.njh_stream.specs.code.Agreement.{AreTied}
 use Rattle.njh_sched.specs.NextBlock.{filling}
 use Rattle.njh_sched.specs.Tight.{own_fcs}
 use Rattle.njh_line.specs.LineTable as input
@@ -26,7 +27,8 @@ use Rattle.njh_line.specs.declared.verdict.Reply.{Reply}
 use Rattle.njh_line.specs.declared.verdict.Reply.TheVariants as reply
 use Rattle.njh_line.specs.declared.verdict.Verdict.{Verdict}
 use Rattle.njh_customer.specs.declared.signal.Signal.{Signal}
-use Rattle.njh_customer.specs.Customer.{Customer, no_line, line_at, on_line, in_state, streams_to_hub, HasStreams, IsCoherent}
+use Rattle.njh_customer.specs.Customer.{Customer, no_line, line_at, on_line, in_state}
+use Rattle.njh_customer.specs.code.Coherence.{streams_to_hub, HasStreams, IsCoherent}
 use Rattle.njh_customer.specs.Sending.{LineSent, outlet_of, own_block, reply_sent}
 use Rattle.njh_customer.specs.Acting.{acted_where}
 use Rattle.njh_customer.specs.Alone.{Step, silent, replied, replied_to, quiet, session_over, session_over_where, session_ended, carried_out, verdict_on}

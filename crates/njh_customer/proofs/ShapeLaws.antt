@@ -12,7 +12,8 @@ use Rattle.njh_table.specs.declared.Route.{Route}
 use Rattle.njh_table.specs.declared.Route.TheVariants.{Here, Line, Unknown}
 use Rattle.njh_nmr.specs.Nodal.{notice_record}
 use Rattle.njh_line.specs.Lines.{with_answer, with_message}
-use Rattle.njh_customer.specs.Customer.{CustomerLine, no_line, line_at, on_line, in_state, streams_to_hub, HasStreams}
+use Rattle.njh_customer.specs.Customer.{CustomerLine, no_line, line_at, on_line, in_state}
+use Rattle.njh_customer.specs.code.Coherence.{streams_to_hub, HasStreams}
 use Rattle.njh_customer.specs.Waiting.{answered, waits, goes, said, all_said, notified}
 use Rattle.njh_customer.specs.Acting.{given_up}
 

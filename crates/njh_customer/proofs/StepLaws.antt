@@ -26,7 +26,9 @@ use Rattle.njh_command.specs.Commands.{Outcome, obeyed, obeyed_where, chosen, re
 use Rattle.njh_line.specs.LineTable.{Input}
 use Rattle.njh_line.specs.Lines.{after_input}
 use Rattle.njh_customer.specs.Alone.{accepted_on, goes_up_by, raised}
-use Rattle.njh_customer.specs.Customer.{Customer, CustomerLine, no_line, line_at, on_line, in_state, sender_at, with_sender, noted, with_receiver, receiver_at, IsCoherent}
+use Rattle.njh_customer.specs.Customer.{Customer, CustomerLine, no_line, line_at, on_line, in_state, sender_at}
+use Rattle.njh_customer.specs.Customer.{with_sender, noted, with_receiver, receiver_at}
+use Rattle.njh_customer.specs.code.Coherence.{IsCoherent}
 use Rattle.njh_customer.specs.Waiting.{answered, waits, said, notified}
 use Rattle.njh_customer.specs.Acting.{arrived, stream_came, with_sent, permitted, answer_came, refusal_of, request_came, peer_answered}
 use Rattle.njh_customer.specs.Acting.{given_up, with_outcome, command_came, unknown_told, message_routed, message_read, message_came, acted, ends_session}

@@ -1,5 +1,5 @@
 -- One customer by itself: its entry in the table, its files, and its lines.
-use Rattle.std.specs.Prelude.{◌≡◌, ℕ, ◌≤◌, Bool, All, length, List, [], ◌∷◌, map, replicate, slice_index_or, slice_set}
+use Rattle.std.specs.Prelude.{◌≡◌, ℕ, Bool, List, [], ◌∷◌, map, replicate, slice_index_or, slice_set}
 use Rattle.std.specs.Prelude.{Option, Some, None}
 use Rattle.njh_table.specs.Entries.{CustomerEntry, LineEntry}
 use Rattle.njh_table.specs.Marks.{entry_unmarked}
@@ -11,7 +11,6 @@ use Rattle.njh_stream.specs.declared.receiver.Receiver.TheVariants as receiver
 use Rattle.njh_stream.specs.Receiving.{Notice}
 use Rattle.njh_stream.specs.declared.sender.Sender.{Sender}
 use Rattle.njh_stream.specs.declared.sender.Sender.TheVariants as sender
-use Rattle.njh_stream.specs.Streams.{AreTied}
 use Rattle.njh_line.specs.declared.config.Config.{Config}
 use Rattle.njh_line.specs.declared.config.Role as line_role
 use Rattle.njh_line.specs.declared.config.Role.TheVariants as role
@@ -122,24 +121,6 @@ sender_at k x = slice_index_or x.senders k sender.Idle
 
 abbrev pub with_sender : ℕ → Sender → CustomerLine → CustomerLine
 with_sender k s x = record x { senders = slice_set x.senders k s }
-
--- ---- what ties its parts to each other
-
--- the streams to the hub, line by line
-abbrev pub streams_to_hub : List CustomerLine → List (List Receiver)
-streams_to_hub lines = map (λ x. x.receivers) lines
-
--- eight streams to the hub, and at most four of a kind that the peer may use
-abbrev pub HasStreams : CustomerLine → Type 0
-HasStreams x = (length x.receivers ≡ 8) × (x.streams ≤ 4)
-
--- What a customer's streams keep of its partial files is what those are, its files stand under its own quota, and each
--- of its lines has a mark.
-pub record IsCoherent (c : Customer) : Type 0 where
-  pub tied : AreTied (streams_to_hub c.lines) c.spool
-  pub streamed : All HasStreams c.lines
-  pub quota : c.spool.quota ≡ c.entry.quota
-  pub marks : length c.entry.up ≡ length c.lines
 
 -- ---- the marks of its lines
 

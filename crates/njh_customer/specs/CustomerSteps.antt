@@ -4,7 +4,8 @@ use Rattle.njh_table.specs.declared.LineId.{LineId}
 use Rattle.njh_spool.specs.CustomerSpool.{CustomerSpool}
 use Rattle.njh_spool.specs.Spools.{part}
 use Rattle.njh_table.specs.TableFile.{TableFile, NamedCustomer, customer_at, entry_of}
-use Rattle.njh_customer.specs.Customer.{Customer, CustomerLine, IsCoherent, customer_with}
+use Rattle.njh_customer.specs.Customer.{Customer, CustomerLine, customer_with}
+use Rattle.njh_customer.specs.code.Coherence.{IsCoherent}
 
 -- the customer of a number, by the tables, all customers' spools and its own lines
 abbrev pub customer_of : TableFile → ℕ → List CustomerSpool → List CustomerLine → Customer

@@ -14,3 +14,4 @@ pub mod FrameEffects
 pub mod MovingLaws
 pub mod Disregarding
 pub mod NewRoutes
+pub mod code

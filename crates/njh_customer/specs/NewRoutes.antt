@@ -7,7 +7,7 @@ use Rattle.njh_stream.specs.Sending.{goes_by}
 use Rattle.njh_table.specs.Entries.{CustomerEntry, RouteEntry}
 use Rattle.njh_table.specs.Keys.{Walked}
 use Rattle.njh_table.specs.NewRoutes.{NewRoute, routes_checked, taken_routes}
-use Rattle.njh_customer.specs.Customer.{Customer, IsCoherent}
+use Rattle.njh_customer.specs.Customer.{Customer}
 use Rattle.njh_customer.specs.Part.{Part}
 
 abbrev pub entry_with : List RouteEntry → CustomerEntry → CustomerEntry
@@ -33,10 +33,6 @@ abbrev pub routes_given : List NewRoute → Part → Part
 routes_given routes p = taken_where (routes_checked p.customer.entry routes) routes p
 
 -- ---- what is said of it
-
--- It stays coherent.
-abbrev pub RoutesKeepCoherent : Type 0
-RoutesKeepCoherent = (routes : List RouteEntry) (c : Customer) → IsCoherent c → IsCoherent (given routes c)
 
 -- A file whose node has no route goes by no line, so none asks for it, whatever state it is in.
 abbrev pub UnroutedFilesStay : Type 0

@@ -2,7 +2,8 @@
 
 ghost use Rattle.std.specs.Prelude.{◌≤◌, All};
 ghost use Rattle.njh_table.specs.Entries.{CustomerEntry};
-ghost use Rattle.njh_customer.specs.Customer.{IsCoherent, fresh_customer};
+ghost use Rattle.njh_customer.specs.Customer.{fresh_customer};
+ghost use Rattle.njh_customer.specs.code.Coherence.{IsCoherent};
 ghost use Rattle.njh_customer.specs.Disregarding.{BadBlocksAreDisregarded, GarbledIsDisregarded, SpoiledIsDisregarded};
 ghost use Rattle.njh_customer.specs.Laws.{CutsAreLike, FirstBytesSendFirst, NoBytesDoNothing, StepsFollowBytes};
 ghost use Rattle.njh_customer.specs.Laws.{EventsKeepEntries, EventsKeepFaults, EventsKeepLines, MarksAreRight};

@@ -4,7 +4,8 @@ ghost use Rattle.std.specs.Prelude.{◌≡◌, ◌<◌, length, slice_set};
 ghost use Rattle.njh_spool.specs.Spools.{part};
 ghost use Rattle.njh_table.specs.TableFile.{customer_at, entry_of};
 ghost use Rattle.njh_customer.specs.Part.{part_with};
-ghost use Rattle.njh_customer.specs.NewRoutes.{RoutesKeepCoherent, UnroutedFilesStay, routes_taken};
+ghost use Rattle.njh_customer.specs.NewRoutes.{UnroutedFilesStay, routes_taken};
+ghost use Rattle.njh_customer.specs.code.Coherence.{RoutesKeepCoherent};
 
 use crate::lines::Lines;
 use njh_spool::Spool;

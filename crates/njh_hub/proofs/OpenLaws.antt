@@ -9,10 +9,12 @@ use Rattle.njh_table.specs.Accepted.{IsAccepted}
 use Rattle.njh_table.specs.Entries.{CustomerEntry}
 use Rattle.njh_table.specs.Marks.{customer_unmarked, entry_unmarked, unmarked}
 use Rattle.njh_table.specs.TableFile.{TableFile, no_customer, customer_at, entry_of}
-use Rattle.njh_customer.specs.Customer.{IsCoherent, IsMarked, fresh_customer}
+use Rattle.njh_customer.specs.Customer.{IsMarked, fresh_customer}
+use Rattle.njh_customer.specs.code.Coherence.{IsCoherent}
 use Rattle.njh_customer.specs.Part.{Lines, part_with}
 use Rattle.njh_hub.specs.WholeHub.{Part, opened, no_entry, no_part}
-use Rattle.njh_hub.specs.Parts.{IsHub, empty_files, entries_of, lines_at, part_held, parts_of}
+use Rattle.njh_hub.specs.Parts.{empty_files, entries_of, lines_at, part_held, parts_of}
+use Rattle.njh_hub.specs.code.HubInvariant.{IsHub}
 use Rattle.njh_hub.proofs.PartsLaws.{length-parts_of, part-there}
 
 -- All marks of a table were taken away, and the files and the lines of its customers were opened.

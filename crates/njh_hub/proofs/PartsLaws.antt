@@ -9,11 +9,13 @@ use Rattle.njh_spool.specs.CustomerSpool.{CustomerSpool}
 use Rattle.njh_spool.specs.Spools as spools
 use Rattle.njh_table.specs.declared.LineId.{LineId}
 use Rattle.njh_table.specs.TableFile.{NamedCustomer, TableFile, customer_at, entry_of, no_customer}
-use Rattle.njh_customer.specs.Customer.{IsCoherent, IsMarked}
+use Rattle.njh_customer.specs.Customer.{IsMarked}
+use Rattle.njh_customer.specs.code.Coherence.{IsCoherent}
 use Rattle.njh_customer.specs.CustomerSteps.{IsReady, IsRetold}
 use Rattle.njh_customer.specs.Part.{Part, Lines, part_with}
 use Rattle.njh_hub.specs.WholeHub.{no_part, part, HasLine, SameLines}
-use Rattle.njh_hub.specs.Parts.{IsHub, lines_at, no_lines, part_held, parts_of}
+use Rattle.njh_hub.specs.Parts.{lines_at, no_lines, part_held, parts_of}
+use Rattle.njh_hub.specs.code.HubInvariant.{IsHub}
 
 pub length-parts_of : (table : TableFile) (files : List CustomerSpool) (lines : List Lines)
     → length (parts_of table files lines) ≡ length table.customers

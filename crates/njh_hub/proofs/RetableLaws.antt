@@ -6,11 +6,14 @@ use Rattle.njh_spool.specs.CustomerSpool.{CustomerSpool}
 use Rattle.njh_spool.specs.Spools as spools
 use Rattle.njh_table.specs.Entries.{RouteEntry}
 use Rattle.njh_table.specs.TableFile.{TableFile, customer_at, entry_of, no_customer}
-use Rattle.njh_customer.specs.Customer.{IsCoherent, IsMarked}
-use Rattle.njh_customer.specs.NewRoutes.{RoutesKeepCoherent, routes_taken}
+use Rattle.njh_customer.specs.Customer.{IsMarked}
+use Rattle.njh_customer.specs.code.Coherence.{IsCoherent}
+use Rattle.njh_customer.specs.NewRoutes.{routes_taken}
+use Rattle.njh_customer.specs.code.Coherence.{RoutesKeepCoherent}
 use Rattle.njh_customer.specs.Part.{Part, Lines, part_with}
 use Rattle.njh_hub.specs.WholeHub.{part}
-use Rattle.njh_hub.specs.Parts.{IsHub, lines_at, no_lines, part_held, parts_of}
+use Rattle.njh_hub.specs.Parts.{lines_at, no_lines, part_held, parts_of}
+use Rattle.njh_hub.specs.code.HubInvariant.{IsHub}
 use Rattle.njh_hub.proofs.PartsLaws.{DifferAt, Moves, differ-nowhere, differ-set, part-there, parts-moved}
 
 -- the tables with other routes for a customer

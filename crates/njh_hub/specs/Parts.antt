@@ -1,12 +1,11 @@
 -- The customers' parts, of what the hub keeps: the table, the files of all customers, and each customer's lines.
-use Rattle.std.specs.Prelude.{◌≡◌, ℕ, ◌<◌, List, [], length, map, slice_index_or}
+use Rattle.std.specs.Prelude.{ℕ, List, [], length, map, slice_index_or}
 use Rattle.std.specs.List.{range_with_len}
 use Rattle.njh_spool.specs.CustomerSpool.{CustomerSpool, empty_spool}
 use Rattle.njh_spool.specs.Spools as spools
 use Rattle.njh_spool.specs.declared.quota.Quota.{Quota}
 use Rattle.njh_table.specs.Entries.{CustomerEntry}
 use Rattle.njh_table.specs.TableFile.{TableFile, NamedCustomer, customer_at, entry_of}
-use Rattle.njh_customer.specs.Customer.{IsCoherent, IsMarked}
 use Rattle.njh_customer.specs.Part.{Part, Lines, part_with}
 
 -- the entries of a table, in its order
@@ -34,11 +33,3 @@ part_held table files lines c = part_with (entry_of (customer_at table c)) (spoo
 -- one for each customer of the table
 abbrev pub parts_of : TableFile → List CustomerSpool → List Lines → List Part
 parts_of table files lines = map (part_held table files lines) (range_with_len 0 (length table.customers))
-
--- What the hub keeps belongs together: files and lines of as many customers as the table has, each of which is
--- coherent, and the lines that the table marks as up are those that are up.
-pub record IsHub (table : TableFile) (files : List CustomerSpool) (lines : List Lines) : Type 0 where
-  pub spooled : length files ≡ length table.customers
-  pub lined : length lines ≡ length table.customers
-  pub coherent : (c : ℕ) → c < length table.customers → IsCoherent (part_held table files lines c).customer
-  pub marked : (c : ℕ) → c < length table.customers → IsMarked (part_held table files lines c).customer

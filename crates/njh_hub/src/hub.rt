@@ -38,7 +38,8 @@ pub struct Hub {
 impl Model for Hub {
     ghost use Rattle.std.specs.Prelude.{List};
     ghost use Rattle.njh_hub.specs.WholeHub.{Part};
-    ghost use Rattle.njh_hub.specs.Parts.{parts_of, IsHub};
+    ghost use Rattle.njh_hub.specs.Parts.{parts_of};
+    ghost use Rattle.njh_hub.specs.code.HubInvariant.{IsHub};
 
     ghost Value = { List Part };
 

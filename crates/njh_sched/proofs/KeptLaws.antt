@@ -11,7 +11,9 @@ use Rattle.njh_sched.specs.NextBlock.{Outlet, Candidate, Filling, Source}
 use Rattle.njh_sched.specs.NextBlock.{WaitingAnswer, StreamAbort, StreamRequest, WaitingMessage, StreamTurn}
 use Rattle.njh_sched.specs.NextBlock.{answering, abort_where, asking, added_where}
 use Rattle.njh_sched.specs.NextBlock.{after_candidate, after_source, after_source_where, after_sources}
-use Rattle.njh_sched.specs.NextBlock.{candidate, filling, filling_where, may_ask, sender_at, waiting_messages, aborts, requests, streams}
+use Rattle.njh_sched.specs.NextBlock.{candidate, filling, may_ask, sender_at, waiting_messages, aborts, requests}
+use Rattle.njh_sched.specs.NextBlock.{streams}
+use Rattle.njh_sched.specs.code.Filling.{filling_where}
 use Rattle.njh_sched.proofs.SourceLists.{one_behind_others, full_stays}
 
 module _ (goes : WholeFile → Bool) where

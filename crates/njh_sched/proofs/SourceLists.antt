@@ -4,7 +4,8 @@ use Rattle.std.proofs.Common.{◌++◌, length, drop, map, replicate, Some, None
 use Rattle.std.proofs.Common.{slice_get, find, cond, refl, sym, ap, ◌∙◌, not-suc-le-zero, le_of_suc-le-suc, add-one}
 use Rattle.njh_block.specs.Writing.{Writing}
 use Rattle.njh_spool.specs.CustomerSpool.{CustomerSpool, WholeFile}
-use Rattle.njh_sched.specs.NextBlock.{Outlet, Source, Filling, filling, filling_where}
+use Rattle.njh_sched.specs.NextBlock.{Outlet, Source, Filling, filling}
+use Rattle.njh_sched.specs.code.Filling.{filling_where}
 use Rattle.njh_sched.specs.NextBlock.{after_source, after_sources, streams}
 
 pub stream_at : (place : ℕ) → place < 8 → slice_get streams place ≡ Some place

@@ -10,8 +10,10 @@ use Rattle.njh_block.specs.Writing.{Writing, has_room, is_general, with_last}
 use Rattle.njh_record.specs.Stored.{Stored}
 use Rattle.njh_spool.specs.CustomerSpool.{CustomerSpool, WholeFile}
 use Rattle.njh_stream.specs.Sending.{next_of}
-use Rattle.njh_sched.specs.NextBlock.{Outlet, StreamTurn, Candidate, turns, next_served, sender_at, serving, data_item, room_of}
-use Rattle.njh_sched.specs.NextBlock.{after_source, after_sources, after_candidate, added_where, filling, filling_where}
+use Rattle.njh_sched.specs.NextBlock.{Outlet, StreamTurn, Candidate, turns, next_served, sender_at, serving, data_item}
+use Rattle.njh_sched.specs.code.Filling.{room_of}
+use Rattle.njh_sched.specs.NextBlock.{after_source, after_sources, after_candidate, added_where, filling}
+use Rattle.njh_sched.specs.code.Filling.{filling_where}
 use Rattle.njh_sched.proofs.SourceLists.{one_more, full_stays, nothing_left}
 
 -- what a stream in turn sends

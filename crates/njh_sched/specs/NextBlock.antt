@@ -3,7 +3,7 @@
 use Rattle.std.specs.Prelude.{ℕ, ◌+◌, ◌-◌, ◌%◌, Bool, true, false, List}
 use Rattle.std.specs.Prelude.{[], ◌∷◌, ◌++◌, length, drop, set, map, replicate, find, slice_get}
 use Rattle.std.specs.Prelude.{slice_index_or, option_map, Option, Some, None, nat_lt, not, ◌&&◌}
-use Rattle.njh_block.specs.Blocks.{Item, Data, Aborted, Control, text_of, control_byte, rcb_of}
+use Rattle.njh_block.specs.Blocks.{Item, Data, Aborted, Control, control_byte, rcb_of}
 use Rattle.njh_block.specs.Blocks.{is_on, all_suspended, messages_on}
 use Rattle.njh_block.specs.Codes.{kind_of}
 use Rattle.njh_block.specs.Writing.{Writing, has_room, with_last}
@@ -227,31 +227,6 @@ filled_where false goes x = after_sources goes (sources x.block.limit x.outlet) 
 unfoldable pub filled : (WholeFile → Bool) → Filling → Filling
 filled goes x = filled_where (all_suspended x.outlet.peer) goes x
 
--- ---- as the code goes on
-
--- a block, an outlet and a customer's spool, full or not
+-- a block, an outlet and a customer's spool, as long as all had room
 abbrev pub filling : Writing → Outlet → CustomerSpool → Filling
 filling w o s = record { block = w; outlet = o; spool = s; full = false }
-
--- where it is told whether all had room so far
-abbrev pub filling_where : Bool → Writing → Outlet → CustomerSpool → Filling
-filling_where more w o s = record { block = w; outlet = o; spool = s; full = not more }
-
--- how many bytes more a block may have
-abbrev pub room_of : Writing → ℕ
-room_of w = w.limit - length (text_of w.bcb w.fcs w.items)
-
--- a block with one record more, where it has room
-abbrev pub with_last_where : Bool → Item → Writing → Writing
-with_last_where true i w = with_last i w
-with_last_where false i w = w
-
--- a message had room, and is gone, or it waits
-abbrev pub message_gone_where : Bool → Outlet → Outlet
-message_gone_where true o = without_message o
-message_gone_where false o = o
-
--- whether a block has records
-abbrev pub has_items : List Item → Bool
-has_items [] = false
-has_items (i ∷ is) = true

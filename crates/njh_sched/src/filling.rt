@@ -4,7 +4,8 @@ ghost use Rattle.std.specs.Prelude.{◌≡◌, ◌<◌, length, slice_set};
 ghost use Rattle.njh_spool.specs.Spools.{part};
 ghost use Rattle.njh_stream.specs.Sending.{goes_by};
 ghost use Rattle.njh_table.specs.TableFile.{customer_at, entry_of};
-ghost use Rattle.njh_sched.specs.NextBlock.{sources, after_sources, filled, filling, filling_where, has_items};
+ghost use Rattle.njh_sched.specs.NextBlock.{sources, after_sources, filled, filling};
+ghost use Rattle.njh_sched.specs.code.Filling.{filling_where, has_items};
 
 use crate::aborts::add_aborts;
 use crate::outgoing::Outgoing;

@@ -4,8 +4,9 @@ ghost use Rattle.std.specs.Prelude.{◌≡◌, ◌≤◌, IsTrue, length, slice_
 ghost use Rattle.njh_spool.specs.CustomerSpool.{CustomerSpool, WholeFile};
 ghost use Rattle.njh_sched.specs.NextBlock.{Outlet, WaitingAnswer, WaitingMessage, waiting_answers, messages_where};
 ghost use Rattle.njh_sched.specs.NextBlock.{waiting_messages};
-ghost use Rattle.njh_sched.specs.NextBlock.{without_answer, message_gone_where, after_source, after_sources, filling};
-ghost use Rattle.njh_sched.specs.NextBlock.{filling_where};
+ghost use Rattle.njh_sched.specs.NextBlock.{without_answer, after_source, after_sources, filling};
+ghost use Rattle.njh_sched.specs.code.Filling.{message_gone_where};
+ghost use Rattle.njh_sched.specs.code.Filling.{filling_where};
 
 use crate::record_room::{PLAIN, add_where_room};
 use crate::outgoing::Outgoing;

@@ -3,7 +3,7 @@
 ghost use Rattle.std.specs.Prelude.{◌≡◌};
 ghost use Rattle.njh_block.specs.ItemViews.{outgoing_item, IsWritable};
 ghost use Rattle.njh_block.specs.Writing.{has_room};
-ghost use Rattle.njh_sched.specs.NextBlock.{with_last_where};
+ghost use Rattle.njh_sched.specs.code.Filling.{with_last_where};
 
 use njh_block::{BlockWriter, Out};
 

@@ -4,8 +4,10 @@ ghost use Rattle.std.specs.Prelude.{◌≡◌, ◌<◌, Bool, IsTrue, length, So
 ghost use Rattle.njh_spool.specs.CustomerSpool.{WholeFile};
 ghost use Rattle.njh_spool.specs.Spools.{part};
 ghost use Rattle.njh_stream.specs.Sending.{next_of};
-ghost use Rattle.njh_sched.specs.NextBlock.{turns, may_send, next_served, room_of, sender_at, serving};
-ghost use Rattle.njh_sched.specs.NextBlock.{after_candidate, after_sources, filling, filling_where};
+ghost use Rattle.njh_sched.specs.NextBlock.{turns, may_send, next_served, sender_at, serving};
+ghost use Rattle.njh_sched.specs.code.Filling.{room_of};
+ghost use Rattle.njh_sched.specs.NextBlock.{after_candidate, after_sources, filling};
+ghost use Rattle.njh_sched.specs.code.Filling.{filling_where};
 
 use crate::record_room::{PLAIN, add_where_room};
 use crate::outgoing::Outgoing;

@@ -6,7 +6,8 @@ ghost use Rattle.njh_spool.specs.Spools.{part};
 ghost use Rattle.njh_stream.specs.Sending.{goes_by};
 ghost use Rattle.njh_table.specs.TableFile.{entry_of};
 ghost use Rattle.njh_sched.specs.NextBlock.{StreamRequest, after_candidate, after_source, after_sources, asking};
-ghost use Rattle.njh_sched.specs.NextBlock.{filling, filling_where, may_ask, requests};
+ghost use Rattle.njh_sched.specs.NextBlock.{filling, may_ask, requests};
+ghost use Rattle.njh_sched.specs.code.Filling.{filling_where};
 ghost use Rattle.njh_sched.specs.code.FileCursor.{GoesOn, IsOver, files_of, goes_of};
 
 use crate::record_room::add_where_room;

@@ -16,7 +16,8 @@ use Rattle.njh_stream.specs.declared.receiver.Progress.TheVariants.{Beginning}
 use Rattle.njh_stream.specs.declared.receiver.Receiver.{Receiver}
 use Rattle.njh_stream.specs.declared.receiver.Receiver.TheVariants.{Idle, Open, Draining}
 use Rattle.njh_stream.specs.Transmissions.{Verdict, Taken, Cancelled, is_whole, judged_coming, Fitting}
-use Rattle.njh_stream.specs.Receiving.{Agrees, AgreesWith, Arrival, Request, Data, Long}
+use Rattle.njh_stream.specs.Receiving.{Arrival, Request, Data, Long}
+use Rattle.njh_stream.specs.code.Agreement.{Agrees, AgreesWith}
 use Rattle.njh_stream.specs.Receiving.{Abort, progress_of, requested, requested_where, closed_by, stored_by, received}
 
 -- the next number is no file's, where there may be one file more

@@ -16,7 +16,8 @@ use Rattle.njh_stream.specs.declared.receiver.After.{After}
 use Rattle.njh_stream.specs.code.Verdicts.{IsAfter}
 use Rattle.njh_stream.specs.SpoolFiles.{records_in}
 use Rattle.njh_stream.specs.Transmissions.{is_whole}
-use Rattle.njh_stream.specs.Receiving.{AgreesWith, progress_of, placed, ends_whole, last_srcb}
+use Rattle.njh_stream.specs.Receiving.{progress_of, placed, last_srcb}
+use Rattle.njh_stream.specs.code.Agreement.{AgreesWith, ends_whole}
 use Rattle.njh_stream.specs.Receiving.{closed, closed_by, stored, received_open, requested, Data}
 use Rattle.njh_stream.proofs.ProgressLaws.{ends_by_last, all_job_headers}
 

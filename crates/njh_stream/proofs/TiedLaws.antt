@@ -11,8 +11,10 @@ use Rattle.njh_spool.specs.CustomerSpool.{CustomerSpool, PartialFile, partial_nu
 use Rattle.njh_stream.specs.declared.receiver.Receiver.{Receiver}
 use Rattle.njh_stream.specs.declared.receiver.Receiver.TheVariants.{Idle, Open, Draining}
 use Rattle.njh_table.specs.Entries.{CustomerEntry}
-use Rattle.njh_stream.specs.Receiving.{Agrees, AgreesWith, Arrival, received, without_open, without_all_open}
-use Rattle.njh_stream.specs.Streams.{streams_at, stream_at, with_stream, without_streams, file_on, Comes, AreTied}
+use Rattle.njh_stream.specs.Receiving.{Arrival, received, without_open, without_all_open}
+use Rattle.njh_stream.specs.code.Agreement.{Agrees, AgreesWith}
+use Rattle.njh_stream.specs.Streams.{streams_at, stream_at, with_stream, without_streams, file_on}
+use Rattle.njh_stream.specs.code.Agreement.{Comes, AreTied}
 use Rattle.njh_stream.proofs.AgreesLaws.{IsFree, received_agrees}
 use Rattle.njh_stream.proofs.EndingLaws.{become, next_is, open_so_far}
 use Rattle.njh_stream.proofs.MoveLaws.{Moves, Has, arrivals, ends}

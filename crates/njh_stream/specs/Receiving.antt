@@ -1,6 +1,6 @@
 -- One arrival on a stream to the hub: the stream, the spool and the answer after it, and what the owner of the file is
 -- told.
-use Rattle.std.specs.Prelude.{◌≡◌, ℕ, Bool, true, false, List, [], ◌∷◌, ◌++◌, Option, Some, None, ◌==◌, ◌&&◌}
+use Rattle.std.specs.Prelude.{ℕ, Bool, true, false, List, [], ◌∷◌, ◌++◌, Option, Some, None, ◌&&◌}
 use Rattle.std.specs.List.{list_all}
 use Rattle.njh_record.specs.Stored.{Stored, has_srcb}
 use Rattle.njh_record.specs.declared.Kind.{Kind}
@@ -9,8 +9,8 @@ use Rattle.njh_block.specs.declared.rcb.ControlRcb.{ControlRcb}
 use Rattle.njh_block.specs.declared.rcb.ControlRcb.TheVariants.{Permission, Refusal, Completion}
 use Rattle.njh_header.specs.FileHeaders.{owner_of, destination_of}
 use Rattle.njh_table.specs.Entries.{CustomerEntry}
-use Rattle.njh_spool.specs.CustomerSpool.{CustomerSpool, PartialFile, has_file_room, has_block, next_number, begun}
-use Rattle.njh_spool.specs.CustomerSpool.{partial_numbered, partial_records, appended, has_room_for, abandoned}
+use Rattle.njh_spool.specs.CustomerSpool.{CustomerSpool, has_file_room, has_block, next_number, begun}
+use Rattle.njh_spool.specs.CustomerSpool.{partial_records, appended, has_room_for, abandoned}
 use Rattle.njh_spool.specs.CustomerSpool.{finished}
 use Rattle.njh_stream.specs.declared.receiver.Progress.{Progress}
 use Rattle.njh_stream.specs.declared.receiver.Progress.TheVariants.{Beginning, JobHeader, Placed}
@@ -34,23 +34,6 @@ abbrev pub progress_of : Kind → List Stored → Progress
 progress_of kind [] = Beginning
 progress_of In (r ∷ rs) = placed In (r ∷ rs)
 progress_of Out (r ∷ rs) = elim (list_all (has_srcb 0xc0) (r ∷ rs)) [ true ↦ JobHeader | false ↦ placed Out (r ∷ rs) ]
-
--- there is a partial file of this kind, and what is kept is what its records say
-abbrev pub AgreesWith : Kind → Progress → Option PartialFile → Type 0
-AgreesWith kind progress None = ⊥
-AgreesWith kind progress (Some f) = (f.kind ≡ kind) × (progress ≡ progress_of kind f.records)
-
--- whether the last record that came is a trailer
-abbrev pub ends_whole : Progress → Bool
-ends_whole Beginning = false
-ends_whole JobHeader = false
-ends_whole (Placed node last) = last == 0xd0
-
--- a stream that is open has a partial file of its kind, and keeps what that says
-abbrev pub Agrees : Kind → Receiver → CustomerSpool → Type 0
-Agrees kind Idle s = Unit {0}
-Agrees kind (Open n progress) s = AgreesWith kind progress (partial_numbered n s)
-Agrees kind Draining s = Unit {0}
 
 -- ---- one arrival
 

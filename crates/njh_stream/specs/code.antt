@@ -1,3 +1,4 @@
 -- What only bodies and proofs speak of.
+pub mod Agreement
 pub mod FileRouting
 pub mod Verdicts

@@ -8,7 +8,8 @@ ghost use Rattle.njh_spool.specs.CustomerSpool.{CustomerSpool, abandoned, has_bl
 ghost use Rattle.njh_stream.specs.Following.{Moment, coming_at, followed, following_from, IsUntouched};
 ghost use Rattle.njh_stream.specs.Outcomes.{Becomes, Ending, Outcome, records_of};
 ghost use Rattle.njh_stream.specs.Receiving.{Arrival, Request, received, requested, without_all_open, without_open};
-ghost use Rattle.njh_stream.specs.Streams.{AreTied, stream_at, streams_at, with_stream, without_streams};
+ghost use Rattle.njh_stream.specs.Streams.{stream_at, streams_at, with_stream, without_streams};
+ghost use Rattle.njh_stream.specs.code.Agreement.{AreTied};
 ghost use Rattle.njh_stream.specs.Transmissions.{Coming};
 
 use crate::receiver::{Progress, Receiver};

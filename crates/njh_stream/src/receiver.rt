@@ -11,7 +11,8 @@ ghost use Rattle.njh_table.specs.Entries.{CustomerEntry};
 ghost use Rattle.njh_table.specs.TableFile.{customer_at, entry_of};
 ghost use Rattle.njh_stream.specs.Arrivals.{answer_on, arrival_of, received_on, IsShort};
 ghost use Rattle.njh_stream.specs.code.Verdicts.{IsAfter};
-ghost use Rattle.njh_stream.specs.Receiving.{Agrees, AgreesWith, closed, ends_whole, received};
+ghost use Rattle.njh_stream.specs.Receiving.{closed, received};
+ghost use Rattle.njh_stream.specs.code.Agreement.{Agrees, AgreesWith, ends_whole};
 ghost use Rattle.njh_stream.specs.Receiving.{received_draining, received_idle, received_open, requested, without_open};
 ghost use Rattle.njh_stream.specs.Receiving.{Data};
 

@@ -11,7 +11,8 @@ ghost use Rattle.njh_table.specs.Entries.{CustomerEntry};
 ghost use Rattle.njh_table.specs.TableFile.{entry_of};
 ghost use Rattle.njh_stream.specs.code.Verdicts.{appended_where, judged_placed, IsAfter};
 ghost use Rattle.njh_stream.specs.SpoolFiles.{records_in};
-ghost use Rattle.njh_stream.specs.Receiving.{AgreesWith, cancelled, notice_of, stored};
+ghost use Rattle.njh_stream.specs.Receiving.{cancelled, notice_of, stored};
+ghost use Rattle.njh_stream.specs.code.Agreement.{AgreesWith};
 ghost use Rattle.njh_stream.specs.Transmissions as transmissions;
 
 use crate::judging::{Verdict, judge};

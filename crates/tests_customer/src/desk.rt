@@ -59,7 +59,7 @@ pub struct Desk {
 
 impl Model for Desk {
     ghost use Rattle.std.specs.Prelude.{◌<◌, length};
-    ghost use Rattle.njh_customer.specs.Customer.{IsCoherent};
+    ghost use Rattle.njh_customer.specs.code.Coherence.{IsCoherent};
     ghost use Rattle.njh_customer.specs.CustomerSteps.{customer_of};
 
     ghost Value = { Unit {0} };

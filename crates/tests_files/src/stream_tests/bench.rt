@@ -65,7 +65,7 @@ impl Model for Bench {
     ghost use Rattle.std.specs.Prelude.{◌<◌, length};
     ghost use Rattle.njh_block.specs.Codes.{kind_of};
     ghost use Rattle.njh_spool.specs.Spools.{part};
-    ghost use Rattle.njh_stream.specs.Receiving.{Agrees};
+    ghost use Rattle.njh_stream.specs.code.Agreement.{Agrees};
     ghost use Rattle.njh_stream.specs.declared.receiver.Receiver.{Receiver};
 
     ghost Value = { Receiver };

@@ -2,7 +2,7 @@
 use Rattle.std.proofs.Common.{ap, sym, subst, ◌∙◌}
 use Rattle.njh_block.specs.Codes.{kind_of}
 use Rattle.njh_spool.specs.Spools.{part}
-use Rattle.njh_stream.specs.Receiving.{Agrees}
+use Rattle.njh_stream.specs.code.Agreement.{Agrees}
 use Rattle.njh_customer.specs.Customer.{receiver_at}
 use Rattle.njh_customer.specs.CustomerSteps.{customer_of}
 use Rattle.njh_customer.proofs.CoherenceLaws.{agrees_there}

@@ -1,5 +1,6 @@
 use Rattle.std.proofs.Common.{◌≡◌, ◌∙◌, sym, ap, false, true, length, drop, replicate, slice_get, None, arith, rules}
-use Rattle.njh_sched.specs.NextBlock.{WaitingAnswer, after_sources, filling, filling_where}
+use Rattle.njh_sched.specs.NextBlock.{WaitingAnswer, after_sources, filling}
+use Rattle.njh_sched.specs.code.Filling.{filling_where}
 use Rattle.njh_sched.proofs.SourceLists.{first_of_queue, empty_queue, full_stays}
 use Rattle.njh_sched.proofs.queues.add_answers.Goals as goal
 

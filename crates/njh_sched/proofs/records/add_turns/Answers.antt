@@ -1,6 +1,7 @@
 use Rattle.std.proofs.Common.{◌≡◌, ◌∙◌, ◌<◌, ◌+◌, sym, ap, false, true, None, length, arith, rules}
 use Rattle.njh_spool.specs.Spools.{part}
-use Rattle.njh_sched.specs.NextBlock.{next_served, room_of}
+use Rattle.njh_sched.specs.NextBlock.{next_served}
+use Rattle.njh_sched.specs.code.Filling.{room_of}
 use Rattle.njh_sched.proofs.TurnLaws.{enough, no_turns, turn_went_on, turn_stopped}
 use Rattle.njh_sched.proofs.records.add_turns.Goals as goal
 

@@ -1,7 +1,8 @@
 use Rattle.std.proofs.Common.{◌≡◌, ◌+◌, Bool}
 use Rattle.njh_spool.specs.CustomerSpool.{WholeFile}
 use Rattle.njh_spool.specs.Spools.{part}
-use Rattle.njh_sched.specs.NextBlock.{after_sources, filling, room_of, turns}
+use Rattle.njh_sched.specs.NextBlock.{after_sources, filling, turns}
+use Rattle.njh_sched.specs.code.Filling.{room_of}
 use Rattle.njh_sched.proofs.records.add_turns.Given as goal
 
 abbrev pub invariant-loop-stream : goal.invariant-loop-stream

@@ -1,7 +1,8 @@
 use Rattle.std.proofs.Common.{◌≡◌, ℕ, Some, sym, ap, subst, ◌∙◌}
 use Rattle.njh_spool.specs.Spools.{part}
 use Rattle.njh_table.specs.declared.LineId.{LineId}
-use Rattle.njh_sched.specs.NextBlock.{after_candidate, asking, filling, filling_where}
+use Rattle.njh_sched.specs.NextBlock.{after_candidate, asking, filling}
+use Rattle.njh_sched.specs.code.Filling.{filling_where}
 use Rattle.njh_sched.specs.code.FileCursor.{files_of, goes_of}
 use Rattle.njh_sched.proofs.CursorLaws.{customer_is, sends_one}
 use Rattle.njh_sched.proofs.RequestLaws.{asks, not_asked, nothing_to_ask}

@@ -6,7 +6,8 @@ use Rattle.njh_table.specs.NewRoutes.{own_routes, routes_checked, taken_routes}
 use Rattle.njh_table.specs.TableFile.{TableFile, customer_at, entry_of}
 use Rattle.njh_customer.specs.NewRoutes.{routes_taken}
 use Rattle.njh_customer.specs.Part.{Lines, part_with}
-use Rattle.njh_hub.specs.Parts.{IsHub, lines_at, no_lines, parts_of}
+use Rattle.njh_hub.specs.Parts.{lines_at, no_lines, parts_of}
+use Rattle.njh_hub.specs.code.HubInvariant.{IsHub}
 use Rattle.njh_hub.specs.WholeHub.{Part, part}
 use Rattle.njh_hub.proofs.PartsLaws.{customer-known, entry-there, hub-moved, length-parts_of, lines-stay, others-stay}
 use Rattle.njh_hub.proofs.RetableLaws.{Retabled, parts-retabled, retabled}

@@ -1,6 +1,7 @@
 use Rattle.std.proofs.Common.{◌≡◌, ℕ, ◌∙◌, List, length, get_or, slice_set, ap, subst, sym, rules, arith}
 use Rattle.njh_customer.specs.Part.{signal_taken, part_with}
-use Rattle.njh_hub.specs.Parts.{IsHub, parts_of}
+use Rattle.njh_hub.specs.Parts.{parts_of}
+use Rattle.njh_hub.specs.code.HubInvariant.{IsHub}
 use Rattle.njh_hub.specs.WholeHub.{Part, HasLine, part}
 use Rattle.njh_hub.proofs.PartsLaws.{Found, Stepped, found, hub-moved, line-there, others-stay, step-leads, step-lines, stepped}
 use Rattle.njh_spool.specs.Spools as spools

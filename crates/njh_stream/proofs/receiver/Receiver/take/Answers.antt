@@ -2,7 +2,7 @@ use Rattle.std.proofs.Common.{subst, sym}
 use Rattle.njh_spool.specs.Spools.{part}
 use Rattle.njh_table.specs.TableFile.{entry_of}
 use Rattle.njh_stream.specs.Arrivals.{arrival_of}
-use Rattle.njh_stream.specs.Receiving.{Agrees}
+use Rattle.njh_stream.specs.code.Agreement.{Agrees}
 use Rattle.njh_stream.proofs.AgreesLaws.{step_agrees}
 use Rattle.njh_stream.proofs.receiver.Receiver.take.Goals as goal
 

@@ -1,7 +1,8 @@
 use Rattle.std.proofs.Common.{subst, sym}
 use Rattle.njh_spool.specs.Spools.{part}
 use Rattle.njh_table.specs.TableFile.{customer_at, entry_of}
-use Rattle.njh_stream.specs.Receiving.{Agrees, Data}
+use Rattle.njh_stream.specs.Receiving.{Data}
+use Rattle.njh_stream.specs.code.Agreement.{Agrees}
 use Rattle.njh_stream.proofs.AgreesLaws.{step_agrees}
 use Rattle.njh_stream.proofs.receiver.Receiver.take_record.Goals as goal
 

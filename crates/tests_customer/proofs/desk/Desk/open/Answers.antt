@@ -6,7 +6,8 @@ use Rattle.std.proofs.lemmas.List.Elements.{All-map}
 use Rattle.njh_spool.specs.CustomerSpool.{empty_spool}
 use Rattle.njh_table.specs.Marks.{entry_unmarked}
 use Rattle.njh_table.specs.TableFile.{customer_at, entry_of, no_customer}
-use Rattle.njh_customer.specs.Customer.{IsCoherent, customer_with, fresh_customer}
+use Rattle.njh_customer.specs.Customer.{customer_with, fresh_customer}
+use Rattle.njh_customer.specs.code.Coherence.{IsCoherent}
 use Rattle.tests_customer.proofs.desk.Desk.open.Goals as goal
 
 pub invariant_of-result : goal.invariant_of-result

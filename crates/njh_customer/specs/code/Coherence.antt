@@ -1,0 +1,27 @@
+-- What ties a customer's lines, streams and files to each other: the invariant of all that it goes through.
+use Rattle.std.specs.Prelude.{◌≡◌, ◌≤◌, All, length, List, map}
+use Rattle.njh_stream.specs.declared.receiver.Receiver.{Receiver}
+use Rattle.njh_stream.specs.code.Agreement.{AreTied}
+use Rattle.njh_table.specs.Entries.{RouteEntry}
+use Rattle.njh_customer.specs.Customer.{Customer, CustomerLine}
+use Rattle.njh_customer.specs.NewRoutes.{given}
+
+-- the streams to the hub, line by line
+abbrev pub streams_to_hub : List CustomerLine → List (List Receiver)
+streams_to_hub lines = map (λ x. x.receivers) lines
+
+-- eight streams to the hub, and at most four of a kind that the peer may use
+abbrev pub HasStreams : CustomerLine → Type 0
+HasStreams x = (length x.receivers ≡ 8) × (x.streams ≤ 4)
+
+-- What a customer's streams keep of its partial files is what those are, its files stand under its own quota, and each
+-- of its lines has a mark.
+pub record IsCoherent (c : Customer) : Type 0 where
+  pub tied : AreTied (streams_to_hub c.lines) c.spool
+  pub streamed : All HasStreams c.lines
+  pub quota : c.spool.quota ≡ c.entry.quota
+  pub marks : length c.entry.up ≡ length c.lines
+
+-- Routes that are given keep it coherent.
+abbrev pub RoutesKeepCoherent : Type 0
+RoutesKeepCoherent = (routes : List RouteEntry) (c : Customer) → IsCoherent c → IsCoherent (given routes c)
