@@ -7,11 +7,11 @@ work=$(mktemp -d)
 trap 'rm -rf "$work"' EXIT
 mkdir -p "$work/crates/spool_bench/src"
 cp "$top/HANDLES" "$work"
-for crate in njh_ebcdic njh_record njh_header njh_spool; do
+for crate in njh_ebcdic njh_record njh_nmr njh_header njh_table njh_spool; do
   cp -r "$top/crates/$crate" "$work/crates"
   grep "^$crate:" "$top/crates.txt" >> "$work/crates.txt"
 done
-echo 'spool_bench: njh_record njh_spool anyhow' >> "$work/crates.txt"
+echo 'spool_bench: njh_record njh_table njh_spool anyhow' >> "$work/crates.txt"
 for name in main calls looking removing; do
   cp "$here/$name.txt" "$work/crates/spool_bench/src/$name.rt"
 done

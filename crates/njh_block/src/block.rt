@@ -8,9 +8,9 @@ ghost use Rattle.njh_block.specs.ItemViews.{shown, first_contents};
 use crate::bcb::Bcb;
 use crate::fault::BlockFault;
 use crate::fcs::Fcs;
+use crate::front_record::{check_records, ends, read_first, read_general};
 use crate::item::Item;
 use crate::laws::one_reading;
-use crate::front_record::{check_records, ends, read_first, read_general};
 use njh_record::Record;
 use std::marker::Model;
 

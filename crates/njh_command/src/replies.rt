@@ -13,8 +13,7 @@ use std::marker::Model;
 /// The most replies to one command; those behind them aren't said.
 pub const MOST_REPLIES: usize = 64;
 
-/// The replies to a command, in order: messages in EBCDIC of at most 148 bytes. They are at most 64, and take no
-/// memory.
+/// The replies to a command, in order: messages in EBCDIC. They are at most 64, and take no memory.
 #[derive(Debug, Drop)]
 pub struct Replies {
     /// The replies, and behind them texts of earlier commands, in whose places later ones come: none is cleared for a

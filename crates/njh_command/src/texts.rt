@@ -8,6 +8,7 @@ use njh_ebcdic::{BLANK, FIELD, Name};
 use njh_header::{
     Destination, FileName, MessageText, push_ascii, push_digits, push_file_name, push_trimmed,
 };
+use njh_nmr::LONGEST_MESSAGE;
 use njh_record::Kind;
 use njh_spool::{FileSummary, State};
 
@@ -148,7 +149,7 @@ fn push_file_text(
     records: u32,
     state: State,
 )
-    requires { length text.old.items + 72 ≤ 148 }
+    requires { length text.old.items + 72 ≤ LONGEST_MESSAGE }
     ensures text { text.new.items ≡ text.old.items ++ replies.file_text name destination kind records state }
     ensures few { length text.new.items ≤ length text.old.items + 72 }
 {
@@ -165,7 +166,7 @@ fn push_file_text(
 
 /// Appends a file's name.
 fn push_name(text: &mut MessageText, name: Option<FileName>)
-    requires { length text.old.items + 19 ≤ 148 }
+    requires { length text.old.items + 19 ≤ LONGEST_MESSAGE }
     ensures text { text.new.items ≡ text.old.items ++ replies.name_text name }
     ensures few { length text.new.items ≤ length text.old.items + 19 }
 {
@@ -176,7 +177,7 @@ fn push_name(text: &mut MessageText, name: Option<FileName>)
 
 /// Appends a destination: the node, and the user where it isn't blank.
 fn push_destination(text: &mut MessageText, destination: Option<Destination>)
-    requires { length text.old.items + 17 ≤ 148 }
+    requires { length text.old.items + 17 ≤ LONGEST_MESSAGE }
     ensures text { text.new.items ≡ text.old.items ++ replies.destination_text destination }
     ensures few { length text.new.items ≤ length text.old.items + 17 }
 {
@@ -188,7 +189,7 @@ fn push_destination(text: &mut MessageText, destination: Option<Destination>)
 
 /// Appends a blank and a user, where the user isn't blank.
 fn push_user(text: &mut MessageText, user: &[u8; 8])
-    requires { length text.old.items + 9 ≤ 148 }
+    requires { length text.old.items + 9 ≤ LONGEST_MESSAGE }
     ensures text { text.new.items ≡ text.old.items ++ replies.user_text (trimmed user.now) }
     ensures few { length text.new.items ≤ length text.old.items + 9 }
 {
@@ -200,7 +201,7 @@ fn push_user(text: &mut MessageText, user: &[u8; 8])
 
 /// Appends what kind of file it is.
 fn push_kind(text: &mut MessageText, kind: Kind)
-    requires { length text.old.items + 3 ≤ 148 }
+    requires { length text.old.items + 3 ≤ LONGEST_MESSAGE }
     ensures text { text.new.items ≡ text.old.items ++ replies.kind_text kind }
     ensures few { length text.new.items ≤ length text.old.items + 3 }
 {
@@ -212,7 +213,7 @@ fn push_kind(text: &mut MessageText, kind: Kind)
 
 /// Appends a file's state.
 fn push_state(text: &mut MessageText, state: State)
-    requires { length text.old.items + 8 ≤ 148 }
+    requires { length text.old.items + 8 ≤ LONGEST_MESSAGE }
     ensures text { text.new.items ≡ text.old.items ++ replies.state_text state }
     ensures few { length text.new.items ≤ length text.old.items + 8 }
 {

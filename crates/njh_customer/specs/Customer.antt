@@ -3,8 +3,7 @@ use Rattle.std.specs.Prelude.{◌≡◌, ℕ, Bool, List, [], ◌∷◌, map, re
 use Rattle.std.specs.Prelude.{Option, Some, None}
 use Rattle.njh_table.specs.Entries.{CustomerEntry, LineEntry}
 use Rattle.njh_table.specs.Marks.{entry_unmarked}
-use Rattle.njh_table.specs.declared.Role.{Role}
-use Rattle.njh_table.specs.declared.Role.TheVariants.{Call, Answer}
+use Rattle.njh_table.specs.declared.Role.TheVariants as role
 use Rattle.njh_spool.specs.CustomerSpool.{CustomerSpool, empty_spool}
 use Rattle.njh_stream.specs.declared.receiver.Receiver.{Receiver}
 use Rattle.njh_stream.specs.declared.receiver.Receiver.TheVariants as receiver
@@ -12,8 +11,6 @@ use Rattle.njh_stream.specs.Receiving.{Notice}
 use Rattle.njh_stream.specs.declared.sender.Sender.{Sender}
 use Rattle.njh_stream.specs.declared.sender.Sender.TheVariants as sender
 use Rattle.njh_line.specs.declared.config.Config.{Config}
-use Rattle.njh_line.specs.declared.config.Role as line_role
-use Rattle.njh_line.specs.declared.config.Role.TheVariants as role
 use Rattle.njh_line.specs.Laws.{is_up}
 use Rattle.njh_line.specs.Lines.{LineState, fresh_line}
 
@@ -38,15 +35,11 @@ abbrev pub password_in : List ℕ → Option (List ℕ)
 password_in [] = None
 password_in (b ∷ bytes) = Some (b ∷ bytes)
 
-abbrev pub role_of : Role → line_role.Role
-role_of Call = role.Call
-role_of Answer = role.Answer
-
 abbrev pub config_of : CustomerEntry → LineEntry → Config
 config_of entry line = record {
   hub = entry.hub;
   node = line.node;
-  role = role_of line.role;
+  role = line.role;
   block = line.block;
   password = password_in line.password;
 }

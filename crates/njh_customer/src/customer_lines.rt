@@ -23,7 +23,7 @@ use njh_block::{Answer, BlockWriter, Stream};
 use njh_command::{Replies, Senders};
 use njh_ebcdic::{FIELD, Name};
 use njh_line::{Input, Reply, Verdict};
-use njh_nmr::Nmr;
+use njh_nmr::{LONGEST_MESSAGE, Nmr};
 use njh_record::Record;
 use njh_spool::{FileId, Spool};
 use njh_stream::{Notice, Receiver, Sender};
@@ -191,7 +191,7 @@ impl CustomerLines {
 
     /// The hub says something to a user at a node.
     pub(crate) fn say(&mut self, customer: &Customer, node: Name, user: [u8; FIELD], text: &[u8])
-        requires { length text.now ≤ 148 }
+        requires { length text.now ≤ LONGEST_MESSAGE }
         ensures { self.new ≡ said (entry_of customer.now) (node, user) text.now self.old }
     {
         self.say_by(customer.route(node), customer.hub(), node, user, text);
@@ -199,7 +199,7 @@ impl CustomerLines {
 
     /// The hub says something to a user at a node, by the node's route.
     fn say_by(&mut self, route: Route, hub: Name, node: Name, user: [u8; FIELD], text: &[u8])
-        requires { length text.now ≤ 148 }
+        requires { length text.now ≤ LONGEST_MESSAGE }
         ensures { self.new ≡ goes route (notice_record hub (node, user) text.now) self.old }
     {
         let mut record = Record::new();

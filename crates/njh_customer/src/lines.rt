@@ -6,7 +6,7 @@ ghost use Rattle.njh_spool.specs.CustomerSpool.{empty_spool};
 ghost use Rattle.njh_spool.specs.Spools.{part};
 ghost use Rattle.njh_table.specs.Marks.{entry_unmarked};
 ghost use Rattle.njh_table.specs.TableFile.{customer_at, entry_of, password_bytes};
-ghost use Rattle.njh_customer.specs.Customer.{config_of, line_at, password_in, role_of};
+ghost use Rattle.njh_customer.specs.Customer.{config_of, line_at, password_in};
 ghost use Rattle.njh_customer.specs.Feeding.{acted_on};
 ghost use Rattle.njh_customer.specs.CustomerSteps.{Brings, IsReady, IsRetold, customer_of};
 ghost use Rattle.njh_customer.specs.Part.{rest_at};
@@ -22,7 +22,7 @@ use njh_ebcdic::Name;
 use njh_line::{Config, Session};
 use njh_spool::Spool;
 use njh_stream::{Notice, Receiver, Sender};
-use njh_table::{Customer, LineId, Role, Tables};
+use njh_table::{Customer, LineId, Tables};
 use std::alloc::{AllocError, Global};
 use std::marker::Model;
 
@@ -229,19 +229,9 @@ fn config_of(customer: &Customer, line: &njh_table::Line) -> Config
     Config {
         hub: customer.hub(),
         node: line.node(),
-        role: role_of(line.role()),
+        role: line.role(),
         block: line.block(),
         password: whole_name(line.password()),
-    }
-}
-
-/// A line's role in the table, as the line's own.
-fn role_of(role: Role) -> njh_line::Role
-    ensures { result ≡ role_of role }
-{
-    match role {
-        Role::Call => njh_line::Role::Call,
-        Role::Answer => njh_line::Role::Answer,
     }
 }
 

@@ -9,10 +9,11 @@ ghost use Rattle.njh_header.specs.Texts.{file_name as name_text};
 use crate::file_name::FileName;
 use arrayvec::ArrayVec;
 use njh_ebcdic::{BLANK, plain_byte};
+use njh_nmr::LONGEST_MESSAGE;
 use njh_record::put_bytes;
 
-/// The message of a nodal message record, in EBCDIC: at most 148 bytes.
-pub type MessageText = ArrayVec<u8, 148>;
+/// The message of a nodal message record, in EBCDIC.
+pub type MessageText = ArrayVec<u8, LONGEST_MESSAGE>;
 
 /// What stands between the node and the number of a file's name.
 const FULL_STOP: u8 = 0x4b;
@@ -22,7 +23,7 @@ const ZERO: u8 = 0xf0;
 
 /// Appends capital letters, digits, full stops and blanks.
 pub fn push_ascii(text: &mut MessageText, ascii: &str)
-    requires room { length text.old.items + length ascii.now ≤ 148 }
+    requires room { length text.old.items + length ascii.now ≤ LONGEST_MESSAGE }
     requires known { IsTrue (list_all is_plain ascii.now) }
     ensures { text.new.items ≡ text.old.items ++ ebcdic ascii.now }
 {
@@ -34,7 +35,7 @@ pub fn push_ascii(text: &mut MessageText, ascii: &str)
 /// Appends a field without the blanks behind it.
 #[tactic(auto, using(crate::proofs::TextLemmas::trimmed_size))]
 pub fn push_trimmed(text: &mut MessageText, field: &[u8; 8])
-    requires { length text.old.items + 8 ≤ 148 }
+    requires { length text.old.items + 8 ≤ LONGEST_MESSAGE }
     ensures text { text.new.items ≡ text.old.items ++ trimmed field.now }
     ensures few { length text.new.items ≤ length text.old.items + 8 }
 {
@@ -60,7 +61,7 @@ fn half_at(field: &[u8; 8], place: usize) -> [u8; 4]
 
 /// Appends half a field without the blanks behind it.
 fn push_trimmed_half(text: &mut MessageText, half: [u8; 4])
-    requires { length text.old.items + 4 ≤ 148 }
+    requires { length text.old.items + 4 ≤ LONGEST_MESSAGE }
     ensures { text.new.items ≡ text.old.items ++ trimmed half }
 {
     let [first, second, third, fourth] = half;
@@ -78,7 +79,7 @@ fn push_trimmed_half(text: &mut MessageText, half: [u8; 4])
 /// Appends a number in decimal digits, with no leading zeros.
 #[tactic(auto, using(crate::proofs::TextLemmas::digit_steps))]
 pub fn push_digits(text: &mut MessageText, number: u32)
-    requires { length text.old.items + 10 ≤ 148 }
+    requires { length text.old.items + 10 ≤ LONGEST_MESSAGE }
     ensures text { text.new.items ≡ text.old.items ++ digits number }
     ensures few { length text.new.items ≤ length text.old.items + 10 }
 {
@@ -96,7 +97,7 @@ pub fn push_digits(text: &mut MessageText, number: u32)
 
 #[tactic(auto, using(crate::proofs::TextLemmas::digit_steps))]
 fn push_each_digit(text: &mut MessageText, number: u32)
-    requires { length text.old.items + length (digits number) ≤ 148 }
+    requires { length text.old.items + length (digits number) ≤ LONGEST_MESSAGE }
     ensures { text.new.items ≡ text.old.items ++ digits number }
 {
     if number >= 10 {
@@ -107,7 +108,7 @@ fn push_each_digit(text: &mut MessageText, number: u32)
 
 /// Appends a file's name: node, full stop, number.
 pub fn push_file_name(text: &mut MessageText, name: FileName)
-    requires { length text.old.items + 19 ≤ 148 }
+    requires { length text.old.items + 19 ≤ LONGEST_MESSAGE }
     ensures text { text.new.items ≡ text.old.items ++ name_text name }
     ensures few { length text.new.items ≤ length text.old.items + 19 }
 {

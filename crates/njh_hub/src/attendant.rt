@@ -3,8 +3,8 @@
 ghost use Rattle.njh_hub.specs.Service.{AreStill};
 
 use crate::fault::HubFault;
-use crate::hub::Hub;
 use crate::given_routes::RouteList;
+use crate::hub::Hub;
 use crate::wire::Wire;
 
 /// A customer, and the routes that it is to have from now on, in place of its own.

@@ -27,6 +27,7 @@ pub use event::{Event, Piece, SHORT_PIECE};
 pub use fault::{Cause, HubFault, RunFault};
 pub use file_summary::FileSummaryView;
 pub use file_view::{FileRecord, FileView};
+pub use given_routes::RouteList;
 pub use headline::{outcome, two_runs};
 pub use hub::Hub;
 pub use laws::{
@@ -34,9 +35,7 @@ pub use laws::{
     two_lists_are_like,
 };
 pub use njh_customer::{Signal, cuts_are_like};
-pub use wire_reading::{Reading, WireFault};
 pub use rounds::Rounds;
-pub use given_routes::RouteList;
 pub use serve::serve_turns;
 pub use service::attend;
 pub use session_view::SessionView;
@@ -44,3 +43,4 @@ pub use sink::{Sink, SinkFault};
 pub use turn::{TurnRoom, wire_turn};
 pub use wire::Wire;
 pub use wire_laws::{own_wires_and_routes_decide, own_wires_decide};
+pub use wire_reading::{Reading, WireFault};

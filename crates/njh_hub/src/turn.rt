@@ -12,8 +12,8 @@ ghost use Rattle.njh_hub.specs.Wires.{IsDone, Unsent, IsReading, heard_of, frame
 
 use crate::fault::HubFault;
 use crate::hub::Hub;
-use crate::wire_reading::{Reading, WireFault};
 use crate::wire::Wire;
+use crate::wire_reading::{Reading, WireFault};
 use njh_bisync::LONGEST_FRAME;
 use njh_customer::{Signal, cuts_are_like, no_bytes_do_nothing, steps_follow_bytes};
 use njh_table::LineId;

@@ -6,8 +6,8 @@ use Rattle.njh_header.specs.SignOns.{SignOn}
 use Rattle.njh_line.specs.declared.Phase.{Phase}
 use Rattle.njh_line.specs.declared.Phase.TheVariants.{Down, Calling, Answered, SentI, Up}
 use Rattle.njh_line.specs.declared.config.Config.{Config}
-use Rattle.njh_line.specs.declared.config.Role.{Role}
-use Rattle.njh_line.specs.declared.config.Role.TheVariants.{Call, Answer}
+use Rattle.njh_table.specs.declared.Role.{Role}
+use Rattle.njh_table.specs.declared.Role.TheVariants.{Call, Answer}
 use Rattle.njh_line.specs.declared.counts.Counted.{Counted}
 use Rattle.njh_line.specs.declared.counts.Counted.TheVariants.{Acts, Repeats, OutOfSequence}
 use Rattle.njh_line.specs.declared.session.Session.{Session}

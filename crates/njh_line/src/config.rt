@@ -1,15 +1,7 @@
 //! What a line is told once.
 
 use njh_ebcdic::Name;
-
-/// Which end of a line the hub is.
-#[derive(Clone, Copy, Debug, PartialEq, Eq)]
-pub enum Role {
-    /// It calls the peer.
-    Call,
-    /// It waits for the peer's call.
-    Answer,
-}
+use njh_table::Role;
 
 /// A line's two nodes, and what they agree on beforehand.
 #[derive(Clone, Copy, Debug, PartialEq, Eq)]

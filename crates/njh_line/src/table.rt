@@ -8,7 +8,7 @@ ghost use Rattle.njh_line.specs.LineTable.{next_in_turn, none, shown, signed_on,
 ghost use Rattle.njh_line.specs.Openings.{shown_first};
 
 use crate::Phase::{Answered, Calling, Down, SentI, Up};
-use crate::config::{Config, Role};
+use crate::config::Config;
 use crate::counts::Counted;
 use crate::input::Input::{
     self, Ack0, Bad, Block, Enquiry, Eot, Garbled, Lost, Nak, Spoiled, Tick,
@@ -19,6 +19,7 @@ use crate::verdict::{Reply, Verdict};
 use njh_bisync::Control;
 use njh_block::{Bcb, Fcs};
 use njh_header::SignOn;
+use njh_table::Role;
 
 /// The most tries in a row.
 const TRIES: u8 = 5;

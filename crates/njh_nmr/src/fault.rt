@@ -8,7 +8,7 @@ pub enum NmrFault {
     /// The record has under 30 bytes.
     #[error("N1 TooShort")]
     TooShort,
-    /// The message has over 148 bytes, or reaches past the record's end.
+    /// The message has over `LONGEST_MESSAGE` bytes, or reaches past the record's end.
     #[error("N2 BadLength")]
     BadLength,
     /// The node that it goes to, or the one that it comes from, is no name.

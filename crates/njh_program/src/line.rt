@@ -8,8 +8,8 @@ ghost use Rattle.njh_program.specs.Script.{words_of};
 ghost use Rattle.njh_program.specs.ScriptRoutes.{IsNamedIn};
 ghost use Rattle.njh_program.specs.code.LineStarts.{Begins, IsStart};
 
-use crate::script_routes::routes_event;
 use crate::line_starts::Start;
+use crate::script_routes::routes_event;
 use hex::FromHexError;
 use njh_hub::{Event, Piece, SHORT_PIECE};
 use njh_table::{LineId, Tables};

@@ -6,10 +6,10 @@ ghost use Rattle.njh_program.specs.Script.{can_stand, event_in, is_skipped, scri
 ghost use Rattle.njh_program.specs.ScriptRoutes.{IsNamedIn};
 ghost use Rattle.njh_program.specs.code.LineStarts.{Begins, IsStart};
 
-use crate::script_lines::first_line;
 use crate::fault::ReplayFault;
 use crate::line::event_of;
 use crate::line_starts::{Start, start_of};
+use crate::script_lines::first_line;
 use njh_hub::{Event, HubFault};
 use njh_table::Tables;
 use std::alloc::{AllocError, Global};

@@ -5,8 +5,8 @@ ghost use Rattle.njh_spool.specs.CustomerSpool.{CustomerSpool, WholeFile};
 ghost use Rattle.njh_sched.specs.NextBlock.{StreamAbort, aborts, after_source, after_sources, filling};
 ghost use Rattle.njh_sched.specs.code.Filling.{filling_where};
 
-use crate::record_room::{PLAIN, add_where_room};
 use crate::outgoing::Outgoing;
+use crate::record_room::{PLAIN, add_where_room};
 use njh_block::{BlockWriter, Out, Stream};
 use njh_stream::Sender;
 

@@ -8,8 +8,8 @@ ghost use Rattle.njh_sched.specs.NextBlock.{without_answer, after_source, after_
 ghost use Rattle.njh_sched.specs.code.Filling.{message_gone_where};
 ghost use Rattle.njh_sched.specs.code.Filling.{filling_where};
 
-use crate::record_room::{PLAIN, add_where_room};
 use crate::outgoing::Outgoing;
+use crate::record_room::{PLAIN, add_where_room};
 use njh_block::{Answer, BlockWriter, Out, Rcb};
 
 /// Adds the answer that waits longest, where it has room.

@@ -9,8 +9,8 @@ ghost use Rattle.njh_sched.specs.code.Filling.{room_of};
 ghost use Rattle.njh_sched.specs.NextBlock.{after_candidate, after_sources, filling};
 ghost use Rattle.njh_sched.specs.code.Filling.{filling_where};
 
-use crate::record_room::{PLAIN, add_where_room};
 use crate::outgoing::Outgoing;
+use crate::record_room::{PLAIN, add_where_room};
 use njh_block::{BlockWriter, Out, Stream};
 use njh_record::Record;
 use njh_spool::Spool;

@@ -10,9 +10,9 @@ ghost use Rattle.njh_sched.specs.NextBlock.{filling, may_ask, requests};
 ghost use Rattle.njh_sched.specs.code.Filling.{filling_where};
 ghost use Rattle.njh_sched.specs.code.FileCursor.{GoesOn, IsOver, files_of, goes_of};
 
-use crate::record_room::add_where_room;
 use crate::cursor::Cursor;
 use crate::outgoing::Outgoing;
+use crate::record_room::add_where_room;
 use njh_block::{BlockWriter, ControlRcb, Out, Stream};
 use njh_spool::{FileId, Spool, State};
 use njh_stream::Sender;

@@ -4,11 +4,9 @@ ghost use Rattle.std.specs.Prelude.{◌≡◌, take};
 
 use crate::entry::write_user;
 use njh_ebcdic::{FIELD, Name, text_of};
+use njh_nmr::LONGEST_MESSAGE;
 use njh_stream::Notice;
 use std::fmt;
-
-/// The most bytes of a notice's text.
-const LONGEST_MESSAGE: usize = 148;
 
 /// A copy of a notice, as the owner of a file was sent it.
 #[derive(Clone, Copy, Drop)]

@@ -7,7 +7,7 @@ use Rattle.njh_record.specs.Stored.{Stored}
 use Rattle.njh_record.specs.declared.Kind.{Kind}
 use Rattle.njh_spool.specs.declared.SpoolFault.{SpoolFault}
 use Rattle.njh_spool.specs.declared.SpoolFault.TheVariants.{QuotaFull, TooManyFiles, NoSuchFile}
-use Rattle.njh_spool.specs.declared.quota.TheConstants.{MOST_BLOCKS, MOST_FILES}
+use Rattle.njh_table.specs.declared.limits.TheConstants.{MAX_QUOTA, MAX_FILES}
 use Rattle.njh_spool.specs.CustomerSpool.{CustomerSpool, empty_spool, used, has_file_room, has_block, partial_numbered}
 use Rattle.njh_spool.specs.CustomerSpool.{whole_numbered}
 use Rattle.njh_spool.specs.CustomerSpool.{has_room_for}
@@ -30,8 +30,8 @@ pub record IsSound (s : CustomerSpool) : Type 0 where
   pub within_limit : length s.whole + length s.partial ≤ s.limit
   pub apart : (n : ℕ) → files_numbered n s ≤ 1
   pub numbered : (n : ℕ) → s.limit ≤ n → files_numbered n s ≡ 0
-  pub quota_limit : s.quota ≤ MOST_BLOCKS
-  pub files_limit : s.limit ≤ MOST_FILES
+  pub quota_limit : s.quota ≤ MAX_QUOTA
+  pub files_limit : s.limit ≤ MAX_FILES
 
 -- a fault where a test fails
 abbrev pub fault_unless : Bool → SpoolFault → Option SpoolFault

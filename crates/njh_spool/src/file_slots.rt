@@ -5,8 +5,8 @@ ghost use Rattle.njh_spool.specs.code.Slots.{slot_of, place_of, free_slot};
 
 use crate::file_id::FileId;
 use crate::file_slot::FileSlot;
-use crate::quota::MOST_FILES;
 use crate::slot_row::SlotRow;
+use njh_table::MAX_FILES;
 use std::alloc::{AllocError, Global};
 use std::marker::Model;
 
@@ -32,18 +32,18 @@ impl Model for FileSlots {
 impl FileSlots {
     /// Slots in which no file is, for so many customers. It takes all the memory that they ever have.
     pub fn open(alloc: Global, customers: u32) -> Result<Self, AllocError>
-        ensures { IfOk result (λ slots. slots ≡ replicate (MOST_FILES * customers) free_slot) }
+        ensures { IfOk result (λ slots. slots ≡ replicate (MAX_FILES * customers) free_slot) }
     {
         let mut rows = Vec::with_capacity(alloc, customers as usize)?;
         for _done in 0..customers {
-            rows.push_reserved(SlotRow::new(alloc, MOST_FILES)?);
+            rows.push_reserved(SlotRow::new(alloc, MAX_FILES)?);
         }
         Ok(FileSlots { rows })
     }
 
     /// The slot of a customer's file, a free one where the number can be no file's.
     pub fn at(&self, customer: u16, id: FileId) -> &FileSlot
-        requires { MOST_FILES * customer + MOST_FILES ≤ length self.now }
+        requires { MAX_FILES * customer + MAX_FILES ≤ length self.now }
         ensures { result.now ≡ slot_of self.now customer id }
     {
         self.rows[usize::from(customer)].at(id.number())
@@ -51,8 +51,8 @@ impl FileSlots {
 
     /// Puts a slot in the place of a customer's file.
     pub fn set(&mut self, customer: u16, id: FileId, slot: FileSlot)
-        requires all { MOST_FILES * customer + MOST_FILES ≤ length self.old }
-        requires number { id < MOST_FILES }
+        requires all { MAX_FILES * customer + MAX_FILES ≤ length self.old }
+        requires number { id < MAX_FILES }
         ensures { self.new ≡ slice_set self.old (place_of customer id) slot }
     {
         self.rows[usize::from(customer)].set(id.number(), slot);

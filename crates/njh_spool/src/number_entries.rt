@@ -6,11 +6,11 @@ ghost use Rattle.std.specs.Vec.{vec_capacity};
 ghost use Rattle.std.specs.List.{list_any};
 ghost use Rattle.njh_spool.specs.code.NumberEntries.{is_number, numbers_in, before, IsIndexed};
 
-use crate::quota::MOST_FILES;
+use njh_table::MAX_FILES;
 use std::alloc::{AllocError, Global};
 
 /// Room for as many numbers as a customer may have files.
-pub const ROOM: usize = MOST_FILES as usize;
+pub const ROOM: usize = MAX_FILES as usize;
 
 /// The entries are counted in groups of so many.
 const GROUP: usize = 32;
@@ -37,17 +37,17 @@ pub struct Entries {
 fn is_number(entry: u16) -> bool
     ensures { result ≡ is_number entry }
 {
-    u32::from(entry) < MOST_FILES
+    u32::from(entry) < MAX_FILES
 }
 
 /// Makes places reach to a number's, where no number stands yet.
 fn reach(places: &mut Vec<u16>, number: u16)
-    requires room { vec_capacity places.old ≡ MOST_FILES }
-    requires few { length places.old.items ≤ MOST_FILES }
-    requires number { number < MOST_FILES }
+    requires room { vec_capacity places.old ≡ MAX_FILES }
+    requires few { length places.old.items ≤ MAX_FILES }
+    requires number { number < MAX_FILES }
     ensures same { (n : ℕ) → slice_index_or places.new.items n 0 ≡ slice_index_or places.old.items n 0 }
     ensures longer { length places.old.items ≤ length places.new.items }
-    ensures few { length places.new.items ≤ MOST_FILES }
+    ensures few { length places.new.items ≤ MAX_FILES }
     ensures there { number < length places.new.items }
     ensures room { vec_capacity places.new ≡ vec_capacity places.old }
 {
@@ -119,9 +119,9 @@ impl Entries {
     fn place_of(&self, number: u16) -> Option<usize>
         requires { IsIndexed self.now }
         ensures { MatchOption result
-            ((p : ℕ) → p < length self.now.entries.items → slice_index_or self.now.entries.items p 0 ≡ number → MOST_FILES ≤ number)
+            ((p : ℕ) → p < length self.now.entries.items → slice_index_or self.now.entries.items p 0 ≡ number → MAX_FILES ≤ number)
             (λ place. (place < length self.now.entries.items) × (slice_index_or self.now.entries.items place 0 ≡ number)
-            × (number < MOST_FILES)) }
+            × (number < MAX_FILES)) }
     {
         if !is_number(number) {
             return None;
@@ -137,7 +137,7 @@ impl Entries {
     fn clear(&mut self, place: usize)
         requires index { IsIndexed self.old }
         requires within { place < length self.old.entries.items }
-        requires number { slice_index_or self.old.entries.items place 0 < MOST_FILES }
+        requires number { slice_index_or self.old.entries.items place 0 < MAX_FILES }
         ensures index { IsIndexed self.new }
         ensures others { numbers_in self.new.entries.items
             ≡ filter (λ m. not (m == slice_index_or self.old.entries.items place 0)) (numbers_in self.old.entries.items) }
@@ -161,8 +161,8 @@ impl Entries {
     /// Puts a number last.
     pub fn push(&mut self, number: u16)
         requires index { IsIndexed self.old }
-        requires room { length self.old.entries.items < MOST_FILES }
-        requires number { number < MOST_FILES }
+        requires room { length self.old.entries.items < MAX_FILES }
+        requires number { number < MAX_FILES }
         requires absent { list_any (λ m. m == number) self.old.entries.items ≡ false }
         ensures index { IsIndexed self.new }
         ensures entries { self.new.entries.items ≡ self.old.entries.items ++ number ∷ [] }

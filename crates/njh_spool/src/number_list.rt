@@ -3,7 +3,7 @@
 ghost use Rattle.std.specs.Prelude.{◌≡◌, IfOk, ℕ, ◌==◌, ◌<◌, [], ◌∷◌, ◌++◌, not, filter, count_by, length, slice_index};
 
 use crate::number_entries::Entries;
-use crate::quota::MOST_FILES;
+use njh_table::MAX_FILES;
 use std::alloc::{AllocError, Global};
 use std::marker::Model;
 
@@ -50,8 +50,8 @@ impl Numbers {
 
     /// Puts a number last.
     pub fn push(&mut self, number: u16)
-        requires room { length self.old < MOST_FILES }
-        requires number { number < MOST_FILES }
+        requires room { length self.old < MAX_FILES }
+        requires number { number < MAX_FILES }
         requires absent { count_by (λ m. m == number) self.old ≡ 0 }
         ensures { self.new ≡ self.old ++ number ∷ [] }
     {

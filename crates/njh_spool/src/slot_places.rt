@@ -6,18 +6,18 @@ ghost use Rattle.njh_spool.specs.code.Slots.{slot_of, place_of, is_free};
 use crate::file_id::FileId;
 use crate::file_slot::FileSlot;
 use crate::file_slots::FileSlots;
-use crate::quota::MOST_FILES;
+use njh_table::MAX_FILES;
 
 /// Where a customer's slot is among all.
 pub fn place(customer: u16, id: FileId) -> u32
     ensures { result ≡ place_of customer id }
 {
-    MOST_FILES * u32::from(customer) + u32::from(id.number())
+    MAX_FILES * u32::from(customer) + u32::from(id.number())
 }
 
 /// The slot of a customer's file, a free one where the number can be no file's.
 pub fn slot_at(slots: &FileSlots, customer: u16, id: FileId) -> FileSlot
-    requires { MOST_FILES * customer + MOST_FILES ≤ length slots.now }
+    requires { MAX_FILES * customer + MAX_FILES ≤ length slots.now }
     ensures { result ≡ slot_of slots.now customer id }
 {
     *slots.at(customer, id)
@@ -25,8 +25,8 @@ pub fn slot_at(slots: &FileSlots, customer: u16, id: FileId) -> FileSlot
 
 /// The least number whose slot has no file.
 pub fn free_number(slots: &FileSlots, customer: u16, limit: u32) -> u16
-    requires all { MOST_FILES * customer + MOST_FILES ≤ length slots.now }
-    requires few { limit ≤ MOST_FILES }
+    requires all { MAX_FILES * customer + MAX_FILES ≤ length slots.now }
+    requires few { limit ≤ MAX_FILES }
     requires some { (n : ℕ) × (n < limit) × (is_free (slot_of slots.now customer n).stage ≡ true) }
     ensures free { is_free (slot_of slots.now customer result).stage ≡ true }
     ensures least { (n : ℕ) → n < result → is_free (slot_of slots.now customer n).stage ≡ false }

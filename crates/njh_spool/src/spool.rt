@@ -16,9 +16,10 @@ use crate::customer_files::{CustomerFiles, open_all};
 use crate::file_headers::FileSummary;
 use crate::file_id::FileId;
 use crate::file_slots::FileSlots;
+use crate::quota::Quota;
 use crate::slot_places::slot_at;
-use crate::quota::{MOST_CUSTOMERS, MOST_FILES, Quota};
-use crate::store::{MOST_CAPACITY, Store};
+use crate::store::Store;
+use njh_table::{MAX_CAPACITY, MAX_CUSTOMERS, MAX_FILES};
 use std::alloc::Global;
 use std::marker::Model;
 
@@ -44,10 +45,10 @@ impl Model for Spool {
 
 /// The blocks that quotas add to.
 fn blocks_of_all(quotas: &[Quota]) -> u32
-    requires few { length quotas.now ≤ MOST_CUSTOMERS }
+    requires few { length quotas.now ≤ MAX_CUSTOMERS }
     requires limits { All IsWithinLimits quotas.now }
     ensures sum { result ≡ sum_by (λ q. q.blocks) quotas.now }
-    ensures most { result ≤ MOST_CAPACITY }
+    ensures most { result ≤ MAX_CAPACITY }
 {
     let mut blocks = 0;
     for quota in quotas {
@@ -60,12 +61,12 @@ impl Spool {
     /// A spool without files, with these quotas in the customers' order. It takes all the memory that it ever has.
     pub fn open(alloc: Global, quotas: &[Quota]) -> Result<Self, SpoolFault>
         requires some { 0 < length quotas.now }
-        requires few { length quotas.now ≤ MOST_CUSTOMERS }
+        requires few { length quotas.now ≤ MAX_CUSTOMERS }
         requires limits { All IsWithinLimits quotas.now }
         ensures ok { IfOk result (λ spool. spool ≡ map (λ q. empty_spool q.blocks q.files) quotas.now) }
         ensures memory { IsOkUnless result SpoolFault.Memory }
     {
-        let slot_count = MOST_FILES * quotas.len() as u32;
+        let slot_count = MAX_FILES * quotas.len() as u32;
         let store = Store::open(alloc, blocks_of_all(quotas), slot_count)?;
         let slots = FileSlots::open(alloc, quotas.len() as u32)?;
         let customers = open_all(alloc, quotas)?;

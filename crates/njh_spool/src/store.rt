@@ -16,16 +16,14 @@ ghost use Rattle.njh_spool.specs.code.Chains.{blocks_used};
 ghost use Rattle.njh_spool.specs.code.Chains.{Grows, IsMark, IsNear};
 
 use block::{BLOCK_DATA, Block};
-pub use laws::each_block_lies_once;
 use block_mark::Mark;
+pub use laws::each_block_lies_once;
 use njh_record::Record;
+use njh_table::MAX_CAPACITY;
 use slab::Slab;
 use slot::{Slot, empty_slots};
 use std::alloc::{AllocError, Global};
 use std::marker::Model;
-
-/// The most blocks of a store.
-pub const MOST_CAPACITY: u32 = 4_194_240;
 
 /// The strings of all slots.
 #[derive(Drop)]
@@ -49,7 +47,7 @@ impl Model for Store {
 impl Store {
     /// A store of so many blocks and slots, with an empty string in each slot.
     pub fn open(alloc: Global, capacity: u32, slots: u32) -> Result<Self, AllocError>
-        requires { capacity ≤ MOST_CAPACITY }
+        requires { capacity ≤ MAX_CAPACITY }
         ensures { IfOk result (λ store. store ≡ record { capacity = capacity; chains = replicate slots empty_chain }) }
     {
         let blocks = Slab::with_capacity(alloc, capacity as usize)?;

@@ -5,8 +5,9 @@ ghost use Rattle.njh_line.specs.Sessions.{IsConfig};
 use njh_bisync::Control;
 use njh_block::{Answer, Bcb, ControlRcb, Fcs, Rcb};
 use njh_ebcdic::Name;
-use njh_line::{Config, Input, Line, Opening, Phase, Reply, Role, Verdict};
+use njh_line::{Config, Input, Line, Opening, Phase, Reply, Verdict};
 use njh_record::Record;
+use njh_table::Role;
 use std::process::Abort;
 use std::test::Fail;
 

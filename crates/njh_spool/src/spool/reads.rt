@@ -7,9 +7,9 @@ ghost use Rattle.njh_spool.specs.Spools.{part, or_no_file, kind_numbered, record
 use crate::SpoolFault;
 use crate::file_id::FileId;
 use crate::file_slot::KeptPlaces;
-use crate::slot_places::{place, slot_at};
 use crate::record_places::{place_of_record, read_record};
 use crate::record_reader::RecordReader;
+use crate::slot_places::{place, slot_at};
 use crate::spool::Spool;
 use njh_record::{Kind, Record};
 
