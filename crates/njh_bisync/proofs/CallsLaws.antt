@@ -4,7 +4,7 @@ use Rattle.std.specs.Prelude.{map}
 use Rattle.std.proofs.lemmas.List.{append_assoc}
 use Rattle.njh_bisync.specs.Frames.{Received}
 use Rattle.njh_bisync.specs.Reading.{Rest, Nothing, Reads, frame_list}
-use Rattle.njh_bisync.specs.ByteSteps.{fed, frames_after, rest_after}
+use Rattle.njh_bisync.specs.ByteSteps.{feed_outcome, frames_after, rest_after}
 use Rattle.njh_bisync.specs.Calls.{Call, Feed, Reset, taken_by, given_by, left_by}
 use Rattle.njh_bisync.proofs.FedLaws.{frames_after-append, rest_after-append, takes_front, reads_from, reads_frames, reads_rest}
 
@@ -12,7 +12,7 @@ pub given_before : (rest : Rest) (before : List Call) (later : List Call)
     → given_by rest (before ++ Reset ∷ later) ≡ given_by rest before ++ given_by Nothing later
 given_before rest [] later = refl
 given_before rest (Feed piece ∷ before) later =
-    let f = fed rest piece in
+    let f = feed_outcome rest piece in
     ap (λ l. frame_list f.frame ++ l) (given_before f.rest before later)
     ∙ sym (append_assoc (frame_list f.frame) (given_by f.rest before) (given_by Nothing later))
 given_before rest (Reset ∷ before) later = given_before Nothing before later
@@ -20,7 +20,7 @@ given_before rest (Reset ∷ before) later = given_before Nothing before later
 pub left_before : (rest : Rest) (before : List Call) (later : List Call)
     → left_by rest (before ++ Reset ∷ later) ≡ left_by Nothing later
 left_before rest [] later = refl
-left_before rest (Feed piece ∷ before) later = left_before (fed rest piece).rest before later
+left_before rest (Feed piece ∷ before) later = left_before (feed_outcome rest piece).rest before later
 left_before rest (Reset ∷ before) later = left_before Nothing before later
 
 -- the frames and the rest, by single bytes
@@ -28,7 +28,7 @@ pub given_of_taken : (rest : Rest) (pieces : List (List ℕ))
     → frames_after rest (taken_by rest (map Feed pieces)) ≡ given_by rest (map Feed pieces)
 given_of_taken rest [] = refl
 given_of_taken rest (piece ∷ pieces) =
-    let f = fed rest piece in
+    let f = feed_outcome rest piece in
     let front = takes_front rest piece in
     let later = taken_by f.rest (map Feed pieces) in
     frames_after-append rest (take f.taken piece) later
@@ -40,7 +40,7 @@ pub left_of_taken : (rest : Rest) (pieces : List (List ℕ))
     → rest_after rest (taken_by rest (map Feed pieces)) ≡ left_by rest (map Feed pieces)
 left_of_taken rest [] = refl
 left_of_taken rest (piece ∷ pieces) =
-    let f = fed rest piece in
+    let f = feed_outcome rest piece in
     let later = taken_by f.rest (map Feed pieces) in
     rest_after-append rest (take f.taken piece) later
     ∙ (ap (λ r. rest_after r later) (takes_front rest piece).left ∙ left_of_taken f.rest pieces)

@@ -6,7 +6,7 @@ use Rattle.std.specs.List.{cons_option}
 use Rattle.std.proofs.lemmas.List.{take-append-drop, take_all}
 use Rattle.njh_bisync.specs.Frames.{Received, LineUnit, Partial, nothing, Splits, frames_of}
 use Rattle.njh_bisync.specs.Reading.{Rest, Nothing, rest_of, Reads, frame_list, TakesFirst}
-use Rattle.njh_bisync.specs.ByteSteps.{Turn, turn, Fed, ahead, stop_or, fed, frames_after, rest_after, GoesOn}
+use Rattle.njh_bisync.specs.ByteSteps.{RestStep, rest_step, Fed, ahead, stop_or, feed_outcome, frames_after, rest_after, GoesOn}
 use Rattle.njh_bisync.proofs.UnitReader.{run, runs_as, run-split}
 
 cons_option-append : (frame : Option Received) (front back : List Received)
@@ -18,13 +18,13 @@ pub frames_after-append : (rest : Rest) (front back : List ℕ)
     → frames_after rest (front ++ back) ≡ frames_after rest front ++ frames_after (rest_after rest front) back
 frames_after-append rest [] back = refl
 frames_after-append rest (byte ∷ front) back =
-    ap (cons_option (turn rest byte).frame) (frames_after-append (turn rest byte).rest front back)
-    ∙ cons_option-append (turn rest byte).frame (frames_after (turn rest byte).rest front)
-    (frames_after (rest_after (turn rest byte).rest front) back)
+    ap (cons_option (rest_step rest byte).frame) (frames_after-append (rest_step rest byte).rest front back)
+    ∙ cons_option-append (rest_step rest byte).frame (frames_after (rest_step rest byte).rest front)
+    (frames_after (rest_after (rest_step rest byte).rest front) back)
 
 pub rest_after-append : (rest : Rest) (front back : List ℕ) → rest_after rest (front ++ back) ≡ rest_after (rest_after rest front) back
 rest_after-append rest [] back = refl
-rest_after-append rest (byte ∷ front) back = rest_after-append (turn rest byte).rest front back
+rest_after-append rest (byte ∷ front) back = rest_after-append (rest_step rest byte).rest front back
 
 -- what is taken of a piece, by the frames of its fronts
 pub record TakesFront (rest : Rest) (piece : List ℕ) (f : Fed) : Type 0 where
@@ -36,11 +36,11 @@ pub record TakesFront (rest : Rest) (piece : List ℕ) (f : Fed) : Type 0 where
   pub all : f.frame ≡ None → f.taken ≡ length piece
 
 -- one byte, by what its turn gives
-frames_after-turned : (rest : Rest) (byte : ℕ) (bytes : List ℕ) (t : Turn) → turn rest byte ≡ t
+frames_after-turned : (rest : Rest) (byte : ℕ) (bytes : List ℕ) (t : RestStep) → rest_step rest byte ≡ t
     → frames_after rest (byte ∷ bytes) ≡ cons_option t.frame (frames_after t.rest bytes)
 frames_after-turned rest byte bytes t turned = ap (λ t'. cons_option t'.frame (frames_after t'.rest bytes)) turned
 
-rest_after-turned : (rest : Rest) (byte : ℕ) (bytes : List ℕ) (t : Turn) → turn rest byte ≡ t
+rest_after-turned : (rest : Rest) (byte : ℕ) (bytes : List ℕ) (t : RestStep) → rest_step rest byte ≡ t
     → rest_after rest (byte ∷ bytes) ≡ rest_after t.rest bytes
 rest_after-turned rest byte bytes t turned = ap (λ t'. rest_after t'.rest bytes) turned
 
@@ -48,15 +48,15 @@ none_before-end : (rest : Rest) (piece : List ℕ) (k : ℕ) → k < 1 → frame
 none_before-end rest piece zero below = refl
 none_before-end rest piece (suc k) below = absurd (omega arith)
 
-none_before-later : (rest next : Rest) (byte : ℕ) (bytes : List ℕ) (n k : ℕ) → turn rest byte ≡ record { frame = None; rest = next }
+none_before-later : (rest next : Rest) (byte : ℕ) (bytes : List ℕ) (n k : ℕ) → rest_step rest byte ≡ record { frame = None; rest = next }
     → ((j : ℕ) → j < n → frames_after next (take j bytes) ≡ []) → k < 1 + n → frames_after rest (take k (byte ∷ bytes)) ≡ []
 none_before-later rest next byte bytes n zero turned later below = refl
 none_before-later rest next byte bytes n (suc k) turned later below =
     frames_after-turned rest byte (take k bytes) _ turned ∙ later k (omega arith)
 
-one_more : (rest next : Rest) (frame : Option Received) (byte : ℕ) (bytes : List ℕ) → turn rest byte ≡ record { frame = frame; rest = next }
-    → TakesFront next bytes (fed next bytes) → TakesFront rest (byte ∷ bytes)
-    (stop_or (record { frame = frame; rest = next }) (fed next bytes))
+one_more : (rest next : Rest) (frame : Option Received) (byte : ℕ) (bytes : List ℕ) → rest_step rest byte ≡ record { frame = frame; rest = next }
+    → TakesFront next bytes (feed_outcome next bytes) → TakesFront rest (byte ∷ bytes)
+    (stop_or (record { frame = frame; rest = next }) (feed_outcome next bytes))
 one_more rest next (Some frame) byte bytes turned later = record {
   within = omega arith;
   some = λ h. omega arith;
@@ -68,13 +68,13 @@ one_more rest next (Some frame) byte bytes turned later = record {
 one_more rest next None byte bytes turned later = record {
   within = omega arith;
   some = λ h. omega arith;
-  frames = rw one-add (frames_after-turned rest byte (take (fed next bytes).taken bytes) _ turned ∙ later.frames);
-  left = rw one-add (rest_after-turned rest byte (take (fed next bytes).taken bytes) _ turned ∙ later.left);
-  none_before = λ k below. none_before-later rest next byte bytes (fed next bytes).taken k turned later.none_before below;
+  frames = rw one-add (frames_after-turned rest byte (take (feed_outcome next bytes).taken bytes) _ turned ∙ later.frames);
+  left = rw one-add (rest_after-turned rest byte (take (feed_outcome next bytes).taken bytes) _ turned ∙ later.left);
+  none_before = λ k below. none_before-later rest next byte bytes (feed_outcome next bytes).taken k turned later.none_before below;
   all = λ h. omega (arith, later.all h);
 }
 
-pub takes_front : (rest : Rest) (piece : List ℕ) → TakesFront rest piece (fed rest piece)
+pub takes_front : (rest : Rest) (piece : List ℕ) → TakesFront rest piece (feed_outcome rest piece)
 takes_front rest [] =
     record {
       within = omega arith;
@@ -85,12 +85,12 @@ takes_front rest [] =
       all = λ h. refl;
     }
 takes_front rest (byte ∷ bytes) =
-    one_more rest (turn rest byte).rest (turn rest byte).frame byte bytes refl (takes_front (turn rest byte).rest bytes)
+    one_more rest (rest_step rest byte).rest (rest_step rest byte).frame byte bytes refl (takes_front (rest_step rest byte).rest bytes)
 
 -- cut where it was taken, a piece gives its first frame and then those of what is left
-pub goes_on : (rest : Rest) (piece : List ℕ) → GoesOn rest piece (fed rest piece).taken (fed rest piece).frame (fed rest piece).rest
+pub goes_on : (rest : Rest) (piece : List ℕ) → GoesOn rest piece (feed_outcome rest piece).taken (feed_outcome rest piece).frame (feed_outcome rest piece).rest
 goes_on rest piece =
-    let f = fed rest piece in
+    let f = feed_outcome rest piece in
     let front = takes_front rest piece in
     let whole = take-append-drop f.taken piece in
     record {
@@ -105,11 +105,11 @@ goes_on rest piece =
           ∙ ap (λ r. rest_after r (drop f.taken piece)) front.left);
     }
 
-pub taken_all : (rest : Rest) (piece : List ℕ) → (fed rest piece).frame ≡ None
-    → ((fed rest piece).taken ≡ length piece) × ((fed rest piece).rest ≡ rest_after rest piece) × (frames_after rest piece ≡ [])
+pub taken_all : (rest : Rest) (piece : List ℕ) → (feed_outcome rest piece).frame ≡ None
+    → ((feed_outcome rest piece).taken ≡ length piece) × ((feed_outcome rest piece).rest ≡ rest_after rest piece) × (frames_after rest piece ≡ [])
 taken_all rest piece none =
     let front = takes_front rest piece in
-    let whole : take (fed rest piece).taken piece ≡ piece = take_all (fed rest piece).taken piece (omega (arith, front.all none)) in
+    let whole : take (feed_outcome rest piece).taken piece ≡ piece = take_all (feed_outcome rest piece).taken piece (omega (arith, front.all none)) in
     (front.all none, sym front.left ∙ ap (rest_after rest) whole, ap (frames_after rest) (sym whole) ∙ (front.frames ∙ ap frame_list none))
 
 -- a piece after one in which no frame ends
@@ -123,12 +123,12 @@ on_one_more None next first whole n later more none =
     let sum : 1 + (n + (later first.rest).taken) ≡ suc n + (later first.rest).taken = omega arith in
     ap (ahead 1) (more none) ∙ ap (λ (k : ℕ). record (later first.rest) { taken = k }) sum
 
-pub fed-append_none : (rest : Rest) (front back : List ℕ) → (fed rest front).frame ≡ None
-    → fed rest (front ++ back) ≡ ahead (length front) (fed (fed rest front).rest back)
-fed-append_none rest [] back none = ap (λ (k : ℕ). record (fed rest back) { taken = k }) (sym (zero-add (fed rest back).taken))
+pub fed-append_none : (rest : Rest) (front back : List ℕ) → (feed_outcome rest front).frame ≡ None
+    → feed_outcome rest (front ++ back) ≡ ahead (length front) (feed_outcome (feed_outcome rest front).rest back)
+fed-append_none rest [] back none = ap (λ (k : ℕ). record (feed_outcome rest back) { taken = k }) (sym (zero-add (feed_outcome rest back).taken))
 fed-append_none rest (byte ∷ front) back none =
-    let next = (turn rest byte).rest in
-    on_one_more (turn rest byte).frame next (fed next front) (fed next (front ++ back)) (length front) (λ r. fed r back)
+    let next = (rest_step rest byte).rest in
+    on_one_more (rest_step rest byte).frame next (feed_outcome next front) (feed_outcome next (front ++ back)) (length front) (λ r. feed_outcome r back)
     (fed-append_none next front back) none
 
 -- and after one in which one ends
@@ -138,12 +138,12 @@ ended_one_more : (ended : Option Received) (next : Rest) (first whole : Fed) (fr
 ended_one_more (Some ended) next first whole frame more some = refl
 ended_one_more None next first whole frame more some = ap (ahead 1) (more some)
 
-pub fed-append_some : (rest : Rest) (front back : List ℕ) (frame : Received) → (fed rest front).frame ≡ Some frame
-    → fed rest (front ++ back) ≡ fed rest front
+pub fed-append_some : (rest : Rest) (front back : List ℕ) (frame : Received) → (feed_outcome rest front).frame ≡ Some frame
+    → feed_outcome rest (front ++ back) ≡ feed_outcome rest front
 fed-append_some rest [] back frame some = cc
 fed-append_some rest (byte ∷ front) back frame some =
-    let next = (turn rest byte).rest in
-    ended_one_more (turn rest byte).frame next (fed next front) (fed next (front ++ back)) frame
+    let next = (rest_step rest byte).rest in
+    ended_one_more (rest_step rest byte).frame next (feed_outcome next front) (feed_outcome next (front ++ back)) frame
     (fed-append_some next front back frame) some
 
 -- the grammar and the functions say the same
@@ -192,9 +192,9 @@ reads_more seen frames rest more reads =
     (subst (λ (l : List Received). Reads (seen ++ more) l (rest_after Nothing (seen ++ more))) frames_then (reads_from (seen ++ more)))
 
 pub takes_first : (seen : List ℕ) (frames : List Received) (rest : Rest) (piece : List ℕ) → Reads seen frames rest
-    → TakesFirst seen frames piece (fed rest piece).taken (fed rest piece).frame (fed rest piece).rest
+    → TakesFirst seen frames piece (feed_outcome rest piece).taken (feed_outcome rest piece).frame (feed_outcome rest piece).rest
 takes_first seen frames rest piece reads =
-    let f = fed rest piece in
+    let f = feed_outcome rest piece in
     let front = takes_front rest piece in
     record {
       within = front.within;
@@ -214,19 +214,19 @@ takes_first seen frames rest piece reads =
 -- what callers of `feed` learn beside the number, the frame and the rest themselves
 pub record Feeds (rest : Rest) (piece : List ℕ) (taken : ℕ) (frame : Option Received) : Type 0 where
   pub first : (seen : List ℕ) (frames : List Received) → Reads seen frames rest
-      → TakesFirst seen frames piece taken frame (fed rest piece).rest
-  pub goes_on : GoesOn rest piece taken frame (fed rest piece).rest
+      → TakesFirst seen frames piece taken frame (feed_outcome rest piece).rest
+  pub goes_on : GoesOn rest piece taken frame (feed_outcome rest piece).rest
 
-pub feeds : (rest : Rest) (piece : List ℕ) (taken : ℕ) (frame : Option Received) → taken ≡ (fed rest piece).taken
-    → frame ≡ (fed rest piece).frame → Feeds rest piece taken frame
+pub feeds : (rest : Rest) (piece : List ℕ) (taken : ℕ) (frame : Option Received) → taken ≡ (feed_outcome rest piece).taken
+    → frame ≡ (feed_outcome rest piece).frame → Feeds rest piece taken frame
 feeds rest piece taken frame taken_is frame_is =
     subst (λ (n : ℕ). Feeds rest piece n frame) (sym taken_is)
-    (subst (λ (f : Option Received). Feeds rest piece (fed rest piece).taken f) (sym frame_is)
+    (subst (λ (f : Option Received). Feeds rest piece (feed_outcome rest piece).taken f) (sym frame_is)
     (record { first = λ seen frames reads. takes_first seen frames rest piece reads; goes_on = goes_on rest piece }))
 
 -- what is one frame to the turns is one frame to the grammar
 pub reads_one : (bytes : List ℕ) (frame : Received)
-    → fed Nothing bytes ≡ record { taken = length bytes; frame = Some frame; rest = Nothing } → Reads bytes (frame ∷ []) Nothing
+    → feed_outcome Nothing bytes ≡ record { taken = length bytes; frame = Some frame; rest = Nothing } → Reads bytes (frame ∷ []) Nothing
 reads_one bytes frame is =
     let first = takes_first [] [] Nothing bytes (reads_from []) in
     let whole : take (length bytes) bytes ≡ bytes = take_all (length bytes) bytes (omega arith) in

@@ -6,11 +6,11 @@ use Rattle.std.specs.List.{list_any}
 use Rattle.std.proofs.lemmas.Bool.{cases_lt, lt-ltb, le-ltb}
 use Rattle.std.proofs.lemmas.List.Concat.{flat_map-append}
 use Rattle.std.proofs.lemmas.List.Folds.{list_any-append}
-use Rattle.njh_bisync.specs.Frames.{Inner, plain, doubled, fill, stray, data_of_inner, is_stray, kept}
+use Rattle.njh_bisync.specs.Frames.{Inner, plain, doubled, fill, stray, data_of_inner, is_stray, data_so_far}
 use Rattle.njh_bisync.specs.Reading.{InText}
 use Rattle.njh_bisync.specs.ByteSteps.{kept_with}
 
--- `kept` on what it looks at: whether something spoils the text, and its data
+-- `data_so_far` on what it looks at: whether something spoils the text, and its data
 abbrev kept_of : Bool → List ℕ → Option (List ℕ)
 kept_of bad held = if bad || nat_lt 4096 (length held) then None else Some held
 
@@ -46,32 +46,32 @@ kept_of-same : (bad : Bool) (held : List ℕ) → kept_of (bad || false) held �
 kept_of-same true held = refl
 kept_of-same false held = refl
 
--- `kept` of one more inner unit, taken apart
+-- `data_so_far` of one more inner unit, taken apart
 kept-append : (inners : List Inner) (inner : Inner)
-    → kept (inners ++ inner ∷ []) ≡ kept_of (list_any is_stray inners || (is_stray inner || false))
+    → data_so_far (inners ++ inner ∷ []) ≡ kept_of (list_any is_stray inners || (is_stray inner || false))
     (flat_map data_of_inner inners ++ (data_of_inner inner ++ []))
-unfolding kept
+unfolding data_so_far
 kept-append inners inner = rw (list_any-append is_stray inners (inner ∷ []), flat_map-append data_of_inner inners (inner ∷ []))
 
-pub kept-plain : (inners : List Inner) (byte : ℕ) → kept (inners ++ plain byte ∷ []) ≡ kept_with (kept inners) byte
-unfolding kept
+pub kept-plain : (inners : List Inner) (byte : ℕ) → data_so_far (inners ++ plain byte ∷ []) ≡ kept_with (data_so_far inners) byte
+unfolding data_so_far
 kept-plain inners byte = kept-append inners (plain byte) ∙ kept_of-push (list_any is_stray inners) (flat_map data_of_inner inners) byte
 
-pub kept-doubled : (inners : List Inner) → kept (inners ++ doubled ∷ []) ≡ kept_with (kept inners) 0x10
-unfolding kept
+pub kept-doubled : (inners : List Inner) → data_so_far (inners ++ doubled ∷ []) ≡ kept_with (data_so_far inners) 0x10
+unfolding data_so_far
 kept-doubled inners = kept-append inners doubled ∙ kept_of-push (list_any is_stray inners) (flat_map data_of_inner inners) 0x10
 
-pub kept-fill : (inners : List Inner) → kept (inners ++ fill ∷ []) ≡ kept inners
-unfolding kept
+pub kept-fill : (inners : List Inner) → data_so_far (inners ++ fill ∷ []) ≡ data_so_far inners
+unfolding data_so_far
 kept-fill inners =
     kept-append inners fill
     ∙ (ap (kept_of (list_any is_stray inners || false)) (append-nil (flat_map data_of_inner inners))
     ∙ kept_of-same (list_any is_stray inners) (flat_map data_of_inner inners))
 
-pub kept-stray : (inners : List Inner) (byte : ℕ) → kept (inners ++ stray byte ∷ []) ≡ None
-unfolding kept
+pub kept-stray : (inners : List Inner) (byte : ℕ) → data_so_far (inners ++ stray byte ∷ []) ≡ None
+unfolding data_so_far
 kept-stray inners byte = kept-append inners (stray byte) ∙ kept_of-stray (list_any is_stray inners) (flat_map data_of_inner inners ++ [])
 
-pub kept-none : InText (Some []) false ≡ InText (kept []) false
-unfolding kept
+pub kept-none : InText (Some []) false ≡ InText (data_so_far []) false
+unfolding data_so_far
 kept-none = refl

@@ -9,7 +9,7 @@ use Rattle.std.proofs.lemmas.List.Sums.{fails_before_first, passes_at_first, pre
 use Rattle.std.proofs.lemmas.List.Concat.{flat_map-append}
 use Rattle.std.proofs.lemmas.List.Folds.{length-prefix_len}
 use Rattle.njh_bisync.specs.Reading.{InText}
-use Rattle.njh_bisync.specs.ByteSteps.{turn, ahead, fed, kept_with}
+use Rattle.njh_bisync.specs.ByteSteps.{rest_step, ahead, feed_outcome, kept_with}
 use Rattle.njh_bisync.specs.code.PlainBytes.{plain_len, kept_all}
 use Rattle.njh_bisync.specs.Written.{bytes_of_data}
 
@@ -35,16 +35,16 @@ kept_all-more (Some held) byte bytes =
 
 -- a run of plain bytes in a text
 pub fed-plain : (held : Option (List ℕ)) (run more : List ℕ) → 0 < length run → All (λ byte. byte ≢ 0x10) run
-    → fed (InText held false) (run ++ more) ≡ ahead (length run) (fed (InText (kept_all held run) false) more)
-unfolding turn
+    → feed_outcome (InText held false) (run ++ more) ≡ ahead (length run) (feed_outcome (InText (kept_all held run) false) more)
+unfolding rest_step
 fed-plain held [] more some plain = absurd (omega arith)
 fed-plain held (byte ∷ []) more some plain = rw (ne_eqb byte 0x10 (plain 0 0 some), kept_all-one held byte)
 fed-plain held (byte ∷ next ∷ run) more some plain =
     let later = fed-plain (kept_with held byte) (next ∷ run) more (omega arith) (λ k d below. plain (suc k) d (omega arith)) in
-    let sum : 1 + (length (next ∷ run) + (fed (InText (kept_all held (byte ∷ next ∷ run)) false) more).taken)
-    ≡ length (byte ∷ next ∷ run) + (fed (InText (kept_all held (byte ∷ next ∷ run)) false) more).taken = omega arith in
+    let sum : 1 + (length (next ∷ run) + (feed_outcome (InText (kept_all held (byte ∷ next ∷ run)) false) more).taken)
+    ≡ length (byte ∷ next ∷ run) + (feed_outcome (InText (kept_all held (byte ∷ next ∷ run)) false) more).taken = omega arith in
     rw (ne_eqb byte 0x10 (plain 0 0 some), later, kept_all-more held byte (next ∷ run))
-    (ap (λ (n : ℕ). record (fed (InText (kept_all held (byte ∷ next ∷ run)) false) more) { taken = n }) sum)
+    (ap (λ (n : ℕ). record (feed_outcome (InText (kept_all held (byte ∷ next ∷ run)) false) more) { taken = n }) sum)
 
 -- the bytes before the first 10 are plain
 pub plain-front : (bytes : List ℕ) → All (λ byte. byte ≢ 0x10) (take (plain_len bytes) bytes)
@@ -105,11 +105,11 @@ pub put-run : (out run later written : List ℕ) (byte : ℕ) → written ≡ ru
 put-run out run later written byte is = rw is (simp append_assoc)
 
 -- a text that begins with plain bytes
-pub fed-front : (held : Option (List ℕ)) (bytes : List ℕ) → 0 < plain_len bytes → fed (InText held false) bytes
-    ≡ ahead (plain_len bytes) (fed (InText (kept_all held (take (plain_len bytes) bytes)) false) (drop (plain_len bytes) bytes))
+pub fed-front : (held : Option (List ℕ)) (bytes : List ℕ) → 0 < plain_len bytes → feed_outcome (InText held false) bytes
+    ≡ ahead (plain_len bytes) (feed_outcome (InText (kept_all held (take (plain_len bytes) bytes)) false) (drop (plain_len bytes) bytes))
 fed-front held bytes some =
     let n = plain_len bytes in
     let size = length-take-le n bytes (plain_within bytes) in
-    ap (fed (InText held false)) (sym (take-append-drop n bytes))
+    ap (feed_outcome (InText held false)) (sym (take-append-drop n bytes))
     ∙ (fed-plain held (take n bytes) (drop n bytes) (omega arith) (plain-front bytes)
-    ∙ ap (λ m. ahead m (fed (InText (kept_all held (take n bytes)) false) (drop n bytes))) size)
+    ∙ ap (λ m. ahead m (feed_outcome (InText (kept_all held (take n bytes)) false) (drop n bytes))) size)

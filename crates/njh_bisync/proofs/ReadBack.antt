@@ -5,7 +5,7 @@ use Rattle.std.specs.Prelude.{flat_map, Option, Some}
 use Rattle.std.proofs.lemmas.Bool.{eqb-true, lt-ltb}
 use Rattle.njh_bisync.specs.Frames.{Text}
 use Rattle.njh_bisync.specs.Reading.{Nothing, InText, Reads}
-use Rattle.njh_bisync.specs.ByteSteps.{turn, Fed, ahead, fed, kept_with}
+use Rattle.njh_bisync.specs.ByteSteps.{rest_step, Fed, ahead, feed_outcome, kept_with}
 use Rattle.njh_bisync.specs.Written.{bytes_of_data, text_bytes, control_bytes, control_frame}
 use Rattle.njh_bisync.specs.declared.frame.Control.{Control}
 use Rattle.njh_bisync.specs.declared.frame.Control.TheVariants.{Enquiry, Ack0, Nak}
@@ -21,13 +21,13 @@ ahead-ahead f =
 
 -- one byte of data, as it is written
 data_byte-fed : (held : List ℕ) (byte : ℕ) (same : Bool) (more : List ℕ) → (byte == 0x10) ≡ same → length held < 4096
-    → fed (InText (Some held) false) ((if same then 0x10 ∷ 0x10 ∷ [] else byte ∷ []) ++ more)
-    ≡ ahead (length (if same then 0x10 ∷ 0x10 ∷ [] else byte ∷ [])) (fed (InText (Some (held ++ byte ∷ [])) false) more)
-unfolding turn
+    → feed_outcome (InText (Some held) false) ((if same then 0x10 ∷ 0x10 ∷ [] else byte ∷ []) ++ more)
+    ≡ ahead (length (if same then 0x10 ∷ 0x10 ∷ [] else byte ∷ [])) (feed_outcome (InText (Some (held ++ byte ∷ [])) false) more)
+unfolding rest_step
 data_byte-fed held byte true more is room =
-    ahead-ahead (fed (InText (kept_with (Some held) 0x10) false) more)
-    ∙ (ap (λ (h : Option (List ℕ)). ahead 2 (fed (InText h false) more)) (room-kept_with held 0x10 room)
-    ∙ ap (λ b. ahead 2 (fed (InText (Some (held ++ b ∷ [])) false) more)) (sym (eqb-true byte 0x10 is)))
+    ahead-ahead (feed_outcome (InText (kept_with (Some held) 0x10) false) more)
+    ∙ (ap (λ (h : Option (List ℕ)). ahead 2 (feed_outcome (InText h false) more)) (room-kept_with held 0x10 room)
+    ∙ ap (λ b. ahead 2 (feed_outcome (InText (Some (held ++ b ∷ [])) false) more)) (sym (eqb-true byte 0x10 is)))
 data_byte-fed held byte false more is room = rw (is, lt-ltb (length held) 4096 room)
 
 -- a text that ended so many bytes ahead
@@ -35,9 +35,9 @@ abbrev told : ℕ → List ℕ → Fed
 told n held = record { taken = n; frame = Some (Text held); rest = Nothing }
 
 read_data : (done held more : List ℕ) → length done + length held ≤ 4096
-    → fed (InText (Some done) false) (flat_map bytes_of_data held ++ (0x10 ∷ 0x26 ∷ more)) ≡ told
+    → feed_outcome (InText (Some done) false) (flat_map bytes_of_data held ++ (0x10 ∷ 0x26 ∷ more)) ≡ told
     (length (flat_map bytes_of_data held) + 2) (done ++ held)
-unfolding turn
+unfolding rest_step
 read_data done [] more room = ap (told 2) (sym (append-nil done))
 read_data done (byte ∷ held) more room =
     let rest = flat_map bytes_of_data held ++ (0x10 ∷ 0x26 ∷ more) in
@@ -45,32 +45,32 @@ read_data done (byte ∷ held) more room =
     let added : length (bytes_of_data byte) + (length (flat_map bytes_of_data held) + 2) ≡ length
     (bytes_of_data byte ++ flat_map bytes_of_data held) + 2 =
     omega (arith, length-append (bytes_of_data byte) (flat_map bytes_of_data held)) in
-    ap (fed (InText (Some done) false)) (append_assoc (bytes_of_data byte) (flat_map bytes_of_data held) (0x10 ∷ 0x26 ∷ more))
+    ap (feed_outcome (InText (Some done) false)) (append_assoc (bytes_of_data byte) (flat_map bytes_of_data held) (0x10 ∷ 0x26 ∷ more))
     ∙ (data_byte-fed done byte (byte == 0x10) rest refl (omega arith)
     ∙ (ap (ahead (length (bytes_of_data byte))) (read_data (done ++ byte ∷ []) held more longer)
     ∙ (ap (λ n. told n ((done ++ byte ∷ []) ++ held)) added
     ∙ ap (told (length (bytes_of_data byte ++ flat_map bytes_of_data held) + 2)) (append_assoc done (byte ∷ []) held))))
 
 pub text_read_back : (held more : List ℕ) → length held ≤ 4096
-    → fed Nothing (text_bytes held ++ more) ≡ record { taken = length (text_bytes held); frame = Some (Text held); rest = Nothing }
-unfolding turn text_bytes
+    → feed_outcome Nothing (text_bytes held ++ more) ≡ record { taken = length (text_bytes held); frame = Some (Text held); rest = Nothing }
+unfolding rest_step text_bytes
 text_read_back held more room =
     let long : 1 + (1 + (length (flat_map bytes_of_data held) + 2)) ≡ length
     (0x10 ∷ 0x02 ∷ flat_map bytes_of_data held ++ 0x10 ∷ 0x26 ∷ []) =
     omega (arith, length-append (flat_map bytes_of_data held) (0x10 ∷ 0x26 ∷ [])) in
-    ap (λ bytes. ahead 1 (ahead 1 (fed (InText (Some []) false) bytes)))
+    ap (λ bytes. ahead 1 (ahead 1 (feed_outcome (InText (Some []) false) bytes)))
     (append_assoc (flat_map bytes_of_data held) (0x10 ∷ 0x26 ∷ []) more)
     ∙ (ap (λ f. ahead 1 (ahead 1 f)) (read_data [] held more (omega arith))
     ∙ ap (λ n. told n held) long)
 
 pub text_reads : (held : List ℕ) → length held ≤ 4096 → Reads (text_bytes held) (Text held ∷ []) Nothing
 text_reads held room =
-    reads_one (text_bytes held) (Text held) (ap (fed Nothing) (sym (append-nil (text_bytes held))) ∙ text_read_back held [] room)
+    reads_one (text_bytes held) (Text held) (ap (feed_outcome Nothing) (sym (append-nil (text_bytes held))) ∙ text_read_back held [] room)
 
 pub control_read_back : (control : Control) (more : List ℕ)
-    → fed Nothing (control_bytes control ++ more)
+    → feed_outcome Nothing (control_bytes control ++ more)
     ≡ record { taken = length (control_bytes control); frame = Some (control_frame control); rest = Nothing }
-unfolding turn
+unfolding rest_step
 control_read_back Enquiry more = refl
 control_read_back Ack0 more = refl
 control_read_back Nak more = refl
@@ -78,4 +78,4 @@ control_read_back Nak more = refl
 pub control_reads : (control : Control) → Reads (control_bytes control) (control_frame control ∷ []) Nothing
 control_reads control =
     reads_one (control_bytes control) (control_frame control)
-    (ap (fed Nothing) (sym (append-nil (control_bytes control))) ∙ control_read_back control [])
+    (ap (feed_outcome Nothing) (sym (append-nil (control_bytes control))) ∙ control_read_back control [])

@@ -7,10 +7,10 @@ use Rattle.std.specs.Option.{option_to_list, option_and_then}
 use Rattle.std.proofs.lemmas.Bool.{eqb-true, eqb-false, ne_eqb}
 use Rattle.std.proofs.lemmas.List.Concat.{flat_map-append}
 use Rattle.njh_bisync.specs.Frames.{Inner, plain, doubled, fill, stray, bytes_of_inner, IsInner, End, etb, etx, enq, bytes_of_end, LineUnit}
-use Rattle.njh_bisync.specs.Frames.{enquiry, ack0, nak, eot, text, after_soh, after_dle, single, bytes_of_unit, IsUnit, kept, frame_of}
+use Rattle.njh_bisync.specs.Frames.{enquiry, ack0, nak, eot, text, after_soh, after_dle, single, bytes_of_unit, IsUnit, data_so_far, frame_of}
 use Rattle.njh_bisync.specs.Frames.{frames_of, Received, Partial, nothing, soh, dle, unended, bytes_of_partial, IsPartial}
 use Rattle.njh_bisync.specs.Reading.{InText, rest_of}
-use Rattle.njh_bisync.specs.ByteSteps.{Turn, on_to, ends, turn, frames_after, rest_after}
+use Rattle.njh_bisync.specs.ByteSteps.{RestStep, on_to, ends, rest_step, frames_after, rest_after}
 use Rattle.njh_bisync.proofs.KeptLaws.{kept-none, kept-plain, kept-doubled, kept-fill, kept-stray}
 
 -- the unit that a byte ends, or none, and the rest then
@@ -44,7 +44,7 @@ step (unended inners true) byte =
     if byte == 0x2D then whole_unit (text inners enq) else goes_on (unended (inners ++ stray byte ∷ []) false)
 
 -- A step keeps the bytes, reads what the grammar allows, and agrees with the turn of the rest.
-pub record Agrees (partial : Partial) (byte : ℕ) (turned : Turn) (stepped : Step) : Type 0 where
+pub record Agrees (partial : Partial) (byte : ℕ) (turned : RestStep) (stepped : Step) : Type 0 where
   pub bytes : bytes_of_partial partial ++ byte ∷ [] ≡ flat_map bytes_of_unit
       (option_to_list stepped.unit) ++ bytes_of_partial stepped.partial
   pub each : AllByRecursion IsUnit (option_to_list stepped.unit)
@@ -53,13 +53,13 @@ pub record Agrees (partial : Partial) (byte : ℕ) (turned : Turn) (stepped : St
   pub rest : turned.rest ≡ rest_of stepped.partial
 
 -- a test of the byte, for both
-tested_at : (partial : Partial) (byte value : ℕ) (t t' : Turn) (s s' : Step) (test : Bool) → (byte == value) ≡ test
+tested_at : (partial : Partial) (byte value : ℕ) (t t' : RestStep) (s s' : Step) (test : Bool) → (byte == value) ≡ test
     → (byte ≡ value → Agrees partial byte t s) → (byte ≢ value → Agrees partial byte t' s')
     → Agrees partial byte (if test then t else t') (if test then s else s')
 tested_at partial byte value t t' s s' true is same other = same (eqb-true byte value is)
 tested_at partial byte value t t' s s' false is same other = other (eqb-false byte value is)
 
-tested : (partial : Partial) (byte value : ℕ) (t t' : Turn) (s s' : Step)
+tested : (partial : Partial) (byte value : ℕ) (t t' : RestStep) (s s' : Step)
     → (byte ≡ value → Agrees partial byte t s) → (byte ≢ value → Agrees partial byte t' s')
     → Agrees partial byte (if byte == value then t else t') (if byte == value then s else s')
 tested partial byte value t t' s s' same other = tested_at partial byte value t t' s s' (byte == value) refl same other
@@ -86,7 +86,7 @@ bytes-ended inners end byte is =
 
 -- an open 10 and the byte after it go on with the text
 inside : (inners : List Inner) (inner : Inner) (byte : ℕ) (held : Option (List ℕ)) → AllByRecursion IsInner inners → IsInner inner
-    → 0x10 ∷ byte ∷ [] ≡ bytes_of_inner inner → InText held false ≡ InText (kept (inners ++ inner ∷ [])) false
+    → 0x10 ∷ byte ∷ [] ≡ bytes_of_inner inner → InText held false ≡ InText (data_so_far (inners ++ inner ∷ [])) false
     → Agrees (unended inners true) byte (on_to (InText held false)) (goes_on (unended (inners ++ inner ∷ []) false))
 inside inners inner byte held each is bytes rest = record {
   bytes = ap (λ more. 0x10 ∷ 0x02 ∷ more) (bytes-dangling inners inner byte bytes);
@@ -108,8 +108,8 @@ ended inners end byte frame each bytes is = record {
   rest = refl;
 }
 
-pub agrees : (partial : Partial) (byte : ℕ) → IsPartial partial → Agrees partial byte (turn (rest_of partial) byte) (step partial byte)
-unfolding turn
+pub agrees : (partial : Partial) (byte : ℕ) → IsPartial partial → Agrees partial byte (rest_step (rest_of partial) byte) (step partial byte)
+unfolding rest_step
 agrees nothing byte is =
     tested nothing byte 0x01 _ _ _ _
     (λ e. record { bytes = ap (λ b. b ∷ []) e; each = tt; is_partial = tt; frame = refl; rest = refl }) (λ not_soh.

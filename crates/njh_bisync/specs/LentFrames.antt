@@ -4,10 +4,10 @@ use Rattle.njh_bisync.specs.Frames.{Received}
 use Rattle.njh_bisync.specs.declared.frame.Frame.{Frame}
 use Rattle.njh_bisync.specs.declared.frame.Frame.TheVariants.{Enquiry, Ack0, Nak, Eot, Text, Spoiled}
 
-abbrev pub received : Frame → Received
-received Enquiry = grammar.Enquiry
-received Ack0 = grammar.Ack0
-received Nak = grammar.Nak
-received Eot = grammar.Eot
-received (Text lent) = grammar.Text lent.now
-received Spoiled = grammar.Spoiled
+abbrev pub received_of : Frame → Received
+received_of Enquiry = grammar.Enquiry
+received_of Ack0 = grammar.Ack0
+received_of Nak = grammar.Nak
+received_of Eot = grammar.Eot
+received_of (Text lent) = grammar.Text lent.now
+received_of Spoiled = grammar.Spoiled

@@ -4,7 +4,7 @@ ghost use Rattle.std.specs.Borrow.{sem};
 ghost use Rattle.std.specs.Io.BufRead.{Rests};
 ghost use Rattle.njh_bisync.specs.Frames.{Received, IsShort};
 ghost use Rattle.njh_bisync.specs.Reading.{Nothing, Reads, TakesFirst};
-ghost use Rattle.njh_bisync.specs.ByteSteps.{fed, frames_after, rest_after, GoesOn};
+ghost use Rattle.njh_bisync.specs.ByteSteps.{feed_outcome, frames_after, rest_after, GoesOn};
 
 use crate::frame::Frame;
 use crate::scanner::Scanner;
@@ -29,7 +29,7 @@ impl Model for Deframer {
 }
 
 impl Deframer {
-    ghost use Rattle.njh_bisync.specs.LentFrames.{received};
+    ghost use Rattle.njh_bisync.specs.LentFrames.{received_of};
     ghost use Rattle.njh_bisync.specs.contracts.deframer.Deframer.{the_row};
 
     /// Reserves the 4,096 bytes of the longest text. No other call takes memory.
@@ -45,22 +45,22 @@ impl Deframer {
     ///
     /// It answers how many bytes that is, and the frame, whose text is lent until the next call.
     pub fn feed(&mut self, piece: &[u8]) -> (usize, Option<Frame<'_>>)
-        ensures taken { result.0 ≡ (fed self.old piece.now).taken }
-        ensures frame { option_map received result.1 ≡ (fed self.old piece.now).frame }
+        ensures taken { result.0 ≡ (feed_outcome self.old piece.now).taken }
+        ensures frame { option_map received_of result.1 ≡ (feed_outcome self.old piece.now).frame }
         ensures* rest { sem 𝓛
-            (Rests the_row self.entry (λ new. new ≡ (fed self.old piece.now).rest)) }
+            (Rests the_row self.entry (λ new. new ≡ (feed_outcome self.old piece.now).rest)) }
 
         // Whatever bytes led to this rest, this is their next frame by the grammar.
         ensures first { (seen : List ℕ) (frames : List Received) → Reads seen frames self.old
-            → TakesFirst seen frames piece.now result.0 (option_map received result.1)
-            (fed self.old piece.now).rest }
+            → TakesFirst seen frames piece.now result.0 (option_map received_of result.1)
+            (feed_outcome self.old piece.now).rest }
 
         // A loop over what is left of a piece comes to the same frames and the same rest, and ends.
-        ensures goes_on { GoesOn self.old piece.now result.0 (option_map received result.1)
-            (fed self.old piece.now).rest }
+        ensures goes_on { GoesOn self.old piece.now result.0 (option_map received_of result.1)
+            (feed_outcome self.old piece.now).rest }
         ensures within { result.0 ≤ length piece.now }
         ensures some { 0 < length piece.now → 0 < result.0 }
-        ensures short { IfSome result.1 (λ frame. IsShort (received frame)) }
+        ensures short { IfSome result.1 (λ frame. IsShort (received_of frame)) }
     {
         let (taken, ended) = self.scanner.scan(piece);
         match ended {

@@ -2,7 +2,7 @@
 ghost use Rattle.std.specs.Prelude.{◌≡◌, ◌≢◌, ℕ, ◌<◌, ◌≤◌, false, All, List, [], ◌∷◌, ◌++◌, length, Option, Some, None};
 ghost use Rattle.njh_bisync.specs.Frames.{Received, Text, LineUnit, Partial, Splits};
 ghost use Rattle.njh_bisync.specs.Reading.{Rest, Nothing, InText, Reads};
-ghost use Rattle.njh_bisync.specs.ByteSteps.{ahead, fed, frames_after, rest_after, GoesOn};
+ghost use Rattle.njh_bisync.specs.ByteSteps.{ahead, feed_outcome, frames_after, rest_after, GoesOn};
 ghost use Rattle.njh_bisync.specs.code.PlainBytes.{kept_all};
 ghost use Rattle.njh_bisync.specs.Written.{text_bytes, control_bytes, control_frame};
 ghost use Rattle.njh_bisync.specs.declared.frame.Control.{Control};
@@ -43,27 +43,27 @@ pub fn frames_of_both()
 /// What is taken of a piece, and of two that come one after the other.
 pub fn fed_in_parts()
     ensures goes_on { (rest : Rest) (piece : List ℕ)
-        → GoesOn rest piece (fed rest piece).taken (fed rest piece).frame (fed rest piece).rest }
-    ensures all { (rest : Rest) (piece : List ℕ) → (fed rest piece).frame ≡ None
-        → ((fed rest piece).taken ≡ length piece) × ((fed rest piece).rest ≡ rest_after rest piece)
+        → GoesOn rest piece (feed_outcome rest piece).taken (feed_outcome rest piece).frame (feed_outcome rest piece).rest }
+    ensures all { (rest : Rest) (piece : List ℕ) → (feed_outcome rest piece).frame ≡ None
+        → ((feed_outcome rest piece).taken ≡ length piece) × ((feed_outcome rest piece).rest ≡ rest_after rest piece)
         × (frames_after rest piece ≡ []) }
-    ensures on { (rest : Rest) (front back : List ℕ) → (fed rest front).frame ≡ None
-        → fed rest (front ++ back) ≡ ahead (length front) (fed (fed rest front).rest back) }
+    ensures on { (rest : Rest) (front back : List ℕ) → (feed_outcome rest front).frame ≡ None
+        → feed_outcome rest (front ++ back) ≡ ahead (length front) (feed_outcome (feed_outcome rest front).rest back) }
     ensures ended { (rest : Rest) (front back : List ℕ) (frame : Received)
-        → (fed rest front).frame ≡ Some frame → fed rest (front ++ back) ≡ fed rest front }
+        → (feed_outcome rest front).frame ≡ Some frame → feed_outcome rest (front ++ back) ≡ feed_outcome rest front }
 {}
 
 /// In a text bytes other than DLE are taken together as they are one by one.
 pub fn data_taken_together()
     ensures { (held : Option (List ℕ)) (run more : List ℕ) → 0 < length run → All (λ byte. byte ≢ 0x10) run
-        → fed (InText held false) (run ++ more)
-        ≡ ahead (length run) (fed (InText (kept_all held run) false) more) }
+        → feed_outcome (InText held false) (run ++ more)
+        ≡ ahead (length run) (feed_outcome (InText (kept_all held run) false) more) }
 {}
 
 /// A text that was written is read back as that text and nothing else, whatever follows.
 pub fn text_reads_back()
     ensures fed { (held more : List ℕ) → length held ≤ LONGEST_TEXT
-        → fed Nothing (text_bytes held ++ more)
+        → feed_outcome Nothing (text_bytes held ++ more)
         ≡ record { taken = length (text_bytes held); frame = Some (Text held); rest = Nothing } }
     ensures reads { (held : List ℕ) → length held ≤ LONGEST_TEXT
         → Reads (text_bytes held) (Text held ∷ []) Nothing }
@@ -72,7 +72,7 @@ pub fn text_reads_back()
 /// So is a control frame.
 pub fn control_reads_back()
     ensures fed { (control : Control) (more : List ℕ)
-        → fed Nothing (control_bytes control ++ more)
+        → feed_outcome Nothing (control_bytes control ++ more)
         ≡ record {
           taken = length (control_bytes control);
           frame = Some (control_frame control);

@@ -1,7 +1,7 @@
 //! One byte after another through the frame grammar.
 ghost use Rattle.std.specs.Prelude.{◌≡◌, ◌+◌, ◌++◌, ◌<◌, ◌≤◌, ◌∷◌, [], true, false, drop, take, length, IfOk};
 ghost use Rattle.std.specs.Prelude.{option_map, vec_len, vec_capacity};
-ghost use Rattle.njh_bisync.specs.ByteSteps.{turn, fed, kept_with};
+ghost use Rattle.njh_bisync.specs.ByteSteps.{rest_step, feed_outcome, kept_with};
 ghost use Rattle.njh_bisync.specs.code.PlainBytes.{fed_on, kept_all, plain_len};
 ghost use Rattle.njh_bisync.specs.Frames.{text_or_spoiled, IsShort};
 ghost use Rattle.njh_bisync.specs.Reading.{Nothing, InText};
@@ -58,7 +58,7 @@ pub struct Scanner {
 }
 
 impl Scanner {
-    ghost use Rattle.njh_bisync.specs.LentFrames.{received};
+    ghost use Rattle.njh_bisync.specs.LentFrames.{received_of};
     ghost use Rattle.njh_bisync.specs.code.Scanner.{good_data, rest_in, frame_in};
 
     /// Behind a whole unit, with room for the longest text.
@@ -74,10 +74,10 @@ impl Scanner {
 
     /// Takes bytes up to the end of the first frame, or all: how many, and the frame.
     pub fn scan(&mut self, piece: &[u8]) -> (usize, Option<Ended>)
-        ensures taken { result.0 ≡ (fed (rest_in self.old) piece.now).taken }
+        ensures taken { result.0 ≡ (feed_outcome (rest_in self.old) piece.now).taken }
         ensures frame { option_map (frame_in self.new.held.items) result.1
-            ≡ (fed (rest_in self.old) piece.now).frame }
-        ensures rest { rest_in self.new ≡ (fed (rest_in self.old) piece.now).rest }
+            ≡ (feed_outcome (rest_in self.old) piece.now).frame }
+        ensures rest { rest_in self.new ≡ (feed_outcome (rest_in self.old) piece.now).rest }
     {
         let mut taken = 0;
         while taken < piece.len() {
@@ -92,8 +92,8 @@ impl Scanner {
 
     /// The frame that the last byte ended.
     pub fn frame(&self, ended: Ended) -> Frame<'_>
-        ensures frame { received result ≡ frame_in self.now.held.items ended }
-        ensures short { IsShort (received result) }
+        ensures frame { received_of result ≡ frame_in self.now.held.items ended }
+        ensures short { IsShort (received_of result) }
     {
         match ended {
             Ended::Enquiry => Frame::Enquiry,
@@ -118,7 +118,7 @@ impl Scanner {
         requires { 0 < length bytes.now }
         ensures some { 0 < result.0 }
         ensures within { result.0 ≤ length bytes.now }
-        ensures goes_on { fed (rest_in self.old) bytes.now
+        ensures goes_on { feed_outcome (rest_in self.old) bytes.now
             ≡ fed_on result.0 (option_map (frame_in self.new.held.items) result.1) (rest_in self.new) bytes.now }
     {
         match self.place {
@@ -134,7 +134,7 @@ impl Scanner {
         requires some { 0 < length bytes.now }
         ensures some { 0 < result.0 }
         ensures within { result.0 ≤ length bytes.now }
-        ensures goes_on { fed (rest_in self.old) bytes.now
+        ensures goes_on { feed_outcome (rest_in self.old) bytes.now
             ≡ fed_on result.0 (option_map (frame_in self.new.held.items) result.1) (rest_in self.new) bytes.now }
     {
         if begins_text(bytes) {
@@ -149,7 +149,7 @@ impl Scanner {
         requires some { 0 < length bytes.now }
         ensures some { 0 < result.0 }
         ensures within { result.0 ≤ length bytes.now }
-        ensures goes_on { fed (rest_in self.old) bytes.now
+        ensures goes_on { feed_outcome (rest_in self.old) bytes.now
             ≡ fed_on result.0 (option_map (frame_in self.new.held.items) result.1) (rest_in self.new) bytes.now }
     {
         if bytes[0] != DLE {
@@ -175,11 +175,11 @@ impl Scanner {
     }
 
     /// Takes one byte; where it ends a frame, that frame.
-    #[tactic(auto, unfolding(crate::specs::ByteSteps::turn))]
+    #[tactic(auto, unfolding(crate::specs::ByteSteps::rest_step))]
     fn take(&mut self, byte: u8) -> Option<Ended>
         ensures frame { option_map (frame_in self.new.held.items) result
-            ≡ (turn (rest_in self.old) byte).frame }
-        ensures rest { rest_in self.new ≡ (turn (rest_in self.old) byte).rest }
+            ≡ (rest_step (rest_in self.old) byte).frame }
+        ensures rest { rest_in self.new ≡ (rest_step (rest_in self.old) byte).rest }
     {
         match (self.place, byte) {
             (Place::Between, SOH) => self.go_on(Place::Soh),
@@ -197,12 +197,12 @@ impl Scanner {
     }
 
     /// Takes the byte behind a DLE in a text; where it ends a frame, that frame.
-    #[tactic(auto, unfolding(crate::specs::ByteSteps::turn))]
+    #[tactic(auto, unfolding(crate::specs::ByteSteps::rest_step))]
     fn take_control(&mut self, byte: u8) -> Option<Ended>
         ensures frame { option_map (frame_in self.new.held.items) result
-            ≡ (turn (InText (good_data self.old.spoiled self.old.held.items) true) byte).frame }
+            ≡ (rest_step (InText (good_data self.old.spoiled self.old.held.items) true) byte).frame }
         ensures rest { rest_in self.new
-            ≡ (turn (InText (good_data self.old.spoiled self.old.held.items) true) byte).rest }
+            ≡ (rest_step (InText (good_data self.old.spoiled self.old.held.items) true) byte).rest }
     {
         match byte {
             DLE => self.keep(byte),

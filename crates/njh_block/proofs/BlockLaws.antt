@@ -4,12 +4,12 @@ use Rattle.std.proofs.Common.{IsTrue}
 use Rattle.std.proofs.lemmas.List.{append-nil}
 use Rattle.njh_record.specs.Bytes.{AreBytes}
 use Rattle.njh_record.specs.Spelling.{Spelling}
-use Rattle.njh_record.specs.Unspelled.{unspelled, ReadsAs}
+use Rattle.njh_record.specs.Unspelled.{record_at_front, ReadsAs}
 use Rattle.njh_record.specs.declared.End.{End}
 use Rattle.njh_block.specs.declared.fault.BlockFault.{BlockFault}
 use Rattle.njh_block.specs.declared.fault.BlockFault.TheVariants.{TooShort, BadBcb, BadFcs, BadRcb, BadRecord}
 use Rattle.njh_block.specs.Blocks.{Item, Block, items_in, is_bcb, is_fcs, block_with, read_block}
-use Rattle.njh_block.specs.Grammar.{Part, covered_bytes, items_of, Front, IsBlock, IsBadRcb, IsBadRecord, StopsAt, IsFault}
+use Rattle.njh_block.specs.Grammar.{TextRecord, covered_bytes, items_of, Front, IsBlock, IsBadRcb, IsBadRecord, StopsAt, IsFault}
 use Rattle.njh_block.proofs.FirstLaws.{AreBytes-drop}
 use Rattle.njh_block.proofs.GrammarLaws.{Split, Reads, with_items, with_items-Ok, with_items-Err, items_in-reads, items_in-parts}
 use Rattle.njh_block.proofs.GrammarLaws.{items_in-end, items_in-bad_rcb, items_in-bad_record}
@@ -58,9 +58,9 @@ block_with-tells b f g rest (Err BadBcb) good_bcb good_fcs reads = absurd reads
 block_with-tells b f g rest (Err BadFcs) good_bcb good_fcs reads = absurd reads
 
 -- found: what is unspelled stands so; again: a spelling is read, whatever follows it
-module _ (found : (bytes : List ℕ) → AreBytes bytes → ReadsAs bytes (unspelled bytes))
+module _ (found : (bytes : List ℕ) → AreBytes bytes → ReadsAs bytes (record_at_front bytes))
     (again : (spelling contents rest : List ℕ) (end : End) → Spelling spelling contents end
-    → unspelled (spelling ++ rest) ≡ Ok (record { contents = contents; end = end; rest = rest })) where
+    → record_at_front (spelling ++ rest) ≡ Ok (record { contents = contents; end = end; rest = rest })) where
   where_good-tells : (b f g : ℕ) (rest : List ℕ) (t u : Bool) → is_bcb b ≡ t → is_fcs (f, g) ≡ u → Reads rest (items_in rest)
       → Tells (b ∷ f ∷ g ∷ rest) (where_good t u (block_with b (f, g) (items_in rest)))
   where_good-tells b f g rest false u is_t is_u reads = (omega arith, is_t)
@@ -77,7 +77,7 @@ module _ (found : (bytes : List ℕ) → AreBytes bytes → ReadsAs bytes (unspe
 
   -- ---- from the grammar to the reading
 
-  front-read : (text : List ℕ) (bcb : ℕ) (fcs : ℕ × ℕ) (parts : List Part) (after : List ℕ) → Front text bcb fcs parts after
+  front-read : (text : List ℕ) (bcb : ℕ) (fcs : ℕ × ℕ) (parts : List TextRecord) (after : List ℕ) → Front text bcb fcs parts after
       → read_block text ≡ block_with bcb fcs (with_items (items_of parts) (items_in after))
   front-read text bcb fcs parts after front =
       ap read_block front.joined
@@ -101,7 +101,7 @@ module _ (found : (bytes : List ℕ) → AreBytes bytes → ReadsAs bytes (unspe
       ∙ (ap (λ (r : Result (List Item) BlockFault). block_with s.bcb s.fcs (with_items (items_of s.parts) r)) is
       ∙ ap (block_with s.bcb s.fcs) (with_items-Err (items_of s.parts) e))
 
-  AreBytes-after : (text : List ℕ) (bcb : ℕ) (fcs : ℕ × ℕ) (parts : List Part) (after : List ℕ) → Front text bcb fcs parts after
+  AreBytes-after : (text : List ℕ) (bcb : ℕ) (fcs : ℕ × ℕ) (parts : List TextRecord) (after : List ℕ) → Front text bcb fcs parts after
       → AreBytes text → AreBytes after
   AreBytes-after text bcb fcs parts after front are =
       AreBytes-drop (covered_bytes parts) after

@@ -5,7 +5,7 @@ use Rattle.std.proofs.lemmas.Bool.{cond_both, cond-true, cond-false, eqb-true, e
 use Rattle.std.proofs.lemmas.List.{append-nil}
 use Rattle.njh_record.specs.Bytes.{AreBytes}
 use Rattle.njh_record.specs.Spelling.{Spelling}
-use Rattle.njh_record.specs.Unspelled.{Unspelled, unspelled, Fault, ReadsAs}
+use Rattle.njh_record.specs.Unspelled.{Unspelled, record_at_front, Fault, ReadsAs}
 use Rattle.njh_record.specs.declared.End.{End}
 use Rattle.njh_record.specs.declared.End.TheVariants.{Record, Abort}
 use Rattle.njh_block.specs.declared.fault.BlockFault.{BlockFault}
@@ -79,9 +79,9 @@ item-covers rcb srcb Abort contents rest spelling is s =
     (contents, record { form = is; spelling = spelling; parts = refl; spelled = s })
 
 -- found: what is unspelled stands so; again: a spelling is read, whatever follows it
-module _ (found : (bytes : List ℕ) → AreBytes bytes → ReadsAs bytes (unspelled bytes))
+module _ (found : (bytes : List ℕ) → AreBytes bytes → ReadsAs bytes (record_at_front bytes))
     (again : (spelling contents rest : List ℕ) (end : End) → Spelling spelling contents end
-    → unspelled (spelling ++ rest) ≡ Ok (record { contents = contents; end = end; rest = rest })) where
+    → record_at_front (spelling ++ rest) ≡ Ok (record { contents = contents; end = end; rest = rest })) where
   record_of_spelling-stands : (rcb srcb : ℕ) (rest : List ℕ) (read : Result Unspelled Fault) → form_of rcb ≡ form.Spelled → 0x80 ≤ rcb
       → ReadsAs rest read → Stands (rcb ∷ srcb ∷ rest) (record_of_spelling rcb srcb read)
   record_of_spelling-stands rcb srcb rest (Ok r) is high reads = (
@@ -100,7 +100,7 @@ module _ (found : (bytes : List ℕ) → AreBytes bytes → ReadsAs bytes (unspe
       (0xf0 ∷ srcb ∷ rest, ap (λ (x : ℕ). x ∷ srcb ∷ rest) fact ∙ sym (append-nil (0xf0 ∷ srcb ∷ rest)), (refl, refl))
   record_of_form-stands (form.Control c) rcb srcb rest is fact bytes = control-stands c rcb srcb rest fact
   record_of_form-stands form.Spelled rcb srcb rest is fact bytes =
-      record_of_spelling-stands rcb srcb rest (unspelled rest) is fact (found rest bytes)
+      record_of_spelling-stands rcb srcb rest (record_at_front rest) is fact (found rest bytes)
 
   pub first_record-stands : (bytes : List ℕ) → AreBytes bytes → Stands bytes (first_record bytes)
   first_record-stands [] bytes = tt

@@ -1,7 +1,7 @@
 -- A general record that comes first.
 use Rattle.std.proofs.Common.{◌≡◌, ℕ, eqb, leb, List, [], ◌∷◌, length, Some, None, Result, Ok, Err, refl, sym, ◌∙◌, ap}
 use Rattle.std.proofs.lemmas.Bool.{cond_both, cond-true, cond-false, eq-eqb, ne_eqb}
-use Rattle.njh_record.specs.Unspelled.{Unspelled, unspelled, Fault}
+use Rattle.njh_record.specs.Unspelled.{Unspelled, record_at_front, Fault}
 use Rattle.njh_record.specs.declared.End.{End}
 use Rattle.njh_record.specs.declared.End.TheVariants.{Record, Abort}
 use Rattle.njh_block.specs.declared.fault.BlockFault.{BlockFault}
@@ -49,7 +49,7 @@ record_of_form-general (form.Control c) rcb srcb rest is fact =
     general_first-other (Control rcb srcb) (items_in (after_control rest)) refl
     ∙ general_at-other (form.Control c) rcb srcb rest is (λ e. cc)
 record_of_form-general form.Spelled rcb srcb rest is fact =
-    record_of_spelling-other rcb srcb (unspelled rest) items_in ∙ general_at-other form.Spelled rcb srcb rest is (λ e. cc)
+    record_of_spelling-other rcb srcb (record_at_front rest) items_in ∙ general_at-other form.Spelled rcb srcb rest is (λ e. cc)
 
 record_of_one_byte-general : (f : Form) → general_first (items_or_none (items_from (record_of_one_byte f) items_in)) ≡ None
 record_of_one_byte-general form.End = refl

@@ -3,13 +3,13 @@ use Rattle.std.proofs.Common.{◌≡◌, ℕ, zero, suc, ◌<◌, ◌≤◌, Lis
 use Rattle.std.proofs.Common.{◌∙◌, ap, subst, append_assoc, arith}
 use Rattle.njh_record.specs.Bytes.{AreBytes}
 use Rattle.njh_record.specs.Spelling.{Spelling}
-use Rattle.njh_record.specs.Unspelled.{unspelled, ReadsAs}
+use Rattle.njh_record.specs.Unspelled.{record_at_front, ReadsAs}
 use Rattle.njh_record.specs.declared.End.{End}
 use Rattle.njh_block.specs.declared.fault.BlockFault.{BlockFault}
 use Rattle.njh_block.specs.declared.fault.BlockFault.TheVariants.{TooShort, BadBcb, BadFcs, BadRcb, BadRecord}
 use Rattle.njh_block.specs.declared.rcb.Form.{Form}
 use Rattle.njh_block.specs.Blocks.{Item, First, record_of_one_byte, record_of_form, first_record, with_item, read_items, items_in}
-use Rattle.njh_block.specs.Grammar.{Covers, Part, covered_bytes, items_of, EachCovers, IsEnd, IsBadRcb, IsBadRecord}
+use Rattle.njh_block.specs.Grammar.{Covers, TextRecord, covered_bytes, items_of, EachCovers, IsEnd, IsBadRcb, IsBadRecord}
 use Rattle.njh_block.proofs.ReadingLaws.{items_from, Shorter, first_record-shorter, items_in_step}
 use Rattle.njh_block.proofs.Forms.{form_of-bad}
 use Rattle.njh_block.proofs.FirstLaws.{AreBytes-drop, Stands, first_record-stands, Covers-first}
@@ -43,7 +43,7 @@ items_in-bad_rcb (b ∷ c ∷ after) is =
 
 -- What the items that were read say of the bytes.
 pub record Split (bytes : List ℕ) (items : List Item) (Then : List ℕ → Type 0) : Type 0 where
-  pub parts : List Part
+  pub parts : List TextRecord
   pub after : List ℕ
   pub joined : bytes ≡ covered_bytes parts ++ after
   pub each : EachCovers parts after
@@ -85,10 +85,10 @@ Reads-more i covered rest bytes (Err BadBcb) joined covers reads = reads
 Reads-more i covered rest bytes (Err BadFcs) joined covers reads = reads
 
 -- found: what is unspelled stands so; again: a spelling is read, whatever follows it
-module _ (found : (bytes : List ℕ) → AreBytes bytes → ReadsAs bytes (unspelled bytes))
+module _ (found : (bytes : List ℕ) → AreBytes bytes → ReadsAs bytes (record_at_front bytes))
     (again : (spelling contents rest : List ℕ) (end : End) → Spelling spelling contents end
-    → unspelled (spelling ++ rest) ≡ Ok (record { contents = contents; end = end; rest = rest })) where
-  pub items_in-parts : (parts : List Part) (after : List ℕ) → EachCovers parts after
+    → record_at_front (spelling ++ rest) ≡ Ok (record { contents = contents; end = end; rest = rest })) where
+  pub items_in-parts : (parts : List TextRecord) (after : List ℕ) → EachCovers parts after
       → items_in (covered_bytes parts ++ after) ≡ with_items (items_of parts) (items_in after)
   items_in-parts [] after each = refl
   items_in-parts (p ∷ ps) after each =

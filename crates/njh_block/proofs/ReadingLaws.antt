@@ -3,7 +3,7 @@ use Rattle.std.proofs.Common.{◌≡◌, ℕ, zero, suc, ◌<◌, ◌≤◌, Boo
 use Rattle.std.proofs.Common.{Result, Ok, Err, refl, sym, ◌∙◌, ap, arith}
 use Rattle.std.proofs.lemmas.Bool.{false≢true}
 use Rattle.std.specs.Result.{result_unwrap_or, IsOk}
-use Rattle.njh_record.specs.Unspelled.{Unspelled, unspelled, Fault}
+use Rattle.njh_record.specs.Unspelled.{Unspelled, record_at_front, Fault}
 use Rattle.njh_block.specs.declared.fault.BlockFault.{BlockFault}
 use Rattle.njh_block.specs.declared.rcb.Form.{Form}
 use Rattle.njh_block.specs.declared.rcb.Form.TheVariants as form
@@ -52,7 +52,7 @@ record_of_form-shorter form.Bad rcb srcb rest = tt
 record_of_form-shorter form.General rcb srcb rest = omega arith
 record_of_form-shorter (form.Control c) rcb srcb rest = omega (arith, after_control-shorter rest)
 record_of_form-shorter form.Spelled rcb srcb rest =
-    record_of_spelling-shorter rcb srcb (length rest) (unspelled rest) (unspelled-within rest)
+    record_of_spelling-shorter rcb srcb (length rest) (record_at_front rest) (unspelled-within rest)
 
 Shorter-more : (n : ℕ) (found : Result (Option First) BlockFault) → Shorter n found → Shorter (suc n) found
 Shorter-more n (Ok None) shorter = tt

@@ -7,9 +7,9 @@ use Rattle.njh_record.specs.declared.End.{End}
 use Rattle.njh_record.specs.declared.End.TheVariants.{Record, Abort}
 use Rattle.njh_record.specs.declared.RecordFault.{RecordFault}
 use Rattle.njh_record.specs.declared.RecordFault.TheVariants as faults
-use Rattle.njh_record.specs.Spelling.{Spelling, blanks, literal, added}
+use Rattle.njh_record.specs.Spelling.{Spelling, blanks, literal, added_bytes}
 use Rattle.njh_record.specs.Reading.{Begins, Unspells}
-use Rattle.njh_record.specs.Unspelled.{Front, OfItem, OfEnd, Bad, Cut, repeat_front, literal_front, front_of, Unspelled, unspelled}
+use Rattle.njh_record.specs.Unspelled.{Front, OfItem, OfEnd, Bad, Cut, repeat_front, literal_front, front_of, Unspelled, record_at_front}
 use Rattle.njh_record.specs.Unspelled.{unspelled_within, Fault, BadScb, Truncated, with_front, ReadsAs}
 use Rattle.njh_block.specs.declared.fault.BlockFault.{BlockFault}
 use Rattle.njh_block.specs.declared.fault.BlockFault.TheVariants.{BadRecord}
@@ -68,19 +68,19 @@ within_steps (suc k) (b ∷ rest) = go (front_of (b ∷ rest)) (front-within b r
     go : (front : Front) → FrontWithin (length rest) front → ((after : List ℕ) → RestWithin (length after) (unspelled_within k after))
         → RestWithin (suc (length rest))
         (elim front [
-          | OfItem item after ↦ with_front (added item) (unspelled_within k after)
+          | OfItem item after ↦ with_front (added_bytes item) (unspelled_within k after)
           | OfEnd end after ↦ Ok
               (record { contents = []; end = end; rest = after })
           | Bad ↦ Err BadScb
           | Cut ↦ Err Truncated
         ])
     go (OfItem item after) within again =
-        with_front-within (length after) (suc (length rest)) (added item) (unspelled_within k after) (omega arith) (again after)
+        with_front-within (length after) (suc (length rest)) (added_bytes item) (unspelled_within k after) (omega arith) (again after)
     go (OfEnd end after) within again = omega arith
     go Bad within again = tt
     go Cut within again = tt
 
-pub unspelled-within : (bytes : List ℕ) → RestWithin (length bytes) (unspelled bytes)
+pub unspelled-within : (bytes : List ℕ) → RestWithin (length bytes) (record_at_front bytes)
 unspelled-within bytes = within_steps (length bytes) bytes
 
 -- ---- what an answer of the reader of records says
@@ -94,18 +94,18 @@ answered rcb srcb bytes contents (Err faults.BadScb) = Err BadRecord
 answered rcb srcb bytes contents (Err faults.Truncated) = Err BadRecord
 
 -- only: nothing but what is unspelled stands so; again: a spelling is read, whatever follows it
-module _ (only : (bytes : List ℕ) (read : Result Unspelled Fault) → ReadsAs bytes read → unspelled bytes ≡ read)
+module _ (only : (bytes : List ℕ) (read : Result Unspelled Fault) → ReadsAs bytes read → record_at_front bytes ≡ read)
     (again : (spelling contents rest : List ℕ) (end : End) → Spelling spelling contents end
-    → unspelled (spelling ++ rest) ≡ Ok (record { contents = contents; end = end; rest = rest })) where
+    → record_at_front (spelling ++ rest) ≡ Ok (record { contents = contents; end = end; rest = rest })) where
   begins-spelled : (rcb srcb : ℕ) (bytes contents : List ℕ) (used : ℕ) (end : End) → Begins bytes used contents end
-      → record_of_spelling rcb srcb (unspelled bytes)
+      → record_of_spelling rcb srcb (record_at_front bytes)
       ≡ record_of_spelling rcb srcb (Ok (record { contents = contents; end = end; rest = drop used bytes }))
   begins-spelled rcb srcb bytes contents used end begins =
-      ap (λ (b : List ℕ). record_of_spelling rcb srcb (unspelled b)) (sym (take-append-drop used bytes))
+      ap (λ (b : List ℕ). record_of_spelling rcb srcb (record_at_front b)) (sym (take-append-drop used bytes))
       ∙ ap (record_of_spelling rcb srcb) (again (take used bytes) contents (drop used bytes) end begins.spelling)
 
   pub record_of_spelling-unspells : (rcb srcb : ℕ) (bytes contents : List ℕ) (answer : Result (ℕ × End) RecordFault)
-      → Unspells bytes answer contents → record_of_spelling rcb srcb (unspelled bytes) ≡ answered rcb srcb bytes contents answer
+      → Unspells bytes answer contents → record_of_spelling rcb srcb (record_at_front bytes) ≡ answered rcb srcb bytes contents answer
   record_of_spelling-unspells rcb srcb bytes contents (Ok (used, Record)) (begins, fits) =
       begins-spelled rcb srcb bytes contents used Record begins
       ∙ ap (λ (t : Bool). Ok (Some (record { item = cond t (Data rcb srcb contents) (Long rcb srcb); rest = drop used bytes })))
@@ -122,7 +122,7 @@ module _ (only : (bytes : List ℕ) (read : Result Unspelled Fault) → ReadsAs 
       ap (record_of_spelling rcb srcb) (only bytes (Err Truncated) cut)
 
   pub record_of_spelling-left : (rcb srcb : ℕ) (bytes contents : List ℕ) (answer : Result (ℕ × End) RecordFault)
-      → Unspells bytes answer contents → contents ≡ contents_after (record_of_spelling rcb srcb (unspelled bytes))
+      → Unspells bytes answer contents → contents ≡ contents_after (record_of_spelling rcb srcb (record_at_front bytes))
   record_of_spelling-left rcb srcb bytes contents answer unspells =
       left answer unspells ∙ ap contents_after (sym (record_of_spelling-unspells rcb srcb bytes contents answer unspells))
     where

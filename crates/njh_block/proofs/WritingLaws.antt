@@ -7,7 +7,7 @@ use Rattle.std.specs.Result.{result_unwrap_or}
 use Rattle.std.proofs.lemmas.Bool.{cond-true, le-leb, leb-true, and_parts, or_parts, both_ways, not-true}
 use Rattle.std.proofs.lemmas.List.{append-nil, take_at}
 use Rattle.std.proofs.lemmas.List.Concat.{flat_map-append}
-use Rattle.njh_record.specs.Unspelled.{unspelled}
+use Rattle.njh_record.specs.Unspelled.{record_at_front}
 use Rattle.njh_record.specs.Writing.{spelling_of}
 use Rattle.njh_record.specs.declared.End.TheVariants.{Record}
 use Rattle.njh_block.specs.declared.fault.BlockFault.{BlockFault}
@@ -64,7 +64,7 @@ pub record Adds (w : Writing) (i : Item) (text : List ℕ) : Type 0 where
 
 -- back: what is written of a record is read back, whatever follows it
 module _ (back : (contents rest : List ℕ)
-    → unspelled (spelling_of contents ++ rest) ≡ Ok (record { contents = contents; end = Record; rest = rest })) where
+    → record_at_front (spelling_of contents ++ rest) ≡ Ok (record { contents = contents; end = Record; rest = rest })) where
   -- ---- one record
 
   data-first : (rcb srcb : ℕ) (bytes after : List ℕ) → form_of rcb ≡ form.Spelled → length bytes ≤ 256

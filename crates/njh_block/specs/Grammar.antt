@@ -39,24 +39,24 @@ Covers (Control rcb srcb) bytes after = (c : ControlRcb) × (rcb ≡ control_byt
 Covers (General srcb rest) bytes after = (bytes ≡ 0xf0 ∷ srcb ∷ rest) × (after ≡ [])
 
 -- An item, and the bytes of the text that it covers.
-pub record Part : Type 0 where
+pub record TextRecord : Type 0 where
   pub item : Item
   pub bytes : List ℕ
 
-abbrev pub covered_bytes : List Part → List ℕ
-covered_bytes parts = flat_map (λ (p : Part). p.bytes) parts
+abbrev pub covered_bytes : List TextRecord → List ℕ
+covered_bytes parts = flat_map (λ (p : TextRecord). p.bytes) parts
 
-abbrev pub items_of : List Part → List Item
+abbrev pub items_of : List TextRecord → List Item
 items_of [] = []
 items_of (p ∷ ps) = p.item ∷ items_of ps
 
 -- each part covers its bytes, where those of the later parts and these follow it
-abbrev pub EachCovers : List Part → List ℕ → Type 0
+abbrev pub EachCovers : List TextRecord → List ℕ → Type 0
 EachCovers [] after = Unit {0}
 EachCovers (p ∷ ps) after = Covers p.item p.bytes (covered_bytes ps ++ after) × EachCovers ps after
 
 -- A text's block control byte, function control sequence and whole records, and what stands behind these.
-pub record Front (text : List ℕ) (bcb : ℕ) (fcs : ℕ × ℕ) (parts : List Part) (after : List ℕ) : Type 0 where
+pub record Front (text : List ℕ) (bcb : ℕ) (fcs : ℕ × ℕ) (parts : List TextRecord) (after : List ℕ) : Type 0 where
   pub good_bcb : IsTrue (is_bcb bcb)
   pub good_fcs : IsTrue (is_fcs fcs)
   pub joined : text ≡ bcb ∷ fcs.0 ∷ fcs.1 ∷ (covered_bytes parts ++ after)
@@ -69,7 +69,7 @@ IsEnd (b ∷ rest) = b ≡ 0
 
 -- The text is this block.
 pub record IsBlock (text : List ℕ) (block : Block) : Type 0 where
-  pub parts : List Part
+  pub parts : List TextRecord
   pub after : List ℕ
   pub front : Front text block.bcb block.fcs parts after
   pub ends : IsEnd after
@@ -89,7 +89,7 @@ IsBadRecord (rcb ∷ rest) = (0x80 ≤ rcb) × ((item : Item) (bytes after : Lis
 pub record StopsAt (IsBad : List ℕ → Type 0) (text : List ℕ) : Type 0 where
   pub bcb : ℕ
   pub fcs : ℕ × ℕ
-  pub parts : List Part
+  pub parts : List TextRecord
   pub after : List ℕ
   pub front : Front text bcb fcs parts after
   pub bad : IsBad after

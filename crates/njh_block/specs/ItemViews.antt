@@ -10,16 +10,16 @@ use Rattle.std.specs.Borrow.{Bor}
 use Rattle.njh_block.specs.Blocks.{Item, Data, Aborted, Long, Control, General, First, control_byte, form_of}
 
 -- the item, where these bytes are in the record
-abbrev pub shown : List ℕ → Given → Item
-shown bytes (given.Data rcb srcb) = Data rcb.byte srcb bytes
-shown bytes (given.Abort rcb srcb) = Aborted rcb.byte srcb
-shown bytes (given.Long rcb srcb) = Long rcb.byte srcb
-shown bytes (given.Control rcb srcb) = Control (control_byte rcb) srcb
-shown bytes (given.General srcb rest) = General srcb rest.now
+abbrev pub given_item : List ℕ → Given → Item
+given_item bytes (given.Data rcb srcb) = Data rcb.byte srcb bytes
+given_item bytes (given.Abort rcb srcb) = Aborted rcb.byte srcb
+given_item bytes (given.Long rcb srcb) = Long rcb.byte srcb
+given_item bytes (given.Control rcb srcb) = Control (control_byte rcb) srcb
+given_item bytes (given.General srcb rest) = General srcb rest.now
 
 abbrev pub first_shown : Result (Option (Given × Bor (List ℕ))) BlockFault → List ℕ → Result (Option First) BlockFault
 first_shown (Ok None) bytes = Ok None
-first_shown (Ok (Some x)) bytes = Ok (Some (record { item = shown bytes x.0; rest = x.1.now }))
+first_shown (Ok (Some x)) bytes = Ok (Some (record { item = given_item bytes x.0; rest = x.1.now }))
 first_shown (Err e) bytes = Err e
 
 -- the bytes that an item leaves in the record

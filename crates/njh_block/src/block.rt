@@ -3,7 +3,7 @@
 ghost use Rattle.std.specs.Prelude.{◌≡◌, ◌↔◌, [], IsTrue, drop, slice_get, option_map};
 ghost use Rattle.njh_block.specs.Blocks.{Block as Seen, read_block, general_first};
 ghost use Rattle.njh_block.specs.Grammar.{IsBlock, IsFault};
-ghost use Rattle.njh_block.specs.ItemViews.{shown, first_contents};
+ghost use Rattle.njh_block.specs.ItemViews.{given_item, first_contents};
 
 use crate::bcb::Bcb;
 use crate::fault::BlockFault;
@@ -91,7 +91,7 @@ impl<'a> Block<'a> {
 
     /// Takes the next record. The bytes of a `Data` are put in `contents`, which any other leaves empty.
     pub fn next(&mut self, contents: &mut Record) -> Option<Item<'a>>
-        ensures first { option_map (shown contents.new.items) result ≡ slice_get self.old.items 0 }
+        ensures first { option_map (given_item contents.new.items) result ≡ slice_get self.old.items 0 }
         ensures bytes { contents.new.items ≡ first_contents self.old.items }
         ensures rest { self.new ≡ record self.old { items = drop 1 self.old.items } }
     {

@@ -3,7 +3,7 @@
 ghost use Rattle.std.specs.Prelude.{◌≡◌, ◌↔◌, ℕ, [], Err, IsOk, IsTrue, MatchResult, None, Ok, option_map};
 ghost use Rattle.njh_block.specs.Blocks.{form_of, after_control, record_of_spelling, record_of_form, first_record};
 ghost use Rattle.njh_block.specs.Blocks.{items_in};
-ghost use Rattle.njh_record.specs.Unspelled.{unspelled};
+ghost use Rattle.njh_record.specs.Unspelled.{record_at_front};
 ghost use Rattle.njh_block.specs.code.Skipped.{rest_shown, rest_behind};
 ghost use Rattle.njh_block.specs.ItemViews.{first_shown, general_at, contents_after};
 
@@ -32,8 +32,8 @@ fn read_spelled<'a>(
     bytes: &'a [u8],
     contents: &mut Record,
 ) -> Result<Option<First<'a>>, BlockFault>
-    ensures first { first_shown result contents.new.items ≡ record_of_spelling rcb.byte srcb (unspelled bytes.now) }
-    ensures contents { contents.new.items ≡ contents_after (record_of_spelling rcb.byte srcb (unspelled bytes.now)) }
+    ensures first { first_shown result contents.new.items ≡ record_of_spelling rcb.byte srcb (record_at_front bytes.now) }
+    ensures contents { contents.new.items ≡ contents_after (record_of_spelling rcb.byte srcb (record_at_front bytes.now)) }
 {
     one_reading();
     reads_spellings();
@@ -154,7 +154,7 @@ fn skip_formed(rcb: Rcb, rest: &[u8]) -> Result<Option<&[u8]>, BlockFault>
 
 /// What follows the spelling at the front of the bytes.
 fn skip_spelled(bytes: &[u8]) -> Result<Option<&[u8]>, BlockFault>
-    ensures { (rcb srcb : ℕ) → rest_shown result ≡ rest_behind (record_of_spelling rcb srcb (unspelled bytes.now)) }
+    ensures { (rcb srcb : ℕ) → rest_shown result ≡ rest_behind (record_of_spelling rcb srcb (record_at_front bytes.now)) }
 {
     match skip(bytes) {
         Some(after) => Ok(Some(after)),

@@ -2,8 +2,8 @@
 use Rattle.std.proofs.Common.{◌≡◌, ◌<◌, ◌≤◌, ℕ, zero, suc, true, List, [], ◌∷◌, length, count_by, get_or, Some, IsSomeAnd, slice_get}
 use Rattle.std.proofs.Common.{◌==◌, sym, ap, arith, eq-eqb}
 use Rattle.njh_spool.specs.Spools.{IsSound}
-use Rattle.njh_spool.specs.CustomerSpool.{CustomerSpool, WholeFile, whole_numbered, on_file, removed}
-use Rattle.njh_command.specs.Files.{file_at, no_file, with_file, without}
+use Rattle.njh_spool.specs.CustomerSpool.{CustomerSpool, WholeFile, whole_numbered, on_file, without_whole}
+use Rattle.njh_command.specs.Files.{file_at, no_file, with_file, without_at}
 use Rattle.njh_command.proofs.OnlyOneLaws.{only_found, only_changed, only_removed}
 
 pub number_at : (xs : List WholeFile) (i n : ℕ) (d : WholeFile) → IsSomeAnd (slice_get xs i) (λ f. n ≡ f.number) → (get_or xs i
@@ -26,5 +26,5 @@ module _ (s : CustomerSpool) (i n : ℕ) (sound : IsSound s) (inside : i < lengt
   pub alone : (f : WholeFile → WholeFile) → on_file n f s ≡ with_file i (f (file_at i s)) s
   alone f = ap (λ files. record s { whole = files }) (only_changed (λ x. x.number == n) f s.whole i no_file inside passes few)
 
-  pub gone : removed n s ≡ without i s
+  pub gone : without_whole n s ≡ without_at i s
   gone = ap (λ files. record s { whole = files }) (only_removed (λ x. x.number == n) s.whole i no_file inside passes few)

@@ -5,12 +5,12 @@ use Rattle.std.proofs.lemmas.List.{set-get_or}
 use Rattle.njh_record.specs.Stored.{Stored}
 use Rattle.njh_record.specs.declared.Kind.{Kind}
 use Rattle.njh_spool.specs.CustomerSpool.{at_index, rewritten_record}
-use Rattle.njh_header.specs.Redirecting.{destination_place, redirected, redirected_record}
-use Rattle.njh_command.specs.Files.{no_record, record_at, with_redirected}
+use Rattle.njh_header.specs.Redirecting.{destination_place, records_to_node, redirected_record}
+use Rattle.njh_command.specs.Files.{no_record, stored_at, with_redirected}
 use Rattle.njh_command.proofs.UpTo.{redirected_up_to, srcb_before}
 
 -- the record that was read
-pub record_is : (records : List Stored) (n : ℕ) (r : Stored) → slice_get records n ≡ Some r → record_at n records ≡ r
+pub record_is : (records : List Stored) (n : ℕ) (r : Stored) → slice_get records n ≡ Some r → stored_at n records ≡ r
 record_is [] n r e = absurd (cc e)
 record_is (x ∷ xs) zero r e = some_is e
   where
@@ -21,7 +21,7 @@ record_is (x ∷ xs) zero r e = some_is e
     some_is same = ap or_none same
 record_is (x ∷ xs) (suc n) r e = record_is xs n r e
 
-pub at_index_is : (n : ℕ) (f : Stored → Stored) (records : List Stored) → at_index n f records ≡ set records n (f (record_at n records))
+pub at_index_is : (n : ℕ) (f : Stored → Stored) (records : List Stored) → at_index n f records ≡ set records n (f (stored_at n records))
 at_index_is zero f [] = refl
 at_index_is (suc n) f [] = refl
 at_index_is zero f (r ∷ rs) = refl
@@ -34,7 +34,7 @@ pub redirected_here :
     → at_index n (rewritten_record place node) records ≡ with_redirected kind before node n records
 redirected_here kind before node n place records r read named =
     at_index_is n (rewritten_record place node) records
-    ∙ ap (λ o. set records n (redirected_record node o (record_at n records)))
+    ∙ ap (λ o. set records n (redirected_record node o (stored_at n records)))
     (sym (ap (destination_place kind before) (record_is records n r read) ∙ named))
 
 -- and stays where it names none
@@ -43,7 +43,7 @@ pub redirected_nowhere :
     → destination_place kind before r ≡ None → records ≡ with_redirected kind before node n records
 redirected_nowhere kind before node n records r read named =
     sym (set-get_or records n no_record)
-    ∙ ap (λ o. set records n (redirected_record node o (record_at n records)))
+    ∙ ap (λ o. set records n (redirected_record node o (stored_at n records)))
     (sym (ap (destination_place kind before) (record_is records n r read) ∙ named))
 
 -- ---- the walk
@@ -51,14 +51,14 @@ redirected_nowhere kind before node n records r read named =
 -- the SRCB before the n-th of these, behind one before them
 abbrev before_from : Option ℕ → ℕ → List Stored → Option ℕ
 before_from before zero records = before
-before_from before (suc n) records = Some (record_at n records).srcb
+before_from before (suc n) records = Some (stored_at n records).srcb
 
 -- from a record on, behind one with this SRCB
 more_from :
     (kind : Kind) (before : Option ℕ) (node : List ℕ) (n : ℕ) (records : List Stored) → n < length records
-    → set (redirected kind node before (take n records) ++ drop n records) n
-    (redirected_record node (destination_place kind (before_from before n records) (record_at n records)) (record_at n records))
-    ≡ redirected kind node before (take (suc n) records) ++ drop (suc n) records
+    → set (records_to_node kind node before (take n records) ++ drop n records) n
+    (redirected_record node (destination_place kind (before_from before n records) (stored_at n records)) (stored_at n records))
+    ≡ records_to_node kind node before (take (suc n) records) ++ drop (suc n) records
 more_from kind before node n [] h = absurd (not-suc-le-zero h)
 more_from kind before node zero (r ∷ rs) h = refl
 more_from kind before node (suc zero) (r ∷ []) h = absurd (not-suc-le-zero (le_of_suc-le-suc h))
@@ -70,7 +70,7 @@ more_from kind before node (suc (suc n)) (r ∷ rs) h =
 -- the n-th isn't changed yet
 not_yet_from :
     (kind : Kind) (before : Option ℕ) (node : List ℕ) (n : ℕ) (records : List Stored) → n < length records
-    → record_at n (redirected kind node before (take n records) ++ drop n records) ≡ record_at n records
+    → stored_at n (records_to_node kind node before (take n records) ++ drop n records) ≡ stored_at n records
 not_yet_from kind before node n [] h = absurd (not-suc-le-zero h)
 not_yet_from kind before node zero (r ∷ rs) h = refl
 not_yet_from kind before node (suc n) (r ∷ rs) h = not_yet_from kind (Some r.srcb) node n rs (le_of_suc-le-suc h)
@@ -80,7 +80,7 @@ same_before zero records = refl
 same_before (suc n) records = refl
 
 pub not_yet : (kind : Kind) (node : List ℕ) (n : ℕ) (records : List Stored) → n < length records
-    → record_at n (redirected_up_to kind node n records) ≡ record_at n records
+    → stored_at n (redirected_up_to kind node n records) ≡ stored_at n records
 not_yet kind node n records h = not_yet_from kind None node n records h
 
 pub one_more : (kind : Kind) (node : List ℕ) (n : ℕ) (records : List Stored) → n < length records
@@ -89,13 +89,13 @@ pub one_more : (kind : Kind) (node : List ℕ) (n : ℕ) (records : List Stored)
 one_more kind node n records h =
     ap (λ r. set (redirected_up_to kind node n records) n (redirected_record node (destination_place kind (srcb_before n records) r) r))
     (not_yet kind node n records h)
-    ∙ ap (λ o. set (redirected_up_to kind node n records) n (redirected_record node (destination_place kind o (record_at n records))
-    (record_at n records)))
+    ∙ ap (λ o. set (redirected_up_to kind node n records) n (redirected_record node (destination_place kind o (stored_at n records))
+    (stored_at n records)))
     (sym (same_before n records))
     ∙ more_from kind None node n records h
 
 pub as_long : (kind : Kind) (before : Option ℕ) (node : List ℕ) (n : ℕ) (records : List Stored)
-    → length (redirected kind node before (take n records) ++ drop n records) ≡ length records
+    → length (records_to_node kind node before (take n records) ++ drop n records) ≡ length records
 as_long kind before node zero records = refl
 as_long kind before node (suc n) [] = refl
 as_long kind before node (suc n) (r ∷ rs) = ap suc (as_long kind (Some r.srcb) node n rs)

@@ -2,9 +2,9 @@
 use Rattle.std.proofs.Common.{ℕ, zero, suc, Bool, not, List, ◌++◌, length, take, drop, map, filter, Option, Some, None}
 use Rattle.njh_record.specs.Stored.{Stored}
 use Rattle.njh_record.specs.declared.Kind.{Kind}
-use Rattle.njh_header.specs.Redirecting.{redirected}
+use Rattle.njh_header.specs.Redirecting.{records_to_node}
 use Rattle.njh_spool.specs.CustomerSpool.{CustomerSpool, WholeFile}
-use Rattle.njh_command.specs.Files.{record_at}
+use Rattle.njh_command.specs.Files.{stored_at}
 
 -- the first so many files are changed
 abbrev pub changed_up_to : (WholeFile → WholeFile) → ℕ → CustomerSpool → CustomerSpool
@@ -25,8 +25,8 @@ count_up_to p n s = length (filter p (take n s.whole))
 -- the SRCB of the record before the n-th
 abbrev pub srcb_before : ℕ → List Stored → Option ℕ
 srcb_before zero records = None
-srcb_before (suc n) records = Some (record_at n records).srcb
+srcb_before (suc n) records = Some (stored_at n records).srcb
 
 -- the first so many records have another destination node, where they name one
 abbrev pub redirected_up_to : Kind → List ℕ → ℕ → List Stored → List Stored
-redirected_up_to kind node n records = redirected kind node None (take n records) ++ drop n records
+redirected_up_to kind node n records = records_to_node kind node None (take n records) ++ drop n records

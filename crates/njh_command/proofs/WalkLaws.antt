@@ -5,11 +5,11 @@ use Rattle.std.specs.Prelude.{remove}
 use Rattle.std.proofs.lemmas.List.{set-set, get_or-set_same, set-get_or, get_or_at, drop_more, take_all, map-append, append-nil}
 use Rattle.std.proofs.lemmas.List.Elements.{filter_more}
 use Rattle.std.proofs.lemmas.List.Filters.{length-filter_more}
-use Rattle.njh_spool.specs.Spools.{part, no_spool}
+use Rattle.njh_spool.specs.Spools.{spool_at, no_spool}
 use Rattle.njh_spool.specs.CustomerSpool.{CustomerSpool, WholeFile}
 use Rattle.njh_command.specs.declared.changing.Standing.TheVariants.{Other, Busy, Idle}
 use Rattle.njh_command.specs.Replies.{file_line}
-use Rattle.njh_command.specs.Commands.{changed_file, is_idle, kept, owned}
+use Rattle.njh_command.specs.Commands.{changed_file, may_change, first_replies, is_owned}
 use Rattle.njh_command.specs.code.Changes.{numbers_where, standing_by, without_where}
 use Rattle.njh_command.specs.Files.{file_at, no_file, with_file}
 use Rattle.njh_command.proofs.UpTo.{changed_up_to, count_up_to, left_up_to, removed_up_to}
@@ -17,20 +17,20 @@ use Rattle.njh_command.proofs.OnlyOneLaws.{changed_more, not_yet}
 use Rattle.njh_command.proofs.ReplyLaws.{kept_more}
 
 -- nothing was done to a customer, or to a file
-pub unmoved : (old : List CustomerSpool) (c : ℕ) → old ≡ slice_set old c (part c old)
+pub unmoved : (old : List CustomerSpool) (c : ℕ) → old ≡ slice_set old c (spool_at c old)
 unmoved old c = sym (set-get_or old c no_spool)
 
 pub same_file : (s : CustomerSpool) (i : ℕ) → s ≡ with_file i (file_at i s) s
 same_file s i = ap (λ files. record s { whole = files }) (sym (set-get_or s.whole i no_file))
 
 -- a customer's spool that moves twice
-pub part_of : (old now : List CustomerSpool) (c : ℕ) (x : CustomerSpool) → c < length old → now ≡ slice_set old c x → part c now ≡ x
-part_of old now c x range now_is = ap (part c) now_is ∙ get_or-set_same old c x no_spool range
+pub part_of : (old now : List CustomerSpool) (c : ℕ) (x : CustomerSpool) → c < length old → now ≡ slice_set old c x → spool_at c now ≡ x
+part_of old now c x range now_is = ap (spool_at c) now_is ∙ get_or-set_same old c x no_spool range
 
 pub moved_twice :
     (old now new : List CustomerSpool) (c : ℕ) (x : CustomerSpool) (f : CustomerSpool → CustomerSpool) → c < length old → now ≡
     slice_set old c x
-    → new ≡ slice_set now c (f (part c now)) → new ≡ slice_set old c (f x)
+    → new ≡ slice_set now c (f (spool_at c now)) → new ≡ slice_set old c (f x)
 moved_twice old now new c x f range now_is new_is =
     new_is
     ∙ ap₂ (λ m s. slice_set m c (f s)) now_is (part_of old now c x range now_is)
@@ -141,27 +141,27 @@ as_idle true true e = absurd (cc e)
 as_idle true false e = (refl, refl)
 
 -- a file that isn't changed
-pub unchanged : (p : WholeFile → Bool) (g : WholeFile → WholeFile) (f : WholeFile) → is_idle p f ≡ false → f ≡ changed_file p g f
+pub unchanged : (p : WholeFile → Bool) (g : WholeFile → WholeFile) (f : WholeFile) → may_change p f ≡ false → f ≡ changed_file p g f
 unchanged p g f e = sym (ap (λ b. cond b (g f) f) e)
 
 -- ---- a line of LIST more
 
 pub one_listed : (who : List ℕ × List ℕ) (i : ℕ) (s : CustomerSpool) (replies more : List (List ℕ)) → i < length s.whole
-    → replies ≡ kept (map file_line (filter (owned who) (take i s.whole)))
-    → more ≡ cond (owned who (file_at i s)) (kept (replies ++ file_line (file_at i s) ∷ [])) replies
-    → more ≡ kept (map file_line (filter (owned who) (take (i + 1) s.whole)))
+    → replies ≡ first_replies (map file_line (filter (is_owned who) (take i s.whole)))
+    → more ≡ cond (is_owned who (file_at i s)) (first_replies (replies ++ file_line (file_at i s) ∷ [])) replies
+    → more ≡ first_replies (map file_line (filter (is_owned who) (take (i + 1) s.whole)))
 one_listed who i s replies more inside so_far is =
     is
-    ∙ by_test (owned who (file_at i s))
-    ∙ ap (λ files. kept (map file_line files)) (sym (filter_more (owned who) s.whole i no_file inside))
+    ∙ by_test (is_owned who (file_at i s))
+    ∙ ap (λ files. first_replies (map file_line files)) (sym (filter_more (is_owned who) s.whole i no_file inside))
   where
     files : List WholeFile
-    files = filter (owned who) (take i s.whole)
+    files = filter (is_owned who) (take i s.whole)
 
-    by_test : (b : Bool) → cond b (kept (replies ++ file_line (file_at i s) ∷ [])) replies
-        ≡ kept (map file_line (files ++ cond b (file_at i s ∷ []) []))
+    by_test : (b : Bool) → cond b (first_replies (replies ++ file_line (file_at i s) ∷ [])) replies
+        ≡ first_replies (map file_line (files ++ cond b (file_at i s ∷ []) []))
     by_test true =
-        ap (λ rs. kept (rs ++ file_line (file_at i s) ∷ [])) so_far
+        ap (λ rs. first_replies (rs ++ file_line (file_at i s) ∷ [])) so_far
         ∙ kept_more 64 (map file_line files) (file_line (file_at i s) ∷ [])
-        ∙ ap kept (sym (map-append file_line files (file_at i s ∷ [])))
-    by_test false = so_far ∙ ap (λ fs. kept (map file_line fs)) (sym (append-nil files))
+        ∙ ap first_replies (sym (map-append file_line files (file_at i s ∷ [])))
+    by_test false = so_far ∙ ap (λ fs. first_replies (map file_line fs)) (sym (append-nil files))

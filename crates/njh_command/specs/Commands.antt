@@ -6,27 +6,27 @@ use Rattle.std.specs.Prelude.{not, ◌&&◌, bytes_eq}
 use Rattle.njh_spool.specs.declared.State.{State}
 use Rattle.njh_spool.specs.declared.State.TheVariants.{Ready, Held, Refused, Sending}
 use Rattle.njh_spool.specs.CustomerSpool.{CustomerSpool, WholeFile}
-use Rattle.njh_header.specs.FileHeaders.{owner_of, name_of, with_destination}
+use Rattle.njh_header.specs.FileHeaders.{file_owner, name_of, with_destination}
 use Rattle.njh_header.specs.Texts.{node_unknown, no_files_for}
 use Rattle.njh_table.specs.Entries.{CustomerEntry, route_of}
 use Rattle.njh_table.specs.declared.Route.{Route}
 use Rattle.njh_table.specs.declared.Route.TheVariants.{Here, Line, Unknown}
 use Rattle.njh_stream.specs.declared.sender.Sender.{Sender}
-use Rattle.njh_stream.specs.Sending.{file_in, aborted}
+use Rattle.njh_stream.specs.Sending.{file_in, after_abort}
 use Rattle.njh_command.specs.declared.command.Command.{Command}
 use Rattle.njh_command.specs.declared.command.Command.TheVariants as commands
 use Rattle.njh_command.specs.Words.{command_of}
-use Rattle.njh_command.specs.Replies.{file_line, files_line, held, released, cancelled, rerouted_to, not_found}
-use Rattle.njh_command.specs.Replies.{bad_command, being_sent}
+use Rattle.njh_command.specs.Replies.{file_line, files_line, held_text, released_text, cancelled_text, rerouted_to, not_found}
+use Rattle.njh_command.specs.Replies.{bad_command, being_sent_text}
 
 -- What is answered, what is left in the spool, and the numbers of the files that were removed while they were being
 -- sent, in order of arrival.
-pub record Outcome : Type 0 where
+pub record CommandOutcome : Type 0 where
   pub replies : List (List ℕ)
   pub spool : CustomerSpool
   pub cancelled : List ℕ
 
-abbrev pub answers : List (List ℕ) → CustomerSpool → Outcome
+abbrev pub answers : List (List ℕ) → CustomerSpool → CommandOutcome
 answers replies s = record { replies = replies; spool = s; cancelled = [] }
 
 -- ---- which files
@@ -40,12 +40,12 @@ is_called name None = false
 is_called name (Some other) = bytes_eq name.0 other.0 && (name.1 == other.1)
 
 -- a file of the sender's own
-abbrev pub owned : List ℕ × List ℕ → WholeFile → Bool
-owned who f = is_owner who (owner_of f.records)
+abbrev pub is_owned : List ℕ × List ℕ → WholeFile → Bool
+is_owned who f = is_owner who (file_owner f.records)
 
 -- one of this name
-abbrev pub chosen : List ℕ × List ℕ → List ℕ × ℕ → WholeFile → Bool
-chosen who name f = owned who f && is_called name (name_of f.records)
+abbrev pub is_of_name : List ℕ × List ℕ → List ℕ × ℕ → WholeFile → Bool
+is_of_name who name f = is_owned who f && is_called name (name_of f.records)
 
 abbrev pub is_sending : State → Bool
 is_sending Sending = true
@@ -54,8 +54,8 @@ is_sending Held = false
 is_sending Refused = false
 
 -- of the files that pass, those that aren't being sent, and those that are
-abbrev pub is_idle : (WholeFile → Bool) → WholeFile → Bool
-is_idle p f = p f && not (is_sending f.state)
+abbrev pub may_change : (WholeFile → Bool) → WholeFile → Bool
+may_change p f = p f && not (is_sending f.state)
 
 abbrev pub is_busy : (WholeFile → Bool) → WholeFile → Bool
 is_busy p f = p f && is_sending f.state
@@ -66,11 +66,11 @@ count p s = length (filter p s.whole)
 -- ---- LIST
 
 -- the first 64 replies are kept
-abbrev pub kept : List (List ℕ) → List (List ℕ)
-kept replies = take 64 replies
+abbrev pub first_replies : List (List ℕ) → List (List ℕ)
+first_replies replies = take 64 replies
 
 abbrev pub listing : List ℕ × List ℕ → CustomerSpool → List (List ℕ)
-listing who s = map file_line (filter (owned who) s.whole) ++ files_line (count (owned who) s) ∷ []
+listing who s = map file_line (filter (is_owned who) s.whole) ++ files_line (count (is_owned who) s) ∷ []
 
 -- ---- HOLD, RELEASE and REROUTE
 
@@ -83,21 +83,21 @@ abbrev pub if_some : ℕ → List ℕ → List (List ℕ)
 if_some n text = cond (n == 0) [] (text ∷ [])
 
 abbrev pub change_replies : (ℕ → List ℕ) → List ℕ × ℕ → ℕ → ℕ → List (List ℕ)
-change_replies text name idle busy = where_found (idle + busy) name (if_some idle (text idle) ++ if_some busy (being_sent name))
+change_replies text name idle busy = where_found (idle + busy) name (if_some idle (text idle) ++ if_some busy (being_sent_text name))
 
 abbrev pub changed_file : (WholeFile → Bool) → (WholeFile → WholeFile) → WholeFile → WholeFile
-changed_file p change f = cond (is_idle p f) (change f) f
+changed_file p change f = cond (may_change p f) (change f) f
 
-abbrev pub changed : (WholeFile → Bool) → (WholeFile → WholeFile) → CustomerSpool → CustomerSpool
-changed p change s = record s { whole = map (changed_file p change) s.whole }
+abbrev pub with_changes : (WholeFile → Bool) → (WholeFile → WholeFile) → CustomerSpool → CustomerSpool
+with_changes p change s = record s { whole = map (changed_file p change) s.whole }
 
 -- the files that aren't being sent change, and the others are left
-abbrev pub changing : (ℕ → List ℕ) → (WholeFile → WholeFile) → (WholeFile → Bool) → List ℕ × ℕ → CustomerSpool → Outcome
+abbrev pub changing : (ℕ → List ℕ) → (WholeFile → WholeFile) → (WholeFile → Bool) → List ℕ × ℕ → CustomerSpool → CommandOutcome
 changing text change p name s =
-    answers (change_replies text name (count (is_idle p) s) (count (is_busy p) s)) (changed p change s)
+    answers (change_replies text name (count (may_change p) s) (count (is_busy p) s)) (with_changes p change s)
 
-abbrev pub with_state : State → WholeFile → WholeFile
-with_state state f = record f { state = state }
+abbrev pub file_in_state : State → WholeFile → WholeFile
+file_in_state state f = record f { state = state }
 
 abbrev pub state_after_reroute : State → State
 state_after_reroute Refused = Ready
@@ -105,23 +105,23 @@ state_after_reroute Ready = Ready
 state_after_reroute Held = Held
 state_after_reroute Sending = Sending
 
-abbrev pub rerouted : List ℕ → WholeFile → WholeFile
-rerouted node f = record f { records = with_destination f.kind node f.records; state = state_after_reroute f.state }
+abbrev pub with_new_destination : List ℕ → WholeFile → WholeFile
+with_new_destination node f = record f { records = with_destination f.kind node f.records; state = state_after_reroute f.state }
 
 -- by where the new node is
-abbrev pub rerouting : Route → CustomerEntry → List ℕ → (WholeFile → Bool) → List ℕ × ℕ → CustomerSpool → Outcome
+abbrev pub rerouting : Route → CustomerEntry → List ℕ → (WholeFile → Bool) → List ℕ × ℕ → CustomerSpool → CommandOutcome
 rerouting Here entry node p name s = answers (where_found (count p s) name (no_files_for entry.hub ∷ [])) s
-rerouting (Line l) entry node p name s = changing (rerouted_to name node) (rerouted node) p name s
+rerouting (Line l) entry node p name s = changing (rerouted_to name node) (with_new_destination node) p name s
 rerouting Unknown entry node p name s = answers (where_found (count p s) name (node_unknown node ∷ [])) s
 
-abbrev pub rerouted_by : CustomerEntry → List ℕ → List ℕ × List ℕ → List ℕ × ℕ → CustomerSpool → Outcome
-rerouted_by entry node who name s = rerouting (route_of entry node) entry node (chosen who name) name s
+abbrev pub rerouted_by : CustomerEntry → List ℕ → List ℕ × List ℕ → List ℕ × ℕ → CustomerSpool → CommandOutcome
+rerouted_by entry node who name s = rerouting (route_of entry node) entry node (is_of_name who name) name s
 
 -- ---- CANCEL
 
-abbrev pub cancelling : (WholeFile → Bool) → List ℕ × ℕ → CustomerSpool → Outcome
+abbrev pub cancelling : (WholeFile → Bool) → List ℕ × ℕ → CustomerSpool → CommandOutcome
 cancelling p name s = record {
-  replies = where_found (count p s) name (cancelled name (count p s) ∷ []);
+  replies = where_found (count p s) name (cancelled_text name (count p s) ∷ []);
   spool = record s { whole = filter (λ f. not (p f)) s.whole };
   cancelled = map (λ f. f.number) (filter (is_busy p) s.whole);
 }
@@ -129,25 +129,25 @@ cancelling p name s = record {
 -- ---- all
 
 -- What a command of a user does.
-abbrev pub obeyed : CustomerEntry → List ℕ × List ℕ → Command → CustomerSpool → Outcome
-obeyed entry who commands.List s = answers (kept (listing who s)) s
-obeyed entry who (commands.Hold name) s = changing (held name) (with_state Held) (chosen who name) name s
-obeyed entry who (commands.Release name) s = changing (released name) (with_state Ready) (chosen who name) name s
-obeyed entry who (commands.Cancel name) s = cancelling (chosen who name) name s
-obeyed entry who (commands.Reroute name node) s = rerouted_by entry node who name s
+abbrev pub command_outcome : CustomerEntry → List ℕ × List ℕ → Command → CustomerSpool → CommandOutcome
+command_outcome entry who commands.List s = answers (first_replies (listing who s)) s
+command_outcome entry who (commands.Hold name) s = changing (held_text name) (file_in_state Held) (is_of_name who name) name s
+command_outcome entry who (commands.Release name) s = changing (released_text name) (file_in_state Ready) (is_of_name who name) name s
+command_outcome entry who (commands.Cancel name) s = cancelling (is_of_name who name) name s
+command_outcome entry who (commands.Reroute name node) s = rerouted_by entry node who name s
 
-abbrev pub obeyed_where : Option Command → CustomerEntry → List ℕ × List ℕ → CustomerSpool → Outcome
+abbrev pub obeyed_where : Option Command → CustomerEntry → List ℕ × List ℕ → CustomerSpool → CommandOutcome
 obeyed_where None entry who s = answers (bad_command ∷ []) s
-obeyed_where (Some command) entry who s = obeyed entry who command s
+obeyed_where (Some command) entry who s = command_outcome entry who command s
 
 -- What a message of a user to the hub does.
-abbrev pub commanded : CustomerEntry → List ℕ × List ℕ → List ℕ → CustomerSpool → Outcome
-commanded entry who message s = obeyed_where (command_of message) entry who s
+abbrev pub message_outcome : CustomerEntry → List ℕ × List ℕ → List ℕ → CustomerSpool → CommandOutcome
+message_outcome entry who message s = obeyed_where (command_of message) entry who s
 
 -- ---- the streams
 
 abbrev pub aborted_where : Bool → Sender → Sender
-aborted_where true sender = aborted sender
+aborted_where true sender = after_abort sender
 aborted_where false sender = sender
 
 abbrev pub is_about : ℕ → Option ℕ → Bool

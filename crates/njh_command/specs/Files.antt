@@ -18,8 +18,8 @@ file_at index s = slice_index_or s.whole index no_file
 abbrev pub with_file : ℕ → WholeFile → CustomerSpool → CustomerSpool
 with_file index f s = record s { whole = slice_set s.whole index f }
 
-abbrev pub without : ℕ → CustomerSpool → CustomerSpool
-without index s = record s { whole = remove s.whole index }
+abbrev pub without_at : ℕ → CustomerSpool → CustomerSpool
+without_at index s = record s { whole = remove s.whole index }
 
 abbrev pub with_records : List Stored → WholeFile → WholeFile
 with_records records f = record f { records = records }
@@ -30,10 +30,10 @@ with_records records f = record f { records = records }
 abbrev pub no_record : Stored
 no_record = record { srcb = 0; bytes = [] }
 
-abbrev pub record_at : ℕ → List Stored → Stored
-record_at n records = slice_index_or records n no_record
+abbrev pub stored_at : ℕ → List Stored → Stored
+stored_at n records = slice_index_or records n no_record
 
 -- the n-th record with another destination node, where it names one, by the SRCB of the record before it
 abbrev pub with_redirected : Kind → Option ℕ → List ℕ → ℕ → List Stored → List Stored
 with_redirected kind before node n records =
-    slice_set records n (redirected_record node (destination_place kind before (record_at n records)) (record_at n records))
+    slice_set records n (redirected_record node (destination_place kind before (stored_at n records)) (stored_at n records))

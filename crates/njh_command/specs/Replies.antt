@@ -1,7 +1,7 @@
 -- What the hub replies to a command, a definition a reply. NJH020 and NJH022 stand in njh_header, since notices say
 -- them too.
 use Rattle.std.specs.Prelude.{ℕ, List, [], ◌∷◌, ◌++◌, length, Option, Some, None, codes}
-use Rattle.njh_ebcdic.specs.Names.{digits, ebcdic, trimmed}
+use Rattle.njh_ebcdic.specs.Names.{digits, ebcdic, without_end_blanks}
 use Rattle.njh_record.specs.declared.Kind.{Kind}
 use Rattle.njh_record.specs.declared.Kind.TheVariants.{In, Out}
 use Rattle.njh_spool.specs.declared.State.{State}
@@ -24,7 +24,7 @@ user_text (b ∷ bytes) = 0x40 ∷ b ∷ bytes
 -- METZ PAUL
 abbrev pub destination_text : Option (List ℕ × List ℕ) → List ℕ
 destination_text None = []
-destination_text (Some place) = trimmed place.0 ++ user_text (trimmed place.1)
+destination_text (Some place) = without_end_blanks place.0 ++ user_text (without_end_blanks place.1)
 
 abbrev pub kind_text : Kind → List ℕ
 kind_text In = ebcdic (codes "IN")
@@ -48,32 +48,32 @@ file_text name destination kind records state =
     ++ ebcdic (codes " RECORDS ") ++ state_text state
 
 -- NJH001 LYON.42 TO METZ PAUL OUT 4 RECORDS READY
-abbrev pub line_of : Option (List ℕ × ℕ) → Option (List ℕ × List ℕ) → Kind → ℕ → State → List ℕ
-line_of name destination kind records state = ebcdic (codes "NJH001 ") ++ file_text name destination kind records state
+abbrev pub listing_line : Option (List ℕ × ℕ) → Option (List ℕ × List ℕ) → Kind → ℕ → State → List ℕ
+listing_line name destination kind records state = ebcdic (codes "NJH001 ") ++ file_text name destination kind records state
 
 abbrev pub file_line : WholeFile → List ℕ
-file_line f = line_of (name_of f.records) (destination_of f.kind f.records) f.kind (length f.records) f.state
+file_line f = listing_line (name_of f.records) (destination_of f.kind f.records) f.kind (length f.records) f.state
 
 -- NJH002 2 FILES
 abbrev pub files_line : ℕ → List ℕ
 files_line n = ebcdic (codes "NJH002 ") ++ digits n ++ ebcdic (codes " FILES")
 
 -- NJH003 LYON.42 HELD 1
-abbrev pub held : List ℕ × ℕ → ℕ → List ℕ
-held name n = ebcdic (codes "NJH003 ") ++ file_name name ++ ebcdic (codes " HELD ") ++ digits n
+abbrev pub held_text : List ℕ × ℕ → ℕ → List ℕ
+held_text name n = ebcdic (codes "NJH003 ") ++ file_name name ++ ebcdic (codes " HELD ") ++ digits n
 
 -- NJH004 LYON.42 RELEASED 1
-abbrev pub released : List ℕ × ℕ → ℕ → List ℕ
-released name n = ebcdic (codes "NJH004 ") ++ file_name name ++ ebcdic (codes " RELEASED ") ++ digits n
+abbrev pub released_text : List ℕ × ℕ → ℕ → List ℕ
+released_text name n = ebcdic (codes "NJH004 ") ++ file_name name ++ ebcdic (codes " RELEASED ") ++ digits n
 
 -- NJH005 LYON.42 CANCELLED 1
-abbrev pub cancelled : List ℕ × ℕ → ℕ → List ℕ
-cancelled name n = ebcdic (codes "NJH005 ") ++ file_name name ++ ebcdic (codes " CANCELLED ") ++ digits n
+abbrev pub cancelled_text : List ℕ × ℕ → ℕ → List ℕ
+cancelled_text name n = ebcdic (codes "NJH005 ") ++ file_name name ++ ebcdic (codes " CANCELLED ") ++ digits n
 
 -- NJH006 LYON.42 REROUTED TO METZ 1
 abbrev pub rerouted_to : List ℕ × ℕ → List ℕ → ℕ → List ℕ
 rerouted_to name node n =
-    ebcdic (codes "NJH006 ") ++ file_name name ++ ebcdic (codes " REROUTED TO ") ++ trimmed node ++ ebcdic (codes " ") ++ digits n
+    ebcdic (codes "NJH006 ") ++ file_name name ++ ebcdic (codes " REROUTED TO ") ++ without_end_blanks node ++ ebcdic (codes " ") ++ digits n
 
 -- NJH010 LYON.42 NOT FOUND
 abbrev pub not_found : List ℕ × ℕ → List ℕ
@@ -84,5 +84,5 @@ abbrev pub bad_command : List ℕ
 bad_command = ebcdic (codes "NJH011 BAD COMMAND")
 
 -- NJH012 LYON.42 IS BEING SENT
-abbrev pub being_sent : List ℕ × ℕ → List ℕ
-being_sent name = ebcdic (codes "NJH012 ") ++ file_name name ++ ebcdic (codes " IS BEING SENT")
+abbrev pub being_sent_text : List ℕ × ℕ → List ℕ
+being_sent_text name = ebcdic (codes "NJH012 ") ++ file_name name ++ ebcdic (codes " IS BEING SENT")

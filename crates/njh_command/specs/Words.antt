@@ -25,12 +25,12 @@ abbrev pub words : List ℕ → List (List ℕ)
 words message = filter is_word (slice_split is_blank (map upper message))
 
 -- 1 to 5 digits of value at most 65,535
-abbrev pub is_number : List ℕ → Bool
-is_number word =
+abbrev pub is_decimal_word : List ℕ → Bool
+is_decimal_word word =
     is_word word && (nat_le (length word) 5 && (list_all (within 0xf0 0xf9) word && nat_le (decimal_value word) 65535))
 
 abbrev pub number_in : List ℕ → Option ℕ
-number_in word = cond (is_number word) (Some (decimal_value word)) None
+number_in word = cond (is_decimal_word word) (Some (decimal_value word)) None
 
 -- the node of 1 to 8 characters that a word is
 abbrev pub node_in : List ℕ → Option (List ℕ)

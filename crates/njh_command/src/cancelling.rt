@@ -1,9 +1,9 @@
 //! CANCEL: files leave the spool, those too that are being sent.
 
 ghost use Rattle.std.specs.Prelude.{◌≡◌, ◌<◌, fold, length, slice_set};
-ghost use Rattle.njh_spool.specs.Spools.{part};
+ghost use Rattle.njh_spool.specs.Spools.{spool_at};
 ghost use Rattle.njh_command.specs.code.Changes.{numbers_where, without_where};
-ghost use Rattle.njh_command.specs.Commands.{cancelling, chosen, count, is_busy, without_file};
+ghost use Rattle.njh_command.specs.Commands.{cancelling, is_of_name, count, is_busy, without_file};
 ghost use Rattle.njh_command.specs.Files.{file_at};
 
 use crate::changing::{Standing, judge};
@@ -23,11 +23,11 @@ pub(crate) fn cancel_files<S: Senders>(
     replies: &mut Replies,
 )
     requires { customer < length spool.old }
-    ensures replies { replies.new ≡ (cancelling (chosen choice.now.who choice.now.name) choice.now.name (part customer spool.old)).replies }
+    ensures replies { replies.new ≡ (cancelling (is_of_name choice.now.who choice.now.name) choice.now.name (spool_at customer spool.old)).replies }
     ensures spool { spool.new ≡ slice_set spool.old customer
-        (cancelling (chosen choice.now.who choice.now.name) choice.now.name (part customer spool.old)).spool }
+        (cancelling (is_of_name choice.now.who choice.now.name) choice.now.name (spool_at customer spool.old)).spool }
     ensures senders { senders.new ≡ fold (λ x n. S.each x (without_file n)) senders.old
-        (cancelling (chosen choice.now.who choice.now.name) choice.now.name (part customer spool.old)).cancelled }
+        (cancelling (is_of_name choice.now.who choice.now.name) choice.now.name (spool_at customer spool.old)).cancelled }
 {
     match cancel_each(choice, spool, customer, senders) {
         0 => replies.put_one(not_found(choice.name)),
@@ -43,11 +43,11 @@ fn cancel_each<S: Senders>(
     senders: &mut S,
 ) -> u32
     requires { customer < length spool.old }
-    ensures count { result ≡ count (chosen choice.now.who choice.now.name) (part customer spool.old) }
+    ensures count { result ≡ count (is_of_name choice.now.who choice.now.name) (spool_at customer spool.old) }
     ensures spool { spool.new ≡ slice_set spool.old customer
-        (cancelling (chosen choice.now.who choice.now.name) choice.now.name (part customer spool.old)).spool }
+        (cancelling (is_of_name choice.now.who choice.now.name) choice.now.name (spool_at customer spool.old)).spool }
     ensures senders { senders.new ≡ fold (λ x n. S.each x (without_file n)) senders.old
-        (cancelling (chosen choice.now.who choice.now.name) choice.now.name (part customer spool.old)).cancelled }
+        (cancelling (is_of_name choice.now.who choice.now.name) choice.now.name (spool_at customer spool.old)).cancelled }
 {
     // A file that is removed leaves its place to the one behind it.
     let mut index = 0;
@@ -71,13 +71,13 @@ fn cancel_at<S: Senders>(
     senders: &mut S,
 ) -> bool
     requires range { customer < length spool.old }
-    requires within { index < length (part customer spool.old).whole }
-    ensures removed { result ≡ chosen choice.now.who choice.now.name (file_at index (part customer spool.old)) }
+    requires within { index < length (spool_at customer spool.old).whole }
+    ensures removed { result ≡ is_of_name choice.now.who choice.now.name (file_at index (spool_at customer spool.old)) }
     ensures spool { spool.new ≡ slice_set spool.old customer
-        (without_where (chosen choice.now.who choice.now.name (file_at index (part customer spool.old))) index (part customer spool.old)) }
+        (without_where (is_of_name choice.now.who choice.now.name (file_at index (spool_at customer spool.old))) index (spool_at customer spool.old)) }
     ensures senders { senders.new ≡ fold (λ x n. S.each x (without_file n)) senders.old
-        (numbers_where (is_busy (chosen choice.now.who choice.now.name) (file_at index (part customer spool.old)))
-        (file_at index (part customer spool.old))) }
+        (numbers_where (is_busy (is_of_name choice.now.who choice.now.name) (file_at index (spool_at customer spool.old)))
+        (file_at index (spool_at customer spool.old))) }
 {
     match judge(choice, spool, customer, index) {
         Standing::Other => false,

@@ -1,9 +1,9 @@
 //! HOLD, RELEASE and REROUTE: what changes the files that aren't being sent.
 
 ghost use Rattle.std.specs.Prelude.{◌≡◌, ◌<◌, length, slice_set};
-ghost use Rattle.njh_spool.specs.Spools.{part};
-ghost use Rattle.njh_command.specs.code.Changes.{change_by, standing_of, text_of};
-ghost use Rattle.njh_command.specs.Commands.{change_replies, changed, changed_file, chosen, count, is_busy, is_idle};
+ghost use Rattle.njh_spool.specs.Spools.{spool_at};
+ghost use Rattle.njh_command.specs.code.Changes.{change_by, standing_of, change_text};
+ghost use Rattle.njh_command.specs.Commands.{change_replies, with_changes, changed_file, is_of_name, count, is_busy, may_change};
 ghost use Rattle.njh_command.specs.Files.{file_at, with_file};
 
 use crate::choice::{Choice, is_chosen};
@@ -53,11 +53,11 @@ pub(crate) fn change_files(
     replies: &mut Replies,
 )
     requires { customer < length spool.old }
-    ensures replies { replies.new ≡ change_replies (text_of change.now choice.now.name) choice.now.name
-        (count (is_idle (chosen choice.now.who choice.now.name)) (part customer spool.old))
-        (count (is_busy (chosen choice.now.who choice.now.name)) (part customer spool.old)) }
+    ensures replies { replies.new ≡ change_replies (change_text change.now choice.now.name) choice.now.name
+        (count (may_change (is_of_name choice.now.who choice.now.name)) (spool_at customer spool.old))
+        (count (is_busy (is_of_name choice.now.who choice.now.name)) (spool_at customer spool.old)) }
     ensures spool { spool.new ≡ slice_set spool.old customer
-        (changed (chosen choice.now.who choice.now.name) (change_by change.now) (part customer spool.old)) }
+        (with_changes (is_of_name choice.now.who choice.now.name) (change_by change.now) (spool_at customer spool.old)) }
 {
     let counts = change_each(change, choice, spool, customer);
     reply_to(change, choice.name, counts, replies);
@@ -65,7 +65,7 @@ pub(crate) fn change_files(
 
 /// What is said where so many files were changed and left.
 fn reply_to(change: &Change, name: FileName, counts: Counts, replies: &mut Replies)
-    ensures { replies.new ≡ change_replies (text_of change.now name) name counts.idle counts.busy }
+    ensures { replies.new ≡ change_replies (change_text change.now name) name counts.idle counts.busy }
 {
     match (counts.idle, counts.busy) {
         (0, 0) => replies.put_one(not_found(name)),
@@ -77,7 +77,7 @@ fn reply_to(change: &Change, name: FileName, counts: Counts, replies: &mut Repli
 
 /// What is said of so many files that were changed.
 fn done(change: &Change, name: FileName, count: u32) -> MessageText
-    ensures { result.items ≡ text_of change.now name count }
+    ensures { result.items ≡ change_text change.now name count }
 {
     match change {
         Change::Hold => held(name, count),
@@ -89,10 +89,10 @@ fn done(change: &Change, name: FileName, count: u32) -> MessageText
 /// Changes the files in order.
 fn change_each(change: &Change, choice: &Choice, spool: &mut Spool, customer: u16) -> Counts
     requires { customer < length spool.old }
-    ensures idle { result.idle ≡ count (is_idle (chosen choice.now.who choice.now.name)) (part customer spool.old) }
-    ensures busy { result.busy ≡ count (is_busy (chosen choice.now.who choice.now.name)) (part customer spool.old) }
+    ensures idle { result.idle ≡ count (may_change (is_of_name choice.now.who choice.now.name)) (spool_at customer spool.old) }
+    ensures busy { result.busy ≡ count (is_busy (is_of_name choice.now.who choice.now.name)) (spool_at customer spool.old) }
     ensures spool { spool.new ≡ slice_set spool.old customer
-        (changed (chosen choice.now.who choice.now.name) (change_by change.now) (part customer spool.old)) }
+        (with_changes (is_of_name choice.now.who choice.now.name) (change_by change.now) (spool_at customer spool.old)) }
 {
     let mut idle = 0;
     let mut busy = 0;
@@ -115,11 +115,11 @@ fn change_at(
     index: u32,
 ) -> Standing
     requires range { customer < length spool.old }
-    requires within { index < length (part customer spool.old).whole }
-    ensures standing { result ≡ standing_of (chosen choice.now.who choice.now.name) (file_at index (part customer spool.old)) }
+    requires within { index < length (spool_at customer spool.old).whole }
+    ensures standing { result ≡ standing_of (is_of_name choice.now.who choice.now.name) (file_at index (spool_at customer spool.old)) }
     ensures spool { spool.new ≡ slice_set spool.old customer (with_file index
-        (changed_file (chosen choice.now.who choice.now.name) (change_by change.now) (file_at index (part customer spool.old)))
-        (part customer spool.old)) }
+        (changed_file (is_of_name choice.now.who choice.now.name) (change_by change.now) (file_at index (spool_at customer spool.old)))
+        (spool_at customer spool.old)) }
 {
     let standing = judge(choice, spool, customer, index);
     match standing {
@@ -132,8 +132,8 @@ fn change_at(
 /// What the file at a place is to a change.
 pub(crate) fn judge(choice: &Choice, spool: &Spool, customer: u16, index: u32) -> Standing
     requires range { customer < length spool.now }
-    requires within { index < length (part customer spool.now).whole }
-    ensures { result ≡ standing_of (chosen choice.now.who choice.now.name) (file_at index (part customer spool.now)) }
+    requires within { index < length (spool_at customer spool.now).whole }
+    ensures { result ≡ standing_of (is_of_name choice.now.who choice.now.name) (file_at index (spool_at customer spool.now)) }
 {
     if !is_chosen(choice, spool, customer, index) {
         return Standing::Other;
@@ -147,9 +147,9 @@ pub(crate) fn judge(choice: &Choice, spool: &Spool, customer: u16, index: u32) -
 /// Changes the file at a place.
 fn change_one(change: &Change, spool: &mut Spool, customer: u16, index: u32)
     requires range { customer < length spool.old }
-    requires within { index < length (part customer spool.old).whole }
+    requires within { index < length (spool_at customer spool.old).whole }
     ensures { spool.new ≡ slice_set spool.old customer
-        (with_file index (change_by change.now (file_at index (part customer spool.old))) (part customer spool.old)) }
+        (with_file index (change_by change.now (file_at index (spool_at customer spool.old))) (spool_at customer spool.old)) }
 {
     match change {
         Change::Hold => set_state(spool, customer, index, State::Held),

@@ -1,8 +1,8 @@
 //! Which files a command is for.
 
 ghost use Rattle.std.specs.Prelude.{◌≡◌, ◌<◌, length};
-ghost use Rattle.njh_spool.specs.Spools.{part};
-ghost use Rattle.njh_command.specs.Commands.{chosen, is_called, is_owner};
+ghost use Rattle.njh_spool.specs.Spools.{spool_at};
+ghost use Rattle.njh_command.specs.Commands.{is_of_name, is_called, is_owner};
 ghost use Rattle.njh_command.specs.Files.{file_at};
 
 use crate::files::summary_of;
@@ -21,8 +21,8 @@ pub(crate) struct Choice {
 /// Whether the file at a place is one of them, by what its headers say.
 pub(crate) fn is_chosen(choice: &Choice, spool: &Spool, customer: u16, index: u32) -> bool
     requires range { customer < length spool.now }
-    requires within { index < length (part customer spool.now).whole }
-    ensures { result ≡ chosen choice.now.who choice.now.name (file_at index (part customer spool.now)) }
+    requires within { index < length (spool_at customer spool.now).whole }
+    ensures { result ≡ is_of_name choice.now.who choice.now.name (file_at index (spool_at customer spool.now)) }
 {
     let headers = summary_of(spool, customer, index).headers;
     is_called(choice.name, &headers) && is_owner(choice.who, &headers)

@@ -5,12 +5,12 @@
 ghost use Rattle.std.specs.Prelude.{◌≡◌, ◌+◌, ◌<◌, ◌≤◌, ℕ, length, slice_set, slice_get, slice_index_or, Some};
 ghost use Rattle.std.specs.Prelude.{IsSomeAnd};
 ghost use Rattle.njh_record.specs.Bytes.{with_field};
-ghost use Rattle.njh_spool.specs.CustomerSpool.{WholeFile, whole_numbered, on_file, removed, at_index};
+ghost use Rattle.njh_spool.specs.CustomerSpool.{WholeFile, whole_numbered, on_file, without_whole, at_index};
 ghost use Rattle.njh_spool.specs.CustomerSpool.{rewritten_record};
 ghost use Rattle.njh_spool.specs.Headers.{summary};
-ghost use Rattle.njh_spool.specs.Spools.{part};
+ghost use Rattle.njh_spool.specs.Spools.{spool_at};
 ghost use Rattle.njh_command.specs.Commands as commands;
-ghost use Rattle.njh_command.specs.Files.{file_at, with_file, with_records, without};
+ghost use Rattle.njh_command.specs.Files.{file_at, with_file, with_records, without_at};
 
 use njh_record::{Kind, Record};
 use njh_spool::{FileId, FileSummary, Spool, State};
@@ -18,12 +18,12 @@ use njh_spool::{FileId, FileSummary, Spool, State};
 /// The number of the file at a place, which is no other file's.
 pub fn number_of(spool: &Spool, customer: u16, index: u32) -> FileId
     requires range { customer < length spool.now }
-    requires within { index < length (part customer spool.now).whole }
-    ensures number { result ≡ (file_at index (part customer spool.now)).number }
-    ensures found { whole_numbered result (part customer spool.now) ≡ Some (file_at index (part customer spool.now)) }
-    ensures alone { (f : WholeFile → WholeFile) → on_file result f (part customer spool.now)
-        ≡ with_file index (f (file_at index (part customer spool.now))) (part customer spool.now) }
-    ensures removed { removed result (part customer spool.now) ≡ without index (part customer spool.now) }
+    requires within { index < length (spool_at customer spool.now).whole }
+    ensures number { result ≡ (file_at index (spool_at customer spool.now)).number }
+    ensures found { whole_numbered result (spool_at customer spool.now) ≡ Some (file_at index (spool_at customer spool.now)) }
+    ensures alone { (f : WholeFile → WholeFile) → on_file result f (spool_at customer spool.now)
+        ≡ with_file index (f (file_at index (spool_at customer spool.now))) (spool_at customer spool.now) }
+    ensures removed { without_whole result (spool_at customer spool.now) ≡ without_at index (spool_at customer spool.now) }
 {
     spool.quota_holds(customer);
     spool.file_at(customer, index)
@@ -31,8 +31,8 @@ pub fn number_of(spool: &Spool, customer: u16, index: u32) -> FileId
 
 pub(crate) fn kind_of(spool: &Spool, customer: u16, index: u32) -> Kind
     requires range { customer < length spool.now }
-    requires within { index < length (part customer spool.now).whole }
-    ensures { result ≡ (file_at index (part customer spool.now)).kind }
+    requires within { index < length (spool_at customer spool.now).whole }
+    ensures { result ≡ (file_at index (spool_at customer spool.now)).kind }
 {
     let file = number_of(spool, customer, index);
     spool.kind(customer, file).unwrap_or(Kind::In)
@@ -40,8 +40,8 @@ pub(crate) fn kind_of(spool: &Spool, customer: u16, index: u32) -> Kind
 
 pub(crate) fn state_of(spool: &Spool, customer: u16, index: u32) -> State
     requires range { customer < length spool.now }
-    requires within { index < length (part customer spool.now).whole }
-    ensures { result ≡ (file_at index (part customer spool.now)).state }
+    requires within { index < length (spool_at customer spool.now).whole }
+    ensures { result ≡ (file_at index (spool_at customer spool.now)).state }
 {
     let file = number_of(spool, customer, index);
     spool.state(customer, file).unwrap_or(State::Ready)
@@ -50,8 +50,8 @@ pub(crate) fn state_of(spool: &Spool, customer: u16, index: u32) -> State
 /// How many records the file has.
 pub(crate) fn count_records(spool: &Spool, customer: u16, index: u32) -> u32
     requires range { customer < length spool.now }
-    requires within { index < length (part customer spool.now).whole }
-    ensures { result ≡ length (file_at index (part customer spool.now)).records }
+    requires within { index < length (spool_at customer spool.now).whole }
+    ensures { result ≡ length (file_at index (spool_at customer spool.now)).records }
 {
     let file = number_of(spool, customer, index);
     spool.records(customer, file).unwrap_or(0)
@@ -60,8 +60,8 @@ pub(crate) fn count_records(spool: &Spool, customer: u16, index: u32) -> u32
 /// What is known of the file without a look at its records.
 pub(crate) fn summary_of(spool: &Spool, customer: u16, index: u32) -> FileSummary
     requires range { customer < length spool.now }
-    requires within { index < length (part customer spool.now).whole }
-    ensures { result ≡ summary (file_at index (part customer spool.now)) }
+    requires within { index < length (spool_at customer spool.now).whole }
+    ensures { result ≡ summary (file_at index (spool_at customer spool.now)) }
 {
     spool.summary_at(customer, index)
 }
@@ -76,9 +76,9 @@ pub(crate) fn read_record(
     into: &mut Record,
 ) -> u8
     requires range { customer < length spool.old }
-    requires within { index < length (part customer spool.old).whole }
-    requires known { n < length (file_at index (part customer spool.old)).records }
-    ensures record { slice_get (file_at index (part customer spool.old)).records n
+    requires within { index < length (spool_at customer spool.old).whole }
+    requires known { n < length (file_at index (spool_at customer spool.old)).records }
+    ensures record { slice_get (file_at index (spool_at customer spool.old)).records n
         ≡ Some (record { srcb = result; bytes = into.new.items }) }
     ensures same { spool.new ≡ spool.old }
 {
@@ -96,11 +96,11 @@ pub(crate) fn rewrite_record(
     bytes: [u8; 8],
 )
     requires range { customer < length spool.old }
-    requires within { index < length (part customer spool.old).whole }
-    requires field { IsSomeAnd (slice_get (file_at index (part customer spool.old)).records n) (λ r. place + 8 ≤ length r.bytes) }
+    requires within { index < length (spool_at customer spool.old).whole }
+    requires field { IsSomeAnd (slice_get (file_at index (spool_at customer spool.old)).records n) (λ r. place + 8 ≤ length r.bytes) }
     ensures { spool.new ≡ slice_set spool.old customer (with_file index
-        (with_records (at_index n (rewritten_record place bytes) (file_at index (part customer spool.old)).records)
-        (file_at index (part customer spool.old))) (part customer spool.old)) }
+        (with_records (at_index n (rewritten_record place bytes) (file_at index (spool_at customer spool.old)).records)
+        (file_at index (spool_at customer spool.old))) (spool_at customer spool.old)) }
 {
     let file = number_of(spool, customer, index);
     spool.rewrite(customer, file, n, place, bytes).ok();
@@ -108,9 +108,9 @@ pub(crate) fn rewrite_record(
 
 pub(crate) fn set_state(spool: &mut Spool, customer: u16, index: u32, state: State)
     requires range { customer < length spool.old }
-    requires within { index < length (part customer spool.old).whole }
+    requires within { index < length (spool_at customer spool.old).whole }
     ensures { spool.new ≡ slice_set spool.old customer
-        (with_file index (commands.with_state state (file_at index (part customer spool.old))) (part customer spool.old)) }
+        (with_file index (commands.file_in_state state (file_at index (spool_at customer spool.old))) (spool_at customer spool.old)) }
 {
     let file = number_of(spool, customer, index);
     spool.set_state(customer, file, state).ok();
@@ -119,9 +119,9 @@ pub(crate) fn set_state(spool: &mut Spool, customer: u16, index: u32, state: Sta
 /// Removes the file, and gives the number that it had.
 pub(crate) fn remove(spool: &mut Spool, customer: u16, index: u32) -> FileId
     requires range { customer < length spool.old }
-    requires within { index < length (part customer spool.old).whole }
-    ensures number { result ≡ (file_at index (part customer spool.old)).number }
-    ensures spool { spool.new ≡ slice_set spool.old customer (without index (part customer spool.old)) }
+    requires within { index < length (spool_at customer spool.old).whole }
+    ensures number { result ≡ (file_at index (spool_at customer spool.old)).number }
+    ensures spool { spool.new ≡ slice_set spool.old customer (without_at index (spool_at customer spool.old)) }
 {
     let file = number_of(spool, customer, index);
     spool.remove(customer, file).ok();

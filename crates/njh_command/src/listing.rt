@@ -1,8 +1,8 @@
 //! LIST.
 
 ghost use Rattle.std.specs.Prelude.{◌≡◌, ◌<◌, ◌++◌, ◌∷◌, [], cond, length};
-ghost use Rattle.njh_spool.specs.Spools.{part};
-ghost use Rattle.njh_command.specs.Commands.{kept, listing, owned};
+ghost use Rattle.njh_spool.specs.Spools.{spool_at};
+ghost use Rattle.njh_command.specs.Commands.{first_replies, listing, is_owned};
 ghost use Rattle.njh_command.specs.Files.{file_at};
 ghost use Rattle.njh_command.specs.Replies.{file_line};
 
@@ -16,7 +16,7 @@ use njh_spool::Spool;
 /// Tells of each of a user's files, and then of how many they are.
 pub(crate) fn list_files(who: User, spool: &Spool, customer: u16, replies: &mut Replies)
     requires { customer < length spool.now }
-    ensures { replies.new ≡ kept (listing who (part customer spool.now)) }
+    ensures { replies.new ≡ first_replies (listing who (spool_at customer spool.now)) }
 {
     replies.clear();
     let mut count = 0;
@@ -31,10 +31,10 @@ pub(crate) fn list_files(who: User, spool: &Spool, customer: u16, replies: &mut 
 /// Tells of the file at a place, where it is the user's own, and says whether it is.
 fn list_file(who: User, spool: &Spool, customer: u16, index: u32, replies: &mut Replies) -> bool
     requires range { customer < length spool.now }
-    requires within { index < length (part customer spool.now).whole }
-    ensures own { result ≡ owned who (file_at index (part customer spool.now)) }
-    ensures replies { replies.new ≡ cond (owned who (file_at index (part customer spool.now)))
-        (kept (replies.old ++ file_line (file_at index (part customer spool.now)) ∷ [])) replies.old }
+    requires within { index < length (spool_at customer spool.now).whole }
+    ensures own { result ≡ is_owned who (file_at index (spool_at customer spool.now)) }
+    ensures replies { replies.new ≡ cond (is_owned who (file_at index (spool_at customer spool.now)))
+        (first_replies (replies.old ++ file_line (file_at index (spool_at customer spool.now)) ∷ [])) replies.old }
 {
     let file = summary_of(spool, customer, index);
     let is_own = is_owner(who, &file.headers);

@@ -1,8 +1,8 @@
 //! What is said to the sender of a command.
 
 ghost use Rattle.std.specs.Prelude.{◌≡◌, ◌+◌, ◌<◌, ◌≤◌, ◌∷◌, ◌++◌, [], length, map, take};
-ghost use Rattle.njh_command.specs.Commands.{kept};
-ghost use Rattle.njh_command.specs.Replies.{line_of};
+ghost use Rattle.njh_command.specs.Commands.{first_replies};
+ghost use Rattle.njh_command.specs.Replies.{listing_line};
 
 use crate::texts::put_file_line;
 use arrayvec::ArrayVec;
@@ -71,7 +71,7 @@ impl Replies {
 
     /// One reply more, where there is room.
     pub(crate) fn add(&mut self, text: MessageText)
-        ensures { self.new ≡ kept (self.old ++ text.items ∷ []) }
+        ensures { self.new ≡ first_replies (self.old ++ text.items ∷ []) }
     {
         if self.count < MOST_REPLIES {
             put_at(&mut self.texts, self.count, text);
@@ -81,7 +81,7 @@ impl Replies {
 
     /// One reply more, that tells of a file, where there is room. Its text is written in its place.
     pub(crate) fn add_file(&mut self, file: &FileSummary)
-        ensures { self.new ≡ kept (self.old ++ line_of file.now.headers.name file.now.headers.destination file.now.kind
+        ensures { self.new ≡ first_replies (self.old ++ listing_line file.now.headers.name file.now.headers.destination file.now.kind
             file.now.records file.now.state ∷ []) }
     {
         if self.count < MOST_REPLIES {
@@ -120,7 +120,7 @@ fn put_file_at(texts: &mut ArrayVec<MessageText, MOST_REPLIES>, count: usize, fi
     requires within { count ≤ length texts.old.items }
     requires room { count < 64 }
     ensures front { map (λ t. t.items) (take (count + 1) texts.new.items)
-        ≡ map (λ t. t.items) (take count texts.old.items) ++ line_of file.now.headers.name file.now.headers.destination file.now.kind
+        ≡ map (λ t. t.items) (take count texts.old.items) ++ listing_line file.now.headers.name file.now.headers.destination file.now.kind
         file.now.records file.now.state ∷ [] }
     ensures more { count + 1 ≤ length texts.new.items }
     ensures most { length texts.new.items ≤ 64 }

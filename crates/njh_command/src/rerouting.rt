@@ -1,10 +1,10 @@
 //! Another destination node for a file.
 
 ghost use Rattle.std.specs.Prelude.{◌≡◌, ◌<◌, length, slice_set, None};
-ghost use Rattle.njh_spool.specs.Spools.{part};
-ghost use Rattle.njh_header.specs.Redirecting.{redirected};
-ghost use Rattle.njh_command.specs.Commands.{rerouted, state_after_reroute, with_state};
-ghost use Rattle.njh_command.specs.Files.{file_at, record_at, with_file, with_records, with_redirected};
+ghost use Rattle.njh_spool.specs.Spools.{spool_at};
+ghost use Rattle.njh_header.specs.Redirecting.{records_to_node};
+ghost use Rattle.njh_command.specs.Commands.{with_new_destination, state_after_reroute, file_in_state};
+ghost use Rattle.njh_command.specs.Files.{file_at, stored_at, with_file, with_records, with_redirected};
 
 use crate::files::{count_records, kind_of, read_record, rewrite_record, set_state, state_of};
 use njh_ebcdic::Name;
@@ -15,9 +15,9 @@ use njh_spool::{Spool, State};
 /// The file at a place goes to another node: its headers say so, and it is Ready where it was Refused.
 pub(crate) fn reroute(node: Name, spool: &mut Spool, customer: u16, index: u32)
     requires range { customer < length spool.old }
-    requires within { index < length (part customer spool.old).whole }
+    requires within { index < length (spool_at customer spool.old).whole }
     ensures { spool.new ≡ slice_set spool.old customer
-        (with_file index (rerouted node (file_at index (part customer spool.old))) (part customer spool.old)) }
+        (with_file index (with_new_destination node (file_at index (spool_at customer spool.old))) (spool_at customer spool.old)) }
 {
     redirect(node, spool, customer, index);
     redirected_by_records();
@@ -27,11 +27,11 @@ pub(crate) fn reroute(node: Name, spool: &mut Spool, customer: u16, index: u32)
 /// The headers of the file at a place name another node. Each of its records is read once, in order.
 fn redirect(node: Name, spool: &mut Spool, customer: u16, index: u32)
     requires range { customer < length spool.old }
-    requires within { index < length (part customer spool.old).whole }
+    requires within { index < length (spool_at customer spool.old).whole }
     ensures { spool.new ≡ slice_set spool.old customer (with_file index
-        (with_records (redirected (file_at index (part customer spool.old)).kind node None
-        (file_at index (part customer spool.old)).records)
-        (file_at index (part customer spool.old))) (part customer spool.old)) }
+        (with_records (records_to_node (file_at index (spool_at customer spool.old)).kind node None
+        (file_at index (spool_at customer spool.old)).records)
+        (file_at index (spool_at customer spool.old))) (spool_at customer spool.old)) }
 {
     let kind = kind_of(spool, customer, index);
     let mut before = None;
@@ -51,12 +51,12 @@ fn redirect_record(
     n: u32,
 ) -> u8
     requires range { customer < length spool.old }
-    requires within { index < length (part customer spool.old).whole }
-    requires known { n < length (file_at index (part customer spool.old)).records }
-    ensures srcb { result ≡ (record_at n (file_at index (part customer spool.old)).records).srcb }
+    requires within { index < length (spool_at customer spool.old).whole }
+    requires known { n < length (file_at index (spool_at customer spool.old)).records }
+    ensures srcb { result ≡ (stored_at n (file_at index (spool_at customer spool.old)).records).srcb }
     ensures spool { spool.new ≡ slice_set spool.old customer (with_file index
-        (with_records (with_redirected kind before node n (file_at index (part customer spool.old)).records)
-        (file_at index (part customer spool.old))) (part customer spool.old)) }
+        (with_records (with_redirected kind before node n (file_at index (spool_at customer spool.old)).records)
+        (file_at index (spool_at customer spool.old))) (spool_at customer spool.old)) }
 {
     let mut record = Record::new();
     let srcb = read_record(spool, customer, index, n, &mut record);
@@ -69,10 +69,10 @@ fn redirect_record(
 /// The file at a place is Ready where it was Refused.
 fn try_again(spool: &mut Spool, customer: u16, index: u32)
     requires range { customer < length spool.old }
-    requires within { index < length (part customer spool.old).whole }
+    requires within { index < length (spool_at customer spool.old).whole }
     ensures { spool.new ≡ slice_set spool.old customer (with_file index
-        (with_state (state_after_reroute (file_at index (part customer spool.old)).state) (file_at index (part customer spool.old)))
-        (part customer spool.old)) }
+        (file_in_state (state_after_reroute (file_at index (spool_at customer spool.old)).state) (file_at index (spool_at customer spool.old)))
+        (spool_at customer spool.old)) }
 {
     match state_of(spool, customer, index) {
         State::Refused => set_state(spool, customer, index, State::Ready),

@@ -1,7 +1,7 @@
 //! The texts of the replies.
 
 ghost use Rattle.std.specs.Prelude.{◌≡◌, ◌+◌, ◌≤◌, ◌++◌, length};
-ghost use Rattle.njh_ebcdic.specs.Names.{trimmed};
+ghost use Rattle.njh_ebcdic.specs.Names.{without_end_blanks};
 ghost use Rattle.njh_command.specs.Replies as replies;
 
 use njh_ebcdic::{BLANK, FIELD, Name};
@@ -25,7 +25,7 @@ pub(crate) fn files_line(count: u32) -> MessageText
 
 /// NJH003: so many files of a name are held.
 pub(crate) fn held(name: FileName, count: u32) -> MessageText
-    ensures { result.items ≡ replies.held name count }
+    ensures { result.items ≡ replies.held_text name count }
 {
     let mut text = MessageText::new();
     push_ascii(&mut text, "NJH003 ");
@@ -37,7 +37,7 @@ pub(crate) fn held(name: FileName, count: u32) -> MessageText
 
 /// NJH004: so many files of a name are released.
 pub(crate) fn released(name: FileName, count: u32) -> MessageText
-    ensures { result.items ≡ replies.released name count }
+    ensures { result.items ≡ replies.released_text name count }
 {
     let mut text = MessageText::new();
     push_ascii(&mut text, "NJH004 ");
@@ -49,7 +49,7 @@ pub(crate) fn released(name: FileName, count: u32) -> MessageText
 
 /// NJH005: so many files of a name are cancelled.
 pub(crate) fn cancelled(name: FileName, count: u32) -> MessageText
-    ensures { result.items ≡ replies.cancelled name count }
+    ensures { result.items ≡ replies.cancelled_text name count }
 {
     let mut text = MessageText::new();
     push_ascii(&mut text, "NJH005 ");
@@ -95,7 +95,7 @@ pub(crate) fn bad_command() -> MessageText
 
 /// NJH012: a file of a name was left as it is, for it is being sent.
 pub(crate) fn being_sent(name: FileName) -> MessageText
-    ensures { result.items ≡ replies.being_sent name }
+    ensures { result.items ≡ replies.being_sent_text name }
 {
     let mut text = MessageText::new();
     push_ascii(&mut text, "NJH012 ");
@@ -106,7 +106,7 @@ pub(crate) fn being_sent(name: FileName) -> MessageText
 
 /// NJH001: a file by its name, destination, kind, number of records and state, in the place of what was there.
 pub(crate) fn put_file_line(text: &mut MessageText, file: &FileSummary)
-    ensures { text.new.items ≡ replies.line_of file.now.headers.name file.now.headers.destination file.now.kind file.now.records
+    ensures { text.new.items ≡ replies.listing_line file.now.headers.name file.now.headers.destination file.now.kind file.now.records
         file.now.state }
 {
     *text = MessageText::new();
@@ -190,7 +190,7 @@ fn push_destination(text: &mut MessageText, destination: Option<Destination>)
 /// Appends a blank and a user, where the user isn't blank.
 fn push_user(text: &mut MessageText, user: &[u8; 8])
     requires { length text.old.items + 9 ≤ LONGEST_MESSAGE }
-    ensures text { text.new.items ≡ text.old.items ++ replies.user_text (trimmed user.now) }
+    ensures text { text.new.items ≡ text.old.items ++ replies.user_text (without_end_blanks user.now) }
     ensures few { length text.new.items ≤ length text.old.items + 9 }
 {
     if *user != [BLANK; FIELD] {

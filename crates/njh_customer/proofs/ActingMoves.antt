@@ -10,7 +10,7 @@ use Rattle.njh_nmr.specs.declared.fault.NmrFault.{NmrFault}
 use Rattle.njh_nmr.specs.Nodal.{Nodal, nodal_of, is_user_command, cut_after_message}
 use Rattle.njh_record.specs.Stored.{Stored}
 use Rattle.njh_record.specs.declared.Kind.{Kind}
-use Rattle.njh_spool.specs.CustomerSpool.{CustomerSpool, PartialFile, WholeFile, abandoned, as_whole, partial_numbered, partial_records, has_file_room, has_block, has_room_for}
+use Rattle.njh_spool.specs.CustomerSpool.{CustomerSpool, PartialFile, WholeFile, without_partial, as_whole, partial_numbered, partial_records, has_file_room, has_block, has_room_for}
 use Rattle.njh_spool.specs.declared.State.TheVariants.{Ready}
 use Rattle.njh_table.specs.Entries.{CustomerEntry, route_of}
 use Rattle.njh_table.specs.declared.Route.{Route}
@@ -21,18 +21,18 @@ use Rattle.njh_stream.specs.declared.sender.Sender.{Sender}
 use Rattle.njh_stream.specs.declared.sender.Sender.TheVariants as sender
 use Rattle.njh_stream.specs.Arrivals.{answer_on}
 use Rattle.njh_stream.specs.Receiving as receiving
-use Rattle.njh_stream.specs.Receiving.{Arrival, received, requested, requested_where, closed_by, stored_by}
-use Rattle.njh_stream.specs.Sending.{file_in, granted, refused, completed}
+use Rattle.njh_stream.specs.Receiving.{Arrival, received_arrival, received_request, requested_where, closed_by, stored_by}
+use Rattle.njh_stream.specs.Sending.{file_in, after_grant, after_refusal, after_completion}
 use Rattle.njh_stream.specs.Transmissions.{Verdict, Taken, Cancelled, Fitting, is_whole, judged_coming}
 use Rattle.njh_command.specs.declared.command.Command.{Command}
 use Rattle.njh_command.specs.declared.command.Command.TheVariants as commands
 use Rattle.njh_command.specs.Words.{command_of}
-use Rattle.njh_command.specs.Commands.{Outcome, chosen, obeyed, obeyed_where, rerouting}
-use Rattle.njh_customer.specs.Customer.{Customer, CustomerLine, line_at, on_line, noted, receiver_at, with_receiver, sender_at}
-use Rattle.njh_customer.specs.Waiting.{answered, waits, said, notified}
-use Rattle.njh_customer.specs.Acting.{arrived, stream_came, with_sent, permitted, answer_came, refusal_of, request_came, peer_answered, given_up}
-use Rattle.njh_customer.specs.Acting.{with_outcome, command_came, unknown_told, message_routed, message_read, message_came, acted}
-use Rattle.njh_customer.specs.OutgoingFiles.{outgoing, streams_from_hub, stream_at}
+use Rattle.njh_command.specs.Commands.{CommandOutcome, is_of_name, command_outcome, obeyed_where, rerouting}
+use Rattle.njh_customer.specs.Customer.{Customer, CustomerLine, line_at, on_line, with_notice, receiver_at, with_receiver, sender_at}
+use Rattle.njh_customer.specs.Waiting.{with_answer_on, with_waiting, with_message_to, with_notice_to}
+use Rattle.njh_customer.specs.Acting.{after_stream_arrival, after_stream_record, with_sender_outcome, after_permission, after_peer_answer, refusal_of, after_stream_request, peer_answered, without_sending}
+use Rattle.njh_customer.specs.Acting.{with_outcome, after_user_command, after_unknown_node, message_routed, message_read, after_message, after_record}
+use Rattle.njh_customer.specs.OutgoingFiles.{outgoing, streams_from_hub, sender_on}
 use Rattle.njh_customer.specs.Moves as moves
 use Rattle.njh_customer.specs.Moves.{Acts, Commands, Tells, busy_numbers}
 use Rattle.njh_customer.proofs.OutgoingLaws.{of_parts, on_line_senders, answered_senders, waits_senders, said_senders, all_said_senders, notified_senders}
@@ -63,7 +63,7 @@ data Filed (a : Arrival) (s t : CustomerSpool) : Type 0 where
   one : (srcb : ℕ) (f : WholeFile) → a ≡ receiving.Data srcb [] → f.state ≡ Ready → is_whole f.records ≡ true
       → t.whole ≡ s.whole ++ f ∷ [] → Filed a s t
 
-requested_whole : (kind : Kind) (s : CustomerSpool) → (requested kind s).spool.whole ≡ s.whole
+requested_whole : (kind : Kind) (s : CustomerSpool) → (received_request kind s).spool.whole ≡ s.whole
 requested_whole kind s = at_room (has_file_room s && has_block s)
   where
     at_room : (b : Bool) → (requested_where b kind s).spool.whole ≡ s.whole
@@ -81,12 +81,12 @@ closed_files srcb n s true e = at_file (partial_numbered n s) e
   where
     at_file :
         (o : Option PartialFile) → is_whole (elim o [ Some f ↦ f.records | None ↦ [] ]) ≡ true
-        → Filed (receiving.Data srcb []) s (elim o [ None ↦ s | Some f ↦ record (abandoned n s) { whole = s.whole ++ as_whole f ∷ [] } ])
+        → Filed (receiving.Data srcb []) s (elim o [ None ↦ s | Some f ↦ record (without_partial n s) { whole = s.whole ++ as_whole f ∷ [] } ])
     at_file None e = none refl
     at_file (Some f) e = one srcb (as_whole f) refl refl e refl
 
 received_files : (entry : CustomerEntry) (l : ℕ) (kind : Kind) (r : Receiver) (a : Arrival) (s : CustomerSpool)
-    → Filed a s (received entry l kind r a s).spool
+    → Filed a s (received_arrival entry l kind r a s).spool
 received_files entry l kind receiver.Idle receiving.Request s = none (requested_whole kind s)
 received_files entry l kind receiver.Idle (receiving.Data srcb bytes) s = none refl
 received_files entry l kind receiver.Idle receiving.Long s = none refl
@@ -96,7 +96,7 @@ received_files entry l kind receiver.Draining (receiving.Data srcb []) s = none 
 received_files entry l kind receiver.Draining (receiving.Data srcb (b ∷ bytes)) s = none refl
 received_files entry l kind receiver.Draining receiving.Long s = none refl
 received_files entry l kind receiver.Draining receiving.Abort s = none refl
-received_files entry l kind (receiver.Open n progress) receiving.Request s = none (requested_whole kind (abandoned n s))
+received_files entry l kind (receiver.Open n progress) receiving.Request s = none (requested_whole kind (without_partial n s))
 received_files entry l kind (receiver.Open n progress) (receiving.Data srcb []) s = closed_files srcb n s (is_whole (partial_records n s)) refl
 received_files entry l kind (receiver.Open n progress) (receiving.Data srcb (b ∷ bytes)) s =
     let r : Stored = record { srcb = srcb; bytes = b ∷ bytes } in
@@ -116,30 +116,30 @@ at_bytes rcb receiving.Abort = Control rcb 0
 abbrev Ends : Arrival → Item → Type 0
 Ends a i = (srcb : ℕ) → a ≡ receiving.Data srcb [] → (rcb : ℕ) × (i ≡ Data rcb srcb [])
 
-arrived_acts : (l k : ℕ) (a : Arrival) (i : Item) (c : Customer) → Ends a i → Acted l i c (arrived l k a c)
+arrived_acts : (l k : ℕ) (a : Arrival) (i : Item) (c : Customer) → Ends a i → Acted l i c (after_stream_arrival l k a c)
 arrived_acts l k a i c ends = at_files (received_files c.entry l (kind_of k) (receiver_at k (line_at l c.lines)) a c.spool)
   where
-    streams : streams_from_hub (arrived l k a c).lines ≡ streams_from_hub c.lines
+    streams : streams_from_hub (after_stream_arrival l k a c).lines ≡ streams_from_hub c.lines
     streams =
-        let done = received c.entry l (kind_of k) (receiver_at k (line_at l c.lines)) a c.spool in
+        let done = received_arrival c.entry l (kind_of k) (receiver_at k (line_at l c.lines)) a c.spool in
         let lines = on_line l (with_receiver k done.receiver) c.lines in
         let answer = option_map (answer_on k) done.answer in
-        on_line_senders l (noted k done.receiver done.notice) (notified c.entry done.notice (answered l answer lines)) (λ x. refl)
-        ∙ notified_senders c.entry done.notice (answered l answer lines)
+        on_line_senders l (with_notice k done.receiver done.notice) (with_notice_to c.entry done.notice (with_answer_on l answer lines)) (λ x. refl)
+        ∙ notified_senders c.entry done.notice (with_answer_on l answer lines)
         ∙ answered_senders l answer lines
         ∙ on_line_senders l (with_receiver k done.receiver) c.lines (λ x. refl)
 
-    at_files : Filed a c.spool (arrived l k a c).spool → Acted l i c (arrived l k a c)
+    at_files : Filed a c.spool (after_stream_arrival l k a c).spool → Acted l i c (after_stream_arrival l k a c)
     at_files (none same) =
-        record { entry = refl; moves = inl (ap (λ files. of_parts files (streams_from_hub (arrived l k a c).lines)) same ∙ ap (of_parts c.spool.whole) streams) }
+        record { entry = refl; moves = inl (ap (λ files. of_parts files (streams_from_hub (after_stream_arrival l k a c).lines)) same ∙ ap (of_parts c.spool.whole) streams) }
     at_files (one srcb f came ready whole last) =
         record {
           entry = refl;
           moves = inr (moves.comes (ends srcb came).0 srcb f (ends srcb came).1 ready whole
-              (ap (λ files. of_parts files (streams_from_hub (arrived l k a c).lines)) last ∙ ap (of_parts (c.spool.whole ++ f ∷ [])) streams));
+              (ap (λ files. of_parts files (streams_from_hub (after_stream_arrival l k a c).lines)) last ∙ ap (of_parts (c.spool.whole ++ f ∷ [])) streams));
         }
 
-stream_acts : (l : ℕ) (o : Option ℕ) (a : Arrival) (i : Item) (c : Customer) → Ends a i → Acted l i c (stream_came l o a c)
+stream_acts : (l : ℕ) (o : Option ℕ) (a : Arrival) (i : Item) (c : Customer) → Ends a i → Acted l i c (after_stream_record l o a c)
 stream_acts l None a i c ends = unmoved l i c
 stream_acts l (Some k) a i c ends = arrived_acts l k a i c ends
 
@@ -147,10 +147,10 @@ stream_acts l (Some k) a i c ends = arrived_acts l k a i c ends
 
 module _ (l k streams srcb : ℕ) (c : Customer) (names : stream_of streams srcb ≡ Some k) where
   -- nothing moves
-  stays : (answer : ℕ) (x : Sender) → stream_at l k (outgoing c) ≡ x → Acted l (Control answer srcb) c (with_sent l k (record { sender = x; spool = c.spool }) c)
+  stays : (answer : ℕ) (x : Sender) → sender_on l k (outgoing c) ≡ x → Acted l (Control answer srcb) c (with_sender_outcome l k (record { sender = x; spool = c.spool }) c)
   stays answer x at = record { entry = refl; moves = inl (sent_is l k x c.spool c ∙ same_stream l k x (outgoing c) at) }
 
-  permitted_acts : (x : Sender) → stream_at l k (outgoing c) ≡ x → Acted l (Control 0xa0 srcb) c (with_sent l k (record { sender = granted x; spool = c.spool }) c)
+  permitted_acts : (x : Sender) → sender_on l k (outgoing c) ≡ x → Acted l (Control 0xa0 srcb) c (with_sender_outcome l k (record { sender = after_grant x; spool = c.spool }) c)
   permitted_acts sender.Idle at = stays 0xa0 sender.Idle at
   permitted_acts (sender.Requested n) at =
       record {
@@ -161,24 +161,24 @@ module _ (l k streams srcb : ℕ) (c : Customer) (names : stream_of streams srcb
   permitted_acts (sender.EofSent n) at = stays 0xa0 (sender.EofSent n) at
   permitted_acts sender.Aborting at = stays 0xa0 sender.Aborting at
 
-  refused_acts : (x : Sender) → stream_at l k (outgoing c) ≡ x → Acted l (Control 0xb0 srcb) c (with_sent l k (refused x c.spool) c)
+  refused_acts : (x : Sender) → sender_on l k (outgoing c) ≡ x → Acted l (Control 0xb0 srcb) c (with_sender_outcome l k (after_refusal x c.spool) c)
   refused_acts sender.Idle at = stays 0xb0 sender.Idle at
   refused_acts (sender.Requested n) at =
-      let sent = refused (sender.Requested n) c.spool in
+      let sent = after_refusal (sender.Requested n) c.spool in
       record {
         entry = refl;
         moves = inr (moves.refused streams k n sent.sender (record { srcb = srcb; is_control = refl; names = names })
             (ap (λ y. file_in y) at) refl (sent_is l k sent.sender sent.spool c));
       }
   refused_acts (sender.Sending n place) at =
-      let sent = refused (sender.Sending n place) c.spool in
+      let sent = after_refusal (sender.Sending n place) c.spool in
       record {
         entry = refl;
         moves = inr (moves.refused streams k n sent.sender (record { srcb = srcb; is_control = refl; names = names })
             (ap (λ y. file_in y) at) refl (sent_is l k sent.sender sent.spool c));
       }
   refused_acts (sender.EofSent n) at =
-      let sent = refused (sender.EofSent n) c.spool in
+      let sent = after_refusal (sender.EofSent n) c.spool in
       record {
         entry = refl;
         moves = inr (moves.refused streams k n sent.sender (record { srcb = srcb; is_control = refl; names = names })
@@ -186,45 +186,45 @@ module _ (l k streams srcb : ℕ) (c : Customer) (names : stream_of streams srcb
       }
   refused_acts sender.Aborting at = stays 0xb0 sender.Aborting at
 
-  completed_acts : (x : Sender) → stream_at l k (outgoing c) ≡ x → Acted l (Control 0xc0 srcb) c (with_sent l k (completed x c.spool) c)
+  completed_acts : (x : Sender) → sender_on l k (outgoing c) ≡ x → Acted l (Control 0xc0 srcb) c (with_sender_outcome l k (after_completion x c.spool) c)
   completed_acts sender.Idle at = stays 0xc0 sender.Idle at
   completed_acts (sender.Requested n) at = stays 0xc0 (sender.Requested n) at
   completed_acts (sender.Sending n place) at = stays 0xc0 (sender.Sending n place) at
   completed_acts (sender.EofSent n) at =
-      let sent = completed (sender.EofSent n) c.spool in
+      let sent = after_completion (sender.EofSent n) c.spool in
       record {
         entry = refl;
         moves = inr (moves.completed streams k n (record { srcb = srcb; is_control = refl; names = names }) at (sent_is l k sent.sender sent.spool c));
       }
   completed_acts sender.Aborting at = stays 0xc0 sender.Aborting at
 
-  answer_acts : (rcb : ℕ) → Acted l (Control rcb srcb) c (answer_came l rcb k c)
+  answer_acts : (rcb : ℕ) → Acted l (Control rcb srcb) c (after_peer_answer l rcb k c)
   answer_acts rcb = at_permission (rcb == 0xa0) refl
     where
-      at_completion : (b : Bool) → (rcb == 0xc0) ≡ b → Acted l (Control rcb srcb) c (cond b (with_sent l k (completed (sender_at k (line_at l c.lines)) c.spool) c) c)
+      at_completion : (b : Bool) → (rcb == 0xc0) ≡ b → Acted l (Control rcb srcb) c (cond b (with_sender_outcome l k (after_completion (sender_at k (line_at l c.lines)) c.spool) c) c)
       at_completion true e =
-          subst (λ n. Acted l (Control n srcb) c (with_sent l k (completed (sender_at k (line_at l c.lines)) c.spool) c)) (sym (eqb-true rcb 0xc0 e))
+          subst (λ n. Acted l (Control n srcb) c (with_sender_outcome l k (after_completion (sender_at k (line_at l c.lines)) c.spool) c)) (sym (eqb-true rcb 0xc0 e))
           (completed_acts (sender_at k (line_at l c.lines)) (stream_is l k c))
       at_completion false e = unmoved l (Control rcb srcb) c
 
       at_refusal :
           (b : Bool) → (rcb == 0xb0) ≡ b
           → Acted l (Control rcb srcb) c
-          (cond b (with_sent l k (refused (sender_at k (line_at l c.lines)) c.spool) c)
-          (cond (rcb == 0xc0) (with_sent l k (completed (sender_at k (line_at l c.lines)) c.spool) c) c))
+          (cond b (with_sender_outcome l k (after_refusal (sender_at k (line_at l c.lines)) c.spool) c)
+          (cond (rcb == 0xc0) (with_sender_outcome l k (after_completion (sender_at k (line_at l c.lines)) c.spool) c) c))
       at_refusal true e =
-          subst (λ n. Acted l (Control n srcb) c (with_sent l k (refused (sender_at k (line_at l c.lines)) c.spool) c)) (sym (eqb-true rcb 0xb0 e))
+          subst (λ n. Acted l (Control n srcb) c (with_sender_outcome l k (after_refusal (sender_at k (line_at l c.lines)) c.spool) c)) (sym (eqb-true rcb 0xb0 e))
           (refused_acts (sender_at k (line_at l c.lines)) (stream_is l k c))
       at_refusal false e = at_completion (rcb == 0xc0) refl
 
       at_permission :
           (b : Bool) → (rcb == 0xa0) ≡ b
           → Acted l (Control rcb srcb) c
-          (cond b (permitted l k c)
-          (cond (rcb == 0xb0) (with_sent l k (refused (sender_at k (line_at l c.lines)) c.spool) c)
-          (cond (rcb == 0xc0) (with_sent l k (completed (sender_at k (line_at l c.lines)) c.spool) c) c)))
+          (cond b (after_permission l k c)
+          (cond (rcb == 0xb0) (with_sender_outcome l k (after_refusal (sender_at k (line_at l c.lines)) c.spool) c)
+          (cond (rcb == 0xc0) (with_sender_outcome l k (after_completion (sender_at k (line_at l c.lines)) c.spool) c) c)))
       at_permission true e =
-          subst (λ n. Acted l (Control n srcb) c (permitted l k c)) (sym (eqb-true rcb 0xa0 e))
+          subst (λ n. Acted l (Control n srcb) c (after_permission l k c)) (sym (eqb-true rcb 0xa0 e))
           (permitted_acts (sender_at k (line_at l c.lines)) (stream_is l k c))
       at_permission false e = at_refusal (rcb == 0xb0) refl
 
@@ -235,59 +235,59 @@ peer_acts l streams rcb srcb (Some k) c names = answer_acts l k streams srcb c n
 no_end : (i : Item) → Ends receiving.Request i
 no_end i srcb e = absurd (cc e)
 
-request_acts : (l srcb : ℕ) (o : Option ℕ) (i : Item) (c : Customer) → Acted l i c (request_came l srcb o c)
+request_acts : (l srcb : ℕ) (o : Option ℕ) (i : Item) (c : Customer) → Acted l i c (after_stream_request l srcb o c)
 request_acts l srcb None i c =
     let answer = refusal_of srcb (stream_number srcb) in
-    lines_alone l i (answered l answer c.lines) c (answered_senders l answer c.lines)
+    lines_alone l i (with_answer_on l answer c.lines) c (answered_senders l answer c.lines)
 request_acts l srcb (Some k) i c = arrived_acts l k receiving.Request i c (no_end i)
 
 -- ---- messages
 
 module _ (l : ℕ) (i : Item) (c : Customer) (n : Nodal) where
   -- a command that cancels no file that is being sent
-  changes : (done : Outcome) → done.cancelled ≡ [] → streams_from_hub (with_outcome n done c).lines ≡ streams_from_hub c.lines
+  changes : (done : CommandOutcome) → done.cancelled ≡ [] → streams_from_hub (with_outcome n done c).lines ≡ streams_from_hub c.lines
   changes done e =
-      all_said_senders c.entry (n.origin, n.user) done.replies (fold given_up c.lines done.cancelled)
-      ∙ ap (λ numbers. streams_from_hub (fold given_up c.lines numbers)) e
+      all_said_senders c.entry (n.origin, n.user) done.replies (fold without_sending c.lines done.cancelled)
+      ∙ ap (λ numbers. streams_from_hub (fold without_sending c.lines numbers)) e
 
-  obeyed_acts : (command : Command) → Commands c.entry (n.origin, n.user) command i → Acted l i c (with_outcome n (obeyed c.entry (n.origin, n.user) command c.spool) c)
+  obeyed_acts : (command : Command) → Commands c.entry (n.origin, n.user) command i → Acted l i c (with_outcome n (command_outcome c.entry (n.origin, n.user) command c.spool) c)
   obeyed_acts commands.List given =
-      record { entry = refl; moves = inl (ap (of_parts c.spool.whole) (changes (obeyed c.entry (n.origin, n.user) commands.List c.spool) refl)) }
+      record { entry = refl; moves = inl (ap (of_parts c.spool.whole) (changes (command_outcome c.entry (n.origin, n.user) commands.List c.spool) refl)) }
   obeyed_acts (commands.Hold name) given =
-      let done = obeyed c.entry (n.origin, n.user) (commands.Hold name) c.spool in
+      let done = command_outcome c.entry (n.origin, n.user) (commands.Hold name) c.spool in
       record { entry = refl; moves = inr (moves.holds (n.origin, n.user) name given (ap (of_parts done.spool.whole) (changes done refl))) }
   obeyed_acts (commands.Release name) given =
-      let done = obeyed c.entry (n.origin, n.user) (commands.Release name) c.spool in
+      let done = command_outcome c.entry (n.origin, n.user) (commands.Release name) c.spool in
       record { entry = refl; moves = inr (moves.releases (n.origin, n.user) name given (ap (of_parts done.spool.whole) (changes done refl))) }
   obeyed_acts (commands.Cancel name) given =
-      let done = obeyed c.entry (n.origin, n.user) (commands.Cancel name) c.spool in
+      let done = command_outcome c.entry (n.origin, n.user) (commands.Cancel name) c.spool in
       record {
         entry = refl;
         moves = inr (moves.cancels (n.origin, n.user) name given
-            (ap (of_parts done.spool.whole) (all_said_senders c.entry (n.origin, n.user) done.replies (fold given_up c.lines done.cancelled))
-            ∙ sym (all_given_up (busy_numbers (chosen (n.origin, n.user) name) c.spool.whole) done.spool.whole c.lines)));
+            (ap (of_parts done.spool.whole) (all_said_senders c.entry (n.origin, n.user) done.replies (fold without_sending c.lines done.cancelled))
+            ∙ sym (all_given_up (busy_numbers (is_of_name (n.origin, n.user) name) c.spool.whole) done.spool.whole c.lines)));
       }
   obeyed_acts (commands.Reroute name node) given = at_route (route_of c.entry node) refl
     where
       at_route : (r : Route) → route_of c.entry node ≡ r
-          → Acted l i c (with_outcome n (rerouting r c.entry node (chosen (n.origin, n.user) name) name c.spool) c)
+          → Acted l i c (with_outcome n (rerouting r c.entry node (is_of_name (n.origin, n.user) name) name c.spool) c)
       at_route Here e =
           record {
             entry = refl;
-            moves = inl (ap (of_parts c.spool.whole) (changes (rerouting Here c.entry node (chosen (n.origin, n.user) name) name c.spool) refl));
+            moves = inl (ap (of_parts c.spool.whole) (changes (rerouting Here c.entry node (is_of_name (n.origin, n.user) name) name c.spool) refl));
           }
       at_route (Line line) e =
-          let done = rerouting (Line line) c.entry node (chosen (n.origin, n.user) name) name c.spool in
+          let done = rerouting (Line line) c.entry node (is_of_name (n.origin, n.user) name) name c.spool in
           record { entry = refl; moves = inr (moves.reroutes (n.origin, n.user) name node line given e (ap (of_parts done.spool.whole) (changes done refl))) }
       at_route Unknown e =
           record {
             entry = refl;
-            moves = inl (ap (of_parts c.spool.whole) (changes (rerouting Unknown c.entry node (chosen (n.origin, n.user) name) name c.spool) refl));
+            moves = inl (ap (of_parts c.spool.whole) (changes (rerouting Unknown c.entry node (is_of_name (n.origin, n.user) name) name c.spool) refl));
           }
 
   command_acts :
       (srcb : ℕ) (bytes : List ℕ) → i ≡ Data 0x9a srcb bytes → nodal_of bytes ≡ Ok n → route_of c.entry n.to ≡ Here → is_user_command n ≡ true
-      → Acted l i c (command_came n c)
+      → Acted l i c (after_user_command n c)
   command_acts srcb bytes is reads here user = at_command (command_of n.message) refl
     where
       at_command : (o : Option Command) → command_of n.message ≡ o → Acted l i c (with_outcome n (obeyed_where o c.entry (n.origin, n.user) c.spool) c)
@@ -311,19 +311,19 @@ module _ (l : ℕ) (i : Item) (c : Customer) (n : Nodal) where
       → Acted l i c (message_routed l n bytes r c)
   routed_acts srcb bytes is reads Here e = at_command (is_user_command n) refl
     where
-      at_command : (b : Bool) → is_user_command n ≡ b → Acted l i c (cond b (command_came n c) c)
+      at_command : (b : Bool) → is_user_command n ≡ b → Acted l i c (cond b (after_user_command n c) c)
       at_command true user = command_acts srcb bytes is reads e user
       at_command false user = unmoved l i c
   routed_acts srcb bytes is reads (Line k) e =
       let m = cut_after_message bytes in
-      acted_either (k == l) l i c (record c { lines = waits k m c.lines }) c (unmoved l i c)
-      (lines_alone l i (waits k m c.lines) c (waits_senders k m c.lines))
+      acted_either (k == l) l i c (record c { lines = with_waiting k m c.lines }) c (unmoved l i c)
+      (lines_alone l i (with_waiting k m c.lines) c (waits_senders k m c.lines))
   routed_acts srcb bytes is reads Unknown e =
       let whom : List ℕ × List ℕ = (n.origin, n.user) in
-      acted_either (is_user_command n) l i (unknown_told n c) c c
-      (lines_alone l i (said c.entry whom (node_unknown n.to) c.lines) c (said_senders c.entry whom (node_unknown n.to) c.lines)) (unmoved l i c)
+      acted_either (is_user_command n) l i (after_unknown_node n c) c c
+      (lines_alone l i (with_message_to c.entry whom (node_unknown n.to) c.lines) c (said_senders c.entry whom (node_unknown n.to) c.lines)) (unmoved l i c)
 
-message_acts : (l srcb : ℕ) (bytes : List ℕ) (c : Customer) → Acted l (Data 0x9a srcb bytes) c (message_came l bytes c)
+message_acts : (l srcb : ℕ) (bytes : List ℕ) (c : Customer) → Acted l (Data 0x9a srcb bytes) c (after_message l bytes c)
 message_acts l srcb bytes c = at_nodal (nodal_of bytes) refl
   where
     at_nodal : (n : Result Nodal NmrFault) → nodal_of bytes ≡ n → Acted l (Data 0x9a srcb bytes) c (message_read l bytes n c)
@@ -332,7 +332,7 @@ message_acts l srcb bytes c = at_nodal (nodal_of bytes) refl
 
 -- ---- every record
 
-data_acts : (l rcb srcb : ℕ) (bytes : List ℕ) (c : Customer) → Acted l (Data rcb srcb bytes) c (acted l (Data rcb srcb bytes) c)
+data_acts : (l rcb srcb : ℕ) (bytes : List ℕ) (c : Customer) → Acted l (Data rcb srcb bytes) c (after_record l (Data rcb srcb bytes) c)
 data_acts l rcb srcb bytes c = at_message (rcb == 0x9a) refl
   where
     ends : Ends (receiving.Data srcb bytes) (Data rcb srcb bytes)
@@ -340,9 +340,9 @@ data_acts l rcb srcb bytes c = at_message (rcb == 0x9a) refl
 
     at_message :
         (b : Bool) → (rcb == 0x9a) ≡ b
-        → Acted l (Data rcb srcb bytes) c (cond b (message_came l bytes c) (stream_came l (stream_of (line_at l c.lines).streams rcb) (receiving.Data srcb bytes) c))
+        → Acted l (Data rcb srcb bytes) c (cond b (after_message l bytes c) (after_stream_record l (stream_of (line_at l c.lines).streams rcb) (receiving.Data srcb bytes) c))
     at_message true e =
-        subst (λ n. Acted l (Data n srcb bytes) c (message_came l bytes c)) (sym (eqb-true rcb 0x9a e)) (message_acts l srcb bytes c)
+        subst (λ n. Acted l (Data n srcb bytes) c (after_message l bytes c)) (sym (eqb-true rcb 0x9a e)) (message_acts l srcb bytes c)
     at_message false e = stream_acts l (stream_of (line_at l c.lines).streams rcb) (receiving.Data srcb bytes) (Data rcb srcb bytes) c ends
 
 no_end_abort : (i : Item) → Ends receiving.Abort i
@@ -351,7 +351,7 @@ no_end_abort i srcb e = absurd (cc e)
 no_end_long : (i : Item) → Ends receiving.Long i
 no_end_long i srcb e = absurd (cc e)
 
-pub acts_so : (l : ℕ) (i : Item) (c : Customer) → Acted l i c (acted l i c)
+pub acts_so : (l : ℕ) (i : Item) (c : Customer) → Acted l i c (after_record l i c)
 acts_so l (Data rcb srcb bytes) c = data_acts l rcb srcb bytes c
 acts_so l (Aborted rcb srcb) c =
     stream_acts l (stream_of (line_at l c.lines).streams rcb) receiving.Abort (Aborted rcb srcb) c (no_end_abort (Aborted rcb srcb))
@@ -359,6 +359,6 @@ acts_so l (Long rcb srcb) c =
     stream_acts l (stream_of (line_at l c.lines).streams rcb) receiving.Long (Long rcb srcb) c (no_end_long (Long rcb srcb))
 acts_so l (Control rcb srcb) c =
     let stream = stream_of (line_at l c.lines).streams srcb in
-    acted_either (rcb == 0x90) l (Control rcb srcb) (request_came l srcb stream c) (peer_answered l rcb stream c) c
+    acted_either (rcb == 0x90) l (Control rcb srcb) (after_stream_request l srcb stream c) (peer_answered l rcb stream c) c
     (request_acts l srcb stream (Control rcb srcb) c) (peer_acts l (line_at l c.lines).streams rcb srcb stream c refl)
 acts_so l (General srcb rest) c = unmoved l (General srcb rest) c

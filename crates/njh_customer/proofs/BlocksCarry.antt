@@ -13,11 +13,11 @@ use Rattle.njh_record.specs.Stored.{Stored}
 use Rattle.njh_stream.specs.declared.sender.Sender.{Sender}
 use Rattle.njh_stream.specs.declared.sender.Sender.TheVariants.{Idle, Requested, Sending, EofSent, Aborting}
 use Rattle.njh_stream.specs.Sending.{goes_by, next_at, next_of, record_at}
-use Rattle.njh_sched.specs.NextBlock.{Filling, Source, after_source, after_sources, data_item, filled, is_sending, sender_at, sources}
+use Rattle.njh_sched.specs.NextBlock.{Filling, Source, after_source, after_sources, data_item, filled_block, sends_file, sender_at, sources}
 use Rattle.njh_sched.specs.Laws.{Does, EachDoes, left, gives_up, asks, sends, is_under, records_under}
 use Rattle.njh_sched.specs.Carrying.{end_of_file, file_records, record_item, records_of}
 use Rattle.njh_sched.specs.Carrying as carrying
-use Rattle.njh_customer.specs.OutgoingFiles.{Outgoing, marked, records_numbered}
+use Rattle.njh_customer.specs.OutgoingFiles.{Outgoing, with_file_state, records_numbered}
 use Rattle.njh_customer.specs.Moves as moves
 use Rattle.njh_customer.specs.Moves.{Sends}
 use Rattle.njh_customer.specs.FrameEffects.{Carries, nothing, on_its_way, to_its_end}
@@ -28,7 +28,7 @@ use Rattle.njh_customer.proofs.DoingLaws.{BlocksCarry}
 -- ---- no record that goes out changes a file's records
 
 marked_records : (n m : ℕ) (state : State) (fs : List WholeFile) →
-    records_of (find (λ f. f.number == n) (marked m state fs)) ≡ records_of (find (λ f. f.number == n) fs)
+    records_of (find (λ f. f.number == n) (with_file_state m state fs)) ≡ records_of (find (λ f. f.number == n) fs)
 marked_records n m state [] = refl
 marked_records n m state (f ∷ fs) = at_mark (f.number == m) (f.number == n) (marked_records n m state fs)
   where
@@ -37,14 +37,14 @@ marked_records n m state (f ∷ fs) = at_mark (f.number == m) (f.number == n) (m
 
     at_number :
         (c : Bool) (g : WholeFile) → g.records ≡ f.records
-        → records_of (find (λ x. x.number == n) (marked m state fs)) ≡ records_of (find (λ x. x.number == n) fs)
-        → found c g (marked m state fs) ≡ found c f fs
+        → records_of (find (λ x. x.number == n) (with_file_state m state fs)) ≡ records_of (find (λ x. x.number == n) fs)
+        → found c g (with_file_state m state fs) ≡ found c f fs
     at_number true g same rest = same
     at_number false g same rest = rest
 
     at_mark :
-        (b c : Bool) → records_of (find (λ x. x.number == n) (marked m state fs)) ≡ records_of (find (λ x. x.number == n) fs)
-        → records_of (find (λ x. x.number == n) (cond b (record f { state = state }) f ∷ marked m state fs)) ≡ records_of (cond (f.number == n) (Some f) (find (λ x. x.number == n) fs))
+        (b c : Bool) → records_of (find (λ x. x.number == n) (with_file_state m state fs)) ≡ records_of (find (λ x. x.number == n) fs)
+        → records_of (find (λ x. x.number == n) (cond b (record f { state = state }) f ∷ with_file_state m state fs)) ≡ records_of (cond (f.number == n) (Some f) (find (λ x. x.number == n) fs))
     at_mark true c rest = at_number (f.number == n) (record f { state = state }) refl rest
     at_mark false c rest = at_number (f.number == n) f refl rest
 
@@ -103,7 +103,7 @@ behind_still goes k n p x y past (stays at none) (sends h) =
 behind_still goes k n p x y past (ended at one) (left h) = ended (h.sender ∙ at) (h.items ∙ one)
 behind_still goes k n p x y past (ended at one) (gives_up h) = absurd (cc (sym h.before ∙ at))
 behind_still goes k n p x y past (ended at one) (asks h) = absurd (cc (sym h.before ∙ at))
-behind_still goes k n p x y past (ended at one) (sends h) = absurd (cc (sym h.before ∙ ap is_sending at))
+behind_still goes k n p x y past (ended at one) (sends h) = absurd (cc (sym h.before ∙ ap sends_file at))
 
 -- ---- the laws of the crate of blocks
 
@@ -111,12 +111,12 @@ abbrev pub CarriesInOrder : Type 0
 CarriesInOrder =
     (goes : WholeFile → Bool) (k n p : ℕ) (x : Filling) → k < 8 → k < length x.outlet.senders → sender_at k x.outlet ≡ Sending n p
     → p ≤ length (file_records n x.spool)
-    → carrying.Carries k n p (file_records n x.spool) (records_under (rcb_of k) x.block.items) (filled goes x)
+    → carrying.Carries k n p (file_records n x.spool) (records_under (rcb_of k) x.block.items) (filled_block goes x)
 
 abbrev pub IsQuiet : Type 0
 IsQuiet =
-    (goes : WholeFile → Bool) (k : ℕ) (x : Filling) → k < 8 → k < length x.outlet.senders → is_sending (sender_at k x.outlet) ≡ false
-    → records_under (rcb_of k) (filled goes x).block.items ≡ records_under (rcb_of k) x.block.items
+    (goes : WholeFile → Bool) (k : ℕ) (x : Filling) → k < 8 → k < length x.outlet.senders → sends_file (sender_at k x.outlet) ≡ false
+    → records_under (rcb_of k) (filled_block goes x).block.items ≡ records_under (rcb_of k) x.block.items
 
 abbrev pub SourcesMove : Type 0
 SourcesMove =
@@ -125,10 +125,10 @@ SourcesMove =
 abbrev pub SourcesFill : Type 0
 SourcesFill =
     (goes : WholeFile → Bool) (x : Filling) → all_suspended x.outlet.peer ≡ false
-    → filled goes x ≡ after_sources goes (sources x.block.limit x.outlet) x
+    → filled_block goes x ≡ after_sources goes (sources x.block.limit x.outlet) x
 
 abbrev pub NothingGoes : Type 0
-NothingGoes = (goes : WholeFile → Bool) (x : Filling) → all_suspended x.outlet.peer ≡ true → filled goes x ≡ x
+NothingGoes = (goes : WholeFile → Bool) (x : Filling) → all_suspended x.outlet.peer ≡ true → filled_block goes x ≡ x
 
 module _ (in_order : CarriesInOrder) (quiet : IsQuiet) (each : SourcesMove) (fill : SourcesFill) (nothing_goes : NothingGoes) where
   behind_all :
@@ -145,13 +145,13 @@ module _ (in_order : CarriesInOrder) (quiet : IsQuiet) (each : SourcesMove) (fil
 
   behind_filled :
       (entry : CustomerEntry) (l k n p : ℕ) (base : List (List Sender)) (x : Filling) → l < length base → k < 8 → k < length x.outlet.senders
-      → x.block.items ≡ [] → sender_at k x.outlet ≡ Sending n p → length (file_records n x.spool) ≤ p → Behind k n p (filled (goes_by entry l) x)
+      → x.block.items ≡ [] → sender_at k x.outlet ≡ Sending n p → length (file_records n x.spool) ≤ p → Behind k n p (filled_block (goes_by entry l) x)
   behind_filled entry l k n p base x inside few in_line none at past = at_suspended (all_suspended x.outlet.peer) refl
     where
       begins : Behind k n p x
       begins = stays at (ap (records_under (rcb_of k)) none)
 
-      at_suspended : (b : Bool) → all_suspended x.outlet.peer ≡ b → Behind k n p (filled (goes_by entry l) x)
+      at_suspended : (b : Bool) → all_suspended x.outlet.peer ≡ b → Behind k n p (filled_block (goes_by entry l) x)
       at_suspended true e = subst (Behind k n p) (sym (nothing_goes (goes_by entry l) x e)) begins
       at_suspended false e =
           let all = sources x.block.limit x.outlet in
@@ -162,15 +162,15 @@ module _ (in_order : CarriesInOrder) (quiet : IsQuiet) (each : SourcesMove) (fil
   blocks_carry entry l k base x inside few in_line none = at_sender (sender_at k x.outlet) refl
     where
       y : Filling
-      y = filled (goes_by entry l) x
+      y = filled_block (goes_by entry l) x
 
       before_is : records_under (rcb_of k) x.block.items ≡ []
       before_is = ap (records_under (rcb_of k)) none
 
-      still : (s : Sender) → sender_at k x.outlet ≡ s → is_sending s ≡ false → Carries l k y.block.items (out_of l base x) (out_of l base y)
+      still : (s : Sender) → sender_at k x.outlet ≡ s → sends_file s ≡ false → Carries l k y.block.items (out_of l base x) (out_of l base y)
       still s at isnt =
-          nothing (ap is_sending (stream_now entry l base inside k x ∙ at) ∙ isnt)
-          (quiet (goes_by entry l) k x few in_line (ap is_sending at ∙ isnt) ∙ before_is)
+          nothing (ap sends_file (stream_now entry l base inside k x ∙ at) ∙ isnt)
+          (quiet (goes_by entry l) k x few in_line (ap sends_file at ∙ isnt) ∙ before_is)
 
       within : (n p : ℕ) → sender_at k x.outlet ≡ Sending n p → p ≤ length (file_records n x.spool)
           → carrying.Carries k n p (file_records n x.spool) (records_under (rcb_of k) x.block.items) y

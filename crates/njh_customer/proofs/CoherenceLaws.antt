@@ -11,20 +11,20 @@ use Rattle.njh_record.specs.declared.Kind.{Kind}
 use Rattle.njh_stream.specs.declared.receiver.Receiver.{Receiver}
 use Rattle.njh_stream.specs.declared.receiver.Receiver.TheVariants.{Idle, Open, Draining}
 use Rattle.njh_stream.specs.Arrivals.{answer_on}
-use Rattle.njh_stream.specs.Receiving.{Arrival, Request, Data, Long, Abort, Received, received, without_all_open}
+use Rattle.njh_stream.specs.Receiving.{Arrival, Request, Data, Long, Abort, Received, received_arrival, without_all_open}
 use Rattle.njh_stream.specs.code.Agreement.{Agrees}
-use Rattle.njh_stream.specs.Receiving.{requested, requested_where, closed_by, stored_by}
+use Rattle.njh_stream.specs.Receiving.{received_request, requested_where, closed_by, stored_by}
 use Rattle.njh_stream.specs.Transmissions.{Verdict, Taken, Cancelled, Fitting, is_whole, judged_coming}
 use Rattle.njh_stream.specs.Streams.{streams_at, stream_at, with_stream, without_streams}
 use Rattle.njh_stream.specs.code.Agreement.{AreTied}
 use Rattle.njh_spool.specs.CustomerSpool.{CustomerSpool, PartialFile, has_file_room, has_block, has_room_for, partial_numbered, partial_records}
-use Rattle.njh_spool.specs.CustomerSpool.{abandoned, as_whole}
+use Rattle.njh_spool.specs.CustomerSpool.{without_partial, as_whole}
 use Rattle.njh_table.specs.Entries.{CustomerEntry}
-use Rattle.njh_customer.specs.Customer.{Customer, CustomerLine, no_line, line_at, on_line, noted, receiver_at}
+use Rattle.njh_customer.specs.Customer.{Customer, CustomerLine, no_customer_line, line_at, on_line, with_notice, receiver_at}
 use Rattle.njh_customer.specs.Customer.{with_receiver}
 use Rattle.njh_customer.specs.code.Coherence.{streams_to_hub, HasStreams, IsCoherent}
-use Rattle.njh_customer.specs.Waiting.{answered, notified}
-use Rattle.njh_customer.specs.Acting.{after_arrival, arrived}
+use Rattle.njh_customer.specs.Waiting.{with_answer_on, with_notice_to}
+use Rattle.njh_customer.specs.Acting.{after_arrival, after_stream_arrival}
 use Rattle.njh_customer.proofs.ShapeLaws.{shapes, same_streams, streamed_still, on_line_shapes, answered_shapes, notified_shapes}
 
 -- what the streams of a customer owe to each other, as the crate of streams says it
@@ -32,8 +32,8 @@ abbrev pub ArrivalsTie : Type 0
 ArrivalsTie =
     (entry : CustomerEntry) (l k : ℕ) (a : Arrival) (lines : List (List Receiver)) (s : CustomerSpool) → l < length lines
     → k < length (streams_at l lines) → AreTied lines s
-    → AreTied (with_stream l k (received entry l (kind_of k) (stream_at l k lines) a s).receiver lines)
-    (received entry l (kind_of k) (stream_at l k lines) a s).spool
+    → AreTied (with_stream l k (received_arrival entry l (kind_of k) (stream_at l k lines) a s).receiver lines)
+    (received_arrival entry l (kind_of k) (stream_at l k lines) a s).spool
 
 abbrev pub NothingUnties : Type 0
 NothingUnties = (lines : List (List Receiver)) (s t : CustomerSpool) → t.partial ≡ s.partial → AreTied lines s → AreTied lines t
@@ -66,14 +66,14 @@ coherent_still d c untied like coherent = record {
 -- ---- the stream at a place
 
 pub stream_is : (l k : ℕ) (lines : List CustomerLine) → stream_at l k (streams_to_hub lines) ≡ receiver_at k (line_at l lines)
-stream_is l k lines = ap (λ rs. get_or rs k Idle) (get_or-map (λ x. x.receivers) lines l no_line)
+stream_is l k lines = ap (λ rs. get_or rs k Idle) (get_or-map (λ x. x.receivers) lines l no_customer_line)
 
 pub agrees_there : (l k : ℕ) (c : Customer) → IsCoherent c → Agrees (kind_of k) (receiver_at k (line_at l c.lines)) c.spool
 agrees_there l k c coherent = subst (λ r. Agrees (kind_of k) r c.spool) (stream_is l k c.lines) (coherent.tied.agree l k)
 
 -- ---- an arrival
 
-requested_quota : (kind : Kind) (s : CustomerSpool) → (requested kind s).spool.quota ≡ s.quota
+requested_quota : (kind : Kind) (s : CustomerSpool) → (received_request kind s).spool.quota ≡ s.quota
 requested_quota kind s = at_room (has_file_room s && has_block s)
   where
     at_room : (b : Bool) → (requested_where b kind s).spool.quota ≡ s.quota
@@ -81,7 +81,7 @@ requested_quota kind s = at_room (has_file_room s && has_block s)
     at_room false = refl
 
 abbrev finished_where : ℕ → CustomerSpool → Option PartialFile → CustomerSpool
-finished_where n s o = elim o [ None ↦ s | Some f ↦ record (abandoned n s) { whole = s.whole ++ as_whole f ∷ [] } ]
+finished_where n s o = elim o [ None ↦ s | Some f ↦ record (without_partial n s) { whole = s.whole ++ as_whole f ∷ [] } ]
 
 closed_quota : (b : Bool) (n : ℕ) (s : CustomerSpool) → (closed_by b n s).spool.quota ≡ s.quota
 closed_quota false n s = refl
@@ -97,7 +97,7 @@ stored_quota Taken kind n r more s = refl
 stored_quota (Cancelled text) kind n r more s = refl
 
 received_quota : (entry : CustomerEntry) (l : ℕ) (kind : Kind) (r : Receiver) (a : Arrival) (s : CustomerSpool)
-    → (received entry l kind r a s).spool.quota ≡ s.quota
+    → (received_arrival entry l kind r a s).spool.quota ≡ s.quota
 received_quota entry l kind Idle Request s = requested_quota kind s
 received_quota entry l kind Idle (Data srcb bytes) s = refl
 received_quota entry l kind Idle Long s = refl
@@ -107,7 +107,7 @@ received_quota entry l kind Draining (Data srcb []) s = refl
 received_quota entry l kind Draining (Data srcb (b ∷ bytes)) s = refl
 received_quota entry l kind Draining Long s = refl
 received_quota entry l kind Draining Abort s = refl
-received_quota entry l kind (Open n progress) Request s = requested_quota kind (abandoned n s)
+received_quota entry l kind (Open n progress) Request s = requested_quota kind (without_partial n s)
 received_quota entry l kind (Open n progress) (Data srcb []) s = closed_quota (is_whole (partial_records n s)) n s
 received_quota entry l kind (Open n progress) (Data srcb (b ∷ bytes)) s =
     let r : Stored = record { srcb = srcb; bytes = b ∷ bytes } in
@@ -119,7 +119,7 @@ received_quota entry l kind (Open n progress) Abort s = refl
 with_streams : (l k : ℕ) (r : Receiver) (lines : List CustomerLine) → streams_to_hub (on_line l (with_receiver k r) lines) ≡ with_stream l k r (streams_to_hub lines)
 with_streams l k r lines =
     map-set (λ x. x.receivers) lines l (with_receiver k r (line_at l lines))
-    ∙ ap (λ rs. set (streams_to_hub lines) l (set rs k r)) (sym (get_or-map (λ x. x.receivers) lines l no_line))
+    ∙ ap (λ rs. set (streams_to_hub lines) l (set rs k r)) (sym (get_or-map (λ x. x.receivers) lines l no_customer_line))
 
 -- the stream has moved, and nothing was said of it yet
 abbrev moved : ℕ → ℕ → Received → Customer → Customer
@@ -127,18 +127,18 @@ moved l k done c = record c { spool = done.spool; lines = on_line l (with_receiv
 
 keeps_moved :
     (l k : ℕ) (a : Arrival) (c : Customer) → ArrivalsTie → l < length c.lines → k < 8 → IsCoherent c
-    → IsCoherent (moved l k (received c.entry l (kind_of k) (receiver_at k (line_at l c.lines)) a c.spool) c)
+    → IsCoherent (moved l k (received_arrival c.entry l (kind_of k) (receiver_at k (line_at l c.lines)) a c.spool) c)
 keeps_moved l k a c arrivals line_there stream_there coherent =
     let lines = streams_to_hub c.lines in
     let r = receiver_at k (line_at l c.lines) in
-    let done = received c.entry l (kind_of k) r a c.spool in
-    let eight = coherent.streamed l no_line line_there in
-    let at : streams_at l lines ≡ (line_at l c.lines).receivers = get_or-map (λ x. x.receivers) c.lines l no_line in
+    let done = received_arrival c.entry l (kind_of k) r a c.spool in
+    let eight = coherent.streamed l no_customer_line line_there in
+    let at : streams_at l lines ≡ (line_at l c.lines).receivers = get_or-map (λ x. x.receivers) c.lines l no_customer_line in
     let there : l < length lines = omega (arith, line_there, length-map c.lines (λ x. x.receivers)) in
     let in_line : k < length (streams_at l lines) = omega (arith, stream_there, eight.0, ap length at) in
     let tied = arrivals c.entry l k a lines c.spool there in_line coherent.tied in
     let now : AreTied (with_stream l k done.receiver lines) done.spool =
-    subst (λ x. let d = received c.entry l (kind_of k) x a c.spool in AreTied (with_stream l k d.receiver lines) d.spool)
+    subst (λ x. let d = received_arrival c.entry l (kind_of k) x a c.spool in AreTied (with_stream l k d.receiver lines) d.spool)
     (stream_is l k c.lines) tied in
     record {
       tied = subst (λ rs. AreTied rs done.spool) (sym (with_streams l k done.receiver c.lines)) now;
@@ -150,17 +150,17 @@ keeps_moved l k a c arrivals line_there stream_there coherent =
 
 pub keeps_arrived :
     (l k : ℕ) (a : Arrival) (c : Customer) → ArrivalsTie → NothingUnties → l < length c.lines → k < 8 → IsCoherent c
-    → IsCoherent (arrived l k a c)
+    → IsCoherent (after_stream_arrival l k a c)
 keeps_arrived l k a c arrivals untied line_there stream_there coherent =
-    let done = received c.entry l (kind_of k) (receiver_at k (line_at l c.lines)) a c.spool in
+    let done = received_arrival c.entry l (kind_of k) (receiver_at k (line_at l c.lines)) a c.spool in
     let lines = on_line l (with_receiver k done.receiver) c.lines in
     let answer = option_map (answer_on k) done.answer in
     coherent_still (after_arrival l k done c) (moved l k done c) untied
     (record {
       entry = refl;
       lines =
-          on_line_shapes l (noted k done.receiver done.notice) (notified c.entry done.notice (answered l answer lines)) (λ x. refl)
-          ∙ notified_shapes c.entry done.notice (answered l answer lines)
+          on_line_shapes l (with_notice k done.receiver done.notice) (with_notice_to c.entry done.notice (with_answer_on l answer lines)) (λ x. refl)
+          ∙ notified_shapes c.entry done.notice (with_answer_on l answer lines)
           ∙ answered_shapes l answer lines;
       partial = refl;
       quota = refl;

@@ -5,7 +5,7 @@ use Rattle.std.proofs.lemmas.List.{get_or-set_same, set-get_or, set-set}
 use Rattle.njh_bisync.specs.declared.frame.Control.TheVariants as control
 use Rattle.njh_block.specs.Blocks.{read_block}
 use Rattle.njh_line.specs.LineTable as input
-use Rattle.njh_line.specs.LineTable.{Input, accepted, cell, end, none, try_nak, with_reply}
+use Rattle.njh_line.specs.LineTable.{Input, table_outcome, cell, end, none, try_nak, with_reply}
 use Rattle.njh_line.specs.Laws.{is_disregarded}
 use Rattle.njh_line.specs.Lines.{with_session, without_turn}
 use Rattle.njh_line.specs.Sessions.{in_session}
@@ -15,13 +15,13 @@ use Rattle.njh_line.specs.declared.config.Config.{Config}
 use Rattle.njh_line.specs.declared.session.Session.{Session}
 use Rattle.njh_line.specs.declared.verdict.Reply.TheVariants as reply
 use Rattle.njh_line.specs.declared.verdict.Verdict.{Verdict}
-use Rattle.njh_customer.specs.Customer.{Customer, CustomerLine, no_line, line_at, on_line, in_state}
-use Rattle.njh_customer.specs.Alone.{Step, goes_up, raised, silent, session_over, session_ended, carried_out, input_came, text_read, frame_came, signal_came}
+use Rattle.njh_customer.specs.Customer.{Customer, CustomerLine, no_customer_line, line_at, on_line, in_state}
+use Rattle.njh_customer.specs.Alone.{Step, goes_up, with_raised_line, silent, session_over, session_ended, carried_out, after_line_input, text_read, after_frame, after_signal}
 use Rattle.njh_customer.specs.Disregarding.{session_on, IsButSession, IsDisregarded, SpoiledIsDisregarded, BadBlocksAreDisregarded, GarbledIsDisregarded}
 
 -- by what the line table says, where the line goes up or doesn't
 abbrev by_mark : Bool → ℕ → Session → Verdict → Customer → Step
-by_mark up l s v c = carried_out l v (record c { entry = raised up l c.entry; lines = on_line l (in_state (with_session s)) c.lines })
+by_mark up l s v c = carried_out l v (record c { entry = with_raised_line up l c.entry; lines = on_line l (in_state (with_session s)) c.lines })
 
 abbrev by_parts : ℕ → Session → Verdict → Customer → Step
 by_parts l s v c = by_mark (goes_up (session_on l c).phase s.phase) l s v c
@@ -44,8 +44,8 @@ lines_as c lines = record c { lines = lines }
 
 -- nothing is disregarded but in a session, where it is a try
 table_is : (config : Config) (came : Input) (s : Session) → is_disregarded came ≡ true
-    → accepted config came s ≡ cell s.phase (none s) (none s) (try_nak s) (try_nak s) (try_nak s)
-unfolding accepted
+    → table_outcome config came s ≡ cell s.phase (none s) (none s) (try_nak s) (try_nak s) (try_nak s)
+unfolding table_outcome
 table_is config input.Spoiled s e = refl
 table_is config input.Bad s e = refl
 table_is config input.Garbled s e = refl
@@ -59,11 +59,11 @@ table_is config (input.Block bcb fcs first) s e = absurd (cc e)
 
 module _ (l : ℕ) (c : Customer) where
   -- the line with the session that it has
-  same_lines : set c.lines l (get_or c.lines l no_line) ≡ c.lines
-  same_lines = set-get_or c.lines l no_line
+  same_lines : set c.lines l (get_or c.lines l no_customer_line) ≡ c.lines
+  same_lines = set-get_or c.lines l no_customer_line
 
-  again : (xs : List CustomerLine) → set xs l (get_or xs l no_line) ≡ xs
-  again xs = set-get_or xs l no_line
+  again : (xs : List CustomerLine) → set xs l (get_or xs l no_customer_line) ≡ xs
+  again xs = set-get_or xs l no_customer_line
 
   nothing : by_parts l (none (session_on l c)).session (none (session_on l c)).verdict c ≡ silent c
   nothing =
@@ -90,7 +90,7 @@ module _ (l : ℕ) (c : Customer) where
         session = without_turn s;
         after = ap (lines_as c)
             (ap (λ x. set (on_line l (in_state (with_session s)) c.lines) l (in_state (with_session (without_turn x.state.session)) x))
-            (get_or-set_same c.lines l (in_state (with_session s) (line_at l c.lines)) no_line there)
+            (get_or-set_same c.lines l (in_state (with_session s) (line_at l c.lines)) no_customer_line there)
             ∙ set-set c.lines l (in_state (with_session s) (line_at l c.lines)) (in_state (with_session (without_turn s)) (line_at l c.lines)));
       })
 
@@ -131,9 +131,9 @@ module _ (l : ℕ) (c : Customer) where
   by_phase SentI e there s is = tried_or_over ((session_on l c).tries == 5) refl there (ap in_session e) s is
   by_phase Up e there s is = tried_or_over ((session_on l c).tries == 5) refl there (ap in_session e) s is
 
-  input_disregarded : (came : Input) → is_disregarded came ≡ true → l < length c.lines → IsDisregarded l c (input_came l came c)
+  input_disregarded : (came : Input) → is_disregarded came ≡ true → l < length c.lines → IsDisregarded l c (after_line_input l came c)
   input_disregarded came e there =
-      by_phase (session_on l c).phase refl there (input_came l came c)
+      by_phase (session_on l c).phase refl there (after_line_input l came c)
       (ap (λ o. by_parts l o.session o.verdict c) (table_is (line_at l c.lines).state.config came (session_on l c) e))
 
   -- a line that isn't there
@@ -150,17 +150,17 @@ module _ (l : ℕ) (c : Customer) where
   where_it_is s false e there = not_there e
 
 pub spoiled : SpoiledIsDisregarded
-unfolding frame_came
+unfolding after_frame
 spoiled l c =
-    where_it_is l c (input_came l input.Spoiled c) (nat_lt l (length c.lines)) refl (input_disregarded l c input.Spoiled refl)
+    where_it_is l c (after_line_input l input.Spoiled c) (nat_lt l (length c.lines)) refl (input_disregarded l c input.Spoiled refl)
 
 pub bad_blocks : BadBlocksAreDisregarded
-unfolding frame_came
+unfolding after_frame
 bad_blocks l text fault c e =
     where_it_is l c (text_read l (read_block text) c) (nat_lt l (length c.lines)) refl
     (λ there. subst (λ b. IsDisregarded l c (text_read l b c)) (sym e) (input_disregarded l c input.Bad refl there))
 
 pub garbled : GarbledIsDisregarded
-unfolding signal_came
+unfolding after_signal
 garbled l c =
-    where_it_is l c (input_came l input.Garbled c) (nat_lt l (length c.lines)) refl (input_disregarded l c input.Garbled refl)
+    where_it_is l c (after_line_input l input.Garbled c) (nat_lt l (length c.lines)) refl (input_disregarded l c input.Garbled refl)

@@ -16,7 +16,7 @@ use Rattle.njh_block.specs.declared.fault.BlockFault.{BlockFault}
 use Rattle.njh_table.specs.Entries.{CustomerEntry}
 use Rattle.njh_stream.specs.declared.sender.Sender.{Sender}
 use Rattle.njh_stream.specs.Sending.{goes_by}
-use Rattle.njh_sched.specs.NextBlock.{Filling, filled, filling}
+use Rattle.njh_sched.specs.NextBlock.{Filling, filled_block, filling}
 use Rattle.njh_sched.specs.Tight.{own_fcs}
 use Rattle.njh_line.specs.LineTable as input
 use Rattle.njh_line.specs.LineTable.{Input}
@@ -27,14 +27,14 @@ use Rattle.njh_line.specs.declared.verdict.Reply.{Reply}
 use Rattle.njh_line.specs.declared.verdict.Reply.TheVariants as reply
 use Rattle.njh_line.specs.declared.verdict.Verdict.{Verdict}
 use Rattle.njh_customer.specs.declared.signal.Signal.{Signal}
-use Rattle.njh_customer.specs.Customer.{Customer, CustomerLine, no_line, line_at, on_line, in_state}
+use Rattle.njh_customer.specs.Customer.{Customer, CustomerLine, no_customer_line, line_at, on_line, in_state}
 use Rattle.njh_customer.specs.Acting.{acted_where}
-use Rattle.njh_customer.specs.Sending.{LineSent, Sending, control_sent, no_block_sent, empty_sent, block_sent, next_block, outlet_of, own_block, reply_sent, with_outlet}
-use Rattle.njh_customer.specs.Alone.{Step, silent, quiet, raised, goes_up_by, replied, replied_to, session_over, session_over_where, session_ended, carried_out, verdict_on}
-use Rattle.njh_customer.specs.Alone.{accepted_on, input_came, block_input, behind_records, block_came, text_read, text_came, received_on, signal_input, frame_came, signal_came}
+use Rattle.njh_customer.specs.Sending.{LineSent, Sending, sending_of_control, sending_of_no_block, sending_of_empty, sending_of_block, next_block, outlet_of, own_block, sending_of_reply, with_outlet}
+use Rattle.njh_customer.specs.Alone.{Step, silent, quiet, with_raised_line, goes_up_by, after_reply, replied_to, session_over, session_over_where, session_ended, carried_out, verdict_on}
+use Rattle.njh_customer.specs.Alone.{accepted_on, after_line_input, block_input, behind_records, after_block, text_read, after_text, after_received, signal_input, after_frame, after_signal}
 use Rattle.njh_customer.specs.OutgoingFiles.{Outgoing, outgoing, streams_from_hub, streams_of}
-use Rattle.njh_customer.specs.Moves.{Leads, nowhere, OneActs, Sends}
-use Rattle.njh_customer.specs.FrameEffects.{Carries, Ends, still_on, over_now, GoesOut, no_block, new_block, Does, block_records, records_in}
+use Rattle.njh_customer.specs.Moves.{LeadsByMoves, nowhere, OneActs, Sends}
+use Rattle.njh_customer.specs.FrameEffects.{Carries, Ends, still_on, over_now, GoesOut, no_block, new_block, Does, block_records, records_of_frame}
 use Rattle.njh_customer.specs.FrameEffects.{IsNoNewBlock, nothing_sent, control, again, sign_on, count, without_records}
 use Rattle.njh_customer.proofs.OutgoingLaws.{of_parts, on_line_senders}
 use Rattle.njh_customer.proofs.SendingMoves.{out_of, filled_leads, filled_with_none}
@@ -49,32 +49,32 @@ abbrev pub BlocksCarry : Type 0
 BlocksCarry =
     (entry : CustomerEntry) (l k : ℕ) (base : List (List Sender)) (x : Filling) → l < length base → k < 8 → k < length x.outlet.senders
     → x.block.items ≡ []
-    → Carries l k (filled (goes_by entry l) x).block.items (out_of l base x) (out_of l base (filled (goes_by entry l) x))
+    → Carries l k (filled_block (goes_by entry l) x).block.items (out_of l base x) (out_of l base (filled_block (goes_by entry l) x))
 
 -- a line sent what moves no stream
 sent_unmoved :
     (l : ℕ) (x : LineSent) (c : Customer) → x.line.senders ≡ (line_at l c.lines).senders → x.spool.whole ≡ c.spool.whole
     → IsNoNewBlock (line_at l c.lines).state x.frame
-    → GoesOut c.entry l (line_at l c.lines).state (outgoing c) (outgoing (replied l x c).after) x.frame
+    → GoesOut c.entry l (line_at l c.lines).state (outgoing c) (outgoing (after_reply l x c).after) x.frame
 sent_unmoved l x c same files no_new =
     no_block
     (ap (λ whole. of_parts whole (streams_from_hub (set c.lines l x.line))) files
-    ∙ ap (of_parts c.spool.whole) (map-set_same (λ y. y.senders) c.lines l x.line no_line same)) no_new
+    ∙ ap (of_parts c.spool.whole) (map-set_same (λ y. y.senders) c.lines l x.line no_customer_line same)) no_new
 
-control_is : (line x : LineState) (which : Control) → IsNoNewBlock line (control_sent which x).frame
+control_is : (line x : LineState) (which : Control) → IsNoNewBlock line (sending_of_control which x).frame
 control_is line x Enquiry = control Enquiry refl
 control_is line x Ack0 = control Ack0 refl
 control_is line x Nak = control Nak refl
 
 -- in the place of a new block
-in_its_place : (line x : LineState) (or_ack0 : Bool) → IsNoNewBlock line (no_block_sent or_ack0 x).frame
+in_its_place : (line x : LineState) (or_ack0 : Bool) → IsNoNewBlock line (sending_of_no_block or_ack0 x).frame
 in_its_place line x true = control Ack0 refl
 in_its_place line x false = nothing_sent refl
 
 abbrev empty_where : Bool → Bool → Writing → LineState → Sending
-empty_where b or_ack0 w x = elim b [ true ↦ no_block_sent or_ack0 x | false ↦ block_sent w x ]
+empty_where b or_ack0 w x = elim b [ true ↦ sending_of_no_block or_ack0 x | false ↦ sending_of_block w x ]
 
-empty_is : (line x : LineState) (or_ack0 : Bool) (w : Writing) → w.items ≡ [] → IsNoNewBlock line (empty_sent or_ack0 w x).frame
+empty_is : (line x : LineState) (or_ack0 : Bool) (w : Writing) → w.items ≡ [] → IsNoNewBlock line (sending_of_empty or_ack0 w x).frame
 empty_is line x or_ack0 w none = at_test (all_suspended x.session.peer_fcs || same_fcs w.fcs x.session.own_fcs)
   where
     at_test : (b : Bool) → IsNoNewBlock line (empty_where b or_ack0 w x).frame
@@ -98,7 +98,7 @@ goes_out_as entry l x y u v sent config last (new_block bcb fcs items e leads ca
 
 -- by a block's records
 abbrev sent_where : Bool → Writing → LineState → List Item → Sending
-sent_where or_ack0 w x is = elim is [ [] ↦ empty_sent or_ack0 w x | i ∷ js ↦ block_sent w x ]
+sent_where or_ack0 w x is = elim is [ [] ↦ sending_of_empty or_ack0 w x | i ∷ js ↦ sending_of_block w x ]
 
 -- how a line is set up, and its last transmission
 abbrev set_up : CustomerLine → Config × List ℕ
@@ -106,8 +106,8 @@ set_up x = (x.state.config, x.state.last)
 
 -- The line table judged what came, and then the records acted.
 pub record Judged (up : Bool) (l : ℕ) (items : List Item) (c d : Customer) : Type 0 where
-  pub entry : d.entry ≡ raised up l c.entry
-  pub records : Leads (OneActs (raised up l c.entry) l items) (outgoing c) (outgoing d)
+  pub entry : d.entry ≡ with_raised_line up l c.entry
+  pub records : LeadsByMoves (OneActs (with_raised_line up l c.entry) l items) (outgoing c) (outgoing d)
   pub config : (line_at l d.lines).state.config ≡ (line_at l c.lines).state.config
   pub last : (line_at l d.lines).state.last ≡ (line_at l c.lines).state.last
   pub lines : length d.lines ≡ length c.lines
@@ -133,7 +133,7 @@ module _ (carry : BlocksCarry) where
       begins : out_of l base first ≡ outgoing c
       begins =
           ap (of_parts c.spool.whole)
-          (ap (set base l) (sym (get_or-map (λ y. y.senders) c.lines l no_line)) ∙ set-get_or base l [])
+          (ap (set base l) (sym (get_or-map (λ y. y.senders) c.lines l no_customer_line)) ∙ set-get_or base l [])
 
       -- however the line's state is
       after_is :
@@ -141,17 +141,17 @@ module _ (carry : BlocksCarry) where
       after_is line same =
           ap (of_parts full.spool.whole) (map-set (λ y. y.senders) c.lines l line ∙ ap (set base l) same)
 
-      leads : Leads (Sends c.entry l) (outgoing c) (out_of l base full)
-      leads = subst (λ x. Leads (Sends c.entry l) x (out_of l base full)) begins (filled_leads c.entry l base inside first)
+      leads : LeadsByMoves (Sends c.entry l) (outgoing c) (out_of l base full)
+      leads = subst (λ x. LeadsByMoves (Sends c.entry l) x (out_of l base full)) begins (filled_leads c.entry l base inside first)
 
       carries : (k : ℕ) → k < 8 → k < length (streams_of l (outgoing c)) → Carries l k full.block.items (outgoing c) (out_of l base full)
       carries k few in_line =
-          let here : streams_of l (outgoing c) ≡ (line_at l c.lines).senders = get_or-map (λ y. y.senders) c.lines l no_line in
+          let here : streams_of l (outgoing c) ≡ (line_at l c.lines).senders = get_or-map (λ y. y.senders) c.lines l no_customer_line in
           let in_outlet : k < length first.outlet.senders = omega (arith, in_line, ap length here) in
           subst (λ x. Carries l k full.block.items x (out_of l base full)) begins (carry c.entry l k base first inside few in_outlet refl)
 
       sent : CustomerLine
-      sent = (reply_sent c.entry l (reply.Next or_ack0) c.spool (line_at l c.lines)).line
+      sent = (sending_of_reply c.entry l (reply.Next or_ack0) c.spool (line_at l c.lines)).line
 
       by_items :
           (is : List Item) → full.block.items ≡ is
@@ -161,21 +161,21 @@ module _ (carry : BlocksCarry) where
           no_block (after_is sent refl ∙ filled_with_none c.entry l base inside first none ∙ begins)
           (empty_is (line_at l c.lines).state (with_outlet full.outlet (line_at l c.lines)).state or_ack0 full.block none)
       by_items (i ∷ is) some =
-          subst (λ y. GoesOut c.entry l (line_at l c.lines).state (outgoing c) y (block_sent full.block (with_outlet full.outlet (line_at l c.lines)).state).frame)
+          subst (λ y. GoesOut c.entry l (line_at l c.lines).state (outgoing c) y (sending_of_block full.block (with_outlet full.outlet (line_at l c.lines)).state).frame)
           (sym (after_is sent refl)) (new_block full.block.bcb full.block.fcs full.block.items refl leads carries)
 
   reply_goes_out :
       (l : ℕ) (r : Reply) (c : Customer) → l < length c.lines
       → GoesOut c.entry l (line_at l c.lines).state (outgoing c) (outgoing (replied_to l r c).after) (replied_to l r c).frame
-  reply_goes_out l reply.Nothing c there = sent_unmoved l (reply_sent c.entry l reply.Nothing c.spool (line_at l c.lines)) c refl refl (nothing_sent refl)
+  reply_goes_out l reply.Nothing c there = sent_unmoved l (sending_of_reply c.entry l reply.Nothing c.spool (line_at l c.lines)) c refl refl (nothing_sent refl)
   reply_goes_out l (reply.Control which) c there =
-      sent_unmoved l (reply_sent c.entry l (reply.Control which) c.spool (line_at l c.lines)) c refl refl
+      sent_unmoved l (sending_of_reply c.entry l (reply.Control which) c.spool (line_at l c.lines)) c refl refl
       (control_is (line_at l c.lines).state (line_at l c.lines).state which)
-  reply_goes_out l reply.Again c there = sent_unmoved l (reply_sent c.entry l reply.Again c.spool (line_at l c.lines)) c refl refl (again refl)
-  reply_goes_out l (reply.SignOn kind) c there = sent_unmoved l (reply_sent c.entry l (reply.SignOn kind) c.spool (line_at l c.lines)) c refl refl (sign_on kind refl)
+  reply_goes_out l reply.Again c there = sent_unmoved l (sending_of_reply c.entry l reply.Again c.spool (line_at l c.lines)) c refl refl (again refl)
+  reply_goes_out l (reply.SignOn kind) c there = sent_unmoved l (sending_of_reply c.entry l (reply.SignOn kind) c.spool (line_at l c.lines)) c refl refl (sign_on kind refl)
   reply_goes_out l (reply.Sequence expected) c there =
       let line = (line_at l c.lines).state in
-      sent_unmoved l (reply_sent c.entry l (reply.Sequence expected) c.spool (line_at l c.lines)) c refl refl
+      sent_unmoved l (sending_of_reply c.entry l (reply.Sequence expected) c.spool (line_at l c.lines)) c refl refl
       (count (own_block (own_fcs c.spool) line).bcb (own_fcs c.spool) expected refl)
   reply_goes_out l (reply.Next or_ack0) c there = next_goes_out l or_ack0 c there
 
@@ -192,7 +192,7 @@ module _ (carry : BlocksCarry) where
 
   kept_at : (l : ℕ) (c d : Customer) → kepts d.lines ≡ kepts c.lines → kept (line_at l d.lines) ≡ kept (line_at l c.lines)
   kept_at l c d e =
-      sym (get_or-map kept d.lines l no_line) ∙ ap (λ ps. get_or ps l (kept no_line)) e ∙ get_or-map kept c.lines l no_line
+      sym (get_or-map kept d.lines l no_customer_line) ∙ ap (λ ps. get_or ps l (kept no_customer_line)) e ∙ get_or-map kept c.lines l no_customer_line
 
   carried_does :
       (l : ℕ) (items : List Item) (v : Verdict) (c d : Customer) (up : Bool) → Judged up l items c d → l < length d.lines
@@ -209,7 +209,7 @@ module _ (carry : BlocksCarry) where
             judged.config judged.last (reply_goes_out l v.reply d there));
         end = subst (λ entry. Ends entry l (outgoing sent) (session_over_where v.ended l sent)) judged.entry (ended_so l v.ended sent);
         lines = over_lines l v.ended sent
-            ∙ length-set d.lines l (reply_sent d.entry l v.reply d.spool (line_at l d.lines)).line
+            ∙ length-set d.lines l (sending_of_reply d.entry l v.reply d.spool (line_at l d.lines)).line
             ∙ judged.lines;
       }
 
@@ -220,9 +220,9 @@ module _ (carry : BlocksCarry) where
   accepted_at : (l : ℕ) (came : Input) (c : Customer) → set_up (line_at l (accepted_on l came c).lines) ≡ set_up (line_at l c.lines)
   accepted_at l came c =
       let lines = on_line l (in_state (after_input came)) c.lines in
-      sym (get_or-map set_up lines l no_line)
-      ∙ ap (λ ps. get_or ps l (set_up no_line)) (map-set_same set_up c.lines l (in_state (after_input came) (line_at l c.lines)) no_line refl)
-      ∙ get_or-map set_up c.lines l no_line
+      sym (get_or-map set_up lines l no_customer_line)
+      ∙ ap (λ ps. get_or ps l (set_up no_customer_line)) (map-set_same set_up c.lines l (in_state (after_input came) (line_at l c.lines)) no_customer_line refl)
+      ∙ get_or-map set_up c.lines l no_customer_line
 
   accepted_judged :
       (l : ℕ) (items : List Item) (came : Input) (c d : Customer) → Acting l items (accepted_on l came c) d
@@ -231,13 +231,13 @@ module _ (carry : BlocksCarry) where
       let a = accepted_on l came c in
       record {
         entry = acting.entry;
-        records = subst (λ x. Leads (OneActs a.entry l items) x (outgoing d)) (accepted_is l came c) acting.records;
+        records = subst (λ x. LeadsByMoves (OneActs a.entry l items) x (outgoing d)) (accepted_is l came c) acting.records;
         config = ap (λ p. p.0) (kept_at l a d acting.kept) ∙ ap (λ p. p.0) (accepted_at l came c);
         last = ap (λ p. p.1) (kept_at l a d acting.kept) ∙ ap (λ p. p.1) (accepted_at l came c);
         lines = lines_of a d acting.kept ∙ length-set c.lines l (in_state (after_input came) (line_at l c.lines));
       }
 
-  input_does : (l : ℕ) (items : List Item) (came : Input) (c : Customer) → l < length c.lines → Does l items c (input_came l came c)
+  input_does : (l : ℕ) (items : List Item) (came : Input) (c : Customer) → l < length c.lines → Does l items c (after_line_input l came c)
   input_does l items came c there =
       let d = accepted_on l came c in
       let judged = accepted_judged l items came c d (acting_where false l items d) in
@@ -262,21 +262,21 @@ module _ (carry : BlocksCarry) where
   behind_does l items true v c d up judged there = ended_does l items c d up judged
   behind_does l items false v c d up judged there = carried_does l items v c d up judged there
 
-  block_does : (l : ℕ) (b : Block) (c : Customer) → l < length c.lines → Does l b.items c (block_came l b c)
+  block_does : (l : ℕ) (b : Block) (c : Customer) → l < length c.lines → Does l b.items c (after_block l b c)
   block_does l b c there =
       let v = verdict_on l (block_input b) c in
       let a = acted_where v.acts l b.items (accepted_on l (block_input b) c) in
       let judged = accepted_judged l b.items (block_input b) c a.customer (acting_where v.acts l b.items (accepted_on l (block_input b) c)) in
       behind_does l b.items a.ended v c a.customer (goes_up_by l (block_input b) c) judged (omega (arith, there, judged.lines))
 
-  text_does : (l : ℕ) (text : List ℕ) (c : Customer) → l < length c.lines → Does l (records_in (frame.Text text)) c (text_came l text c)
+  text_does : (l : ℕ) (text : List ℕ) (c : Customer) → l < length c.lines → Does l (records_of_frame (frame.Text text)) c (after_text l text c)
   text_does l text c there = at_block (read_block text)
     where
       at_block : (b : Result Block BlockFault) → Does l (block_records b) c (text_read l b c)
       at_block (Ok b) = block_does l b c there
       at_block (Err e) = input_does l [] input.Bad c there
 
-  received_does : (l : ℕ) (x : Received) (c : Customer) → l < length c.lines → Does l (records_in x) c (received_on l x c)
+  received_does : (l : ℕ) (x : Received) (c : Customer) → l < length c.lines → Does l (records_of_frame x) c (after_received l x c)
   received_does l frame.Enquiry c there = input_does l [] input.Enquiry c there
   received_does l frame.Ack0 c there = input_does l [] input.Ack0 c there
   received_does l frame.Nak c there = input_does l [] input.Nak c there
@@ -302,10 +302,10 @@ module _ (carry : BlocksCarry) where
   there_does l items true x c e does = does (ltb-true l (length c.lines) e)
   there_does l items false x c e does = silent_does l items c
 
-  pub frame_does : (l : ℕ) (x : Received) (c : Customer) → Does l (records_in x) c (frame_came l x c)
-  unfolding frame_came
-  frame_does l x c = there_does l (records_in x) (nat_lt l (length c.lines)) (received_on l x c) c refl (received_does l x c)
+  pub frame_does : (l : ℕ) (x : Received) (c : Customer) → Does l (records_of_frame x) c (after_frame l x c)
+  unfolding after_frame
+  frame_does l x c = there_does l (records_of_frame x) (nat_lt l (length c.lines)) (after_received l x c) c refl (received_does l x c)
 
-  pub signal_does : (l : ℕ) (x : Signal) (c : Customer) → Does l [] c (signal_came l x c)
-  unfolding signal_came
-  signal_does l x c = there_does l [] (nat_lt l (length c.lines)) (input_came l (signal_input x) c) c refl (input_does l [] (signal_input x) c)
+  pub signal_does : (l : ℕ) (x : Signal) (c : Customer) → Does l [] c (after_signal l x c)
+  unfolding after_signal
+  signal_does l x c = there_does l [] (nat_lt l (length c.lines)) (after_line_input l (signal_input x) c) c refl (input_does l [] (signal_input x) c)

@@ -11,17 +11,17 @@ use Rattle.njh_stream.specs.declared.receiver.Receiver.TheVariants as receiver
 use Rattle.njh_stream.specs.declared.sender.Sender.{Sender}
 use Rattle.njh_stream.specs.declared.sender.Sender.TheVariants as sender
 use Rattle.njh_stream.specs.Receiving.{without_open, without_all_open}
-use Rattle.njh_stream.specs.Sending.{all_ended, ended, file_in, may_go_again, ready, tried_again}
-use Rattle.njh_customer.specs.Customer.{Customer, no_line, line_at}
+use Rattle.njh_stream.specs.Sending.{all_ended, spool_after_session, file_in, may_go_again, ready, tried_again}
+use Rattle.njh_customer.specs.Customer.{Customer, no_customer_line, line_at}
 use Rattle.njh_customer.specs.Alone.{quiet, session_over}
-use Rattle.njh_customer.specs.OutgoingFiles.{marked, outgoing, streams_from_hub}
+use Rattle.njh_customer.specs.OutgoingFiles.{with_file_state, outgoing, streams_from_hub}
 use Rattle.njh_customer.specs.Moves.{Over}
 
-pub marked_ready : (n : ℕ) (state : State) (files : List WholeFile) → map ready (marked n state files) ≡ map ready files
+pub marked_ready : (n : ℕ) (state : State) (files : List WholeFile) → map ready (with_file_state n state files) ≡ map ready files
 marked_ready n state [] = refl
 marked_ready n state (f ∷ fs) = at_number (f.number == n) (marked_ready n state fs)
   where
-    at_number : (b : Bool) → map ready (marked n state fs) ≡ map ready fs → ready (cond b (record f { state = state }) f) ∷ map ready (marked n state fs) ≡ ready f ∷ map ready fs
+    at_number : (b : Bool) → map ready (with_file_state n state fs) ≡ map ready fs → ready (cond b (record f { state = state }) f) ∷ map ready (with_file_state n state fs) ≡ ready f ∷ map ready fs
     at_number true rest = ap (λ more. ready f ∷ more) rest
     at_number false rest = ap (λ more. ready f ∷ more) rest
 
@@ -39,7 +39,7 @@ tried_ready entry l (f ∷ fs) = at_test (may_go_again entry l f) (tried_ready e
 abbrev ended_where : Option ℕ → CustomerSpool → CustomerSpool
 ended_where o s = elim o [ Some n ↦ with_state n Ready s | None ↦ s ]
 
-ended_ready : (x : Sender) (s : CustomerSpool) → map ready (ended x s).whole ≡ map ready s.whole
+ended_ready : (x : Sender) (s : CustomerSpool) → map ready (spool_after_session x s).whole ≡ map ready s.whole
 ended_ready x s = at_file (file_in x)
   where
     at_file : (o : Option ℕ) → map ready (ended_where o s).whole ≡ map ready s.whole
@@ -48,7 +48,7 @@ ended_ready x s = at_file (file_in x)
 
 all_ended_ready : (xs : List Sender) (s : CustomerSpool) → map ready (all_ended xs s).whole ≡ map ready s.whole
 all_ended_ready [] s = refl
-all_ended_ready (x ∷ xs) s = all_ended_ready xs (ended x s) ∙ ended_ready x s
+all_ended_ready (x ∷ xs) s = all_ended_ready xs (spool_after_session x s) ∙ ended_ready x s
 
 without_open_whole : (r : Receiver) (s : CustomerSpool) → (without_open r s).whole ≡ s.whole
 without_open_whole receiver.Idle s = refl
@@ -65,7 +65,7 @@ over_so l c =
     record {
       streams =
           map-set (λ y. y.senders) c.lines l (quiet x)
-          ∙ ap (λ senders. set (streams_from_hub c.lines) l (replicate (length senders) sender.Idle)) (sym (get_or-map (λ y. y.senders) c.lines l no_line));
+          ∙ ap (λ senders. set (streams_from_hub c.lines) l (replicate (length senders) sender.Idle)) (sym (get_or-map (λ y. y.senders) c.lines l no_customer_line));
       files =
           ap (map ready) (without_all_whole x.receivers (tried_again c.entry l (all_ended x.senders c.spool)))
           ∙ tried_ready c.entry l (all_ended x.senders c.spool).whole

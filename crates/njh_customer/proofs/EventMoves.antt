@@ -3,31 +3,31 @@ use Rattle.std.proofs.Common.{◌≡◌, ℕ, Bool, true, false, List, [], ◌�
 use Rattle.std.proofs.lemmas.List.Elements.{Contains-append_left, Contains-append_right}
 use Rattle.std.specs.Prelude.{flat_map}
 use Rattle.std.specs.List.{Contains, cons_option}
-use Rattle.njh_bisync.specs.ByteSteps.{frames_after, turn}
+use Rattle.njh_bisync.specs.ByteSteps.{frames_after, rest_step}
 use Rattle.njh_bisync.specs.Frames.{Received}
 use Rattle.njh_bisync.specs.Reading.{Rest}
 use Rattle.njh_block.specs.Blocks.{Item}
 use Rattle.njh_table.specs.Entries.{CustomerEntry}
 use Rattle.njh_table.specs.Marks.{entry_marked}
 use Rattle.njh_customer.specs.Customer.{Customer, line_at, with_marks}
-use Rattle.njh_customer.specs.Alone.{Step, raised, signal_came}
+use Rattle.njh_customer.specs.Alone.{Step, with_raised_line, after_signal}
 use Rattle.njh_customer.specs.Feeding.{acted_on, bytes_run}
-use Rattle.njh_customer.specs.Part.{bytes_taken, rest_on}
+use Rattle.njh_customer.specs.Part.{part_after_bytes, rest_on}
 use Rattle.njh_customer.specs.Runs.{OwnBytes, OwnSignal, OwnRoutes, Run, event_run}
 use Rattle.njh_customer.specs.OutgoingFiles.{Outgoing, outgoing}
-use Rattle.njh_customer.specs.Moves.{Leads, nowhere, onward, Moves, MovesBy, Records, by_record, by_sending, by_end, OneActs, Sends}
-use Rattle.njh_customer.specs.FrameEffects.{Does, Ends, still_on, over_now, GoesOut, no_block, new_block, records_in}
+use Rattle.njh_customer.specs.Moves.{LeadsByMoves, nowhere, onward, Moves, MovesBy, Records, by_record, by_sending, by_end, OneActs, Sends}
+use Rattle.njh_customer.specs.FrameEffects.{Does, Ends, still_on, over_now, GoesOut, no_block, new_block, records_of_frame}
 use Rattle.njh_customer.specs.MovingLaws.{EventsMoveSo, FramesDoSo, SignalsDoSo, TakesMoveSo, coming}
 use Rattle.njh_customer.specs.Laws.{followed_by}
 use Rattle.njh_customer.proofs.PieceLaws.{no_bytes_do_nothing, steps_follow_bytes}
 use Rattle.njh_customer.proofs.RoutesMoves.{routes_move}
 
 pub leads_as :
-    (M N : Outgoing → Outgoing → Type 0) (x z : Outgoing) → ((u v : Outgoing) → M u v → N u v) → Leads M x z → Leads N x z
+    (M N : Outgoing → Outgoing → Type 0) (x z : Outgoing) → ((u v : Outgoing) → M u v → N u v) → LeadsByMoves M x z → LeadsByMoves N x z
 leads_as M N _ _ each (nowhere x) = nowhere x
 leads_as M N _ _ each (onward x y z move later) = onward x y z (each x y move) (leads_as M N y z each later)
 
-pub leads_then : (M : Outgoing → Outgoing → Type 0) (x y z : Outgoing) → Leads M x y → Leads M y z → Leads M x z
+pub leads_then : (M : Outgoing → Outgoing → Type 0) (x y z : Outgoing) → LeadsByMoves M x y → LeadsByMoves M y z → LeadsByMoves M x z
 leads_then M _ _ z (nowhere x) second = second
 leads_then M _ _ z (onward x u y move later) second = onward x u z move (leads_then M u y z later second)
 
@@ -41,27 +41,27 @@ more_records entry l some items x y among (by_end over) = by_end over
 -- all moves of a step
 pub does_moves :
     (l : ℕ) (items : List Item) (c : Customer) (s : Step) (does : Does l items c s)
-    → Leads (Moves (raised does.up l c.entry) l items) (outgoing c) (outgoing s.after)
+    → LeadsByMoves (Moves (with_raised_line does.up l c.entry) l items) (outgoing c) (outgoing s.after)
 does_moves l items c s does =
     leads_then (Moves entry l items) (outgoing c) does.acted (outgoing s.after)
     (leads_as (OneActs entry l items) (Moves entry l items) (outgoing c) does.acted (λ u v acts. by_record acts) does.records)
     (leads_then (Moves entry l items) does.acted does.answered (outgoing s.after) (at_answer does.answer) (at_end does.end))
   where
     entry : CustomerEntry
-    entry = raised does.up l c.entry
+    entry = with_raised_line does.up l c.entry
 
-    at_answer : GoesOut entry l (line_at l c.lines).state does.acted does.answered s.frame → Leads (Moves entry l items) does.acted does.answered
-    at_answer (no_block same no_new) = subst (Leads (Moves entry l items) does.acted) (sym same) (nowhere does.acted)
+    at_answer : GoesOut entry l (line_at l c.lines).state does.acted does.answered s.frame → LeadsByMoves (Moves entry l items) does.acted does.answered
+    at_answer (no_block same no_new) = subst (LeadsByMoves (Moves entry l items) does.acted) (sym same) (nowhere does.acted)
     at_answer (new_block bcb fcs is frame sends carries) =
         leads_as (Sends entry l) (Moves entry l items) does.acted does.answered (λ u v send. by_sending send) sends
 
-    at_end : Ends entry l does.answered s.after → Leads (Moves entry l items) does.answered (outgoing s.after)
-    at_end (still_on same kept) = subst (Leads (Moves entry l items) does.answered) (sym same) (nowhere does.answered)
+    at_end : Ends entry l does.answered s.after → LeadsByMoves (Moves entry l items) does.answered (outgoing s.after)
+    at_end (still_on same kept) = subst (LeadsByMoves (Moves entry l items) does.answered) (sym same) (nowhere does.answered)
     at_end (over_now gone lowered) = onward does.answered (outgoing s.after) (outgoing s.after) (by_end gone) (nowhere (outgoing s.after))
 
 -- ---- of an entry the marks alone are changed
 
-raised_is : (up : Bool) (l : ℕ) (entry : CustomerEntry) → raised up l entry ≡ with_marks (raised up l entry).up entry
+raised_is : (up : Bool) (l : ℕ) (entry : CustomerEntry) → with_raised_line up l entry ≡ with_marks (with_raised_line up l entry).up entry
 raised_is true l entry = refl
 raised_is false l entry = refl
 
@@ -73,7 +73,7 @@ pub does_entry : (l : ℕ) (items : List Item) (c : Customer) (s : Step) → Doe
 does_entry l items c s does = at_end does.end
   where
     judged : CustomerEntry
-    judged = raised does.up l c.entry
+    judged = with_raised_line does.up l c.entry
 
     at_end : Ends judged l does.answered s.after → s.after.entry ≡ with_marks s.after.entry.up c.entry
     at_end (still_on same kept) = own_marks s.after.entry c.entry judged.up (kept ∙ raised_is does.up l c.entry)
@@ -83,9 +83,9 @@ does_entry l items c s does = at_end does.end
 -- the moves of a step, by the marks of their moments
 pub does_moves_by :
     (l : ℕ) (items more : List Item) (c : Customer) (s : Step) → ((i : Item) → Contains items i → Contains more i) → Does l items c s
-    → Leads (MovesBy c.entry (Records l more)) (outgoing c) (outgoing s.after)
+    → LeadsByMoves (MovesBy c.entry (Records l more)) (outgoing c) (outgoing s.after)
 does_moves_by l items more c s among does =
-    let entry = raised does.up l c.entry in
+    let entry = with_raised_line does.up l c.entry in
     leads_as (Moves entry l items) (MovesBy c.entry (Records l more)) (outgoing c) (outgoing s.after)
     (λ u v move. (entry.up, subst (λ x. Moves x l more u v) (raised_is does.up l c.entry) (more_records entry l items more u v among move)))
     (does_moves l items c s does)
@@ -94,40 +94,40 @@ does_moves_by l items more c s among does =
 pub record Moved (l : ℕ) (items : List Item) (c d : Customer) : Type 0 where
   pub entry : d.entry ≡ with_marks d.entry.up c.entry
   pub lines : length d.lines ≡ length c.lines
-  pub moves : Leads (MovesBy c.entry (Records l items)) (outgoing c) (outgoing d)
+  pub moves : LeadsByMoves (MovesBy c.entry (Records l items)) (outgoing c) (outgoing d)
 
 module _ (frames : FramesDoSo) where
-  pub bytes_move : (rest : Rest) (c : Customer) (l : ℕ) (bytes : List ℕ) → Moved l (flat_map records_in (frames_after rest bytes)) c (bytes_run rest c l bytes).after
+  pub bytes_move : (rest : Rest) (c : Customer) (l : ℕ) (bytes : List ℕ) → Moved l (flat_map records_of_frame (frames_after rest bytes)) c (bytes_run rest c l bytes).after
   bytes_move rest c l [] = record { entry = refl; lines = refl; moves = nowhere (outgoing c) }
-  bytes_move rest c l (byte ∷ bytes) = at_frame (turn rest byte).frame (λ d. bytes_move (turn rest byte).rest d l bytes)
+  bytes_move rest c l (byte ∷ bytes) = at_frame (rest_step rest byte).frame (λ d. bytes_move (rest_step rest byte).rest d l bytes)
     where
       next : Rest
-      next = (turn rest byte).rest
+      next = (rest_step rest byte).rest
 
       later : List Item
-      later = flat_map records_in (frames_after next bytes)
+      later = flat_map records_of_frame (frames_after next bytes)
 
       at_frame :
           (o : Option Received) → ((d : Customer) → Moved l later d (bytes_run next d l bytes).after)
-          → Moved l (flat_map records_in (cons_option o (frames_after next bytes))) c (bytes_run next (acted_on l o c).after l bytes).after
+          → Moved l (flat_map records_of_frame (cons_option o (frames_after next bytes))) c (bytes_run next (acted_on l o c).after l bytes).after
       at_frame None rest_moves = rest_moves c
       at_frame (Some received) rest_moves =
-          let items = records_in received ++ later in
+          let items = records_of_frame received ++ later in
           let step = acted_on l (Some received) c in
           let does = frames l received c in
           let behind = rest_moves step.after in
           let end = (bytes_run next step.after l bytes).after in
-          let entry = does_entry l (records_in received) c step does in
+          let entry = does_entry l (records_of_frame received) c step does in
           record {
             entry = behind.entry ∙ ap (with_marks end.entry.up) entry;
             lines = behind.lines ∙ does.lines;
             moves = leads_then (MovesBy c.entry (Records l items)) (outgoing c) (outgoing step.after) (outgoing end)
-                (does_moves_by l (records_in received) items c step (λ i. Contains-append_left (records_in received) later i) does)
+                (does_moves_by l (records_of_frame received) items c step (λ i. Contains-append_left (records_of_frame received) later i) does)
                 (leads_as (MovesBy step.after.entry (Records l later)) (MovesBy c.entry (Records l items)) (outgoing step.after) (outgoing end)
                 (λ u v move. (
                   move.0,
                   subst (λ x. Moves x l items u v) (ap (with_marks move.0) entry)
-                      (more_records (with_marks move.0 step.after.entry) l later items u v (λ i. Contains-append_right (records_in received) later i) move.1),
+                      (more_records (with_marks move.0 step.after.entry) l later items u v (λ i. Contains-append_right (records_of_frame received) later i) move.1),
                 ))
                 behind.moves);
           }
@@ -135,16 +135,16 @@ module _ (frames : FramesDoSo) where
   pub events_move : SignalsDoSo → EventsMoveSo
   events_move signals p (OwnBytes l piece) = (bytes_move (rest_on l p) p.customer l piece).moves
   events_move signals p (OwnSignal signal l) =
-      does_moves_by l [] [] p.customer (signal_came l signal p.customer) (λ i there. there) (signals l signal p.customer)
+      does_moves_by l [] [] p.customer (after_signal l signal p.customer) (λ i there. there) (signals l signal p.customer)
   events_move signals p (OwnRoutes routes) = routes_move p routes
 
   pub takes_move : TakesMoveSo
   takes_move p l piece there =
-      let t = bytes_taken p l piece in
+      let t = part_after_bytes p l piece in
       let front = take t.taken piece in
       let nothing : event_run p (OwnBytes l []) ≡ record { after = p; sent = [] } = no_bytes_do_nothing p l in
       let some : event_run p (OwnBytes l front) ≡ followed_by (record { after = p; sent = [] }) l piece =
-      subst (λ (r : Run). event_run p (OwnBytes l (take (bytes_taken r.after l piece).taken piece)) ≡ followed_by r l piece) nothing
+      subst (λ (r : Run). event_run p (OwnBytes l (take (part_after_bytes r.after l piece).taken piece)) ≡ followed_by r l piece) nothing
       (steps_follow_bytes p l [] piece (omega (arith, there, ap (λ (r : Run). length r.after.rests) nothing))) in
-      subst (Leads (MovesBy p.customer.entry (coming p (OwnBytes l front))) (outgoing p.customer))
+      subst (LeadsByMoves (MovesBy p.customer.entry (coming p (OwnBytes l front))) (outgoing p.customer))
       (ap (λ (r : Run). outgoing r.after.customer) some) (bytes_move (rest_on l p) p.customer l front).moves

@@ -9,8 +9,8 @@ use Rattle.std.specs.List.{Contains, list_any}
 use Rattle.njh_spool.specs.CustomerSpool.{WholeFile}
 use Rattle.njh_spool.specs.declared.State.{State}
 use Rattle.njh_stream.specs.Sending.{ready}
-use Rattle.njh_command.specs.Commands.{changed_file, is_idle}
-use Rattle.njh_customer.specs.OutgoingFiles.{marked}
+use Rattle.njh_command.specs.Commands.{changed_file, may_change}
+use Rattle.njh_customer.specs.OutgoingFiles.{with_file_state}
 use Rattle.njh_customer.proofs.EndingMoves.{marked_ready}
 
 -- ---- the elements of lists
@@ -60,14 +60,14 @@ ready_numbers (f ∷ fs) = ap (λ rest. f.number ∷ rest) (ready_numbers fs)
 pub but_states : (fs gs : List WholeFile) → map ready fs ≡ map ready gs → numbers fs ≡ numbers gs
 but_states fs gs e = sym (ready_numbers fs) ∙ ap numbers e ∙ ready_numbers gs
 
-pub marked_numbers : (n : ℕ) (state : State) (fs : List WholeFile) → numbers (marked n state fs) ≡ numbers fs
-marked_numbers n state fs = but_states (marked n state fs) fs (marked_ready n state fs)
+pub marked_numbers : (n : ℕ) (state : State) (fs : List WholeFile) → numbers (with_file_state n state fs) ≡ numbers fs
+marked_numbers n state fs = but_states (with_file_state n state fs) fs (marked_ready n state fs)
 
 pub changed_numbers :
     (p : WholeFile → Bool) (change : WholeFile → WholeFile) (fs : List WholeFile) → ((f : WholeFile) → (change f).number ≡ f.number)
     → numbers (map (changed_file p change) fs) ≡ numbers fs
 changed_numbers p change [] same = refl
-changed_numbers p change (f ∷ fs) same = at_test (is_idle p f) (changed_numbers p change fs same)
+changed_numbers p change (f ∷ fs) same = at_test (may_change p f) (changed_numbers p change fs same)
   where
     rest : List ℕ
     rest = numbers (map (changed_file p change) fs)

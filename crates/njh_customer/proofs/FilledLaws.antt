@@ -10,7 +10,7 @@ use Rattle.njh_stream.specs.declared.sender.Sender.TheVariants as sender
 use Rattle.njh_stream.specs.Sending.{next_of}
 use Rattle.njh_sched.specs.NextBlock.{Outlet, Candidate, Filling, Source, WaitingAnswer, StreamAbort, StreamRequest, WaitingMessage, StreamTurn, answering}
 use Rattle.njh_sched.specs.NextBlock.{abort_where, sender_at, asking, may_ask, oldest, request_of, telling, serving, next_served, candidate}
-use Rattle.njh_sched.specs.NextBlock.{added_where, after_candidate, after_source_where, after_source, after_sources, filled_where, filled, sources}
+use Rattle.njh_sched.specs.NextBlock.{added_where, after_candidate, after_source_where, after_source, after_sources, filled_where, filled_block, sources}
 
 pub record Kept (y x : Filling) : Type 0 where
   pub fcs : y.block.fcs ≡ x.block.fcs
@@ -80,8 +80,8 @@ after_sources_kept goes (source ∷ more) x =
     let rest = after_sources_kept goes more (after_source goes source x) in
     record { fcs = rest.fcs ∙ one.fcs; partial = rest.partial ∙ one.partial; quota = rest.quota ∙ one.quota }
 
-pub filled_kept : (goes : WholeFile → Bool) (x : Filling) → Kept (filled goes x) x
-unfolding filled
+pub filled_kept : (goes : WholeFile → Bool) (x : Filling) → Kept (filled_block goes x) x
+unfolding filled_block
 filled_kept goes x = at_suspended (all_suspended x.outlet.peer)
   where
     at_suspended : (b : Bool) → Kept (filled_where b goes x) x

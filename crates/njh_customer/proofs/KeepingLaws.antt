@@ -1,6 +1,6 @@
 -- What no event changes of a customer.
 use Rattle.std.proofs.Common.{◌≡◌, ℕ, List, [], ◌∷◌, Option, Some, None, length, refl, sym, ap, ◌∙◌}
-use Rattle.njh_bisync.specs.ByteSteps.{turn}
+use Rattle.njh_bisync.specs.ByteSteps.{rest_step}
 use Rattle.njh_bisync.specs.Frames.{Received}
 use Rattle.njh_bisync.specs.Reading.{Rest}
 use Rattle.njh_table.specs.Entries.{CustomerEntry}
@@ -10,9 +10,9 @@ use Rattle.njh_customer.specs.NewRoutes.{entry_with}
 use Rattle.njh_customer.specs.Runs.{OwnBytes, OwnSignal, OwnRoutes, event_run}
 use Rattle.njh_customer.specs.MovingLaws.{FramesDoSo, SignalsDoSo}
 use Rattle.njh_customer.specs.Customer.{Customer, with_marks}
-use Rattle.njh_customer.specs.Alone.{signal_came}
+use Rattle.njh_customer.specs.Alone.{after_signal}
 use Rattle.njh_customer.specs.Feeding.{acted_on, byte_step, or_later, take_step, Taking}
-use Rattle.njh_customer.specs.FrameEffects.{records_in}
+use Rattle.njh_customer.specs.FrameEffects.{records_of_frame}
 use Rattle.njh_customer.specs.Laws.{EventsKeepEntries, EventsKeepFaults, EventsKeepLines, TakesKeepEntries}
 use Rattle.njh_customer.proofs.EventMoves.{bytes_move, does_entry}
 use Rattle.njh_customer.proofs.RoutesMoves.{routes_do, routes_keep_entry}
@@ -27,7 +27,7 @@ module _ (frames : FramesDoSo) (signals : SignalsDoSo) where
       same_routes (event_run p (OwnBytes l piece)).after.customer.entry p.customer.entry (bytes_move frames (rest_on l p) p.customer l piece).entry
   events_keep_entries p (OwnSignal signal l) =
       same_routes (event_run p (OwnSignal signal l)).after.customer.entry p.customer.entry
-      (does_entry l [] p.customer (signal_came l signal p.customer) (signals l signal p.customer))
+      (does_entry l [] p.customer (after_signal l signal p.customer) (signals l signal p.customer))
   events_keep_entries p (OwnRoutes routes) = routes_keep_entry p routes
 
   pub events_keep_faults : EventsKeepFaults
@@ -53,13 +53,13 @@ by_sent entry rest d (b ∷ frame) later first second = first
 module _ (frames : FramesDoSo) where
   acted_entry : (l : ℕ) (o : Option Received) (c : Customer) → SameButMarks c.entry (acted_on l o c).after
   acted_entry l None c = refl
-  acted_entry l (Some received) c = does_entry l (records_in received) c (acted_on l (Some received) c) (frames l received c)
+  acted_entry l (Some received) c = does_entry l (records_of_frame received) c (acted_on l (Some received) c) (frames l received c)
 
   take_entry : (rest : Rest) (c : Customer) (l : ℕ) (piece : List ℕ) → SameButMarks c.entry (take_step rest c l piece).after
   take_entry rest c l [] = refl
   take_entry rest c l (byte ∷ bytes) =
       let x = byte_step rest c l byte in
-      by_sent c.entry x.rest x.after x.frame (take_step x.rest x.after l bytes) (acted_entry l (turn rest byte).frame c)
+      by_sent c.entry x.rest x.after x.frame (take_step x.rest x.after l bytes) (acted_entry l (rest_step rest byte).frame c)
       (take_entry x.rest x.after l bytes)
 
   pub takes_keep_entries : TakesKeepEntries

@@ -9,12 +9,12 @@ use Rattle.njh_spool.specs.declared.State.TheVariants.{Held, Ready, Refused, Sen
 use Rattle.njh_table.specs.Entries.{CustomerEntry}
 use Rattle.njh_table.specs.NewRoutes.{taken_routes}
 use Rattle.njh_stream.specs.declared.sender.Sender.TheVariants.{EofSent}
-use Rattle.njh_command.specs.Commands.{chosen, rerouted, with_state, without_file}
+use Rattle.njh_command.specs.Commands.{is_of_name, with_new_destination, file_in_state, without_file}
 use Rattle.njh_customer.specs.Customer.{with_marks}
 use Rattle.njh_customer.specs.NewRoutes.{entry_with}
 use Rattle.njh_customer.specs.OutgoingFiles.{Outgoing, each_stream, has_file, with_files}
 use Rattle.njh_customer.specs.Moves as moves
-use Rattle.njh_customer.specs.Moves.{Acts, Records, Routes, Leads, nowhere, onward, Moves, MovesBy, by_record, by_sending, by_end, Sends, without_files}
+use Rattle.njh_customer.specs.Moves.{Acts, Records, Routes, LeadsByMoves, nowhere, onward, Moves, MovesBy, by_record, by_sending, by_end, Sends, without_files}
 use Rattle.njh_customer.specs.MovingLaws as laws
 use Rattle.njh_customer.specs.MovingLaws.{Leaves, LeavesBy, FilesLeaveSo, FilesLeaveSoBetween}
 use Rattle.njh_customer.proofs.FileListLaws.{any_numbered, one_gone, numbers, same_numbered, but_states, marked_numbers, changed_numbers}
@@ -49,15 +49,15 @@ record_leaves entry l items x y n i at (moves.completed streams k m told before 
     let same : m ≡ n = sym (eqb-true left.0.number m left.3) ∙ left.2 in
     laws.completed i streams k at told (before ∙ ap EofSent same)
 record_leaves entry l items x y n i at (moves.holds who name given e) there gone =
-    stayed_all n x y (ap (λ z. numbers z.files) e ∙ changed_numbers (chosen who name) (with_state Held) x.files (λ f. refl)) there gone
+    stayed_all n x y (ap (λ z. numbers z.files) e ∙ changed_numbers (is_of_name who name) (file_in_state Held) x.files (λ f. refl)) there gone
 record_leaves entry l items x y n i at (moves.releases who name given e) there gone =
-    stayed_all n x y (ap (λ z. numbers z.files) e ∙ changed_numbers (chosen who name) (with_state Ready) x.files (λ f. refl)) there gone
+    stayed_all n x y (ap (λ z. numbers z.files) e ∙ changed_numbers (is_of_name who name) (file_in_state Ready) x.files (λ f. refl)) there gone
 record_leaves entry l items x y n i at (moves.reroutes who name node line given route e) there gone =
-    stayed_all n x y (ap (λ z. numbers z.files) e ∙ changed_numbers (chosen who name) (rerouted node) x.files (λ f. refl)) there gone
+    stayed_all n x y (ap (λ z. numbers z.files) e ∙ changed_numbers (is_of_name who name) (with_new_destination node) x.files (λ f. refl)) there gone
 record_leaves entry l items x y n i at (moves.cancels who name given e) there gone =
-    let kept = filter (λ f. not (chosen who name f)) x.files in
-    let files = ap (λ z. z.files) e ∙ without_files_files (moves.busy_numbers (chosen who name) x.files) (with_files kept x) in
-    let left = one_gone (chosen who name) n x.files there (sym (ap (any_numbered n) files) ∙ gone) in
+    let kept = filter (λ f. not (is_of_name who name f)) x.files in
+    let files = ap (λ z. z.files) e ∙ without_files_files (moves.busy_numbers (is_of_name who name) x.files) (with_files kept x) in
+    let left = one_gone (is_of_name who name) n x.files there (sym (ap (any_numbered n) files) ∙ gone) in
     laws.cancelled i who name left.0 at given left.1 left.2 left.3
 
 leaves_on_line :
@@ -81,7 +81,7 @@ leaves_so_between entry came _ _ n (nowhere x) there gone = absurd (cc (sym ther
 leaves_so_between entry came _ _ n (onward x y z move later) there gone = at_next (has_file n y) refl (leaves_so_between entry came y z n later)
   where
     Between : Outgoing → Type 0
-    Between x = (u : Outgoing) × Leads (MovesBy entry came) x u × LeavesBy entry came n u × Leads (MovesBy entry came) u z
+    Between x = (u : Outgoing) × LeadsByMoves (MovesBy entry came) x u × LeavesBy entry came n u × LeadsByMoves (MovesBy entry came) u z
 
     at_next : (b : Bool) → has_file n y ≡ b → (has_file n y ≡ true → has_file n z ≡ false → Between y) → Between x
     at_next true e behind = let found = behind e gone in (found.0, onward x y found.0 move found.1, found.2, found.3)

@@ -5,7 +5,7 @@ use Rattle.std.proofs.Math.ListN.{get_or-map}
 use Rattle.std.proofs.Math.Seq.{map-set_same}
 use Rattle.std.proofs.lemmas.List.{map-set, set-get_or, set-set}
 use Rattle.std.proofs.lemmas.Simd.{map-map}
-use Rattle.njh_bisync.specs.ByteSteps.{turn}
+use Rattle.njh_bisync.specs.ByteSteps.{rest_step}
 use Rattle.njh_bisync.specs.Frames as frame
 use Rattle.njh_bisync.specs.Frames.{Received}
 use Rattle.njh_bisync.specs.Reading.{Rest}
@@ -29,12 +29,12 @@ use Rattle.njh_line.specs.LineTable.{Input}
 use Rattle.njh_line.specs.Lines.{LineState, after_end, after_input}
 use Rattle.njh_line.specs.Up.{InputsKeepUp, KeepsUp}
 use Rattle.njh_customer.specs.declared.signal.Signal.{Signal}
-use Rattle.njh_customer.specs.Customer.{Customer, CustomerLine, IsMarked, no_line, line_at, on_line, in_state, config_of, fresh_customer, quiet_line}
+use Rattle.njh_customer.specs.Customer.{Customer, CustomerLine, IsMarked, no_customer_line, line_at, on_line, in_state, config_of, fresh_customer, quiet_line}
 use Rattle.njh_customer.specs.Acting.{Acted, acted_where}
-use Rattle.njh_customer.specs.Sending.{Sending, block_sent, control_sent, empty_sent, next_block, no_block_sent, reply_sent, with_outlet, written_sent}
-use Rattle.njh_customer.specs.Alone.{Step, quiet, raised, goes_up, silent, replied_to, session_over_where, session_ended, carried_out}
-use Rattle.njh_customer.specs.Alone.{verdict_on, accepted_on, input_came, block_input, behind_records, block_came, text_read, text_came, received_on}
-use Rattle.njh_customer.specs.Alone.{signal_input, frame_came, signal_came}
+use Rattle.njh_customer.specs.Sending.{Sending, sending_of_block, sending_of_control, sending_of_empty, next_block, sending_of_no_block, sending_of_reply, with_outlet, sending_of_written}
+use Rattle.njh_customer.specs.Alone.{Step, quiet, with_raised_line, goes_up, silent, replied_to, session_over_where, session_ended, carried_out}
+use Rattle.njh_customer.specs.Alone.{verdict_on, accepted_on, after_line_input, block_input, behind_records, after_block, text_read, after_text, after_received}
+use Rattle.njh_customer.specs.Alone.{signal_input, after_frame, after_signal}
 use Rattle.njh_customer.specs.Feeding.{acted_on, byte_step, bytes_run, or_later, take_step, Taking}
 use Rattle.njh_customer.specs.NewRoutes.{taken_where, routes_given}
 use Rattle.njh_customer.specs.Part.{Part, rest_on}
@@ -59,19 +59,19 @@ ups_kept xs ys e = sym (map-map is_kept_up kept xs) ∙ ap (map is_kept_up) e �
 
 -- ---- what a line sends leaves it as far as it was
 
-control_phase : (which : Control) (x : LineState) → (control_sent which x).line.session.phase ≡ x.session.phase
+control_phase : (which : Control) (x : LineState) → (sending_of_control which x).line.session.phase ≡ x.session.phase
 control_phase control.Enquiry x = refl
 control_phase control.Ack0 x = refl
 control_phase control.Nak x = refl
 
-no_block_phase : (or_ack0 : Bool) (x : LineState) → (no_block_sent or_ack0 x).line.session.phase ≡ x.session.phase
+no_block_phase : (or_ack0 : Bool) (x : LineState) → (sending_of_no_block or_ack0 x).line.session.phase ≡ x.session.phase
 no_block_phase true x = refl
 no_block_phase false x = refl
 
 abbrev empty_where : Bool → Bool → Writing → LineState → Sending
-empty_where b or_ack0 w x = elim b [ true ↦ no_block_sent or_ack0 x | false ↦ block_sent w x ]
+empty_where b or_ack0 w x = elim b [ true ↦ sending_of_no_block or_ack0 x | false ↦ sending_of_block w x ]
 
-empty_phase : (or_ack0 : Bool) (w : Writing) (x : LineState) → (empty_sent or_ack0 w x).line.session.phase ≡ x.session.phase
+empty_phase : (or_ack0 : Bool) (w : Writing) (x : LineState) → (sending_of_empty or_ack0 w x).line.session.phase ≡ x.session.phase
 empty_phase or_ack0 w x = at (all_suspended x.session.peer_fcs || same_fcs w.fcs x.session.own_fcs)
   where
     at : (b : Bool) → (empty_where b or_ack0 w x).line.session.phase ≡ x.session.phase
@@ -79,9 +79,9 @@ empty_phase or_ack0 w x = at (all_suspended x.session.peer_fcs || same_fcs w.fcs
     at false = refl
 
 abbrev written_where : Bool → Writing → LineState → List Item → Sending
-written_where or_ack0 w x is = elim is [ [] ↦ empty_sent or_ack0 w x | i ∷ js ↦ block_sent w x ]
+written_where or_ack0 w x is = elim is [ [] ↦ sending_of_empty or_ack0 w x | i ∷ js ↦ sending_of_block w x ]
 
-written_phase : (or_ack0 : Bool) (w : Writing) (x : LineState) → (written_sent or_ack0 w x).line.session.phase ≡ x.session.phase
+written_phase : (or_ack0 : Bool) (w : Writing) (x : LineState) → (sending_of_written or_ack0 w x).line.session.phase ≡ x.session.phase
 written_phase or_ack0 w x = at w.items
   where
     at : (is : List Item) → (written_where or_ack0 w x is).line.session.phase ≡ x.session.phase
@@ -90,7 +90,7 @@ written_phase or_ack0 w x = at w.items
 
 reply_phase :
     (entry : CustomerEntry) (l : ℕ) (r : Reply) (s : CustomerSpool) (x : CustomerLine)
-    → (reply_sent entry l r s x).line.state.session.phase ≡ x.state.session.phase
+    → (sending_of_reply entry l r s x).line.state.session.phase ≡ x.state.session.phase
 reply_phase entry l reply.Nothing s x = refl
 reply_phase entry l (reply.Control which) s x = control_phase which x.state
 reply_phase entry l reply.Again s x = refl
@@ -102,20 +102,20 @@ reply_phase entry l (reply.Next or_ack0) s x =
 
 -- ---- marks
 
-marks_over : (up : Bool) (l : ℕ) (entry : CustomerEntry) → set (raised up l entry).up l false ≡ set entry.up l false
+marks_over : (up : Bool) (l : ℕ) (entry : CustomerEntry) → set (with_raised_line up l entry).up l false ≡ set entry.up l false
 marks_over true l entry = set-set entry.up l true false
 marks_over false l entry = refl
 
 -- a line that is marked as it was before, and goes up or doesn't
 marks_on :
     (p q : Phase) (l : ℕ) (entry : CustomerEntry) (us : List Bool) → entry.up ≡ us → get_or us l false ≡ is_up p → (is_up p ≡ true → is_up q ≡ true)
-    → (raised (goes_up p q) l entry).up ≡ set us l (is_up q)
+    → (with_raised_line (goes_up p q) l entry).up ≡ set us l (is_up q)
 marks_on p q l entry us marked has = at (is_up p) (is_up q) has
   where
     stays : (b : Bool) → get_or us l false ≡ b → entry.up ≡ set us l b
     stays b e = marked ∙ sym (set-get_or us l false) ∙ ap (set us l) e
 
-    at : (a b : Bool) → get_or us l false ≡ a → (a ≡ true → b ≡ true) → (raised (b && not a) l entry).up ≡ set us l b
+    at : (a b : Bool) → get_or us l false ≡ a → (a ≡ true → b ≡ true) → (with_raised_line (b && not a) l entry).up ≡ set us l b
     at true true e on = stays true e
     at true false e on = absurd (cc (sym (on refl)))
     at false true e on = ap (λ xs. set xs l true) marked
@@ -132,7 +132,7 @@ module _ (keep : InputsKeepUp) (l : ℕ) (came : Input) (c : Customer) (marked :
   keeps = keep (line_at l c.lines).state.config (line_at l c.lines).state.session came
 
   has_mark : get_or (ups c.lines) l false ≡ is_up before
-  has_mark = get_or-map is_line_up c.lines l no_line
+  has_mark = get_or-map is_line_up c.lines l no_customer_line
 
   accepted_ups : ups (accepted_on l came c).lines ≡ set (ups c.lines) l (is_up after)
   accepted_ups = map-set is_line_up c.lines l (in_state (after_input came) (line_at l c.lines))
@@ -153,7 +153,7 @@ module _ (keep : InputsKeepUp) (l : ℕ) (came : Input) (c : Customer) (marked :
 
       sent_ups : ups sent.lines ≡ set (ups c.lines) l (is_up after)
       sent_ups =
-          map-set_same is_line_up d.lines l (reply_sent d.entry l v.reply d.spool (line_at l d.lines)).line no_line
+          map-set_same is_line_up d.lines l (sending_of_reply d.entry l v.reply d.spool (line_at l d.lines)).line no_customer_line
           (ap is_up (reply_phase d.entry l v.reply d.spool (line_at l d.lines)))
           ∙ ups_kept d.lines (accepted_on l came c).lines kept_so ∙ accepted_ups
 
@@ -161,7 +161,7 @@ module _ (keep : InputsKeepUp) (l : ℕ) (came : Input) (c : Customer) (marked :
       at true e =
           lowered d entry
           ∙ ap (set (ups c.lines) l) (sym (keeps.over (sym e)))
-          ∙ sym sent_ups ∙ sym (map-set_same is_line_up sent.lines l (quiet (line_at l sent.lines)) no_line refl)
+          ∙ sym sent_ups ∙ sym (map-set_same is_line_up sent.lines l (quiet (line_at l sent.lines)) no_customer_line refl)
       at false e =
           ap (λ (x : CustomerEntry). x.up) entry
           ∙ marks_on before after l c.entry (ups c.lines) marked has_mark (keeps.on (sym e))
@@ -173,18 +173,18 @@ module _ (keep : InputsKeepUp) (l : ℕ) (came : Input) (c : Customer) (marked :
   ended_marked d entry kept_so =
       let xs = on_line l (in_state after_end) d.lines in
       lowered d entry
-      ∙ sym (map-set_same is_line_up xs l (quiet (line_at l xs)) no_line refl
+      ∙ sym (map-set_same is_line_up xs l (quiet (line_at l xs)) no_customer_line refl
       ∙ map-set is_line_up d.lines l (in_state after_end (line_at l d.lines))
       ∙ ap (λ us. set us l false) (ups_kept d.lines (accepted_on l came c).lines kept_so ∙ accepted_ups)
       ∙ set-set (ups c.lines) l (is_up after) false)
 
-  input_marked : IsMarked (input_came l came c).after
+  input_marked : IsMarked (after_line_input l came c).after
   input_marked = carried_marked (verdict_on l came c) (accepted_on l came c) refl refl refl
 
 -- ---- a frame, and a signal
 
 module _ (keep : InputsKeepUp) where
-  block_marked : (l : ℕ) (b : Block) (c : Customer) → IsMarked c → IsMarked (block_came l b c).after
+  block_marked : (l : ℕ) (b : Block) (c : Customer) → IsMarked c → IsMarked (after_block l b c).after
   block_marked l b c marked = at a.ended
     where
       v : Verdict
@@ -200,14 +200,14 @@ module _ (keep : InputsKeepUp) where
       at true = ended_marked keep l (block_input b) c marked a.customer acting.entry acting.kept
       at false = carried_marked keep l (block_input b) c marked v a.customer acting.entry acting.kept refl
 
-  text_marked : (l : ℕ) (text : List ℕ) (c : Customer) → IsMarked c → IsMarked (text_came l text c).after
+  text_marked : (l : ℕ) (text : List ℕ) (c : Customer) → IsMarked c → IsMarked (after_text l text c).after
   text_marked l text c marked = at (read_block text)
     where
       at : (b : Result Block BlockFault) → IsMarked (text_read l b c).after
       at (Ok b) = block_marked l b c marked
       at (Err e) = input_marked keep l input.Bad c marked
 
-  received_marked : (l : ℕ) (x : Received) (c : Customer) → IsMarked c → IsMarked (received_on l x c).after
+  received_marked : (l : ℕ) (x : Received) (c : Customer) → IsMarked c → IsMarked (after_received l x c).after
   received_marked l frame.Enquiry c marked = input_marked keep l input.Enquiry c marked
   received_marked l frame.Ack0 c marked = input_marked keep l input.Ack0 c marked
   received_marked l frame.Nak c marked = input_marked keep l input.Nak c marked
@@ -219,14 +219,14 @@ module _ (keep : InputsKeepUp) where
   where_marked true x c marked step = step
   where_marked false x c marked step = marked
 
-  frame_marked : (l : ℕ) (x : Received) (c : Customer) → IsMarked c → IsMarked (frame_came l x c).after
-  unfolding frame_came
-  frame_marked l x c marked = where_marked (nat_lt l (length c.lines)) (received_on l x c) c marked (received_marked l x c marked)
+  frame_marked : (l : ℕ) (x : Received) (c : Customer) → IsMarked c → IsMarked (after_frame l x c).after
+  unfolding after_frame
+  frame_marked l x c marked = where_marked (nat_lt l (length c.lines)) (after_received l x c) c marked (received_marked l x c marked)
 
-  signal_marked : (l : ℕ) (x : Signal) (c : Customer) → IsMarked c → IsMarked (signal_came l x c).after
-  unfolding signal_came
+  signal_marked : (l : ℕ) (x : Signal) (c : Customer) → IsMarked c → IsMarked (after_signal l x c).after
+  unfolding after_signal
   signal_marked l x c marked =
-      where_marked (nat_lt l (length c.lines)) (input_came l (signal_input x) c) c marked (input_marked keep l (signal_input x) c marked)
+      where_marked (nat_lt l (length c.lines)) (after_line_input l (signal_input x) c) c marked (input_marked keep l (signal_input x) c marked)
 
   -- ---- bytes
 
@@ -238,7 +238,7 @@ module _ (keep : InputsKeepUp) where
   run_marked rest c l [] marked = marked
   run_marked rest c l (byte ∷ bytes) marked =
       let x = byte_step rest c l byte in
-      run_marked x.rest x.after l bytes (acted_marked l (turn rest byte).frame c marked)
+      run_marked x.rest x.after l bytes (acted_marked l (rest_step rest byte).frame c marked)
 
   by_sent :
       (rest : Rest) (d : Customer) (frame : List ℕ) (later : Taking) → IsMarked d → IsMarked later.after
@@ -250,7 +250,7 @@ module _ (keep : InputsKeepUp) where
   take_marked rest c l [] marked = marked
   take_marked rest c l (byte ∷ bytes) marked =
       let x = byte_step rest c l byte in
-      let first = acted_marked l (turn rest byte).frame c marked in
+      let first = acted_marked l (rest_step rest byte).frame c marked in
       by_sent x.rest x.after x.frame (take_step x.rest x.after l bytes) first (take_marked x.rest x.after l bytes first)
 
   -- ---- events

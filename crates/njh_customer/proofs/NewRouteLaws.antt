@@ -8,13 +8,13 @@ use Rattle.njh_table.specs.Entries.{route_of}
 use Rattle.njh_table.specs.declared.Route.{Route}
 use Rattle.njh_table.specs.declared.Route.TheVariants.{Here, Line, Unknown}
 use Rattle.njh_customer.specs.code.Coherence.{streams_to_hub}
-use Rattle.njh_customer.specs.NewRoutes.{UnroutedFilesStay, given}
+use Rattle.njh_customer.specs.NewRoutes.{UnroutedFilesStay, customer_with_routes}
 use Rattle.njh_customer.specs.code.Coherence.{RoutesKeepCoherent}
 use Rattle.njh_customer.proofs.CoherenceLaws.{NothingUnties}
 
 pub coherent_given : NothingUnties → RoutesKeepCoherent
 coherent_given untied routes c coherent = record {
-  tied = untied (streams_to_hub c.lines) c.spool (given routes c).spool refl coherent.tied;
+  tied = untied (streams_to_hub c.lines) c.spool (customer_with_routes routes c).spool refl coherent.tied;
   streamed = coherent.streamed;
   quota = coherent.quota;
   marks = coherent.marks;

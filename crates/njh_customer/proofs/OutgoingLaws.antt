@@ -14,10 +14,10 @@ use Rattle.njh_table.specs.declared.Route.{Route}
 use Rattle.njh_table.specs.declared.Route.TheVariants.{Here, Line, Unknown}
 use Rattle.njh_command.specs.Commands.{without_file}
 use Rattle.njh_line.specs.Lines.{with_answer, with_message}
-use Rattle.njh_customer.specs.Customer.{Customer, CustomerLine, no_line, line_at, on_line, in_state, sender_at, with_sender}
-use Rattle.njh_customer.specs.Waiting.{answered, waits, goes, said, all_said, notified}
-use Rattle.njh_customer.specs.Acting.{given_up}
-use Rattle.njh_customer.specs.OutgoingFiles.{Outgoing, outgoing, streams_from_hub, stream_at, with_stream, with_files}
+use Rattle.njh_customer.specs.Customer.{Customer, CustomerLine, no_customer_line, line_at, on_line, in_state, sender_at, with_sender}
+use Rattle.njh_customer.specs.Waiting.{with_answer_on, with_waiting, goes, with_message_to, all_said, with_notice_to}
+use Rattle.njh_customer.specs.Acting.{without_sending}
+use Rattle.njh_customer.specs.OutgoingFiles.{Outgoing, outgoing, streams_from_hub, sender_on, with_sender_on, with_files}
 use Rattle.njh_customer.specs.Moves.{without_files}
 
 abbrev pub of_parts : List WholeFile → List (List Sender) → Outgoing
@@ -28,13 +28,13 @@ of_parts files streams = record { files = files; streams = streams }
 pub on_line_senders :
     (l : ℕ) (f : CustomerLine → CustomerLine) (lines : List CustomerLine) → ((x : CustomerLine) → (f x).senders ≡ x.senders)
     → streams_from_hub (on_line l f lines) ≡ streams_from_hub lines
-on_line_senders l f lines same = map-set_same (λ x. x.senders) lines l (f (line_at l lines)) no_line (same (line_at l lines))
+on_line_senders l f lines same = map-set_same (λ x. x.senders) lines l (f (line_at l lines)) no_customer_line (same (line_at l lines))
 
-pub answered_senders : (l : ℕ) (a : Option Answer) (lines : List CustomerLine) → streams_from_hub (answered l a lines) ≡ streams_from_hub lines
+pub answered_senders : (l : ℕ) (a : Option Answer) (lines : List CustomerLine) → streams_from_hub (with_answer_on l a lines) ≡ streams_from_hub lines
 answered_senders l None lines = refl
 answered_senders l (Some a) lines = on_line_senders l (in_state (with_answer a)) lines (λ x. refl)
 
-pub waits_senders : (l : ℕ) (m : List ℕ) (lines : List CustomerLine) → streams_from_hub (waits l m lines) ≡ streams_from_hub lines
+pub waits_senders : (l : ℕ) (m : List ℕ) (lines : List CustomerLine) → streams_from_hub (with_waiting l m lines) ≡ streams_from_hub lines
 waits_senders l m lines = on_line_senders l (in_state (with_message m)) lines (λ x. refl)
 
 goes_senders : (r : Route) (m : List ℕ) (lines : List CustomerLine) → streams_from_hub (goes r m lines) ≡ streams_from_hub lines
@@ -44,7 +44,7 @@ goes_senders Unknown m lines = refl
 
 pub said_senders :
     (entry : CustomerEntry) (whom : List ℕ × List ℕ) (text : List ℕ) (lines : List CustomerLine)
-    → streams_from_hub (said entry whom text lines) ≡ streams_from_hub lines
+    → streams_from_hub (with_message_to entry whom text lines) ≡ streams_from_hub lines
 said_senders entry whom text lines = goes_senders (route_of entry whom.0) (notice_record entry.hub whom text) lines
 
 pub all_said_senders :
@@ -52,44 +52,44 @@ pub all_said_senders :
     → streams_from_hub (all_said entry whom texts lines) ≡ streams_from_hub lines
 all_said_senders entry whom [] lines = refl
 all_said_senders entry whom (t ∷ ts) lines =
-    all_said_senders entry whom ts (said entry whom t lines) ∙ said_senders entry whom t lines
+    all_said_senders entry whom ts (with_message_to entry whom t lines) ∙ said_senders entry whom t lines
 
 pub notified_senders :
     (entry : CustomerEntry) (notice : Option Notice) (lines : List CustomerLine)
-    → streams_from_hub (notified entry notice lines) ≡ streams_from_hub lines
+    → streams_from_hub (with_notice_to entry notice lines) ≡ streams_from_hub lines
 notified_senders entry None lines = refl
 notified_senders entry (Some n) lines = said_senders entry n.whom n.text lines
 
 -- ---- a stream that moves
 
-pub stream_is : (l k : ℕ) (c : Customer) → stream_at l k (outgoing c) ≡ sender_at k (line_at l c.lines)
-stream_is l k c = ap (λ senders. get_or senders k Idle) (get_or-map (λ x. x.senders) c.lines l no_line)
+pub stream_is : (l k : ℕ) (c : Customer) → sender_on l k (outgoing c) ≡ sender_at k (line_at l c.lines)
+stream_is l k c = ap (λ senders. get_or senders k Idle) (get_or-map (λ x. x.senders) c.lines l no_customer_line)
 
 -- a stream and the files
 pub sent_is :
     (l k : ℕ) (x : Sender) (s : CustomerSpool) (c : Customer)
-    → outgoing (record c { spool = s; lines = on_line l (with_sender k x) c.lines }) ≡ with_stream l k x (with_files s.whole (outgoing c))
+    → outgoing (record c { spool = s; lines = on_line l (with_sender k x) c.lines }) ≡ with_sender_on l k x (with_files s.whole (outgoing c))
 sent_is l k x s c =
     ap (of_parts s.whole)
     (map-set (λ y. y.senders) c.lines l (with_sender k x (line_at l c.lines))
-    ∙ ap (λ senders. set (streams_from_hub c.lines) l (set senders k x)) (sym (get_or-map (λ y. y.senders) c.lines l no_line)))
+    ∙ ap (λ senders. set (streams_from_hub c.lines) l (set senders k x)) (sym (get_or-map (λ y. y.senders) c.lines l no_customer_line)))
 
 -- one that doesn't
-pub same_stream : (l k : ℕ) (s : Sender) (x : Outgoing) → stream_at l k x ≡ s → with_stream l k s x ≡ x
+pub same_stream : (l k : ℕ) (s : Sender) (x : Outgoing) → sender_on l k x ≡ s → with_sender_on l k s x ≡ x
 same_stream l k s x e =
-    ap (λ t. with_stream l k t x) (sym e)
+    ap (λ t. with_sender_on l k t x) (sym e)
     ∙ ap (λ senders. of_parts x.files (set x.streams l senders)) (set-get_or (get_or x.streams l []) k Idle)
     ∙ ap (of_parts x.files) (set-get_or x.streams l [])
 
 -- ---- streams that give their files up
 
-one_given_up : (n : ℕ) (lines : List CustomerLine) → map (λ senders. map (without_file n) senders) (streams_from_hub lines) ≡ streams_from_hub (given_up lines n)
+one_given_up : (n : ℕ) (lines : List CustomerLine) → map (λ senders. map (without_file n) senders) (streams_from_hub lines) ≡ streams_from_hub (without_sending lines n)
 one_given_up n [] = refl
 one_given_up n (x ∷ xs) = ap (λ rest. map (without_file n) x.senders ∷ rest) (one_given_up n xs)
 
 pub all_given_up :
     (ns : List ℕ) (files : List WholeFile) (lines : List CustomerLine)
-    → without_files ns (of_parts files (streams_from_hub lines)) ≡ of_parts files (streams_from_hub (fold given_up lines ns))
+    → without_files ns (of_parts files (streams_from_hub lines)) ≡ of_parts files (streams_from_hub (fold without_sending lines ns))
 all_given_up [] files lines = refl
 all_given_up (n ∷ ns) files lines =
-    ap (λ streams. without_files ns (of_parts files streams)) (one_given_up n lines) ∙ all_given_up ns files (given_up lines n)
+    ap (λ streams. without_files ns (of_parts files streams)) (one_given_up n lines) ∙ all_given_up ns files (without_sending lines n)

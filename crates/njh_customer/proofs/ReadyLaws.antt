@@ -4,20 +4,20 @@ use Rattle.std.proofs.Common.{refl, sym, ap, ap₂, subst, ◌∙◌, arith}
 use Rattle.std.proofs.lemmas.Bool.{ltb-false}
 use Rattle.std.proofs.lemmas.List.{length-map, length-set, set-set, set-get_or, get_or-set_same}
 use Rattle.njh_spool.specs.CustomerSpool.{CustomerSpool}
-use Rattle.njh_spool.specs.Spools.{part, no_spool}
+use Rattle.njh_spool.specs.Spools.{spool_at, no_spool}
 use Rattle.njh_table.specs.declared.LineId.{LineId}
 use Rattle.njh_table.specs.Marks.{customer_marked, entry_marked, with_mark}
 use Rattle.njh_table.specs.TableFile.{NamedCustomer, TableFile, HasLine, customer_at, entry_of, no_customer}
 use Rattle.njh_line.specs.Laws.{is_up}
 use Rattle.njh_line.specs.LineTable.{Input}
 use Rattle.njh_line.specs.Lines.{after_input}
-use Rattle.njh_customer.specs.Customer.{Customer, CustomerLine, customer_with, in_state, line_at, no_line, on_line}
+use Rattle.njh_customer.specs.Customer.{Customer, CustomerLine, customer_with, in_state, line_at, no_customer_line, on_line}
 use Rattle.njh_customer.specs.code.Coherence.{IsCoherent}
 use Rattle.njh_block.specs.Blocks.{Block, Item}
 use Rattle.njh_line.specs.declared.verdict.Verdict.{Verdict}
-use Rattle.njh_customer.specs.Alone.{Step, accepted_on, behind_records, block_came, block_input, carried_out, goes_up_by, input_came, raised, silent}
+use Rattle.njh_customer.specs.Alone.{Step, accepted_on, behind_records, after_block, block_input, carried_out, goes_up_by, after_line_input, with_raised_line, silent}
 use Rattle.njh_customer.specs.Alone.{verdict_on, where_there}
-use Rattle.njh_customer.specs.Acting.{acted, acted_where, all_acted, ended_or, ends_session}
+use Rattle.njh_customer.specs.Acting.{after_record, acted_where, all_acted, ended_or, ends_session}
 use Rattle.njh_customer.specs.CustomerSteps.{Brings, Leads, IsReady, IsRetold, customer_of, with_customer}
 use Rattle.njh_customer.proofs.StepLaws.{Stays}
 
@@ -27,36 +27,36 @@ pub next_ready :
     → Stays after (customer_of tables line.customer old lines_old) → IsReady tables line new lines_new
 next_ready tables line old new lines_old lines_new after ready leads stays = record {
   known = ready.known;
-  spooled = omega (arith, ready.spooled, ap length leads.others, length-set old line.customer (part line.customer new));
+  spooled = omega (arith, ready.spooled, ap length leads.others, length-set old line.customer (spool_at line.customer new));
   there = omega (arith, ready.there, ap (λ c. length c.lines) leads.customer, stays.lines);
   coherent = subst IsCoherent (sym leads.customer) stays.coherent;
 }
 
 -- what leaves a spool to others leaves it so twice
 pub others_twice :
-    (old now new : List CustomerSpool) (c : ℕ) → now ≡ slice_set old c (part c now) → new ≡ slice_set now c (part c new)
-    → new ≡ slice_set old c (part c new)
+    (old now new : List CustomerSpool) (c : ℕ) → now ≡ slice_set old c (spool_at c now) → new ≡ slice_set now c (spool_at c new)
+    → new ≡ slice_set old c (spool_at c new)
 others_twice old now new c first then =
-    then ∙ ap (λ spools. slice_set spools c (part c new)) first ∙ set-set old c (part c now) (part c new)
+    then ∙ ap (λ spools. slice_set spools c (spool_at c new)) first ∙ set-set old c (spool_at c now) (spool_at c new)
 
 -- the first record acts, and then the others
 pub one_acted :
     (l : ℕ) (items rest : List Item) (item : Item) (ended : Bool) (c : Customer) → Some item ≡ slice_get items 0 → rest ≡ drop 1 items
-    → ended ≡ false → ended ≡ ends_session item → all_acted l rest (acted l item c) ≡ all_acted l items c
+    → ended ≡ false → ended ≡ ends_session item → all_acted l rest (after_record l item c) ≡ all_acted l items c
 one_acted l [] rest item ended c first others goes_on is = absurd (cc first)
 one_acted l (i ∷ is) rest item ended c first others goes_on ends =
     let same : item ≡ i = cc first in
-    ap (λ xs. all_acted l xs (acted l item c)) others
-    ∙ ap (λ x. all_acted l is (acted l x c)) same
-    ∙ ap (λ b. ended_or b c (all_acted l is (acted l i c))) (sym goes_on ∙ ends ∙ ap ends_session same)
+    ap (λ xs. all_acted l xs (after_record l item c)) others
+    ∙ ap (λ x. all_acted l is (after_record l x c)) same
+    ∙ ap (λ b. ended_or b c (all_acted l is (after_record l i c))) (sym goes_on ∙ ends ∙ ap ends_session same)
 
 -- a customer's files are led on twice
 pub moved_twice :
     (old now new : List CustomerSpool) (c : ℕ) (x : CustomerSpool) (f : CustomerSpool → CustomerSpool) → c < length old → now ≡ slice_set old c x
-    → new ≡ slice_set now c (f (part c now)) → new ≡ slice_set old c (f x)
+    → new ≡ slice_set now c (f (spool_at c now)) → new ≡ slice_set old c (f x)
 moved_twice old now new c x f range now_is new_is =
     new_is
-    ∙ ap₂ (λ m s. slice_set m c (f s)) now_is (ap (part c) now_is ∙ get_or-set_same old c x no_spool range)
+    ∙ ap₂ (λ m s. slice_set m c (f s)) now_is (ap (spool_at c) now_is ∙ get_or-set_same old c x no_spool range)
     ∙ set-set old c x (f x)
 
 -- ---- steps that may mark the customer's lines
@@ -100,7 +100,7 @@ next_brought tables retold line old new lines_old lines_new after ready brings s
     ap (λ t. length t.customers) brings.entries,
     length-set tables.customers line.customer (customer_at retold line.customer),
   );
-  spooled = omega (arith, ready.spooled, ap length brings.others, length-set old line.customer (part line.customer new));
+  spooled = omega (arith, ready.spooled, ap length brings.others, length-set old line.customer (spool_at line.customer new));
   there = omega (arith, ready.there, ap (λ c. length c.lines) brings.customer, stays.lines);
   coherent = subst IsCoherent (sym brings.customer) stays.coherent;
 }
@@ -141,7 +141,7 @@ pub marked_behind :
     → Brings tables retold line.customer old new lines (record after { entry = entry_marked line.line up after.entry })
 marked_behind tables retold line up old new lines after leads there is own = record {
   customer =
-      ap (λ entry. customer_with entry (part line.customer new) lines) (ap (λ t. entry_of (customer_at t line.customer)) is ∙ own)
+      ap (λ entry. customer_with entry (spool_at line.customer new) lines) (ap (λ t. entry_of (customer_at t line.customer)) is ∙ own)
       ∙ ap (λ (d : Customer). record d { entry = entry_marked line.line up d.entry }) leads.customer;
   others = leads.others;
   entries = retold_marked tables retold line up there is;
@@ -152,16 +152,16 @@ pub accepted_so :
     (tables retold : TableFile) (line : LineId) (spools : List CustomerSpool) (old new : List CustomerLine) (came : Input) (was_up now_up up : Bool)
     → line.line < length old → new ≡ on_line line.line (in_state (after_input came)) old
     → was_up ≡ is_up (line_at line.line old).state.session.phase → now_up ≡ is_up (line_at line.line new).state.session.phase
-    → up ≡ (now_up && not was_up) → entry_of (customer_at retold line.customer) ≡ raised up line.line (entry_of (customer_at tables line.customer))
+    → up ≡ (now_up && not was_up) → entry_of (customer_at retold line.customer) ≡ with_raised_line up line.line (entry_of (customer_at tables line.customer))
     → customer_of retold line.customer spools new ≡ accepted_on line.line came (customer_of tables line.customer spools old)
 accepted_so tables retold line spools old new came was_up now_up up there lines was now goes entry =
     let x = line_at line.line old in
     let phase : is_up (line_at line.line new).state.session.phase ≡ is_up (after_input came x.state).session.phase =
     ap (λ ls. is_up (line_at line.line ls).state.session.phase) lines
-    ∙ ap (λ y. is_up y.state.session.phase) (get_or-set_same old line.line (in_state (after_input came) x) no_line there) in
-    ap (λ e. customer_with e (part line.customer spools) new)
-    (entry ∙ ap (λ b. raised b line.line (entry_of (customer_at tables line.customer))) (goes ∙ ap₂ (λ n w. n && not w) (now ∙ phase) was))
-    ∙ ap (customer_with (raised (goes_up_by line.line came (customer_of tables line.customer spools old)) line.line (entry_of (customer_at tables line.customer))) (part line.customer spools)) lines
+    ∙ ap (λ y. is_up y.state.session.phase) (get_or-set_same old line.line (in_state (after_input came) x) no_customer_line there) in
+    ap (λ e. customer_with e (spool_at line.customer spools) new)
+    (entry ∙ ap (λ b. with_raised_line b line.line (entry_of (customer_at tables line.customer))) (goes ∙ ap₂ (λ n w. n && not w) (now ∙ phase) was))
+    ∙ ap (customer_with (with_raised_line (goes_up_by line.line came (customer_of tables line.customer spools old)) line.line (entry_of (customer_at tables line.customer))) (spool_at line.customer spools)) lines
 
 -- What comes but a good block: its verdict, and what that asks for.
 pub brought_by_verdict :
@@ -170,7 +170,7 @@ pub brought_by_verdict :
     → customer_of accepted_tables line.customer old lines_accepted ≡ accepted_on line.line came (customer_of tables line.customer old lines)
     → IsRetold line.customer tables accepted_tables
     → Brings accepted_tables retold line.customer old new lines_new (carried_out line.line v (customer_of accepted_tables line.customer old lines_accepted)).after
-    → Brings tables retold line.customer old new lines_new (input_came line.line came (customer_of tables line.customer old lines)).after
+    → Brings tables retold line.customer old new lines_new (after_line_input line.line came (customer_of tables line.customer old lines)).after
 brought_by_verdict tables accepted_tables retold line old new lines lines_accepted lines_new came v verdict accepted entries behind =
     let l = line.line in
     let c = customer_of tables line.customer old lines in
@@ -201,7 +201,7 @@ pub brought_by_block :
     → ended ≡ (acted_where v.acts line.line b.items (customer_of accepted_tables line.customer old lines_accepted)).ended
     → Leads accepted_tables line.customer old now lines_now (acted_where v.acts line.line b.items (customer_of accepted_tables line.customer old lines_accepted)).customer
     → Brings accepted_tables retold line.customer now new lines_new (behind_records ended line.line v (customer_of accepted_tables line.customer now lines_now)).after
-    → Brings tables retold line.customer old new lines_new (block_came line.line b (customer_of tables line.customer old lines)).after
+    → Brings tables retold line.customer old new lines_new (after_block line.line b (customer_of tables line.customer old lines)).after
 brought_by_block ended tables accepted_tables retold line old now new lines lines_accepted lines_now lines_new b v verdict accepted entries is_ended acted behind =
     let l = line.line in
     let c = customer_of tables line.customer old lines in

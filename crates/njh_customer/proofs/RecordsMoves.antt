@@ -5,16 +5,16 @@ use Rattle.std.proofs.lemmas.List.Elements.{Contains-append_right}
 use Rattle.std.specs.List.{Contains}
 use Rattle.njh_block.specs.Blocks.{Item}
 use Rattle.njh_customer.specs.Customer.{Customer}
-use Rattle.njh_customer.specs.Acting.{acted, ends_session, ended_or, all_acted, acted_where}
+use Rattle.njh_customer.specs.Acting.{after_record, ends_session, ended_or, all_acted, acted_where}
 use Rattle.njh_customer.specs.OutgoingFiles.{outgoing}
-use Rattle.njh_customer.specs.Moves.{Acts, Leads, nowhere, onward, OneActs}
+use Rattle.njh_customer.specs.Moves.{Acts, LeadsByMoves, nowhere, onward, OneActs}
 use Rattle.njh_customer.proofs.ActingMoves.{Acted, acts_so}
 use Rattle.njh_customer.proofs.KeptLines.{kept, kepts, acted_keeps}
 
 -- they act one after the other
 pub record Acting (l : ℕ) (items : List Item) (c d : Customer) : Type 0 where
   pub entry : d.entry ≡ c.entry
-  pub records : Leads (OneActs c.entry l items) (outgoing c) (outgoing d)
+  pub records : LeadsByMoves (OneActs c.entry l items) (outgoing c) (outgoing d)
   pub kept : kepts d.lines ≡ kepts c.lines  -- how each line is set up, its last transmission, and how far it is
 
 idle : (l : ℕ) (items : List Item) (c : Customer) → Acting l items c c
@@ -27,14 +27,14 @@ lines_of c d e = sym (length-map d.lines kept) ∙ ap length e ∙ length-map c.
 one_more : (l : ℕ) (items : List Item) (i : Item) (c d e : Customer) → Contains items i → Acted l i c d → kepts d.lines ≡ kepts c.lines → Acting l items d e → Acting l items c e
 one_more l items i c d e there one keeps later = at_move one.moves
   where
-    behind : Leads (OneActs c.entry l items) (outgoing d) (outgoing e)
-    behind = subst (λ entry. Leads (OneActs entry l items) (outgoing d) (outgoing e)) one.entry later.records
+    behind : LeadsByMoves (OneActs c.entry l items) (outgoing d) (outgoing e)
+    behind = subst (λ entry. LeadsByMoves (OneActs entry l items) (outgoing d) (outgoing e)) one.entry later.records
 
     at_move : (outgoing d ≡ outgoing c) ⊎ Acts c.entry l i (outgoing c) (outgoing d) → Acting l items c e
     at_move (inl same) =
         record {
           entry = later.entry ∙ one.entry;
-          records = subst (λ x. Leads (OneActs c.entry l items) x (outgoing e)) same behind;
+          records = subst (λ x. LeadsByMoves (OneActs c.entry l items) x (outgoing e)) same behind;
           kept = later.kept ∙ keeps;
         }
     at_move (inr acts) =
@@ -51,10 +51,10 @@ all_acting : (l : ℕ) (items some : List Item) (c : Customer) → AreAmong some
 all_acting l items [] c among = idle l items c
 all_acting l items (i ∷ is) c among =
     let there : Contains (i ∷ is) i = (0, omega arith, refl) in
-    let later = all_acting l items is (acted l i c) (λ j at. among j (Contains-append_right (i ∷ []) is j at)) in
-    at_end (ends_session i) (one_more l items i c (acted l i c) (all_acted l is (acted l i c)).customer (among i there) (acts_so l i c) (acted_keeps l i c) later)
+    let later = all_acting l items is (after_record l i c) (λ j at. among j (Contains-append_right (i ∷ []) is j at)) in
+    at_end (ends_session i) (one_more l items i c (after_record l i c) (all_acted l is (after_record l i c)).customer (among i there) (acts_so l i c) (acted_keeps l i c) later)
   where
-    at_end : (b : Bool) → Acting l items c (all_acted l is (acted l i c)).customer → Acting l items c (ended_or b c (all_acted l is (acted l i c))).customer
+    at_end : (b : Bool) → Acting l items c (all_acted l is (after_record l i c)).customer → Acting l items c (ended_or b c (all_acted l is (after_record l i c))).customer
     at_end true acting = idle l items c
     at_end false acting = acting
 

@@ -5,13 +5,13 @@ use Rattle.njh_spool.specs.CustomerSpool.{WholeFile}
 use Rattle.njh_table.specs.Entries.{CustomerEntry}
 use Rattle.njh_table.specs.Keys.{Walked}
 use Rattle.njh_table.specs.NewRoutes.{NewRoute, routes_checked}
-use Rattle.njh_stream.specs.Holding.{has_lost_route, held}
+use Rattle.njh_stream.specs.Holding.{has_lost_route, held_file}
 use Rattle.njh_command.specs.Files.{no_file}
 use Rattle.njh_customer.specs.Customer.{with_marks}
 use Rattle.njh_customer.specs.NewRoutes.{entry_with, taken_where, routes_given}
 use Rattle.njh_customer.specs.OutgoingFiles.{Outgoing, outgoing}
 use Rattle.njh_customer.specs.Part.{Part}
-use Rattle.njh_customer.specs.Moves.{Leads, nowhere, onward, RoutesMove}
+use Rattle.njh_customer.specs.Moves.{LeadsByMoves, nowhere, onward, RoutesMove}
 use Rattle.njh_customer.specs.MovingLaws.{RoutesDo, RoutesDoSo, RoutesMoveFile, is_as_before, is_held}
 use Rattle.njh_customer.proofs.FileListLaws.{from_map, numbers}
 
@@ -38,11 +38,11 @@ routes_do p routes = at_check (routes_checked p.customer.entry routes) refl
     }
 
 pub routes_move :
-    (p : Part) (routes : List NewRoute) → Leads (RoutesMove p.customer.entry routes) (outgoing p.customer) (outgoing (routes_given routes p).customer)
+    (p : Part) (routes : List NewRoute) → LeadsByMoves (RoutesMove p.customer.entry routes) (outgoing p.customer) (outgoing (routes_given routes p).customer)
 routes_move p routes = at_check (routes_checked p.customer.entry routes) refl
   where
     at_check : (w : Walked (Unit {0})) → routes_checked p.customer.entry routes ≡ w
-        → Leads (RoutesMove p.customer.entry routes) (outgoing p.customer) (outgoing (taken_where w routes p).customer)
+        → LeadsByMoves (RoutesMove p.customer.entry routes) (outgoing p.customer) (outgoing (taken_where w routes p).customer)
     at_check (Ok faultless) e =
         let y = outgoing (taken_where (Ok faultless) routes p).customer in
         onward (outgoing p.customer) y y (record { faultless = e; holds = refl }) (nowhere y)
@@ -61,7 +61,7 @@ routes_keep_entry p routes = at_check (routes_checked p.customer.entry routes)
 -- ---- a file
 
 abbrev held_where : CustomerEntry → WholeFile → WholeFile
-held_where entry f = cond (has_lost_route entry f) (held f) f
+held_where entry f = cond (has_lost_route entry f) (held_file f) f
 
 pub held_numbers : (entry : CustomerEntry) (fs : List WholeFile) → numbers (map (held_where entry) fs) ≡ numbers fs
 held_numbers entry [] = refl
@@ -70,14 +70,14 @@ held_numbers entry (f ∷ fs) = at_test (has_lost_route entry f) (held_numbers e
     rest : List ℕ
     rest = numbers (map (held_where entry) fs)
 
-    at_test : (b : Bool) → rest ≡ numbers fs → (cond b (held f) f).number ∷ rest ≡ f.number ∷ numbers fs
+    at_test : (b : Bool) → rest ≡ numbers fs → (cond b (held_file f) f).number ∷ rest ≡ f.number ∷ numbers fs
     at_test true e = ap (λ more. f.number ∷ more) e
     at_test false e = ap (λ more. f.number ∷ more) e
 
 pub held_so : (entry : CustomerEntry) (x : Outgoing) (g : WholeFile) → Contains (map (held_where entry) x.files) g → RoutesMoveFile entry x g
 held_so entry x g at = at_file (from_map (held_where entry) x.files no_file g at)
   where
-    by_test : (b : Bool) (f : WholeFile) → Contains x.files f → has_lost_route entry f ≡ b → g ≡ cond b (held f) f → RoutesMoveFile entry x g
+    by_test : (b : Bool) (f : WholeFile) → Contains x.files f → has_lost_route entry f ≡ b → g ≡ cond b (held_file f) f → RoutesMoveFile entry x g
     by_test true f there e is = is_held f there e is
     by_test false f there e is =
         is_as_before (subst (Contains x.files) (sym is) there) (ap (has_lost_route entry) is ∙ e)

@@ -14,11 +14,11 @@ use Rattle.njh_stream.specs.declared.sender.Sender.TheVariants.{Idle, Requested,
 use Rattle.njh_stream.specs.Sending.{goes_by, next_at, next_of, record_at}
 use Rattle.njh_sched.specs.NextBlock.{Candidate, Filling, Source, WaitingAnswer, StreamAbort, StreamRequest, WaitingMessage, StreamTurn}
 use Rattle.njh_sched.specs.NextBlock.{abort_where, answering, asking, candidate, is_idle, may_ask, next_served, oldest, sender_at, serving, telling}
-use Rattle.njh_sched.specs.NextBlock.{added_where, after_candidate, after_source, after_source_where, after_sources, filled, filled_where, sources}
+use Rattle.njh_sched.specs.NextBlock.{added_where, after_candidate, after_source, after_source_where, after_sources, filled_block, filled_where, sources}
 use Rattle.njh_sched.specs.Carrying.{records_of}
-use Rattle.njh_customer.specs.OutgoingFiles.{Outgoing, record_numbered, stream_at, with_stream}
+use Rattle.njh_customer.specs.OutgoingFiles.{Outgoing, record_numbered, sender_on, with_sender_on}
 use Rattle.njh_customer.specs.Moves as moves
-use Rattle.njh_customer.specs.Moves.{Leads, nowhere, onward, Sends}
+use Rattle.njh_customer.specs.Moves.{LeadsByMoves, nowhere, onward, Sends}
 use Rattle.njh_customer.proofs.OutgoingLaws.{of_parts}
 
 -- ---- a line's streams while its block is filled
@@ -40,7 +40,7 @@ pub data GivesOne (entry : CustomerEntry) (l : ℕ) (base : List (List Sender)) 
       → GivesOne entry l base x y
 
 module _ (entry : CustomerEntry) (l : ℕ) (base : List (List Sender)) (inside : l < length base) where
-  pub stream_now : (k : ℕ) (x : Filling) → stream_at l k (out_of l base x) ≡ sender_at k x.outlet
+  pub stream_now : (k : ℕ) (x : Filling) → sender_on l k (out_of l base x) ≡ sender_at k x.outlet
   stream_now k x = ap (λ senders. get_or senders k Idle) (get_or-set_same base l x.outlet.senders [] inside)
 
   -- the line's streams with another
@@ -60,7 +60,7 @@ module _ (entry : CustomerEntry) (l : ℕ) (base : List (List Sender)) (inside :
   offers_map x f None each = tt
   offers_map x f (Some a) each = each a refl
 
-  moved_is : (x : Filling) (k : ℕ) (s : Sender) (files : List WholeFile) → of_parts files (set base l (set x.outlet.senders k s)) ≡ with_stream l k s (of_parts files (set base l x.outlet.senders))
+  moved_is : (x : Filling) (k : ℕ) (s : Sender) (files : List WholeFile) → of_parts files (set base l (set x.outlet.senders k s)) ≡ with_sender_on l k s (of_parts files (set base l x.outlet.senders))
   moved_is x k s files = ap (of_parts files) (set_again x.outlet.senders k s)
 
   offers_abort : (x : Filling) (k : ℕ) (s : Sender) → sender_at k x.outlet ≡ s → OffersIf x (abort_where s x.outlet x.spool k)
@@ -146,11 +146,11 @@ module _ (entry : CustomerEntry) (l : ℕ) (base : List (List Sender)) (inside :
       at_full false = gives_candidate x (candidate (goes_by entry l) source x.outlet x.spool) (offers source x)
 
   -- all sources, one after the other
-  step_on : (x y : Filling) (z : Outgoing) → Gives x y → Leads (Sends entry l) (out_of l base y) z → Leads (Sends entry l) (out_of l base x) z
-  step_on x y z (nothing e more items) later = subst (λ w. Leads (Sends entry l) w z) e later
+  step_on : (x y : Filling) (z : Outgoing) → Gives x y → LeadsByMoves (Sends entry l) (out_of l base y) z → LeadsByMoves (Sends entry l) (out_of l base x) z
+  step_on x y z (nothing e more items) later = subst (λ w. LeadsByMoves (Sends entry l) w z) e later
   step_on x y z (a_record s i items) later = onward (out_of l base x) (out_of l base y) z s later
 
-  all_lead : (more : List Source) (x : Filling) → Leads (Sends entry l) (out_of l base x) (out_of l base (after_sources (goes_by entry l) more x))
+  all_lead : (more : List Source) (x : Filling) → LeadsByMoves (Sends entry l) (out_of l base x) (out_of l base (after_sources (goes_by entry l) more x))
   unfolding after_sources
   all_lead [] x = nowhere (out_of l base x)
   all_lead (source ∷ more) x =
@@ -181,16 +181,16 @@ module _ (entry : CustomerEntry) (l : ℕ) (base : List (List Sender)) (inside :
       let first = gave_none x y (gives source x) later.0 in
       (first.0, later.1 ∙ first.1)
 
-  pub filled_leads : (x : Filling) → Leads (Sends entry l) (out_of l base x) (out_of l base (filled (goes_by entry l) x))
-  unfolding filled
+  pub filled_leads : (x : Filling) → LeadsByMoves (Sends entry l) (out_of l base x) (out_of l base (filled_block (goes_by entry l) x))
+  unfolding filled_block
   filled_leads x = at_suspended (all_suspended x.outlet.peer)
     where
-      at_suspended : (b : Bool) → Leads (Sends entry l) (out_of l base x) (out_of l base (filled_where b (goes_by entry l) x))
+      at_suspended : (b : Bool) → LeadsByMoves (Sends entry l) (out_of l base x) (out_of l base (filled_where b (goes_by entry l) x))
       at_suspended true = nowhere (out_of l base x)
       at_suspended false = all_lead (sources x.block.limit x.outlet) x
 
-  pub filled_with_none : (x : Filling) → (filled (goes_by entry l) x).block.items ≡ [] → out_of l base (filled (goes_by entry l) x) ≡ out_of l base x
-  unfolding filled
+  pub filled_with_none : (x : Filling) → (filled_block (goes_by entry l) x).block.items ≡ [] → out_of l base (filled_block (goes_by entry l) x) ≡ out_of l base x
+  unfolding filled_block
   filled_with_none x = at_suspended (all_suspended x.outlet.peer)
     where
       at_suspended : (b : Bool) → (filled_where b (goes_by entry l) x).block.items ≡ [] → out_of l base (filled_where b (goes_by entry l) x) ≡ out_of l base x

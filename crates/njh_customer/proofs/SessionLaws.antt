@@ -15,7 +15,7 @@ use Rattle.njh_stream.specs.declared.receiver.Receiver.{Receiver}
 use Rattle.njh_stream.specs.declared.receiver.Receiver.TheVariants as receiver
 use Rattle.njh_stream.specs.declared.sender.Sender.{Sender}
 use Rattle.njh_stream.specs.Receiving.{without_open, without_all_open}
-use Rattle.njh_stream.specs.Sending.{all_ended, ended, file_in, goes_by, tried_again}
+use Rattle.njh_stream.specs.Sending.{all_ended, spool_after_session, file_in, goes_by, tried_again}
 use Rattle.njh_stream.specs.Streams.{streams_at}
 use Rattle.njh_stream.specs.code.Agreement.{AreTied}
 use Rattle.njh_sched.specs.NextBlock.{filling}
@@ -27,12 +27,12 @@ use Rattle.njh_line.specs.declared.verdict.Reply.{Reply}
 use Rattle.njh_line.specs.declared.verdict.Reply.TheVariants as reply
 use Rattle.njh_line.specs.declared.verdict.Verdict.{Verdict}
 use Rattle.njh_customer.specs.declared.signal.Signal.{Signal}
-use Rattle.njh_customer.specs.Customer.{Customer, no_line, line_at, on_line, in_state}
+use Rattle.njh_customer.specs.Customer.{Customer, no_customer_line, line_at, on_line, in_state}
 use Rattle.njh_customer.specs.code.Coherence.{streams_to_hub, HasStreams, IsCoherent}
-use Rattle.njh_customer.specs.Sending.{LineSent, outlet_of, own_block, reply_sent}
+use Rattle.njh_customer.specs.Sending.{LineSent, outlet_of, own_block, sending_of_reply}
 use Rattle.njh_customer.specs.Acting.{acted_where}
-use Rattle.njh_customer.specs.Alone.{Step, silent, replied, replied_to, quiet, session_over, session_over_where, session_ended, carried_out, verdict_on}
-use Rattle.njh_customer.specs.Alone.{accepted_on, input_came, block_input, behind_records, block_came, text_read, text_came, received_on, signal_input, frame_came, signal_came}
+use Rattle.njh_customer.specs.Alone.{Step, silent, after_reply, replied_to, quiet, session_over, session_over_where, session_ended, carried_out, verdict_on}
+use Rattle.njh_customer.specs.Alone.{accepted_on, after_line_input, block_input, behind_records, after_block, text_read, after_text, after_received, signal_input, after_frame, after_signal}
 use Rattle.njh_customer.specs.Feeding.{acted_on}
 use Rattle.njh_customer.proofs.ShapeLaws.{shape, on_line_shapes}
 use Rattle.njh_customer.proofs.CoherenceLaws.{ArrivalsTie, NothingUnties, EndsTie}
@@ -48,14 +48,14 @@ onward e d c later first = record { coherent = later.coherent; lines = later.lin
 abbrev ended_where : Option ℕ → CustomerSpool → CustomerSpool
 ended_where o s = elim o [ Some n ↦ with_state n Ready s | None ↦ s ]
 
-ended_partial : (x : Sender) (s : CustomerSpool) → (ended x s).partial ≡ s.partial
+ended_partial : (x : Sender) (s : CustomerSpool) → (spool_after_session x s).partial ≡ s.partial
 ended_partial x s = at_file (file_in x)
   where
     at_file : (o : Option ℕ) → (ended_where o s).partial ≡ s.partial
     at_file None = refl
     at_file (Some n) = refl
 
-ended_quota : (x : Sender) (s : CustomerSpool) → (ended x s).quota ≡ s.quota
+ended_quota : (x : Sender) (s : CustomerSpool) → (spool_after_session x s).quota ≡ s.quota
 ended_quota x s = at_file (file_in x)
   where
     at_file : (o : Option ℕ) → (ended_where o s).quota ≡ s.quota
@@ -64,11 +64,11 @@ ended_quota x s = at_file (file_in x)
 
 all_ended_partial : (xs : List Sender) (s : CustomerSpool) → (all_ended xs s).partial ≡ s.partial
 all_ended_partial [] s = refl
-all_ended_partial (x ∷ xs) s = all_ended_partial xs (ended x s) ∙ ended_partial x s
+all_ended_partial (x ∷ xs) s = all_ended_partial xs (spool_after_session x s) ∙ ended_partial x s
 
 all_ended_quota : (xs : List Sender) (s : CustomerSpool) → (all_ended xs s).quota ≡ s.quota
 all_ended_quota [] s = refl
-all_ended_quota (x ∷ xs) s = all_ended_quota xs (ended x s) ∙ ended_quota x s
+all_ended_quota (x ∷ xs) s = all_ended_quota xs (spool_after_session x s) ∙ ended_quota x s
 
 without_open_quota : (r : Receiver) (s : CustomerSpool) → (without_open r s).quota ≡ s.quota
 without_open_quota receiver.Idle s = refl
@@ -83,24 +83,24 @@ module _ (untied : NothingUnties) (ends : EndsTie) where
   -- ---- what a line sends
 
   sent_stays : (l : ℕ) (x : LineSent) (c : Customer) → shape x.line ≡ shape (line_at l c.lines) → x.spool.partial ≡ c.spool.partial
-      → x.spool.quota ≡ c.spool.quota → IsCoherent c → Stays (replied l x c).after c
+      → x.spool.quota ≡ c.spool.quota → IsCoherent c → Stays (after_reply l x c).after c
   sent_stays l x c same partial quota coherent =
-      stays_like untied (replied l x c).after c
-      (record { entry = refl; lines = map-set_same shape c.lines l x.line no_line same; partial = partial; quota = quota }) coherent
+      stays_like untied (after_reply l x c).after c
+      (record { entry = refl; lines = map-set_same shape c.lines l x.line no_customer_line same; partial = partial; quota = quota }) coherent
 
   reply_stays : (l : ℕ) (r : Reply) (c : Customer) → IsCoherent c → Stays (replied_to l r c).after c
-  reply_stays l reply.Nothing c coherent = sent_stays l (reply_sent c.entry l reply.Nothing c.spool (line_at l c.lines)) c refl refl refl coherent
+  reply_stays l reply.Nothing c coherent = sent_stays l (sending_of_reply c.entry l reply.Nothing c.spool (line_at l c.lines)) c refl refl refl coherent
   reply_stays l (reply.Control control) c coherent =
-      sent_stays l (reply_sent c.entry l (reply.Control control) c.spool (line_at l c.lines)) c refl refl refl coherent
-  reply_stays l reply.Again c coherent = sent_stays l (reply_sent c.entry l reply.Again c.spool (line_at l c.lines)) c refl refl refl coherent
+      sent_stays l (sending_of_reply c.entry l (reply.Control control) c.spool (line_at l c.lines)) c refl refl refl coherent
+  reply_stays l reply.Again c coherent = sent_stays l (sending_of_reply c.entry l reply.Again c.spool (line_at l c.lines)) c refl refl refl coherent
   reply_stays l (reply.SignOn kind) c coherent =
-      sent_stays l (reply_sent c.entry l (reply.SignOn kind) c.spool (line_at l c.lines)) c refl refl refl coherent
+      sent_stays l (sending_of_reply c.entry l (reply.SignOn kind) c.spool (line_at l c.lines)) c refl refl refl coherent
   reply_stays l (reply.Sequence expected) c coherent =
-      sent_stays l (reply_sent c.entry l (reply.Sequence expected) c.spool (line_at l c.lines)) c refl refl refl coherent
+      sent_stays l (sending_of_reply c.entry l (reply.Sequence expected) c.spool (line_at l c.lines)) c refl refl refl coherent
   reply_stays l (reply.Next or_ack0) c coherent =
       let x = line_at l c.lines in
       let kept = filled_kept (goes_by c.entry l) (filling (own_block (own_fcs c.spool) x.state) (outlet_of x) c.spool) in
-      sent_stays l (reply_sent c.entry l (reply.Next or_ack0) c.spool x) c refl kept.partial kept.quota coherent
+      sent_stays l (sending_of_reply c.entry l (reply.Next or_ack0) c.spool x) c refl kept.partial kept.quota coherent
 
   -- ---- the end of a session
 
@@ -109,12 +109,12 @@ module _ (untied : NothingUnties) (ends : EndsTie) where
       let x = line_at l c.lines in
       let lines = streams_to_hub c.lines in
       let sent = tried_again c.entry l (all_ended x.senders c.spool) in
-      let here : streams_at l lines ≡ x.receivers = get_or-map (λ y. y.receivers) c.lines l no_line in
+      let here : streams_at l lines ≡ x.receivers = get_or-map (λ y. y.receivers) c.lines l no_customer_line in
       let there : l < length lines = omega (arith, line_there, length-map c.lines (λ y. y.receivers)) in
       let tied = ends l lines sent there (untied lines c.spool sent (all_ended_partial x.senders c.spool) coherent.tied) in
       let after : AreTied (set lines l (replicate (length x.receivers) receiver.Idle)) (without_all_open x.receivers sent) =
       subst (λ rs. AreTied (set lines l (replicate (length rs) receiver.Idle)) (without_all_open rs sent)) here tied in
-      let eight = coherent.streamed l no_line line_there in
+      let eight = coherent.streamed l no_customer_line line_there in
       record {
         coherent = record {
           tied = subst (λ rs. AreTied rs (without_all_open x.receivers sent)) (sym (map-set (λ y. y.receivers) c.lines l (quiet x))) after;
@@ -143,7 +143,7 @@ module _ (untied : NothingUnties) (ends : EndsTie) where
       let first = reply_stays l v.reply c coherent in
       onward (session_over_where v.ended l d) d c (over_where_stays v.ended l d (omega (arith, line_there, first.lines)) first.coherent) first
 
-  input_stays : (l : ℕ) (came : Input) (c : Customer) → l < length c.lines → IsCoherent c → Stays (input_came l came c).after c
+  input_stays : (l : ℕ) (came : Input) (c : Customer) → l < length c.lines → IsCoherent c → Stays (after_line_input l came c).after c
   input_stays l came c line_there coherent =
       let d = accepted_on l came c in
       let first = accepted_stays untied l came c coherent in
@@ -154,7 +154,7 @@ module _ (untied : NothingUnties) (ends : EndsTie) where
     behind_stays true l v c line_there coherent = ended_stays l c line_there coherent
     behind_stays false l v c line_there coherent = carried_stays l v c line_there coherent
 
-    block_stays : (l : ℕ) (b : Block) (c : Customer) → l < length c.lines → IsCoherent c → Stays (block_came l b c).after c
+    block_stays : (l : ℕ) (b : Block) (c : Customer) → l < length c.lines → IsCoherent c → Stays (after_block l b c).after c
     block_stays l b c line_there coherent =
         let v = verdict_on l (block_input b) c in
         let d = accepted_on l (block_input b) c in
@@ -165,14 +165,14 @@ module _ (untied : NothingUnties) (ends : EndsTie) where
         (behind_stays a.ended l v a.customer (omega (arith, line_there, first.lines, acted.lines)) acted.coherent)
         (onward a.customer d c acted first)
 
-    text_stays : (l : ℕ) (text : List ℕ) (c : Customer) → l < length c.lines → IsCoherent c → Stays (text_came l text c).after c
+    text_stays : (l : ℕ) (text : List ℕ) (c : Customer) → l < length c.lines → IsCoherent c → Stays (after_text l text c).after c
     text_stays l text c line_there coherent = at_block (read_block text)
       where
         at_block : (b : Result Block BlockFault) → Stays (text_read l b c).after c
         at_block (Ok b) = block_stays l b c line_there coherent
         at_block (Err e) = input_stays l input.Bad c line_there coherent
 
-    received_stays : (l : ℕ) (x : Received) (c : Customer) → l < length c.lines → IsCoherent c → Stays (received_on l x c).after c
+    received_stays : (l : ℕ) (x : Received) (c : Customer) → l < length c.lines → IsCoherent c → Stays (after_received l x c).after c
     received_stays l frame.Enquiry c line_there coherent = input_stays l input.Enquiry c line_there coherent
     received_stays l frame.Ack0 c line_there coherent = input_stays l input.Ack0 c line_there coherent
     received_stays l frame.Nak c line_there coherent = input_stays l input.Nak c line_there coherent
@@ -185,12 +185,12 @@ module _ (untied : NothingUnties) (ends : EndsTie) where
     there_stays false x c coherent after = stays c coherent
 
     pub frame_stays : (l : ℕ) (o : Option Received) (c : Customer) → l < length c.lines → IsCoherent c → Stays (acted_on l o c).after c
-    unfolding frame_came
+    unfolding after_frame
     frame_stays l None c line_there coherent = stays c coherent
     frame_stays l (Some x) c line_there coherent =
-        there_stays (nat_lt l (length c.lines)) (received_on l x c) c coherent (received_stays l x c line_there coherent)
+        there_stays (nat_lt l (length c.lines)) (after_received l x c) c coherent (received_stays l x c line_there coherent)
 
-    pub signal_stays : (l : ℕ) (x : Signal) (c : Customer) → l < length c.lines → IsCoherent c → Stays (signal_came l x c).after c
-    unfolding signal_came
+    pub signal_stays : (l : ℕ) (x : Signal) (c : Customer) → l < length c.lines → IsCoherent c → Stays (after_signal l x c).after c
+    unfolding after_signal
     signal_stays l x c line_there coherent =
-        there_stays (nat_lt l (length c.lines)) (input_came l (signal_input x) c) c coherent (input_stays l (signal_input x) c line_there coherent)
+        there_stays (nat_lt l (length c.lines)) (after_line_input l (signal_input x) c) c coherent (input_stays l (signal_input x) c line_there coherent)

@@ -12,10 +12,10 @@ use Rattle.njh_table.specs.declared.Route.{Route}
 use Rattle.njh_table.specs.declared.Route.TheVariants.{Here, Line, Unknown}
 use Rattle.njh_nmr.specs.Nodal.{notice_record}
 use Rattle.njh_line.specs.Lines.{with_answer, with_message}
-use Rattle.njh_customer.specs.Customer.{CustomerLine, no_line, line_at, on_line, in_state}
+use Rattle.njh_customer.specs.Customer.{CustomerLine, no_customer_line, line_at, on_line, in_state}
 use Rattle.njh_customer.specs.code.Coherence.{streams_to_hub, HasStreams}
-use Rattle.njh_customer.specs.Waiting.{answered, waits, goes, said, all_said, notified}
-use Rattle.njh_customer.specs.Acting.{given_up}
+use Rattle.njh_customer.specs.Waiting.{with_answer_on, with_waiting, goes, with_message_to, all_said, with_notice_to}
+use Rattle.njh_customer.specs.Acting.{without_sending}
 
 -- the streams to the hub, and how many the peer may use
 abbrev pub shape : CustomerLine → ℕ × List Receiver
@@ -44,13 +44,13 @@ streamed_still xs ys same all k d h =
 pub on_line_shapes :
     (l : ℕ) (f : CustomerLine → CustomerLine) (lines : List CustomerLine) → ((x : CustomerLine) → shape (f x) ≡ shape x)
     → shapes (on_line l f lines) ≡ shapes lines
-on_line_shapes l f lines same = map-set_same shape lines l (f (line_at l lines)) no_line (same (line_at l lines))
+on_line_shapes l f lines same = map-set_same shape lines l (f (line_at l lines)) no_customer_line (same (line_at l lines))
 
-pub answered_shapes : (l : ℕ) (a : Option Answer) (lines : List CustomerLine) → shapes (answered l a lines) ≡ shapes lines
+pub answered_shapes : (l : ℕ) (a : Option Answer) (lines : List CustomerLine) → shapes (with_answer_on l a lines) ≡ shapes lines
 answered_shapes l None lines = refl
 answered_shapes l (Some a) lines = on_line_shapes l (in_state (with_answer a)) lines (λ x. refl)
 
-pub waits_shapes : (l : ℕ) (m : List ℕ) (lines : List CustomerLine) → shapes (waits l m lines) ≡ shapes lines
+pub waits_shapes : (l : ℕ) (m : List ℕ) (lines : List CustomerLine) → shapes (with_waiting l m lines) ≡ shapes lines
 waits_shapes l m lines = on_line_shapes l (in_state (with_message m)) lines (λ x. refl)
 
 goes_shapes : (r : Route) (m : List ℕ) (lines : List CustomerLine) → shapes (goes r m lines) ≡ shapes lines
@@ -60,7 +60,7 @@ goes_shapes Unknown m lines = refl
 
 pub said_shapes :
     (entry : CustomerEntry) (whom : List ℕ × List ℕ) (text : List ℕ) (lines : List CustomerLine)
-    → shapes (said entry whom text lines) ≡ shapes lines
+    → shapes (with_message_to entry whom text lines) ≡ shapes lines
 said_shapes entry whom text lines = goes_shapes (route_of entry whom.0) (notice_record entry.hub whom text) lines
 
 pub all_said_shapes :
@@ -68,17 +68,17 @@ pub all_said_shapes :
     → shapes (all_said entry whom texts lines) ≡ shapes lines
 all_said_shapes entry whom [] lines = refl
 all_said_shapes entry whom (t ∷ ts) lines =
-    all_said_shapes entry whom ts (said entry whom t lines) ∙ said_shapes entry whom t lines
+    all_said_shapes entry whom ts (with_message_to entry whom t lines) ∙ said_shapes entry whom t lines
 
 pub notified_shapes :
-    (entry : CustomerEntry) (notice : Option Notice) (lines : List CustomerLine) → shapes (notified entry notice lines) ≡ shapes lines
+    (entry : CustomerEntry) (notice : Option Notice) (lines : List CustomerLine) → shapes (with_notice_to entry notice lines) ≡ shapes lines
 notified_shapes entry None lines = refl
 notified_shapes entry (Some n) lines = said_shapes entry n.whom n.text lines
 
-given_up_shapes : (n : ℕ) (lines : List CustomerLine) → shapes (given_up lines n) ≡ shapes lines
+given_up_shapes : (n : ℕ) (lines : List CustomerLine) → shapes (without_sending lines n) ≡ shapes lines
 given_up_shapes n [] = refl
 given_up_shapes n (x ∷ xs) = ap (λ rest. shape x ∷ rest) (given_up_shapes n xs)
 
-pub all_given_up_shapes : (ns : List ℕ) (lines : List CustomerLine) → shapes (fold given_up lines ns) ≡ shapes lines
+pub all_given_up_shapes : (ns : List ℕ) (lines : List CustomerLine) → shapes (fold without_sending lines ns) ≡ shapes lines
 all_given_up_shapes [] lines = refl
-all_given_up_shapes (n ∷ ns) lines = all_given_up_shapes ns (given_up lines n) ∙ given_up_shapes n lines
+all_given_up_shapes (n ∷ ns) lines = all_given_up_shapes ns (without_sending lines n) ∙ given_up_shapes n lines

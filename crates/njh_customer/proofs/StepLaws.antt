@@ -15,23 +15,23 @@ use Rattle.njh_table.specs.declared.Route.{Route}
 use Rattle.njh_table.specs.declared.Route.TheVariants.{Here, Line, Unknown}
 use Rattle.njh_stream.specs.Arrivals.{answer_on}
 use Rattle.njh_stream.specs.Receiving as receiving
-use Rattle.njh_stream.specs.Receiving.{Arrival, received}
-use Rattle.njh_stream.specs.Sending.{Sent, granted, refused, completed}
+use Rattle.njh_stream.specs.Receiving.{Arrival, received_arrival}
+use Rattle.njh_stream.specs.Sending.{SenderOutcome, after_grant, after_refusal, after_completion}
 use Rattle.njh_stream.specs.declared.sender.Sender.{Sender}
 use Rattle.njh_stream.specs.declared.sender.Sender.TheVariants as sender
 use Rattle.njh_command.specs.declared.command.Command.{Command}
 use Rattle.njh_command.specs.declared.command.Command.TheVariants as commands
 use Rattle.njh_command.specs.Words.{command_of}
-use Rattle.njh_command.specs.Commands.{Outcome, obeyed, obeyed_where, chosen, rerouting}
+use Rattle.njh_command.specs.Commands.{CommandOutcome, command_outcome, obeyed_where, is_of_name, rerouting}
 use Rattle.njh_line.specs.LineTable.{Input}
 use Rattle.njh_line.specs.Lines.{after_input}
-use Rattle.njh_customer.specs.Alone.{accepted_on, goes_up_by, raised}
-use Rattle.njh_customer.specs.Customer.{Customer, CustomerLine, no_line, line_at, on_line, in_state, sender_at}
-use Rattle.njh_customer.specs.Customer.{with_sender, noted, with_receiver, receiver_at}
+use Rattle.njh_customer.specs.Alone.{accepted_on, goes_up_by, with_raised_line}
+use Rattle.njh_customer.specs.Customer.{Customer, CustomerLine, no_customer_line, line_at, on_line, in_state, sender_at}
+use Rattle.njh_customer.specs.Customer.{with_sender, with_notice, with_receiver, receiver_at}
 use Rattle.njh_customer.specs.code.Coherence.{IsCoherent}
-use Rattle.njh_customer.specs.Waiting.{answered, waits, said, notified}
-use Rattle.njh_customer.specs.Acting.{arrived, stream_came, with_sent, permitted, answer_came, refusal_of, request_came, peer_answered}
-use Rattle.njh_customer.specs.Acting.{given_up, with_outcome, command_came, unknown_told, message_routed, message_read, message_came, acted, ends_session}
+use Rattle.njh_customer.specs.Waiting.{with_answer_on, with_waiting, with_message_to, with_notice_to}
+use Rattle.njh_customer.specs.Acting.{after_stream_arrival, after_stream_record, with_sender_outcome, after_permission, after_peer_answer, refusal_of, after_stream_request, peer_answered}
+use Rattle.njh_customer.specs.Acting.{without_sending, with_outcome, after_user_command, after_unknown_node, message_routed, message_read, after_message, after_record, ends_session}
 use Rattle.njh_customer.specs.Acting.{ended_or, all_acted, acted_where}
 use Rattle.njh_customer.proofs.ShapeLaws.{shapes, on_line_shapes, answered_shapes, waits_shapes, said_shapes, all_said_shapes, notified_shapes, all_given_up_shapes}
 use Rattle.njh_customer.proofs.CoherenceLaws.{as_many, ArrivalsTie, NothingUnties, IsLike, coherent_still, keeps_arrived}
@@ -57,7 +57,7 @@ module _ (untied : NothingUnties) where
   stays_where false x y c first second = second
 
   -- a mark on a line
-  raised_stays : (up : Bool) (l : ℕ) (c : Customer) → IsCoherent c → Stays (record c { entry = raised up l c.entry }) c
+  raised_stays : (up : Bool) (l : ℕ) (c : Customer) → IsCoherent c → Stays (record c { entry = with_raised_line up l c.entry }) c
   raised_stays true l c coherent = record {
     coherent = record {
       tied = coherent.tied;
@@ -77,97 +77,97 @@ module _ (untied : NothingUnties) where
 
   -- ---- streams from the hub
 
-  permitted_stays : (l k : ℕ) (c : Customer) → IsCoherent c → Stays (permitted l k c) c
+  permitted_stays : (l k : ℕ) (c : Customer) → IsCoherent c → Stays (after_permission l k c) c
   permitted_stays l k c coherent =
-      stays_lines (on_line l (with_sender k (granted (sender_at k (line_at l c.lines)))) c.lines) c
-      (on_line_shapes l (with_sender k (granted (sender_at k (line_at l c.lines)))) c.lines (λ x. refl)) coherent
+      stays_lines (on_line l (with_sender k (after_grant (sender_at k (line_at l c.lines)))) c.lines) c
+      (on_line_shapes l (with_sender k (after_grant (sender_at k (line_at l c.lines)))) c.lines (λ x. refl)) coherent
 
-  sent_stays : (l k : ℕ) (sent : Sent) (c : Customer) → sent.spool.partial ≡ c.spool.partial → sent.spool.quota ≡ c.spool.quota → IsCoherent c → Stays (with_sent l k sent c) c
+  sent_stays : (l k : ℕ) (sent : SenderOutcome) (c : Customer) → sent.spool.partial ≡ c.spool.partial → sent.spool.quota ≡ c.spool.quota → IsCoherent c → Stays (with_sender_outcome l k sent c) c
   sent_stays l k sent c partial quota coherent =
-      stays_like (with_sent l k sent c) c
+      stays_like (with_sender_outcome l k sent c) c
       (record { entry = refl; lines = on_line_shapes l (with_sender k sent.sender) c.lines (λ x. refl); partial = partial; quota = quota }) coherent
 
-  refused_stays : (l k : ℕ) (x : Sender) (c : Customer) → IsCoherent c → Stays (with_sent l k (refused x c.spool) c) c
-  refused_stays l k sender.Idle c coherent = sent_stays l k (refused sender.Idle c.spool) c refl refl coherent
-  refused_stays l k (sender.Requested n) c coherent = sent_stays l k (refused (sender.Requested n) c.spool) c refl refl coherent
-  refused_stays l k (sender.Sending n p) c coherent = sent_stays l k (refused (sender.Sending n p) c.spool) c refl refl coherent
-  refused_stays l k (sender.EofSent n) c coherent = sent_stays l k (refused (sender.EofSent n) c.spool) c refl refl coherent
-  refused_stays l k sender.Aborting c coherent = sent_stays l k (refused sender.Aborting c.spool) c refl refl coherent
+  refused_stays : (l k : ℕ) (x : Sender) (c : Customer) → IsCoherent c → Stays (with_sender_outcome l k (after_refusal x c.spool) c) c
+  refused_stays l k sender.Idle c coherent = sent_stays l k (after_refusal sender.Idle c.spool) c refl refl coherent
+  refused_stays l k (sender.Requested n) c coherent = sent_stays l k (after_refusal (sender.Requested n) c.spool) c refl refl coherent
+  refused_stays l k (sender.Sending n p) c coherent = sent_stays l k (after_refusal (sender.Sending n p) c.spool) c refl refl coherent
+  refused_stays l k (sender.EofSent n) c coherent = sent_stays l k (after_refusal (sender.EofSent n) c.spool) c refl refl coherent
+  refused_stays l k sender.Aborting c coherent = sent_stays l k (after_refusal sender.Aborting c.spool) c refl refl coherent
 
-  completed_stays : (l k : ℕ) (x : Sender) (c : Customer) → IsCoherent c → Stays (with_sent l k (completed x c.spool) c) c
-  completed_stays l k sender.Idle c coherent = sent_stays l k (completed sender.Idle c.spool) c refl refl coherent
-  completed_stays l k (sender.Requested n) c coherent = sent_stays l k (completed (sender.Requested n) c.spool) c refl refl coherent
-  completed_stays l k (sender.Sending n p) c coherent = sent_stays l k (completed (sender.Sending n p) c.spool) c refl refl coherent
-  completed_stays l k (sender.EofSent n) c coherent = sent_stays l k (completed (sender.EofSent n) c.spool) c refl refl coherent
-  completed_stays l k sender.Aborting c coherent = sent_stays l k (completed sender.Aborting c.spool) c refl refl coherent
+  completed_stays : (l k : ℕ) (x : Sender) (c : Customer) → IsCoherent c → Stays (with_sender_outcome l k (after_completion x c.spool) c) c
+  completed_stays l k sender.Idle c coherent = sent_stays l k (after_completion sender.Idle c.spool) c refl refl coherent
+  completed_stays l k (sender.Requested n) c coherent = sent_stays l k (after_completion (sender.Requested n) c.spool) c refl refl coherent
+  completed_stays l k (sender.Sending n p) c coherent = sent_stays l k (after_completion (sender.Sending n p) c.spool) c refl refl coherent
+  completed_stays l k (sender.EofSent n) c coherent = sent_stays l k (after_completion (sender.EofSent n) c.spool) c refl refl coherent
+  completed_stays l k sender.Aborting c coherent = sent_stays l k (after_completion sender.Aborting c.spool) c refl refl coherent
 
-  answer_stays : (l rcb k : ℕ) (c : Customer) → IsCoherent c → Stays (answer_came l rcb k c) c
+  answer_stays : (l rcb k : ℕ) (c : Customer) → IsCoherent c → Stays (after_peer_answer l rcb k c) c
   answer_stays l rcb k c coherent =
       let x = sender_at k (line_at l c.lines) in
-      let refusal = with_sent l k (refused x c.spool) c in
-      let completion = with_sent l k (completed x c.spool) c in
-      stays_where (rcb == 0xa0) (permitted l k c) (cond (rcb == 0xb0) refusal (cond (rcb == 0xc0) completion c)) c (permitted_stays l k c coherent)
+      let refusal = with_sender_outcome l k (after_refusal x c.spool) c in
+      let completion = with_sender_outcome l k (after_completion x c.spool) c in
+      stays_where (rcb == 0xa0) (after_permission l k c) (cond (rcb == 0xb0) refusal (cond (rcb == 0xc0) completion c)) c (permitted_stays l k c coherent)
       (stays_where (rcb == 0xb0) refusal (cond (rcb == 0xc0) completion c) c (refused_stays l k x c coherent)
       (stays_where (rcb == 0xc0) completion c c (completed_stays l k x c coherent) (stays c coherent)))
 
   -- ---- messages
 
-  obeyed_partial : (entry : CustomerEntry) (who : List ℕ × List ℕ) (command : Command) (s : CustomerSpool) → (obeyed entry who command s).spool.partial ≡ s.partial
+  obeyed_partial : (entry : CustomerEntry) (who : List ℕ × List ℕ) (command : Command) (s : CustomerSpool) → (command_outcome entry who command s).spool.partial ≡ s.partial
   obeyed_partial entry who commands.List s = refl
   obeyed_partial entry who (commands.Hold name) s = refl
   obeyed_partial entry who (commands.Release name) s = refl
   obeyed_partial entry who (commands.Cancel name) s = refl
   obeyed_partial entry who (commands.Reroute name node) s = at_route (route_of entry node)
     where
-      at_route : (r : Route) → (rerouting r entry node (chosen who name) name s).spool.partial ≡ s.partial
+      at_route : (r : Route) → (rerouting r entry node (is_of_name who name) name s).spool.partial ≡ s.partial
       at_route Here = refl
       at_route (Line l) = refl
       at_route Unknown = refl
 
-  obeyed_quota : (entry : CustomerEntry) (who : List ℕ × List ℕ) (command : Command) (s : CustomerSpool) → (obeyed entry who command s).spool.quota ≡ s.quota
+  obeyed_quota : (entry : CustomerEntry) (who : List ℕ × List ℕ) (command : Command) (s : CustomerSpool) → (command_outcome entry who command s).spool.quota ≡ s.quota
   obeyed_quota entry who commands.List s = refl
   obeyed_quota entry who (commands.Hold name) s = refl
   obeyed_quota entry who (commands.Release name) s = refl
   obeyed_quota entry who (commands.Cancel name) s = refl
   obeyed_quota entry who (commands.Reroute name node) s = at_route (route_of entry node)
     where
-      at_route : (r : Route) → (rerouting r entry node (chosen who name) name s).spool.quota ≡ s.quota
+      at_route : (r : Route) → (rerouting r entry node (is_of_name who name) name s).spool.quota ≡ s.quota
       at_route Here = refl
       at_route (Line l) = refl
       at_route Unknown = refl
 
-  outcome_stays : (n : Nodal) (done : Outcome) (c : Customer) → done.spool.partial ≡ c.spool.partial → done.spool.quota ≡ c.spool.quota → IsCoherent c → Stays (with_outcome n done c) c
+  outcome_stays : (n : Nodal) (done : CommandOutcome) (c : Customer) → done.spool.partial ≡ c.spool.partial → done.spool.quota ≡ c.spool.quota → IsCoherent c → Stays (with_outcome n done c) c
   outcome_stays n done c partial quota coherent =
       stays_like (with_outcome n done c) c
       (record {
         entry = refl;
-        lines = all_said_shapes c.entry (n.origin, n.user) done.replies (fold given_up c.lines done.cancelled) ∙ all_given_up_shapes done.cancelled c.lines;
+        lines = all_said_shapes c.entry (n.origin, n.user) done.replies (fold without_sending c.lines done.cancelled) ∙ all_given_up_shapes done.cancelled c.lines;
         partial = partial;
         quota = quota;
       })
       coherent
 
-  command_stays : (n : Nodal) (c : Customer) → IsCoherent c → Stays (command_came n c) c
+  command_stays : (n : Nodal) (c : Customer) → IsCoherent c → Stays (after_user_command n c) c
   command_stays n c coherent = at_command (command_of n.message)
     where
       at_command : (o : Option Command) → Stays (with_outcome n (obeyed_where o c.entry (n.origin, n.user) c.spool) c) c
       at_command None = outcome_stays n (obeyed_where None c.entry (n.origin, n.user) c.spool) c refl refl coherent
       at_command (Some x) =
-          outcome_stays n (obeyed c.entry (n.origin, n.user) x c.spool) c (obeyed_partial c.entry (n.origin, n.user) x c.spool)
+          outcome_stays n (command_outcome c.entry (n.origin, n.user) x c.spool) c (obeyed_partial c.entry (n.origin, n.user) x c.spool)
           (obeyed_quota c.entry (n.origin, n.user) x c.spool) coherent
 
   routed_stays : (l : ℕ) (n : Nodal) (bytes : List ℕ) (r : Route) (c : Customer) → IsCoherent c → Stays (message_routed l n bytes r c) c
-  routed_stays l n bytes Here c coherent = stays_where (is_user_command n) (command_came n c) c c (command_stays n c coherent) (stays c coherent)
+  routed_stays l n bytes Here c coherent = stays_where (is_user_command n) (after_user_command n c) c c (command_stays n c coherent) (stays c coherent)
   routed_stays l n bytes (Line k) c coherent =
       let m = cut_after_message bytes in
-      stays_where (k == l) c (record c { lines = waits k m c.lines }) c (stays c coherent)
-      (stays_lines (waits k m c.lines) c (waits_shapes k m c.lines) coherent)
+      stays_where (k == l) c (record c { lines = with_waiting k m c.lines }) c (stays c coherent)
+      (stays_lines (with_waiting k m c.lines) c (waits_shapes k m c.lines) coherent)
   routed_stays l n bytes Unknown c coherent =
       let whom : List ℕ × List ℕ = (n.origin, n.user) in
-      stays_where (is_user_command n) (unknown_told n c) c c
-      (stays_lines (said c.entry whom (node_unknown n.to) c.lines) c (said_shapes c.entry whom (node_unknown n.to) c.lines) coherent) (stays c coherent)
+      stays_where (is_user_command n) (after_unknown_node n c) c c
+      (stays_lines (with_message_to c.entry whom (node_unknown n.to) c.lines) c (said_shapes c.entry whom (node_unknown n.to) c.lines) coherent) (stays c coherent)
 
-  message_stays : (l : ℕ) (bytes : List ℕ) (c : Customer) → IsCoherent c → Stays (message_came l bytes c) c
+  message_stays : (l : ℕ) (bytes : List ℕ) (c : Customer) → IsCoherent c → Stays (after_message l bytes c) c
   message_stays l bytes c coherent = at_nodal (nodal_of bytes)
     where
       at_nodal : (n : Result Nodal NmrFault) → Stays (message_read l bytes n c) c
@@ -177,34 +177,34 @@ module _ (untied : NothingUnties) where
   -- ---- every record
 
   module _ (arrivals : ArrivalsTie) where
-    arrived_stays : (l k : ℕ) (a : Arrival) (c : Customer) → l < length c.lines → k < 8 → IsCoherent c → Stays (arrived l k a c) c
+    arrived_stays : (l k : ℕ) (a : Arrival) (c : Customer) → l < length c.lines → k < 8 → IsCoherent c → Stays (after_stream_arrival l k a c) c
     arrived_stays l k a c line_there stream_there coherent =
-        let done = received c.entry l (kind_of k) (receiver_at k (line_at l c.lines)) a c.spool in
+        let done = received_arrival c.entry l (kind_of k) (receiver_at k (line_at l c.lines)) a c.spool in
         let lines = on_line l (with_receiver k done.receiver) c.lines in
         let answer = option_map (answer_on k) done.answer in
-        let told = notified c.entry done.notice (answered l answer lines) in
+        let told = with_notice_to c.entry done.notice (with_answer_on l answer lines) in
         record {
           coherent = keeps_arrived l k a c arrivals untied line_there stream_there coherent;
           lines =
-              as_many (on_line l (noted k done.receiver done.notice) told) lines
-              (on_line_shapes l (noted k done.receiver done.notice) told (λ x. refl)
-              ∙ notified_shapes c.entry done.notice (answered l answer lines)
+              as_many (on_line l (with_notice k done.receiver done.notice) told) lines
+              (on_line_shapes l (with_notice k done.receiver done.notice) told (λ x. refl)
+              ∙ notified_shapes c.entry done.notice (with_answer_on l answer lines)
               ∙ answered_shapes l answer lines)
               ∙ length-set c.lines l (with_receiver k done.receiver (line_at l c.lines));
         }
 
     stream_stays :
         (l : ℕ) (o : Option ℕ) (a : Arrival) (c : Customer) → l < length c.lines → ((k : ℕ) → o ≡ Some k → k < 8) → IsCoherent c
-        → Stays (stream_came l o a c) c
+        → Stays (after_stream_record l o a c) c
     stream_stays l None a c line_there few coherent = stays c coherent
     stream_stays l (Some k) a c line_there few coherent = arrived_stays l k a c line_there (few k refl) coherent
 
     request_stays :
         (l srcb : ℕ) (o : Option ℕ) (c : Customer) → l < length c.lines → ((k : ℕ) → o ≡ Some k → k < 8) → IsCoherent c
-        → Stays (request_came l srcb o c) c
+        → Stays (after_stream_request l srcb o c) c
     request_stays l srcb None c line_there few coherent =
         let answer = refusal_of srcb (stream_number srcb) in
-        stays_lines (answered l answer c.lines) c (answered_shapes l answer c.lines) coherent
+        stays_lines (with_answer_on l answer c.lines) c (answered_shapes l answer c.lines) coherent
     request_stays l srcb (Some k) c line_there few coherent = arrived_stays l k receiving.Request c line_there (few k refl) coherent
 
     peer_stays : (l rcb : ℕ) (o : Option ℕ) (c : Customer) → IsCoherent c → Stays (peer_answered l rcb o c) c
@@ -231,12 +231,12 @@ module _ (untied : NothingUnties) where
 
     -- of a line that is there
     names_one : (l rcb : ℕ) (c : Customer) → l < length c.lines → IsCoherent c → (k : ℕ) → stream_of (line_at l c.lines).streams rcb ≡ Some k → k < 8
-    names_one l rcb c line_there coherent k h = one_of_eight (line_at l c.lines).streams rcb k (coherent.streamed l no_line line_there).1 h
+    names_one l rcb c line_there coherent k h = one_of_eight (line_at l c.lines).streams rcb k (coherent.streamed l no_customer_line line_there).1 h
 
-    pub acted_stays : (l : ℕ) (i : Item) (c : Customer) → l < length c.lines → IsCoherent c → Stays (acted l i c) c
+    pub acted_stays : (l : ℕ) (i : Item) (c : Customer) → l < length c.lines → IsCoherent c → Stays (after_record l i c) c
     acted_stays l (Data rcb srcb bytes) c line_there coherent =
         let stream = stream_of (line_at l c.lines).streams rcb in
-        stays_where (rcb == 0x9a) (message_came l bytes c) (stream_came l stream (receiving.Data srcb bytes) c) c (message_stays l bytes c coherent)
+        stays_where (rcb == 0x9a) (after_message l bytes c) (after_stream_record l stream (receiving.Data srcb bytes) c) c (message_stays l bytes c coherent)
         (stream_stays l stream (receiving.Data srcb bytes) c line_there (names_one l rcb c line_there coherent) coherent)
     acted_stays l (Aborted rcb srcb) c line_there coherent =
         stream_stays l (stream_of (line_at l c.lines).streams rcb) receiving.Abort c line_there (names_one l rcb c line_there coherent) coherent
@@ -244,7 +244,7 @@ module _ (untied : NothingUnties) where
         stream_stays l (stream_of (line_at l c.lines).streams rcb) receiving.Long c line_there (names_one l rcb c line_there coherent) coherent
     acted_stays l (Control rcb srcb) c line_there coherent =
         let stream = stream_of (line_at l c.lines).streams srcb in
-        stays_where (rcb == 0x90) (request_came l srcb stream c) (peer_answered l rcb stream c) c
+        stays_where (rcb == 0x90) (after_stream_request l srcb stream c) (peer_answered l rcb stream c) c
         (request_stays l srcb stream c line_there (names_one l srcb c line_there coherent) coherent) (peer_stays l rcb stream c coherent)
     acted_stays l (General srcb rest) c line_there coherent = stays c coherent
 
@@ -252,10 +252,10 @@ module _ (untied : NothingUnties) where
     all_acted_stays l [] c line_there coherent = stays c coherent
     all_acted_stays l (i ∷ is) c line_there coherent =
         let one = acted_stays l i c line_there coherent in
-        let later = all_acted_stays l is (acted l i c) (omega (arith, line_there, one.lines)) one.coherent in
+        let later = all_acted_stays l is (after_record l i c) (omega (arith, line_there, one.lines)) one.coherent in
         at_end (ends_session i) (record { coherent = later.coherent; lines = later.lines ∙ one.lines })
       where
-        at_end : (b : Bool) → Stays (all_acted l is (acted l i c)).customer c → Stays (ended_or b c (all_acted l is (acted l i c))).customer c
+        at_end : (b : Bool) → Stays (all_acted l is (after_record l i c)).customer c → Stays (ended_or b c (all_acted l is (after_record l i c))).customer c
         at_end true later = stays c coherent
         at_end false later = later
 

@@ -12,8 +12,8 @@ use Rattle.njh_stream.specs.declared.sender.Sender.{Sender}
 use Rattle.njh_stream.specs.declared.sender.Sender.TheVariants.{Idle, Requested, Sending, EofSent, Aborting}
 use Rattle.njh_stream.specs.Sending.{file_in, goes_by}
 use Rattle.njh_sched.specs.NextBlock.{may_go}
-use Rattle.njh_command.specs.Commands.{aborted_where, chosen, is_about, without_file}
-use Rattle.njh_customer.specs.OutgoingFiles.{Outgoing, each_stream, marked, stream_at, streams_of, with_files, with_stream, without}
+use Rattle.njh_command.specs.Commands.{aborted_where, is_of_name, is_about, without_file}
+use Rattle.njh_customer.specs.OutgoingFiles.{Outgoing, each_stream, with_file_state, sender_on, streams_of, with_files, with_sender_on, without_numbered}
 use Rattle.njh_customer.specs.Customer.{with_marks}
 use Rattle.njh_customer.specs.Moves as moves
 use Rattle.njh_customer.specs.Moves.{Acts, Records, Routes, Moves, by_record, by_sending, by_end, Sends, Tells, without_files}
@@ -38,9 +38,9 @@ set_one (x ∷ xs) (suc i) (suc j) a d = at_rest (set_one xs i j a d)
 
 -- stream k of line j, where stream m of line l has moved: it has moved so, or it is as before
 abbrev IsOne : ℕ → ℕ → ℕ → ℕ → Sender → Outgoing → Outgoing → Type 0
-IsOne j k l m s x y = (stream_at j k y ≡ stream_at j k x) ⊎ ((j ≡ l) × (k ≡ m) × (stream_at j k y ≡ s))
+IsOne j k l m s x y = (sender_on j k y ≡ sender_on j k x) ⊎ ((j ≡ l) × (k ≡ m) × (sender_on j k y ≡ s))
 
-moved_one : (j k l m : ℕ) (s : Sender) (x : Outgoing) → IsOne j k l m s x (with_stream l m s x)
+moved_one : (j k l m : ℕ) (s : Sender) (x : Outgoing) → IsOne j k l m s x (with_sender_on l m s x)
 moved_one j k l m s x = at_line (set_one x.streams l j (set (streams_of l x) m s) [])
   where
     now : List Sender
@@ -49,18 +49,18 @@ moved_one j k l m s x = at_line (set_one x.streams l j (set (streams_of l x) m s
     at_stream :
         j ≡ l → now ≡ set (streams_of l x) m s
         → (get_or (set (streams_of l x) m s) k Idle ≡ get_or (streams_of l x) k Idle) ⊎ ((k ≡ m) × (get_or (set (streams_of l x) m s) k Idle ≡ s))
-        → IsOne j k l m s x (with_stream l m s x)
+        → IsOne j k l m s x (with_sender_on l m s x)
     at_stream line e (inl same) =
         inl (ap (λ senders. get_or senders k Idle) e ∙ same ∙ ap (λ n. get_or (streams_of n x) k Idle) (sym line))
     at_stream line e (inr there) = inr (line, there.0, ap (λ senders. get_or senders k Idle) e ∙ there.1)
 
-    at_line : (now ≡ get_or x.streams j []) ⊎ ((j ≡ l) × (now ≡ set (streams_of l x) m s)) → IsOne j k l m s x (with_stream l m s x)
+    at_line : (now ≡ get_or x.streams j []) ⊎ ((j ≡ l) × (now ≡ set (streams_of l x) m s)) → IsOne j k l m s x (with_sender_on l m s x)
     at_line (inl same) = inl (ap (λ senders. get_or senders k Idle) same)
     at_line (inr there) = at_stream there.0 there.1 (set_one (streams_of l x) m k s Idle)
 
 -- what was so of stream m of line l
-was : (j k l m : ℕ) (s : Sender) (x : Outgoing) → stream_at l m x ≡ s → j ≡ l → k ≡ m → stream_at j k x ≡ s
-was j k l m s x e line stream = ap (λ n. stream_at n k x) line ∙ ap (λ n. stream_at l n x) stream ∙ e
+was : (j k l m : ℕ) (s : Sender) (x : Outgoing) → sender_on l m x ≡ s → j ≡ l → k ≡ m → sender_on j k x ≡ s
+was j k l m s x e line stream = ap (λ n. sender_on n k x) line ∙ ap (λ n. sender_on l n x) stream ∙ e
 
 -- ---- by a command
 
@@ -75,21 +75,21 @@ gives_up_or_stays n s = at_test (is_about n (file_in s)) s
     at_test true (EofSent m) = inr refl
     at_test true Aborting = inl refl
 
-each_at : (j k n : ℕ) (x : Outgoing) → stream_at j k (each_stream (without_file n) x) ≡ without_file n (stream_at j k x)
+each_at : (j k n : ℕ) (x : Outgoing) → sender_on j k (each_stream (without_file n) x) ≡ without_file n (sender_on j k x)
 each_at j k n x =
     ap (λ senders. get_or senders k Idle) (get_or-map (λ senders. map (without_file n) senders) x.streams j [])
     ∙ get_or-map (without_file n) (get_or x.streams j []) k Idle
 
 abbrev StaysOrNone : ℕ → ℕ → Outgoing → Outgoing → Type 0
-StaysOrNone j k x y = (stream_at j k y ≡ stream_at j k x) ⊎ (file_in (stream_at j k y) ≡ None)
+StaysOrNone j k x y = (sender_on j k y ≡ sender_on j k x) ⊎ (file_in (sender_on j k y) ≡ None)
 
 all_give_up : (j k : ℕ) (ns : List ℕ) (x : Outgoing) → StaysOrNone j k x (without_files ns x)
 all_give_up j k [] x = inl refl
-all_give_up j k (n ∷ ns) x = at_rest (all_give_up j k ns (each_stream (without_file n) x)) (gives_up_or_stays n (stream_at j k x))
+all_give_up j k (n ∷ ns) x = at_rest (all_give_up j k ns (each_stream (without_file n) x)) (gives_up_or_stays n (sender_on j k x))
   where
     at_rest :
         StaysOrNone j k (each_stream (without_file n) x) (without_files ns (each_stream (without_file n) x))
-        → (without_file n (stream_at j k x) ≡ stream_at j k x) ⊎ (file_in (without_file n (stream_at j k x)) ≡ None)
+        → (without_file n (sender_on j k x) ≡ sender_on j k x) ⊎ (file_in (without_file n (sender_on j k x)) ≡ None)
         → StaysOrNone j k x (without_files ns (each_stream (without_file n) x))
     at_rest (inr none) first = inr none
     at_rest (inl same) (inl first) = inl (same ∙ each_at j k n x ∙ first)
@@ -107,39 +107,39 @@ all_idle (suc n) (suc k) = all_idle n k
 module _ (entry : CustomerEntry) (l : ℕ) (items : List Item) (j k : ℕ) (x y : Outgoing) where
   -- as the moved one is, or stays
   moved_so :
-      (m : ℕ) (s : Sender) (files : List WholeFile) → y ≡ with_stream l m s (with_files files x)
-      → (j ≡ l → k ≡ m → stream_at j k y ≡ s → StreamMoves entry l items j k x y) → StreamMoves entry l items j k x y
+      (m : ℕ) (s : Sender) (files : List WholeFile) → y ≡ with_sender_on l m s (with_files files x)
+      → (j ≡ l → k ≡ m → sender_on j k y ≡ s → StreamMoves entry l items j k x y) → StreamMoves entry l items j k x y
   moved_so m s files e there = at_one (moved_one j k l m s (with_files files x))
     where
-      at_one : IsOne j k l m s (with_files files x) (with_stream l m s (with_files files x)) → StreamMoves entry l items j k x y
-      at_one (inl same) = laws.stays (ap (stream_at j k) e ∙ same)
-      at_one (inr one) = there one.0 one.1 (ap (stream_at j k) e ∙ one.2)
+      at_one : IsOne j k l m s (with_files files x) (with_sender_on l m s (with_files files x)) → StreamMoves entry l items j k x y
+      at_one (inl same) = laws.stays (ap (sender_on j k) e ∙ same)
+      at_one (inr one) = there one.0 one.1 (ap (sender_on j k) e ∙ one.2)
 
   stays_or_none : StaysOrNone j k x y → StreamMoves entry l items j k x y
   stays_or_none (inl same) = laws.stays same
   stays_or_none (inr none) = laws.has_none none
 
   record_moves : (i : Item) → Contains items i → Acts entry l i x y → StreamMoves entry l items j k x y
-  record_moves i at (moves.comes rcb srcb f is ready whole e) = laws.stays (ap (stream_at j k) e)
+  record_moves i at (moves.comes rcb srcb f is ready whole e) = laws.stays (ap (sender_on j k) e)
   record_moves i at (moves.permitted streams m n told before e) =
       moved_so m (Sending n 0) x.files e
       (λ line stream now. laws.permitted i streams n at (subst (λ t. Tells 0xa0 streams t i) (sym stream) told) (was j k l m (Requested n) x before line stream) now)
   record_moves i at (moves.refused streams m n after told before none e) =
-      moved_so m after (marked n state.Refused x.files) e (λ line stream now. laws.has_none (ap (λ s. file_in s) now ∙ none))
+      moved_so m after (with_file_state n state.Refused x.files) e (λ line stream now. laws.has_none (ap (λ s. file_in s) now ∙ none))
   record_moves i at (moves.completed streams m n told before e) =
-      moved_so m Idle (without n x.files) e (λ line stream now. laws.has_none (ap (λ s. file_in s) now))
-  record_moves i at (moves.holds who name given e) = laws.stays (ap (stream_at j k) e)
-  record_moves i at (moves.releases who name given e) = laws.stays (ap (stream_at j k) e)
-  record_moves i at (moves.reroutes who name node line given route e) = laws.stays (ap (stream_at j k) e)
+      moved_so m Idle (without_numbered n x.files) e (λ line stream now. laws.has_none (ap (λ s. file_in s) now))
+  record_moves i at (moves.holds who name given e) = laws.stays (ap (sender_on j k) e)
+  record_moves i at (moves.releases who name given e) = laws.stays (ap (sender_on j k) e)
+  record_moves i at (moves.reroutes who name node line given route e) = laws.stays (ap (sender_on j k) e)
   record_moves i at (moves.cancels who name given e) =
-      let kept = filter (λ f. not (chosen who name f)) x.files in
-      let numbers = moves.busy_numbers (chosen who name) x.files in
+      let kept = filter (λ f. not (is_of_name who name f)) x.files in
+      let numbers = moves.busy_numbers (is_of_name who name) x.files in
       stays_or_none (subst (StaysOrNone j k x) (sym e) (all_give_up j k numbers (with_files kept x)))
 
   sending_moves : Sends entry l x y → StreamMoves entry l items j k x y
   sending_moves (moves.gives_up m before e) = moved_so m Idle x.files e (λ line stream now. laws.has_none (ap (λ s. file_in s) now))
   sending_moves (moves.asks m f before found e) =
-      moved_so m (Requested f.number) (marked f.number state.Sending x.files) e
+      moved_so m (Requested f.number) (with_file_state f.number state.Sending x.files) e
       (λ line stream now. laws.asks f (moves.asks m f before found e) (was j k l m Idle x before line stream)
       (ap (λ t. find (may_go (goes_by entry l) (kind_of t)) x.files) stream ∙ found) now)
   sending_moves (moves.goes_on m n place r before found e) =
@@ -173,13 +173,13 @@ moves_on_line entry l items x y j k (by_end over) = end_moves entry l items j k 
 
 pub streams_move : StreamsMoveSo
 streams_move entry (Records l items) x y j k (up, move) = (up, moves_on_line (with_marks up entry) l items x y j k move)
-streams_move entry (Routes routes) x y j k given = ap (stream_at j k) given.holds
+streams_move entry (Routes routes) x y j k given = ap (sender_on j k) given.holds
 
 pub idle_take : IdleStreamsTakeFiles
-idle_take entry (Routes routes) x y j k n given has = inl (sym (ap (λ s. file_in (stream_at j k s)) given.holds) ∙ has)
+idle_take entry (Routes routes) x y j k n given has = inl (sym (ap (λ s. file_in (sender_on j k s)) given.holds) ∙ has)
 idle_take entry (Records l items) x y j k n (up, move) has = at_move (moves_on_line (with_marks up entry) l items x y j k move)
   where
-    at_move : StreamMoves (with_marks up entry) l items j k x y → (file_in (stream_at j k x) ≡ Some n) ⊎ (stream_at j k x ≡ Idle)
+    at_move : StreamMoves (with_marks up entry) l items j k x y → (file_in (sender_on j k x) ≡ Some n) ⊎ (sender_on j k x ≡ Idle)
     at_move (laws.stays same) = inl (sym (ap (λ s. file_in s) same) ∙ has)
     at_move (laws.has_none none) = absurd (cc (sym none ∙ has))
     at_move (laws.asks f sends idle found now) = inr idle

@@ -15,12 +15,12 @@ use Rattle.njh_table.specs.declared.Route.TheVariants.{Here, Line, Unknown}
 use Rattle.njh_stream.specs.declared.sender.Sender.{Sender}
 use Rattle.njh_stream.specs.Arrivals.{answer_on}
 use Rattle.njh_stream.specs.Receiving as receiving
-use Rattle.njh_stream.specs.Receiving.{Arrival, Received, received}
-use Rattle.njh_stream.specs.Sending.{Sent, granted, refused, completed}
-use Rattle.njh_command.specs.Commands.{commanded, without_file, Outcome}
-use Rattle.njh_customer.specs.Customer.{Customer, CustomerLine, line_at, on_line, noted, receiver_at, with_receiver}
+use Rattle.njh_stream.specs.Receiving.{Arrival, Received, received_arrival}
+use Rattle.njh_stream.specs.Sending.{SenderOutcome, after_grant, after_refusal, after_completion}
+use Rattle.njh_command.specs.Commands.{message_outcome, without_file, CommandOutcome}
+use Rattle.njh_customer.specs.Customer.{Customer, CustomerLine, line_at, on_line, with_notice, receiver_at, with_receiver}
 use Rattle.njh_customer.specs.Customer.{sender_at, with_sender}
-use Rattle.njh_customer.specs.Waiting.{answered, waits, said, all_said, notified}
+use Rattle.njh_customer.specs.Waiting.{with_answer_on, with_waiting, with_message_to, all_said, with_notice_to}
 
 -- ---- streams to the hub
 
@@ -29,32 +29,32 @@ abbrev pub after_arrival : ℕ → ℕ → Received → Customer → Customer
 after_arrival l k done c = record c {
   spool = done.spool;
   lines =
-      on_line l (noted k done.receiver done.notice)
-      (notified c.entry done.notice (answered l (option_map (answer_on k) done.answer) (on_line l (with_receiver k done.receiver) c.lines)));
+      on_line l (with_notice k done.receiver done.notice)
+      (with_notice_to c.entry done.notice (with_answer_on l (option_map (answer_on k) done.answer) (on_line l (with_receiver k done.receiver) c.lines)));
 }
 
-abbrev pub arrived : ℕ → ℕ → Arrival → Customer → Customer
-arrived l k a c = after_arrival l k (received c.entry l (kind_of k) (receiver_at k (line_at l c.lines)) a c.spool) c
+abbrev pub after_stream_arrival : ℕ → ℕ → Arrival → Customer → Customer
+after_stream_arrival l k a c = after_arrival l k (received_arrival c.entry l (kind_of k) (receiver_at k (line_at l c.lines)) a c.spool) c
 
 -- by an RCB, which may name no stream of the line
-abbrev pub stream_came : ℕ → Option ℕ → Arrival → Customer → Customer
-stream_came l None a c = c
-stream_came l (Some k) a c = arrived l k a c
+abbrev pub after_stream_record : ℕ → Option ℕ → Arrival → Customer → Customer
+after_stream_record l None a c = c
+after_stream_record l (Some k) a c = after_stream_arrival l k a c
 
 -- ---- streams from the hub
 
-abbrev pub with_sent : ℕ → ℕ → Sent → Customer → Customer
-with_sent l k sent c = record c { spool = sent.spool; lines = on_line l (with_sender k sent.sender) c.lines }
+abbrev pub with_sender_outcome : ℕ → ℕ → SenderOutcome → Customer → Customer
+with_sender_outcome l k sent c = record c { spool = sent.spool; lines = on_line l (with_sender k sent.sender) c.lines }
 
-abbrev pub permitted : ℕ → ℕ → Customer → Customer
-permitted l k c = record c { lines = on_line l (with_sender k (granted (sender_at k (line_at l c.lines)))) c.lines }
+abbrev pub after_permission : ℕ → ℕ → Customer → Customer
+after_permission l k c = record c { lines = on_line l (with_sender k (after_grant (sender_at k (line_at l c.lines)))) c.lines }
 
 -- A0, B0 and C0 of the peer
-abbrev pub answer_came : ℕ → ℕ → ℕ → Customer → Customer
-answer_came l rcb k c =
-    cond (rcb == 0xa0) (permitted l k c)
-    (cond (rcb == 0xb0) (with_sent l k (refused (sender_at k (line_at l c.lines)) c.spool) c)
-    (cond (rcb == 0xc0) (with_sent l k (completed (sender_at k (line_at l c.lines)) c.spool) c) c))
+abbrev pub after_peer_answer : ℕ → ℕ → ℕ → Customer → Customer
+after_peer_answer l rcb k c =
+    cond (rcb == 0xa0) (after_permission l k c)
+    (cond (rcb == 0xb0) (with_sender_outcome l k (after_refusal (sender_at k (line_at l c.lines)) c.spool) c)
+    (cond (rcb == 0xc0) (with_sender_outcome l k (after_completion (sender_at k (line_at l c.lines)) c.spool) c) c))
 
 -- ---- control records
 
@@ -63,18 +63,18 @@ abbrev pub refusal_of : ℕ → Option ℕ → Option Answer
 refusal_of srcb None = None
 refusal_of srcb (Some n) = Some (record { rcb = Refusal; stream = record { byte = srcb } })
 
-abbrev pub request_came : ℕ → ℕ → Option ℕ → Customer → Customer
-request_came l srcb None c = record c { lines = answered l (refusal_of srcb (stream_number srcb)) c.lines }
-request_came l srcb (Some k) c = arrived l k receiving.Request c
+abbrev pub after_stream_request : ℕ → ℕ → Option ℕ → Customer → Customer
+after_stream_request l srcb None c = record c { lines = with_answer_on l (refusal_of srcb (stream_number srcb)) c.lines }
+after_stream_request l srcb (Some k) c = after_stream_arrival l k receiving.Request c
 
 abbrev pub peer_answered : ℕ → ℕ → Option ℕ → Customer → Customer
 peer_answered l rcb None c = c
-peer_answered l rcb (Some k) c = answer_came l rcb k c
+peer_answered l rcb (Some k) c = after_peer_answer l rcb k c
 
-abbrev pub control_came : ℕ → ℕ → ℕ → Customer → Customer
-control_came l rcb srcb c =
+abbrev pub after_control_record : ℕ → ℕ → ℕ → Customer → Customer
+after_control_record l rcb srcb c =
     let stream = stream_of (line_at l c.lines).streams srcb in
-    cond (rcb == 0x90) (request_came l srcb stream c) (peer_answered l rcb stream c)
+    cond (rcb == 0x90) (after_stream_request l srcb stream c) (peer_answered l rcb stream c)
 
 -- ---- nodal messages
 
@@ -82,52 +82,52 @@ abbrev pub with_senders_by : (Sender → Sender) → CustomerLine → CustomerLi
 with_senders_by f x = record x { senders = map f x.senders }
 
 -- a file was cancelled that was being sent: its stream gives it up
-abbrev pub given_up : List CustomerLine → ℕ → List CustomerLine
-given_up lines n = map (with_senders_by (without_file n)) lines
+abbrev pub without_sending : List CustomerLine → ℕ → List CustomerLine
+without_sending lines n = map (with_senders_by (without_file n)) lines
 
-abbrev pub with_outcome : Nodal → Outcome → Customer → Customer
+abbrev pub with_outcome : Nodal → CommandOutcome → Customer → Customer
 with_outcome n done c = record c {
   spool = done.spool;
-  lines = all_said c.entry (n.origin, n.user) done.replies (fold given_up c.lines done.cancelled);
+  lines = all_said c.entry (n.origin, n.user) done.replies (fold without_sending c.lines done.cancelled);
 }
 
 -- a command of a user to the hub
-abbrev pub command_came : Nodal → Customer → Customer
-command_came n c = with_outcome n (commanded c.entry (n.origin, n.user) n.message c.spool) c
+abbrev pub after_user_command : Nodal → Customer → Customer
+after_user_command n c = with_outcome n (message_outcome c.entry (n.origin, n.user) n.message c.spool) c
 
 -- the sender of a command is told that nobody has the node
-abbrev pub unknown_told : Nodal → Customer → Customer
-unknown_told n c = record c { lines = said c.entry (n.origin, n.user) (node_unknown n.to) c.lines }
+abbrev pub after_unknown_node : Nodal → Customer → Customer
+after_unknown_node n c = record c { lines = with_message_to c.entry (n.origin, n.user) (node_unknown n.to) c.lines }
 
 -- A message that came on a line, by the route of its node: the hub's own are commands of users, others are sent on, but
 -- not back, and of a node that nobody has the user hears who commanded something.
 abbrev pub message_routed : ℕ → Nodal → List ℕ → Route → Customer → Customer
-message_routed l n bytes Here c = cond (is_user_command n) (command_came n c) c
-message_routed l n bytes (Line k) c = cond (k == l) c (record c { lines = waits k (cut_after_message bytes) c.lines })
-message_routed l n bytes Unknown c = cond (is_user_command n) (unknown_told n c) c
+message_routed l n bytes Here c = cond (is_user_command n) (after_user_command n c) c
+message_routed l n bytes (Line k) c = cond (k == l) c (record c { lines = with_waiting k (cut_after_message bytes) c.lines })
+message_routed l n bytes Unknown c = cond (is_user_command n) (after_unknown_node n c) c
 
 -- what is no nodal message is ignored
 abbrev pub message_read : ℕ → List ℕ → Result Nodal NmrFault → Customer → Customer
 message_read l bytes (Err e) c = c
 message_read l bytes (Ok n) c = message_routed l n bytes (route_of c.entry n.to) c
 
-abbrev pub message_came : ℕ → List ℕ → Customer → Customer
-message_came l bytes c = message_read l bytes (nodal_of bytes) c
+abbrev pub after_message : ℕ → List ℕ → Customer → Customer
+after_message l bytes c = message_read l bytes (nodal_of bytes) c
 
 -- ---- every record
 
 -- a record with bytes: a nodal message, or one of a stream
-abbrev pub data_came : ℕ → ℕ → ℕ → List ℕ → Customer → Customer
-data_came l rcb srcb bytes c =
-    cond (rcb == 0x9a) (message_came l bytes c) (stream_came l (stream_of (line_at l c.lines).streams rcb) (receiving.Data srcb bytes) c)
+abbrev pub after_data : ℕ → ℕ → ℕ → List ℕ → Customer → Customer
+after_data l rcb srcb bytes c =
+    cond (rcb == 0x9a) (after_message l bytes c) (after_stream_record l (stream_of (line_at l c.lines).streams rcb) (receiving.Data srcb bytes) c)
 
 -- what a record does that ends no session
-abbrev pub acted : ℕ → Item → Customer → Customer
-acted l (Data rcb srcb bytes) c = data_came l rcb srcb bytes c
-acted l (Aborted rcb srcb) c = stream_came l (stream_of (line_at l c.lines).streams rcb) receiving.Abort c
-acted l (Long rcb srcb) c = stream_came l (stream_of (line_at l c.lines).streams rcb) receiving.Long c
-acted l (Control rcb srcb) c = control_came l rcb srcb c
-acted l (General srcb rest) c = c
+abbrev pub after_record : ℕ → Item → Customer → Customer
+after_record l (Data rcb srcb bytes) c = after_data l rcb srcb bytes c
+after_record l (Aborted rcb srcb) c = after_stream_record l (stream_of (line_at l c.lines).streams rcb) receiving.Abort c
+after_record l (Long rcb srcb) c = after_stream_record l (stream_of (line_at l c.lines).streams rcb) receiving.Long c
+after_record l (Control rcb srcb) c = after_control_record l rcb srcb c
+after_record l (General srcb rest) c = c
 
 -- a count that the peer didn't expect (E0), and of the general records the sign-ons I, J and K and the sign-off B
 abbrev pub ends_session : Item → Bool
@@ -147,7 +147,7 @@ ended_or false c later = later
 
 abbrev pub all_acted : ℕ → List Item → Customer → Acted
 all_acted l [] c = record { ended = false; customer = c }
-all_acted l (i ∷ is) c = ended_or (ends_session i) c (all_acted l is (acted l i c))
+all_acted l (i ∷ is) c = ended_or (ends_session i) c (all_acted l is (after_record l i c))
 
 abbrev pub acted_where : Bool → ℕ → List Item → Customer → Acted
 acted_where true l items c = all_acted l items c

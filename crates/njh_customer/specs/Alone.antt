@@ -13,7 +13,7 @@ use Rattle.njh_stream.specs.declared.sender.Sender.TheVariants as sender
 use Rattle.njh_stream.specs.Receiving.{without_all_open}
 use Rattle.njh_stream.specs.Sending.{all_ended, tried_again}
 use Rattle.njh_line.specs.LineTable as input
-use Rattle.njh_line.specs.LineTable.{Input, accepted}
+use Rattle.njh_line.specs.LineTable.{Input, table_outcome}
 use Rattle.njh_line.specs.Laws.{is_up}
 use Rattle.njh_line.specs.Lines.{after_input, after_end, without_answers}
 use Rattle.njh_line.specs.declared.Phase.{Phase}
@@ -23,7 +23,7 @@ use Rattle.njh_customer.specs.declared.signal.Signal.{Signal}
 use Rattle.njh_customer.specs.declared.signal.Signal.TheVariants as signal
 use Rattle.njh_customer.specs.Customer.{Customer, CustomerLine, line_at, on_line, in_state}
 use Rattle.njh_customer.specs.Acting.{acted_where}
-use Rattle.njh_customer.specs.Sending.{LineSent, reply_sent}
+use Rattle.njh_customer.specs.Sending.{LineSent, sending_of_reply}
 
 -- The customer after a step, and the frame that it sent; [] where it sent none.
 pub record Step : Type 0 where
@@ -34,11 +34,11 @@ abbrev pub silent : Customer → Step
 silent c = record { after = c; frame = [] }
 
 -- a line sends what a verdict asks for
-abbrev pub replied : ℕ → LineSent → Customer → Step
-replied l sent c = record { after = record c { spool = sent.spool; lines = slice_set c.lines l sent.line }; frame = sent.frame }
+abbrev pub after_reply : ℕ → LineSent → Customer → Step
+after_reply l sent c = record { after = record c { spool = sent.spool; lines = slice_set c.lines l sent.line }; frame = sent.frame }
 
 abbrev pub replied_to : ℕ → Reply → Customer → Step
-replied_to l reply c = replied l (reply_sent c.entry l reply c.spool (line_at l c.lines)) c
+replied_to l reply c = after_reply l (sending_of_reply c.entry l reply c.spool (line_at l c.lines)) c
 
 -- ---- the end of a line's session
 
@@ -80,16 +80,16 @@ carried_out l v c = let s = replied_to l v.reply c in record { after = session_o
 
 -- the line table's verdict on what comes
 abbrev pub verdict_on : ℕ → Input → Customer → Verdict
-verdict_on l came c = let x = (line_at l c.lines).state in (accepted x.config came x.session).verdict
+verdict_on l came c = let x = (line_at l c.lines).state in (table_outcome x.config came x.session).verdict
 
 -- a line goes up
 abbrev pub goes_up : (before after : Phase) → Bool
 goes_up before after = is_up after && not (is_up before)
 
 -- a line that goes up is marked; no mark is taken away
-abbrev pub raised : Bool → ℕ → CustomerEntry → CustomerEntry
-raised true l entry = entry_marked l true entry
-raised false l entry = entry
+abbrev pub with_raised_line : Bool → ℕ → CustomerEntry → CustomerEntry
+with_raised_line true l entry = entry_marked l true entry
+with_raised_line false l entry = entry
 
 -- whether what comes makes a line go up
 abbrev pub goes_up_by : ℕ → Input → Customer → Bool
@@ -97,11 +97,11 @@ goes_up_by l came c = let x = (line_at l c.lines).state in goes_up x.session.pha
 
 -- the line table judges what comes, and a line that goes up counts as up from then on
 abbrev pub accepted_on : ℕ → Input → Customer → Customer
-accepted_on l came c = record c { entry = raised (goes_up_by l came c) l c.entry; lines = on_line l (in_state (after_input came)) c.lines }
+accepted_on l came c = record c { entry = with_raised_line (goes_up_by l came c) l c.entry; lines = on_line l (in_state (after_input came)) c.lines }
 
 -- what comes to a line but a good block
-abbrev pub input_came : ℕ → Input → Customer → Step
-input_came l came c = carried_out l (verdict_on l came c) (accepted_on l came c)
+abbrev pub after_line_input : ℕ → Input → Customer → Step
+after_line_input l came c = carried_out l (verdict_on l came c) (accepted_on l came c)
 
 abbrev pub block_input : Block → Input
 block_input b = input.Block b.bcb b.fcs (general_first b.items)
@@ -112,26 +112,26 @@ behind_records true l v c = silent (session_ended l c)
 behind_records false l v c = carried_out l v c
 
 -- a good block: its records act where the line table says so, and then it is answered
-abbrev pub block_came : ℕ → Block → Customer → Step
-block_came l b c =
+abbrev pub after_block : ℕ → Block → Customer → Step
+after_block l b c =
     let v = verdict_on l (block_input b) c in
     let a = acted_where v.acts l b.items (accepted_on l (block_input b) c) in
     behind_records a.ended l v a.customer
 
 abbrev pub text_read : ℕ → Result Block BlockFault → Customer → Step
-text_read l (Ok b) c = block_came l b c
-text_read l (Err e) c = input_came l input.Bad c
+text_read l (Ok b) c = after_block l b c
+text_read l (Err e) c = after_line_input l input.Bad c
 
-abbrev pub text_came : ℕ → List ℕ → Customer → Step
-text_came l text c = text_read l (read_block text) c
+abbrev pub after_text : ℕ → List ℕ → Customer → Step
+after_text l text c = text_read l (read_block text) c
 
-abbrev pub received_on : ℕ → Received → Customer → Step
-received_on l frame.Enquiry c = input_came l input.Enquiry c
-received_on l frame.Ack0 c = input_came l input.Ack0 c
-received_on l frame.Nak c = input_came l input.Nak c
-received_on l frame.Eot c = input_came l input.Eot c
-received_on l (frame.Text text) c = text_came l text c
-received_on l frame.Spoiled c = input_came l input.Spoiled c
+abbrev pub after_received : ℕ → Received → Customer → Step
+after_received l frame.Enquiry c = after_line_input l input.Enquiry c
+after_received l frame.Ack0 c = after_line_input l input.Ack0 c
+after_received l frame.Nak c = after_line_input l input.Nak c
+after_received l frame.Eot c = after_line_input l input.Eot c
+after_received l (frame.Text text) c = after_text l text c
+after_received l frame.Spoiled c = after_line_input l input.Spoiled c
 
 abbrev pub signal_input : Signal → Input
 signal_input signal.Tick = input.Tick
@@ -143,9 +143,9 @@ abbrev pub where_there : ℕ → Step → Customer → Step
 where_there l s c = cond (nat_lt l (length c.lines)) s (silent c)
 
 -- a frame comes on a line
-unfoldable pub frame_came : ℕ → Received → Customer → Step
-frame_came l received c = where_there l (received_on l received c) c
+unfoldable pub after_frame : ℕ → Received → Customer → Step
+after_frame l received c = where_there l (after_received l received c) c
 
 -- a signal comes on a line
-unfoldable pub signal_came : ℕ → Signal → Customer → Step
-signal_came l s c = where_there l (input_came l (signal_input s) c) c
+unfoldable pub after_signal : ℕ → Signal → Customer → Step
+after_signal l s c = where_there l (after_line_input l (signal_input s) c) c

@@ -70,8 +70,8 @@ customer_with entry spool lines = record { entry = entry; spool = spool; lines =
 -- ---- its lines
 
 -- a line in the place of one that isn't there
-abbrev pub no_line : CustomerLine
-no_line = record {
+abbrev pub no_customer_line : CustomerLine
+no_customer_line = record {
   state = fresh_line (record { hub = []; node = []; role = role.Answer; block = 0; password = None });
   streams = 0;
   receivers = [];
@@ -81,16 +81,16 @@ no_line = record {
 }
 
 abbrev pub line_at : ℕ → List CustomerLine → CustomerLine
-line_at l lines = slice_index_or lines l no_line
+line_at l lines = slice_index_or lines l no_customer_line
 
 abbrev pub on_line : ℕ → (CustomerLine → CustomerLine) → List CustomerLine → List CustomerLine
 on_line l f lines = slice_set lines l (f (line_at l lines))
 
-abbrev pub with_state : LineState → CustomerLine → CustomerLine
-with_state state x = record x { state = state }
+abbrev pub with_line_state : LineState → CustomerLine → CustomerLine
+with_line_state state x = record x { state = state }
 
 abbrev pub in_state : (LineState → LineState) → CustomerLine → CustomerLine
-in_state f x = with_state (f x.state) x
+in_state f x = with_line_state (f x.state) x
 
 abbrev pub receiver_at : ℕ → CustomerLine → Receiver
 receiver_at k x = slice_index_or x.receivers k receiver.Idle
@@ -106,8 +106,8 @@ notices_after k receiver.Idle None notices = notices
 notices_after k receiver.Draining None notices = notices
 
 -- an arrival left this on a stream to the hub, and the owner of the file was told this
-abbrev pub noted : ℕ → Receiver → Option Notice → CustomerLine → CustomerLine
-noted k r notice x = record x { notices = notices_after k r notice x.notices }
+abbrev pub with_notice : ℕ → Receiver → Option Notice → CustomerLine → CustomerLine
+with_notice k r notice x = record x { notices = notices_after k r notice x.notices }
 
 abbrev pub sender_at : ℕ → CustomerLine → Sender
 sender_at k x = slice_index_or x.senders k sender.Idle

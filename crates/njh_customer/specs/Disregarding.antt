@@ -8,7 +8,7 @@ use Rattle.njh_line.specs.Sessions.{in_session}
 use Rattle.njh_line.specs.declared.session.Session.{Session}
 use Rattle.njh_customer.specs.declared.signal.Signal.TheVariants.{Garbled}
 use Rattle.njh_customer.specs.Customer.{Customer, line_at, on_line, in_state}
-use Rattle.njh_customer.specs.Alone.{Step, silent, session_ended, frame_came, signal_came}
+use Rattle.njh_customer.specs.Alone.{Step, silent, session_ended, after_frame, after_signal}
 
 abbrev pub session_on : ℕ → Customer → Session
 session_on l c = (line_at l c.lines).state.session
@@ -27,11 +27,11 @@ pub record IsDisregarded (l : ℕ) (c : Customer) (s : Step) : Type 0 where
   pub over : l < length c.lines → in_session (session_on l c).phase ≡ true → (session_on l c).tries ≡ 5 → s ≡ silent (session_ended l c)
 
 abbrev pub SpoiledIsDisregarded : Type 0
-SpoiledIsDisregarded = (l : ℕ) (c : Customer) → IsDisregarded l c (frame_came l Spoiled c)
+SpoiledIsDisregarded = (l : ℕ) (c : Customer) → IsDisregarded l c (after_frame l Spoiled c)
 
 abbrev pub BadBlocksAreDisregarded : Type 0
 BadBlocksAreDisregarded =
-    (l : ℕ) (text : List ℕ) (fault : BlockFault) (c : Customer) → read_block text ≡ Err fault → IsDisregarded l c (frame_came l (Text text) c)
+    (l : ℕ) (text : List ℕ) (fault : BlockFault) (c : Customer) → read_block text ≡ Err fault → IsDisregarded l c (after_frame l (Text text) c)
 
 abbrev pub GarbledIsDisregarded : Type 0
-GarbledIsDisregarded = (l : ℕ) (c : Customer) → IsDisregarded l c (signal_came l Garbled c)
+GarbledIsDisregarded = (l : ℕ) (c : Customer) → IsDisregarded l c (after_signal l Garbled c)

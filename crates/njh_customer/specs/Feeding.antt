@@ -3,14 +3,14 @@
 use Rattle.std.specs.Prelude.{ℕ, ◌+◌, List, [], ◌∷◌, ◌++◌, Option, Some, None}
 use Rattle.njh_bisync.specs.Frames.{Received}
 use Rattle.njh_bisync.specs.Reading.{Rest}
-use Rattle.njh_bisync.specs.ByteSteps.{turn}
+use Rattle.njh_bisync.specs.ByteSteps.{rest_step}
 use Rattle.njh_customer.specs.Customer.{Customer}
-use Rattle.njh_customer.specs.Alone.{Step, frame_came}
+use Rattle.njh_customer.specs.Alone.{Step, after_frame}
 
 -- a frame acts, where one ended
 abbrev pub acted_on : ℕ → Option Received → Customer → Step
 acted_on l None c = record { after = c; frame = [] }
-acted_on l (Some received) c = frame_came l received c
+acted_on l (Some received) c = after_frame l received c
 
 -- After one byte: what has come of the next frame, the customer, and the frame that was sent.
 pub record ByteStep : Type 0 where
@@ -20,7 +20,7 @@ pub record ByteStep : Type 0 where
 
 abbrev pub byte_step : Rest → Customer → ℕ → ℕ → ByteStep
 byte_step rest c l byte =
-    let t = turn rest byte in
+    let t = rest_step rest byte in
     let step = acted_on l t.frame c in
     record { rest = t.rest; after = step.after; frame = step.frame }
 

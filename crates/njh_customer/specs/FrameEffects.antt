@@ -9,7 +9,7 @@ use Rattle.njh_bisync.specs.declared.frame.Control as frame_control
 use Rattle.njh_block.specs.Blocks.{Block, Item, Control, rcb_of, read_block, text_of}
 use Rattle.njh_block.specs.declared.fault.BlockFault.{BlockFault}
 use Rattle.njh_stream.specs.declared.sender.Sender.TheVariants.{Sending, EofSent}
-use Rattle.njh_sched.specs.NextBlock.{is_sending}
+use Rattle.njh_sched.specs.NextBlock.{sends_file}
 use Rattle.njh_sched.specs.Laws.{records_under}
 use Rattle.njh_sched.specs.Carrying.{end_of_file, record_item}
 use Rattle.njh_table.specs.Entries.{CustomerEntry}
@@ -18,36 +18,36 @@ use Rattle.njh_line.specs.Lines.{LineState}
 use Rattle.njh_line.specs.Openings.{opening}
 use Rattle.njh_line.specs.declared.opening.Opening.{Opening}
 use Rattle.njh_customer.specs.Customer.{Customer, line_at}
-use Rattle.njh_customer.specs.Alone.{Step, raised}
-use Rattle.njh_customer.specs.OutgoingFiles.{Outgoing, outgoing, records_numbered, stream_at, streams_of}
-use Rattle.njh_customer.specs.Moves.{Leads, OneActs, Over, Sends}
+use Rattle.njh_customer.specs.Alone.{Step, with_raised_line}
+use Rattle.njh_customer.specs.OutgoingFiles.{Outgoing, outgoing, records_numbered, sender_on, streams_of}
+use Rattle.njh_customer.specs.Moves.{LeadsByMoves, OneActs, Over, Sends}
 
 -- the records of a frame; none where it is no text, or its text is no block
 abbrev pub block_records : Result Block BlockFault → List Item
 block_records (Ok b) = b.items
 block_records (Err e) = []
 
-abbrev pub records_in : Received → List Item
-records_in frame.Enquiry = []
-records_in frame.Ack0 = []
-records_in frame.Nak = []
-records_in frame.Eot = []
-records_in (frame.Text text) = block_records (read_block text)
-records_in frame.Spoiled = []
+abbrev pub records_of_frame : Received → List Item
+records_of_frame frame.Enquiry = []
+records_of_frame frame.Ack0 = []
+records_of_frame frame.Nak = []
+records_of_frame frame.Eot = []
+records_of_frame (frame.Text text) = block_records (read_block text)
+records_of_frame frame.Spoiled = []
 
 -- What a block of these records carries of the file of stream k of line l: of a stream that sends none, nothing. Of one
 -- that sends a file under its RCB the file's records from the stream's place before the block to its place behind it,
 -- each once and in order; and the end of file only behind the last record, and then the stream has sent its end of
 -- file.
 pub data Carries (l k : ℕ) (items : List Item) (x y : Outgoing) : Type 0 where
-  nothing : is_sending (stream_at l k x) ≡ false → records_under (rcb_of k) items ≡ [] → Carries l k items x y
+  nothing : sends_file (sender_on l k x) ≡ false → records_under (rcb_of k) items ≡ [] → Carries l k items x y
   on_its_way :
-      (n place more : ℕ) → stream_at l k x ≡ Sending n place → length (take more (drop place (records_numbered n x))) ≡ more
-      → stream_at l k y ≡ Sending n (place + more)
+      (n place more : ℕ) → sender_on l k x ≡ Sending n place → length (take more (drop place (records_numbered n x))) ≡ more
+      → sender_on l k y ≡ Sending n (place + more)
       → records_under (rcb_of k) items ≡ map (record_item k) (take more (drop place (records_numbered n x)))
       → Carries l k items x y
   to_its_end :
-      (n place : ℕ) → stream_at l k x ≡ Sending n place → stream_at l k y ≡ EofSent n
+      (n place : ℕ) → sender_on l k x ≡ Sending n place → sender_on l k y ≡ EofSent n
       → records_under (rcb_of k) items ≡ map (record_item k) (drop place (records_numbered n x)) ++ end_of_file k ∷ []
       → Carries l k items x y
 
@@ -66,7 +66,7 @@ pub data IsNoNewBlock (line : LineState) (sent : List ℕ) : Type 0 where
 pub data GoesOut (entry : CustomerEntry) (l : ℕ) (line : LineState) (x y : Outgoing) (sent : List ℕ) : Type 0 where
   no_block : y ≡ x → IsNoNewBlock line sent → GoesOut entry l line x y sent
   new_block :
-      (bcb : ℕ) (fcs : ℕ × ℕ) (items : List Item) → sent ≡ text_bytes (text_of bcb fcs items) → Leads (Sends entry l) x y
+      (bcb : ℕ) (fcs : ℕ × ℕ) (items : List Item) → sent ≡ text_bytes (text_of bcb fcs items) → LeadsByMoves (Sends entry l) x y
       → ((k : ℕ) → k < 8 → k < length (streams_of l x) → Carries l k items x y) → GoesOut entry l line x y sent
 
 -- How a step ends that was judged by an entry: the line's session goes on, or it is over, and then the line counts as
@@ -80,8 +80,8 @@ pub data Ends (entry : CustomerEntry) (l : ℕ) (x : Outgoing) (after : Customer
 pub record Does (l : ℕ) (items : List Item) (c : Customer) (s : Step) : Type 0 where
   pub up : Bool  -- whether the line goes up
   pub acted : Outgoing
-  pub records : Leads (OneActs (raised up l c.entry) l items) (outgoing c) acted
+  pub records : LeadsByMoves (OneActs (with_raised_line up l c.entry) l items) (outgoing c) acted
   pub answered : Outgoing
-  pub answer : GoesOut (raised up l c.entry) l (line_at l c.lines).state acted answered s.frame
-  pub end : Ends (raised up l c.entry) l answered s.after
+  pub answer : GoesOut (with_raised_line up l c.entry) l (line_at l c.lines).state acted answered s.frame
+  pub end : Ends (with_raised_line up l c.entry) l answered s.after
   pub lines : length s.after.lines ≡ length c.lines

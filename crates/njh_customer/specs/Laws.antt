@@ -5,7 +5,7 @@ use Rattle.njh_customer.specs.Feeding.{sent_on}
 use Rattle.njh_table.specs.Entries.{CustomerEntry}
 use Rattle.njh_customer.specs.Customer.{IsMarked, fresh_customer, with_marks}
 use Rattle.njh_customer.specs.NewRoutes.{entry_with}
-use Rattle.njh_customer.specs.Part.{Part, bytes_taken}
+use Rattle.njh_customer.specs.Part.{Part, part_after_bytes}
 use Rattle.njh_customer.specs.Runs.{OwnEvent, OwnBytes, Run, event_run, alone_run}
 
 -- A piece that comes in two gives the same frames and the same part.
@@ -19,13 +19,13 @@ NoBytesDoNothing = (p : Part) (l : ℕ) → event_run p (OwnBytes l []) ≡ reco
 
 -- a step by bytes that come after others: the part is the step's, and its frame comes last
 abbrev pub followed_by : Run → ℕ → List ℕ → Run
-followed_by r l left = let t = bytes_taken r.after l left in record { after = t.after; sent = r.sent ++ sent_on l t.frame }
+followed_by r l left = let t = part_after_bytes r.after l left in record { after = t.after; sent = r.sent ++ sent_on l t.frame }
 
 -- Bytes, and then a step by what is left, are those bytes and the step's.
 abbrev pub StepsFollowBytes : Type 0
 StepsFollowBytes =
     (p : Part) (l : ℕ) (front left : List ℕ) → l < length (event_run p (OwnBytes l front)).after.rests →
-    event_run p (OwnBytes l (front ++ take (bytes_taken (event_run p (OwnBytes l front)).after l left).taken left))
+    event_run p (OwnBytes l (front ++ take (part_after_bytes (event_run p (OwnBytes l front)).after l left).taken left))
     ≡ followed_by (event_run p (OwnBytes l front)) l left
 
 -- The frames that the first bytes of a piece send come first of those that the piece sends.
@@ -45,7 +45,7 @@ EventsKeepEntries =
 -- A step by bytes changes the marks alone.
 abbrev pub TakesKeepEntries : Type 0
 TakesKeepEntries =
-    (p : Part) (l : ℕ) (piece : List ℕ) → let after = (bytes_taken p l piece).after.customer.entry in
+    (p : Part) (l : ℕ) (piece : List ℕ) → let after = (part_after_bytes p l piece).after.customer.entry in
     after ≡ with_marks after.up p.customer.entry
 
 -- So routes have the same first fault, or none, before an event and behind it.
@@ -65,4 +65,4 @@ EventsKeepLines = (p : Part) (event : OwnEvent) → length (event_run p event).a
 pub record MarksAreRight : Type 0 where
   pub fresh : (entry : CustomerEntry) → IsMarked (fresh_customer entry)
   pub events : (p : Part) (event : OwnEvent) → IsMarked p.customer → IsMarked (event_run p event).after.customer
-  pub takes : (p : Part) (l : ℕ) (piece : List ℕ) → IsMarked p.customer → IsMarked (bytes_taken p l piece).after.customer
+  pub takes : (p : Part) (l : ℕ) (piece : List ℕ) → IsMarked p.customer → IsMarked (part_after_bytes p l piece).after.customer

@@ -14,18 +14,18 @@ use Rattle.njh_table.specs.NewRoutes.{NewRoute, routes_checked, taken_routes}
 use Rattle.njh_table.specs.declared.Route.TheVariants.{Here, Line}
 use Rattle.njh_stream.specs.declared.sender.Sender.{Sender}
 use Rattle.njh_stream.specs.declared.sender.Sender.TheVariants.{Idle, Requested, Sending, EofSent, Aborting}
-use Rattle.njh_stream.specs.Holding.{has_lost_route, held}
+use Rattle.njh_stream.specs.Holding.{has_lost_route, held_file}
 use Rattle.njh_stream.specs.Sending.{file_in, goes_by, ready}
 use Rattle.njh_stream.specs.Transmissions.{is_whole}
 use Rattle.njh_sched.specs.NextBlock.{may_go}
 use Rattle.njh_command.specs.declared.command.Command.{Command}
 use Rattle.njh_command.specs.declared.command.Command.TheVariants.{Hold, Release, Cancel, Reroute}
 use Rattle.njh_command.specs.Words.{command_of}
-use Rattle.njh_command.specs.Commands.{changed_file, chosen, is_busy, rerouted, with_state, without_file}
+use Rattle.njh_command.specs.Commands.{changed_file, is_of_name, is_busy, with_new_destination, file_in_state, without_file}
 use Rattle.njh_customer.specs.Customer.{with_marks}
 use Rattle.njh_customer.specs.NewRoutes.{entry_with}
-use Rattle.njh_customer.specs.OutgoingFiles.{Outgoing, each_stream, marked, record_numbered, stream_at, streams_of}
-use Rattle.njh_customer.specs.OutgoingFiles.{with_files, with_stream, with_streams, without}
+use Rattle.njh_customer.specs.OutgoingFiles.{Outgoing, each_stream, with_file_state, record_numbered, sender_on, streams_of}
+use Rattle.njh_customer.specs.OutgoingFiles.{with_files, with_sender_on, with_streams, without_numbered}
 
 -- ---- by a record that comes
 
@@ -56,12 +56,12 @@ abbrev pub without_files : List ℕ → Outgoing → Outgoing
 without_files numbers x = fold (λ y n. each_stream (without_file n) y) x numbers
 
 -- the files that pass a test are gone
-abbrev pub cancelled : (WholeFile → Bool) → Outgoing → Outgoing
-cancelled p x = without_files (busy_numbers p x.files) (with_files (filter (λ f. not (p f)) x.files) x)
+abbrev pub without_cancelled : (WholeFile → Bool) → Outgoing → Outgoing
+without_cancelled p x = without_files (busy_numbers p x.files) (with_files (filter (λ f. not (p f)) x.files) x)
 
 -- those that pass a test and aren't being sent are changed
-abbrev pub changed : (WholeFile → Bool) → (WholeFile → WholeFile) → Outgoing → Outgoing
-changed p change x = with_files (map (changed_file p change) x.files) x
+abbrev pub with_changed : (WholeFile → Bool) → (WholeFile → WholeFile) → Outgoing → Outgoing
+with_changed p change x = with_files (map (changed_file p change) x.files) x
 
 pub data Acts (entry : CustomerEntry) (l : ℕ) (i : Item) (x y : Outgoing) : Type 0 where
   -- an end of file: a file has come whole, and is the last one
@@ -70,46 +70,46 @@ pub data Acts (entry : CustomerEntry) (l : ℕ) (i : Item) (x y : Outgoing) : Ty
       → y ≡ with_files (x.files ++ f ∷ []) x → Acts entry l i x y
   -- A0 to a stream that asked: it sends the file, from its first record on
   permitted :
-      (streams k n : ℕ) → Tells 0xa0 streams k i → stream_at l k x ≡ Requested n → y ≡ with_stream l k (Sending n 0) x
+      (streams k n : ℕ) → Tells 0xa0 streams k i → sender_on l k x ≡ Requested n → y ≡ with_sender_on l k (Sending n 0) x
       → Acts entry l i x y
   -- B0: the file is refused, and the stream has none
   refused :
-      (streams k n : ℕ) (after : Sender) → Tells 0xb0 streams k i → file_in (stream_at l k x) ≡ Some n → file_in after ≡ None
-      → y ≡ with_stream l k after (with_files (marked n state.Refused x.files) x) → Acts entry l i x y
+      (streams k n : ℕ) (after : Sender) → Tells 0xb0 streams k i → file_in (sender_on l k x) ≡ Some n → file_in after ≡ None
+      → y ≡ with_sender_on l k after (with_files (with_file_state n state.Refused x.files) x) → Acts entry l i x y
   -- C0 to a stream that sent its end of file: the peer has the file, and it is gone
   completed :
-      (streams k n : ℕ) → Tells 0xc0 streams k i → stream_at l k x ≡ EofSent n
-      → y ≡ with_stream l k Idle (with_files (without n x.files) x) → Acts entry l i x y
+      (streams k n : ℕ) → Tells 0xc0 streams k i → sender_on l k x ≡ EofSent n
+      → y ≡ with_sender_on l k Idle (with_files (without_numbered n x.files) x) → Acts entry l i x y
   -- commands of the files' owner
   holds :
       (who : List ℕ × List ℕ) (name : List ℕ × ℕ) → Commands entry who (Hold name) i
-      → y ≡ changed (chosen who name) (with_state state.Held) x → Acts entry l i x y
+      → y ≡ with_changed (is_of_name who name) (file_in_state state.Held) x → Acts entry l i x y
   releases :
       (who : List ℕ × List ℕ) (name : List ℕ × ℕ) → Commands entry who (Release name) i
-      → y ≡ changed (chosen who name) (with_state state.Ready) x → Acts entry l i x y
+      → y ≡ with_changed (is_of_name who name) (file_in_state state.Ready) x → Acts entry l i x y
   reroutes :
       (who : List ℕ × List ℕ) (name : List ℕ × ℕ) (node : List ℕ) (line : ℕ) → Commands entry who (Reroute name node) i
-      → route_of entry node ≡ Line line → y ≡ changed (chosen who name) (rerouted node) x → Acts entry l i x y
+      → route_of entry node ≡ Line line → y ≡ with_changed (is_of_name who name) (with_new_destination node) x → Acts entry l i x y
   cancels :
-      (who : List ℕ × List ℕ) (name : List ℕ × ℕ) → Commands entry who (Cancel name) i → y ≡ cancelled (chosen who name) x
+      (who : List ℕ × List ℕ) (name : List ℕ × ℕ) → Commands entry who (Cancel name) i → y ≡ without_cancelled (is_of_name who name) x
       → Acts entry l i x y
 
 -- ---- by a record that goes out in a new block
 
 pub data Sends (entry : CustomerEntry) (l : ℕ) (x y : Outgoing) : Type 0 where
   -- an abort: the stream's file was given up
-  gives_up : (k : ℕ) → stream_at l k x ≡ Aborting → y ≡ with_stream l k Idle x → Sends entry l x y
+  gives_up : (k : ℕ) → sender_on l k x ≡ Aborting → y ≡ with_sender_on l k Idle x → Sends entry l x y
   -- a request: an idle stream asks for the oldest file that may go
   asks :
-      (k : ℕ) (f : WholeFile) → stream_at l k x ≡ Idle → find (may_go (goes_by entry l) (kind_of k)) x.files ≡ Some f
-      → y ≡ with_stream l k (Requested f.number) (with_files (marked f.number state.Sending x.files) x) → Sends entry l x y
+      (k : ℕ) (f : WholeFile) → sender_on l k x ≡ Idle → find (may_go (goes_by entry l) (kind_of k)) x.files ≡ Some f
+      → y ≡ with_sender_on l k (Requested f.number) (with_files (with_file_state f.number state.Sending x.files) x) → Sends entry l x y
   -- the file's record at the stream's place
   goes_on :
-      (k n place : ℕ) (r : Stored) → stream_at l k x ≡ Sending n place → record_numbered n place x ≡ Some r
-      → y ≡ with_stream l k (Sending n (place + 1)) x → Sends entry l x y
+      (k n place : ℕ) (r : Stored) → sender_on l k x ≡ Sending n place → record_numbered n place x ≡ Some r
+      → y ≡ with_sender_on l k (Sending n (place + 1)) x → Sends entry l x y
   -- the end of file, where there is no record at the stream's place
   ends :
-      (k n place : ℕ) → stream_at l k x ≡ Sending n place → record_numbered n place x ≡ None → y ≡ with_stream l k (EofSent n) x
+      (k n place : ℕ) → sender_on l k x ≡ Sending n place → record_numbered n place x ≡ None → y ≡ with_sender_on l k (EofSent n) x
       → Sends entry l x y
 
 -- ---- by the end of the line's session
@@ -136,7 +136,7 @@ pub data Moves (entry : CustomerEntry) (l : ℕ) (items : List Item) (x y : Outg
 -- The files that are Ready or Refused and whose node has no route are Held. Each other file stays what it was, and each
 -- stream.
 abbrev pub routeless_held : CustomerEntry → Outgoing → Outgoing
-routeless_held entry x = with_files (map (λ f. cond (has_lost_route entry f) (held f) f) x.files) x
+routeless_held entry x = with_files (map (λ f. cond (has_lost_route entry f) (held_file f) f) x.files) x
 
 -- Routes without a fault are the customer's from then on.
 pub record RoutesMove (entry : CustomerEntry) (routes : List NewRoute) (x y : Outgoing) : Type 0 where
@@ -154,6 +154,6 @@ MovesBy entry (Records l items) x y = (up : List Bool) × Moves (with_marks up e
 MovesBy entry (Routes routes) x y = RoutesMove entry routes x y
 
 -- Moves of a kind lead from one to the other.
-pub data Leads (Move : Outgoing → Outgoing → Type 0) : Outgoing → Outgoing → Type 0 where
-  nowhere : (x : Outgoing) → Leads Move x x
-  onward : (x y z : Outgoing) → Move x y → Leads Move y z → Leads Move x z
+pub data LeadsByMoves (Move : Outgoing → Outgoing → Type 0) : Outgoing → Outgoing → Type 0 where
+  nowhere : (x : Outgoing) → LeadsByMoves Move x x
+  onward : (x y z : Outgoing) → Move x y → LeadsByMoves Move y z → LeadsByMoves Move x z

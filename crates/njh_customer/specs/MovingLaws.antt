@@ -6,7 +6,7 @@ use Rattle.njh_bisync.specs.ByteSteps.{frames_after}
 use Rattle.njh_bisync.specs.Frames.{Received}
 use Rattle.njh_block.specs.Blocks.{Item, Data}
 use Rattle.njh_block.specs.Codes.{kind_of}
-use Rattle.njh_header.specs.Redirecting.{redirected}
+use Rattle.njh_header.specs.Redirecting.{records_to_node}
 use Rattle.njh_record.specs.Stored.{Stored}
 use Rattle.njh_spool.specs.CustomerSpool.{WholeFile}
 use Rattle.njh_spool.specs.declared.State.TheVariants.{Ready}
@@ -14,30 +14,30 @@ use Rattle.njh_table.specs.Entries.{CustomerEntry}
 use Rattle.njh_table.specs.NewRoutes.{NewRoute, routes_checked, taken_routes}
 use Rattle.njh_table.specs.declared.fault.TableFault.{TableFault}
 use Rattle.njh_stream.specs.declared.sender.Sender.TheVariants.{Idle, Requested, Sending, EofSent}
-use Rattle.njh_stream.specs.Holding.{has_lost_route, held}
+use Rattle.njh_stream.specs.Holding.{has_lost_route, held_file}
 use Rattle.njh_stream.specs.Sending.{file_in, goes_by}
 use Rattle.njh_stream.specs.Transmissions.{is_whole}
 use Rattle.njh_sched.specs.NextBlock.{may_go}
 use Rattle.njh_command.specs.declared.command.Command.TheVariants.{Cancel, Reroute}
-use Rattle.njh_command.specs.Commands.{chosen, is_sending}
+use Rattle.njh_command.specs.Commands.{is_of_name, is_sending}
 use Rattle.njh_customer.specs.declared.signal.Signal.{Signal}
 use Rattle.njh_customer.specs.Customer.{Customer, with_marks}
-use Rattle.njh_customer.specs.Alone.{frame_came, signal_came}
-use Rattle.njh_customer.specs.Part.{Part, bytes_taken, rest_on}
+use Rattle.njh_customer.specs.Alone.{after_frame, after_signal}
+use Rattle.njh_customer.specs.Part.{Part, part_after_bytes, rest_on}
 use Rattle.njh_customer.specs.NewRoutes.{entry_with}
 use Rattle.njh_customer.specs.Runs.{OwnEvent, OwnBytes, OwnSignal, OwnRoutes, Run, event_run}
-use Rattle.njh_customer.specs.OutgoingFiles.{Outgoing, outgoing, has_file, record_numbered, stream_at}
-use Rattle.njh_customer.specs.Moves.{Coming, Records, Routes, Commands, Leads, MovesBy, Sends, Tells}
-use Rattle.njh_customer.specs.FrameEffects.{Does, records_in}
+use Rattle.njh_customer.specs.OutgoingFiles.{Outgoing, outgoing, has_file, record_numbered, sender_on}
+use Rattle.njh_customer.specs.Moves.{Coming, Records, Routes, Commands, LeadsByMoves, MovesBy, Sends, Tells}
+use Rattle.njh_customer.specs.FrameEffects.{Does, records_of_frame}
 
 -- ---- what comes
 
 -- What each frame and each signal on a line does.
 abbrev pub FramesDoSo : Type 0
-FramesDoSo = (l : ℕ) (received : Received) (c : Customer) → Does l (records_in received) c (frame_came l received c)
+FramesDoSo = (l : ℕ) (received : Received) (c : Customer) → Does l (records_of_frame received) c (after_frame l received c)
 
 abbrev pub SignalsDoSo : Type 0
-SignalsDoSo = (l : ℕ) (signal : Signal) (c : Customer) → Does l [] c (signal_came l signal c)
+SignalsDoSo = (l : ℕ) (signal : Signal) (c : Customer) → Does l [] c (after_signal l signal c)
 
 -- What new routes do. They send nothing, and leave all lines as they are, what waits on them, and the partial files.
 -- Without a fault they are the customer's from then on; else nothing is changed.
@@ -54,7 +54,7 @@ RoutesDoSo = (p : Part) (routes : List NewRoute) → RoutesDo p routes (event_ru
 
 -- what comes by an event: the records of the frames that its bytes make whole, or new routes
 abbrev pub coming : Part → OwnEvent → Coming
-coming p (OwnBytes l piece) = Records l (flat_map records_in (frames_after (rest_on l p) piece))
+coming p (OwnBytes l piece) = Records l (flat_map records_of_frame (frames_after (rest_on l p) piece))
 coming p (OwnSignal signal l) = Records l []
 coming p (OwnRoutes routes) = Routes routes
 
@@ -62,13 +62,13 @@ coming p (OwnRoutes routes) = Routes routes
 abbrev pub EventsMoveSo : Type 0
 EventsMoveSo =
     (p : Part) (event : OwnEvent)
-    → Leads (MovesBy p.customer.entry (coming p event)) (outgoing p.customer) (outgoing (event_run p event).after.customer)
+    → LeadsByMoves (MovesBy p.customer.entry (coming p event)) (outgoing p.customer) (outgoing (event_run p event).after.customer)
 
 -- So does a step by bytes of a line, by the records of the bytes that it takes.
 abbrev pub TakesMoveSo : Type 0
 TakesMoveSo =
-    (p : Part) (l : ℕ) (piece : List ℕ) → l < length p.rests → let t = bytes_taken p l piece in
-    Leads (MovesBy p.customer.entry (coming p (OwnBytes l (take t.taken piece)))) (outgoing p.customer) (outgoing t.after.customer)
+    (p : Part) (l : ℕ) (piece : List ℕ) → l < length p.rests → let t = part_after_bytes p l piece in
+    LeadsByMoves (MovesBy p.customer.entry (coming p (OwnBytes l (take t.taken piece)))) (outgoing p.customer) (outgoing t.after.customer)
 
 -- ---- how a file leaves
 
@@ -77,9 +77,9 @@ TakesMoveSo =
 pub data Leaves (entry : CustomerEntry) (l : ℕ) (items : List Item) (n : ℕ) (x : Outgoing) : Type 0 where
   cancelled :
       (i : Item) (who : List ℕ × List ℕ) (name : List ℕ × ℕ) (f : WholeFile) → Contains items i → Commands entry who (Cancel name) i
-      → Contains x.files f → f.number ≡ n → chosen who name f ≡ true → Leaves entry l items n x
+      → Contains x.files f → f.number ≡ n → is_of_name who name f ≡ true → Leaves entry l items n x
   completed :
-      (i : Item) (streams k : ℕ) → Contains items i → Tells 0xc0 streams k i → stream_at l k x ≡ EofSent n → Leaves entry l items n x
+      (i : Item) (streams k : ℕ) → Contains items i → Tells 0xc0 streams k i → sender_on l k x ≡ EofSent n → Leaves entry l items n x
 
 -- by new routes none leaves
 abbrev pub LeavesBy : CustomerEntry → Coming → ℕ → Outgoing → Type 0
@@ -94,37 +94,37 @@ FilesLeaveSo =
 -- and so in all that moves lead to, at some moment between
 abbrev pub FilesLeaveSoBetween : Type 0
 FilesLeaveSoBetween =
-    (entry : CustomerEntry) (came : Coming) (x y : Outgoing) (n : ℕ) → Leads (MovesBy entry came) x y → has_file n x ≡ true
-    → has_file n y ≡ false → (z : Outgoing) × Leads (MovesBy entry came) x z × LeavesBy entry came n z × Leads (MovesBy entry came) z y
+    (entry : CustomerEntry) (came : Coming) (x y : Outgoing) (n : ℕ) → LeadsByMoves (MovesBy entry came) x y → has_file n x ≡ true
+    → has_file n y ≡ false → (z : Outgoing) × LeadsByMoves (MovesBy entry came) x z × LeavesBy entry came n z × LeadsByMoves (MovesBy entry came) z y
 
 -- ---- how a stream moves
 
 -- What a move does to stream k of line j.
 pub data StreamMoves (entry : CustomerEntry) (l : ℕ) (items : List Item) (j k : ℕ) (x y : Outgoing) : Type 0 where
-  stays : stream_at j k y ≡ stream_at j k x → StreamMoves entry l items j k x y
+  stays : sender_on j k y ≡ sender_on j k x → StreamMoves entry l items j k x y
   -- it is about no file then
-  has_none : file_in (stream_at j k y) ≡ None → StreamMoves entry l items j k x y
+  has_none : file_in (sender_on j k y) ≡ None → StreamMoves entry l items j k x y
   -- an idle one asks for the oldest file that may go
   asks :
-      (f : WholeFile) → Sends entry l x y → stream_at j k x ≡ Idle → find (may_go (goes_by entry l) (kind_of k)) x.files ≡ Some f
-      → stream_at j k y ≡ Requested f.number → StreamMoves entry l items j k x y
+      (f : WholeFile) → Sends entry l x y → sender_on j k x ≡ Idle → find (may_go (goes_by entry l) (kind_of k)) x.files ≡ Some f
+      → sender_on j k y ≡ Requested f.number → StreamMoves entry l items j k x y
   -- A0 to one that asked: its place is 0
   permitted :
-      (i : Item) (streams n : ℕ) → Contains items i → Tells 0xa0 streams k i → stream_at j k x ≡ Requested n
-      → stream_at j k y ≡ Sending n 0 → StreamMoves entry l items j k x y
+      (i : Item) (streams n : ℕ) → Contains items i → Tells 0xa0 streams k i → sender_on j k x ≡ Requested n
+      → sender_on j k y ≡ Sending n 0 → StreamMoves entry l items j k x y
   -- the record at its place goes out, and the next is behind it
   goes_on :
-      (n place : ℕ) (r : Stored) → Sends entry l x y → stream_at j k x ≡ Sending n place → record_numbered n place x ≡ Some r
-      → stream_at j k y ≡ Sending n (place + 1) → StreamMoves entry l items j k x y
+      (n place : ℕ) (r : Stored) → Sends entry l x y → sender_on j k x ≡ Sending n place → record_numbered n place x ≡ Some r
+      → sender_on j k y ≡ Sending n (place + 1) → StreamMoves entry l items j k x y
   -- there is none at its place: the end of file goes out
   ends :
-      (n place : ℕ) → Sends entry l x y → stream_at j k x ≡ Sending n place → record_numbered n place x ≡ None
-      → stream_at j k y ≡ EofSent n → StreamMoves entry l items j k x y
+      (n place : ℕ) → Sends entry l x y → sender_on j k x ≡ Sending n place → record_numbered n place x ≡ None
+      → sender_on j k y ≡ EofSent n → StreamMoves entry l items j k x y
 
 -- by new routes none moves
 abbrev pub StreamMovesBy : CustomerEntry → Coming → ℕ → ℕ → Outgoing → Outgoing → Type 0
 StreamMovesBy entry (Records l items) j k x y = (up : List Bool) × StreamMoves (with_marks up entry) l items j k x y
-StreamMovesBy entry (Routes routes) j k x y = stream_at j k y ≡ stream_at j k x
+StreamMovesBy entry (Routes routes) j k x y = sender_on j k y ≡ sender_on j k x
 
 abbrev pub StreamsMoveSo : Type 0
 StreamsMoveSo =
@@ -134,7 +134,7 @@ StreamsMoveSo =
 abbrev pub IdleStreamsTakeFiles : Type 0
 IdleStreamsTakeFiles =
     (entry : CustomerEntry) (came : Coming) (x y : Outgoing) (j k n : ℕ) → MovesBy entry came x y
-    → file_in (stream_at j k y) ≡ Some n → (file_in (stream_at j k x) ≡ Some n) ⊎ (stream_at j k x ≡ Idle)
+    → file_in (sender_on j k y) ≡ Some n → (file_in (sender_on j k x) ≡ Some n) ⊎ (sender_on j k x ≡ Idle)
 
 -- ---- what becomes of a file's records
 
@@ -149,14 +149,14 @@ pub data FileMoves (entry : CustomerEntry) (items : List Item) (x : Outgoing) (g
       → FileMoves entry items x g
   rerouted :
       (i : Item) (who : List ℕ × List ℕ) (name : List ℕ × ℕ) (node : List ℕ) (f : WholeFile) → Contains items i
-      → Commands entry who (Reroute name node) i → Contains x.files f → chosen who name f ≡ true → is_sending f.state ≡ false
-      → g.number ≡ f.number → g.kind ≡ f.kind → length node ≡ 8 → g.records ≡ redirected f.kind node None f.records
+      → Commands entry who (Reroute name node) i → Contains x.files f → is_of_name who name f ≡ true → is_sending f.state ≡ false
+      → g.number ≡ f.number → g.kind ≡ f.kind → length node ≡ 8 → g.records ≡ records_to_node f.kind node None f.records
       → FileMoves entry items x g
 
 -- By new routes a file is what it was; or it was Ready or Refused, its node has no route now, and it is Held.
 pub data RoutesMoveFile (entry : CustomerEntry) (x : Outgoing) (g : WholeFile) : Type 0 where
   is_as_before : Contains x.files g → has_lost_route entry g ≡ false → RoutesMoveFile entry x g
-  is_held : (f : WholeFile) → Contains x.files f → has_lost_route entry f ≡ true → g ≡ held f → RoutesMoveFile entry x g
+  is_held : (f : WholeFile) → Contains x.files f → has_lost_route entry f ≡ true → g ≡ held_file f → RoutesMoveFile entry x g
 
 abbrev pub FileMovesBy : CustomerEntry → Coming → Outgoing → WholeFile → Type 0
 FileMovesBy entry (Records l items) x g = (up : List Bool) × FileMoves (with_marks up entry) items x g

@@ -15,18 +15,18 @@ entry_with routes entry = record entry { routes = routes }
 
 -- Its files that are Ready or Refused and whose node has no route now are Held. All else stays: the files that are
 -- being sent, the partial files, which were judged by the routes that there were, and what waits on its lines.
-abbrev pub given : List RouteEntry → Customer → Customer
-given routes c =
+abbrev pub customer_with_routes : List RouteEntry → Customer → Customer
+customer_with_routes routes c =
     let entry = entry_with routes c.entry in
     record c { entry = entry; spool = unrouted_held entry c.spool }
 
 -- and of no line what has come of its next frame
-abbrev pub routes_taken : List RouteEntry → Part → Part
-routes_taken routes p = record p { customer = given routes p.customer }
+abbrev pub part_after_routes : List RouteEntry → Part → Part
+part_after_routes routes p = record p { customer = customer_with_routes routes p.customer }
 
 -- Routes that are given are the customer's from then on, where there is no fault in them; else nothing changes.
 abbrev pub taken_where : Walked (Unit {0}) → List NewRoute → Part → Part
-taken_where (Ok faultless) routes p = routes_taken (taken_routes routes) p
+taken_where (Ok faultless) routes p = part_after_routes (taken_routes routes) p
 taken_where (Err fault) routes p = p
 
 abbrev pub routes_given : List NewRoute → Part → Part

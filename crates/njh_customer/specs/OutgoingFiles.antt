@@ -26,14 +26,14 @@ abbrev pub streams_of : ℕ → Outgoing → List Sender
 streams_of l x = slice_index_or x.streams l []
 
 -- stream k of line l
-abbrev pub stream_at : ℕ → ℕ → Outgoing → Sender
-stream_at l k x = slice_index_or (streams_of l x) k Idle
+abbrev pub sender_on : ℕ → ℕ → Outgoing → Sender
+sender_on l k x = slice_index_or (streams_of l x) k Idle
 
 abbrev pub with_streams : ℕ → List Sender → Outgoing → Outgoing
 with_streams l senders x = record x { streams = slice_set x.streams l senders }
 
-abbrev pub with_stream : ℕ → ℕ → Sender → Outgoing → Outgoing
-with_stream l k s x = with_streams l (slice_set (streams_of l x) k s) x
+abbrev pub with_sender_on : ℕ → ℕ → Sender → Outgoing → Outgoing
+with_sender_on l k s x = with_streams l (slice_set (streams_of l x) k s) x
 
 -- all streams of all lines
 abbrev pub each_stream : (Sender → Sender) → Outgoing → Outgoing
@@ -57,9 +57,9 @@ abbrev pub record_numbered : ℕ → ℕ → Outgoing → Option Stored
 record_numbered n place x = slice_get (records_numbered n x) place
 
 -- the files, with the one of a number in a state
-abbrev pub marked : ℕ → State → List WholeFile → List WholeFile
-marked n state files = map (λ f. cond (f.number == n) (record f { state = state }) f) files
+abbrev pub with_file_state : ℕ → State → List WholeFile → List WholeFile
+with_file_state n state files = map (λ f. cond (f.number == n) (record f { state = state }) f) files
 
 -- the files without the one of a number
-abbrev pub without : ℕ → List WholeFile → List WholeFile
-without n files = filter (λ f. not (f.number == n)) files
+abbrev pub without_numbered : ℕ → List WholeFile → List WholeFile
+without_numbered n files = filter (λ f. not (f.number == n)) files

@@ -5,7 +5,7 @@ use Rattle.njh_table.specs.Entries.{CustomerEntry}
 use Rattle.njh_spool.specs.CustomerSpool.{CustomerSpool}
 use Rattle.njh_customer.specs.declared.signal.Signal.{Signal}
 use Rattle.njh_customer.specs.Customer.{Customer, CustomerLine, customer_with, fresh_customer}
-use Rattle.njh_customer.specs.Alone.{signal_came}
+use Rattle.njh_customer.specs.Alone.{after_signal}
 use Rattle.njh_customer.specs.Feeding.{take_step}
 
 pub record Part : Type 0 where
@@ -13,8 +13,8 @@ pub record Part : Type 0 where
   pub customer : Customer
 
 -- a part of a hub that was just opened
-abbrev pub opened : CustomerEntry → Part
-opened entry = record { rests = map (λ line. Nothing) entry.lines; customer = fresh_customer entry }
+abbrev pub part_at_open : CustomerEntry → Part
+part_at_open entry = record { rests = map (λ line. Nothing) entry.lines; customer = fresh_customer entry }
 
 -- a customer's lines, and of each what has come of its next frame
 pub record Lines : Type 0 where
@@ -40,8 +40,8 @@ pub record Taken : Type 0 where
   pub frame : List ℕ
   pub taken : ℕ
 
-abbrev pub bytes_taken : Part → ℕ → List ℕ → Taken
-bytes_taken p l piece =
+abbrev pub part_after_bytes : Part → ℕ → List ℕ → Taken
+part_after_bytes p l piece =
     let t = take_step (rest_on l p) p.customer l piece in
     record { after = record { rests = with_rest l t.rest p; customer = t.after }; frame = t.frame; taken = t.taken }
 
@@ -51,7 +51,7 @@ pub record Signalled : Type 0 where
   pub frame : List ℕ
 
 -- it drops a frame that isn't whole
-abbrev pub signal_taken : Part → ℕ → Signal → Signalled
-signal_taken p l signal =
-    let x = signal_came l signal p.customer in
+abbrev pub part_after_signal : Part → ℕ → Signal → Signalled
+part_after_signal p l signal =
+    let x = after_signal l signal p.customer in
     record { after = record { rests = with_rest l Nothing p; customer = x.after }; frame = x.frame }

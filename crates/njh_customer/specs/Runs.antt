@@ -4,7 +4,7 @@ use Rattle.njh_table.specs.NewRoutes.{NewRoute}
 use Rattle.njh_customer.specs.declared.signal.Signal.{Signal}
 use Rattle.njh_customer.specs.Feeding.{bytes_run, sent_on}
 use Rattle.njh_customer.specs.NewRoutes.{routes_given}
-use Rattle.njh_customer.specs.Part.{Part, rest_on, with_rest, signal_taken}
+use Rattle.njh_customer.specs.Part.{Part, rest_on, with_rest, part_after_signal}
 
 -- an event on a line, by the line's number within its customer, or new routes for the customer
 pub data OwnEvent : Type 0 where
@@ -21,7 +21,7 @@ event_run p (OwnBytes l piece) =
     let r = bytes_run (rest_on l p) p.customer l piece in
     record { after = record { rests = with_rest l r.rest p; customer = r.after }; sent = r.sent }
 event_run p (OwnSignal signal l) =
-    let x = signal_taken p l signal in
+    let x = part_after_signal p l signal in
     record { after = x.after; sent = sent_on l x.frame }
 event_run p (OwnRoutes routes) = record { after = routes_given routes p; sent = [] }
 

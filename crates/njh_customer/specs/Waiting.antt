@@ -10,28 +10,28 @@ use Rattle.njh_line.specs.Lines.{with_answer, with_message}
 use Rattle.njh_customer.specs.Customer.{CustomerLine, on_line, in_state}
 
 -- an answer waits on a line
-abbrev pub answered : ℕ → Option Answer → List CustomerLine → List CustomerLine
-answered l None lines = lines
-answered l (Some a) lines = on_line l (in_state (with_answer a)) lines
+abbrev pub with_answer_on : ℕ → Option Answer → List CustomerLine → List CustomerLine
+with_answer_on l None lines = lines
+with_answer_on l (Some a) lines = on_line l (in_state (with_answer a)) lines
 
 -- a nodal message waits on a line
-abbrev pub waits : ℕ → List ℕ → List CustomerLine → List CustomerLine
-waits l m lines = on_line l (in_state (with_message m)) lines
+abbrev pub with_waiting : ℕ → List ℕ → List CustomerLine → List CustomerLine
+with_waiting l m lines = on_line l (in_state (with_message m)) lines
 
 -- a nodal message goes by a route, and is dropped where that is no line
 abbrev pub goes : Route → List ℕ → List CustomerLine → List CustomerLine
 goes Here m lines = lines
-goes (Line k) m lines = waits k m lines
+goes (Line k) m lines = with_waiting k m lines
 goes Unknown m lines = lines
 
 -- what the hub says to a user at a node
-abbrev pub said : CustomerEntry → List ℕ × List ℕ → List ℕ → List CustomerLine → List CustomerLine
-said entry whom text lines = goes (route_of entry whom.0) (notice_record entry.hub whom text) lines
+abbrev pub with_message_to : CustomerEntry → List ℕ × List ℕ → List ℕ → List CustomerLine → List CustomerLine
+with_message_to entry whom text lines = goes (route_of entry whom.0) (notice_record entry.hub whom text) lines
 
 abbrev pub all_said : CustomerEntry → List ℕ × List ℕ → List (List ℕ) → List CustomerLine → List CustomerLine
 all_said entry whom [] lines = lines
-all_said entry whom (t ∷ ts) lines = all_said entry whom ts (said entry whom t lines)
+all_said entry whom (t ∷ ts) lines = all_said entry whom ts (with_message_to entry whom t lines)
 
-abbrev pub notified : CustomerEntry → Option Notice → List CustomerLine → List CustomerLine
-notified entry None lines = lines
-notified entry (Some n) lines = said entry n.whom n.text lines
+abbrev pub with_notice_to : CustomerEntry → Option Notice → List CustomerLine → List CustomerLine
+with_notice_to entry None lines = lines
+with_notice_to entry (Some n) lines = with_message_to entry n.whom n.text lines

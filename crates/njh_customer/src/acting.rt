@@ -4,8 +4,8 @@ ghost use Rattle.std.specs.Prelude.{◌≡◌, ◌<◌, ◌≤◌, ℕ, List, le
 ghost use Rattle.njh_block.specs.Blocks.{control_byte, stream_number, stream_of};
 ghost use Rattle.njh_header.specs.Texts.{node_unknown};
 ghost use Rattle.njh_nmr.specs.Nodal.{cut_after_message, record_of};
-ghost use Rattle.njh_block.specs.ItemViews.{shown};
-ghost use Rattle.njh_spool.specs.Spools.{part};
+ghost use Rattle.njh_block.specs.ItemViews.{given_item};
+ghost use Rattle.njh_spool.specs.Spools.{spool_at};
 ghost use Rattle.njh_stream.specs.Arrivals.{IsShort, arrival_of};
 ghost use Rattle.njh_stream.specs.Receiving as receiving;
 ghost use Rattle.njh_stream.specs.Sending as sending;
@@ -13,7 +13,7 @@ ghost use Rattle.njh_table.specs.TableFile.{entry_of};
 ghost use Rattle.njh_customer.specs.Acting as acting;
 ghost use Rattle.njh_customer.specs.Customer.{line_at, on_line, sender_at, with_sender};
 ghost use Rattle.njh_customer.specs.CustomerSteps.{IsReady, Leads, customer_of};
-ghost use Rattle.njh_customer.specs.Waiting.{said, waits};
+ghost use Rattle.njh_customer.specs.Waiting.{with_message_to, with_waiting};
 
 use crate::customer_lines::CustomerLines;
 use njh_block::{Answer, Block, ControlRcb, Item, Rcb, Stream};
@@ -37,7 +37,7 @@ fn arrive(
     requires ready { IsReady tables.now line spool.old lines.old }
     requires short { IsShort (arrival_of arrival) }
     ensures { Leads tables.now line.customer spool.old spool.new lines.new
-        (acting.arrived line.line stream (arrival_of arrival.entry) (customer_of tables.now line.customer spool.old lines.old)) }
+        (acting.after_stream_arrival line.line stream (arrival_of arrival.entry) (customer_of tables.now line.customer spool.old lines.old)) }
 {
     let mut receiver = lines.line(line.line).receiver(stream);
     let step = receiver.step(arrival, stream, line, tables, spool);
@@ -59,7 +59,7 @@ fn arrive_where(
     requires ready { IsReady tables.now line spool.old lines.old }
     requires short { IsShort (arrival_of arrival) }
     ensures { Leads tables.now line.customer spool.old spool.new lines.new
-        (acting.stream_came line.line stream (arrival_of arrival.entry) (customer_of tables.now line.customer spool.old lines.old)) }
+        (acting.after_stream_record line.line stream (arrival_of arrival.entry) (customer_of tables.now line.customer spool.old lines.old)) }
 {
     if let Some(stream) = stream {
         arrive(line, stream, arrival, tables, spool, lines);
@@ -85,7 +85,7 @@ fn take_answer(
 )
     requires ready { IsReady tables.now line spool.old lines.old }
     ensures { Leads tables.now line.customer spool.old spool.new lines.new
-        (acting.answer_came line.line (control_byte rcb) stream (customer_of tables.now line.customer spool.old lines.old)) }
+        (acting.after_peer_answer line.line (control_byte rcb) stream (customer_of tables.now line.customer spool.old lines.old)) }
 {
     let mut sender = lines.line(line.line).sender(stream);
     match rcb {
@@ -116,7 +116,7 @@ fn take_control(
 )
     requires ready { IsReady tables.now line spool.old lines.old }
     ensures { Leads tables.now line.customer spool.old spool.new lines.new
-        (acting.control_came line.line (control_byte rcb) named.byte (customer_of tables.now line.customer spool.old lines.old)) }
+        (acting.after_control_record line.line (control_byte rcb) named.byte (customer_of tables.now line.customer spool.old lines.old)) }
 {
     let stream = stream_at(line.line, named, lines);
     match rcb {
@@ -144,7 +144,7 @@ fn take_request(
 )
     requires ready { IsReady tables.now line spool.old lines.old }
     ensures { Leads tables.now line.customer spool.old spool.new lines.new
-        (acting.request_came line.line named.byte stream (customer_of tables.now line.customer spool.old lines.old)) }
+        (acting.after_stream_request line.line named.byte stream (customer_of tables.now line.customer spool.old lines.old)) }
 {
     match stream {
         Some(stream) => arrive(line, stream, Arrival::Request, tables, spool, lines),
@@ -176,7 +176,7 @@ fn take_message(
 )
     requires ready { IsReady tables.now line spool.old lines.old }
     ensures { Leads tables.now line.customer spool.old spool.new lines.new
-        (acting.message_came line.line bytes.now (customer_of tables.now line.customer spool.old lines.old)) }
+        (acting.after_message line.line bytes.now (customer_of tables.now line.customer spool.old lines.old)) }
 {
     match Nmr::read(bytes) {
         Ok(message) => {
@@ -223,7 +223,7 @@ fn route_message(
 
 /// A nodal message waits on another line, as it came.
 fn pass_on(other: u16, message: &Nmr, lines: &mut CustomerLines)
-    ensures { lines.new ≡ waits other (record_of message.now) lines.old }
+    ensures { lines.new ≡ with_waiting other (record_of message.now) lines.old }
 {
     let mut record = Record::new();
     message.write(&mut record);
@@ -233,7 +233,7 @@ fn pass_on(other: u16, message: &Nmr, lines: &mut CustomerLines)
 /// The sender of a command is told that nobody has its node.
 fn tell_unknown(customer: &Customer, message: &Nmr, lines: &mut CustomerLines)
     ensures { lines.new
-        ≡ said (entry_of customer.now) (message.now.origin, message.now.user) (node_unknown message.now.to) lines.old }
+        ≡ with_message_to (entry_of customer.now) (message.now.origin, message.now.user) (node_unknown message.now.to) lines.old }
 {
     let text = node_unknown(message.to());
     lines.say(customer, message.origin(), message.user(), &text);
@@ -251,7 +251,7 @@ fn command(
     requires known { customer < length tables.now.customers }
     requires spooled { customer < length spool.old }
     ensures { Leads tables.now customer spool.old spool.new lines.new
-        (acting.command_came message.now (customer_of tables.now customer spool.old lines.old)) }
+        (acting.after_user_command message.now (customer_of tables.now customer spool.old lines.old)) }
 {
     let node = message.origin();
     let user = message.user();
@@ -281,7 +281,7 @@ fn act(
     requires ready { IsReady tables.now line spool.old lines.old }
     requires short { length bytes.now ≤ 256 }
     ensures { Leads tables.now line.customer spool.old spool.new lines.new
-        (acting.acted line.line (shown bytes.now item.entry) (customer_of tables.now line.customer spool.old lines.old)) }
+        (acting.after_record line.line (given_item bytes.now item.entry) (customer_of tables.now line.customer spool.old lines.old)) }
 {
     match item {
         Item::Data { rcb, srcb } => {
@@ -317,7 +317,7 @@ fn act(
 /// Whether a record ends the session: a count that the peer didn't expect, a sign-on I, J or K, or the sign-off B (IBM
 /// SC23-0070, "Multileaving").
 fn ends_session(item: &Item<'_>) -> bool
-    ensures { (bytes : List ℕ) → result ≡ acting.ends_session (shown bytes item.now) }
+    ensures { (bytes : List ℕ) → result ≡ acting.ends_session (given_item bytes item.now) }
 {
     match item {
         Item::Control { rcb, .. } => *rcb == ControlRcb::SequenceError,
@@ -339,7 +339,7 @@ fn act_one(
     requires ready { IsReady tables.now line spool.old lines.old }
     requires short { length bytes.now ≤ 256 }
     ensures after { Leads tables.now line.customer spool.old spool.new lines.new
-        (acting.acted line.line (shown bytes.now item.entry) (customer_of tables.now line.customer spool.old lines.old)) }
+        (acting.after_record line.line (given_item bytes.now item.entry) (customer_of tables.now line.customer spool.old lines.old)) }
     ensures ready { IsReady tables.now line spool.new lines.new }
 {
     streams_stay_tied();

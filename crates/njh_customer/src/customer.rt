@@ -4,8 +4,8 @@
 ghost use Rattle.std.specs.Prelude.{◌≡◌, ◌<◌, ◌&&◌, length, not};
 ghost use Rattle.std.specs.Option.{option_map};
 ghost use Rattle.njh_customer.specs.Feeding.{acted_on};
-ghost use Rattle.njh_bisync.specs.LentFrames.{received};
-ghost use Rattle.njh_line.specs.LineTable.{shown};
+ghost use Rattle.njh_bisync.specs.LentFrames.{received_of};
+ghost use Rattle.njh_line.specs.LineTable.{input_value};
 ghost use Rattle.njh_table.specs.TableFile.{HasLine, customer_at, entry_of};
 ghost use Rattle.njh_customer.specs.Acting.{acted_where};
 ghost use Rattle.njh_customer.specs.Alone as alone;
@@ -36,9 +36,9 @@ pub(crate) fn take_frame(
 )
     requires ready { IsReady tables.old line spool.old lines.old }
     ensures after { Brings tables.old tables.new line.customer spool.old spool.new lines.new
-        (acted_on line.line (option_map received frame.entry) (customer_of tables.old line.customer spool.old lines.old)).after }
+        (acted_on line.line (option_map received_of frame.entry) (customer_of tables.old line.customer spool.old lines.old)).after }
     ensures frame { out.new
-        ≡ (acted_on line.line (option_map received frame.entry) (customer_of tables.old line.customer spool.old lines.old)).frame }
+        ≡ (acted_on line.line (option_map received_of frame.entry) (customer_of tables.old line.customer spool.old lines.old)).frame }
     ensures ready { IsReady tables.new line spool.new lines.new }
     ensures count { length lines.new ≡ length lines.old }
 {
@@ -58,9 +58,9 @@ pub(crate) fn take_signal(
 )
     requires ready { IsReady tables.old line spool.old lines.old }
     ensures after { Brings tables.old tables.new line.customer spool.old spool.new lines.new
-        (alone.signal_came line.line signal (customer_of tables.old line.customer spool.old lines.old)).after }
+        (alone.after_signal line.line signal (customer_of tables.old line.customer spool.old lines.old)).after }
     ensures frame { out.new
-        ≡ (alone.signal_came line.line signal (customer_of tables.old line.customer spool.old lines.old)).frame }
+        ≡ (alone.after_signal line.line signal (customer_of tables.old line.customer spool.old lines.old)).frame }
     ensures ready { IsReady tables.new line spool.new lines.new }
     ensures count { length lines.new ≡ length lines.old }
 {
@@ -69,7 +69,7 @@ pub(crate) fn take_signal(
 }
 
 /// A frame comes on a line, where one is whole.
-#[tactic(auto, unfolding(crate::specs::Alone::frame_came))]
+#[tactic(auto, unfolding(crate::specs::Alone::after_frame))]
 fn frame_came(
     line: LineId,
     frame: Option<Frame<'_>>,
@@ -82,9 +82,9 @@ fn frame_came(
 )
     requires ready { IsReady tables.old line spool.old lines.old }
     ensures after { Brings tables.old tables.new line.customer spool.old spool.new lines.new
-        (acted_on line.line (option_map received frame.entry) (customer_of tables.old line.customer spool.old lines.old)).after }
+        (acted_on line.line (option_map received_of frame.entry) (customer_of tables.old line.customer spool.old lines.old)).after }
     ensures frame { out.new
-        ≡ (acted_on line.line (option_map received frame.entry) (customer_of tables.old line.customer spool.old lines.old)).frame }
+        ≡ (acted_on line.line (option_map received_of frame.entry) (customer_of tables.old line.customer spool.old lines.old)).frame }
 {
     match frame {
         None => out.clear(),
@@ -101,7 +101,7 @@ fn frame_came(
 }
 
 /// A signal comes on a line.
-#[tactic(auto, unfolding(crate::specs::Alone::signal_came))]
+#[tactic(auto, unfolding(crate::specs::Alone::after_signal))]
 fn signal_came(
     line: LineId,
     signal: Signal,
@@ -113,9 +113,9 @@ fn signal_came(
 )
     requires ready { IsReady tables.old line spool.old lines.old }
     ensures after { Brings tables.old tables.new line.customer spool.old spool.new lines.new
-        (alone.signal_came line.line signal (customer_of tables.old line.customer spool.old lines.old)).after }
+        (alone.after_signal line.line signal (customer_of tables.old line.customer spool.old lines.old)).after }
     ensures frame { out.new
-        ≡ (alone.signal_came line.line signal (customer_of tables.old line.customer spool.old lines.old)).frame }
+        ≡ (alone.after_signal line.line signal (customer_of tables.old line.customer spool.old lines.old)).frame }
 {
     let verdict = accept_signal(line, signal, tables, spool, lines);
     carry_out(line, verdict, tables, spool, lines, block, out);
@@ -157,9 +157,9 @@ fn input_came(
 )
     requires ready { IsReady tables.old line spool.old lines.old }
     ensures after { Brings tables.old tables.new line.customer spool.old spool.new lines.new
-        (alone.input_came line.line (shown input.now) (customer_of tables.old line.customer spool.old lines.old)).after }
+        (alone.after_line_input line.line (input_value input.now) (customer_of tables.old line.customer spool.old lines.old)).after }
     ensures frame { out.new
-        ≡ (alone.input_came line.line (shown input.now) (customer_of tables.old line.customer spool.old lines.old)).frame }
+        ≡ (alone.after_line_input line.line (input_value input.now) (customer_of tables.old line.customer spool.old lines.old)).frame }
 {
     let verdict = accept(line, input, tables, spool, lines);
     carry_out(line, verdict, tables, spool, lines, block, out);
@@ -174,9 +174,9 @@ fn accept(
     lines: &mut CustomerLines,
 ) -> Verdict
     requires ready { IsReady tables.old line spool.now lines.old }
-    ensures verdict { result ≡ alone.verdict_on line.line (shown input.now) (customer_of tables.old line.customer spool.now lines.old) }
+    ensures verdict { result ≡ alone.verdict_on line.line (input_value input.now) (customer_of tables.old line.customer spool.now lines.old) }
     ensures after { customer_of tables.new line.customer spool.now lines.new
-        ≡ alone.accepted_on line.line (shown input.now) (customer_of tables.old line.customer spool.now lines.old) }
+        ≡ alone.accepted_on line.line (input_value input.now) (customer_of tables.old line.customer spool.now lines.old) }
     ensures entries { IsRetold line.customer tables.old tables.new }
     ensures ready { IsReady tables.new line spool.now lines.new }
 {
@@ -200,7 +200,7 @@ fn raise(line: LineId, goes_up: bool, tables: &mut Tables)
     requires known { line.customer < length tables.old.customers }
     requires line { HasLine tables.old line }
     ensures entry { entry_of (customer_at tables.new line.customer)
-        ≡ alone.raised goes_up line.line (entry_of (customer_at tables.old line.customer)) }
+        ≡ alone.with_raised_line goes_up line.line (entry_of (customer_at tables.old line.customer)) }
     ensures entries { IsRetold line.customer tables.old tables.new }
 {
     marks_change_one_entry();
@@ -222,9 +222,9 @@ fn block_came(
 )
     requires ready { IsReady tables.old line spool.old lines.old }
     ensures after { Brings tables.old tables.new line.customer spool.old spool.new lines.new
-        (alone.block_came line.line read.entry (customer_of tables.old line.customer spool.old lines.old)).after }
+        (alone.after_block line.line read.entry (customer_of tables.old line.customer spool.old lines.old)).after }
     ensures frame { out.new
-        ≡ (alone.block_came line.line read.entry (customer_of tables.old line.customer spool.old lines.old)).frame }
+        ≡ (alone.after_block line.line read.entry (customer_of tables.old line.customer spool.old lines.old)).frame }
 {
     let input = Input::Block {
         bcb: read.bcb(),

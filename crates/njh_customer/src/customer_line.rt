@@ -2,17 +2,17 @@
 
 ghost use Rattle.std.specs.Prelude.{◌≡◌, ◌≤◌, ◌<◌, IfOk, length, slice_set};
 ghost use Rattle.njh_line.specs.Sessions.{IsConfig};
-ghost use Rattle.njh_line.specs.LineTable.{accepted, shown};
+ghost use Rattle.njh_line.specs.LineTable.{table_outcome, input_value};
 ghost use Rattle.njh_line.specs.Laws as laws;
 ghost use Rattle.njh_line.specs.Lines as lines;
 ghost use Rattle.njh_command.specs.Commands.{without_file};
 ghost use Rattle.njh_customer.specs.Acting.{with_senders_by};
 ghost use Rattle.njh_customer.specs.Alone.{quiet, spool_over};
-ghost use Rattle.njh_spool.specs.Spools.{part};
+ghost use Rattle.njh_spool.specs.Spools.{spool_at};
 ghost use Rattle.njh_sched.specs.Tight.{own_fcs};
 ghost use Rattle.njh_table.specs.TableFile.{customer_at, entry_of};
-ghost use Rattle.njh_customer.specs.Sending.{next_sent, reply_sent};
-ghost use Rattle.njh_customer.specs.Customer.{quiet_line, in_state, noted, receiver_at, with_receiver, sender_at};
+ghost use Rattle.njh_customer.specs.Sending.{sending_of_next, sending_of_reply};
+ghost use Rattle.njh_customer.specs.Customer.{quiet_line, in_state, with_notice, receiver_at, with_receiver, sender_at};
 ghost use Rattle.njh_customer.specs.Customer.{with_sender};
 
 use crate::frame_buffer::FrameBuffer;
@@ -106,7 +106,7 @@ impl CustomerLine {
 
     /// Keeps what the owner of a file that came on a stream was told, up to the next file that opens there.
     pub(crate) fn note(&mut self, stream: Stream, receiver: Receiver, notice: Option<Notice>)
-        ensures { self.new ≡ noted stream receiver notice self.old }
+        ensures { self.new ≡ with_notice stream receiver notice self.old }
     {
         match notice {
             Some(notice) => self.notices[usize::from(stream.place())] = Some(notice),
@@ -178,8 +178,8 @@ impl CustomerLine {
 
     /// Decides by the line table what an input does.
     pub(crate) fn accept(&mut self, input: &Input<'_>) -> Verdict
-        ensures verdict { result ≡ (accepted self.old.state.config (shown input.now) self.old.state.session).verdict }
-        ensures line { self.new ≡ in_state (lines.after_input (shown input.now)) self.old }
+        ensures verdict { result ≡ (table_outcome self.old.state.config (input_value input.now) self.old.state.session).verdict }
+        ensures line { self.new ≡ in_state (lines.after_input (input_value input.now)) self.old }
     {
         self.line.accept(input)
     }
@@ -217,12 +217,12 @@ impl CustomerLine {
     )
         requires known { line.customer < length tables.now.customers }
         requires spooled { line.customer < length spool.old }
-        requires quota { (customer_at tables.now line.customer).quota ≡ (part line.customer spool.old).quota }
-        ensures line { self.new ≡ (reply_sent (entry_of (customer_at tables.now line.customer)) line.line reply (part line.customer spool.old) self.old).line }
+        requires quota { (customer_at tables.now line.customer).quota ≡ (spool_at line.customer spool.old).quota }
+        ensures line { self.new ≡ (sending_of_reply (entry_of (customer_at tables.now line.customer)) line.line reply (spool_at line.customer spool.old) self.old).line }
         ensures spool { spool.new ≡ slice_set spool.old line.customer
-            (reply_sent (entry_of (customer_at tables.now line.customer)) line.line reply (part line.customer spool.old) self.old).spool }
+            (sending_of_reply (entry_of (customer_at tables.now line.customer)) line.line reply (spool_at line.customer spool.old) self.old).spool }
         ensures frame { out.new
-            ≡ (reply_sent (entry_of (customer_at tables.now line.customer)) line.line reply (part line.customer spool.old) self.old).frame }
+            ≡ (sending_of_reply (entry_of (customer_at tables.now line.customer)) line.line reply (spool_at line.customer spool.old) self.old).frame }
     {
         match reply {
             Reply::Nothing => out.clear(),
@@ -253,12 +253,12 @@ impl CustomerLine {
     )
         requires known { line.customer < length tables.now.customers }
         requires spooled { line.customer < length spool.old }
-        requires own { fcs ≡ own_fcs (part line.customer spool.old) }
-        ensures line { self.new ≡ (next_sent (entry_of (customer_at tables.now line.customer)) line.line or_ack0 (part line.customer spool.old) self.old).line }
+        requires own { fcs ≡ own_fcs (spool_at line.customer spool.old) }
+        ensures line { self.new ≡ (sending_of_next (entry_of (customer_at tables.now line.customer)) line.line or_ack0 (spool_at line.customer spool.old) self.old).line }
         ensures spool { spool.new ≡ slice_set spool.old line.customer
-            (next_sent (entry_of (customer_at tables.now line.customer)) line.line or_ack0 (part line.customer spool.old) self.old).spool }
+            (sending_of_next (entry_of (customer_at tables.now line.customer)) line.line or_ack0 (spool_at line.customer spool.old) self.old).spool }
         ensures frame { out.new
-            ≡ (next_sent (entry_of (customer_at tables.now line.customer)) line.line or_ack0 (part line.customer spool.old) self.old).frame }
+            ≡ (sending_of_next (entry_of (customer_at tables.now line.customer)) line.line or_ack0 (spool_at line.customer spool.old) self.old).frame }
     {
         begin_block(&self.line, fcs, block);
         fill(self, line, spool, tables, block);
@@ -272,7 +272,7 @@ impl CustomerLine {
         requires spooled { line.customer < length spool.old }
         ensures line { self.new ≡ quiet self.old }
         ensures spool { spool.new ≡ slice_set spool.old line.customer
-            (spool_over (entry_of (customer_at tables.now line.customer)) line.line self.old (part line.customer spool.old)) }
+            (spool_over (entry_of (customer_at tables.now line.customer)) line.line self.old (spool_at line.customer spool.old)) }
     {
         end_senders(&mut self.senders, line.customer, spool);
         retry_refused(
@@ -288,11 +288,11 @@ impl CustomerLine {
 }
 
 impl Outgoing for CustomerLine {
-    ghost use Rattle.njh_customer.specs.Sending.{emptied, outlet_of};
+    ghost use Rattle.njh_customer.specs.Sending.{without_queues, outlet_of};
 
     ghost outlet = { outlet_of };
 
-    ghost rest = { emptied };
+    ghost rest = { without_queues };
 
     fn streams(&self) -> u8 {
         self.streams

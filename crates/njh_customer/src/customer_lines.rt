@@ -6,15 +6,15 @@ ghost use Rattle.njh_stream.specs.declared.sender.Sender.{Sender};
 ghost use Rattle.njh_nmr.specs.Nodal.{notice_record};
 ghost use Rattle.njh_table.specs.TableFile.{entry_of};
 ghost use Rattle.njh_command.specs.Commands.{without_file};
-ghost use Rattle.njh_customer.specs.Acting.{given_up, with_senders_by};
+ghost use Rattle.njh_customer.specs.Acting.{without_sending, with_senders_by};
 ghost use Rattle.njh_customer.specs.Alone.{replied_to, session_closed, signal_input};
-ghost use Rattle.njh_line.specs.LineTable.{accepted, shown};
+ghost use Rattle.njh_line.specs.LineTable.{table_outcome, input_value};
 ghost use Rattle.njh_line.specs.Laws.{is_up};
 ghost use Rattle.njh_line.specs.Lines.{after_end, after_input};
 ghost use Rattle.njh_customer.specs.CustomerSteps.{IsReady, Leads, customer_of};
-ghost use Rattle.njh_customer.specs.Customer.{in_state, line_at, noted, on_line, receiver_at, with_receiver, sender_at};
+ghost use Rattle.njh_customer.specs.Customer.{in_state, line_at, with_notice, on_line, receiver_at, with_receiver, sender_at};
 ghost use Rattle.njh_customer.specs.Customer.{with_sender};
-ghost use Rattle.njh_customer.specs.Waiting.{all_said, answered, goes, notified, said, waits};
+ghost use Rattle.njh_customer.specs.Waiting.{all_said, with_answer_on, goes, with_notice_to, with_message_to, with_waiting};
 
 use crate::customer_line::CustomerLine;
 use crate::frame_buffer::FrameBuffer;
@@ -106,8 +106,8 @@ impl CustomerLines {
     /// Decides by the line table what an input does.
     pub(crate) fn accept(&mut self, line: u16, input: &Input<'_>) -> Verdict
         requires { line < length self.old }
-        ensures verdict { result ≡ (accepted (line_at line self.old).state.config (shown input.now) (line_at line self.old).state.session).verdict }
-        ensures lines { self.new ≡ on_line line (in_state (after_input (shown input.now))) self.old }
+        ensures verdict { result ≡ (table_outcome (line_at line self.old).state.config (input_value input.now) (line_at line self.old).state.session).verdict }
+        ensures lines { self.new ≡ on_line line (in_state (after_input (input_value input.now))) self.old }
     {
         self.lines[usize::from(line)].accept(input)
     }
@@ -116,7 +116,7 @@ impl CustomerLines {
     pub(crate) fn accept_signal(&mut self, line: u16, signal: Signal) -> Verdict
         requires { line < length self.old }
         ensures verdict { result
-            ≡ (accepted (line_at line self.old).state.config (signal_input signal) (line_at line self.old).state.session).verdict }
+            ≡ (table_outcome (line_at line self.old).state.config (signal_input signal) (line_at line self.old).state.session).verdict }
         ensures lines { self.new ≡ on_line line (in_state (after_input (signal_input signal))) self.old }
     {
         accept_signal(&mut self.lines, line, signal)
@@ -163,7 +163,7 @@ impl CustomerLines {
     /// Lets an answer to the peer of a line wait, if there is one.
     pub(crate) fn push_answer(&mut self, line: u16, answer: Option<Answer>)
         requires { line < length self.old }
-        ensures { self.new ≡ answered line answer self.old }
+        ensures { self.new ≡ with_answer_on line answer self.old }
     {
         if let Some(answer) = answer {
             self.lines[usize::from(line)].push_answer(answer);
@@ -172,7 +172,7 @@ impl CustomerLines {
 
     /// Lets a nodal message wait on a line, if the line is there.
     pub(crate) fn push_message(&mut self, line: u16, message: Record)
-        ensures { self.new ≡ waits line message.items self.old }
+        ensures { self.new ≡ with_waiting line message.items self.old }
     {
         if usize::from(line) < self.lines.len() {
             self.lines[usize::from(line)].push_message(message);
@@ -192,7 +192,7 @@ impl CustomerLines {
     /// The hub says something to a user at a node.
     pub(crate) fn say(&mut self, customer: &Customer, node: Name, user: [u8; FIELD], text: &[u8])
         requires { length text.now ≤ LONGEST_MESSAGE }
-        ensures { self.new ≡ said (entry_of customer.now) (node, user) text.now self.old }
+        ensures { self.new ≡ with_message_to (entry_of customer.now) (node, user) text.now self.old }
     {
         self.say_by(customer.route(node), customer.hub(), node, user, text);
     }
@@ -232,7 +232,7 @@ impl CustomerLines {
         receiver: Receiver,
         notice: Option<Notice>,
     )
-        ensures { self.new ≡ on_line line (noted stream receiver notice) self.old }
+        ensures { self.new ≡ on_line line (with_notice stream receiver notice) self.old }
     {
         if usize::from(line) < self.lines.len() {
             self.lines[usize::from(line)].note(stream, receiver, notice);
@@ -241,7 +241,7 @@ impl CustomerLines {
 
     /// The owner of a file is told, if there is something to say.
     pub(crate) fn notify(&mut self, customer: &Customer, notice: &Option<Notice>)
-        ensures { self.new ≡ notified (entry_of customer.now) notice.now self.old }
+        ensures { self.new ≡ with_notice_to (entry_of customer.now) notice.now self.old }
     {
         if let Some(notice) = notice {
             self.say(customer, notice.node, notice.user, &notice.text);
@@ -266,7 +266,7 @@ impl Senders for CustomerLines {
 fn accept_signal(lines: &mut [CustomerLine], line: u16, signal: Signal) -> Verdict
     requires { line < length lines.old }
     ensures verdict { result
-        ≡ (accepted (line_at line lines.old).state.config (signal_input signal) (line_at line lines.old).state.session).verdict }
+        ≡ (table_outcome (line_at line lines.old).state.config (signal_input signal) (line_at line lines.old).state.session).verdict }
     ensures lines { lines.new ≡ on_line line (in_state (after_input (signal_input signal))) lines.old }
 {
     lines[usize::from(line)].accept(&signal_input(signal))
@@ -274,7 +274,7 @@ fn accept_signal(lines: &mut [CustomerLine], line: u16, signal: Signal) -> Verdi
 
 /// A signal, as it comes to its line.
 fn signal_input(signal: Signal) -> Input<'static>
-    ensures { shown result ≡ signal_input signal }
+    ensures { input_value result ≡ signal_input signal }
 {
     match signal {
         Signal::Tick => Input::Tick,

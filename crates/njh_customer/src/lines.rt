@@ -1,9 +1,9 @@
 //! A customer's lines, with what has come of the next frame on each.
 
 ghost use Rattle.std.specs.Prelude.{◌≡◌, ◌<◌, ◌≤◌, length, map, slice_set, IfOk};
-ghost use Rattle.njh_bisync.specs.ByteSteps.{fed};
+ghost use Rattle.njh_bisync.specs.ByteSteps.{feed_outcome};
 ghost use Rattle.njh_spool.specs.CustomerSpool.{empty_spool};
-ghost use Rattle.njh_spool.specs.Spools.{part};
+ghost use Rattle.njh_spool.specs.Spools.{spool_at};
 ghost use Rattle.njh_table.specs.Marks.{entry_unmarked};
 ghost use Rattle.njh_table.specs.TableFile.{customer_at, entry_of, password_bytes};
 ghost use Rattle.njh_customer.specs.Customer.{config_of, line_at, password_in};
@@ -49,14 +49,14 @@ impl Model for Lines {
 impl Lines {
     ghost use Rattle.std.specs.Prelude.{All};
     ghost use Rattle.njh_table.specs.Accepted.{IsLine};
-    ghost use Rattle.njh_customer.specs.Part.{opened, part_with, bytes_taken, signal_taken};
+    ghost use Rattle.njh_customer.specs.Part.{part_at_open, part_with, part_after_bytes, part_after_signal};
 
     /// The lines of a customer's entry, each down, with no stream about a file. Want of memory is the only refusal.
     pub fn open(alloc: Global, customer: &Customer) -> Result<Lines, AllocError>
         requires { All IsLine customer.now.lines }
         ensures { IfOk result (λ lines.
             part_with (entry_unmarked (entry_of customer.now)) (empty_spool customer.now.quota customer.now.files) lines
-            ≡ opened (entry_of customer.now)) }
+            ≡ part_at_open (entry_of customer.now)) }
     {
         let mut deframers = Vec::new(alloc);
         let mut lines = CustomerLines::new(alloc);
@@ -124,17 +124,17 @@ impl Lines {
     ) -> usize
         requires ready { IsReady tables.old line spool.old self.old.lines }
         ensures taken { result
-            ≡ (bytes_taken (part_with (entry_of (customer_at tables.old line.customer)) (part line.customer spool.old) self.old) line.line piece.now).taken }
+            ≡ (part_after_bytes (part_with (entry_of (customer_at tables.old line.customer)) (spool_at line.customer spool.old) self.old) line.line piece.now).taken }
         ensures progress { 0 < length piece.now → 0 < result }
         ensures few { result ≤ length piece.now }
-        ensures part { part_with (entry_of (customer_at tables.new line.customer)) (part line.customer spool.new) self.new
-            ≡ (bytes_taken (part_with (entry_of (customer_at tables.old line.customer)) (part line.customer spool.old) self.old) line.line piece.now).after }
-        ensures others { spool.new ≡ slice_set spool.old line.customer (part line.customer spool.new) }
+        ensures part { part_with (entry_of (customer_at tables.new line.customer)) (spool_at line.customer spool.new) self.new
+            ≡ (part_after_bytes (part_with (entry_of (customer_at tables.old line.customer)) (spool_at line.customer spool.old) self.old) line.line piece.now).after }
+        ensures others { spool.new ≡ slice_set spool.old line.customer (spool_at line.customer spool.new) }
         ensures entries { IsRetold line.customer tables.old tables.new }
         ensures ready { IsReady tables.new line spool.new self.new.lines }
         ensures count { length self.new.lines ≡ length self.old.lines }
         ensures frame { out.new
-            ≡ (bytes_taken (part_with (entry_of (customer_at tables.old line.customer)) (part line.customer spool.old) self.old) line.line piece.now).frame }
+            ≡ (part_after_bytes (part_with (entry_of (customer_at tables.old line.customer)) (spool_at line.customer spool.old) self.old) line.line piece.now).frame }
     {
         out.clear();
         let mut left = piece;
@@ -160,18 +160,18 @@ impl Lines {
         out: &mut FrameBuffer,
     ) -> usize
         requires ready { IsReady tables.old line spool.old self.old.lines }
-        ensures taken { result ≡ (fed (rest_at line.line self.old.rests) piece.now).taken }
+        ensures taken { result ≡ (feed_outcome (rest_at line.line self.old.rests) piece.now).taken }
         ensures within { result ≤ length piece.now }
         ensures progress { 0 < length piece.now → 0 < result }
-        ensures rest { rest_at line.line self.new.rests ≡ (fed (rest_at line.line self.old.rests) piece.now).rest }
+        ensures rest { rest_at line.line self.new.rests ≡ (feed_outcome (rest_at line.line self.old.rests) piece.now).rest }
         ensures rests { self.new.rests ≡ slice_set self.old.rests line.line (rest_at line.line self.new.rests) }
         ensures after { Brings tables.old tables.new line.customer spool.old spool.new self.new.lines
-            (acted_on line.line (fed (rest_at line.line self.old.rests) piece.now).frame
+            (acted_on line.line (feed_outcome (rest_at line.line self.old.rests) piece.now).frame
             (customer_of tables.old line.customer spool.old self.old.lines)).after }
         ensures ready { IsReady tables.new line spool.new self.new.lines }
         ensures count { length self.new.lines ≡ length self.old.lines }
         ensures frame { out.new
-            ≡ (acted_on line.line (fed (rest_at line.line self.old.rests) piece.now).frame
+            ≡ (acted_on line.line (feed_outcome (rest_at line.line self.old.rests) piece.now).frame
             (customer_of tables.old line.customer spool.old self.old.lines)).frame }
     {
         let (taken, frame) = self.deframers[usize::from(line.line)].feed(piece);
@@ -200,14 +200,14 @@ impl Lines {
         out: &mut FrameBuffer,
     )
         requires ready { IsReady tables.old line spool.old self.old.lines }
-        ensures part { part_with (entry_of (customer_at tables.new line.customer)) (part line.customer spool.new) self.new
-            ≡ (signal_taken (part_with (entry_of (customer_at tables.old line.customer)) (part line.customer spool.old) self.old) line.line signal).after }
-        ensures others { spool.new ≡ slice_set spool.old line.customer (part line.customer spool.new) }
+        ensures part { part_with (entry_of (customer_at tables.new line.customer)) (spool_at line.customer spool.new) self.new
+            ≡ (part_after_signal (part_with (entry_of (customer_at tables.old line.customer)) (spool_at line.customer spool.old) self.old) line.line signal).after }
+        ensures others { spool.new ≡ slice_set spool.old line.customer (spool_at line.customer spool.new) }
         ensures entries { IsRetold line.customer tables.old tables.new }
         ensures ready { IsReady tables.new line spool.new self.new.lines }
         ensures count { length self.new.lines ≡ length self.old.lines }
         ensures frame { out.new
-            ≡ (signal_taken (part_with (entry_of (customer_at tables.old line.customer)) (part line.customer spool.old) self.old) line.line signal).frame }
+            ≡ (part_after_signal (part_with (entry_of (customer_at tables.old line.customer)) (spool_at line.customer spool.old) self.old) line.line signal).frame }
     {
         self.deframers[usize::from(line.line)].reset();
         take_signal(

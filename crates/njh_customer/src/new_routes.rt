@@ -1,10 +1,10 @@
 //! A customer that is given new routes.
 
 ghost use Rattle.std.specs.Prelude.{◌≡◌, ◌<◌, length, slice_set};
-ghost use Rattle.njh_spool.specs.Spools.{part};
+ghost use Rattle.njh_spool.specs.Spools.{spool_at};
 ghost use Rattle.njh_table.specs.TableFile.{customer_at, entry_of};
 ghost use Rattle.njh_customer.specs.Part.{part_with};
-ghost use Rattle.njh_customer.specs.NewRoutes.{UnroutedFilesStay, routes_taken};
+ghost use Rattle.njh_customer.specs.NewRoutes.{UnroutedFilesStay, part_after_routes};
 ghost use Rattle.njh_customer.specs.code.Coherence.{RoutesKeepCoherent};
 
 use crate::lines::Lines;
@@ -18,10 +18,10 @@ impl Lines {
     pub fn take_routes(&self, customer: u16, tables: &Tables, spool: &mut Spool)
         requires known { customer < length tables.now.customers }
         requires spooled { customer < length spool.old }
-        ensures part { part_with (entry_of (customer_at tables.now customer)) (part customer spool.new) self.now
-            ≡ routes_taken (entry_of (customer_at tables.now customer)).routes
-            (part_with (entry_of (customer_at tables.now customer)) (part customer spool.old) self.now) }
-        ensures others { spool.new ≡ slice_set spool.old customer (part customer spool.new) }
+        ensures part { part_with (entry_of (customer_at tables.now customer)) (spool_at customer spool.new) self.now
+            ≡ part_after_routes (entry_of (customer_at tables.now customer)).routes
+            (part_with (entry_of (customer_at tables.now customer)) (spool_at customer spool.old) self.now) }
+        ensures others { spool.new ≡ slice_set spool.old customer (spool_at customer spool.new) }
     {
         hold_unrouted(tables.customer(customer), customer, spool);
     }

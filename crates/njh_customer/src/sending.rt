@@ -12,8 +12,8 @@ use njh_line::{Line, Opening, Sent};
 
 /// Sends a control frame. A NAK isn't sent again.
 pub(crate) fn send_control(line: &mut Line, control: Control, out: &mut FrameBuffer)
-    ensures line { line.new ≡ (sending.control_sent control line.old).line }
-    ensures frame { out.new ≡ (sending.control_sent control line.old).frame }
+    ensures line { line.new ≡ (sending.sending_of_control control line.old).line }
+    ensures frame { out.new ≡ (sending.sending_of_control control line.old).frame }
 {
     out.set_control(control);
     match control {
@@ -24,8 +24,8 @@ pub(crate) fn send_control(line: &mut Line, control: Control, out: &mut FrameBuf
 
 /// Sends the last transmission again.
 pub(crate) fn send_again(line: &mut Line, out: &mut FrameBuffer)
-    ensures line { line.new ≡ (sending.again_sent line.old).line }
-    ensures frame { out.new ≡ (sending.again_sent line.old).frame }
+    ensures line { line.new ≡ (sending.sending_again line.old).line }
+    ensures frame { out.new ≡ (sending.sending_again line.old).frame }
 {
     out.set_frame(line.last());
     line.sent(&Sent::Again);
@@ -38,8 +38,8 @@ pub(crate) fn send_opening(
     block: &mut BlockWriter,
     out: &mut FrameBuffer,
 )
-    ensures line { line.new ≡ (sending.opening_sent kind line.old).line }
-    ensures frame { out.new ≡ (sending.opening_sent kind line.old).frame }
+    ensures line { line.new ≡ (sending.sending_of_opening kind line.old).line }
+    ensures frame { out.new ≡ (sending.sending_of_opening kind line.old).frame }
 {
     line.config().write_opening(kind, block);
     out.set_text(block.text());
@@ -62,8 +62,8 @@ pub(crate) fn begin_block(line: &Line, fcs: Fcs, block: &mut BlockWriter)
 /// Sends a block of the hub's own count.
 fn send_block(line: &mut Line, block: &BlockWriter, fcs: Fcs, out: &mut FrameBuffer)
     requires { block.now.fcs ≡ fcs }
-    ensures line { line.new ≡ (sending.block_sent block.now line.old).line }
-    ensures frame { out.new ≡ (sending.block_sent block.now line.old).frame }
+    ensures line { line.new ≡ (sending.sending_of_block block.now line.old).line }
+    ensures frame { out.new ≡ (sending.sending_of_block block.now line.old).frame }
 {
     out.set_text(block.text());
     line.sent(&Sent::Block {
@@ -80,8 +80,8 @@ pub(crate) fn send_sequence(
     block: &mut BlockWriter,
     out: &mut FrameBuffer,
 )
-    ensures line { line.new ≡ (sending.sequence_sent fcs expected line.old).line }
-    ensures frame { out.new ≡ (sending.sequence_sent fcs expected line.old).frame }
+    ensures line { line.new ≡ (sending.sending_of_sequence fcs expected line.old).line }
+    ensures frame { out.new ≡ (sending.sending_of_sequence fcs expected line.old).frame }
 {
     begin_block(line, fcs, block);
     block.add(Out::Control {
@@ -93,8 +93,8 @@ pub(crate) fn send_sequence(
 
 /// Sends ACK0 in the place of a block, or nothing.
 fn send_no_block(line: &mut Line, or_ack0: bool, out: &mut FrameBuffer)
-    ensures line { line.new ≡ (sending.no_block_sent or_ack0 line.old).line }
-    ensures frame { out.new ≡ (sending.no_block_sent or_ack0 line.old).frame }
+    ensures line { line.new ≡ (sending.sending_of_no_block or_ack0 line.old).line }
+    ensures frame { out.new ≡ (sending.sending_of_no_block or_ack0 line.old).frame }
 {
     if or_ack0 {
         send_control(line, Control::Ack0, out);
@@ -121,8 +121,8 @@ pub(crate) fn send_written(
     out: &mut FrameBuffer,
 )
     requires { block.now.fcs ≡ fcs }
-    ensures line { line.new ≡ (sending.written_sent or_ack0 block.now line.old).line }
-    ensures frame { out.new ≡ (sending.written_sent or_ack0 block.now line.old).frame }
+    ensures line { line.new ≡ (sending.sending_of_written or_ack0 block.now line.old).line }
+    ensures frame { out.new ≡ (sending.sending_of_written or_ack0 block.now line.old).frame }
 {
     if block.is_empty() && tells_nothing(line, fcs) {
         send_no_block(line, or_ack0, out);

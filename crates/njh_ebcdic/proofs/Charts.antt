@@ -9,7 +9,7 @@ use Rattle.std.proofs.lemmas.List.{take_more, map-append}
 use Rattle.std.proofs.lemmas.Str.{encode_ascii}
 use Rattle.std.proofs.lemmas.Iterator.Adapters.{position_from-zero}
 use Rattle.std.proofs.lemmas.Grind.{get_or_default_zero}
-use Rattle.njh_ebcdic.specs.Characters.{table, character_of, byte_of_character, shown, shown_text}
+use Rattle.njh_ebcdic.specs.Characters.{table, character_of, byte_of_character, printed_character, shown_text}
 use Rattle.njh_ebcdic.specs.declared.characters.TheConstants.{CHART}
 
 -- the places of a chart that have a character, with it; the chart begins at this place
@@ -99,7 +99,7 @@ at_character-filled c place (d ∷ ds) known =
     ∙ (at_character-filled c (place + 1) ds known ∙ sym (cond-false (eqb d c) (Some place) _ (ne_eqb d c other))))
     (cases_eq d c)
 
-pub shown-chart : (byte : ℕ) → byte < 256 → shown byte ≡ get_or CHART byte 0
+pub shown-chart : (byte : ℕ) → byte < 256 → printed_character byte ≡ get_or CHART byte 0
 unfolding character_of
 shown-chart byte within =
     let whole : byte - 0 ≡ byte = omega arith in
@@ -123,14 +123,14 @@ at_byte-ascii byte (pair ∷ pairs) ascii =
     (λ found. unwrap_or (option_map (λ (pair : ℕ × ℕ). pair.1) found) 63 < 128)
     (λ here. ltb-true pair.1 128 parts.0) (λ other. at_byte-ascii byte pairs parts.1)
 
-pub shown-ascii : (byte : ℕ) → shown byte < 128
+pub shown-ascii : (byte : ℕ) → printed_character byte < 128
 unfolding character_of
 shown-ascii byte = at_byte-ascii byte table refl
 
 -- one more byte is shown
-pub shown_text-more : (bytes : List ℕ) (i d c : ℕ) → i < length bytes → c ≡ shown (get_or bytes i d)
+pub shown_text-more : (bytes : List ℕ) (i d c : ℕ) → i < length bytes → c ≡ printed_character (get_or bytes i d)
     → shown_text (take i bytes) ++ encode_utf8 c ≡ shown_text (take (i + 1) bytes)
 shown_text-more bytes i d c within is =
     let ascii : c < 128 = rw is (shown-ascii (get_or bytes i d)) in
     ap (λ text. shown_text (take i bytes) ++ text) (encode_ascii c ascii ∙ ap (λ e. e ∷ []) is)
-    ∙ sym (ap shown_text (take_more bytes i d within) ∙ map-append shown (take i bytes) (get_or bytes i d ∷ []))
+    ∙ sym (ap shown_text (take_more bytes i d within) ∙ map-append printed_character (take i bytes) (get_or bytes i d ∷ []))

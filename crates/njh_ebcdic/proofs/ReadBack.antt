@@ -4,19 +4,19 @@ use Rattle.std.specs.List.{list_all}
 use Rattle.std.specs.Prelude.{slice_index}
 use Rattle.std.proofs.lemmas.Bool.{and_parts, cond-true, cond-false, le-ltb}
 use Rattle.std.proofs.lemmas.Str.{chars-IsAscii}
-use Rattle.njh_ebcdic.specs.Names.{is_empty, is_name, is_name_byte, trimmed}
+use Rattle.njh_ebcdic.specs.Names.{is_empty, is_name, is_name_byte, without_end_blanks}
 use Rattle.njh_ebcdic.specs.Characters.{bytes_or_blanks, shown_text}
 use Rattle.njh_ebcdic.specs.Reading.{name_of_word, name_of_text}
 use Rattle.njh_ebcdic.proofs.Blanks.{IsNamed-is_name}
 use Rattle.njh_ebcdic.proofs.Charts.{shown-ascii}
 use Rattle.njh_ebcdic.proofs.TableLaws.{byte_or_blank-shown}
 
-pub name_of_word-trimmed : (name : List ℕ) → is_name name ≡ true → name_of_word (trimmed name) ≡ Ok name
+pub name_of_word-trimmed : (name : List ℕ) → is_name name ≡ true → name_of_word (without_end_blanks name) ≡ Ok name
 name_of_word-trimmed name is =
     let parts = IsNamed-is_name name is in
-    cond-false (is_empty (trimmed name)) _ _ parts.some
-    ∙ (cond-false (ltb 8 (length (trimmed name))) _ _ (le-ltb 8 _ parts.few)
-    ∙ (cond-true (list_all is_name_byte (trimmed name)) _ _ parts.named ∙ ap Ok parts.whole))
+    cond-false (is_empty (without_end_blanks name)) _ _ parts.some
+    ∙ (cond-false (ltb 8 (length (without_end_blanks name))) _ _ (le-ltb 8 _ parts.few)
+    ∙ (cond-true (list_all is_name_byte (without_end_blanks name)) _ _ parts.named ∙ ap Ok parts.whole))
 
 shown_text-ascii : (bytes : List ℕ) (i : ℕ) → slice_index (shown_text bytes) i < 128
 shown_text-ascii [] i = omega arith
@@ -30,9 +30,9 @@ bytes_or_blanks-shown_text (b ∷ bytes) named =
     ap (λ first. first ∷ bytes_or_blanks (shown_text bytes)) (byte_or_blank-shown b parts.0)
     ∙ ap (λ rest. b ∷ rest) (bytes_or_blanks-shown_text bytes parts.1)
 
-pub name_of_text-shown_text : (name : List ℕ) → is_name name ≡ true → name_of_text (shown_text (trimmed name)) ≡ Ok name
+pub name_of_text-shown_text : (name : List ℕ) → is_name name ≡ true → name_of_text (shown_text (without_end_blanks name)) ≡ Ok name
 name_of_text-shown_text name is =
     let parts = IsNamed-is_name name is in
-    let same = ap bytes_or_blanks (chars-IsAscii (shown_text (trimmed name)) (shown_text-ascii (trimmed name)))
-    ∙ bytes_or_blanks-shown_text (trimmed name) parts.named in
+    let same = ap bytes_or_blanks (chars-IsAscii (shown_text (without_end_blanks name)) (shown_text-ascii (without_end_blanks name)))
+    ∙ bytes_or_blanks-shown_text (without_end_blanks name) parts.named in
     ap name_of_word same ∙ name_of_word-trimmed name is

@@ -6,7 +6,7 @@ use Rattle.std.specs.Option.{option_map}
 use Rattle.std.proofs.lemmas.Bool.{cases_Bool, eqb-true, and_parts, cond-true, cond-false, agree_below_at, false≢true}
 use Rattle.std.proofs.lemmas.Bool.Decides.{nat_tests}
 use Rattle.njh_ebcdic.specs.Names.{within, upper, ebcdic_byte, is_name_byte}
-use Rattle.njh_ebcdic.specs.Characters.{table, character_of, byte_of_character, byte_or_blank, shown, is_plain}
+use Rattle.njh_ebcdic.specs.Characters.{table, character_of, byte_of_character, byte_or_blank, printed_character, is_plain}
 
 -- whether a value is there and is this one
 abbrev is_just : ℕ → Option ℕ → Bool
@@ -67,24 +67,24 @@ byte_of_character-plain c plain =
     (plain_below c plain) in
     is_just-true _ _ (brings _ _ all plain)
 
-pub shown-upper : (byte : ℕ) → byte < 256 → within 97 122 (shown byte) ≡ true → shown (upper byte) ≡ shown byte - 32
+pub shown-upper : (byte : ℕ) → byte < 256 → within 97 122 (printed_character byte) ≡ true → printed_character (upper byte) ≡ printed_character byte - 32
 unfolding character_of
 shown-upper byte small letter =
-    let all = agree_below_at (λ k. not (within 97 122 (shown k)) || eqb (shown (upper k)) (shown k - 32)) (λ _. true) 256 byte refl small in
+    let all = agree_below_at (λ k. not (within 97 122 (printed_character k)) || eqb (printed_character (upper k)) (printed_character k - 32)) (λ _. true) 256 byte refl small in
     eqb-true _ _ (brings _ _ all letter)
 
-pub upper-other : (byte : ℕ) → byte < 256 → within 97 122 (shown byte) ≡ false → upper byte ≡ byte
+pub upper-other : (byte : ℕ) → byte < 256 → within 97 122 (printed_character byte) ≡ false → upper byte ≡ byte
 unfolding character_of
 upper-other byte small other =
-    let all = agree_below_at (λ k. not (not (within 97 122 (shown k))) || eqb (upper k) k) (λ _. true) 256 byte refl small in
+    let all = agree_below_at (λ k. not (not (within 97 122 (printed_character k))) || eqb (upper k) k) (λ _. true) 256 byte refl small in
     eqb-true _ _ (brings _ _ all (ap not other))
 
 name_byte_below : (b : ℕ) → is_name_byte b ≡ true → b < 256
 name_byte_below b name = grind (arith, nat_tests)
 
-pub byte_or_blank-shown : (b : ℕ) → is_name_byte b ≡ true → byte_or_blank (shown b) ≡ b
+pub byte_or_blank-shown : (b : ℕ) → is_name_byte b ≡ true → byte_or_blank (printed_character b) ≡ b
 unfolding character_of byte_of_character
 byte_or_blank-shown b name =
-    let all = agree_below_at (λ k. not (is_name_byte k) || eqb (byte_or_blank (shown k)) k) (λ _. true) 256 b refl
+    let all = agree_below_at (λ k. not (is_name_byte k) || eqb (byte_or_blank (printed_character k)) k) (λ _. true) 256 b refl
     (name_byte_below b name) in
     eqb-true _ _ (brings _ _ all name)

@@ -38,12 +38,12 @@ unfoldable pub byte_of_character : ℕ → Option ℕ
 byte_of_character character = option_map (λ pair. pair.0) (find (λ pair. pair.1 == character) table)
 
 -- the character of a byte, or a question mark
-abbrev pub shown : ℕ → ℕ
-shown byte = unwrap_or (character_of byte) 63
+abbrev pub printed_character : ℕ → ℕ
+printed_character byte = unwrap_or (character_of byte) 63
 
 -- of each byte in turn: all of these are of ASCII, so that this is UTF-8 too
 abbrev pub shown_text : List ℕ → List ℕ
-shown_text bytes = map shown bytes
+shown_text bytes = map printed_character bytes
 
 -- the byte of a character, or a blank
 abbrev pub byte_or_blank : ℕ → ℕ

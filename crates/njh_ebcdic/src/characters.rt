@@ -1,7 +1,7 @@
 //! The characters of EBCDIC, and their bytes.
 
 ghost use Rattle.std.specs.Prelude.{◌≡◌, ◌==◌, ◌<◌, IfSome, IsTrue, position};
-ghost use Rattle.njh_ebcdic.specs.Characters.{byte_of_character, is_plain, shown};
+ghost use Rattle.njh_ebcdic.specs.Characters.{byte_of_character, is_plain, printed_character};
 ghost use Rattle.njh_ebcdic.specs.Names.{ebcdic_byte, upper};
 
 use crate::fields::BLANK;
@@ -34,7 +34,7 @@ static CHART: [u8; 256] = *b"\
 
 /// The character of a byte, or `?` where it has none.
 pub fn text_of(byte: u8) -> char
-    ensures { result ≡ shown byte }
+    ensures { result ≡ printed_character byte }
 {
     char::from(CHART[usize::from(byte)])
 }

@@ -2,7 +2,7 @@
 
 ghost use Rattle.std.specs.Prelude.{◌≡◌, ◌≤◌, length};
 ghost use Rattle.std.specs.List.{list_all};
-ghost use Rattle.njh_ebcdic.specs.Names.{is_name as names, is_name_byte as name_byte, padded, trimmed};
+ghost use Rattle.njh_ebcdic.specs.Names.{is_name as names, is_name_byte as name_byte, padded_field, without_end_blanks};
 
 /// What fills a field behind its characters.
 pub const BLANK: u8 = 0x40;
@@ -12,7 +12,7 @@ pub const FIELD: usize = 8;
 
 /// The bytes without the blanks at their end. A user's field may hold any bytes, blanks among them.
 pub fn trim_blanks(bytes: &[u8]) -> &[u8]
-    ensures value { result.now ≡ trimmed bytes.now }
+    ensures value { result.now ≡ without_end_blanks bytes.now }
     ensures len { length result.now ≤ length bytes.now }
 {
     let mut rest = bytes;
@@ -27,7 +27,7 @@ pub fn trim_blanks(bytes: &[u8]) -> &[u8]
 /// A word of at most eight bytes, with blanks behind it: as it stands in a field.
 pub fn pad(word: &[u8]) -> [u8; FIELD]
     requires { length word.now ≤ 8 }
-    ensures { result ≡ padded word.now }
+    ensures { result ≡ padded_field word.now }
 {
     let mut field = [BLANK; FIELD];
     field[..word.len()].copy_from_slice(word);

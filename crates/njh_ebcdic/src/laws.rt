@@ -2,8 +2,8 @@
 
 ghost use Rattle.std.specs.Prelude.{◌≡◌, ◌-◌, ◌<◌, ◌↔◌, ◌++◌, ℕ, false, IsTrue, List, Ok, Some, length, replicate};
 ghost use Rattle.std.specs.List.{list_all};
-ghost use Rattle.njh_ebcdic.specs.Characters.{byte_of_character, character_of, is_plain, shown, shown_text};
-ghost use Rattle.njh_ebcdic.specs.Names.{ebcdic_byte, is_name, is_name_byte, padded, trimmed, upper, within};
+ghost use Rattle.njh_ebcdic.specs.Characters.{byte_of_character, character_of, is_plain, printed_character, shown_text};
+ghost use Rattle.njh_ebcdic.specs.Names.{ebcdic_byte, is_name, is_name_byte, padded_field, without_end_blanks, upper, within};
 ghost use Rattle.njh_ebcdic.specs.Reading.{name_of_field, name_of_text, name_of_word};
 
 /// The byte of a character has that character, and the character of a byte has that byte. The
@@ -15,22 +15,22 @@ pub fn characters_and_bytes()
 
 /// Folding makes a capital of each lower-case letter, and leaves all else. What is folded stays.
 pub fn folding()
-    ensures letters { (byte : ℕ) → byte < 256 → IsTrue (within 97 122 (shown byte)) → shown (upper byte) ≡ shown byte - 32 }
-    ensures others { (byte : ℕ) → byte < 256 → within 97 122 (shown byte) ≡ false → upper byte ≡ byte }
+    ensures letters { (byte : ℕ) → byte < 256 → IsTrue (within 97 122 (printed_character byte)) → printed_character (upper byte) ≡ printed_character byte - 32 }
+    ensures others { (byte : ℕ) → byte < 256 → within 97 122 (printed_character byte) ≡ false → upper byte ≡ byte }
     ensures twice { (byte : ℕ) → upper (upper byte) ≡ upper byte }
 {}
 
 /// Trimming takes blanks from the end, all of them and nothing else, and padding adds them again.
 pub fn trimming()
-    ensures blanks { (bytes : List ℕ) → trimmed bytes ++ replicate (length bytes - length (trimmed bytes)) 0x40 ≡ bytes }
-    ensures twice { (bytes : List ℕ) → trimmed (trimmed bytes) ≡ trimmed bytes }
-    ensures padding { (word : List ℕ) → IsTrue (list_all is_name_byte word) → trimmed (padded word) ≡ word }
+    ensures blanks { (bytes : List ℕ) → without_end_blanks bytes ++ replicate (length bytes - length (without_end_blanks bytes)) 0x40 ≡ bytes }
+    ensures twice { (bytes : List ℕ) → without_end_blanks (without_end_blanks bytes) ≡ without_end_blanks bytes }
+    ensures padding { (word : List ℕ) → IsTrue (list_all is_name_byte word) → without_end_blanks (padded_field word) ≡ word }
 {}
 
 /// A name is read from its field, from its word and from what `Display` writes of it, each time
 /// as the same eight bytes.
 pub fn names_read_back()
     ensures field { (name : List ℕ) → IsTrue (is_name name) → name_of_field name ≡ Ok name }
-    ensures word { (name : List ℕ) → IsTrue (is_name name) → name_of_word (trimmed name) ≡ Ok name }
-    ensures text { (name : List ℕ) → IsTrue (is_name name) → name_of_text (shown_text (trimmed name)) ≡ Ok name }
+    ensures word { (name : List ℕ) → IsTrue (is_name name) → name_of_word (without_end_blanks name) ≡ Ok name }
+    ensures text { (name : List ℕ) → IsTrue (is_name name) → name_of_text (shown_text (without_end_blanks name)) ≡ Ok name }
 {}

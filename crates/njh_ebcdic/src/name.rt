@@ -44,7 +44,7 @@ impl Model for Name {
 
 impl Name {
     ghost use Rattle.std.specs.Prelude.{◌≡◌, ◌<◌, ◌≤◌, IsTrue, length, is_ok};
-    ghost use Rattle.njh_ebcdic.specs.Names.{is_name, trimmed};
+    ghost use Rattle.njh_ebcdic.specs.Names.{is_name, without_end_blanks};
     ghost use Rattle.njh_ebcdic.specs.Reading.{name_of_field, name_of_text, name_of_word};
 
     /// The name that a field of eight bytes holds. `Empty` where the field is blank, else
@@ -114,7 +114,7 @@ impl Name {
 
     /// The bytes before the blanks, 1 to 8 of them.
     pub fn trimmed(&self) -> &[u8]
-        ensures value { result.now ≡ trimmed self.now }
+        ensures value { result.now ≡ without_end_blanks self.now }
         ensures some { 0 < length result.now }
         ensures few { length result.now ≤ 8 }
     {
@@ -125,10 +125,10 @@ impl Name {
 /// The characters of the name, without the blanks behind them.
 impl fmt::Display for Name {
     ghost use Rattle.std.specs.Prelude.{Some};
-    ghost use Rattle.njh_ebcdic.specs.Names.{trimmed};
+    ghost use Rattle.njh_ebcdic.specs.Names.{without_end_blanks};
     ghost use Rattle.njh_ebcdic.specs.Characters.{shown_text};
 
-    ghost output = { λ name. Some (shown_text (trimmed name)) };
+    ghost output = { λ name. Some (shown_text (without_end_blanks name)) };
 
     fn fmt<W: fmt::Write>(&self, f: &mut fmt::Formatter<W>) -> fmt::Result {
         for byte in self.trimmed() {

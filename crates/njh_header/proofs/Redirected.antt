@@ -8,10 +8,10 @@ use Rattle.njh_record.specs.Stored.{Stored, has_srcb}
 use Rattle.njh_header.specs.declared.fault.HeaderFault.{HeaderFault}
 use Rattle.njh_header.specs.Headers.{JobHeader, job_header, DataSetHeader, data_set_header}
 use Rattle.njh_header.specs.FileHeaders.{with_node_at, with_data_set_node, with_data_set_nodes, with_destination}
-use Rattle.njh_header.specs.Redirecting.{is_after_header, redirected_record, redirected}
+use Rattle.njh_header.specs.Redirecting.{is_after_header, redirected_record, records_to_node}
 
 -- a job's file keeps its records behind the first
-kept : (node : List ℕ) (before : ℕ) (records : List Stored) → redirected In node (Some before) records ≡ records
+kept : (node : List ℕ) (before : ℕ) (records : List Stored) → records_to_node In node (Some before) records ≡ records
 kept node before [] = refl
 kept node before (r ∷ rs) = ap (λ (more : List Stored). r ∷ more) (kept node r.srcb rs)
 
@@ -34,15 +34,15 @@ where_tested node r true = data_set_record node r (data_set_header r.bytes)
 where_tested node r false = refl
 
 data_sets : (node : List ℕ) (before : Option ℕ) (records : List Stored)
-    → redirected Out node before records ≡ with_data_set_nodes node (is_after_header before) records
+    → records_to_node Out node before records ≡ with_data_set_nodes node (is_after_header before) records
 data_sets node before [] = refl
 data_sets node before (r ∷ rs) =
-    ap (λ (x : Stored). x ∷ redirected Out node (Some r.srcb) rs) (where_tested node r (has_srcb 0xe0 r && not (is_after_header before)))
+    ap (λ (x : Stored). x ∷ records_to_node Out node (Some r.srcb) rs) (where_tested node r (has_srcb 0xe0 r && not (is_after_header before)))
     ∙ ap (λ (more : List Stored). cond (has_srcb 0xe0 r && not (is_after_header before)) (with_data_set_node node r) r ∷ more)
     (data_sets node (Some r.srcb) rs)
 
 pub redirected_is : (kind : Kind) (node : List ℕ) (records : List Stored)
-    → redirected kind node None records ≡ with_destination kind node records
+    → records_to_node kind node None records ≡ with_destination kind node records
 redirected_is In node [] = refl
-redirected_is In node (r ∷ rs) = job_record node r rs (redirected In node (Some r.srcb) rs) (job_header r.bytes) (kept node r.srcb rs)
+redirected_is In node (r ∷ rs) = job_record node r rs (records_to_node In node (Some r.srcb) rs) (job_header r.bytes) (kept node r.srcb rs)
 redirected_is Out node records = data_sets node None records

@@ -26,6 +26,6 @@ redirected_record node None r = r
 redirected_record node (Some place) r = with_node_at place node r
 
 -- the records behind one with this SRCB, or all of a file's, with another destination node
-abbrev pub redirected : Kind → List ℕ → Option ℕ → List Stored → List Stored
-redirected kind node before [] = []
-redirected kind node before (r ∷ rs) = redirected_record node (destination_place kind before r) r ∷ redirected kind node (Some r.srcb) rs
+abbrev pub records_to_node : Kind → List ℕ → Option ℕ → List Stored → List Stored
+records_to_node kind node before [] = []
+records_to_node kind node before (r ∷ rs) = redirected_record node (destination_place kind before r) r ∷ records_to_node kind node (Some r.srcb) rs

@@ -64,7 +64,7 @@ pub fn name_of<F: FileRecords>(file: &F) -> Option<FileName>
 
 /// Whose a file is.
 pub fn owner_of<F: FileRecords>(file: &F) -> Option<User>
-    ensures { result ≡ headers.owner_of (F.records file.now) }
+    ensures { result ≡ headers.file_owner (F.records file.now) }
 {
     job_header_of(file).map(|header| header.owner())
 }

@@ -8,7 +8,7 @@ ghost use Rattle.njh_header.specs.Decimals.{IsDecimal};
 ghost use Rattle.njh_header.specs.FileHeaders.{with_destination};
 ghost use Rattle.njh_header.specs.Headers.{DataSetHeader, IsDataSetFault, IsDataSetHeader, data_set_header};
 ghost use Rattle.njh_header.specs.Headers.{IsJobFault, IsJobHeader, JobHeader, job_header};
-ghost use Rattle.njh_header.specs.Redirecting.{redirected};
+ghost use Rattle.njh_header.specs.Redirecting.{records_to_node};
 ghost use Rattle.njh_header.specs.Sections.{HasGeneral, LacksGeneral};
 ghost use Rattle.njh_header.specs.Walk.{general_section};
 
@@ -41,5 +41,5 @@ pub fn decimal_digits()
 /// A file that is redirected record by record is the file with another destination.
 pub fn redirected_by_records()
     ensures { (kind : Kind) (node : List ℕ) (records : List Stored) →
-        redirected kind node None records ≡ with_destination kind node records }
+        records_to_node kind node None records ≡ with_destination kind node records }
 {}

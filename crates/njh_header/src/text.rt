@@ -3,7 +3,7 @@
 ghost use Rattle.std.specs.Prelude.{◌≡◌, ◌+◌, ◌≤◌, ◌++◌, drop, length, take, IsTrue};
 ghost use Rattle.std.specs.List.{list_all};
 ghost use Rattle.njh_ebcdic.specs.Characters.{is_plain};
-ghost use Rattle.njh_ebcdic.specs.Names.{digits, ebcdic, trimmed};
+ghost use Rattle.njh_ebcdic.specs.Names.{digits, ebcdic, without_end_blanks};
 ghost use Rattle.njh_header.specs.Texts.{file_name as name_text};
 
 use crate::file_name::FileName;
@@ -36,7 +36,7 @@ pub fn push_ascii(text: &mut MessageText, ascii: &str)
 #[tactic(auto, using(crate::proofs::TextLemmas::trimmed_size))]
 pub fn push_trimmed(text: &mut MessageText, field: &[u8; 8])
     requires { length text.old.items + 8 ≤ LONGEST_MESSAGE }
-    ensures text { text.new.items ≡ text.old.items ++ trimmed field.now }
+    ensures text { text.new.items ≡ text.old.items ++ without_end_blanks field.now }
     ensures few { length text.new.items ≤ length text.old.items + 8 }
 {
     let front = half_at(field, 0);
@@ -62,7 +62,7 @@ fn half_at(field: &[u8; 8], place: usize) -> [u8; 4]
 /// Appends half a field without the blanks behind it.
 fn push_trimmed_half(text: &mut MessageText, half: [u8; 4])
     requires { length text.old.items + 4 ≤ LONGEST_MESSAGE }
-    ensures { text.new.items ≡ text.old.items ++ trimmed half }
+    ensures { text.new.items ≡ text.old.items ++ without_end_blanks half }
 {
     let [first, second, third, fourth] = half;
     if fourth != BLANK {

@@ -13,7 +13,7 @@ use Rattle.njh_hub.specs.declared.event.Event.{Event}
 use Rattle.njh_hub.specs.declared.event.Event.TheVariants.{Bytes, Tick, Garbled, Lost, Routes}
 use Rattle.njh_customer.specs.Laws.{EventsKeepFaults}
 use Rattle.njh_customer.specs.Runs.{OwnEvent, alone_run, event_run}
-use Rattle.njh_hub.specs.OwnEvents.{customer_of, line_of, routes_of, own, events_of}
+use Rattle.njh_hub.specs.OwnEvents.{customer_of_event, line_of_event, routes_of, own, events_of}
 use Rattle.njh_hub.specs.declared.fault.Cause.{Cause}
 use Rattle.njh_hub.specs.declared.fault.Cause.TheVariants.{Hub, Sink}
 use Rattle.njh_hub.specs.declared.fault.HubFault.{HubFault}
@@ -26,7 +26,7 @@ use Rattle.njh_hub.proofs.RunLaws.{each_is_alone}
 pub hub_run-length : (parts : List Part) (events : List Event) → length (hub_run parts events).parts ≡ length parts
 hub_run-length parts [] = refl
 hub_run-length parts (event ∷ events) =
-    let c = customer_of event in
+    let c = customer_of_event event in
     let after = (event_run (part c parts) (own event)).after in
     hub_run-length (set parts c after) events ∙ length-set parts c after
 
@@ -68,7 +68,7 @@ IsSomeAnd-weaker P Q weaker (Some x) is = weaker x is
 pub refused-before : (start now : List Part) → LedOn start now → (event : Event) (why : HubFault) → IsRefused now event why →
     IsRefused start event why
 refused-before start now on event UnknownLine refused = IsSomeAnd-weaker _ _
-    (λ line nowhere known. nowhere (omega (arith, known, on.lines line.customer))) (line_of event) refused
+    (λ line nowhere known. nowhere (omega (arith, known, on.lines line.customer))) (line_of_event event) refused
 refused-before start now on event UnknownCustomer refused = IsSomeAnd-weaker _ _
     (λ given nowhere there. nowhere (omega (arith, there, on.many))) (routes_of event) refused
 refused-before start now on event (BadRoutes cause) refused = IsSomeAnd-weaker _ _
@@ -77,7 +77,7 @@ refused-before start now on event (BadRoutes cause) refused = IsSomeAnd-weaker _
 refused-before start now on event Memory refused = named-before start now on event refused
 
 -- why a step on a line is refused
-pub step-refused : (parts : List Part) (event : Event) (line : LineId) → line_of event ≡ Some line →
+pub step-refused : (parts : List Part) (event : Event) (line : LineId) → line_of_event event ≡ Some line →
     (HasLine parts line → IsNamed parts event) → (why : HubFault) → ((HasLine parts line → ⊥) → why ≡ UnknownLine) →
     (HasLine parts line → why ≡ Memory) → IsRefused parts event why
 step-refused parts event line on named UnknownLine unknown memory =
@@ -93,7 +93,7 @@ step-refused parts event line on named Memory unknown memory =
     (cases_lt line.line (length (part line.customer parts).customer.lines))
 
 -- an event comes on a line or gives routes
-pub either_event : (event : Event) → IsSome (line_of event) ⊎ IsRoutes event
+pub either_event : (event : Event) → IsSome (line_of_event event) ⊎ IsRoutes event
 either_event (Bytes line piece) = inl refl
 either_event (Tick line) = inl refl
 either_event (Garbled line) = inl refl

@@ -7,25 +7,25 @@ use Rattle.njh_spool.specs.CustomerSpool.{CustomerSpool}
 use Rattle.njh_spool.specs.Spools as spools
 use Rattle.njh_table.specs.Accepted.{IsAccepted}
 use Rattle.njh_table.specs.Entries.{CustomerEntry}
-use Rattle.njh_table.specs.Marks.{customer_unmarked, entry_unmarked, unmarked}
+use Rattle.njh_table.specs.Marks.{customer_unmarked, entry_unmarked, without_marks}
 use Rattle.njh_table.specs.TableFile.{TableFile, no_customer, customer_at, entry_of}
 use Rattle.njh_customer.specs.Customer.{IsMarked, fresh_customer}
 use Rattle.njh_customer.specs.code.Coherence.{IsCoherent}
 use Rattle.njh_customer.specs.Part.{Lines, part_with}
-use Rattle.njh_hub.specs.WholeHub.{Part, opened, no_entry, no_part}
+use Rattle.njh_hub.specs.WholeHub.{Part, part_at_open, no_entry, no_part}
 use Rattle.njh_hub.specs.Parts.{empty_files, entries_of, lines_at, part_held, parts_of}
 use Rattle.njh_hub.specs.code.HubInvariant.{IsHub}
 use Rattle.njh_hub.proofs.PartsLaws.{length-parts_of, part-there}
 
 -- All marks of a table were taken away, and the files and the lines of its customers were opened.
 pub record AreOpened (from table : TableFile) (files : List CustomerSpool) (lines : List Lines) : Type 0 where
-  pub down : table ≡ unmarked from
-  pub entries : (t : TableFile) (c : ℕ) → c < length t.customers → entry_of (customer_at (unmarked t) c) ≡ entry_unmarked (entry_of (customer_at t c))
+  pub down : table ≡ without_marks from
+  pub entries : (t : TableFile) (c : ℕ) → c < length t.customers → entry_of (customer_at (without_marks t) c) ≡ entry_unmarked (entry_of (customer_at t c))
   pub empty : files ≡ map empty_files table.customers
   pub count : length lines ≡ length table.customers
   pub each : (c : ℕ) → c < length table.customers →
       part_with (entry_unmarked (entry_of (customer_at table c))) (empty_files (customer_at table c)) (lines_at c lines)
-      ≡ opened (entry_of (customer_at table c))
+      ≡ part_at_open (entry_of (customer_at table c))
 
 -- there are as many customers, with the entries that they had, without their marks
 pub as_many : {from table : TableFile} {files : List CustomerSpool} {lines : List Lines} → AreOpened from table files lines
@@ -40,28 +40,28 @@ entry-down {from} {table} {files} {lines} o c there =
 
 -- the part of each is that of a customer just opened
 pub held-opened : {from table : TableFile} {files : List CustomerSpool} {lines : List Lines} → AreOpened from table files lines
-    → (c : ℕ) → c < length table.customers → part_held table files lines c ≡ opened (entry_of (customer_at table c))
+    → (c : ℕ) → c < length table.customers → part_held table files lines c ≡ part_at_open (entry_of (customer_at table c))
 held-opened {from} {table} {files} {lines} o c there =
     let is : entry_of (customer_at table c) ≡ entry_unmarked (entry_of (customer_at table c)) =
     entry-down o c there ∙ ap entry_unmarked (sym (entry-down o c there)) in
     ap₂ (λ (e : CustomerEntry) (s : CustomerSpool). part_with e s (lines_at c lines)) is
-    (ap (spools.part c) o.empty ∙ get_or-map empty_files table.customers c no_customer spools.no_spool there)
+    (ap (spools.spool_at c) o.empty ∙ get_or-map empty_files table.customers c no_customer spools.no_spool there)
     ∙ o.each c there
 
 -- the list of all parts
 pub parts-opened : {from table : TableFile} {files : List CustomerSpool} {lines : List Lines} → AreOpened from table files lines
-    → parts_of table files lines ≡ map opened (entries_of from)
+    → parts_of table files lines ≡ map part_at_open (entries_of from)
 parts-opened {from} {table} {files} {lines} o =
     let long = length-parts_of table files lines in
     let entries = length-map from.customers entry_of in
-    ext_get_or no_part (parts_of table files lines) (map opened (entries_of from))
-    (long ∙ as_many o ∙ sym (length-map (entries_of from) opened ∙ entries))
+    ext_get_or no_part (parts_of table files lines) (map part_at_open (entries_of from))
+    (long ∙ as_many o ∙ sym (length-map (entries_of from) part_at_open ∙ entries))
     (λ (c : ℕ) (within : c < length (parts_of table files lines)).
     let there : c < length table.customers = omega (arith, within, long) in
     let was_there : c < length from.customers = omega (arith, there, as_many o) in
-    part-there table files lines c there ∙ held-opened o c there ∙ ap opened (entry-down o c there)
-    ∙ ap opened (sym (get_or-map entry_of from.customers c no_customer no_entry was_there))
-    ∙ sym (get_or-map opened (entries_of from) c no_entry no_part (omega (arith, was_there, entries))))
+    part-there table files lines c there ∙ held-opened o c there ∙ ap part_at_open (entry-down o c there)
+    ∙ ap part_at_open (sym (get_or-map entry_of from.customers c no_customer no_entry was_there))
+    ∙ sym (get_or-map part_at_open (entries_of from) c no_entry no_part (omega (arith, was_there, entries))))
 
 -- it belongs together
 pub hub-opened : {from table : TableFile} {files : List CustomerSpool} {lines : List Lines} → AreOpened from table files lines

@@ -7,7 +7,7 @@ use Rattle.njh_customer.specs.Runs.{OwnBytes, event_run}
 use Rattle.njh_hub.specs.declared.event.Event.{Event}
 use Rattle.njh_hub.specs.declared.event.Event.TheVariants.{Bytes, Tick, Garbled, Lost, Routes}
 use Rattle.njh_hub.specs.Laws.{Begins, SentInOrder}
-use Rattle.njh_hub.specs.OwnEvents.{first_bytes, first_of}
+use Rattle.njh_hub.specs.OwnEvents.{first_bytes, first_events}
 use Rattle.njh_hub.specs.WholeHub.{Part, part, sent_by, hub_event, hub_run}
 use Rattle.njh_hub.proofs.PieceLaws.{sent_by-append}
 
@@ -50,6 +50,6 @@ sent_in_order first parts (event ∷ events) (suc k) n =
     let x = hub_event parts event in
     let later = sent_in_order first x.parts events k n in (
       later.0,
-      append_assoc x.sent (hub_run x.parts (first_of events k n)).sent later.0
+      append_assoc x.sent (hub_run x.parts (first_events events k n)).sent later.0
           ∙ ap (λ (s : List (LineId × List ℕ)). x.sent ++ s) later.1,
     )

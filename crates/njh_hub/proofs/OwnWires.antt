@@ -5,9 +5,9 @@ use Rattle.njh_table.specs.declared.LineId.{LineId}
 use Rattle.njh_customer.specs.Runs.{OwnEvent}
 use Rattle.njh_hub.specs.declared.event.Event.{Event}
 use Rattle.njh_hub.specs.declared.event.Event.TheVariants.{Bytes, Tick, Garbled, Lost, Routes}
-use Rattle.njh_hub.specs.OwnEvents.{customer_of, line_of, own, events_of}
-use Rattle.njh_hub.specs.Wires.{Heard, Came, Quiet, Pending, Closed, Absent, Failed, cut_to, loss_of, told}
-use Rattle.njh_hub.specs.Turns.{Turn, event_of, told_where, turn_events, quiet_after, round_events, quiets_after, all_events, no_quiets}
+use Rattle.njh_hub.specs.OwnEvents.{customer_of_event, line_of_event, own, events_of}
+use Rattle.njh_hub.specs.Wires.{Heard, Came, Quiet, Pending, Closed, Absent, Failed, cut_to, loss_of, heard_events}
+use Rattle.njh_hub.specs.Turns.{Turn, wire_event, told_where, turn_events, quiet_after, round_events, quiets_after, all_events, no_quiets}
 use Rattle.njh_hub.specs.WireLaws.{own_wires, OwnWiresDecide}
 use Rattle.njh_hub.proofs.RoundLaws.{round_events-none, quiets_after-none}
 
@@ -19,19 +19,19 @@ first-append false x xs ys zs e = e
 pub events_of-append : (c : ℕ) (xs ys : List Event) → events_of c (xs ++ ys) ≡ events_of c xs ++ events_of c ys
 events_of-append c [] ys = refl
 events_of-append c (x ∷ xs) ys =
-    first-append (eqb (customer_of x) c) (own x) (events_of c (xs ++ ys)) (events_of c xs) (events_of c ys) (events_of-append c xs ys)
+    first-append (eqb (customer_of_event x) c) (own x) (events_of c (xs ++ ys)) (events_of c xs) (events_of c ys) (events_of-append c xs ys)
 
 -- ---- a turn of another customer's wire
 
 abbrev OnLine : LineId → Option Event → Type 0
 OnLine line None = Unit {0}
-OnLine line (Some event) = line_of event ≡ Some line
+OnLine line (Some event) = line_of_event event ≡ Some line
 
 tick_on : (line : LineId) (b : Bool) → OnLine line (cond b (Some (Tick line)) None)
 tick_on line true = refl
 tick_on line false = tt
 
-event_on : (line : LineId) (quiet : ℕ) (heard : Heard) → OnLine line (event_of line quiet heard)
+event_on : (line : LineId) (quiet : ℕ) (heard : Heard) → OnLine line (wire_event line quiet heard)
 event_on line quiet (Came piece) = refl
 event_on line quiet Quiet = tick_on line (eqb quiet 9)
 event_on line quiet Pending = tt
@@ -39,7 +39,7 @@ event_on line quiet Closed = refl
 event_on line quiet Absent = tt
 event_on line quiet Failed = refl
 
-customer_of-cut : (n : ℕ) (event : Event) → customer_of (cut_to n event) ≡ customer_of event
+customer_of-cut : (n : ℕ) (event : Event) → customer_of_event (cut_to n event) ≡ customer_of_event event
 customer_of-cut n (Bytes line piece) = refl
 customer_of-cut n (Tick line) = refl
 customer_of-cut n (Garbled line) = refl
@@ -50,19 +50,19 @@ same_customer : (l line : LineId) → Some l ≡ Some line → l.customer ≡ li
 same_customer l line is = let same : l ≡ line = cc is in ap (λ (x : LineId). x.customer) same
 
 -- an event on a line is of that line's customer
-customer_of-on : (event : Event) (line : LineId) → line_of event ≡ Some line → customer_of event ≡ line.customer
+customer_of-on : (event : Event) (line : LineId) → line_of_event event ≡ Some line → customer_of_event event ≡ line.customer
 customer_of-on (Bytes l piece) line on = same_customer l line on
 customer_of-on (Tick l) line on = same_customer l line on
 customer_of-on (Garbled l) line on = same_customer l line on
 customer_of-on (Lost l) line on = same_customer l line on
 customer_of-on (Routes c routes) line on = cc on
 
-told-other : (c : ℕ) (line : LineId) (cut : Option ℕ) (event : Event) → line_of event ≡ Some line → eqb line.customer c ≡ false →
-    events_of c (told cut event) ≡ []
+told-other : (c : ℕ) (line : LineId) (cut : Option ℕ) (event : Event) → line_of_event event ≡ Some line → eqb line.customer c ≡ false →
+    events_of c (heard_events cut event) ≡ []
 told-other c line None event on other =
     ap (λ (d : ℕ). cond (eqb d c) (own event ∷ []) []) (customer_of-on event line on) ∙ ap (λ (b : Bool). cond b (own event ∷ []) []) other
 told-other c line (Some n) event on other =
-    let last : List OwnEvent = events_of c (loss_of (line_of event)) in
+    let last : List OwnEvent = events_of c (loss_of (line_of_event event)) in
     ap (λ (d : ℕ). cond (eqb d c) (own (cut_to n event) ∷ last) last) (customer_of-cut n event ∙ customer_of-on event line on)
     ∙ ap (λ (b : Bool). cond b (own (cut_to n event) ∷ last) last) other
     ∙ ap (λ (o : Option LineId). events_of c (loss_of o)) on
@@ -74,7 +74,7 @@ where-other c line cut None on other = refl
 where-other c line cut (Some event) on other = told-other c line cut event on other
 
 turn-other : (c : ℕ) (line : LineId) (quiet : ℕ) (turn : Turn) → eqb line.customer c ≡ false → events_of c (turn_events line quiet turn) ≡ []
-turn-other c line quiet turn other = where-other c line turn.cut (event_of line quiet turn.heard) (event_on line quiet turn.heard) other
+turn-other c line quiet turn other = where-other c line turn.cut (wire_event line quiet turn.heard) (event_on line quiet turn.heard) other
 
 -- ---- a round
 

@@ -81,7 +81,7 @@ pub held-other : {table : TableFile} {files : List CustomerSpool} {lines : List 
 held-other {table} {files} {lines} {c} {new} {after} {more} m d apart =
     ap₂ (λ (x : NamedCustomer) (s : CustomerSpool). part_with (entry_of x) s (lines_at d more))
     (m.in_table.others d apart) (m.in_files.others d apart)
-    ∙ ap (part_with (entry_of (customer_at table d)) (spools.part d files)) (m.in_lines.others d apart)
+    ∙ ap (part_with (entry_of (customer_at table d)) (spools.spool_at d files)) (m.in_lines.others d apart)
 
 -- the hub's parts: that customer's is another, and no other
 pub parts-moved : {table : TableFile} {files : List CustomerSpool} {lines : List Lines} {c : ℕ} {new : TableFile}
@@ -158,8 +158,8 @@ pub record Found (table : TableFile) (files : List CustomerSpool) (lines : List 
   pub there : line.customer < length table.customers
   pub lines_is : x ≡ lines_at line.customer lines
   pub ready : IsReady table line files x.lines
-  pub marked : IsMarked (part_with (entry_of (customer_at table line.customer)) (spools.part line.customer files) x).customer
-  pub part_is : part_with (entry_of (customer_at table line.customer)) (spools.part line.customer files) x ≡ part line.customer parts
+  pub marked : IsMarked (part_with (entry_of (customer_at table line.customer)) (spools.spool_at line.customer files) x).customer
+  pub part_is : part_with (entry_of (customer_at table line.customer)) (spools.spool_at line.customer files) x ≡ part line.customer parts
 
 pub found : (table : TableFile) (files : List CustomerSpool) (lines : List Lines) (parts : List Part) (line : LineId) (x : Lines)
     → IsHub table files lines → parts_of table files lines ≡ parts → HasLine parts line → x ≡ get_or lines line.customer x
@@ -175,9 +175,9 @@ found table files lines parts line x hub are known here =
       there = there;
       lines_is = is;
       ready = subst (λ (y : Lines). IsReady table line files y.lines) (sym is) (line-ready table files lines line hub has);
-      marked = subst (λ (y : Lines). IsMarked (part_with (entry_of (customer_at table c)) (spools.part c files) y).customer) (sym is)
+      marked = subst (λ (y : Lines). IsMarked (part_with (entry_of (customer_at table c)) (spools.spool_at c files) y).customer) (sym is)
           (hub.marked c there);
-      part_is = ap (part_with (entry_of (customer_at table c)) (spools.part c files)) is ∙ sym (part-there table files lines c there)
+      part_is = ap (part_with (entry_of (customer_at table c)) (spools.spool_at c files)) is ∙ sym (part-there table files lines c there)
           ∙ ap (part c) are;
     }
 
@@ -185,9 +185,9 @@ found table files lines parts line x hub are known here =
 pub record Stepped (table : TableFile) (files : List CustomerSpool) (x : Lines) (line : LineId)
     (new : TableFile) (after : List CustomerSpool) (y : Lines) : Type 0 where
   pub in_table : IsRetold line.customer table new
-  pub in_files : after ≡ slice_set files line.customer (spools.part line.customer after)
+  pub in_files : after ≡ slice_set files line.customer (spools.spool_at line.customer after)
   pub ready : IsReady new line after y.lines
-  pub marked : IsMarked (part_with (entry_of (customer_at new line.customer)) (spools.part line.customer after) y).customer
+  pub marked : IsMarked (part_with (entry_of (customer_at new line.customer)) (spools.spool_at line.customer after) y).customer
   pub count : length y.lines ≡ length x.lines
 
 pub stepped : {table : TableFile} {files : List CustomerSpool} {lines : List Lines} {parts : List Part} {line : LineId} {x : Lines}
@@ -202,31 +202,31 @@ stepped {table} {files} {lines} {parts} {line} {x} {new} {after} {y} f t =
       in_table = subst (λ (n : TableFile). DifferAt no_customer c table.customers n.customers) (sym t.in_table)
           (differ-set no_customer c table.customers (customer_at new c));
       in_files = subst (λ (ss : List CustomerSpool). DifferAt spools.no_spool c files ss) (sym t.in_files)
-          (differ-set spools.no_spool c files (spools.part c after));
+          (differ-set spools.no_spool c files (spools.spool_at c after));
       in_lines = differ-set no_lines c lines y;
-      coherent = subst (λ (l : Lines). IsCoherent (part_with (entry_of (customer_at new c)) (spools.part c after) l).customer) is
+      coherent = subst (λ (l : Lines). IsCoherent (part_with (entry_of (customer_at new c)) (spools.spool_at c after) l).customer) is
           t.ready.coherent;
-      marked = subst (λ (l : Lines). IsMarked (part_with (entry_of (customer_at new c)) (spools.part c after) l).customer) is t.marked;
+      marked = subst (λ (l : Lines). IsMarked (part_with (entry_of (customer_at new c)) (spools.spool_at c after) l).customer) is t.marked;
     }
 
 -- so its part becomes another, and no other does
 pub step-leads : {table : TableFile} {files : List CustomerSpool} {lines : List Lines} {parts : List Part} {line : LineId} {x : Lines}
     {new : TableFile} {after : List CustomerSpool} {y : Lines} → Found table files lines parts line x
     → Stepped table files x line new after y
-    → (p : Part) → part_with (entry_of (customer_at new line.customer)) (spools.part line.customer after) y ≡ p
+    → (p : Part) → part_with (entry_of (customer_at new line.customer)) (spools.spool_at line.customer after) y ≡ p
     → parts_of new after (set lines line.customer y) ≡ set parts line.customer p
 step-leads {table} {files} {lines} {parts} {line} {x} {new} {after} {y} f t p is =
     let c = line.customer in
     parts-moved (stepped f t)
     ∙ ap₂ (λ (ps : List Part) (q : Part). set ps c q) f.are
-    (ap (part_with (entry_of (customer_at new c)) (spools.part c after))
+    (ap (part_with (entry_of (customer_at new c)) (spools.spool_at c after))
     (get_or-set_same lines c y no_lines (omega (arith, f.there, f.hub.lined))) ∙ is)
 
 -- and each keeps as many lines
 pub step-lines : {table : TableFile} {files : List CustomerSpool} {lines : List Lines} {parts : List Part} {line : LineId} {x : Lines}
     {new : TableFile} {after : List CustomerSpool} {y : Lines} → Found table files lines parts line x
     → Stepped table files x line new after y
-    → (p : Part) → part_with (entry_of (customer_at new line.customer)) (spools.part line.customer after) y ≡ p
+    → (p : Part) → part_with (entry_of (customer_at new line.customer)) (spools.spool_at line.customer after) y ≡ p
     → SameLines parts (set parts line.customer p)
 step-lines {table} {files} {lines} {parts} {line} {x} {new} {after} {y} f t p is =
     lines-stay parts line.customer p (customer-known table files lines parts line.customer f.are f.there)

@@ -4,7 +4,7 @@ use Rattle.std.proofs.lemmas.List.{get_or-set_same, set-set, set-get_or}
 use Rattle.njh_table.specs.declared.LineId.{LineId}
 use Rattle.njh_customer.specs.Feeding.{sent_on}
 use Rattle.njh_customer.specs.Laws.{NoBytesDoNothing, StepsFollowBytes}
-use Rattle.njh_customer.specs.Part.{bytes_taken}
+use Rattle.njh_customer.specs.Part.{part_after_bytes}
 use Rattle.njh_customer.specs.Runs.{OwnBytes, Run, event_run}
 use Rattle.njh_hub.specs.declared.event.Event.TheVariants.{Bytes}
 use Rattle.njh_hub.specs.WholeHub.{Part, no_part, part, sent_by, HubRun, hub_event}
@@ -24,7 +24,7 @@ after_bytes parts line bytes = hub_event parts (Bytes line bytes)
 -- a hub after a step by bytes on a line, with the frames that were sent before
 abbrev pub stepped : HubRun → LineId → List ℕ → HubRun
 stepped h line left =
-    let t = bytes_taken (part line.customer h.parts) line.line left in
+    let t = part_after_bytes (part line.customer h.parts) line.line left in
     record { parts = set h.parts line.customer t.after; sent = h.sent ++ sent_by line.customer (sent_on line.line t.frame) }
 
 -- no bytes change nothing
@@ -38,7 +38,7 @@ after_bytes-none nothing parts line =
 -- bytes on a line, and then a step from a part q
 abbrev Goes : List Part → LineId → List ℕ → List ℕ → Part → Type 0
 Goes parts line a left q =
-    let t = bytes_taken q line.line left in
+    let t = part_after_bytes q line.line left in
     after_bytes parts line (a ++ take t.taken left)
     ≡ run_with (set (after_bytes parts line a).parts line.customer t.after)
     ((after_bytes parts line a).sent ++ sent_by line.customer (sent_on line.line t.frame))
@@ -46,14 +46,14 @@ Goes parts line a left q =
 -- what a line read is what its bytes lead to, whether a step came between or not
 pub after_bytes-step : StepsFollowBytes → (parts : List Part) (line : LineId) (a left : List ℕ) →
     line.customer < length parts → line.line < length (part line.customer (after_bytes parts line a).parts).rests →
-    (let t = bytes_taken (part line.customer (after_bytes parts line a).parts) line.line left in
+    (let t = part_after_bytes (part line.customer (after_bytes parts line a).parts) line.line left in
     after_bytes parts line (a ++ take t.taken left) ≡ stepped (after_bytes parts line a) line left)
 after_bytes-step follow parts line a left there within =
     let c = line.customer in
     let l = line.line in
     let p = part c parts in
     let x = event_run p (OwnBytes l a) in
-    let t = bytes_taken x.after l left in
+    let t = part_after_bytes x.after l left in
     let moved : part c (after_bytes parts line a).parts ≡ x.after = get_or-set_same parts c x.after no_part there in
     let inside : l < length x.after.rests = omega (arith, within, ap (λ (q : Part). length q.rests) moved) in
     let P : Part → Type 0 = λ q. Goes parts line a left q in

@@ -8,7 +8,7 @@ use Rattle.njh_table.specs.Entries.{RouteEntry}
 use Rattle.njh_table.specs.TableFile.{TableFile, customer_at, entry_of, no_customer}
 use Rattle.njh_customer.specs.Customer.{IsMarked}
 use Rattle.njh_customer.specs.code.Coherence.{IsCoherent}
-use Rattle.njh_customer.specs.NewRoutes.{routes_taken}
+use Rattle.njh_customer.specs.NewRoutes.{part_after_routes}
 use Rattle.njh_customer.specs.code.Coherence.{RoutesKeepCoherent}
 use Rattle.njh_customer.specs.Part.{Part, Lines, part_with}
 use Rattle.njh_hub.specs.WholeHub.{part}
@@ -26,21 +26,21 @@ pub record Retabled (table : TableFile) (files : List CustomerSpool) (lines : Li
   pub hub : IsHub table files lines
   pub there : c < length table.customers
   pub tables : new ≡ table_with c routes table
-  pub others : after ≡ slice_set files c (spools.part c after)
-  pub is : part_with (entry_of (customer_at new c)) (spools.part c after) (lines_at c lines)
-      ≡ routes_taken (entry_of (customer_at new c)).routes
-      (part_with (entry_of (customer_at new c)) (spools.part c files) (lines_at c lines))
+  pub others : after ≡ slice_set files c (spools.spool_at c after)
+  pub is : part_with (entry_of (customer_at new c)) (spools.spool_at c after) (lines_at c lines)
+      ≡ part_after_routes (entry_of (customer_at new c)).routes
+      (part_with (entry_of (customer_at new c)) (spools.spool_at c files) (lines_at c lines))
   pub kept : RoutesKeepCoherent
 
 -- its part is another
 pub held-new : {table : TableFile} {files : List CustomerSpool} {lines : List Lines} {c : ℕ} {routes : List RouteEntry} {new : TableFile}
     {after : List CustomerSpool} → Retabled table files lines c routes new after
-    → part_held new after lines c ≡ routes_taken routes (part_held table files lines c)
+    → part_held new after lines c ≡ part_after_routes routes (part_held table files lines c)
 held-new {table} {files} {lines} {c} {routes} {new} {after} r =
     let now = record (customer_at table c) { routes = routes } in
     let the_customer : customer_at new c ≡ now =
     ap (λ t. customer_at t c) r.tables ∙ get_or-set_same table.customers c now no_customer r.there in
-    r.is ∙ ap (λ x. routes_taken (entry_of x).routes (part_with (entry_of x) (spools.part c files) (lines_at c lines))) the_customer
+    r.is ∙ ap (λ x. part_after_routes (entry_of x).routes (part_with (entry_of x) (spools.spool_at c files) (lines_at c lines))) the_customer
 
 pub retabled : {table : TableFile} {files : List CustomerSpool} {lines : List Lines} {c : ℕ} {routes : List RouteEntry} {new : TableFile}
     {after : List CustomerSpool} → Retabled table files lines c routes new after → Moves table files lines c new after lines
@@ -52,7 +52,7 @@ retabled {table} {files} {lines} {c} {routes} {new} {after} r =
       in_table = subst (λ (t : TableFile). DifferAt no_customer c table.customers t.customers) (sym r.tables)
           (differ-set no_customer c table.customers now);
       in_files = subst (λ (ss : List CustomerSpool). DifferAt spools.no_spool c files ss) (sym r.others)
-          (differ-set spools.no_spool c files (spools.part c after));
+          (differ-set spools.no_spool c files (spools.spool_at c after));
       in_lines = differ-nowhere no_lines c lines;
       coherent = subst (λ (p : Part). IsCoherent p.customer) (sym (held-new r))
           (r.kept routes (part_held table files lines c).customer (r.hub.coherent c r.there));
@@ -61,8 +61,8 @@ retabled {table} {files} {lines} {c} {routes} {new} {after} r =
 
 pub parts-retabled : {table : TableFile} {files : List CustomerSpool} {lines : List Lines} {c : ℕ} {routes : List RouteEntry}
     {new : TableFile} {after : List CustomerSpool} → Retabled table files lines c routes new after
-    → parts_of new after lines ≡ set (parts_of table files lines) c (routes_taken routes (part c (parts_of table files lines)))
+    → parts_of new after lines ≡ set (parts_of table files lines) c (part_after_routes routes (part c (parts_of table files lines)))
 parts-retabled {table} {files} {lines} {c} {routes} {new} {after} r =
     let old = parts_of table files lines in
     parts-moved (retabled r)
-    ∙ ap (set old c) (held-new r ∙ ap (routes_taken routes) (sym (part-there table files lines c r.there)))
+    ∙ ap (set old c) (held-new r ∙ ap (part_after_routes routes) (sym (part-there table files lines c r.there)))

@@ -14,8 +14,8 @@ use Rattle.njh_hub.specs.declared.event.Event.{Event}
 use Rattle.njh_hub.specs.Sent.{IsCounted}
 use Rattle.njh_hub.specs.WholeHub.{Part, HubRun, hub_run}
 use Rattle.njh_hub.specs.Wires.{Pending, Failed, WireAct}
-use Rattle.njh_hub.specs.Turns.{Turn, IsTurn, Placed, HadTurn, HadTurns, HasFault, IsRound, no_line, no_turn, quiet_after, turn_events}
-use Rattle.njh_hub.specs.Turns.{round_events, quiets_after, placed, placed_acts, placed_stop, all_events, all_quiets, turns_of}
+use Rattle.njh_hub.specs.Turns.{Turn, IsTurn, Placed, HadTurn, HadTurns, HasFault, IsRound, no_line_id, no_turn, quiet_after, turn_events}
+use Rattle.njh_hub.specs.Turns.{round_events, quiets_after, turn_at, placed_acts, placed_stop, all_events, all_quiets, turns_of}
 use Rattle.njh_hub.proofs.RunningLaws.{counted_from, hub_run-append}
 use Rattle.njh_hub.proofs.TurnLaws.{counted_on}
 
@@ -28,7 +28,7 @@ round_events-none (line ∷ lines) (quiet ∷ quiets) = refl
 
 pub round_events-more : (lines : List LineId) (quiets : List ℕ) (turns : List Turn) (turn : Turn) →
     length turns < length lines → length turns < length quiets → round_events lines quiets (turns ++ turn ∷ [])
-    ≡ round_events lines quiets turns ++ turn_events (get_or lines (length turns) no_line) (get_or quiets (length turns) 0) turn
+    ≡ round_events lines quiets turns ++ turn_events (get_or lines (length turns) no_line_id) (get_or quiets (length turns) 0) turn
 round_events-more [] quiets turns turn h k = absurd (omega arith)
 round_events-more (l ∷ ls) [] turns turn h k = absurd (omega arith)
 round_events-more (l ∷ ls) (q ∷ qs) [] turn h k =
@@ -36,7 +36,7 @@ round_events-more (l ∷ ls) (q ∷ qs) [] turn h k =
 round_events-more (l ∷ ls) (q ∷ qs) (t ∷ ts) turn h k =
     ap (λ (es : List Event). turn_events l q t ++ es) (round_events-more ls qs ts turn (omega arith) (omega arith))
     ∙ sym (append_assoc (turn_events l q t) (round_events ls qs ts)
-    (turn_events (get_or ls (length ts) no_line) (get_or qs (length ts) 0) turn))
+    (turn_events (get_or ls (length ts) no_line_id) (get_or qs (length ts) 0) turn))
 
 pub quiets_after-none : (quiets : List ℕ) → quiets ≡ quiets_after quiets []
 quiets_after-none [] = refl
@@ -63,25 +63,25 @@ length-quiets_after (q ∷ qs) (t ∷ ts) = omega (arith, length-quiets_after qs
 
 -- an earlier turn stands where it stood
 placed-before : (parts : List Part) (lines : List LineId) (quiets : List ℕ) (i : ℕ) (turns : List Turn) (turn : Turn) →
-    i < length turns → placed parts lines quiets i (turns ++ turn ∷ []) ≡ placed parts lines quiets i turns
+    i < length turns → turn_at parts lines quiets i (turns ++ turn ∷ []) ≡ turn_at parts lines quiets i turns
 placed-before parts lines quiets i turns turn h =
-    ap (λ (ts : List Turn). record (placed parts lines quiets i (turns ++ turn ∷ [])) {
+    ap (λ (ts : List Turn). record (turn_at parts lines quiets i (turns ++ turn ∷ [])) {
       parts = (hub_run parts (round_events lines quiets ts)).parts;
     }) (take-append-le i turns (turn ∷ []) (omega arith))
-    ∙ ap (λ (t : Turn). record (placed parts lines quiets i turns) { turn = t }) (get_or_append_left turns (turn ∷ []) no_turn i h)
+    ∙ ap (λ (t : Turn). record (turn_at parts lines quiets i turns) { turn = t }) (get_or_append_left turns (turn ∷ []) no_turn i h)
 
 placed-here : (parts : List Part) (lines : List LineId) (quiets : List ℕ) (turns : List Turn) (turn : Turn) →
-    placed parts lines quiets (length turns) (turns ++ turn ∷ []) ≡ record {
+    turn_at parts lines quiets (length turns) (turns ++ turn ∷ []) ≡ record {
       parts = (hub_run parts (round_events lines quiets turns)).parts;
-      line = get_or lines (length turns) no_line;
+      line = get_or lines (length turns) no_line_id;
       quiet = get_or quiets (length turns) 0;
       turn = turn;
     }
 placed-here parts lines quiets turns turn =
-    ap (λ (ts : List Turn). record (placed parts lines quiets (length turns) (turns ++ turn ∷ [])) {
+    ap (λ (ts : List Turn). record (turn_at parts lines quiets (length turns) (turns ++ turn ∷ [])) {
       parts = (hub_run parts (round_events lines quiets ts)).parts;
     }) (take-append_seam turns (turn ∷ []))
-    ∙ ap (λ (t : Turn). record (placed parts lines quiets (length turns) (turns ++ turn ∷ [])) {
+    ∙ ap (λ (t : Turn). record (turn_at parts lines quiets (length turns) (turns ++ turn ∷ [])) {
       parts = (hub_run parts (round_events lines quiets turns)).parts;
       turn = t;
     }) (get_or-append_seam turns turn [] no_turn)
@@ -95,7 +95,7 @@ pub record GoesRound {S : Type 0} (passed : S → S → List WireAct → Type 0)
   pub lines_left : i < length lines
   pub quiets_left : i < length quiets
   pub wires_left : i < length now_wires
-  pub line_is : line ≡ get_or lines i no_line
+  pub line_is : line ≡ get_or lines i no_line_id
   pub quiet_is : quiet ≡ get_or now_quiets i 0
   pub wire_is : wire ≡ get_or now_wires i wire
   pub did : IsTurn passed count now line quiet turn wire new new_wire
@@ -105,14 +105,14 @@ round_had : {S : Type 0} {passed : S → S → List WireAct → Type 0} {count :
     {quiets : List ℕ} {wires : List S} {turns : List Turn} {now : List Part} {now_quiets : List ℕ} {now_wires : List S} {i : ℕ}
     {line : LineId} {quiet : ℕ} {turn : Turn} {wire : S} {new : List Part} {new_wire : S} →
     GoesRound passed count lines parts quiets wires turns now now_quiets now_wires i line quiet turn wire new new_wire →
-    HadTurn passed count (placed parts lines quiets (length turns) (turns ++ turn ∷ [])) wire new_wire →
+    HadTurn passed count (turn_at parts lines quiets (length turns) (turns ++ turn ∷ [])) wire new_wire →
     (k : ℕ) (d : S) → k < length (turns ++ turn ∷ []) → (k < length turns) ⊎ (length turns ≤ k) →
-    HadTurn passed count (placed parts lines quiets k (turns ++ turn ∷ [])) (get_or wires k d) (get_or (set now_wires i new_wire) k d)
+    HadTurn passed count (turn_at parts lines quiets k (turns ++ turn ∷ [])) (get_or wires k d) (get_or (set now_wires i new_wire) k d)
 round_had {S} {passed} {count} {lines} {parts} {quiets} {wires} {turns} {now} {now_quiets} {now_wires} {i} {line} {quiet} {turn} {wire}
     {new} {new_wire} g this k d within which =
     ⊎_elim (λ (w : k < length turns).
     let P : Placed → Type 0 = λ p. HadTurn passed count p (get_or wires k d) (get_or (set now_wires i new_wire) k d) in
-    let Q : S → Type 0 = λ s. HadTurn passed count (placed parts lines quiets k turns) (get_or wires k d) s in
+    let Q : S → Type 0 = λ s. HadTurn passed count (turn_at parts lines quiets k turns) (get_or wires k d) s in
     let other : get_or (set now_wires i new_wire) k d ≡ get_or now_wires k d =
     get_or-set_other now_wires i k new_wire d (omega (arith, g.at, w)) in
     subst P (sym (placed-before parts lines quiets k turns turn w)) (subst Q (sym other) (g.so_far.had k d w)))
@@ -123,9 +123,9 @@ round_had {S} {passed} {count} {lines} {parts} {quiets} {wires} {turns} {now} {n
     ∙ ap (λ (n : ℕ). get_or now_wires n d) (sym at) ∙ g.so_far.rest k d w in
     let new_is : new_wire ≡ get_or (set now_wires i new_wire) k d =
     sym (ap (λ (n : ℕ). get_or (set now_wires i new_wire) n d) at ∙ get_or-set_same now_wires i new_wire d g.wires_left) in
-    let P : ℕ → Type 0 = λ n. HadTurn passed count (placed parts lines quiets n (turns ++ turn ∷ [])) wire new_wire in
-    let Q : S → Type 0 = λ s. HadTurn passed count (placed parts lines quiets k (turns ++ turn ∷ [])) s new_wire in
-    let R : S → Type 0 = λ s. HadTurn passed count (placed parts lines quiets k (turns ++ turn ∷ [])) (get_or wires k d) s in
+    let P : ℕ → Type 0 = λ n. HadTurn passed count (turn_at parts lines quiets n (turns ++ turn ∷ [])) wire new_wire in
+    let Q : S → Type 0 = λ s. HadTurn passed count (turn_at parts lines quiets k (turns ++ turn ∷ [])) s new_wire in
+    let R : S → Type 0 = λ s. HadTurn passed count (turn_at parts lines quiets k (turns ++ turn ∷ [])) (get_or wires k d) s in
     subst R new_is (subst Q old (subst P same this))) which
 
 pub round_more : {S : Type 0} {passed : S → S → List WireAct → Type 0} {count : S → ℕ} {lines : List LineId} {parts : List Part}
@@ -137,27 +137,27 @@ pub round_more : {S : Type 0} {passed : S → S → List WireAct → Type 0} {co
 round_more {S} {passed} {count} {lines} {parts} {quiets} {wires} {turns} {now} {now_quiets} {now_wires} {i} {line} {quiet} {turn} {wire}
     {new} {new_wire} g =
     let before = round_events lines quiets turns in
-    let line_is : line ≡ get_or lines (length turns) no_line = g.line_is ∙ ap (λ (n : ℕ). get_or lines n no_line) (sym g.at) in
+    let line_is : line ≡ get_or lines (length turns) no_line_id = g.line_is ∙ ap (λ (n : ℕ). get_or lines n no_line_id) (sym g.at) in
     let quiet_is : quiet ≡ get_or quiets (length turns) 0 =
     g.quiet_is ∙ ap (λ (n : ℕ). get_or now_quiets n 0) (sym g.at) ∙ ap (λ (qs : List ℕ). get_or qs (length turns) 0) g.so_far.calm
     ∙ quiets_after-here quiets turns in
-    let here : turn_events line quiet turn ≡ turn_events (get_or lines (length turns) no_line) (get_or quiets (length turns) 0) turn =
+    let here : turn_events line quiet turn ≡ turn_events (get_or lines (length turns) no_line_id) (get_or quiets (length turns) 0) turn =
     ap (λ (l : LineId). turn_events l quiet turn) line_is
-    ∙ ap (λ (q : ℕ). turn_events (get_or lines (length turns) no_line) q turn) quiet_is in
+    ∙ ap (λ (q : ℕ). turn_events (get_or lines (length turns) no_line_id) q turn) quiet_is in
     let events : round_events lines quiets (turns ++ turn ∷ []) ≡ before ++ turn_events line quiet turn =
     round_events-more lines quiets turns turn (omega (arith, g.at, g.lines_left)) (omega (arith, g.at, g.quiets_left))
     ∙ ap (λ (es : List Event). before ++ es) (sym here) in
     let P : Placed → Type 0 = λ p. HadTurn passed count p wire new_wire in
-    let place : record { parts = now; line = line; quiet = quiet; turn = turn } ≡ placed parts lines quiets (length turns) (turns ++ turn ∷ []) =
+    let place : record { parts = now; line = line; quiet = quiet; turn = turn } ≡ turn_at parts lines quiets (length turns) (turns ++ turn ∷ []) =
     ap (λ (ps : List Part). record { parts = ps; line = line; quiet = quiet; turn = turn }) g.so_far.hub
     ∙ ap (λ (l : LineId). record { parts = (hub_run parts before).parts; line = l; quiet = quiet; turn = turn }) line_is
     ∙ ap (λ (q : ℕ). record {
       parts = (hub_run parts before).parts;
-      line = get_or lines (length turns) no_line;
+      line = get_or lines (length turns) no_line_id;
       quiet = q;
       turn = turn;
     }) quiet_is ∙ sym (placed-here parts lines quiets turns turn) in
-    let this : HadTurn passed count (placed parts lines quiets (length turns) (turns ++ turn ∷ [])) wire new_wire =
+    let this : HadTurn passed count (turn_at parts lines quiets (length turns) (turns ++ turn ∷ [])) wire new_wire =
     subst P place (record { acts = g.did.acts; stop = g.did.stop; counts = g.did.counts; counted = g.did.counted }) in
     record {
       hub = g.did.hub ∙ ap (λ (ps : List Part). (hub_run ps (turn_events line quiet turn)).parts) g.so_far.hub
@@ -186,7 +186,7 @@ round_over {S} {passed} {count} {lines} {parts} {quiets} {wires} {turns} {now} {
     wires_left =
     let now_wires : List S = w ∷ ws in
     let wire : S = get_or now_wires i w in
-    let goes : GoesRound passed count lines parts quiets wires turns now now_quiets now_wires i (get_or lines i no_line)
+    let goes : GoesRound passed count lines parts quiets wires turns now now_quiets now_wires i (get_or lines i no_line_id)
     (get_or now_quiets i 0) passed_over wire now wire = record {
       so_far = h;
       at = at;
@@ -237,13 +237,13 @@ all_events-more lines quiets (r ∷ rounds) round =
 pub turns_of-more : (parts : List Part) (lines : List LineId) (quiets : List ℕ) (i : ℕ) (rounds : List (List Turn)) (round : List Turn) →
     turns_of parts lines quiets i (rounds ++ round ∷ [])
     ≡ turns_of parts lines quiets i rounds
-    ++ placed (hub_run parts (all_events lines quiets rounds)).parts lines (all_quiets quiets rounds) i round ∷ []
+    ++ turn_at (hub_run parts (all_events lines quiets rounds)).parts lines (all_quiets quiets rounds) i round ∷ []
 turns_of-more parts lines quiets i [] round = refl
 turns_of-more parts lines quiets i (r ∷ rounds) round =
     let first = round_events lines quiets r in
     let quieter = quiets_after quiets r in
-    ap (λ (ps : List Placed). placed parts lines quiets i r ∷ ps) (turns_of-more (hub_run parts first).parts lines quieter i rounds round)
-    ∙ ap (λ (ps : List Part). turns_of parts lines quiets i (r ∷ rounds) ++ placed ps lines (all_quiets quieter rounds) i round ∷ [])
+    ap (λ (ps : List Placed). turn_at parts lines quiets i r ∷ ps) (turns_of-more (hub_run parts first).parts lines quieter i rounds round)
+    ∙ ap (λ (ps : List Part). turns_of parts lines quiets i (r ∷ rounds) ++ turn_at ps lines (all_quiets quieter rounds) i round ∷ [])
     (sym (ap (λ (h : HubRun). h.parts) (hub_run-append parts first (all_events lines quieter rounds))))
 
 pub had_more : {S : Type 0} (passed : S → S → List WireAct → Type 0) (count : S → ℕ) (turns : List Placed) (p : Placed) (a b c : S) →
@@ -305,12 +305,12 @@ over_more {S} passed count lines parts quiets wires rounds now now_quiets now_wi
       calm = r.calm ∙ ap (λ (qs : List ℕ). quiets_after qs round) h.calm ∙ sym (all_quiets-more quiets rounds round);
       had = λ i d within.
           let P : Placed → Type 0 = λ p. HadTurn passed count p (get_or now_wires i d) (get_or new_wires i d) in
-          let place : placed now lines now_quiets i round ≡ placed (hub_run parts before).parts lines quieter i round =
-          ap (λ (ps : List Part). placed ps lines now_quiets i round) h.hub
-          ∙ ap (λ (qs : List ℕ). placed (hub_run parts before).parts lines qs i round) h.calm in
+          let place : turn_at now lines now_quiets i round ≡ turn_at (hub_run parts before).parts lines quieter i round =
+          ap (λ (ps : List Part). turn_at ps lines now_quiets i round) h.hub
+          ∙ ap (λ (qs : List ℕ). turn_at (hub_run parts before).parts lines qs i round) h.calm in
           let Q : List Placed → Type 0 = λ ps. HadTurns passed count ps (get_or wires i d) (get_or new_wires i d) in
           subst Q (sym (turns_of-more parts lines quiets i rounds round))
-          (had_more passed count (turns_of parts lines quiets i rounds) (placed (hub_run parts before).parts lines quieter i round)
+          (had_more passed count (turns_of parts lines quiets i rounds) (turn_at (hub_run parts before).parts lines quieter i round)
           (get_or wires i d) (get_or now_wires i d) (get_or new_wires i d) more (h.had i d within)
           (subst P place (r.had i d (omega (arith, whole, within)))));
     }

@@ -8,8 +8,8 @@ use Rattle.njh_table.specs.Entries.{CustomerEntry}
 use Rattle.njh_table.specs.declared.LineId.{LineId}
 use Rattle.njh_hub.specs.declared.event.Event.{Event}
 use Rattle.njh_customer.specs.Runs.{OwnEvent, Run, event_run, alone_run}
-use Rattle.njh_hub.specs.OwnEvents.{customer_of, own, events_of, sent_to}
-use Rattle.njh_hub.specs.WholeHub.{Part, opened, no_entry, no_part, part, sent_by, own_event, hub_run}
+use Rattle.njh_hub.specs.OwnEvents.{customer_of_event, own, events_of, sent_to}
+use Rattle.njh_hub.specs.WholeHub.{Part, part_at_open, no_entry, no_part, part, sent_by, own_event, hub_run}
 use Rattle.njh_hub.specs.Files.{files_of}
 use Rattle.njh_hub.specs.Laws.{IsAlone, EachIsAlone, TwoListsAreLike, CustomersNeverMeet, OthersStay, OwnStepIsOwn}
 use Rattle.njh_hub.specs.Outcome.{Outcome, entry_at}
@@ -69,7 +69,7 @@ other_event-then c d parts event events other apart later =
 pub each_is_alone : EachIsAlone
 each_is_alone c parts [] within = record { after = refl; sent = refl }
 each_is_alone c parts (event ∷ events) within =
-    let d = customer_of event in
+    let d = customer_of_event event in
     let x = event_run (part d parts) (own event) in
     let later = each_is_alone c (set parts d x.after) events (omega (arith, length-set parts d x.after)) in
     ⊎_elim (λ (w : (eqb d c ≡ true) × (d ≡ c)).
@@ -94,16 +94,16 @@ two_lists_are_like c d parts others events more within there alike same =
 abbrev outcome : List (ℕ × List ℕ) → Part → Outcome
 outcome sent p = record { sent = sent; files = files_of p.customer.spool }
 
-part-opened : (c : ℕ) (entries : List CustomerEntry) → part c (map opened entries) ≡ opened (entry_at c entries)
-part-opened c entries = get_or-map opened entries c no_entry
+part-opened : (c : ℕ) (entries : List CustomerEntry) → part c (map part_at_open entries) ≡ part_at_open (entry_at c entries)
+part-opened c entries = get_or-map part_at_open entries c no_entry
 
 pub customers_never_meet : CustomersNeverMeet
 customers_never_meet c d entries others events more within there agree same =
-    let here : c < length (map opened entries) = omega (arith, within, length-map entries opened) in
-    let like = two_lists_are_like c d (map opened entries) (map opened others) events more here (omega (arith, there, length-map others opened))
-    (part-opened c entries ∙ ap opened agree ∙ sym (part-opened d others)) same in
-    let one = each_is_alone c (map opened entries) events here in
-    let runs : alone_run (part c (map opened entries)) (events_of c events) ≡ alone_run (opened (entry_at c entries)) (events_of c events) =
+    let here : c < length (map part_at_open entries) = omega (arith, within, length-map entries part_at_open) in
+    let like = two_lists_are_like c d (map part_at_open entries) (map part_at_open others) events more here (omega (arith, there, length-map others part_at_open))
+    (part-opened c entries ∙ ap part_at_open agree ∙ sym (part-opened d others)) same in
+    let one = each_is_alone c (map part_at_open entries) events here in
+    let runs : alone_run (part c (map part_at_open entries)) (events_of c events) ≡ alone_run (part_at_open (entry_at c entries)) (events_of c events) =
     ap (λ (p : Part). alone_run p (events_of c events)) (part-opened c entries) in (
       ap₂ outcome like.sent like.after,
       ap₂ outcome (one.sent ∙ ap (λ (r : Run). r.sent) runs) (one.after ∙ ap (λ (r : Run). r.after) runs),
@@ -111,10 +111,10 @@ customers_never_meet c d entries others events more within there agree same =
 
 pub others_stay : OthersStay
 others_stay c parts event apart =
-    let d = customer_of event in
+    let d = customer_of_event event in
     get_or-set_other parts d c (event_run (part d parts) (own event)).after no_part apart
 
 pub own_step_is_own : OwnStepIsOwn
 own_step_is_own parts event there =
-    let d = customer_of event in
+    let d = customer_of_event event in
     get_or-set_same parts d (event_run (part d parts) (own event)).after no_part there

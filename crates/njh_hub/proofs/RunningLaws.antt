@@ -16,9 +16,9 @@ use Rattle.njh_customer.specs.Feeding.{sent_on}
 use Rattle.njh_customer.specs.Laws.{NoBytesDoNothing, StepsFollowBytes}
 use Rattle.njh_customer.specs.declared.signal.Signal.{Signal}
 use Rattle.njh_customer.specs.declared.signal.Signal.TheVariants as signal
-use Rattle.njh_customer.specs.NewRoutes.{routes_taken, taken_where}
-use Rattle.njh_customer.specs.Part.{bytes_taken, signal_taken}
-use Rattle.njh_hub.specs.OwnEvents.{line_of, event_by, first_bytes, first_of}
+use Rattle.njh_customer.specs.NewRoutes.{part_after_routes, taken_where}
+use Rattle.njh_customer.specs.Part.{part_after_bytes, part_after_signal}
+use Rattle.njh_hub.specs.OwnEvents.{line_of_event, event_by, first_bytes, first_events}
 use Rattle.njh_hub.specs.declared.fault.Cause.{Cause}
 use Rattle.njh_hub.specs.declared.fault.Cause.TheVariants.{Hub, Sink}
 use Rattle.njh_hub.specs.declared.fault.RunFault.{RunFault}
@@ -40,7 +40,7 @@ only_one h = ap (λ (s : List (LineId × List ℕ)). record h { sent = s }) (app
 
 -- the first bytes of an event as the only one
 pub part_done : NoBytesDoNothing → (parts : List Part) (line : LineId) (piece : List ℕ) (n : ℕ) →
-    hub_run parts (first_of (Bytes line piece ∷ []) 0 n) ≡ after_bytes parts line (take n piece)
+    hub_run parts (first_events (Bytes line piece ∷ []) 0 n) ≡ after_bytes parts line (take n piece)
 part_done nothing parts line piece zero = sym (after_bytes-none nothing parts line)
 part_done nothing parts line piece (suc n) = only_one (after_bytes parts line (take (suc n) piece))
 
@@ -54,13 +54,13 @@ pub record GoesOn (start now after : List Part) (line : LineId) (piece left : Li
   pub now_is : now ≡ (after_bytes start line (take before piece)).parts
   pub left_is : left ≡ drop before piece
   pub rests : line.line < length (part line.customer now).rests
-  pub used_is : used ≡ (bytes_taken (part line.customer now) line.line left).taken
-  pub after_is : after ≡ set now line.customer (bytes_taken (part line.customer now) line.line left).after
-  pub frame_is : frame ≡ (bytes_taken (part line.customer now) line.line left).frame
+  pub used_is : used ≡ (part_after_bytes (part line.customer now) line.line left).taken
+  pub after_is : after ≡ set now line.customer (part_after_bytes (part line.customer now) line.line left).after
+  pub frame_is : frame ≡ (part_after_bytes (part line.customer now) line.line left).frame
 
 abbrev step_from : List Part → LineId → List (LineId × List ℕ) → List ℕ → HubRun
 step_from now line sent left =
-    let t = bytes_taken (part line.customer now) line.line left in
+    let t = part_after_bytes (part line.customer now) line.line left in
     record { parts = set now line.customer t.after; sent = sent ++ sent_by line.customer (sent_on line.line t.frame) }
 
 -- such a step leads to where the bytes lead, and sends what they send
@@ -76,11 +76,11 @@ step_done {start} {now} {after} {line} {piece} {left} {before} {used} {frame} h 
     let there = known-there start line h.known in
     let front = take before piece in
     let old = after_bytes start line front in
-    let t = bytes_taken (part line.customer now) line.line left in
+    let t = part_after_bytes (part line.customer now) line.line left in
     let rests : line.line < length (part line.customer old.parts).rests =
     omega (arith, h.rests, ap (λ (ps : List Part). length (part line.customer ps).rests) h.now_is) in
-    let o = bytes_taken (part line.customer old.parts) line.line left in
-    let same : t ≡ o = ap (λ (ps : List Part). bytes_taken (part line.customer ps) line.line left) h.now_is in
+    let o = part_after_bytes (part line.customer old.parts) line.line left in
+    let same : t ≡ o = ap (λ (ps : List Part). part_after_bytes (part line.customer ps) line.line left) h.now_is in
     let cut : take (before + used) piece ≡ front ++ take o.taken left =
     take-add before used piece ∙ ap (λ (n : ℕ). front ++ take n (drop before piece)) (h.used_is ∙ ap (λ x. x.taken) same)
     ∙ ap (λ (bs : List ℕ). front ++ take o.taken bs) (sym h.left_is) in
@@ -93,16 +93,16 @@ step_done {start} {now} {after} {line} {piece} {left} {before} {used} {frame} h 
 -- the same, where a sink refused the frame: the event is done with its last step
 pub sink_done : NoBytesDoNothing → (parts : List Part) (line : LineId) (piece : List ℕ) (taken events bytes : ℕ) →
     (length piece ≤ taken → (events ≡ 1) × (bytes ≡ 0)) → (taken < length piece → (events ≡ 0) × (bytes ≡ taken)) →
-    hub_run parts (first_of (Bytes line piece ∷ []) events bytes) ≡ after_bytes parts line (take taken piece)
+    hub_run parts (first_events (Bytes line piece ∷ []) events bytes) ≡ after_bytes parts line (take taken piece)
 sink_done nothing parts line piece taken events bytes whole part =
     ⊎_elim (λ (w : taken < length piece).
     let e = part w in
-    ap (λ (n : ℕ). hub_run parts (first_of (Bytes line piece ∷ []) n bytes)) e.0
-    ∙ ap (λ (n : ℕ). hub_run parts (first_of (Bytes line piece ∷ []) 0 n)) e.1 ∙ part_done nothing parts line piece taken)
+    ap (λ (n : ℕ). hub_run parts (first_events (Bytes line piece ∷ []) n bytes)) e.0
+    ∙ ap (λ (n : ℕ). hub_run parts (first_events (Bytes line piece ∷ []) 0 n)) e.1 ∙ part_done nothing parts line piece taken)
     (λ (w : length piece ≤ taken).
     let e = whole w in
-    ap (λ (n : ℕ). hub_run parts (first_of (Bytes line piece ∷ []) n bytes)) e.0
-    ∙ ap (λ (n : ℕ). hub_run parts (first_of (Bytes line piece ∷ []) 1 n)) e.1
+    ap (λ (n : ℕ). hub_run parts (first_events (Bytes line piece ∷ []) n bytes)) e.0
+    ∙ ap (λ (n : ℕ). hub_run parts (first_events (Bytes line piece ∷ []) 1 n)) e.1
     ∙ whole_done parts (Bytes line piece) ∙ ap (after_bytes parts line) (sym (take_all taken piece w)))
     (cases_lt taken (length piece))
 
@@ -129,20 +129,20 @@ hub_run-append parts (event ∷ a) b =
 
 -- the events that happened where a run stopped within the next one
 pub first_of-later : (events : List Event) (i n bytes : ℕ) (event : Event) → i < length events → event ≡ get_or events i event →
-    ((n ≡ 0) ⊎ ((n ≡ 1) × (bytes ≡ 0))) → first_of events (i + n) bytes ≡ take i events ++ first_of (event ∷ []) n bytes
+    ((n ≡ 0) ⊎ ((n ≡ 1) × (bytes ≡ 0))) → first_events events (i + n) bytes ≡ take i events ++ first_events (event ∷ []) n bytes
 first_of-later events i n bytes event within found stop =
     ⊎_elim (λ (w : n ≡ 0).
     let e : i + n ≡ i = omega arith in
-    ap (λ (k : ℕ). first_of events k bytes) e
+    ap (λ (k : ℕ). first_events events k bytes) e
     ∙ ap (λ (o : Option Event). take i events ++ first_bytes o bytes) (slice_get-get_or events i event within ∙ ap Some (sym found))
-    ∙ ap (λ (k : ℕ). take i events ++ first_of (event ∷ []) k bytes) (sym w))
+    ∙ ap (λ (k : ℕ). take i events ++ first_events (event ∷ []) k bytes) (sym w))
     (λ (w : (n ≡ 1) × (bytes ≡ 0)).
     let e : i + n ≡ i + 1 = omega arith in
-    ap (λ (k : ℕ). first_of events k bytes) e ∙ ap (first_of events (i + 1)) w.1
+    ap (λ (k : ℕ). first_events events k bytes) e ∙ ap (first_events events (i + 1)) w.1
     ∙ append-nil (take (i + 1) events)
     ∙ take_more events i event within ∙ ap (λ (x : Event). take i events ++ x ∷ []) (sym found)
-    ∙ ap (λ (k : ℕ). take i events ++ first_of (event ∷ []) k 0) (sym w.0)
-    ∙ ap (λ (k : ℕ). take i events ++ first_of (event ∷ []) n k) (sym w.1))
+    ∙ ap (λ (k : ℕ). take i events ++ first_events (event ∷ []) k 0) (sym w.0)
+    ∙ ap (λ (k : ℕ). take i events ++ first_events (event ∷ []) n k) (sym w.1))
     stop
 
 -- What a sink took before, and then up to a stop.
@@ -176,11 +176,11 @@ later_than now sent events = record { parts = (hub_run now events).parts; sent =
 pub stopped_in : (start now : List Part) (events : List Event) (k n bytes : ℕ) (event : Event) → k < length events → event
     ≡ get_or events k event →
     ((n ≡ 0) ⊎ ((n ≡ 1) × (bytes ≡ 0))) → now ≡ (hub_run start (take k events)).parts →
-    hub_run start (first_of events (k + n) bytes) ≡ later_than now (hub_run start (take k events)).sent (first_of (event ∷ []) n bytes)
+    hub_run start (first_events events (k + n) bytes) ≡ later_than now (hub_run start (take k events)).sent (first_events (event ∷ []) n bytes)
 stopped_in start now events k n bytes event within found stop here =
     ap (hub_run start) (first_of-later events k n bytes event within found stop)
-    ∙ hub_run-append start (take k events) (first_of (event ∷ []) n bytes)
-    ∙ ap (λ (ps : List Part). later_than ps (hub_run start (take k events)).sent (first_of (event ∷ []) n bytes)) (sym here)
+    ∙ hub_run-append start (take k events) (first_events (event ∷ []) n bytes)
+    ∙ ap (λ (ps : List Part). later_than ps (hub_run start (take k events)).sent (first_events (event ∷ []) n bytes)) (sym here)
 
 -- one event more
 pub went_on : (start now : List Part) (events : List Event) (k : ℕ) (event : Event) → k < length events → event ≡ get_or events k event →
@@ -192,7 +192,7 @@ went_on start now events k event within found here =
     ∙ ap (λ (ps : List Part). later_than ps (hub_run start (take k events)).sent (event ∷ [])) (sym here)
 
 -- the event of a signal on a line
-pub line-event_by : (s : Signal) (line : LineId) → line_of (event_by s line) ≡ Some line
+pub line-event_by : (s : Signal) (line : LineId) → line_of_event (event_by s line) ≡ Some line
 line-event_by signal.Tick line = refl
 line-event_by signal.Garbled line = refl
 line-event_by signal.Lost line = refl
@@ -204,7 +204,7 @@ named-event_by parts signal.Lost line known = known
 
 -- and as the only event
 pub signal_done : (parts : List Part) (s : Signal) (line : LineId) →
-    (let t = signal_taken (part line.customer parts) line.line s in
+    (let t = part_after_signal (part line.customer parts) line.line s in
     hub_run parts (event_by s line ∷ []) ≡ record {
       parts = set parts line.customer t.after;
       sent = sent_by line.customer (sent_on line.line t.frame);
@@ -217,7 +217,7 @@ signal_done parts signal.Lost line = whole_done parts (Lost line)
 pub routes_done : (parts : List Part) (c : ℕ) (routes : List RouteEntry) →
     routes_checked (part c parts).customer.entry (own_routes c routes) ≡ Ok tt →
     hub_run parts (Routes c routes ∷ []) ≡ record {
-      parts = set parts c (routes_taken (taken_routes (own_routes c routes)) (part c parts));
+      parts = set parts c (part_after_routes (taken_routes (own_routes c routes)) (part c parts));
       sent = [];
     }
 routes_done parts c routes checked =

@@ -7,13 +7,13 @@ use Rattle.std.proofs.lemmas.List.Elements.{All-push}
 use Rattle.njh_table.specs.declared.LineId.{LineId}
 use Rattle.njh_table.specs.declared.new_routes.RouteEntry.{RouteEntry}
 use Rattle.njh_table.specs.NewRoutes.{own_routes, routes_checked, taken_routes}
-use Rattle.njh_customer.specs.NewRoutes.{routes_taken}
+use Rattle.njh_customer.specs.NewRoutes.{part_after_routes}
 use Rattle.njh_hub.specs.declared.event.Event.{Event}
 use Rattle.njh_hub.specs.declared.event.Event.TheVariants.{Routes}
 use Rattle.njh_hub.specs.Service.{Happening, Round, NewRoutes, happening_events, happening_quiets, happening_rounds, happening_turns}
 use Rattle.njh_hub.specs.Service.{IsPossible, ArePossible, service_events, service_quiets, service_rounds, service_turns, AreStill, IsGiven}
 use Rattle.std.specs.List.{flat_map}
-use Rattle.njh_hub.specs.Turns.{Turn, Placed, HadTurn, HadTurns, IsRound, placed, placed_acts, quiets_after, round_events}
+use Rattle.njh_hub.specs.Turns.{Turn, Placed, HadTurn, HadTurns, IsRound, turn_at, placed_acts, quiets_after, round_events}
 use Rattle.njh_hub.specs.WholeHub.{Part, HubRun, part, hub_run}
 use Rattle.njh_hub.specs.Wires.{WireAct}
 use Rattle.njh_hub.proofs.RoundLaws.{had_more}
@@ -203,12 +203,12 @@ at_round {S} passed count lines parts quiets wires story now now_quiets now_wire
       calm = r.calm ∙ ap (λ (qs : List ℕ). quiets_after qs round) h.calm ∙ sym (service_quiets-more quiets story (Round round));
       had = λ i d within.
           let Q : Placed → Type 0 = λ p. HadTurn passed count p (get_or now_wires i d) (get_or new_wires i d) in
-          let place : placed now lines now_quiets i round ≡ placed led lines quieter i round =
-          ap (λ (ps : List Part). placed ps lines now_quiets i round) h.hub
-          ∙ ap (λ (qs : List ℕ). placed led lines qs i round) h.calm in
+          let place : turn_at now lines now_quiets i round ≡ turn_at led lines quieter i round =
+          ap (λ (ps : List Part). turn_at ps lines now_quiets i round) h.hub
+          ∙ ap (λ (qs : List ℕ). turn_at led lines qs i round) h.calm in
           let R : List Placed → Type 0 = λ ps. HadTurns passed count ps (get_or wires i d) (get_or new_wires i d) in
           subst R (sym (service_turns-more parts lines quiets i story (Round round)))
-          (had_more passed count (service_turns parts lines quiets i story) (placed led lines quieter i round)
+          (had_more passed count (service_turns parts lines quiets i story) (turn_at led lines quieter i round)
           (get_or wires i d) (get_or now_wires i d) (get_or new_wires i d) more (h.had i d within)
           (subst Q place (r.had i d (omega (arith, whole, within)))));
     }
@@ -221,7 +221,7 @@ rounds-with_round story round = service_rounds-more story (Round round)
 
 -- what came of routes that a customer was to have
 pub given_by : {A E : Type 0} (parts new : List Part) (c : ℕ) (routes : List RouteEntry) (answer : Result A E) →
-    OnOk answer (new ≡ set parts c (routes_taken (taken_routes (own_routes c routes)) (part c parts))) →
+    OnOk answer (new ≡ set parts c (part_after_routes (taken_routes (own_routes c routes)) (part c parts))) →
     OnOk answer (c < length parts) →
     OnOk answer (routes_checked (part c parts).customer.entry (own_routes c routes) ≡ Ok tt) →
     OnErr answer (new ≡ parts) → (given : Option (ℕ × List RouteEntry)) × IsGiven parts given new

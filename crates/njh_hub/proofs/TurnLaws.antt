@@ -7,7 +7,7 @@ use Rattle.njh_hub.specs.declared.wire_reading.Reading.{Reading}
 use Rattle.njh_hub.specs.declared.wire_reading.Reading.TheVariants as reading
 use Rattle.njh_hub.specs.declared.wire_reading.WireFault.{WireFault}
 use Rattle.njh_hub.specs.Sent.{IsCounted}
-use Rattle.njh_hub.specs.Turns.{IsTurn, IsHeard, event_of, written_where}
+use Rattle.njh_hub.specs.Turns.{IsTurn, IsHeard, wire_event, written_where}
 use Rattle.njh_hub.specs.WholeHub.{Part}
 use Rattle.njh_hub.specs.Wires.{Failed, heard_of, WireAct, answer_acts}
 use Rattle.njh_hub.proofs.RunningLaws.{counted_from}
@@ -34,11 +34,11 @@ pub read_turn : {S : Type 0} (passed : S → S → List WireAct → Type 0) (cou
     ((a b c : S) (xs ys : List WireAct) → passed a b xs → passed b c ys → passed a c (xs ++ ys)) →
     passed wire read (answer_acts (heard_of answer buffer)) → count wire ≤ count read →
     OnErr answer (IsCounted (count wire) (count read)) →
-    IsHeard passed count parts (event_of line quiet (heard_of answer buffer)) cut read new new_wire →
+    IsHeard passed count parts (wire_event line quiet (heard_of answer buffer)) cut read new new_wire →
     IsTurn passed count parts line quiet (record { heard = heard_of answer buffer; cut = cut }) wire new new_wire
 read_turn passed count parts new line quiet answer buffer cut wire read new_wire more answered counts counted h = record {
   hub = h.hub;
-  acts = more wire read new_wire (answer_acts (heard_of answer buffer)) (written_where parts cut (event_of line quiet (heard_of answer buffer)))
+  acts = more wire read new_wire (answer_acts (heard_of answer buffer)) (written_where parts cut (wire_event line quiet (heard_of answer buffer)))
       answered h.acts;
   stop = h.stop;
   counts = omega (arith, counts, h.counts);

@@ -10,11 +10,11 @@ use Rattle.njh_customer.specs.declared.signal.Signal.{Signal}
 use Rattle.njh_customer.specs.declared.signal.Signal.TheVariants as signal
 use Rattle.njh_customer.specs.Feeding.{Taking, take_step, byte_step, or_later, bytes_run, sent_on}
 use Rattle.njh_customer.specs.Laws.{CutsAreLike}
-use Rattle.njh_customer.specs.Part.{rest_on, signal_taken}
+use Rattle.njh_customer.specs.Part.{rest_on, part_after_signal}
 use Rattle.njh_customer.specs.Runs.{OwnBytes, Run, event_run}
 use Rattle.njh_hub.specs.declared.event.Event.{Event}
 use Rattle.njh_hub.specs.declared.event.Event.TheVariants.{Bytes, Lost}
-use Rattle.njh_hub.specs.OwnEvents.{line_of, event_by}
+use Rattle.njh_hub.specs.OwnEvents.{line_of_event, event_by}
 use Rattle.njh_hub.specs.WholeHub.{Part, no_part, part, HubRun, sent_by, hub_run}
 use Rattle.njh_hub.specs.Wires.{WireAct, Unsent, sent_act, frame_acts, last_unsent, run_until, cut_to, loss_of, SendsAt}
 use Rattle.njh_hub.proofs.PieceLaws.{after_bytes}
@@ -129,9 +129,9 @@ cut_to-event_by n signal.Garbled line = refl
 cut_to-event_by n signal.Lost line = refl
 
 -- an event, and then the loss of its line
-pub lost_next : (start now new : List Part) (event : Event) (line : LineId) → Some line ≡ line_of event →
-    now ≡ (hub_run start (event ∷ [])).parts → new ≡ set now line.customer (signal_taken (part line.customer now) line.line signal.Lost).after →
-    new ≡ (hub_run start (event ∷ loss_of (line_of event))).parts
+pub lost_next : (start now new : List Part) (event : Event) (line : LineId) → Some line ≡ line_of_event event →
+    now ≡ (hub_run start (event ∷ [])).parts → new ≡ set now line.customer (part_after_signal (part line.customer now) line.line signal.Lost).after →
+    new ≡ (hub_run start (event ∷ loss_of (line_of_event event))).parts
 lost_next start now new event line on before after =
     after ∙ sym (ap (λ (h : HubRun). h.parts) (signal_done now signal.Lost line))
     ∙ ap (λ (ps : List Part). (hub_run ps (Lost line ∷ [])).parts) before
@@ -140,16 +140,16 @@ lost_next start now new event line on before after =
 -- a signal, and then the loss of its line
 pub lost_after : (start now new : List Part) (s : Signal) (line : LineId) →
     now ≡ (hub_run start (cut_to 0 (event_by s line) ∷ [])).parts →
-    new ≡ set now line.customer (signal_taken (part line.customer now) line.line signal.Lost).after →
-    new ≡ (hub_run start (cut_to 0 (event_by s line) ∷ loss_of (line_of (event_by s line)))).parts
+    new ≡ set now line.customer (part_after_signal (part line.customer now) line.line signal.Lost).after →
+    new ≡ (hub_run start (cut_to 0 (event_by s line) ∷ loss_of (line_of_event (event_by s line)))).parts
 lost_after start now new s line before after =
-    let on : Some line ≡ line_of (cut_to 0 (event_by s line)) = sym (ap line_of (cut_to-event_by 0 s line) ∙ line-event_by s line) in
+    let on : Some line ≡ line_of_event (cut_to 0 (event_by s line)) = sym (ap line_of_event (cut_to-event_by 0 s line) ∙ line-event_by s line) in
     lost_next start now new (cut_to 0 (event_by s line)) line on before after
-    ∙ ap (λ (e : Event). (hub_run start (cut_to 0 (event_by s line) ∷ loss_of (line_of e))).parts) (cut_to-event_by 0 s line)
+    ∙ ap (λ (e : Event). (hub_run start (cut_to 0 (event_by s line) ∷ loss_of (line_of_event e))).parts) (cut_to-event_by 0 s line)
 
 -- a signal whose frame could not be written
 pub signal_stops : (parts : List Part) (s : Signal) (line : LineId) (frame : List ℕ) →
-    frame ≡ (signal_taken (part line.customer parts) line.line s).frame → 0 < length frame → SendsAt parts (event_by s line) 0
+    frame ≡ (part_after_signal (part line.customer parts) line.line s).frame → 0 < length frame → SendsAt parts (event_by s line) 0
 signal_stops parts s line frame is some =
     let sent : (run_until parts 0 (event_by s line)).sent ≡ (line, frame) ∷ [] =
     ap (λ (e : Event). (hub_run parts (e ∷ [])).sent) (cut_to-event_by 0 s line)
@@ -159,7 +159,7 @@ signal_stops parts s line frame is some =
     record { within = omega arith; some = omega (arith, one); last = λ none. absurd (omega (arith, none)) }
 
 pub signal_unsent : (parts : List Part) (s : Signal) (line : LineId) (frame : List ℕ) →
-    frame ≡ (signal_taken (part line.customer parts) line.line s).frame → 0 < length frame →
+    frame ≡ (part_after_signal (part line.customer parts) line.line s).frame → 0 < length frame →
     last_unsent (run_until parts 0 (event_by s line)).sent ≡ Unsent frame ∷ []
 signal_unsent parts s line frame is some =
     ap (λ (e : Event). last_unsent (hub_run parts (e ∷ [])).sent) (cut_to-event_by 0 s line)
@@ -168,7 +168,7 @@ signal_unsent parts s line frame is some =
     ∙ ap last_unsent (sent_pair line frame some)
 
 pub signal_written : (parts : List Part) (s : Signal) (line : LineId) (frame : List ℕ) →
-    frame ≡ (signal_taken (part line.customer parts) line.line s).frame →
+    frame ≡ (part_after_signal (part line.customer parts) line.line s).frame →
     map sent_act (hub_run parts (event_by s line ∷ [])).sent ≡ frame_acts frame
 signal_written parts s line frame is =
     ap (λ (h : HubRun). map sent_act h.sent) (signal_done parts s line)

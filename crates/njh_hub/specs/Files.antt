@@ -2,7 +2,7 @@
 use Rattle.std.specs.Prelude.{ℕ, List, length, map, Option}
 use Rattle.njh_record.specs.Stored.{Stored}
 use Rattle.njh_record.specs.declared.Kind.{Kind}
-use Rattle.njh_header.specs.FileHeaders.{name_of, owner_of, destination_of}
+use Rattle.njh_header.specs.FileHeaders.{name_of, file_owner, destination_of}
 use Rattle.njh_spool.specs.CustomerSpool.{CustomerSpool, WholeFile}
 use Rattle.njh_spool.specs.declared.State.{State}
 use Rattle.njh_command.specs.Replies.{file_text}
@@ -17,10 +17,10 @@ pub record FileView : Type 0 where
   pub state : State
   pub records : List Stored
 
-abbrev pub viewed : WholeFile → FileView
-viewed f = record {
+abbrev pub view_of_file : WholeFile → FileView
+view_of_file f = record {
   name = name_of f.records;
-  owner = owner_of f.records;
+  owner = file_owner f.records;
   kind = f.kind;
   destination = destination_of f.kind f.records;
   state = f.state;
@@ -29,12 +29,12 @@ viewed f = record {
 
 -- all of a customer's, in order of arrival
 abbrev pub files_of : CustomerSpool → List FileView
-files_of s = map viewed s.whole
+files_of s = map view_of_file s.whole
 
 -- those of customer c of a hub
 abbrev pub files_at : ℕ → List Part → List FileView
 files_at c parts = files_of (part c parts).customer.spool
 
 -- what NJH001 says of a file, behind its number
-abbrev pub line_of : FileView → List ℕ
-line_of file = file_text file.name file.destination file.kind (length file.records) file.state
+abbrev pub printed_file_line : FileView → List ℕ
+printed_file_line file = file_text file.name file.destination file.kind (length file.records) file.state

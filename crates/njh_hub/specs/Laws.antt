@@ -4,7 +4,7 @@ use Rattle.njh_table.specs.Entries.{CustomerEntry}
 use Rattle.njh_hub.specs.declared.event.Event.{Event}
 use Rattle.njh_customer.specs.Runs.{alone_run, event_run}
 use Rattle.njh_hub.specs.Outcome.{alone, entry_at, outcome_of}
-use Rattle.njh_hub.specs.OwnEvents.{customer_of, events_of, first_of, own, sent_to}
+use Rattle.njh_hub.specs.OwnEvents.{customer_of_event, events_of, first_events, own, sent_to}
 use Rattle.njh_hub.specs.WholeHub.{Part, part, hub_event, hub_run}
 
 -- Events lead customer c's part of a hub, and what is sent on its lines, as its own events lead that part alone.
@@ -42,14 +42,14 @@ CustomersNeverMeet =
 
 -- A step on another customer's line, or new routes of another customer, leave a customer's part as it is.
 abbrev pub OthersStay : Type 0
-OthersStay = (c : ℕ) (parts : List Part) (event : Event) → c ≢ customer_of event → part c (hub_event parts event).parts ≡ part c parts
+OthersStay = (c : ℕ) (parts : List Part) (event : Event) → c ≢ customer_of_event event → part c (hub_event parts event).parts ≡ part c parts
 
 -- A step on a customer's own line, or new routes of its own, do what they do on a hub of its own, whatever the others
 -- hold.
 abbrev pub OwnStepIsOwn : Type 0
 OwnStepIsOwn =
-    (parts : List Part) (event : Event) → customer_of event < length parts →
-    part (customer_of event) (hub_event parts event).parts ≡ (event_run (part (customer_of event) parts) (own event)).after
+    (parts : List Part) (event : Event) → customer_of_event event < length parts →
+    part (customer_of_event event) (hub_event parts event).parts ≡ (event_run (part (customer_of_event event) parts) (own event)).after
 
 -- a list begins another
 abbrev pub Begins : {X : Type 0} → List X → List X → Type 0
@@ -59,4 +59,4 @@ Begins {X} front whole = (more : List X) × (front ++ more ≡ whole)
 abbrev pub SentInOrder : Type 0
 SentInOrder =
     (parts : List Part) (events : List Event) (whole bytes : ℕ) →
-    Begins (hub_run parts (first_of events whole bytes)).sent (hub_run parts events).sent
+    Begins (hub_run parts (first_events events whole bytes)).sent (hub_run parts events).sent

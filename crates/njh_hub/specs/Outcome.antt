@@ -6,7 +6,7 @@ use Rattle.njh_customer.specs.Runs.{OwnEvent, alone_run}
 use Rattle.njh_hub.specs.declared.event.Event.{Event}
 use Rattle.njh_hub.specs.Files.{FileView, files_at, files_of}
 use Rattle.njh_hub.specs.OwnEvents.{sent_to}
-use Rattle.njh_hub.specs.WholeHub.{opened, no_entry, hub_run}
+use Rattle.njh_hub.specs.WholeHub.{part_at_open, no_entry, hub_run}
 
 -- The frames on its lines, in order, each with its line; and its files, in order of arrival.
 pub record Outcome : Type 0 where
@@ -15,12 +15,12 @@ pub record Outcome : Type 0 where
 
 -- of the customer alone on a hub of its own, over its own events
 abbrev pub alone : CustomerEntry → List OwnEvent → Outcome
-alone entry events = let r = alone_run (opened entry) events in record { sent = r.sent; files = files_of r.after.customer.spool }
+alone entry events = let r = alone_run (part_at_open entry) events in record { sent = r.sent; files = files_of r.after.customer.spool }
 
 -- of customer c of a hub of many, over the events of all
 abbrev pub outcome_of : ℕ → List CustomerEntry → List Event → Outcome
 outcome_of c entries events =
-    let r = hub_run (map opened entries) events in record { sent = sent_to c r.sent; files = files_at c r.parts }
+    let r = hub_run (map part_at_open entries) events in record { sent = sent_to c r.sent; files = files_at c r.parts }
 
 -- a customer's entry in a table
 abbrev pub entry_at : ℕ → List CustomerEntry → CustomerEntry

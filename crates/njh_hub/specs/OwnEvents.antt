@@ -11,20 +11,20 @@ use Rattle.njh_customer.specs.declared.signal.Signal.TheVariants as signal
 use Rattle.njh_customer.specs.Runs.{OwnEvent, OwnBytes, OwnSignal, OwnRoutes}
 
 -- the customer whose event it is: that of its line, or the one that is given routes
-abbrev pub customer_of : Event → ℕ
-customer_of (Bytes line piece) = line.customer
-customer_of (Tick line) = line.customer
-customer_of (Garbled line) = line.customer
-customer_of (Lost line) = line.customer
-customer_of (Routes c routes) = c
+abbrev pub customer_of_event : Event → ℕ
+customer_of_event (Bytes line piece) = line.customer
+customer_of_event (Tick line) = line.customer
+customer_of_event (Garbled line) = line.customer
+customer_of_event (Lost line) = line.customer
+customer_of_event (Routes c routes) = c
 
 -- the line that it comes on; new routes come on none
-abbrev pub line_of : Event → Option LineId
-line_of (Bytes line piece) = Some line
-line_of (Tick line) = Some line
-line_of (Garbled line) = Some line
-line_of (Lost line) = Some line
-line_of (Routes c routes) = None
+abbrev pub line_of_event : Event → Option LineId
+line_of_event (Bytes line piece) = Some line
+line_of_event (Tick line) = Some line
+line_of_event (Garbled line) = Some line
+line_of_event (Lost line) = Some line
+line_of_event (Routes c routes) = None
 
 -- the customer that is given routes, and these
 abbrev pub routes_of : Event → Option (ℕ × List RouteEntry)
@@ -51,7 +51,7 @@ own (Routes c routes) = OwnRoutes (own_routes c routes)
 -- the events of customer c, in order
 abbrev pub events_of : ℕ → List Event → List OwnEvent
 events_of c [] = []
-events_of c (event ∷ events) = cond (customer_of event == c) (own event ∷ events_of c events) (events_of c events)
+events_of c (event ∷ events) = cond (customer_of_event event == c) (own event ∷ events_of c events) (events_of c events)
 
 -- what was sent on the lines of customer c, in order
 abbrev pub sent_to : ℕ → List (LineId × List ℕ) → List (ℕ × List ℕ)
@@ -77,5 +77,5 @@ first_bytes (Some (Lost line)) (suc n) = []
 first_bytes (Some (Routes c routes)) (suc n) = []
 
 -- the first so many events, and then the first so many bytes of the next
-abbrev pub first_of : List Event → ℕ → ℕ → List Event
-first_of events whole bytes = take whole events ++ first_bytes (slice_get events whole) bytes
+abbrev pub first_events : List Event → ℕ → ℕ → List Event
+first_events events whole bytes = take whole events ++ first_bytes (slice_get events whole) bytes

@@ -28,7 +28,7 @@ lines_at c lines = slice_index_or lines c no_lines
 
 -- a customer's part: by its entry, its files and its lines
 abbrev pub part_held : TableFile → List CustomerSpool → List Lines → ℕ → Part
-part_held table files lines c = part_with (entry_of (customer_at table c)) (spools.part c files) (lines_at c lines)
+part_held table files lines c = part_with (entry_of (customer_at table c)) (spools.spool_at c files) (lines_at c lines)
 
 -- one for each customer of the table
 abbrev pub parts_of : TableFile → List CustomerSpool → List Lines → List Part

@@ -11,19 +11,19 @@ use Rattle.njh_hub.specs.declared.fault.HubFault.TheVariants.{UnknownLine, Unkno
 use Rattle.njh_hub.specs.declared.fault.Cause.{Cause}
 use Rattle.njh_hub.specs.declared.fault.Cause.TheVariants.{Hub, Sink}
 use Rattle.njh_hub.specs.declared.fault.RunFault.{RunFault}
-use Rattle.njh_hub.specs.OwnEvents.{line_of, routes_of, first_of, bytes_in_event}
+use Rattle.njh_hub.specs.OwnEvents.{line_of_event, routes_of, first_events, bytes_in_event}
 use Rattle.njh_hub.specs.Sent.{IsCounted}
 use Rattle.njh_hub.specs.WholeHub.{Part, part, HasLine, IsNamed, SameLines, hub_run}
 
 -- the events that happened: all, or up to where the run stopped
 abbrev pub done : {A : Type 0} → List Event → Result A RunFault → List Event
 done events (Ok x) = events
-done events (Err fault) = first_of events fault.events fault.bytes
+done events (Err fault) = first_events events fault.events fault.bytes
 
 -- Why the hub refuses an event: it has no such line; it has no such customer; that customer can't have the routes; or
 -- there was no memory for an event that names what is there.
 abbrev pub IsRefused : List Part → Event → HubFault → Type 0
-IsRefused parts event UnknownLine = IsSomeAnd (line_of event) (λ line. HasLine parts line → ⊥)
+IsRefused parts event UnknownLine = IsSomeAnd (line_of_event event) (λ line. HasLine parts line → ⊥)
 IsRefused parts event UnknownCustomer = IsSomeAnd (routes_of event) (λ given. given.0 < length parts → ⊥)
 IsRefused parts event (BadRoutes cause) = IsSomeAnd (routes_of event) (λ given. (given.0 < length parts) ×
     (routes_checked (part given.0 parts).customer.entry (own_routes given.0 given.1) ≡ Err cause))
@@ -73,7 +73,7 @@ pub record IsEventRun {S A Z : Type 0} (took : S → S → List (LineId × List 
   pub handed : Handed took refused result sink new_sink (hub_run parts (done (event ∷ []) result)).sent
   pub known : OnOk result (IsNamed parts event)
   pub lines : SameLines parts new
-  pub room : OnOk result (IsSome (line_of event) ⊎ (LONGEST_FRAME ≤ vec_capacity out) → LONGEST_FRAME ≤ vec_capacity new_out)
+  pub room : OnOk result (IsSome (line_of_event event) ⊎ (LONGEST_FRAME ≤ vec_capacity out) → LONGEST_FRAME ≤ vec_capacity new_out)
   pub one : IfErr result (IsWithinOne event)
   pub behind : IfErr result (λ fault. fault.events ≡ 1 → IsNamed parts event)
   pub causes : IfErr result (λ fault. IfHub fault.cause (λ why. (fault.events ≡ 0) × IsRefused parts event why))

@@ -7,7 +7,7 @@ use Rattle.njh_table.specs.declared.new_routes.RouteEntry.{RouteEntry}
 use Rattle.njh_hub.specs.declared.event.Event.{Event}
 use Rattle.njh_hub.specs.declared.event.Event.TheVariants.{Routes}
 use Rattle.njh_hub.specs.OwnEvents.{events_of}
-use Rattle.njh_hub.specs.Turns.{Turn, Placed, HadTurns, placed, quiets_after, round_events}
+use Rattle.njh_hub.specs.Turns.{Turn, Placed, HadTurns, turn_at, quiets_after, round_events}
 use Rattle.njh_hub.specs.WireLaws.{own_wires}
 use Rattle.njh_hub.specs.WholeHub.{Part, IsNamed, hub_run}
 use Rattle.njh_hub.specs.Wires.{WireAct}
@@ -31,7 +31,7 @@ happening_quiets quiets (NewRoutes c routes) = quiets
 
 -- the turn of the i-th wire, in a round
 abbrev pub happening_turns : List Part → List LineId → List ℕ → ℕ → Happening → List Placed
-happening_turns parts lines quiets i (Round turns) = placed parts lines quiets i turns ∷ []
+happening_turns parts lines quiets i (Round turns) = turn_at parts lines quiets i turns ∷ []
 happening_turns parts lines quiets i (NewRoutes c routes) = []
 
 abbrev pub happening_rounds : Happening → List (List Turn)

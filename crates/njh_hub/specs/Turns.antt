@@ -8,8 +8,8 @@ use Rattle.njh_hub.specs.declared.event.Event.{Event}
 use Rattle.njh_hub.specs.declared.event.Event.TheVariants.{Bytes, Tick, Lost}
 use Rattle.njh_hub.specs.Sent.{IsCounted}
 use Rattle.njh_hub.specs.WholeHub.{Part, hub_run}
-use Rattle.njh_hub.specs.Wires.{Heard, Came, Quiet, Pending, Closed, Absent, Failed, WireAct, answer_acts, told}
-use Rattle.njh_hub.specs.Wires.{written, IsStop}
+use Rattle.njh_hub.specs.Wires.{Heard, Came, Quiet, Pending, Closed, Absent, Failed, WireAct, answer_acts, heard_events}
+use Rattle.njh_hub.specs.Wires.{write_acts, IsStop}
 
 -- ---- one turn
 
@@ -20,13 +20,13 @@ pub record Turn : Type 0 where
 
 -- What the hub is told of an answer: bytes that came; a tick, at the tenth quiet in a row; the loss of a line that was
 -- closed or could not be read.
-abbrev pub event_of : LineId → ℕ → Heard → Option Event
-event_of line quiet (Came piece) = Some (Bytes line piece)
-event_of line quiet Quiet = cond (quiet == 9) (Some (Tick line)) None
-event_of line quiet Pending = None
-event_of line quiet Closed = Some (Lost line)
-event_of line quiet Absent = None
-event_of line quiet Failed = Some (Lost line)
+abbrev pub wire_event : LineId → ℕ → Heard → Option Event
+wire_event line quiet (Came piece) = Some (Bytes line piece)
+wire_event line quiet Quiet = cond (quiet == 9) (Some (Tick line)) None
+wire_event line quiet Pending = None
+wire_event line quiet Closed = Some (Lost line)
+wire_event line quiet Absent = None
+wire_event line quiet Failed = Some (Lost line)
 
 -- the quiets in a row, of which a tenth begins anew; an answer that is pending leaves them as they are
 abbrev pub quiet_after : ℕ → Heard → ℕ
@@ -39,11 +39,11 @@ quiet_after quiet Failed = 0
 
 abbrev pub told_where : Option ℕ → Option Event → List Event
 told_where cut None = []
-told_where cut (Some event) = told cut event
+told_where cut (Some event) = heard_events cut event
 
 abbrev pub written_where : List Part → Option ℕ → Option Event → List WireAct
 written_where parts cut None = []
-written_where parts cut (Some event) = written parts cut event
+written_where parts cut (Some event) = write_acts parts cut event
 
 abbrev pub IsStopWhere : List Part → Option ℕ → Option Event → Type 0
 IsStopWhere parts cut None = cut ≡ None
@@ -60,12 +60,12 @@ pub record IsHeard {S : Type 0} (passed : S → S → List WireAct → Type 0) (
 
 -- the events of a turn
 abbrev pub turn_events : LineId → ℕ → Turn → List Event
-turn_events line quiet turn = told_where turn.cut (event_of line quiet turn.heard)
+turn_events line quiet turn = told_where turn.cut (wire_event line quiet turn.heard)
 
 -- What passes on the wire in a turn. Where its answer is pending that is nothing: a wire that isn't visited has such a
 -- turn.
 abbrev pub turn_acts : List Part → LineId → ℕ → Turn → List WireAct
-turn_acts parts line quiet turn = answer_acts turn.heard ++ written_where parts turn.cut (event_of line quiet turn.heard)
+turn_acts parts line quiet turn = answer_acts turn.heard ++ written_where parts turn.cut (wire_event line quiet turn.heard)
 
 -- a read or a write failed
 abbrev pub HasFault : Turn → Type 0
@@ -76,7 +76,7 @@ pub record IsTurn {S : Type 0} (passed : S → S → List WireAct → Type 0) (c
     (quiet : ℕ) (turn : Turn) (wire : S) (new : List Part) (new_wire : S) : Type 0 where
   pub hub : new ≡ (hub_run parts (turn_events line quiet turn)).parts
   pub acts : passed wire new_wire (turn_acts parts line quiet turn)
-  pub stop : IsStopWhere parts turn.cut (event_of line quiet turn.heard)
+  pub stop : IsStopWhere parts turn.cut (wire_event line quiet turn.heard)
   pub counts : count wire ≤ count new_wire
   pub counted : HasFault turn → IsCounted (count wire) (count new_wire)
 
@@ -102,17 +102,17 @@ pub record Placed : Type 0 where
   pub quiet : ℕ
   pub turn : Turn
 
-abbrev pub no_line : LineId
-no_line = record { customer = 0; line = 0 }
+abbrev pub no_line_id : LineId
+no_line_id = record { customer = 0; line = 0 }
 
 abbrev pub no_turn : Turn
 no_turn = record { heard = Absent; cut = None }
 
 -- the i-th wire's turn, behind those of the wires before it
-abbrev pub placed : List Part → List LineId → List ℕ → ℕ → List Turn → Placed
-placed parts lines quiets i round = record {
+abbrev pub turn_at : List Part → List LineId → List ℕ → ℕ → List Turn → Placed
+turn_at parts lines quiets i round = record {
   parts = (hub_run parts (round_events lines quiets (take i round))).parts;
-  line = slice_index_or lines i no_line;
+  line = slice_index_or lines i no_line_id;
   quiet = slice_index_or quiets i 0;
   turn = slice_index_or round i no_turn;
 }
@@ -121,7 +121,7 @@ abbrev pub placed_acts : Placed → List WireAct
 placed_acts p = turn_acts p.parts p.line p.quiet p.turn
 
 abbrev pub placed_stop : Placed → Type 0
-placed_stop p = IsStopWhere p.parts p.turn.cut (event_of p.line p.quiet p.turn.heard)
+placed_stop p = IsStopWhere p.parts p.turn.cut (wire_event p.line p.quiet p.turn.heard)
 
 -- a wire had this turn
 pub record HadTurn {S : Type 0} (passed : S → S → List WireAct → Type 0) (count : S → ℕ) (p : Placed) (wire new_wire : S) : Type 0 where
@@ -136,7 +136,7 @@ pub record IsRound {S : Type 0} (passed : S → S → List WireAct → Type 0) (
   pub hub : new ≡ (hub_run parts (round_events lines quiets turns)).parts
   pub calm : new_quiets ≡ quiets_after quiets turns
   pub had : (i : ℕ) (d : S) → i < length turns →
-      HadTurn passed count (placed parts lines quiets i turns) (slice_index_or wires i d) (slice_index_or new_wires i d)
+      HadTurn passed count (turn_at parts lines quiets i turns) (slice_index_or wires i d) (slice_index_or new_wires i d)
   pub rest : (i : ℕ) (d : S) → length turns ≤ i → slice_index_or new_wires i d ≡ slice_index_or wires i d
 
 -- ---- round after round
@@ -158,7 +158,7 @@ all_quiets quiets (round ∷ rounds) = all_quiets (quiets_after quiets round) ro
 -- the turns of the i-th wire
 abbrev pub turns_of : List Part → List LineId → List ℕ → ℕ → List (List Turn) → List Placed
 turns_of parts lines quiets i [] = []
-turns_of parts lines quiets i (round ∷ rounds) = placed parts lines quiets i round
+turns_of parts lines quiets i (round ∷ rounds) = turn_at parts lines quiets i round
     ∷ turns_of (hub_run parts (round_events lines quiets round)).parts lines (quiets_after quiets round) i rounds
 
 -- A wire had these turns, and nothing else passed on it.

@@ -1,6 +1,6 @@
 -- What is seen of a hub while it runs: of a line, and of a whole file without its records.
 use Rattle.std.specs.Prelude.{◌≡◌, ℕ, List, length, Option}
-use Rattle.njh_header.specs.FileHeaders.{name_of, owner_of, destination_of}
+use Rattle.njh_header.specs.FileHeaders.{name_of, file_owner, destination_of}
 use Rattle.njh_line.specs.declared.Phase.TheVariants.{Down}
 use Rattle.njh_line.specs.declared.session.Session.{Session}
 use Rattle.njh_spool.specs.CustomerSpool.{WholeFile, cost, whole_numbered}
@@ -24,13 +24,13 @@ pub record HasGivenUp (parts : List Part) (line : LineId) : Type 0 where
   pub tries : (hub_line line parts).state.session.tries ≡ 5
 
 -- the whole file of a number of customer c
-abbrev pub file_on : ℕ → ℕ → List Part → Option WholeFile
-file_on c n parts = whole_numbered n (part c parts).customer.spool
+abbrev pub whole_file_on : ℕ → ℕ → List Part → Option WholeFile
+whole_file_on c n parts = whole_numbered n (part c parts).customer.spool
 
 abbrev pub file_summary : WholeFile → FileSummaryView
 file_summary f = record {
   name = name_of f.records;
-  owner = owner_of f.records;
+  owner = file_owner f.records;
   destination = destination_of f.kind f.records;
   kind = f.kind;
   state = f.state;

@@ -3,9 +3,9 @@ use Rattle.std.specs.Prelude.{◌≡◌, ℕ, ◌<◌, List, [], ◌∷◌, ◌+
 use Rattle.njh_table.specs.declared.LineId.{LineId}
 use Rattle.njh_table.specs.Entries.{CustomerEntry}
 use Rattle.njh_table.specs.NewRoutes.{own_routes, routes_checked}
-pub use Rattle.njh_customer.specs.Part.{Part, opened}
+pub use Rattle.njh_customer.specs.Part.{Part, part_at_open}
 use Rattle.njh_customer.specs.Runs.{OwnEvent, event_run}
-use Rattle.njh_hub.specs.OwnEvents.{customer_of, own}
+use Rattle.njh_hub.specs.OwnEvents.{customer_of_event, own}
 use Rattle.njh_hub.specs.declared.event.Event.{Event}
 use Rattle.njh_hub.specs.declared.event.Event.TheVariants.{Bytes, Tick, Garbled, Lost, Routes}
 
@@ -14,7 +14,7 @@ no_entry = record { hub = []; quota = 0; files = 0; lines = []; up = []; routes 
 
 -- a customer that has no line
 abbrev pub no_part : Part
-no_part = opened no_entry
+no_part = part_at_open no_entry
 
 -- a customer's part of the hub
 abbrev pub part : ℕ → List Part → Part
@@ -52,7 +52,7 @@ own_event parts c event =
     record { parts = slice_set parts c x.after; sent = sent_by c x.sent }
 
 abbrev pub hub_event : List Part → Event → HubRun
-hub_event parts event = own_event parts (customer_of event) (own event)
+hub_event parts event = own_event parts (customer_of_event event) (own event)
 
 abbrev pub hub_run : List Part → List Event → HubRun
 hub_run parts [] = record { parts = parts; sent = [] }

@@ -8,7 +8,7 @@ use Rattle.njh_hub.specs.declared.event.Event.TheVariants.{Bytes, Tick, Garbled,
 use Rattle.njh_hub.specs.declared.wire_reading.Reading.{Reading}
 use Rattle.njh_hub.specs.declared.wire_reading.Reading.TheVariants as reading
 use Rattle.njh_hub.specs.declared.wire_reading.WireFault.{WireFault}
-use Rattle.njh_hub.specs.OwnEvents.{line_of, bytes_in_event}
+use Rattle.njh_hub.specs.OwnEvents.{line_of_event, bytes_in_event}
 use Rattle.njh_hub.specs.Sent.{IsCounted}
 use Rattle.njh_hub.specs.WholeHub.{Part, HubRun, SameLines, hub_run}
 
@@ -74,9 +74,9 @@ loss_of None = []
 loss_of (Some line) = Lost line ∷ []
 
 -- What the hub hears of an event. Where a write failed, the bytes behind it are dropped and the line is lost.
-abbrev pub told : Option ℕ → Event → List Event
-told None event = event ∷ []
-told (Some n) event = cut_to n event ∷ loss_of (line_of event)
+abbrev pub heard_events : Option ℕ → Event → List Event
+heard_events None event = event ∷ []
+heard_events (Some n) event = cut_to n event ∷ loss_of (line_of_event event)
 
 abbrev pub sent_act : LineId × List ℕ → WireAct
 sent_act pair = Sent pair.1
@@ -92,9 +92,9 @@ last_unsent [] = []
 last_unsent (pair ∷ pairs) = elim pairs [ [] ↦ Unsent pair.1 ∷ [] | next ∷ more ↦ sent_act pair ∷ last_unsent pairs ]
 
 -- Each frame that the hub sends is written, up to one whose write fails.
-abbrev pub written : List Part → Option ℕ → Event → List WireAct
-written parts None event = map sent_act (hub_run parts (event ∷ [])).sent
-written parts (Some n) event = last_unsent (run_until parts n event).sent
+abbrev pub write_acts : List Part → Option ℕ → Event → List WireAct
+write_acts parts None event = map sent_act (hub_run parts (event ∷ [])).sent
+write_acts parts (Some n) event = last_unsent (run_until parts n event).sent
 
 -- A frame is sent when so many bytes of an event are used: the last of them sends it.
 pub record SendsAt (parts : List Part) (event : Event) (n : ℕ) : Type 0 where
@@ -117,8 +117,8 @@ pub record IsTaken {Z : Type 0} (parts : List Part) (line : LineId) (after : Par
 -- What came of an event of a wire. `cut` says whether a write failed, and how many bytes of the event were used then.
 pub record IsDone {S : Type 0} (passed : S → S → List WireAct → Type 0) (count : S → ℕ) (parts : List Part) (event : Event)
     (cut : Option ℕ) (wire : S) (new : List Part) (new_wire : S) : Type 0 where
-  pub hub : new ≡ (hub_run parts (told cut event)).parts
-  pub acts : passed wire new_wire (written parts cut event)
+  pub hub : new ≡ (hub_run parts (heard_events cut event)).parts
+  pub acts : passed wire new_wire (write_acts parts cut event)
   pub stop : IsStop parts cut event
   pub counts : count wire ≤ count new_wire
   pub counted : IsSome cut → IsCounted (count wire) (count new_wire)

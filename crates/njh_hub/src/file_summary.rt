@@ -3,7 +3,7 @@
 ghost use Rattle.std.specs.Prelude.{◌≡◌, ◌<◌, length};
 ghost use Rattle.std.specs.Option.{option_map};
 ghost use Rattle.njh_spool.specs.CustomerSpool.{whole_numbered};
-ghost use Rattle.njh_spool.specs.Spools.{part};
+ghost use Rattle.njh_spool.specs.Spools.{spool_at};
 ghost use Rattle.njh_hub.specs.Views.{file_summary};
 
 use njh_header::{Destination, FileName, User};
@@ -34,7 +34,7 @@ pub struct FileSummaryView {
 /// What is shown of a customer's whole file; none where the number is no whole file's.
 pub(crate) fn file_summary(spool: &Spool, customer: u16, file: FileId) -> Option<FileSummaryView>
     requires { customer < length spool.now }
-    ensures { result ≡ option_map file_summary (whole_numbered file (part customer spool.now)) }
+    ensures { result ≡ option_map file_summary (whole_numbered file (spool_at customer spool.now)) }
 {
     let summary = spool.summary(customer, file).ok()?;
     let blocks = spool.blocks(customer, file).ok()?;

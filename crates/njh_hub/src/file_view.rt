@@ -2,9 +2,9 @@
 
 ghost use Rattle.std.specs.Prelude.{◌≡◌, ◌<◌, ◌≤◌, length, IfOk, OnErr, Err};
 ghost use Rattle.njh_command.specs.Files.{file_at};
-ghost use Rattle.njh_spool.specs.Spools.{part};
+ghost use Rattle.njh_spool.specs.Spools.{spool_at};
 ghost use Rattle.njh_stream.specs.SpoolFiles.{records_in};
-ghost use Rattle.njh_hub.specs.Files.{files_of, line_of, viewed};
+ghost use Rattle.njh_hub.specs.Files.{files_of, printed_file_line, view_of_file};
 
 use crate::fault::HubFault;
 use njh_command::{file_text, number_of};
@@ -84,7 +84,7 @@ impl Records {
     /// only refusal.
     fn of(alloc: Global, spool: &Spool, customer: u16, file: FileId) -> Result<Records, AllocError>
         requires { customer < length spool.now }
-        ensures { IfOk result (λ records. records ≡ records_in file (part customer spool.now)) }
+        ensures { IfOk result (λ records. records ≡ records_in file (spool_at customer spool.now)) }
     {
         let count = spool.records(customer, file).unwrap_or(0);
         let items = match spool.read_all(customer, file) {
@@ -200,7 +200,7 @@ impl FileView {
 
     /// What NJH001 says of it behind its number, in EBCDIC.
     pub fn line(&self) -> MessageText
-        ensures { result.items ≡ line_of self.now }
+        ensures { result.items ≡ printed_file_line self.now }
     {
         file_text(
             self.name,
@@ -215,8 +215,8 @@ impl FileView {
 /// The file at a place in the order of arrival. Out of memory is the only refusal.
 fn view_of(alloc: Global, spool: &Spool, customer: u16, index: u32) -> Result<FileView, AllocError>
     requires range { customer < length spool.now }
-    requires within { index < length (part customer spool.now).whole }
-    ensures { IfOk result (λ view. view ≡ viewed (file_at index (part customer spool.now))) }
+    requires within { index < length (spool_at customer spool.now).whole }
+    ensures { IfOk result (λ view. view ≡ view_of_file (file_at index (spool_at customer spool.now))) }
 {
     let file = number_of(spool, customer, index);
     let kind = spool.kind(customer, file).unwrap_or(Kind::In);
@@ -238,7 +238,7 @@ pub(crate) fn files_of(
     customer: u16,
 ) -> Result<Vec<FileView>, HubFault>
     requires { customer < length spool.now }
-    ensures files { IfOk result (λ files. files.items ≡ files_of (part customer spool.now)) }
+    ensures files { IfOk result (λ files. files.items ≡ files_of (spool_at customer spool.now)) }
     ensures memory { OnErr result (result ≡ Err HubFault.Memory) }
 {
     let count = spool.files(customer);

@@ -3,8 +3,8 @@
 ghost use Rattle.std.specs.Prelude.{◌≡◌, ℕ, ◌+◌, ◌<◌, ◌≤◌, ◌↔◌, length, IsTrue, OnOk, OnErr, IfOk, IsOk, Err};
 ghost use Rattle.std.specs.Vec.{vec_len, vec_capacity};
 ghost use Rattle.njh_customer.specs.Customer.{IsMarked};
-ghost use Rattle.njh_customer.specs.Part.{bytes_taken, signal_taken};
-ghost use Rattle.njh_spool.specs.CustomerSpool.{used};
+ghost use Rattle.njh_customer.specs.Part.{part_after_bytes, part_after_signal};
+ghost use Rattle.njh_spool.specs.CustomerSpool.{used_blocks};
 ghost use Rattle.njh_hub.specs.Files.{files_at};
 ghost use Rattle.njh_hub.specs.Steps.{IsStep};
 ghost use Rattle.njh_hub.specs.WholeHub.{part, HasLine};
@@ -50,13 +50,13 @@ impl Model for Hub {
 
 impl Hub {
     ghost use Rattle.std.specs.Prelude.{map};
-    ghost use Rattle.njh_hub.specs.WholeHub.{opened};
+    ghost use Rattle.njh_hub.specs.WholeHub.{part_at_open};
     ghost use Rattle.njh_hub.specs.Parts.{entries_of};
 
     /// A hub of these tables, with all the room that its files and lines need. No line is up at first, whatever the
     /// tables held. Want of memory is the only refusal.
     pub fn open(alloc: Global, tables: Tables) -> Result<Hub, HubFault>
-        ensures opened { IfOk result (λ hub. hub ≡ map opened (entries_of tables)) }
+        ensures opened { IfOk result (λ hub. hub ≡ map part_at_open (entries_of tables)) }
         ensures memory { OnErr result (result ≡ Err HubFault.Memory) }
     {
         opened_is_coherent();
@@ -105,7 +105,7 @@ impl Hub {
     /// How many blocks a customer's files take, partial ones too: at most its quota. `UnknownCustomer` where the hub
     /// has no such customer.
     pub fn used(&self, customer: u16) -> Result<u32, HubFault>
-        ensures used { IfOk result (λ blocks. blocks ≡ used (part customer self.now).customer.spool) }
+        ensures used { IfOk result (λ blocks. blocks ≡ used_blocks (part customer self.now).customer.spool) }
         ensures quota { IfOk result (λ blocks. blocks ≤ (part customer self.now).customer.entry.quota) }
         ensures known { IsOk result ↔ (customer < length self.now) }
         ensures unknown { OnErr result (result ≡ Err HubFault.UnknownCustomer) }
@@ -137,9 +137,9 @@ impl Hub {
     /// `UnknownLine` comes where the hub has no such line, `Memory` where `out` found no room for a frame past what it
     /// held.
     pub fn take(&mut self, line: LineId, piece: &[u8], out: &mut Vec<u8>) -> Result<usize, HubFault>
-        ensures taken { IfOk result (λ taken. taken ≡ (bytes_taken (part line.customer self.old) line.line piece.now).taken) }
+        ensures taken { IfOk result (λ taken. taken ≡ (part_after_bytes (part line.customer self.old) line.line piece.now).taken) }
         ensures progress { IfOk result (λ taken. (0 < length piece.now → 0 < taken) × (taken ≤ length piece.now)) }
-        ensures step { let t = bytes_taken (part line.customer self.old) line.line piece.now in
+        ensures step { let t = part_after_bytes (part line.customer self.old) line.line piece.now in
             IsStep self.old line t.after t.frame out.old result self.new out.new }
         ensures rests { OnOk result (line.line < length (part line.customer self.old).rests) }
     {
@@ -160,7 +160,7 @@ impl Hub {
 
     /// A tick of the clock on a line. Refusals and `out` are those of `take`.
     pub fn tick(&mut self, line: LineId, out: &mut Vec<u8>) -> Result<(), HubFault>
-        ensures { let t = signal_taken (part line.customer self.old) line.line Signal.Tick in
+        ensures { let t = part_after_signal (part line.customer self.old) line.line Signal.Tick in
             IsStep self.old line t.after t.frame out.old result self.new out.new }
     {
         self.signal(line, Signal::Tick, out)
@@ -168,7 +168,7 @@ impl Hub {
 
     /// The adapter's word that a block check failed on a line. Refusals and `out` are those of `take`.
     pub fn garbled(&mut self, line: LineId, out: &mut Vec<u8>) -> Result<(), HubFault>
-        ensures { let t = signal_taken (part line.customer self.old) line.line Signal.Garbled in
+        ensures { let t = part_after_signal (part line.customer self.old) line.line Signal.Garbled in
             IsStep self.old line t.after t.frame out.old result self.new out.new }
     {
         self.signal(line, Signal::Garbled, out)
@@ -176,7 +176,7 @@ impl Hub {
 
     /// The loss of a line. Refusals and `out` are those of `take`.
     pub fn lost(&mut self, line: LineId, out: &mut Vec<u8>) -> Result<(), HubFault>
-        ensures { let t = signal_taken (part line.customer self.old) line.line Signal.Lost in
+        ensures { let t = part_after_signal (part line.customer self.old) line.line Signal.Lost in
             IsStep self.old line t.after t.frame out.old result self.new out.new }
     {
         self.signal(line, Signal::Lost, out)
@@ -189,7 +189,7 @@ impl Hub {
         signal: Signal,
         out: &mut Vec<u8>,
     ) -> Result<(), HubFault>
-        ensures { let t = signal_taken (part line.customer self.old) line.line signal in
+        ensures { let t = part_after_signal (part line.customer self.old) line.line signal in
             IsStep self.old line t.after t.frame out.old result self.new out.new }
     {
         marks_are_right();

@@ -2,10 +2,10 @@
 //! lines.
 
 ghost use Rattle.std.specs.Prelude.{◌≡◌, ℕ, ◌<◌, length, map, IfOk, OnErr, Err};
-ghost use Rattle.njh_customer.specs.Part.{opened, part_with};
+ghost use Rattle.njh_customer.specs.Part.{part_at_open, part_with};
 ghost use Rattle.njh_hub.specs.Parts.{empty_files, lines_at, quota_in};
 ghost use Rattle.njh_table.specs.Accepted.{IsAccepted};
-ghost use Rattle.njh_table.specs.Marks.{entry_unmarked, unmarked};
+ghost use Rattle.njh_table.specs.Marks.{entry_unmarked, without_marks};
 ghost use Rattle.njh_table.specs.TableFile.{customer_at, entry_of};
 
 use crate::fault::HubFault;
@@ -16,7 +16,7 @@ use std::alloc::{AllocError, Global};
 
 /// The tables with no line marked as up.
 pub(crate) fn all_down(tables: Tables) -> Tables
-    ensures { result ≡ unmarked tables }
+    ensures { result ≡ without_marks tables }
 {
     let mut tables = tables;
     tables.set_all_down();
@@ -63,7 +63,7 @@ pub(crate) fn open_lines(alloc: Global, tables: &Tables) -> Result<Vec<Lines>, A
     ensures count { IfOk result (λ lines. length lines.items ≡ length tables.now.customers) }
     ensures opened { IfOk result (λ lines. (c : ℕ) → c < length tables.now.customers →
         part_with (entry_unmarked (entry_of (customer_at tables.now c))) (empty_files (customer_at tables.now c)) (lines_at c lines.items)
-        ≡ opened (entry_of (customer_at tables.now c))) }
+        ≡ part_at_open (entry_of (customer_at tables.now c))) }
     ensures accepted { IsAccepted tables.now }
 {
     let mut lines = Vec::with_capacity(alloc, tables.customers().len())?;

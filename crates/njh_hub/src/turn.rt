@@ -2,11 +2,11 @@
 
 ghost use Rattle.std.specs.Prelude.{◌≡◌, ℕ, ◌<◌, ◌≤◌, [], ◌∷◌, length, Option, OnOk, OnErr, IfOk};
 ghost use Rattle.std.specs.Vec.{vec_capacity};
-ghost use Rattle.njh_customer.specs.Part.{bytes_taken, signal_taken};
+ghost use Rattle.njh_customer.specs.Part.{part_after_bytes, part_after_signal};
 ghost use Rattle.njh_hub.specs.declared.event.Event.TheVariants.{Bytes, Lost};
 ghost use Rattle.njh_hub.specs.OwnEvents.{event_by};
 ghost use Rattle.njh_hub.specs.Sent.{IsCounted};
-ghost use Rattle.njh_hub.specs.Turns.{Turn, IsTurn, IsHeard, event_of, quiet_after};
+ghost use Rattle.njh_hub.specs.Turns.{Turn, IsTurn, IsHeard, wire_event, quiet_after};
 ghost use Rattle.njh_hub.specs.WholeHub.{part, HasLine, SameLines, hub_run};
 ghost use Rattle.njh_hub.specs.Wires.{IsDone, Unsent, IsReading, heard_of, frame_acts, IsTaken};
 
@@ -98,7 +98,7 @@ fn act_on<W: Wire>(
     requires few { quiet < 10 }
     requires room { LONGEST_FRAME ≤ vec_capacity out.old }
     ensures heard { (cut : Option ℕ) ×
-        IsHeard W.passed W.count hub.old (event_of line quiet (heard_of answer buffer.now)) cut wire.old hub.new wire.new }
+        IsHeard W.passed W.count hub.old (wire_event line quiet (heard_of answer buffer.now)) cut wire.old hub.new wire.new }
     ensures quiets { result ≡ quiet_after quiet (heard_of answer buffer.now) }
     ensures few { result < 10 }
     ensures lines { SameLines hub.old hub.new }
@@ -179,11 +179,11 @@ fn pass_signal<W: Wire>(
 fn take_bytes(hub: &mut Hub, line: LineId, piece: &[u8], out: &mut Vec<u8>) -> usize
     requires known { HasLine hub.old line }
     requires room { LONGEST_FRAME ≤ vec_capacity out.old }
-    ensures taken { result ≡ (bytes_taken (part line.customer hub.old) line.line piece.now).taken }
+    ensures taken { result ≡ (part_after_bytes (part line.customer hub.old) line.line piece.now).taken }
     ensures progress { 0 < length piece.now → 0 < result }
     ensures within { result ≤ length piece.now }
     ensures rests { line.line < length (part line.customer hub.old).rests }
-    ensures step { let t = bytes_taken (part line.customer hub.old) line.line piece.now in
+    ensures step { let t = part_after_bytes (part line.customer hub.old) line.line piece.now in
         IsTaken hub.old line t.after t.frame hub.new out.new }
 {
     out.clear();
@@ -197,7 +197,7 @@ fn take_bytes(hub: &mut Hub, line: LineId, piece: &[u8], out: &mut Vec<u8>) -> u
 fn take_signal(hub: &mut Hub, line: LineId, signal: Signal, out: &mut Vec<u8>)
     requires known { HasLine hub.old line }
     requires room { LONGEST_FRAME ≤ vec_capacity out.old }
-    ensures { let t = signal_taken (part line.customer hub.old) line.line signal in
+    ensures { let t = part_after_signal (part line.customer hub.old) line.line signal in
         IsTaken hub.old line t.after t.frame hub.new out.new }
 {
     out.clear();

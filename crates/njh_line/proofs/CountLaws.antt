@@ -2,7 +2,7 @@
 use Rattle.std.proofs.Common.{◌≡◌, ℕ, ◌+◌, ◌%◌, Bool, true, false, Option, Some, None, cond, ◌==◌, ◌||◌, refl, ap, arith, eq-eqb}
 use Rattle.std.proofs.lemmas.Bool.{eqb-true, ne_eqb}
 use Rattle.njh_line.specs.declared.counts.Counted.TheVariants.{Acts, Repeats, OutOfSequence}
-use Rattle.njh_line.specs.Counts.{bcb_count, bcb_type, counted, is_repeat, is_taken}
+use Rattle.njh_line.specs.Counts.{bcb_count, bcb_type, count_verdict, is_repeat, is_taken}
 
 -- a Bool isn't both
 pub clash : {A : Type 0} (b : Bool) → b ≡ true → b ≡ false → A
@@ -22,7 +22,7 @@ is_the_last : (last_bcb : Option ℕ) (bcb : ℕ) → is_repeat last_bcb bcb ≡
 is_the_last None bcb e = clash false e refl
 is_the_last (Some b) bcb e = ap Some (eqb-true b bcb e)
 
-pub same : (last_bcb : Option ℕ) (bcb : ℕ) → counted last_bcb bcb ≡ Repeats → last_bcb ≡ Some bcb
+pub same : (last_bcb : Option ℕ) (bcb : ℕ) → count_verdict last_bcb bcb ≡ Repeats → last_bcb ≡ Some bcb
 same last_bcb bcb e = is_the_last last_bcb bcb (repeats _ _ _ _ e)
 
 repeated : (unchecked repeat set taken : Bool) → unchecked ≡ false → repeat ≡ true
@@ -31,7 +31,7 @@ repeated true repeat set taken e f = clash true refl e
 repeated false true set taken e f = refl
 repeated false false set taken e f = clash false f refl
 
-pub always : (bcb : ℕ) → (bcb_type bcb == 1) ≡ false → counted (Some bcb) bcb ≡ Repeats
+pub always : (bcb : ℕ) → (bcb_type bcb == 1) ≡ false → count_verdict (Some bcb) bcb ≡ Repeats
 always bcb e = repeated (bcb_type bcb == 1) (bcb == bcb) _ _ e (eq-eqb bcb bcb refl)
 
 cond-true : (b x y : Bool) → b ≡ true → cond b x y ≡ x

@@ -8,8 +8,8 @@ use Rattle.njh_line.specs.declared.counts.Counted.TheVariants.{Acts, Repeats, Ou
 use Rattle.njh_line.specs.declared.session.Session.{Session}
 use Rattle.njh_line.specs.declared.table.Outcome.{Outcome}
 use Rattle.njh_line.specs.declared.verdict.Reply.TheVariants.{Sequence}
-use Rattle.njh_line.specs.Counts.{after_acting, counted, expected}
-use Rattle.njh_line.specs.LineTable.{Block, accepted, acting, cell, end_with, try_again}
+use Rattle.njh_line.specs.Counts.{after_acting, count_verdict, expected_count}
+use Rattle.njh_line.specs.LineTable.{Block, table_outcome, acting, cell, end_with, try_again}
 use Rattle.njh_line.specs.Openings.{First}
 use Rattle.njh_line.specs.Sessions.{in_session}
 use Rattle.njh_line.proofs.CountLaws.{clash}
@@ -43,23 +43,23 @@ where_out_of_sequence Repeats x y z e = absurd (cc)
 where_out_of_sequence OutOfSequence x y z e = refl
 
 pub acts : (line : Config) (bcb : ℕ) (fcs : ℕ × ℕ) (first : First) (s : Session) → in_session s.phase ≡ true →
-    counted s.last_bcb bcb ≡ Acts → acting line first (after_acting bcb fcs s) ≡ accepted line (Block bcb fcs first) s
-unfolding accepted
+    count_verdict s.last_bcb bcb ≡ Acts → acting line first (after_acting bcb fcs s) ≡ table_outcome line (Block bcb fcs first) s
+unfolding table_outcome
 acts line bcb fcs first s e f =
-    let k = counted s.last_bcb bcb in
-    where_acts k _ (try_again s) (end_with (Sequence (0x80 + expected s.last_bcb)) s) f ∙ in_row s.phase k _ _ _ _ _ _ _ _ _ e
+    let k = count_verdict s.last_bcb bcb in
+    where_acts k _ (try_again s) (end_with (Sequence (0x80 + expected_count s.last_bcb)) s) f ∙ in_row s.phase k _ _ _ _ _ _ _ _ _ e
 
 pub repeats : (line : Config) (bcb : ℕ) (fcs : ℕ × ℕ) (first : First) (s : Session) → in_session s.phase ≡ true →
-    counted s.last_bcb bcb ≡ Repeats → try_again s ≡ accepted line (Block bcb fcs first) s
-unfolding accepted
+    count_verdict s.last_bcb bcb ≡ Repeats → try_again s ≡ table_outcome line (Block bcb fcs first) s
+unfolding table_outcome
 repeats line bcb fcs first s e f =
-    let k = counted s.last_bcb bcb in
-    where_repeats k (acting line first (after_acting bcb fcs s)) _ (end_with (Sequence (0x80 + expected s.last_bcb)) s) f
+    let k = count_verdict s.last_bcb bcb in
+    where_repeats k (acting line first (after_acting bcb fcs s)) _ (end_with (Sequence (0x80 + expected_count s.last_bcb)) s) f
     ∙ in_row s.phase k _ _ _ _ _ _ _ _ _ e
 
 pub is_out_of_sequence : (line : Config) (bcb : ℕ) (fcs : ℕ × ℕ) (first : First) (s : Session) → in_session s.phase ≡ true →
-    counted s.last_bcb bcb ≡ OutOfSequence → end_with (Sequence (0x80 + expected s.last_bcb)) s ≡ accepted line (Block bcb fcs first) s
-unfolding accepted
+    count_verdict s.last_bcb bcb ≡ OutOfSequence → end_with (Sequence (0x80 + expected_count s.last_bcb)) s ≡ table_outcome line (Block bcb fcs first) s
+unfolding table_outcome
 is_out_of_sequence line bcb fcs first s e f =
-    let k = counted s.last_bcb bcb in
+    let k = count_verdict s.last_bcb bcb in
     where_out_of_sequence k (acting line first (after_acting bcb fcs s)) (try_again s) _ f ∙ in_row s.phase k _ _ _ _ _ _ _ _ _ e

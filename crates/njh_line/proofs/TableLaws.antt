@@ -14,13 +14,13 @@ use Rattle.njh_line.specs.declared.session.Session.{Session}
 use Rattle.njh_line.specs.declared.table.Outcome.{Outcome}
 use Rattle.njh_line.specs.declared.verdict.Reply.{Reply}
 use Rattle.njh_line.specs.declared.verdict.Reply.TheVariants.{Again, Control, Next, Sequence}
-use Rattle.njh_line.specs.Counts.{after_acting, counted, expected}
+use Rattle.njh_line.specs.Counts.{after_acting, count_verdict, expected_count}
 use Rattle.njh_line.specs.Laws.{MovesTriesAlone, is_acting, is_disregarded, is_up, last_bcb_after, last_bcb_by, sets_tries}
 use Rattle.njh_line.specs.LineTable.{Input, Enquiry, Ack0, Nak, Eot, Lost, Tick, Garbled, Spoiled, Bad, Block}
-use Rattle.njh_line.specs.LineTable.{accepted, act, by_count, call, cell, contact, end, end_with, i_sign_on, j_sign_on, none}
+use Rattle.njh_line.specs.LineTable.{table_outcome, act, by_count, call, cell, contact, end, end_with, i_sign_on, j_sign_on, none}
 use Rattle.njh_line.specs.LineTable.{signed_on, try_again, try_with, with_reply}
 use Rattle.njh_line.specs.Openings.{First}
-use Rattle.njh_line.specs.Sessions.{down, in_session}
+use Rattle.njh_line.specs.Sessions.{down_session, in_session}
 use Rattle.njh_line.proofs.CountLaws.{clash}
 use Rattle.njh_line.proofs.RowLaws as rows
 
@@ -68,8 +68,8 @@ disregarded p reply s h =
     every (λ q x. MovesTriesAlone s x) p _ _ _ _ _ nothing nothing try try try
 
 pub stays : (line : Config) (s : Session) (input : Input) → is_disregarded input ≡ true → s.tries < 5
-    → MovesTriesAlone s (accepted line input s)
-unfolding accepted
+    → MovesTriesAlone s (table_outcome line input s)
+unfolding table_outcome
 stays line s Enquiry e h = clash false e refl
 stays line s Ack0 e h = clash false e refl
 stays line s Nak e h = clash false e refl
@@ -93,8 +93,8 @@ fifth p reply s i h =
     inside (λ q x. x ≡ end s) p _ _ _ _ _ i try try try
 
 pub ends : (line : Config) (s : Session) (input : Input) → is_disregarded input ≡ true → in_session s.phase ≡ true → s.tries ≡ 5
-    → accepted line input s ≡ end s
-unfolding accepted
+    → table_outcome line input s ≡ end s
+unfolding table_outcome
 ends line s Enquiry e i h = clash false e refl
 ends line s Ack0 e i h = clash false e refl
 ends line s Nak e i h = clash false e refl
@@ -107,11 +107,11 @@ ends line s Bad e i h = fifth s.phase _ s i h
 ends line s (Block bcb fcs first) e i h = clash false e refl
 
 pub repeat_tries : (line : Config) (s : Session) (bcb : ℕ) (fcs : ℕ × ℕ) (first : First) → in_session s.phase ≡ true
-    → counted s.last_bcb bcb ≡ Repeats → accepted line (Block bcb fcs first) s ≡ try_again s
+    → count_verdict s.last_bcb bcb ≡ Repeats → table_outcome line (Block bcb fcs first) s ≡ try_again s
 repeat_tries line s bcb fcs first e f = sym (rows.repeats line bcb fcs first s e f)
 
 pub repeat_stays : (line : Config) (s : Session) (bcb : ℕ) (fcs : ℕ × ℕ) (first : First) → in_session s.phase ≡ true
-    → counted s.last_bcb bcb ≡ Repeats → s.tries < 5 → MovesTriesAlone s (accepted line (Block bcb fcs first) s)
+    → count_verdict s.last_bcb bcb ≡ Repeats → s.tries < 5 → MovesTriesAlone s (table_outcome line (Block bcb fcs first) s)
 repeat_stays line s bcb fcs first e f h =
     subst (λ (x : Outcome). MovesTriesAlone s x) (rows.repeats line bcb fcs first s e f)
     (try_moves (s.tries == 5) Again s (not_five s.tries h))
@@ -143,8 +143,8 @@ trying_keeps p reply s e =
     inside (λ q x. KeepsTries s x) p _ _ _ _ _ e try try try
 
 pub tries_stay : (line : Config) (s : Session) (input : Input) → in_session s.phase ≡ true
-    → (accepted line input s).verdict.ended ≡ false → sets_tries input s ≡ false → s.tries ≤ (accepted line input s).session.tries
-unfolding accepted
+    → (table_outcome line input s).verdict.ended ≡ false → sets_tries input s ≡ false → s.tries ≤ (table_outcome line input s).session.tries
+unfolding table_outcome
 tries_stay line s Enquiry e f g =
     inside (λ q x. KeepsTries s x) s.phase _ _ _ _ _ e (λ h. omega arith) (λ h. omega arith) (λ h. clash true refl h) f
 tries_stay line s Ack0 e f g =
@@ -162,9 +162,9 @@ tries_stay line s Garbled e f g = trying_keeps s.phase _ s e f
 tries_stay line s Spoiled e f g = trying_keeps s.phase _ s e f
 tries_stay line s Bad e f g = trying_keeps s.phase _ s e f
 tries_stay line s (Block bcb fcs first) e f g =
-    let k = counted s.last_bcb bcb in
+    let k = count_verdict s.last_bcb bcb in
     let next = after_acting bcb fcs s in
-    let sequence = Sequence (0x80 + expected s.last_bcb) in
+    let sequence = Sequence (0x80 + expected_count s.last_bcb) in
     inside (λ q x. s.tries ≤ x.session.tries) s.phase (none s) (none s)
     (by_count bcb fcs (i_sign_on line first) s) (by_count bcb fcs (j_sign_on line first) s) (by_count bcb fcs act s) e
     (count_rises k (i_sign_on line first next) sequence s g)
@@ -204,8 +204,8 @@ count_last Repeats acted reply bcb fcs s e = try_last (s.tries == 5) Again s
 count_last OutOfSequence acted reply bcb fcs s e = refl
 
 pub last_acted : (line : Config) (s : Session) (input : Input) → in_session s.phase ≡ true
-    → (accepted line input s).verdict.ended ≡ false → (accepted line input s).session.last_bcb ≡ last_bcb_after input s
-unfolding accepted
+    → (table_outcome line input s).verdict.ended ≡ false → (table_outcome line input s).session.last_bcb ≡ last_bcb_after input s
+unfolding table_outcome
 last_acted line s Enquiry e f =
     inside (λ q x. x.verdict.ended ≡ false → KeepsLast s x) s.phase _ _ _ _ _ e (λ h. refl) (λ h. refl) (λ h. clash true refl h) f
 last_acted line s Ack0 e f = inside (λ q x. KeepsLast s x) s.phase _ _ _ _ _ e refl refl refl
@@ -219,7 +219,7 @@ last_acted line s Garbled e f = trying_last s.phase _ s
 last_acted line s Spoiled e f = trying_last s.phase _ s
 last_acted line s Bad e f = trying_last s.phase _ s
 last_acted line s (Block bcb fcs first) e f =
-    let k = counted s.last_bcb bcb in
+    let k = count_verdict s.last_bcb bcb in
     let next = after_acting bcb fcs s in
     inside (λ q x. x.session.last_bcb ≡ last_bcb_by k bcb s.last_bcb) s.phase _ _ _ _ _ e
     (count_last k _ _ bcb fcs s (sign_on_last _ line _ next)) (count_last k _ _ bcb fcs s (sign_on_last _ line _ next))
@@ -242,9 +242,9 @@ call_afresh Call s e = λ f. clash false f refl
 call_afresh Answer s e = λ f. clash _ f e
 
 pub afresh : (line : Config) (s : Session) (input : Input) → in_session s.phase ≡ false
-    → in_session (accepted line input s).session.phase ≡ true
-    → ((accepted line input s).session.tries ≡ 0) × ((accepted line input s).session.last_bcb ≡ None)
-unfolding accepted
+    → in_session (table_outcome line input s).session.phase ≡ true
+    → ((table_outcome line input s).session.tries ≡ 0) × ((table_outcome line input s).session.last_bcb ≡ None)
+unfolding table_outcome
 afresh line s Enquiry e = outside (λ q x. IsFresh x) s.phase _ _ _ _ _ e (contact_afresh line.role s e) (none_afresh s e)
 afresh line s Ack0 e = outside (λ q x. IsFresh x) s.phase _ _ _ _ _ e (none_afresh s e) (λ f. (refl, refl))
 afresh line s Nak e = outside (λ q x. IsFresh x) s.phase _ _ _ _ _ e (none_afresh s e) (none_afresh s e)

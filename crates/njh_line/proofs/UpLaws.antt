@@ -14,10 +14,10 @@ use Rattle.njh_line.specs.declared.session.Session.{Session}
 use Rattle.njh_line.specs.declared.table.Outcome.{Outcome}
 use Rattle.njh_line.specs.declared.verdict.Reply.{Reply}
 use Rattle.njh_line.specs.declared.verdict.Reply.TheVariants as reply
-use Rattle.njh_line.specs.Counts.{counted, expected, after_acting}
+use Rattle.njh_line.specs.Counts.{count_verdict, expected_count, after_acting}
 use Rattle.njh_line.specs.Laws.{is_up}
 use Rattle.njh_line.specs.LineTable as input
-use Rattle.njh_line.specs.LineTable.{Input, accepted, cell, none, enquiry, ack0, hang_up, end, end_with, end_and_contact, try_with, try_again, try_nak}
+use Rattle.njh_line.specs.LineTable.{Input, table_outcome, cell, none, enquiry, ack0, hang_up, end, end_with, end_and_contact, try_with, try_again, try_nak}
 use Rattle.njh_line.specs.LineTable.{with_reply, contact, call, i_block, next_or_turn, next_in_turn, by_count, signed_on, i_sign_on, j_sign_on, act}
 use Rattle.njh_line.specs.Openings.{fitting}
 use Rattle.njh_line.specs.Up.{InputsKeepUp}
@@ -69,18 +69,18 @@ module _ (s : Session) where
   signed r config None t = refl
 
   by_counts : (bcb : ℕ) (fcs : ℕ × ℕ) (acted : Session → Outcome) → Follows s.phase (acted (after_acting bcb fcs s)) → Follows s.phase (by_count bcb fcs acted s)
-  by_counts bcb fcs acted acts = at (counted s.last_bcb bcb)
+  by_counts bcb fcs acted acts = at (count_verdict s.last_bcb bcb)
     where
       at :
           (n : Counted)
           → Follows s.phase (elim n [
             | Acts ↦ acted (after_acting bcb fcs s)
             | Repeats ↦ try_again s
-            | OutOfSequence ↦ end_with (reply.Sequence (0x80 + expected s.last_bcb)) s
+            | OutOfSequence ↦ end_with (reply.Sequence (0x80 + expected_count s.last_bcb)) s
           ])
       at Acts = acts
       at Repeats = tries reply.Again
-      at OutOfSequence = ends (end_with (reply.Sequence (0x80 + expected s.last_bcb)) s) refl refl
+      at OutOfSequence = ends (end_with (reply.Sequence (0x80 + expected_count s.last_bcb)) s) refl refl
 
   in_row :
       (down calling answered sent_i up : Outcome) → (is_up s.phase ≡ false → Follows s.phase down) → (is_up s.phase ≡ false → Follows s.phase calling)
@@ -105,8 +105,8 @@ module _ (s : Session) where
       in_row (none s) (hang_up s) (hang_up s) (hang_up s) (end s) (low (none s) refl) (low (hang_up s) refl) (low (hang_up s) refl) (low (hang_up s) refl)
       (ends (end s) refl refl)
 
-table_follows : (config : Config) (came : Input) (s : Session) → Follows s.phase (accepted config came s)
-unfolding accepted
+table_follows : (config : Config) (came : Input) (s : Session) → Follows s.phase (table_outcome config came s)
+unfolding table_outcome
 table_follows config input.Enquiry s =
     in_row s (contact config.role s) (none s) (ack0 s) (none s) (end_and_contact config.role s)
     (low s (contact config.role s) (by_role s config.role)) (low s (none s) refl) (low s (ack0 s) refl) (low s (none s) refl)

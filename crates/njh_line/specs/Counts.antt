@@ -16,9 +16,9 @@ abbrev pub count_after : ℕ → ℕ
 count_after bcb = (bcb_count bcb + 1) % 16
 
 -- the count that is expected
-abbrev pub expected : Option ℕ → ℕ
-expected None = 0
-expected (Some last) = cond (bcb_type last == 2) (bcb_count last) (count_after last)
+abbrev pub expected_count : Option ℕ → ℕ
+expected_count None = 0
+expected_count (Some last) = cond (bcb_type last == 2) (bcb_count last) (count_after last)
 
 -- whether a count is one of those taken
 abbrev pub is_taken : Option ℕ → ℕ → Bool
@@ -31,8 +31,8 @@ is_repeat None bcb = false
 is_repeat (Some last) bcb = last == bcb
 
 -- what a block does by its count
-abbrev pub counted : Option ℕ → ℕ → Counted
-counted last bcb =
+abbrev pub count_verdict : Option ℕ → ℕ → Counted
+count_verdict last bcb =
     cond (bcb_type bcb == 1) Acts
     (cond (is_repeat last bcb) Repeats
     (cond (bcb_type bcb == 2) Acts

@@ -6,7 +6,7 @@ use Rattle.njh_line.specs.declared.counts.Counted.{Counted}
 use Rattle.njh_line.specs.declared.counts.Counted.TheVariants.{Acts}
 use Rattle.njh_line.specs.declared.session.Session.{Session}
 use Rattle.njh_line.specs.declared.table.Outcome.{Outcome}
-use Rattle.njh_line.specs.Counts.{counted, bcb_type}
+use Rattle.njh_line.specs.Counts.{count_verdict, bcb_type}
 use Rattle.njh_line.specs.LineTable.{Input, Ack0, Garbled, Spoiled, Bad, Block}
 use Rattle.njh_line.specs.Lines.{LineState}
 
@@ -42,7 +42,7 @@ is_acting _ = false
 -- a block that is acted on, and ACK0 where the line is up
 abbrev pub sets_tries : Input → Session → Bool
 sets_tries Ack0 s = is_up s.phase
-sets_tries (Block bcb fcs first) s = is_acting (counted s.last_bcb bcb)
+sets_tries (Block bcb fcs first) s = is_acting (count_verdict s.last_bcb bcb)
 sets_tries _ s = false
 
 -- the last BCB, once a block with a checked count acts
@@ -51,5 +51,5 @@ last_bcb_by Acts bcb last = cond (bcb_type bcb == 1) last (Some bcb)
 last_bcb_by _ bcb last = last
 
 abbrev pub last_bcb_after : Input → Session → Option ℕ
-last_bcb_after (Block bcb fcs first) s = last_bcb_by (counted s.last_bcb bcb) bcb s.last_bcb
+last_bcb_after (Block bcb fcs first) s = last_bcb_by (count_verdict s.last_bcb bcb) bcb s.last_bcb
 last_bcb_after _ s = s.last_bcb

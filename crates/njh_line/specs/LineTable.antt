@@ -16,9 +16,9 @@ use Rattle.njh_line.specs.declared.table.Outcome.{Outcome}
 use Rattle.njh_line.specs.declared.verdict.Reply.{Reply}
 use Rattle.njh_line.specs.declared.verdict.Reply.TheVariants.{Nothing, Control, Again, SignOn as SendSignOn, Sequence}
 use Rattle.njh_line.specs.declared.verdict.Reply.TheVariants.{Next}
-use Rattle.njh_line.specs.Counts.{counted, expected, after_acting}
+use Rattle.njh_line.specs.Counts.{count_verdict, expected_count, after_acting}
 use Rattle.njh_line.specs.Openings.{First, fitting, shown_first}
-use Rattle.njh_line.specs.Sessions.{entered, acknowledged, down}
+use Rattle.njh_line.specs.Sessions.{entered_session, acknowledged_session, down_session}
 
 -- What comes to a line.
 pub data Input : Type 0 where
@@ -34,17 +34,17 @@ pub data Input : Type 0 where
   Block : (bcb : ℕ) → (fcs : ℕ × ℕ) → First → Input
 
 -- an input whose bytes are lent
-abbrev pub shown : declared_input.Input → Input
-shown came.Enquiry = Enquiry
-shown came.Ack0 = Ack0
-shown came.Nak = Nak
-shown came.Eot = Eot
-shown came.Lost = Lost
-shown came.Tick = Tick
-shown came.Garbled = Garbled
-shown came.Spoiled = Spoiled
-shown came.Bad = Bad
-shown (came.Block bcb fcs first) = Block bcb fcs (shown_first first)
+abbrev pub input_value : declared_input.Input → Input
+input_value came.Enquiry = Enquiry
+input_value came.Ack0 = Ack0
+input_value came.Nak = Nak
+input_value came.Eot = Eot
+input_value came.Lost = Lost
+input_value came.Tick = Tick
+input_value came.Garbled = Garbled
+input_value came.Spoiled = Spoiled
+input_value came.Bad = Bad
+input_value (came.Block bcb fcs first) = Block bcb fcs (shown_first first)
 
 -- ---- the cells of the table: for a session, the session after the input, and what the input does
 
@@ -62,11 +62,11 @@ ack0 s = with_reply (Control control.Ack0) s
 
 -- the line goes down, where it wasn't up
 abbrev pub hang_up : Session → Outcome
-hang_up s = none (down s)
+hang_up s = none (down_session s)
 
 -- the session ends, and something or nothing is sent for it
 abbrev pub end_with : Reply → Session → Outcome
-end_with reply s = record { session = down s; verdict = record { ended = true; acts = false; reply = reply } }
+end_with reply s = record { session = down_session s; verdict = record { ended = true; acts = false; reply = reply } }
 
 abbrev pub end : Session → Outcome
 end s = end_with Nothing s
@@ -84,12 +84,12 @@ try_nak s = try_with (Control control.Nak) s
 -- the peer calls, and the end that answers does
 abbrev pub contact : Role → Session → Outcome
 contact Call s = none s
-contact Answer s = ack0 (entered Answered s)
+contact Answer s = ack0 (entered_session Answered s)
 
 -- the session ends, and the peer calls
 abbrev pub end_and_contact : Role → Session → Outcome
 end_and_contact role s =
-    let x = contact role (down s) in
+    let x = contact role (down_session s) in
     record { session = x.session; verdict = record x.verdict { ended = true } }
 
 -- the end that calls does
@@ -99,11 +99,11 @@ call Answer s = none s
 
 -- the I block
 abbrev pub i_block : Session → Outcome
-i_block s = with_reply (SendSignOn Initial) (entered SentI s)
+i_block s = with_reply (SendSignOn Initial) (entered_session SentI s)
 
 -- the peer acknowledges: the next block, or nothing and the turn is the hub's
 abbrev pub next_or_turn : Session → Outcome
-next_or_turn s = with_reply (Next false) (acknowledged s)
+next_or_turn s = with_reply (Next false) (acknowledged_session s)
 
 -- the next block where the turn is the hub's, else a try
 abbrev pub next_in_turn : Session → Outcome
@@ -112,10 +112,10 @@ next_in_turn s = cond s.has_turn (with_reply (Next true) s) (try_nak s)
 -- the count rule, before a cell for a block that is acted on
 abbrev pub by_count : ℕ → ℕ × ℕ → (Session → Outcome) → Session → Outcome
 by_count bcb fcs acted s =
-    elim (counted s.last_bcb bcb) [
+    elim (count_verdict s.last_bcb bcb) [
       | Acts ↦ acted (after_acting bcb fcs s)
       | Repeats ↦ try_again s
-      | OutOfSequence ↦ end_with (Sequence (0x80 + expected s.last_bcb)) s
+      | OutOfSequence ↦ end_with (Sequence (0x80 + expected_count s.last_bcb)) s
     ]
 
 -- a sign-on that fits, or none that does
@@ -153,15 +153,15 @@ abbrev pub acting : Config → First → Session → Outcome
 acting line first s = row none none (i_sign_on line first) (j_sign_on line first) act s
 
 -- a row for each input, and in it a cell for each phase: Down, Calling, Answered, SentI, Up
-unfoldable pub accepted : Config → Input → Session → Outcome
-accepted line Enquiry s = row (contact line.role) none ack0 none (end_and_contact line.role) s
-accepted line Ack0 s = row none i_block none none next_or_turn s
-accepted line Nak s = row none none try_again try_again try_again s
-accepted line Eot s = row none hang_up hang_up hang_up end s
-accepted line Lost s = row none hang_up hang_up hang_up end s
-accepted line (Block bcb fcs first) s =
+unfoldable pub table_outcome : Config → Input → Session → Outcome
+table_outcome line Enquiry s = row (contact line.role) none ack0 none (end_and_contact line.role) s
+table_outcome line Ack0 s = row none i_block none none next_or_turn s
+table_outcome line Nak s = row none none try_again try_again try_again s
+table_outcome line Eot s = row none hang_up hang_up hang_up end s
+table_outcome line Lost s = row none hang_up hang_up hang_up end s
+table_outcome line (Block bcb fcs first) s =
     row none none (by_count bcb fcs (i_sign_on line first)) (by_count bcb fcs (j_sign_on line first)) (by_count bcb fcs act) s
-accepted line Spoiled s = row none none try_nak try_nak try_nak s
-accepted line Bad s = row none none try_nak try_nak try_nak s
-accepted line Garbled s = row none none try_nak try_nak try_nak s
-accepted line Tick s = row (call line.role) enquiry try_nak try_nak next_in_turn s
+table_outcome line Spoiled s = row none none try_nak try_nak try_nak s
+table_outcome line Bad s = row none none try_nak try_nak try_nak s
+table_outcome line Garbled s = row none none try_nak try_nak try_nak s
+table_outcome line Tick s = row (call line.role) enquiry try_nak try_nak next_in_turn s

@@ -7,8 +7,8 @@ use Rattle.njh_line.specs.declared.line.TheConstants.{ANSWERS, MESSAGES}
 use Rattle.njh_line.specs.declared.sent.Sent as declared_sent
 use Rattle.njh_line.specs.declared.sent.Sent.TheVariants as went
 use Rattle.njh_line.specs.declared.session.Session.{Session}
-use Rattle.njh_line.specs.LineTable.{Input, accepted}
-use Rattle.njh_line.specs.Sessions.{fresh, down}
+use Rattle.njh_line.specs.LineTable.{Input, table_outcome}
+use Rattle.njh_line.specs.Sessions.{fresh, down_session}
 
 pub record LineState : Type 0 where
   pub config : Config
@@ -25,25 +25,25 @@ with_session session line = record line { session = session }
 
 -- after an input
 abbrev pub after_input : Input → LineState → LineState
-after_input input line = with_session (accepted line.config input line.session).session line
+after_input input line = with_session (table_outcome line.config input line.session).session line
 
 -- What was sent.
-pub data Sent : Type 0 where
-  Nothing : Sent
-  Nak : Sent
-  Again : Sent  -- the last transmission
-  Block : (frame : List ℕ) → (fcs : ℕ × ℕ) → Sent  -- of the hub's own count
-  Frame : (frame : List ℕ) → Sent  -- any other
+pub data LastSent : Type 0 where
+  Nothing : LastSent
+  Nak : LastSent
+  Again : LastSent  -- the last transmission
+  Block : (frame : List ℕ) → (fcs : ℕ × ℕ) → LastSent  -- of the hub's own count
+  Frame : (frame : List ℕ) → LastSent  -- any other
 
 -- what was sent, where the bytes are lent
-abbrev pub shown_sent : declared_sent.Sent → Sent
-shown_sent went.Nothing = Nothing
-shown_sent went.Nak = Nak
-shown_sent went.Again = Again
-shown_sent (went.Block frame fcs) = Block frame.now fcs
-shown_sent (went.Frame frame) = Frame frame.now
+abbrev pub sent_value : declared_sent.Sent → LastSent
+sent_value went.Nothing = Nothing
+sent_value went.Nak = Nak
+sent_value went.Again = Again
+sent_value (went.Block frame fcs) = Block frame.now fcs
+sent_value (went.Frame frame) = Frame frame.now
 
-abbrev pub IsShort : Sent → Type 0
+abbrev pub IsShort : LastSent → Type 0
 IsShort (Block frame fcs) = length frame ≤ LONGEST_FRAME
 IsShort (Frame frame) = length frame ≤ LONGEST_FRAME
 IsShort Nothing = Unit {0}
@@ -59,19 +59,19 @@ abbrev pub without_turn : Session → Session
 without_turn s = record s { has_turn = false }
 
 -- a block of the hub's own count was sent
-abbrev pub with_block_sent : ℕ × ℕ → Session → Session
-with_block_sent fcs s = record s { has_turn = false; next_count = (s.next_count + 1) % 16; own_fcs = fcs }
+abbrev pub with_block_count : ℕ × ℕ → Session → Session
+with_block_count fcs s = record s { has_turn = false; next_count = (s.next_count + 1) % 16; own_fcs = fcs }
 
-abbrev pub after_sending : Sent → LineState → LineState
+abbrev pub after_sending : LastSent → LineState → LineState
 after_sending Nothing line = with_session (with_turn line.session) line
 after_sending Nak line = with_session (without_turn line.session) line
 after_sending Again line = with_session (without_turn line.session) line
-after_sending (Block frame fcs) line = record line { session = with_block_sent fcs line.session; last = frame }
+after_sending (Block frame fcs) line = record line { session = with_block_count fcs line.session; last = frame }
 after_sending (Frame frame) line = record line { session = without_turn line.session; last = frame }
 
 -- a record ended the session
 abbrev pub after_end : LineState → LineState
-after_end line = with_session (down line.session) line
+after_end line = with_session (down_session line.session) line
 
 -- an answer waits, where there is room for it
 abbrev pub with_answer : Answer → LineState → LineState

@@ -1,7 +1,7 @@
 //! The count rule (IBM SC23-0070, "Multileaving").
 
 ghost use Rattle.std.specs.Prelude.{◌≡◌, ◌<◌};
-ghost use Rattle.njh_line.specs.Counts.{after_acting, count_after, counted, expected, is_repeat, is_taken};
+ghost use Rattle.njh_line.specs.Counts.{after_acting, count_after, count_verdict, expected_count, is_repeat, is_taken};
 
 use crate::session::Session;
 use njh_block::{Bcb, Fcs, Numbering};
@@ -23,7 +23,7 @@ pub(crate) enum Counted {
 impl Session {
     /// The count that the hub expects.
     pub(crate) fn expected(&self) -> u8
-        ensures value { result ≡ expected self.now.last_bcb }
+        ensures value { result ≡ expected_count self.now.last_bcb }
         ensures bound { result < 16 }
     {
         match self.last_bcb {
@@ -61,7 +61,7 @@ impl Session {
 
     /// Only a block whose count isn't checked acts twice.
     pub(crate) fn counted(&self, bcb: Bcb) -> Counted
-        ensures { result ≡ counted self.now.last_bcb bcb }
+        ensures { result ≡ count_verdict self.now.last_bcb bcb }
     {
         let numbering = bcb.numbering();
         if numbering == Numbering::Unchecked {

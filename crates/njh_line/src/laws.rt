@@ -4,9 +4,9 @@ ghost use Rattle.std.specs.Prelude.{◌≡◌, ℕ, ◌+◌, ◌%◌, ◌<◌, �
 ghost use Rattle.njh_line.specs.declared.config.Config.{Config};
 ghost use Rattle.njh_line.specs.declared.counts.Counted.TheVariants.{Acts, Repeats, OutOfSequence};
 ghost use Rattle.njh_line.specs.declared.session.Session.{Session};
-ghost use Rattle.njh_line.specs.Counts.{bcb_count, bcb_type, counted, is_taken};
+ghost use Rattle.njh_line.specs.Counts.{bcb_count, bcb_type, count_verdict, is_taken};
 ghost use Rattle.njh_line.specs.Laws.{KeepsRest, MovesTriesAlone, is_disregarded, last_bcb_after, sets_tries};
-ghost use Rattle.njh_line.specs.LineTable.{Block, Input, accepted, end, try_again};
+ghost use Rattle.njh_line.specs.LineTable.{Block, Input, table_outcome, end, try_again};
 ghost use Rattle.njh_line.specs.Lines.{LineState, after_input};
 ghost use Rattle.njh_line.specs.Openings.{First};
 ghost use Rattle.njh_line.specs.Sessions.{in_session};
@@ -18,33 +18,33 @@ ghost use Rattle.njh_line.specs.Up.{InputsKeepUp};
 pub fn disregarded_changes_nothing()
     ensures rest { (line : LineState) (input : Input) → KeepsRest line (after_input input line) }
     ensures stays { (line : Config) (s : Session) (input : Input) → is_disregarded input ≡ true → s.tries < 5
-        → MovesTriesAlone s (accepted line input s) }
+        → MovesTriesAlone s (table_outcome line input s) }
     ensures over { (line : Config) (s : Session) (input : Input) → is_disregarded input ≡ true → in_session s.phase ≡ true → s.tries ≡ 5
-        → accepted line input s ≡ end s }
+        → table_outcome line input s ≡ end s }
 {}
 
 /// A repeat acts on nothing and is a try, with the last transmission again. Only a block with the BCB of the last one
 /// acted on repeats, and it always does.
 pub fn repeats_are_tries()
     ensures tries { (line : Config) (s : Session) (bcb : ℕ) (fcs : ℕ × ℕ) (first : First) → in_session s.phase ≡ true
-        → counted s.last_bcb bcb ≡ Repeats → accepted line (Block bcb fcs first) s ≡ try_again s }
+        → count_verdict s.last_bcb bcb ≡ Repeats → table_outcome line (Block bcb fcs first) s ≡ try_again s }
     ensures stays { (line : Config) (s : Session) (bcb : ℕ) (fcs : ℕ × ℕ) (first : First) → in_session s.phase ≡ true
-        → counted s.last_bcb bcb ≡ Repeats → s.tries < 5 → MovesTriesAlone s (accepted line (Block bcb fcs first) s) }
-    ensures same { (last : Option ℕ) (bcb : ℕ) → counted last bcb ≡ Repeats → last ≡ Some bcb }
-    ensures always { (bcb : ℕ) → (bcb_type bcb == 1) ≡ false → counted (Some bcb) bcb ≡ Repeats }
+        → count_verdict s.last_bcb bcb ≡ Repeats → s.tries < 5 → MovesTriesAlone s (table_outcome line (Block bcb fcs first) s) }
+    ensures same { (last : Option ℕ) (bcb : ℕ) → count_verdict last bcb ≡ Repeats → last ≡ Some bcb }
+    ensures always { (bcb : ℕ) → (bcb_type bcb == 1) ≡ false → count_verdict (Some bcb) bcb ≡ Repeats }
 {}
 
 /// Within a session the tries never fall but by a block that is acted on and by ACK0 where the line is up.
 pub fn tries_stay()
-    ensures { (line : Config) (s : Session) (input : Input) → in_session s.phase ≡ true → (accepted line input s).verdict.ended ≡ false
-        → sets_tries input s ≡ false → s.tries ≤ (accepted line input s).session.tries }
+    ensures { (line : Config) (s : Session) (input : Input) → in_session s.phase ≡ true → (table_outcome line input s).verdict.ended ≡ false
+        → sets_tries input s ≡ false → s.tries ≤ (table_outcome line input s).session.tries }
 {}
 
 /// Within a session the counts taken are those of the BCB of the last block acted on whose count isn't unchecked, and
 /// of nothing else.
 pub fn counts_are_of_the_last_block()
-    ensures kept { (line : Config) (s : Session) (input : Input) → in_session s.phase ≡ true → (accepted line input s).verdict.ended ≡ false
-        → (accepted line input s).session.last_bcb ≡ last_bcb_after input s }
+    ensures kept { (line : Config) (s : Session) (input : Input) → in_session s.phase ≡ true → (table_outcome line input s).verdict.ended ≡ false
+        → (table_outcome line input s).session.last_bcb ≡ last_bcb_after input s }
     ensures at_first { (k : ℕ) → is_taken None k ≡ ((k == 0) || (k == 1)) }
     ensures set { (bcb k : ℕ) → bcb_type bcb ≡ 2
         → is_taken (Some bcb) k ≡ ((k == bcb_count bcb) || (k == (bcb_count bcb + 1) % 16)) }
@@ -54,8 +54,8 @@ pub fn counts_are_of_the_last_block()
 /// A session begins with no tries, and before any block.
 pub fn sessions_begin_afresh()
     ensures { (line : Config) (s : Session) (input : Input) → in_session s.phase ≡ false
-        → in_session (accepted line input s).session.phase ≡ true
-        → ((accepted line input s).session.tries ≡ 0) × ((accepted line input s).session.last_bcb ≡ None) }
+        → in_session (table_outcome line input s).session.phase ≡ true
+        → ((table_outcome line input s).session.tries ≡ 0) × ((table_outcome line input s).session.last_bcb ≡ None) }
 {}
 
 /// A line that is up stays so until its session ends, and then it isn't.

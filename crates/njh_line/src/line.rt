@@ -60,8 +60,8 @@ impl Model for Line {
 impl Line {
     ghost use Rattle.std.specs.Prelude.{◌≡◌, ◌+◌, ◌≤◌, IfOk, length, nat_lt, option_map, slice_get};
     ghost use Rattle.njh_line.specs.Sessions.{IsConfig, IsSession};
-    ghost use Rattle.njh_line.specs.LineTable.{accepted, shown};
-    ghost use Rattle.njh_line.specs.Lines.{IsShort, after_end, after_input, after_sending, fresh_line, shown_sent};
+    ghost use Rattle.njh_line.specs.LineTable.{table_outcome, input_value};
+    ghost use Rattle.njh_line.specs.Lines.{IsShort, after_end, after_input, after_sending, fresh_line, sent_value};
     ghost use Rattle.njh_line.specs.Lines.{with_answer, with_message, without_answer, without_answers, without_message};
 
     /// A line that is down, with room for all that may wait and for the longest frame. Want of memory is the only
@@ -82,8 +82,8 @@ impl Line {
     /// Decides by the line table what an input does. The hub then does what the verdict says, and tells by `sent` what
     /// it sent.
     pub fn accept(&mut self, input: &Input<'_>) -> Verdict
-        ensures verdict { result ≡ (accepted self.old.config (shown input.now) self.old.session).verdict }
-        ensures line { self.new ≡ after_input (shown input.now) self.old }
+        ensures verdict { result ≡ (table_outcome self.old.config (input_value input.now) self.old.session).verdict }
+        ensures line { self.new ≡ after_input (input_value input.now) self.old }
     {
         let outcome = accepted(&self.config, self.session, input);
         self.session = outcome.session;
@@ -100,8 +100,8 @@ impl Line {
     /// Keeps what was sent: the turn, the hub's own count and function control sequence, and a frame byte for byte,
     /// since it may be sent again.
     pub fn sent(&mut self, sent: &Sent<'_>)
-        requires { IsShort (shown_sent sent.now) }
-        ensures { self.new ≡ after_sending (shown_sent sent.now) self.old }
+        requires { IsShort (sent_value sent.now) }
+        ensures { self.new ≡ after_sending (sent_value sent.now) self.old }
     {
         match sent {
             Sent::Nothing => self.session.has_turn = true,

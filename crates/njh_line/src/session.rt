@@ -1,7 +1,7 @@
 //! A line's session.
 
 ghost use Rattle.std.specs.Prelude.{◌≡◌};
-ghost use Rattle.njh_line.specs.Sessions.{fresh, entered, down, acknowledged};
+ghost use Rattle.njh_line.specs.Sessions.{fresh, entered_session, down_session, acknowledged_session};
 
 use crate::Phase;
 use njh_block::{Bcb, Fcs};
@@ -49,7 +49,7 @@ impl Session {
 
     /// A session begins.
     pub(crate) fn entered(self, phase: Phase) -> Session
-        ensures { result ≡ entered phase self }
+        ensures { result ≡ entered_session phase self }
     {
         Session {
             phase,
@@ -64,7 +64,7 @@ impl Session {
 
     /// The line goes down.
     pub(crate) fn down(self) -> Session
-        ensures { result ≡ down self }
+        ensures { result ≡ down_session self }
     {
         Session {
             phase: Phase::Down,
@@ -74,7 +74,7 @@ impl Session {
 
     /// The peer acknowledges.
     pub(crate) fn acknowledged(self) -> Session
-        ensures { result ≡ acknowledged self }
+        ensures { result ≡ acknowledged_session self }
     {
         Session { tries: 0, ..self }
     }

@@ -2,9 +2,9 @@
 
 ghost use Rattle.std.specs.Prelude.{◌≡◌, ◌≤◌, true, IfSome};
 ghost use Rattle.njh_line.specs.Sessions.{IsSession, IsConfig, in_session};
-ghost use Rattle.njh_line.specs.LineTable.{Block as CameBlock, accepted, acting, call, contact, end_and_contact};
+ghost use Rattle.njh_line.specs.LineTable.{Block as CameBlock, table_outcome, acting, call, contact, end_and_contact};
 ghost use Rattle.njh_line.specs.LineTable.{end_with};
-ghost use Rattle.njh_line.specs.LineTable.{next_in_turn, none, shown, signed_on, try_with, with_reply};
+ghost use Rattle.njh_line.specs.LineTable.{next_in_turn, none, input_value, signed_on, try_with, with_reply};
 ghost use Rattle.njh_line.specs.Openings.{shown_first};
 
 use crate::Phase::{Answered, Calling, Down, SentI, Up};
@@ -48,11 +48,11 @@ pub(crate) struct Outcome {
 }
 
 /// The table: an input and a phase to a cell. In Down and Calling there is no session, and a block is none.
-#[tactic(auto, unfolding(crate::specs::LineTable::accepted))]
+#[tactic(auto, unfolding(crate::specs::LineTable::table_outcome))]
 pub(crate) fn accepted(config: &Config, session: Session, input: &Input<'_>) -> Outcome
     requires config { IsConfig config.now }
     requires session { IsSession session }
-    ensures outcome { result ≡ accepted config.now (shown input.now) session }
+    ensures outcome { result ≡ table_outcome config.now (input_value input.now) session }
     ensures kept { IsSession result.session }
 {
     match (input, session.phase) {
@@ -201,7 +201,7 @@ fn block_came(
     requires config { IsConfig config.now }
     requires session { IsSession session }
     requires inside { in_session session.phase ≡ true }
-    ensures outcome { result ≡ accepted config.now (CameBlock bcb fcs (shown_first first.entry)) session }
+    ensures outcome { result ≡ table_outcome config.now (CameBlock bcb fcs (shown_first first.entry)) session }
     ensures kept { IsSession result.session }
 {
     match session.counted(bcb) {

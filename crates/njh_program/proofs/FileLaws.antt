@@ -6,11 +6,11 @@ use Rattle.std.specs.Option.{option_map}
 use Rattle.std.specs.Io.KnownBytes.{Appends}
 use Rattle.std.proofs.KnownBytes.{Appends-trans}
 use Rattle.std.proofs.lemmas.Bool.{and_parts, cond_both}
-use Rattle.njh_ebcdic.specs.Characters.{character_of, shown, table}
+use Rattle.njh_ebcdic.specs.Characters.{character_of, printed_character, table}
 use Rattle.njh_hub.specs.declared.event.Event.{Event}
 use Rattle.njh_hub.specs.Files.{files_at, files_of}
 use Rattle.njh_hub.specs.WholeHub.{Part, hub_run}
-use Rattle.njh_program.specs.Printed.{files_from, files_text, text_of, AppendsBeginning, IsPrintedUpTo}
+use Rattle.njh_program.specs.Printed.{files_from, files_text, frames_text, AppendsBeginning, IsPrintedUpTo}
 use Rattle.njh_program.specs.Replayed.{text_by, SameParts}
 use Rattle.njh_program.proofs.PrintedParts.{beginning-after}
 
@@ -24,7 +24,7 @@ found-ascii byte (pair ∷ pairs) ascii =
     (λ found. unwrap_or (option_map (λ (pair : ℕ × ℕ). pair.1) found) 63 < 128)
     (λ here. ltb-true pair.1 128 parts.0) (λ other. found-ascii byte pairs parts.1)
 
-pub shown-ascii : (byte : ℕ) → shown byte < 128
+pub shown-ascii : (byte : ℕ) → printed_character byte < 128
 unfolding character_of
 shown-ascii byte = found-ascii byte table refl
 
@@ -77,22 +77,22 @@ module _ (names : List (List (List ℕ))) (parts after : List Part) (events : Li
   files-after : files_from 0 shown after ≡ files_from 0 shown (hub_run parts events).parts
   files-after = files_from-same 0 shown (hub_run parts events).parts after (λ k within. same k (omega (arith, within, few)))
 
-  pub all_printed : Appends a b (text_of names (hub_run parts events).sent) → Appends b c (files_from 0 shown after)
+  pub all_printed : Appends a b (frames_text names (hub_run parts events).sent) → Appends b c (files_from 0 shown after)
       → Appends a c (text_by names parts events shown)
   all_printed frames files =
-      Appends-trans a b c (text_of names (hub_run parts events).sent) (files_from 0 shown (hub_run parts events).parts) frames
+      Appends-trans a b c (frames_text names (hub_run parts events).sent) (files_from 0 shown (hub_run parts events).parts) frames
       (rw files-after at files)
 
-  pub files_begun : Appends a b (text_of names (hub_run parts events).sent) → AppendsBeginning b c (files_from 0 shown after)
+  pub files_begun : Appends a b (frames_text names (hub_run parts events).sent) → AppendsBeginning b c (files_from 0 shown after)
       → AppendsBeginning a c (text_by names parts events shown)
   files_begun frames files =
-      beginning-after a b c (text_of names (hub_run parts events).sent) (files_from 0 shown after) [] (text_by names parts events shown)
-      frames files (ap (λ text. text_of names (hub_run parts events).sent ++ text) (append-nil (files_from 0 shown after) ∙ files-after))
+      beginning-after a b c (frames_text names (hub_run parts events).sent) (files_from 0 shown after) [] (text_by names parts events shown)
+      frames files (ap (λ text. frames_text names (hub_run parts events).sent ++ text) (append-nil (files_from 0 shown after) ∙ files-after))
 
 -- but for the files of some customers
 pub up_to_printed : (names : List (List (List ℕ))) (parts after : List Part) (events : List Event) (customers : List (List ℕ))
     (a b c : Option (List ℕ)) → SameParts (hub_run parts events).parts after (length parts) → length customers ≤ length parts
-    → Appends a b (text_of names (hub_run parts events).sent)
+    → Appends a b (frames_text names (hub_run parts events).sent)
     → IsPrintedUpTo customers b c (λ before. files_from 0 before after) → IsPrintedUpTo customers a c (text_by names parts events)
 up_to_printed names parts after events customers a b c same few frames files = (
   files.0,
@@ -102,7 +102,7 @@ up_to_printed names parts after events customers a b c same few frames files = (
 )
 
 pub frames_begun : (names : List (List (List ℕ))) (parts : List Part) (events : List Event) (shown : List (List ℕ)) (a b : Option (List ℕ))
-    → AppendsBeginning a b (text_of names (hub_run parts events).sent) → AppendsBeginning a b (text_by names parts events shown)
+    → AppendsBeginning a b (frames_text names (hub_run parts events).sent) → AppendsBeginning a b (text_by names parts events shown)
 frames_begun names parts events shown a b begun =
     let files = files_from 0 shown (hub_run parts events).parts in
     (begun.0, begun.1 ++ files, sym (append_assoc begun.0 begun.1 files) ∙ ap (λ text. text ++ files) begun.2, begun.3)

@@ -12,10 +12,10 @@ use Rattle.hex.specs.Hex.{decode_of, is_hex_digit}
 use Rattle.hex.specs.declared.error.FromHexError.{FromHexError}
 use Rattle.hex.proofs.HexLemmas.{decode_of-ok}
 use Rattle.njh_table.specs.declared.LineId.{LineId}
-use Rattle.njh_table.specs.TableFile.{TableFile, owner_of, HasLine}
+use Rattle.njh_table.specs.TableFile.{TableFile, line_named, HasLine}
 use Rattle.njh_hub.specs.declared.event.Event.{Event}
 use Rattle.njh_hub.specs.declared.event.Event.TheVariants.{Bytes, Tick, Garbled, Lost, Routes}
-use Rattle.njh_hub.specs.OwnEvents.{line_of}
+use Rattle.njh_hub.specs.OwnEvents.{line_of_event}
 use Rattle.njh_program.specs.Script.{words_of, event_of_words, event_on_line, bytes_on, piece_of, some_bytes, signal_of}
 use Rattle.njh_program.specs.ScriptRoutes.{routes_event, IsNamedIn}
 use Rattle.njh_program.proofs.Parting.{parts-first, parts-none, parts-some, parts-whole}
@@ -65,15 +65,15 @@ pub event_of_words-routes : (tables : TableFile) (line : List ℕ) (word rest : 
     → event_of_words tables (words_of line) ≡ routes_event tables (words_of rest.now)
 event_of_words-routes tables line word rest split same =
     ap (event_of_words tables) (parts-first 32 line word rest (lit< tt) split).0
-    ∙ ap (λ test. cond test (routes_event tables (words_of rest.now)) (event_on_line (owner_of tables) (word.now ∷ words_of rest.now))) same
+    ∙ ap (λ test. cond test (routes_event tables (words_of rest.now)) (event_on_line (line_named tables) (word.now ∷ words_of rest.now))) same
 
 -- any other word
 pub event_of_words-other : (tables : TableFile) (line : List ℕ) (word rest : Bor (List ℕ))
     → IsSplitOnceResult 32 line (Some (word, rest)) → bytes_eq word.now (codes "ROUTES") ≡ false
-    → event_of_words tables (words_of line) ≡ event_on_line (owner_of tables) (word.now ∷ words_of rest.now)
+    → event_of_words tables (words_of line) ≡ event_on_line (line_named tables) (word.now ∷ words_of rest.now)
 event_of_words-other tables line word rest split other =
     ap (event_of_words tables) (parts-first 32 line word rest (lit< tt) split).0
-    ∙ ap (λ test. cond test (routes_event tables (words_of rest.now)) (event_on_line (owner_of tables) (word.now ∷ words_of rest.now))) other
+    ∙ ap (λ test. cond test (routes_event tables (words_of rest.now)) (event_on_line (line_named tables) (word.now ∷ words_of rest.now))) other
 
 -- the event of a word and the name of a line
 pub event_on_line-two : (names : List ℕ → Option LineId) (word name : List ℕ) → IsSplitOnceResult 32 name None
@@ -102,7 +102,7 @@ event_on_line-three names word rest name digits found split known =
     ∙ digits_event names word name.now digits.now ∙ ap (option_and_then (bytes_on word digits.now)) (sym known)
 
 -- an event on a line of the tables names what they have
-pub named_on : (tables : TableFile) (event : Event) (line : LineId) → HasLine tables line → line_of event ≡ Some line → IsNamedIn tables event
+pub named_on : (tables : TableFile) (event : Event) (line : LineId) → HasLine tables line → line_of_event event ≡ Some line → IsNamedIn tables event
 named_on tables (Bytes at piece) line known on = subst (HasLine tables) (sym (cc on)) known
 named_on tables (Tick at) line known on = subst (HasLine tables) (sym (cc on)) known
 named_on tables (Garbled at) line known on = subst (HasLine tables) (sym (cc on)) known

@@ -10,7 +10,7 @@ use Rattle.std.proofs.lemmas.List.Splits.{length-slice_split}
 use Rattle.std.proofs.lemmas.List.Sums.{position_or_len_is, count_by-le-length}
 use Rattle.njh_table.specs.TableFile.{TableFile}
 use Rattle.njh_hub.specs.declared.event.Event.{Event}
-use Rattle.njh_program.specs.Script.{lines_of, can_stand, event_in, events_of}
+use Rattle.njh_program.specs.Script.{lines_of, can_stand, event_in, script_events}
 use Rattle.njh_program.specs.Script.{script_of_lines}
 
 -- there is at most one line more than the text has bytes
@@ -19,7 +19,7 @@ length-lines_of text = omega (arith, length-slice_split (λ b. eqb b 10) text, c
 
 -- the first n lines may all stand in a script, and have these events
 pub record Reads (tables : TableFile) (lines : List (List ℕ)) (n : ℕ) (events : List Event) : Type 0 where
-  pub tell : events ≡ events_of tables (take n lines)
+  pub tell : events ≡ script_events tables (take n lines)
   pub good : (k : ℕ) (d : List ℕ) → k < n → can_stand tables (get_or lines k d) ≡ true
 
 pub Reads-none : (tables : TableFile) (lines : List (List ℕ)) → Reads tables lines 0 []

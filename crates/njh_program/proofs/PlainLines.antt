@@ -11,10 +11,10 @@ use Rattle.hex.specs.Hex.{decode_of, is_hex_digit}
 use Rattle.hex.specs.declared.error.FromHexError.{FromHexError}
 use Rattle.hex.proofs.HexLemmas.{decode_of-ok}
 use Rattle.njh_table.specs.declared.LineId.{LineId}
-use Rattle.njh_table.specs.TableFile.{TableFile, owner_of}
+use Rattle.njh_table.specs.TableFile.{TableFile, line_named}
 use Rattle.njh_hub.specs.declared.event.Event.TheVariants.{Bytes}
 use Rattle.njh_program.specs.code.LineStarts.{IsStart}
-use Rattle.njh_program.specs.Script.{words_of, event_of, event_of_words, event_on_line, bytes_on, piece_of, some_bytes}
+use Rattle.njh_program.specs.Script.{words_of, script_event, event_of_words, event_on_line, bytes_on, piece_of, some_bytes}
 use Rattle.njh_program.proofs.LineForms.{is_blank, digits_event}
 
 -- digits that spell bytes are ASCII
@@ -50,7 +50,7 @@ line_words : (rest : List ℕ) → words_of (66 ∷ 89 ∷ 84 ∷ 69 ∷ 83 ∷ 
 line_words rest = refl
 
 words_event : (tables : TableFile) (words : List (List ℕ))
-    → event_of_words tables (codes "BYTES" ∷ words) ≡ event_on_line (owner_of tables) (codes "BYTES" ∷ words)
+    → event_of_words tables (codes "BYTES" ∷ words) ≡ event_on_line (line_named tables) (codes "BYTES" ∷ words)
 words_event tables words = refl
 
 piece_event : (digits piece : List ℕ) (found : LineId) → piece_of digits ≡ Some piece
@@ -59,8 +59,8 @@ piece_event digits piece found read = ap (option_map (λ p. Bytes found p)) read
 
 -- a line that begins so, and goes on with digits
 pub plain_line : (tables : TableFile) (front digits : List ℕ) (found : LineId) (piece : List ℕ)
-    → IsStart tables front found → piece_of digits ≡ Some piece → event_of tables (front ++ digits) ≡ Some (Bytes found piece)
-unfolding event_of
+    → IsStart tables front found → piece_of digits ≡ Some piece → script_event tables (front ++ digits) ≡ Some (Bytes found piece)
+unfolding script_event
 plain_line tables front digits found piece start read =
     let name = start.name in
     let line = front ++ digits in
@@ -74,7 +74,7 @@ plain_line tables front digits found piece start read =
     ∙ (ap (λ (l : List ℕ). event_of_words tables (words_of l)) begins
     ∙ (ap (event_of_words tables) (line_words rest)
     ∙ (words_event tables (words_of rest)
-    ∙ (ap (λ (ws : List (List ℕ)). event_on_line (owner_of tables) (codes "BYTES" ∷ ws)) words
-    ∙ (digits_event (owner_of tables) (codes "BYTES") name digits
+    ∙ (ap (λ (ws : List (List ℕ)). event_on_line (line_named tables) (codes "BYTES" ∷ ws)) words
+    ∙ (digits_event (line_named tables) (codes "BYTES") name digits
     ∙ (ap (option_and_then (bytes_on (codes "BYTES") digits)) start.owner
     ∙ piece_event digits piece found read))))))

@@ -4,7 +4,7 @@ use Rattle.std.specs.Io.KnownBytes.{Appends, Keeps}
 use Rattle.std.proofs.KnownBytes.{Appends-kept, Appends-nil, Appends-trans}
 use Rattle.njh_table.specs.declared.LineId.{LineId}
 use Rattle.hex.specs.Hex.{encode_lower}
-use Rattle.njh_program.specs.Printed.{frame_text, pair_text, text_of, AppendsBeginning, IsPrinted, IsPrintedInPart}
+use Rattle.njh_program.specs.Printed.{frame_text, pair_text, frames_text, AppendsBeginning, IsPrinted, IsPrintedInPart}
 use Rattle.njh_program.specs.code.PrintedLaws.{text_of-append}
 
 -- nothing, or all, is a beginning
@@ -35,11 +35,11 @@ pub beginning-part : (names later : List (List (List ℕ))) (a b c : Option (Lis
     (last : LineId × List ℕ) (more whole : List (LineId × List ℕ))
     → IsPrinted names later a b front → (final : List (List (List ℕ))) → IsPrintedInPart later final b c last
     → (front ++ last ∷ []) ++ more ≡ whole
-    → AppendsBeginning a c (text_of names whole)
+    → AppendsBeginning a c (frames_text names whole)
 beginning-part names later a b c front last more whole printed final begun all =
     let part : AppendsBeginning b c (pair_text names last) = rw printed.0 at begun.1 in
-    beginning-after a b c (text_of names front) (pair_text names last) (text_of names more) (text_of names whole) printed.1 part
-    (sym (text_of-append names front (last ∷ more)) ∙ ap (text_of names) (sym (append_assoc front (last ∷ []) more) ∙ all))
+    beginning-after a b c (frames_text names front) (pair_text names last) (frames_text names more) (frames_text names whole) printed.1 part
+    (sym (text_of-append names front (last ∷ more)) ∙ ap (frames_text names) (sym (append_assoc front (last ∷ []) more) ∙ all))
 
 -- the parts of a frame's text
 pub frame-parts : (name frame : List ℕ) → name ++ (32 ∷ (encode_lower frame ++ 10 ∷ [])) ≡ frame_text name frame

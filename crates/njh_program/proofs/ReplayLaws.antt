@@ -17,15 +17,15 @@ use Rattle.njh_hub.specs.declared.fault.Cause.{Cause}
 use Rattle.njh_hub.specs.declared.fault.Cause.TheVariants as cause
 use Rattle.njh_hub.specs.declared.fault.HubFault.{HubFault}
 use Rattle.njh_hub.specs.declared.fault.HubFault.TheVariants.{UnknownLine, UnknownCustomer, Memory, BadRoutes}
-use Rattle.njh_hub.specs.OwnEvents.{first_of}
+use Rattle.njh_hub.specs.OwnEvents.{first_events}
 use Rattle.njh_hub.specs.Parts.{entries_of}
-use Rattle.njh_hub.specs.WholeHub.{Part, opened}
+use Rattle.njh_hub.specs.WholeHub.{Part, part_at_open}
 use Rattle.njh_hub.specs.Laws.{Begins}
 use Rattle.njh_hub.specs.RunStops.{HandedUntil, IfHub, IsRefused, IsRoutes}
 use Rattle.njh_hub.specs.WholeHub as hub
 use Rattle.njh_program.specs.LineNames.{customers_of, names_of}
 use Rattle.njh_program.specs.declared.fault.ReplayFault.TheVariants.{Hub}
-use Rattle.njh_program.specs.Printed.{text_of, AppendsBeginning, IsPrinted}
+use Rattle.njh_program.specs.Printed.{frames_text, AppendsBeginning, IsPrinted}
 use Rattle.njh_program.specs.code.PrintedLaws.{text_of-append}
 use Rattle.njh_program.specs.Replayed.{MayEnd, fault_after, text_by, text_with, IsSentUpTo}
 use Rattle.njh_program.specs.ScriptRoutes.{IsNamedIn}
@@ -36,37 +36,37 @@ get_or-map_default f (x ∷ xs) zero d = refl
 get_or-map_default f (x ∷ xs) (suc k) d = get_or-map_default f xs k d
 
 -- a customer's part is that of its entry
-opened_part : (t : TableFile) (c : ℕ) → hub.part c (map opened (entries_of t)) ≡ opened (entry_of (customer_at t c))
-opened_part t c = get_or-map_default opened (entries_of t) c hub.no_entry
-    ∙ ap opened (get_or-map_default entry_of t.customers c no_customer)
+opened_part : (t : TableFile) (c : ℕ) → hub.part c (map part_at_open (entries_of t)) ≡ part_at_open (entry_of (customer_at t c))
+opened_part t c = get_or-map_default part_at_open (entries_of t) c hub.no_entry
+    ∙ ap part_at_open (get_or-map_default entry_of t.customers c no_customer)
 
 -- the hub has the lines of its tables
-opened_line : (t : TableFile) (line : LineId) → HasLine t line → hub.HasLine (map opened (entries_of t)) line
+opened_line : (t : TableFile) (line : LineId) → HasLine t line → hub.HasLine (map part_at_open (entries_of t)) line
 opened_line t line known =
     let e = entry_of (customer_at t line.customer) in
-    let here : length (hub.part line.customer (map opened (entries_of t))).customer.lines ≡ length (opened e).customer.lines =
+    let here : length (hub.part line.customer (map part_at_open (entries_of t))).customer.lines ≡ length (part_at_open e).customer.lines =
     ap (λ (p : Part). length p.customer.lines) (opened_part t line.customer) in
-    let states : length (opened e).customer.lines ≡ length e.lines = length-map e.lines _ in
+    let states : length (part_at_open e).customer.lines ≡ length e.lines = length-map e.lines _ in
     let entries : length e.lines ≡ length (customer_at t line.customer).lines =
     length-map (customer_at t line.customer).lines (λ (l : NamedLine). l.entry) in
     omega (arith, known, here, states, entries)
 
 -- and what an event names in the tables, it names in the hub
-opened_named : (t : TableFile) (event : Event) → IsNamedIn t event → hub.IsNamed (map opened (entries_of t)) event
+opened_named : (t : TableFile) (event : Event) → IsNamedIn t event → hub.IsNamed (map part_at_open (entries_of t)) event
 opened_named t (Bytes line piece) named = opened_line t line named
 opened_named t (Tick line) named = opened_line t line named
 opened_named t (Garbled line) named = opened_line t line named
 opened_named t (Lost line) named = opened_line t line named
 opened_named t (Routes c routes) named =
-    let parts : length (map opened (entries_of t)) ≡ length t.customers =
-    length-map (entries_of t) opened ∙ length-map t.customers entry_of in
-    let within : c < length (map opened (entries_of t)) = omega (arith, named.0, parts) in
-    let entry : (hub.part c (map opened (entries_of t))).customer.entry ≡ entry_unmarked (entry_of (customer_at t c)) =
+    let parts : length (map part_at_open (entries_of t)) ≡ length t.customers =
+    length-map (entries_of t) part_at_open ∙ length-map t.customers entry_of in
+    let within : c < length (map part_at_open (entries_of t)) = omega (arith, named.0, parts) in
+    let entry : (hub.part c (map part_at_open (entries_of t))).customer.entry ≡ entry_unmarked (entry_of (customer_at t c)) =
     ap (λ (p : Part). p.customer.entry) (opened_part t c) in
     (within, ap (λ (e : CustomerEntry). routes_checked e (own_routes c routes)) entry ∙ named.1)
 
 -- so do all events of a script
-pub all_named : (t : TableFile) (parts : List Part) (events : List Event) → parts ≡ map opened (entries_of t)
+pub all_named : (t : TableFile) (parts : List Part) (events : List Event) → parts ≡ map part_at_open (entries_of t)
     → All (IsNamedIn t) events → All (hub.IsNamed parts) events
 all_named t parts events fresh named = λ k event within.
     let here = opened_named t (get_or events k event) (named k event within) in
@@ -146,9 +146,9 @@ stopped_begun took refused cause.Sink before after sent whole P handed begins al
 
 pub printed_begins : (names later : List (List (List ℕ))) (a b : Option (List ℕ))
     (front more whole : List (LineId × List ℕ)) → IsPrinted names later a b front
-    → front ++ more ≡ whole → AppendsBeginning a b (text_of names whole)
+    → front ++ more ≡ whole → AppendsBeginning a b (frames_text names whole)
 printed_begins names later a b front more whole printed all =
-    (text_of names front, text_of names more, sym (text_of-append names front more) ∙ ap (text_of names) all, printed.1)
+    (frames_text names front, frames_text names more, sym (text_of-append names front more) ∙ ap (frames_text names) all, printed.1)
 
 -- where memory ran out, the frames of all that had happened were printed
 pub stopped_whole : {S : Type 0} (took : S → S → List (LineId × List ℕ) → Type 0) (refused : S → S → LineId × List ℕ → Type 0) (why : Cause)
@@ -167,21 +167,21 @@ Keeps-none (Some x) (Some y) written = written ∙ append-nil x
 -- A run that ran out of memory did so at an event that gives routes, or behind such events alone, which send nothing.
 pub stopped_at_routes : (names : List (List (List ℕ))) (parts : List Part) (events : List Event) (k n : ℕ) (a b : Option (List ℕ)) → n ≡ 0
     → (IsSomeAnd (slice_get events k) IsRoutes ⊎ All IsRoutes (take k events))
-    → Appends a b (text_of names (hub.hub_run parts (first_of events k n)).sent) → Keeps a b ⊎ IsSentUpTo names parts events a b
+    → Appends a b (frames_text names (hub.hub_run parts (first_events events k n)).sent) → Keeps a b ⊎ IsSentUpTo names parts events a b
 stopped_at_routes names parts events k n a b none which printed =
-    let whole : first_of events k n ≡ take k events = ap (λ (m : ℕ). first_of events k m) none ∙ append-nil (take k events) in
-    let sent : Appends a b (text_of names (hub.hub_run parts (take k events)).sent) =
-    subst (λ (es : List Event). Appends a b (text_of names (hub.hub_run parts es).sent)) whole printed in
+    let whole : first_events events k n ≡ take k events = ap (λ (m : ℕ). first_events events k m) none ∙ append-nil (take k events) in
+    let sent : Appends a b (frames_text names (hub.hub_run parts (take k events)).sent) =
+    subst (λ (es : List Event). Appends a b (frames_text names (hub.hub_run parts es).sent)) whole printed in
     elim which [
       | inl here ↦ inr (k, here, sent)
       | inr before ↦
           let silent = all_silent parts (take k events) before in
-          inl (Keeps-none a b (subst (λ (s : List (LineId × List ℕ)). Appends a b (text_of names s)) silent sent))
+          inl (Keeps-none a b (subst (λ (s : List (LineId × List ℕ)). Appends a b (frames_text names s)) silent sent))
     ]
 
 -- what a hub that was just opened prints
 pub fresh_text : (t : TableFile) (names : List (List (List ℕ))) (parts : List Part) (events : List Event) (customers : List (List ℕ))
-    → names ≡ names_of t → parts ≡ map opened (entries_of t) → customers ≡ customers_of t
+    → names ≡ names_of t → parts ≡ map part_at_open (entries_of t) → customers ≡ customers_of t
     → (P : (List (List ℕ) → List ℕ) → List (List ℕ) → Type 0) → P (text_by names parts events) customers
     → P (text_with t events) (customers_of t)
 fresh_text t names parts events customers named fresh called P so =
@@ -190,18 +190,18 @@ fresh_text t names parts events customers named fresh called P so =
     subst (P (text_with t events)) called second
 
 pub fresh_sent : (t : TableFile) (names : List (List (List ℕ))) (parts : List Part) (events : List Event) (a b : Option (List ℕ))
-    → names ≡ names_of t → parts ≡ map opened (entries_of t) → IsSentUpTo names parts events a b
-    → IsSentUpTo (names_of t) (map opened (entries_of t)) events a b
+    → names ≡ names_of t → parts ≡ map part_at_open (entries_of t) → IsSentUpTo names parts events a b
+    → IsSentUpTo (names_of t) (map part_at_open (entries_of t)) events a b
 fresh_sent t names parts events a b named fresh sent =
     subst (λ (ps : List Part). IsSentUpTo (names_of t) ps events a b) fresh
     (subst (λ (ns : List (List (List ℕ))). IsSentUpTo ns parts events a b) named sent)
 
 -- it has as many customers as its tables
-pub opened_customers : (t : TableFile) (parts : List Part) (customers : List (List ℕ)) → parts ≡ map opened (entries_of t)
+pub opened_customers : (t : TableFile) (parts : List Part) (customers : List (List ℕ)) → parts ≡ map part_at_open (entries_of t)
     → customers ≡ customers_of t → length customers ≡ length parts
 opened_customers t parts customers fresh called =
     ap (λ (xs : List (List ℕ)). length xs) called ∙ length-map t.customers (λ (c : NamedCustomer). c.name)
-    ∙ sym (ap (λ (ps : List Part). length ps) fresh ∙ length-map (entries_of t) opened ∙ length-map t.customers entry_of)
+    ∙ sym (ap (λ (ps : List Part). length ps) fresh ∙ length-map (entries_of t) part_at_open ∙ length-map t.customers entry_of)
 
 -- on Ok alone
 pub on_ok_then : {A E : Type 0} (r : Result A E) (P Q : Type 0) → (P → Q) → OnOk r P → OnOk r Q

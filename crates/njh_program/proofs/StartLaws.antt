@@ -9,7 +9,7 @@ use Rattle.std.proofs.lemmas.List.Sums.{fails_before_first, passes_at_first, pos
 use Rattle.std.proofs.Math.Seq.{take-append_seam}
 use Rattle.memchr.specs.Find.{IsFirstByte, is_byte}
 use Rattle.njh_table.specs.declared.LineId.{LineId}
-use Rattle.njh_table.specs.TableFile.{TableFile, owner_of, HasLine}
+use Rattle.njh_table.specs.TableFile.{TableFile, line_named, HasLine}
 use Rattle.njh_program.specs.code.LineStarts.{IsStart}
 use Rattle.njh_program.proofs.LineForms.{is_blank}
 
@@ -40,7 +40,7 @@ first_word rest name len first named =
 -- so the bytes up to the blank behind it are a start
 pub found_start : (tables : TableFile) (line rest name : List ℕ) (len : ℕ) (found : LineId)
     → line ≡ 66 ∷ 89 ∷ 84 ∷ 69 ∷ 83 ∷ 32 ∷ rest → IsFirstByte (is_byte 32) rest (Some len) → name ≡ take len rest → IsUtf8 name
-    → Some found ≡ owner_of tables name → HasLine tables found
+    → Some found ≡ line_named tables name → HasLine tables found
     → IsStart tables (take (len + 7) line) found
 found_start tables line rest name len found begins first named text owned known =
     let first_is = first_word rest name len first named in

@@ -34,14 +34,14 @@ IsServedBy (request.Replay tables) = ⊥
 IsServedBy (Serve tables turns listen quiet) = AreServedOf tables.now turns
 
 -- the arguments ask to serve, which writes nothing
-abbrev pub IsServed : (arguments : List Text) (old new : Option (List ℕ)) → Type 0
-IsServed arguments old new = (request : Request) × (choice_by arguments ≡ Some (choice_of request))
+abbrev pub IsServeDone : (arguments : List Text) (old new : Option (List ℕ)) → Type 0
+IsServeDone arguments old new = (request : Request) × (choice_by arguments ≡ Some (choice_of request))
     × HasOptions (subcommand_of program_app arguments) request × IsServedBy request × Keeps old new
 
 -- What the arguments ask for was done: the script that a reader had left was replayed, or lines were served.
-abbrev pub IsDone : (arguments : List Text) (left old new : Option (List ℕ)) → Type 0
-IsDone arguments left old new = ((tables : TableFile) × Chooses arguments tables × IsReplayed tables left old new)
-    ⊎ IsServed arguments old new
+abbrev pub IsRunDone : (arguments : List Text) (left old new : Option (List ℕ)) → Type 0
+IsRunDone arguments left old new = ((tables : TableFile) × Chooses arguments tables × IsReplayed tables left old new)
+    ⊎ IsServeDone arguments old new
 
 -- It was done in part.
 abbrev pub IsBegunFor : (arguments : List Text) (left old new : Option (List ℕ)) → Type 0

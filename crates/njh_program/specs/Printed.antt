@@ -5,8 +5,8 @@ use Rattle.std.specs.Io.KnownBytes.{Appends}
 use Rattle.hex.specs.Hex.{encode_lower}
 use Rattle.njh_table.specs.declared.LineId.{LineId}
 use Rattle.njh_ebcdic.specs.Characters.{shown_text}
-use Rattle.njh_ebcdic.specs.Names.{trimmed}
-use Rattle.njh_hub.specs.Files.{FileView, files_at, line_of}
+use Rattle.njh_ebcdic.specs.Names.{without_end_blanks}
+use Rattle.njh_hub.specs.Files.{FileView, files_at, printed_file_line}
 use Rattle.njh_hub.specs.WholeHub.{Part}
 use Rattle.njh_program.specs.LineNames.{name_at}
 
@@ -19,13 +19,13 @@ abbrev pub pair_text : List (List (List ℕ)) → LineId × List ℕ → List �
 pair_text names pair = frame_text (unwrap_or (name_at names pair.0) []) pair.1
 
 -- frames in their order, each with its line
-abbrev pub text_of : List (List (List ℕ)) → List (LineId × List ℕ) → List ℕ
-text_of names [] = []
-text_of names (pair ∷ pairs) = pair_text names pair ++ text_of names pairs
+abbrev pub frames_text : List (List (List ℕ)) → List (LineId × List ℕ) → List ℕ
+frames_text names [] = []
+frames_text names (pair ∷ pairs) = pair_text names pair ++ frames_text names pairs
 
 -- a file: the name of its customer, a blank, what NJH001 says of it behind its number, and the end of the line
 unfoldable pub file_text : List ℕ → FileView → List ℕ
-file_text name file = shown_text (trimmed name) ++ 32 ∷ [] ++ shown_text (line_of file) ++ 10 ∷ []
+file_text name file = shown_text (without_end_blanks name) ++ 32 ∷ [] ++ shown_text (printed_file_line file) ++ 10 ∷ []
 
 -- files of one customer
 abbrev pub files_text : List ℕ → List FileView → List ℕ
@@ -46,7 +46,7 @@ IsPrintedUpTo customers old new text = (count : ℕ) × (count < length customer
 
 -- The text of these frames came after what had been written; the names of the lines stayed.
 abbrev pub IsPrinted : (names later : List (List (List ℕ))) (old new : Option (List ℕ)) (pairs : List (LineId × List ℕ)) → Type 0
-IsPrinted names later old new pairs = (later ≡ names) × Appends old new (text_of names pairs)
+IsPrinted names later old new pairs = (later ≡ names) × Appends old new (frames_text names pairs)
 
 -- The same of a frame that may be printed in part.
 abbrev pub IsPrintedInPart : (names later : List (List (List ℕ))) (old new : Option (List ℕ)) (pair : LineId × List ℕ) → Type 0

@@ -5,7 +5,7 @@ use Rattle.std.specs.Io.KnownBytes.{Appends}
 use Rattle.njh_table.specs.TableFile.{TableFile}
 use Rattle.njh_hub.specs.Parts.{entries_of}
 use Rattle.njh_hub.specs.RunStops.{IsRoutes}
-use Rattle.njh_hub.specs.WholeHub.{Part, opened, part, hub_run}
+use Rattle.njh_hub.specs.WholeHub.{Part, part_at_open, part, hub_run}
 use Rattle.njh_hub.specs.declared.event.Event.{Event}
 use Rattle.njh_hub.specs.declared.fault.Cause.{Cause}
 use Rattle.njh_hub.specs.declared.fault.Cause.TheVariants as cause
@@ -14,7 +14,7 @@ use Rattle.njh_program.specs.declared.fault.ReplayFault.TheVariants.{TooLong, Sc
 use Rattle.njh_program.specs.declared.script.TheConstants.{LIMIT}
 use Rattle.njh_hub.specs.declared.fault.HubFault.TheVariants.{Memory}
 use Rattle.njh_program.specs.LineNames.{customers_of, names_of}
-use Rattle.njh_program.specs.Printed.{files_from, text_of, AppendsBeginning, IsPrintedUpTo}
+use Rattle.njh_program.specs.Printed.{files_from, frames_text, AppendsBeginning, IsPrintedUpTo}
 use Rattle.njh_program.specs.Script.{script_of}
 
 -- what a reader has left, where that is known, is a good script of these events
@@ -33,11 +33,11 @@ HasBadLine tables left number = IfSome left (λ text. (length text ≤ LIMIT) ×
 -- customers of these names, from the first on
 abbrev pub text_by : List (List (List ℕ)) → List Part → List Event → List (List ℕ) → List ℕ
 text_by names parts events customers =
-    let x = hub_run parts events in text_of names x.sent ++ files_from 0 customers x.parts
+    let x = hub_run parts events in frames_text names x.sent ++ files_from 0 customers x.parts
 
 -- of a hub of these tables that was just opened
 abbrev pub text_with : TableFile → List Event → List (List ℕ) → List ℕ
-text_with tables events customers = text_by (names_of tables) (map opened (entries_of tables)) events customers
+text_with tables events customers = text_by (names_of tables) (map part_at_open (entries_of tables)) events customers
 
 -- with the files of all customers
 abbrev pub text_of_run : TableFile → List Event → List ℕ
@@ -62,13 +62,13 @@ IsBegun tables left old new = (events : List Event) × HasScript tables left eve
 -- The frames of the events before one that gives routes came after what had been written.
 abbrev pub IsSentUpTo : (names : List (List (List ℕ))) (parts : List Part) (events : List Event) (old new : Option (List ℕ)) → Type 0
 IsSentUpTo names parts events old new = (count : ℕ) × IsSomeAnd (slice_get events count) IsRoutes
-    × Appends old new (text_of names (hub_run parts (take count events)).sent)
+    × Appends old new (frames_text names (hub_run parts (take count events)).sent)
 
 -- A script was replayed up to an event that gives routes: it is a good script, and the frames of the events before that
 -- one came after what had been written; each where that is known.
 abbrev pub IsReplayedToRoutes : (tables : TableFile) (left old new : Option (List ℕ)) → Type 0
 IsReplayedToRoutes tables left old new = (events : List Event) × HasScript tables left events
-    × IsSentUpTo (names_of tables) (map opened (entries_of tables)) events old new
+    × IsSentUpTo (names_of tables) (map part_at_open (entries_of tables)) events old new
 
 -- A script was replayed up to a customer's files: it is a good script, and the text of the run over its events came
 -- after what had been written, with the files of the customers before that one; each where that is known.

@@ -7,7 +7,7 @@ use Rattle.std.specs.Str.{is_utf8, bytes_eq}
 use Rattle.hex.specs.Hex.{decode_of}
 use Rattle.hex.specs.declared.error.FromHexError.{FromHexError}
 use Rattle.njh_table.specs.declared.LineId.{LineId}
-use Rattle.njh_table.specs.TableFile.{TableFile, owner_of}
+use Rattle.njh_table.specs.TableFile.{TableFile, line_named}
 use Rattle.njh_hub.specs.declared.event.Event.{Event}
 use Rattle.njh_hub.specs.declared.event.Event.TheVariants.{Bytes, Tick, Garbled, Lost}
 use Rattle.njh_program.specs.ScriptRoutes.{routes_event}
@@ -58,23 +58,23 @@ event_on_line names words = None
 abbrev pub event_of_words : TableFile → List (List ℕ) → Option Event
 event_of_words tables [] = None
 event_of_words tables (word ∷ words) =
-    if bytes_eq word (codes "ROUTES") then routes_event tables words else event_on_line (owner_of tables) (word ∷ words)
+    if bytes_eq word (codes "ROUTES") then routes_event tables words else event_on_line (line_named tables) (word ∷ words)
 
 -- the event of a line, which is UTF-8
-unfoldable pub event_of : TableFile → List ℕ → Option Event
-event_of tables line = if is_utf8 line then event_of_words tables (words_of line) else None
+unfoldable pub script_event : TableFile → List ℕ → Option Event
+script_event tables line = if is_utf8 line then event_of_words tables (words_of line) else None
 
 -- whether a line may stand in a script: it is skipped or has an event
 unfoldable pub can_stand : TableFile → List ℕ → Bool
-can_stand tables line = is_skipped line || is_some (event_of tables line)
+can_stand tables line = is_skipped line || is_some (script_event tables line)
 
 -- the event of a line that isn't skipped, if it has one
 unfoldable pub event_in : TableFile → List ℕ → Option Event
-event_in tables line = if is_skipped line then None else event_of tables line
+event_in tables line = if is_skipped line then None else script_event tables line
 
 -- the events of the lines, in order
-abbrev pub events_of : TableFile → List (List ℕ) → List Event
-events_of tables lines = filter_map (event_in tables) lines
+abbrev pub script_events : TableFile → List (List ℕ) → List Event
+script_events tables lines = filter_map (event_in tables) lines
 
 -- the number of the first line that may not stand there, where the first line is 1
 abbrev pub first_bad : TableFile → List (List ℕ) → Option ℕ
@@ -86,7 +86,7 @@ events_or_bad None events = Ok events
 events_or_bad (Some number) events = Err number
 
 abbrev pub script_of_lines : TableFile → List (List ℕ) → Result (List Event) ℕ
-script_of_lines tables lines = events_or_bad (first_bad tables lines) (events_of tables lines)
+script_of_lines tables lines = events_or_bad (first_bad tables lines) (script_events tables lines)
 
 abbrev pub script_of : TableFile → List ℕ → Result (List Event) ℕ
 script_of tables text = script_of_lines tables (lines_of text)

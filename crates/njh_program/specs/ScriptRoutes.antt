@@ -8,7 +8,7 @@ use Rattle.njh_ebcdic.specs.Reading.{name_of_text}
 use Rattle.njh_table.specs.declared.LineId.{LineId}
 use Rattle.njh_table.specs.declared.new_routes.RouteEntry.{RouteEntry}
 use Rattle.njh_table.specs.NewRoutes.{own_routes, routes_checked}
-use Rattle.njh_table.specs.TableFile.{TableFile, customer_at, entry_of, owner_of, HasLine}
+use Rattle.njh_table.specs.TableFile.{TableFile, customer_at, entry_of, line_named, HasLine}
 use Rattle.njh_hub.specs.declared.event.Event.{Event}
 use Rattle.njh_hub.specs.declared.event.Event.TheVariants.{Bytes, Tick, Garbled, Lost, Routes}
 
@@ -17,19 +17,19 @@ abbrev pub customer_named : TableFile → List ℕ → Option ℕ
 customer_named tables word = option_and_then (λ name. position (λ c. bytes_eq name c.name) tables.customers) (result_ok (name_of_text word))
 
 -- what a word's colons part
-abbrev pub parts_of : List ℕ → List (List ℕ)
-parts_of word = slice_split (λ b. b == 58) word
+abbrev pub parts_of_pair : List ℕ → List (List ℕ)
+parts_of_pair word = slice_split (λ b. b == 58) word
 
 -- the second line of a route by its name, whoever's it is; none where no name is given
 abbrev pub second_by : TableFile → Option (List ℕ) → Option (Option LineId)
 second_by tables None = Some None
-second_by tables (Some name) = option_map (λ l. Some l) (owner_of tables name)
+second_by tables (Some name) = option_map (λ l. Some l) (line_named tables name)
 
 -- the route of a node, the name of a line, and that of a second one where it has one, whoever's lines these are
 abbrev pub route_by : TableFile → List ℕ → List ℕ → Option (List ℕ) → Option RouteEntry
 route_by tables node line second =
     option_and_then
-    (λ n. option_and_then (λ l. option_map (λ s. record { node = n; line = l; second = s }) (second_by tables second)) (owner_of tables line))
+    (λ n. option_and_then (λ l. option_map (λ s. record { node = n; line = l; second = s }) (second_by tables second)) (line_named tables line))
     (result_ok (name_of_text node))
 
 -- the route of a node and of one part or two: the names of its lines
@@ -45,7 +45,7 @@ route_of_parts tables [] = None
 route_of_parts tables (node ∷ lines) = route_by_lines tables node lines
 
 abbrev pub route_of_pair : TableFile → List ℕ → Option RouteEntry
-route_of_pair tables pair = route_of_parts tables (parts_of pair)
+route_of_pair tables pair = route_of_parts tables (parts_of_pair pair)
 
 -- the routes of pairs, where each is one
 abbrev pub routes_of_pairs : TableFile → List (List ℕ) → Option (List RouteEntry)

@@ -1,9 +1,9 @@
 //! The event of one line of a script.
 
 ghost use Rattle.std.specs.Prelude.{◌≡◌, ◌∷◌, Some, IfOk, IfSome};
-ghost use Rattle.njh_table.specs.TableFile.{owner_of};
-ghost use Rattle.njh_hub.specs.OwnEvents.{line_of};
-ghost use Rattle.njh_program.specs.Script.{bytes_on, event_of, event_of_words, event_on_line, piece_of, signal_of};
+ghost use Rattle.njh_table.specs.TableFile.{line_named};
+ghost use Rattle.njh_hub.specs.OwnEvents.{line_of_event};
+ghost use Rattle.njh_program.specs.Script.{bytes_on, script_event, event_of_words, event_on_line, piece_of, signal_of};
 ghost use Rattle.njh_program.specs.Script.{words_of};
 ghost use Rattle.njh_program.specs.ScriptRoutes.{IsNamedIn};
 ghost use Rattle.njh_program.specs.code.LineStarts.{Begins, IsStart};
@@ -16,7 +16,7 @@ use njh_table::{LineId, Tables};
 use std::alloc::{AllocError, Global};
 
 /// The event of a line, if it has one; it names what the tables have. Out of memory is the only refusal.
-#[tactic(auto, unfolding(crate::specs::Script::event_of))]
+#[tactic(auto, unfolding(crate::specs::Script::script_event))]
 pub fn event_of(
     alloc: Global,
     tables: &Tables,
@@ -25,7 +25,7 @@ pub fn event_of(
 ) -> Result<Option<Event>, AllocError>
     requires start { IfSome start (λ start. IsStart tables.now start.front.now start.line) }
     requires begins { IfSome start (λ start. Begins start.front.now line.now) }
-    ensures event { IfOk result (λ event. event ≡ event_of tables.now line.now) }
+    ensures event { IfOk result (λ event. event ≡ script_event tables.now line.now) }
     ensures named { IfOk result (λ event. IfSome event (IsNamedIn tables.now)) }
 {
     let Some(start) = start else {
@@ -47,7 +47,7 @@ fn plain_event(
 ) -> Result<Option<Event>, AllocError>
     requires start { IsStart tables.now start.front.now start.line }
     requires begins { Begins start.front.now line.now }
-    ensures event { IfOk result (λ event. IfSome event (λ e. event_of tables.now line.now ≡ Some e)) }
+    ensures event { IfOk result (λ event. IfSome event (λ e. script_event tables.now line.now ≡ Some e)) }
     ensures named { IfOk result (λ event. IfSome event (IsNamedIn tables.now)) }
 {
     let (_, digits) = line.split_at(start.front.len());
@@ -58,9 +58,9 @@ fn plain_event(
 }
 
 /// The event of a line of any form.
-#[tactic(auto, unfolding(crate::specs::Script::event_of))]
+#[tactic(auto, unfolding(crate::specs::Script::script_event))]
 fn any_event(alloc: Global, tables: &Tables, line: &[u8]) -> Result<Option<Event>, AllocError>
-    ensures event { IfOk result (λ event. event ≡ event_of tables.now line.now) }
+    ensures event { IfOk result (λ event. event ≡ script_event tables.now line.now) }
     ensures named { IfOk result (λ event. IfSome event (IsNamedIn tables.now)) }
 {
     match str::from_utf8(line) {
@@ -91,7 +91,7 @@ fn event_on_line(
     word: &str,
     rest: &str,
 ) -> Result<Option<Event>, AllocError>
-    ensures event { IfOk result (λ event. event ≡ event_on_line (owner_of tables.now) (word.now ∷ words_of rest.now)) }
+    ensures event { IfOk result (λ event. event ≡ event_on_line (line_named tables.now) (word.now ∷ words_of rest.now)) }
     ensures named { IfOk result (λ event. IfSome event (IsNamedIn tables.now)) }
 {
     match rest.split_once(' ') {
@@ -110,7 +110,7 @@ fn event_on_line(
 /// The event of a word alone on a line of the hub.
 fn signal_of(word: &str, line: LineId) -> Option<Event>
     ensures event { result ≡ signal_of word.now line }
-    ensures line { IfSome result (λ e. line_of e ≡ Some line) }
+    ensures line { IfSome result (λ e. line_of_event e ≡ Some line) }
 {
     match word {
         "TICK" => Some(Event::Tick(line)),
@@ -128,7 +128,7 @@ fn bytes_on(
     line: LineId,
 ) -> Result<Option<Event>, AllocError>
     ensures event { IfOk result (λ event. event ≡ bytes_on word.now digits.now line) }
-    ensures line { IfOk result (λ event. IfSome event (λ e. line_of e ≡ Some line)) }
+    ensures line { IfOk result (λ event. IfSome event (λ e. line_of_event e ≡ Some line)) }
 {
     if word != "BYTES" {
         return Ok(None);

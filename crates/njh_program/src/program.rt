@@ -3,7 +3,7 @@
 ghost use Rattle.std.specs.Prelude.{◌≡◌, ◌≤◌, ◌⊎◌, map, IfErr, OnOk, OnErr};
 ghost use Rattle.std.specs.Io.KnownBytes.{Keeps};
 ghost use Rattle.std.specs.Process.{exit_status};
-ghost use Rattle.njh_program.specs.Outcome.{IsBegunFor, IsDone, IsFailed};
+ghost use Rattle.njh_program.specs.Outcome.{IsBegunFor, IsRunDone, IsFailed};
 ghost use Rattle.njh_program.specs.Status.{status_after, status_of};
 
 use crate::arguments::{Request, not_utf8, request_of};
@@ -81,7 +81,7 @@ pub fn carry_out<
     W: Write,
     L: Write + Drop,
 >(rt: &F, arguments: &[S], script: &mut R, out: &mut W, log: L) -> Result<(), Failure>
-    ensures done { OnOk result (IsDone (map S.text arguments.now) (R.remaining script.old) (W.contents out.old) (W.contents out.new)) }
+    ensures done { OnOk result (IsRunDone (map S.text arguments.now) (R.remaining script.old) (W.contents out.old) (W.contents out.new)) }
     ensures failed { IfErr result (IsFailed (map S.text arguments.now) (R.remaining script.old)) }
     ensures begun { OnErr result (Keeps (W.contents out.old) (W.contents out.new)
         ⊎ IsBegunFor (map S.text arguments.now) (R.remaining script.old) (W.contents out.old) (W.contents out.new)) }

@@ -3,14 +3,14 @@
 ghost use Rattle.std.specs.Prelude.{◌≡◌, ◌≤◌, ◌⊎◌, ℕ, length, map, All, IfOk, IfErr, OnOk, OnErr};
 ghost use Rattle.std.specs.Io.KnownBytes.{Appends, Keeps};
 ghost use Rattle.njh_program.specs.LineNames.{customers_of, names_of};
-ghost use Rattle.njh_program.specs.Printed.{text_of, AppendsBeginning, IsPrintedUpTo};
+ghost use Rattle.njh_program.specs.Printed.{frames_text, AppendsBeginning, IsPrintedUpTo};
 ghost use Rattle.njh_program.specs.Replayed.{fault_after, text_by, text_of_run, text_with, HasScript, HasTooLong};
 ghost use Rattle.njh_program.specs.Replayed.{HasBadLine};
 ghost use Rattle.njh_program.specs.Replayed.{IsBegun, IsReplayed, IsReplayedToRoutes, IsReplayedUpTo, IsRefusal};
 ghost use Rattle.njh_program.specs.Replayed.{IsSentUpTo, MayEnd, SameParts};
 ghost use Rattle.njh_program.specs.ScriptRoutes.{IsNamedIn};
 ghost use Rattle.njh_hub.specs.Parts.{entries_of};
-ghost use Rattle.njh_hub.specs.WholeHub.{hub_run, opened, IsNamed};
+ghost use Rattle.njh_hub.specs.WholeHub.{hub_run, part_at_open, IsNamed};
 
 use crate::fault::ReplayFault;
 use crate::files::{customer_names, print_files};
@@ -68,7 +68,7 @@ fn print_events<W: Write>(
     ensures printed { OnOk result (Appends (W.contents out.old) (W.contents out.new) (text_of_run tables events.now)) }
     ensures begun { OnErr result (AppendsBeginning (W.contents out.old) (W.contents out.new) (text_of_run tables events.now)) }
     ensures memory { result ≡ Err (ReplayFault.Hub HubFault.Memory) → Keeps (W.contents out.old) (W.contents out.new)
-        ⊎ IsSentUpTo (names_of tables) (map opened (entries_of tables)) events.now (W.contents out.old) (W.contents out.new)
+        ⊎ IsSentUpTo (names_of tables) (map part_at_open (entries_of tables)) events.now (W.contents out.old) (W.contents out.new)
         ⊎ IsPrintedUpTo (customers_of tables) (W.contents out.old) (W.contents out.new) (text_with tables events.now) }
     ensures faults { IfErr result MayEnd }
     ensures refuses_no_script { IfErr result (λ fault. ¬ IsRefusal fault) }
@@ -117,10 +117,10 @@ fn print_run<W: Write>(
 ) -> Result<(), ReplayFault>
     requires { All (IsNamed hub.old) events.now }
     ensures printed { OnOk result (Appends (W.contents out.old) (W.contents out.new)
-        (text_of names.now (hub_run hub.old events.now).sent)) }
+        (frames_text names.now (hub_run hub.old events.now).sent)) }
     ensures after { OnOk result (SameParts (hub_run hub.old events.now).parts hub.new (length hub.old)) }
     ensures begun { OnErr result (AppendsBeginning (W.contents out.old) (W.contents out.new)
-        (text_of names.now (hub_run hub.old events.now).sent)) }
+        (frames_text names.now (hub_run hub.old events.now).sent)) }
     ensures memory { result ≡ Err (ReplayFault.Hub HubFault.Memory) → Keeps (W.contents out.old) (W.contents out.new)
         ⊎ IsSentUpTo names.now hub.old events.now (W.contents out.old) (W.contents out.new) }
     ensures customers { length hub.new ≡ length hub.old }

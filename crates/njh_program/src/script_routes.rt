@@ -4,7 +4,7 @@ ghost use Rattle.std.specs.Prelude.{◌≡◌, ◌<◌, ◌==◌, ◌∷◌, len
 ghost use Rattle.std.specs.List.{slice_split};
 ghost use Rattle.njh_program.specs.code.FirstLines.{parts_behind};
 ghost use Rattle.njh_program.specs.Script.{words_of};
-ghost use Rattle.njh_program.specs.ScriptRoutes.{customer_named, parts_of, routes_for, route_of_pair, route_by};
+ghost use Rattle.njh_program.specs.ScriptRoutes.{customer_named, parts_of_pair, routes_for, route_of_pair, route_by};
 ghost use Rattle.njh_program.specs.ScriptRoutes.{route_by_lines};
 ghost use Rattle.njh_program.specs.ScriptRoutes.{routes_event, routes_of_pairs, second_by, IsNamedIn};
 
@@ -108,7 +108,7 @@ fn route_of_pair(tables: &Tables, pair: &str) -> Option<RouteEntry>
 
 /// The route of a node and of the names of its lines: one, or two with a colon between them.
 fn route_by_lines(tables: &Tables, node: &str, lines: &str) -> Option<RouteEntry>
-    ensures { result ≡ route_by_lines tables.now node.now (parts_of lines.now) }
+    ensures { result ≡ route_by_lines tables.now node.now (parts_of_pair lines.now) }
 {
     let (line, behind) = first_part(lines, ':');
     let Some(behind) = behind else {

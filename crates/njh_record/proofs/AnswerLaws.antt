@@ -10,7 +10,7 @@ use Rattle.njh_record.specs.declared.RecordFault.{RecordFault}
 use Rattle.njh_record.specs.declared.RecordFault.TheVariants as faults
 use Rattle.njh_record.specs.Spelling.{Spelling}
 use Rattle.njh_record.specs.Reading.{Begins, Unspells}
-use Rattle.njh_record.specs.Unspelled.{Fault, BadScb, Truncated, Unspelled, unspelled, ReadsAs}
+use Rattle.njh_record.specs.Unspelled.{Fault, BadScb, Truncated, Unspelled, record_at_front, ReadsAs}
 use Rattle.njh_record.proofs.ReadingLaws.{found}
 use Rattle.njh_record.proofs.ReadBack.{only}
 
@@ -42,7 +42,7 @@ answered bytes (Err BadScb) bad = (Err faults.BadScb, [], (bad, refl))
 answered bytes (Err Truncated) cut = (Err faults.Truncated, [], (cut, refl))
 
 pub some_answer : (bytes : List ℕ) → AreBytes bytes → Answered bytes
-some_answer bytes are = answered bytes (unspelled bytes) (found bytes are)
+some_answer bytes are = answered bytes (record_at_front bytes) (found bytes are)
 
 -- ---- and no other: each is made of what the function gives
 
@@ -59,7 +59,7 @@ outcome bytes (Err BadScb) = (Err faults.BadScb, [])
 outcome bytes (Err Truncated) = (Err faults.Truncated, [])
 
 outcome-begins : (bytes : List ℕ) (n : ℕ) (contents : List ℕ) (end : End) → Begins bytes n contents end
-    → outcome bytes (unspelled bytes) ≡ ended n contents end
+    → outcome bytes (record_at_front bytes) ≡ ended n contents end
 outcome-begins bytes n contents end starts =
     let read : Result Unspelled Fault = Ok (record { contents = contents; end = end; rest = drop n bytes }) in
     let used : length bytes - length (drop n bytes) ≡ n = omega (arith, length-drop n bytes, starts.within) in
@@ -67,7 +67,7 @@ outcome-begins bytes n contents end starts =
     ∙ ap (λ (m : ℕ). ended m contents end) used
 
 outcome_is : (bytes : List ℕ) (answer : Result (ℕ × End) RecordFault) (contents : List ℕ) → Unspells bytes answer contents
-    → ◌≡◌ {A = Outcome} (outcome bytes (unspelled bytes)) (answer, contents)
+    → ◌≡◌ {A = Outcome} (outcome bytes (record_at_front bytes)) (answer, contents)
 outcome_is bytes (Ok (n, Record)) contents (starts, fits) =
     rw (outcome-begins bytes n contents Record starts, le-leb (length contents) 256 fits) refl
 outcome_is bytes (Ok (n, Abort)) contents ((given_up, starts), left) =

@@ -5,9 +5,9 @@ use Rattle.std.proofs.lemmas.Bool.{cases_lt}
 use Rattle.std.proofs.lemmas.List.{append-nil, take-append-le, take-append-drop, take_at, drop_at, drop-append-le}
 use Rattle.std.specs.List.{flat_map, AllByRecursion}
 use Rattle.njh_record.specs.declared.End.{End}
-use Rattle.njh_record.specs.Spelling.{Item, IsItem, item_bytes, added, end_byte, Spelling}
+use Rattle.njh_record.specs.Spelling.{Item, IsItem, item_bytes, added_bytes, end_byte, Spelling}
 use Rattle.njh_record.specs.Unspelled.{Front, OfItem, OfEnd, Bad, Cut, Fault, BadScb, Truncated, Unspelled, with_front}
-use Rattle.njh_record.specs.Unspelled.{unspelled, ReadsAs}
+use Rattle.njh_record.specs.Unspelled.{record_at_front, ReadsAs}
 use Rattle.njh_record.specs.code.Parts.{StandsFirst}
 use Rattle.njh_record.proofs.Fronts.{cut_item, front_leaves_less, IsCounted-item}
 use Rattle.njh_record.proofs.ReadingLaws.{read_on, by_steps, unspelled-first}
@@ -24,18 +24,18 @@ with_front-nil (Ok found) = refl
 with_front-nil (Err fault) = refl
 
 unspelled-item : (item : Item) (rest : List ℕ) → IsItem item
-    → unspelled (item_bytes item ++ rest) ≡ with_front (added item) (unspelled rest)
+    → record_at_front (item_bytes item ++ rest) ≡ with_front (added_bytes item) (record_at_front rest)
 unspelled-item item rest is = unspelled-first (item_bytes item ++ rest) (OfItem item rest) (IsCounted-item item is, refl)
 
 unspelled-items : (items : List Item) (rest : List ℕ) → AllByRecursion IsItem items
-    → unspelled (flat_map item_bytes items ++ rest) ≡ with_front (flat_map added items) (unspelled rest)
-unspelled-items [] rest each = with_front-nil (unspelled rest)
+    → record_at_front (flat_map item_bytes items ++ rest) ≡ with_front (flat_map added_bytes items) (record_at_front rest)
+unspelled-items [] rest each = with_front-nil (record_at_front rest)
 unspelled-items (item ∷ items) rest each =
     rw (append_assoc, unspelled-item item (flat_map item_bytes items ++ rest) each.0, unspelled-items items rest each.1)
-    (with_front-with_front (added item) (flat_map added items) (unspelled rest))
+    (with_front-with_front (added_bytes item) (flat_map added_bytes items) (record_at_front rest))
 
 pub unspelled-spelling : (bytes contents : List ℕ) (end : End) (rest : List ℕ) → Spelling bytes contents end
-    → unspelled (bytes ++ rest) ≡ Ok (record { contents = contents; end = end; rest = rest })
+    → record_at_front (bytes ++ rest) ≡ Ok (record { contents = contents; end = end; rest = rest })
 unspelled-spelling bytes contents end rest spells =
     let items = spells.items in
     let ends = unspelled-first (end_byte end ∷ rest) (OfEnd end rest) refl in
@@ -43,7 +43,7 @@ unspelled-spelling bytes contents end rest spells =
 
 -- what is cut off lies within an item, or behind whole ones
 unspelled-cut : (items : List Item) (end : End) (bytes missing : List ℕ) → AllByRecursion IsItem items → 0 < length missing
-    → bytes ++ missing ≡ flat_map item_bytes items ++ end_byte end ∷ [] → unspelled bytes ≡ Err Truncated
+    → bytes ++ missing ≡ flat_map item_bytes items ++ end_byte end ∷ [] → record_at_front bytes ≡ Err Truncated
 unspelled-cut [] end [] missing each some parts = refl
 unspelled-cut [] end (b ∷ bytes) missing each some parts = absurd (omega (arith, ap length parts, length-append bytes missing))
 unspelled-cut (item ∷ items) end bytes missing each some parts =
@@ -67,13 +67,13 @@ unspelled-cut (item ∷ items) end bytes missing each some parts =
           rw (← drop-append-le n bytes missing long, joined) (drop_at (item_bytes item) after n refl) in
           let whole : bytes ≡ item_bytes item ++ drop n bytes =
           sym (take-append-drop n bytes) ∙ ap (λ (b : List ℕ). b ++ drop n bytes) front in
-          ap unspelled whole ∙ (unspelled-item item (drop n bytes) each.0
-          ∙ ap (with_front (added item)) (unspelled-cut items end (drop n bytes) missing each.1 some back))
+          ap record_at_front whole ∙ (unspelled-item item (drop n bytes) each.0
+          ∙ ap (with_front (added_bytes item)) (unspelled-cut items end (drop n bytes) missing each.1 some back))
     ]
 
-pub only : (bytes : List ℕ) (read : Result Unspelled Fault) → ReadsAs bytes read → unspelled bytes ≡ read
+pub only : (bytes : List ℕ) (read : Result Unspelled Fault) → ReadsAs bytes read → record_at_front bytes ≡ read
 only bytes (Ok found) (spelling, spells, parts) =
-    ap unspelled parts ∙ unspelled-spelling spelling found.contents found.end found.rest spells
+    ap record_at_front parts ∙ unspelled-spelling spelling found.contents found.end found.rest spells
 only bytes (Err BadScb) bad =
     let ends = unspelled-first (bad.byte ∷ bad.rest) Bad bad.bad in
     rw (bad.front.parts, unspelled-items bad.items (bad.byte ∷ bad.rest) bad.front.each, ends) refl
@@ -88,7 +88,7 @@ RestBehind bytes (Ok found) = (front : List ℕ) × (0 < length front) × (bytes
 RestBehind bytes (Err fault) = Unit {0}
 
 RestBehind-item : (item : Item) (bytes rest : List ℕ) (read : Result Unspelled Fault) → bytes ≡ item_bytes item ++ rest
-    → RestBehind rest read → RestBehind bytes (with_front (added item) read)
+    → RestBehind rest read → RestBehind bytes (with_front (added_bytes item) read)
 RestBehind-item item bytes rest (Ok found) parts (front, some, is) = (
   item_bytes item ++ front,
   omega (arith, some, length-append (item_bytes item) front),
@@ -97,14 +97,14 @@ RestBehind-item item bytes rest (Ok found) parts (front, some, is) = (
 RestBehind-item item bytes rest (Err fault) parts behind = tt
 
 behind_at : (bytes : List ℕ) (front : Front) → StandsFirst bytes front
-    → ((rest : List ℕ) → length rest < length bytes → RestBehind rest (unspelled rest)) → RestBehind bytes (read_on unspelled front)
+    → ((rest : List ℕ) → length rest < length bytes → RestBehind rest (record_at_front rest)) → RestBehind bytes (read_on record_at_front front)
 behind_at bytes (OfItem item rest) (counted, parts) again =
-    RestBehind-item item bytes rest (unspelled rest) parts (again rest (front_leaves_less bytes rest item parts))
+    RestBehind-item item bytes rest (record_at_front rest) parts (again rest (front_leaves_less bytes rest item parts))
 behind_at bytes (OfEnd end rest) parts again = (end_byte end ∷ [], omega arith, parts)
 behind_at bytes Bad bad again = tt
 behind_at bytes Cut cut again = tt
 
-pub rest_behind : (bytes : List ℕ) (read : Unspelled) → unspelled bytes ≡ Ok read
+pub rest_behind : (bytes : List ℕ) (read : Unspelled) → record_at_front bytes ≡ Ok read
     → (used : ℕ) × (0 < used) × (used ≤ length bytes) × (read.rest ≡ drop used bytes)
 rest_behind bytes read is =
     let behind = subst (RestBehind bytes) is (by_steps RestBehind behind_at bytes) in
@@ -124,4 +124,4 @@ pub prefix_free : (spelling more contents others : List ℕ) (end other : End) �
     → Spelling (spelling ++ more) others other → more ≡ []
 prefix_free spelling more contents others end other spells longer =
     ap rest_of (sym (unspelled-spelling spelling contents end more spells)
-    ∙ (ap unspelled (sym (append-nil (spelling ++ more))) ∙ unspelled-spelling (spelling ++ more) others other [] longer))
+    ∙ (ap record_at_front (sym (append-nil (spelling ++ more))) ∙ unspelled-spelling (spelling ++ more) others other [] longer))

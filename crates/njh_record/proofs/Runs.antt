@@ -5,7 +5,7 @@ use Rattle.std.proofs.lemmas.Bool.{cases_lt, cases_Bool, cond_both, cond-true, c
 use Rattle.std.proofs.lemmas.List.{take-take, take_all, append-nil, take_more, drop_more, drop_all, take-append-le, take-append-drop, drop-take, drop-drop, get_or-take, get_or-drop}
 use Rattle.std.proofs.lemmas.List.Sums.{prefix_len-le-length, prefix_len_passes}
 use Rattle.std.specs.List.{prefix_len}
-use Rattle.njh_record.specs.Writing.{first_of, run_of, is_run, begins_run, before_run}
+use Rattle.njh_record.specs.Writing.{first_byte_of, run_of, is_run, begins_run, before_run}
 use Rattle.njh_record.specs.code.Written.{AreApart, NoRunBefore}
 
 -- ---- runs
@@ -27,13 +27,13 @@ front_is byte (x ∷ bytes) =
     (λ other. refl)
 
 pub run_of-short : (bytes : List ℕ) → run_of bytes ≤ 31
-run_of-short bytes = omega (arith, prefix_len-le-length (λ x. eqb x (first_of bytes)) (take 31 bytes), length-take 31 bytes)
+run_of-short bytes = omega (arith, prefix_len-le-length (λ x. eqb x (first_byte_of bytes)) (take 31 bytes), length-take 31 bytes)
 
 pub run_of-within : (bytes : List ℕ) → run_of bytes ≤ length bytes
-run_of-within bytes = omega (arith, prefix_len-le-length (λ x. eqb x (first_of bytes)) (take 31 bytes), length-take 31 bytes)
+run_of-within bytes = omega (arith, prefix_len-le-length (λ x. eqb x (first_byte_of bytes)) (take 31 bytes), length-take 31 bytes)
 
-pub take-run_of : (bytes : List ℕ) → take (run_of bytes) bytes ≡ replicate (run_of bytes) (first_of bytes)
-take-run_of bytes = sym (take-take (run_of bytes) 31 bytes (run_of-short bytes)) ∙ front_is (first_of bytes) (take 31 bytes)
+pub take-run_of : (bytes : List ℕ) → take (run_of bytes) bytes ≡ replicate (run_of bytes) (first_byte_of bytes)
+take-run_of bytes = sym (take-take (run_of bytes) 31 bytes (run_of-short bytes)) ∙ front_is (first_byte_of bytes) (take 31 bytes)
 
 -- ---- the bytes before a run
 
@@ -106,9 +106,9 @@ NoRunBefore-then bytes place more front behind =
 begins_run-apart : (bytes : List ℕ) → get_or bytes 0 0 ≢ get_or bytes 1 0 → begins_run bytes ≡ false
 begins_run-apart bytes apart =
     false_from_ne_true (begins_run bytes) (λ is.
-    let two : 2 ≤ run_of bytes = is_run-two (first_of bytes) (run_of bytes) is in
-    let same = prefix_len_passes (λ x. eqb x (first_of bytes)) (take 31 bytes) 1 0 (omega arith) in
-    apart (sym (sym (get_or-take 31 bytes 1 0 (omega arith)) ∙ eqb-true (get_or (take 31 bytes) 1 0) (first_of bytes) same)))
+    let two : 2 ≤ run_of bytes = is_run-two (first_byte_of bytes) (run_of bytes) is in
+    let same = prefix_len_passes (λ x. eqb x (first_byte_of bytes)) (take 31 bytes) 1 0 (omega arith) in
+    apart (sym (sym (get_or-take 31 bytes 1 0 (omega arith)) ∙ eqb-true (get_or (take 31 bytes) 1 0) (first_byte_of bytes) same)))
 
 pub NoRunBefore-apart : (bytes : List ℕ) (n : ℕ) → n < length bytes → AreApart n bytes → NoRunBefore bytes n
 NoRunBefore-apart bytes zero within apart = refl
@@ -121,9 +121,9 @@ NoRunBefore-apart bytes (suc n) within apart =
 
 -- a test of a run, as the code makes it
 pub begins_run-tested : (rest tail : List ℕ) (count : ℕ) (answer value : Bool) → tail ≡ rest → count ≡ run_of tail
-    → answer ≡ is_run (first_of tail) count → answer ≡ value → begins_run rest ≡ value
+    → answer ≡ is_run (first_byte_of tail) count → answer ≡ value → begins_run rest ≡ value
 begins_run-tested rest tail count answer value same counted tests is =
-    ap begins_run (sym same) ∙ (ap (is_run (first_of tail)) (sym counted) ∙ (sym tests ∙ is))
+    ap begins_run (sym same) ∙ (ap (is_run (first_byte_of tail)) (sym counted) ∙ (sym tests ∙ is))
 
 -- some bytes stand at the front, and behind them a run or nothing
 pub record StandsBefore (bytes before : List ℕ) : Type 0 where

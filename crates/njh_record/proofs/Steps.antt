@@ -7,10 +7,10 @@ use Rattle.njh_record.specs.declared.End.{End}
 use Rattle.njh_record.specs.declared.End.TheVariants.{Record, Abort}
 use Rattle.njh_record.specs.declared.RecordFault.{RecordFault}
 use Rattle.njh_record.specs.declared.RecordFault.TheVariants as faults
-use Rattle.njh_record.specs.Spelling.{Item, added, end_byte}
+use Rattle.njh_record.specs.Spelling.{Item, added_bytes, end_byte}
 use Rattle.njh_record.specs.Reading.{Begins, Unspells}
 use Rattle.njh_record.specs.Unspelled.{OfItem, OfEnd, BadScb, Truncated, with_front, ReadsAs}
-use Rattle.njh_record.specs.code.Parts.{StandsFirst, Leads, Takes, Holds, HasRead}
+use Rattle.njh_record.specs.code.Parts.{StandsFirst, LeadsToPart, Takes, Holds, HasRead}
 use Rattle.njh_record.proofs.Fronts.{front_leaves_less}
 use Rattle.njh_record.proofs.ReadingLaws.{AreBytes-left, item_reads, bad_reads, truncated_at, Spelling-end}
 use Rattle.njh_record.proofs.ReadBack.{with_front-with_front, with_front-nil}
@@ -38,28 +38,28 @@ HasRead-none bytes contents none are =
 
 goes_on : (bytes rest after old new : List ℕ) (item : Item) (fits taken : Bool) (read : HasRead bytes rest old fits)
     → StandsFirst rest (OfItem item after)
-    → Holds taken (read.adds ++ added item) new → HasRead bytes after new taken
+    → Holds taken (read.adds ++ added_bytes item) new → HasRead bytes after new taken
 goes_on bytes rest after old new item fits taken so_far stands holds = record {
-  adds = so_far.adds ++ added item;
+  adds = so_far.adds ++ added_bytes item;
   reads = λ read reads.
-      subst (ReadsAs bytes) (with_front-with_front so_far.adds (added item) read)
-      (so_far.reads (with_front (added item) read) (item_reads rest after item read so_far.left stands reads));
+      subst (ReadsAs bytes) (with_front-with_front so_far.adds (added_bytes item) read)
+      (so_far.reads (with_front (added_bytes item) read) (item_reads rest after item read so_far.left stands reads));
   left = AreBytes-left rest after item so_far.left stands;
   within = omega (arith, so_far.within, front_leaves_less rest after item stands.1);
   holds = holds;
 }
 
 pub HasRead-takes : (bytes rest after old new : List ℕ) (item : Item) (fits taken : Bool) → fits ≡ true → HasRead bytes rest old fits
-    → StandsFirst rest (OfItem item after) → Takes taken old (added item) new → HasRead bytes after new taken
+    → StandsFirst rest (OfItem item after) → Takes taken old (added_bytes item) new → HasRead bytes after new taken
 HasRead-takes bytes rest after old new item true taken is read stands takes =
-    goes_on bytes rest after old new item true taken read stands (Holds-takes taken read.adds old (added item) new read.holds takes)
+    goes_on bytes rest after old new item true taken read stands (Holds-takes taken read.adds old (added_bytes item) new read.holds takes)
 HasRead-takes bytes rest after old new item false taken is read stands takes = absurd cc
 
 -- what is too long stays too long
 pub HasRead-passes : (bytes rest after old : List ℕ) (item : Item) (fits : Bool) → fits ≡ false → HasRead bytes rest old fits
     → StandsFirst rest (OfItem item after) → HasRead bytes after old fits
 HasRead-passes bytes rest after old item false is read stands =
-    goes_on bytes rest after old old item false false read stands (omega (arith, read.holds, length-append read.adds (added item)))
+    goes_on bytes rest after old old item false false read stands (omega (arith, read.holds, length-append read.adds (added_bytes item)))
 HasRead-passes bytes rest after old item true is read stands = absurd cc
 
 -- ---- an end, or a fault
@@ -92,7 +92,7 @@ unspells-too_long bytes rest after contents false is so_far stands =
 
 -- what stops the reading is the fault of all
 pub unspells-fault : (bytes rest contents : List ℕ) (fits : Bool) (fault : RecordFault) → HasRead bytes rest contents fits
-    → Leads rest (Err fault) → Unspells bytes (Err fault) []
+    → LeadsToPart rest (Err fault) → Unspells bytes (Err fault) []
 unspells-fault bytes rest contents fits faults.BadScb so_far stands = (so_far.reads (Err BadScb) (bad_reads rest stands), refl)
 unspells-fault bytes rest contents fits faults.Truncated so_far stands =
     (so_far.reads (Err Truncated) (truncated_at rest so_far.left stands), refl)

@@ -5,8 +5,8 @@ use Rattle.std.proofs.lemmas.Bool.{cases_lt, cases_Bool, cond_both, cond-true, c
 use Rattle.std.proofs.lemmas.List.{take_min, take-take, take_all, length-replicate, take-append-drop}
 use Rattle.std.specs.List.{flat_map}
 use Rattle.njh_record.specs.declared.End.TheVariants.{Record}
-use Rattle.njh_record.specs.Spelling.{Item, blanks, repeat, literal, IsItem, item_bytes, added, Spelling}
-use Rattle.njh_record.specs.Writing.{first_of, run_of, is_run, begins_run, before_run, run_item, first_item, after_first, items_past}
+use Rattle.njh_record.specs.Spelling.{Item, blanks, repeat, literal, IsItem, item_bytes, added_bytes, Spelling}
+use Rattle.njh_record.specs.Writing.{first_byte_of, run_of, is_run, begins_run, before_run, run_item, first_item, after_first, items_past}
 use Rattle.njh_record.specs.Writing.{spelling_of}
 use Rattle.njh_record.specs.code.Written.{SpellsFront}
 use Rattle.njh_record.proofs.ReadingLaws.{Spelling-item, Spelling-end}
@@ -18,9 +18,9 @@ use Rattle.njh_record.proofs.Runs.{stands_before}
 pub IsItem-run_item : (byte n : ℕ) → n < 32 → IsItem (run_item byte n)
 IsItem-run_item byte n short = cond_both (eqb byte 0x40) (blanks n) (repeat n byte) IsItem (λ _. short) (λ _. short)
 
-pub added-run_item : (byte n : ℕ) → added (run_item byte n) ≡ replicate n byte
+pub added-run_item : (byte n : ℕ) → added_bytes (run_item byte n) ≡ replicate n byte
 added-run_item byte n =
-    cond_both (eqb byte 0x40) (blanks n) (repeat n byte) (λ item. added item ≡ replicate n byte)
+    cond_both (eqb byte 0x40) (blanks n) (repeat n byte) (λ item. added_bytes item ≡ replicate n byte)
     (λ is. ap (replicate n) (sym (eqb-true byte 0x40 is))) (λ _. refl)
 
 -- a run is spelled shorter than it is
@@ -31,7 +31,7 @@ length-run_item byte n is =
 
 -- ---- the first item
 
-pub first_item-run : (bytes : List ℕ) → begins_run bytes ≡ true → first_item bytes ≡ run_item (first_of bytes) (run_of bytes)
+pub first_item-run : (bytes : List ℕ) → begins_run bytes ≡ true → first_item bytes ≡ run_item (first_byte_of bytes) (run_of bytes)
 unfolding first_item
 first_item-run bytes is = cond-true (begins_run bytes) _ _ is
 
@@ -40,12 +40,12 @@ unfolding first_item
 first_item-literal bytes is = cond-false (begins_run bytes) _ _ is
 
 -- what is spelled first stands first
-SpellsFront-run : (bytes : List ℕ) → begins_run bytes ≡ true → SpellsFront bytes (run_item (first_of bytes) (run_of bytes))
+SpellsFront-run : (bytes : List ℕ) → begins_run bytes ≡ true → SpellsFront bytes (run_item (first_byte_of bytes) (run_of bytes))
 SpellsFront-run bytes at =
-    let byte = first_of bytes in
+    let byte = first_byte_of bytes in
     let n = run_of bytes in
     let two : 2 ≤ n = is_run-two byte n at in
-    let size : length (added (run_item byte n)) ≡ n = rw (added-run_item byte n) (length-replicate n byte) in
+    let size : length (added_bytes (run_item byte n)) ≡ n = rw (added-run_item byte n) (length-replicate n byte) in
     record {
       fits = IsItem-run_item byte n (omega (arith, run_of-short bytes));
       some = omega arith;
@@ -97,7 +97,7 @@ items_past-cons : (byte : ℕ) (bytes : List ℕ)
     → items_past 0 (byte ∷ bytes) ≡ first_item (byte ∷ bytes) ∷ items_past 0 (after_first (byte ∷ bytes))
 unfolding items_past
 items_past-cons byte bytes =
-    let n = length (added (first_item (byte ∷ bytes))) in
+    let n = length (added_bytes (first_item (byte ∷ bytes))) in
     let some = (SpellsFront-first_item byte bytes).some in
     let is : suc (n - 1) ≡ n = omega arith in
     ap (λ (items : List Item). first_item (byte ∷ bytes) ∷ items)
@@ -115,10 +115,10 @@ spelling_of-cons byte bytes =
 
 -- an item leaves less
 length-after_first : (byte : ℕ) (bytes : List ℕ)
-    → length (added (first_item (byte ∷ bytes))) + length (after_first (byte ∷ bytes)) ≡ length (byte ∷ bytes)
+    → length (added_bytes (first_item (byte ∷ bytes))) + length (after_first (byte ∷ bytes)) ≡ length (byte ∷ bytes)
 length-after_first byte bytes =
     let item = first_item (byte ∷ bytes) in
-    sym (length-append (added item) (after_first (byte ∷ bytes))) ∙ ap length (SpellsFront-first_item byte bytes).front
+    sym (length-append (added_bytes item) (after_first (byte ∷ bytes))) ∙ ap length (SpellsFront-first_item byte bytes).front
 
 -- what holds of each item in front of others holds of the whole
 module _ (P : List ℕ → Type 0) (none : P [])
@@ -173,7 +173,7 @@ bounded-run byte bytes at rest =
     let n = run_of (byte ∷ bytes) in
     let item : first_item (byte ∷ bytes) ≡ run_item byte n = first_item-run (byte ∷ bytes) at in
     let saves : length (item_bytes (first_item (byte ∷ bytes))) < n = rw item (length-run_item byte n at) in
-    let spells : length (added (first_item (byte ∷ bytes))) ≡ n = rw (item, added-run_item byte n) (length-replicate n byte) in
+    let spells : length (added_bytes (first_item (byte ∷ bytes))) ≡ n = rw (item, added-run_item byte n) (length-replicate n byte) in
     let size = length-cons byte bytes in
     let len = length-after_first byte bytes in
     let most : 63 * length (spelling_of (byte ∷ bytes)) ≤ 64 * length (byte ∷ bytes) + 63 = omega (arith, rest.most) in
@@ -195,7 +195,7 @@ bounded-literal byte bytes past rest =
     let some : length before ≡ suc (length (before_run bytes)) = ap length (before_run-past byte bytes past) in
     let cut : length (take 63 before) ≡ min 63 (length before) = length-take 63 before in
     let bytes_of : length (item_bytes (first_item (byte ∷ bytes))) ≡ suc (length (take 63 before)) = rw item refl in
-    let spells : length (added (first_item (byte ∷ bytes))) ≡ length (take 63 before) = rw item refl in
+    let spells : length (added_bytes (first_item (byte ∷ bytes))) ≡ length (take 63 before) = rw item refl in
     let size = length-cons byte bytes in
     let len = length-after_first byte bytes in
     record {
@@ -230,7 +230,7 @@ length-spelling_of-record bytes le = omega (arith, length-spelling_of bytes)
 -- ---- as the code writes it: what is written so far, and then the spelling of the rest, is the whole
 
 pub spelling_of-step : (out rest whole : List ℕ) (item : Item) (after : List ℕ) → 0 < length rest → item ≡ first_item rest
-    → after ≡ drop (length (added item)) rest → out ++ spelling_of rest ≡ whole → (out ++ item_bytes item) ++ spelling_of after ≡ whole
+    → after ≡ drop (length (added_bytes item)) rest → out ++ spelling_of rest ≡ whole → (out ++ item_bytes item) ++ spelling_of after ≡ whole
 spelling_of-step out [] whole item after some is left so_far = absurd (omega arith)
 spelling_of-step out (byte ∷ rest) whole item after some is left so_far =
     rw (left, is, append_assoc, ← spelling_of-cons byte rest) so_far
@@ -238,13 +238,13 @@ spelling_of-step out (byte ∷ rest) whole item after some is left so_far =
 pub spelling_of-room : (out rest whole : List ℕ) (item : Item) (most : ℕ) → 0 < length rest → item ≡ first_item rest
     → length whole ≤ most → out ++ spelling_of rest ≡ whole → length out + length (item_bytes item) ≤ most
 spelling_of-room out rest whole item most some is short so_far =
-    let next = spelling_of-step out rest whole item (drop (length (added item)) rest) some is refl so_far in
+    let next = spelling_of-step out rest whole item (drop (length (added_bytes item)) rest) some is refl so_far in
     omega (
       arith,
       short,
       ap length next,
       length-append (out ++ item_bytes item)
-          (spelling_of (drop (length (added item)) rest)),
+          (spelling_of (drop (length (added_bytes item)) rest)),
       length-append out (item_bytes item),
     )
 
@@ -255,7 +255,7 @@ spelling_of-done out (byte ∷ rest) whole done so_far = absurd (omega arith)
 -- the same, counted
 
 pub length-spelling_of-step : (rest : List ℕ) (item : Item) (after : List ℕ) → 0 < length rest → item ≡ first_item rest
-    → after ≡ drop (length (added item)) rest → length (item_bytes item) + length (spelling_of after) ≡ length (spelling_of rest)
+    → after ≡ drop (length (added_bytes item)) rest → length (item_bytes item) + length (spelling_of after) ≡ length (spelling_of rest)
 length-spelling_of-step rest item after some is left =
     sym (length-append (item_bytes item) (spelling_of after)) ∙ ap length (spelling_of-step [] rest (spelling_of rest) item after some is left refl)
 

@@ -1,7 +1,7 @@
 //! The items of a spelling (IBM SC23-0070, "Compression").
 
 ghost use Rattle.std.specs.Prelude.{◌≡◌, ◌+◌, ◌≤◌, ◌++◌, length, replicate};
-ghost use Rattle.njh_record.specs.Spelling.{added, item_bytes, IsItem};
+ghost use Rattle.njh_record.specs.Spelling.{added_bytes, item_bytes, IsItem};
 ghost use Rattle.njh_record.specs.code.Parts.{item_of, IsCounted, Takes};
 
 use crate::Record;
@@ -22,7 +22,7 @@ pub enum Item<'a> {
 impl Item<'_> {
     /// How many bytes of the record it spells.
     pub fn len(self) -> usize
-        ensures { result ≡ length (added (item_of self.entry)) }
+        ensures { result ≡ length (added_bytes (item_of self.entry)) }
     {
         match self {
             Item::Blanks(count) | Item::Repeat { count, .. } => count,
@@ -64,7 +64,7 @@ impl Item<'_> {
     /// Adds what it spells where it all has room, and says whether it had.
     pub fn add_to(self, contents: &mut Record) -> bool
         requires { IsCounted (item_of self) }
-        ensures { Takes result contents.old.items (added (item_of self.entry)) contents.new.items }
+        ensures { Takes result contents.old.items (added_bytes (item_of self.entry)) contents.new.items }
     {
         match self {
             Item::Blanks(count) => add_copies(contents, BLANK, count),

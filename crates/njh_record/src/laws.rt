@@ -6,20 +6,20 @@ ghost use Rattle.njh_record.specs.declared.End.{End};
 ghost use Rattle.njh_record.specs.declared.RecordFault.{RecordFault};
 ghost use Rattle.njh_record.specs.Spelling.{Spelling};
 ghost use Rattle.njh_record.specs.Reading.{Unspells};
-ghost use Rattle.njh_record.specs.Unspelled.{Unspelled, Fault, ReadsAs, unspelled};
+ghost use Rattle.njh_record.specs.Unspelled.{Unspelled, Fault, ReadsAs, record_at_front};
 ghost use Rattle.njh_record.specs.Writing.{spelling_of};
 
 /// The function that reads gives what stands in the bytes, and nothing else stands there: a spelling at their front, or
 /// a bad string control byte behind whole items, or the front of a spelling alone.
 pub fn one_reading()
-    ensures found { (bytes : List ℕ) → AreBytes bytes → ReadsAs bytes (unspelled bytes) }
+    ensures found { (bytes : List ℕ) → AreBytes bytes → ReadsAs bytes (record_at_front bytes) }
     ensures only { (bytes : List ℕ) (read : Result Unspelled Fault) →
-        ReadsAs bytes read → unspelled bytes ≡ read }
+        ReadsAs bytes read → record_at_front bytes ≡ read }
 {}
 
 /// What follows a spelling begins behind it, and a spelling has a byte at least.
 pub fn rest_behind()
-    ensures { (bytes : List ℕ) (found : Unspelled) → unspelled bytes ≡ Ok found →
+    ensures { (bytes : List ℕ) (found : Unspelled) → record_at_front bytes ≡ Ok found →
         (used : ℕ) × (0 < used) × (used ≤ length bytes) × (found.rest ≡ drop used bytes) }
 {}
 
@@ -41,7 +41,7 @@ pub fn no_proper_prefix()
 /// A spelling is read as what it spells, whatever follows it.
 pub fn reads_spellings()
     ensures { (spelling contents rest : List ℕ) (end : End) → Spelling spelling contents end →
-        unspelled (spelling ++ rest) ≡ Ok (record { contents = contents; end = end; rest = rest }) }
+        record_at_front (spelling ++ rest) ≡ Ok (record { contents = contents; end = end; rest = rest }) }
 {}
 
 /// The one spelling of a record is a spelling of it.
@@ -51,7 +51,7 @@ pub fn one_spelling()
 
 /// What is written of a record is read back as that record, whatever follows it.
 pub fn reads_back()
-    ensures { (contents rest : List ℕ) → unspelled (spelling_of contents ++ rest)
+    ensures { (contents rest : List ℕ) → record_at_front (spelling_of contents ++ rest)
         ≡ Ok (record { contents = contents; end = End.Record; rest = rest }) }
 {}
 

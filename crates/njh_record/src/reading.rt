@@ -1,9 +1,9 @@
 //! Reading: from a spelling to the record that it spells.
 
 ghost use Rattle.std.specs.Prelude.{◌≡◌, [], option_map};
-ghost use Rattle.njh_record.specs.code.Parts.{Leads, kept_by};
+ghost use Rattle.njh_record.specs.code.Parts.{LeadsToPart, kept_by};
 ghost use Rattle.njh_record.specs.Reading.{Unspells};
-ghost use Rattle.njh_record.specs.Unspelled.{unspelled};
+ghost use Rattle.njh_record.specs.Unspelled.{record_at_front};
 ghost use Rattle.njh_record.specs.Skipped.{behind};
 
 use crate::item::Item;
@@ -21,7 +21,7 @@ enum Part<'a> {
 
 /// The first part of a spelling, and the bytes behind it.
 fn next_part(bytes: &[u8]) -> Result<(Part<'_>, &[u8]), RecordFault>
-    ensures { Leads bytes.now result }
+    ensures { LeadsToPart bytes.now result }
 {
     let [scb, rest @ ..] = bytes else {
         return Err(RecordFault::Truncated);
@@ -96,7 +96,7 @@ pub fn unspell(bytes: &[u8], contents: &mut Record) -> Result<(usize, End), Reco
 /// What follows the spelling at the front of some bytes, if one stands there. It is not put together, and may be of any
 /// length.
 pub fn skip(bytes: &[u8]) -> Option<&[u8]>
-    ensures { option_map (λ rest. rest.now) result ≡ behind (unspelled bytes.now) }
+    ensures { option_map (λ rest. rest.now) result ≡ behind (record_at_front bytes.now) }
 {
     let mut rest = bytes;
     loop {

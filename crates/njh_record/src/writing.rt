@@ -3,7 +3,7 @@
 ghost use Rattle.std.specs.Prelude.{◌≡◌, ◌+◌, ◌≤◌, ◌<◌, ◌++◌, ◌==◌, false, length, take, min};
 ghost use Rattle.std.specs.List.{prefix_len};
 ghost use Rattle.njh_record.specs.code.Parts.{item_of};
-ghost use Rattle.njh_record.specs.Spelling.{added, item_bytes};
+ghost use Rattle.njh_record.specs.Spelling.{added_bytes, item_bytes};
 ghost use Rattle.njh_record.specs.Writing.{run_of, begins_run, before_run, run_item, first_item, spelling_of};
 ghost use Rattle.njh_record.specs.code.Written.{AreApart, NoRunBefore, SpellsFront};
 
@@ -187,7 +187,7 @@ pub fn add_spelling<const N: usize>(contents: &[u8], out: &mut ArrayVec<u8, N>)
 /// How many bytes of the record the item spells that spells the front of some bytes, and how many it takes.
 fn first_lens(bytes: &[u8]) -> (usize, usize)
     requires { 0 < length bytes.now }
-    ensures spells { result.0 ≡ length (added (first_item bytes.now)) }
+    ensures spells { result.0 ≡ length (added_bytes (first_item bytes.now)) }
     ensures takes { result.1 ≡ length (item_bytes (first_item bytes.now)) }
     ensures some { 0 < result.0 }
     ensures within { result.0 ≤ length bytes.now }

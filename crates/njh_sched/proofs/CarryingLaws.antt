@@ -14,8 +14,8 @@ use Rattle.njh_stream.specs.Sending.{next_at, next_of, record_at}
 use Rattle.njh_stream.specs.declared.sender.Sender.{Sender}
 use Rattle.njh_stream.specs.declared.sender.Sender.TheVariants.{Idle, Requested, Sending, EofSent, Aborting}
 use Rattle.njh_sched.specs.NextBlock.{Outlet, Candidate, Filling, Source, WaitingAnswer, StreamAbort, StreamRequest, WaitingMessage, StreamTurn}
-use Rattle.njh_sched.specs.NextBlock.{abort_where, answering, asking, candidate, data_item, is_sending, may_ask, next_served, oldest, sender_at, telling}
-use Rattle.njh_sched.specs.NextBlock.{added_where, after_candidate, after_source_where, after_source, after_sources, filled, filled_where, sources}
+use Rattle.njh_sched.specs.NextBlock.{abort_where, answering, asking, candidate, data_item, sends_file, may_ask, next_served, oldest, sender_at, telling}
+use Rattle.njh_sched.specs.NextBlock.{added_where, after_candidate, after_source_where, after_source, after_sources, filled_block, filled_where, sources}
 use Rattle.njh_sched.specs.Laws.{records_under, is_under, Does, left, gives_up, asks, sends, EachDoes}
 use Rattle.njh_sched.specs.Carrying.{Carries, on_its_way, at_its_end, end_of_file, file_records, record_item, records_of}
 use Rattle.njh_sched.proofs.EachLaws.{each_does}
@@ -151,7 +151,7 @@ module _ (goes : WholeFile → Bool) (k n p : ℕ) (records : List Stored) (befo
   one_more x y same (at_its_end sender items) (left l) = at_its_end (l.sender ∙ sender) (l.items ∙ items)
   one_more x y same (at_its_end sender items) (gives_up g) = absurd (cc (sym g.before ∙ sender))
   one_more x y same (at_its_end sender items) (asks a) = absurd (cc (sym a.before ∙ sender))
-  one_more x y same (at_its_end sender items) (sends s) = absurd (cc (sym s.before ∙ ap is_sending sender))
+  one_more x y same (at_its_end sender items) (sends s) = absurd (cc (sym s.before ∙ ap sends_file sender))
 
   pub all_carry : (sources : List Source) (x : Filling) → file_records n x.spool ≡ records → Carries k n p records before x → EachDoes goes k sources x
       → Carries k n p records before (after_sources goes sources x)
@@ -161,14 +161,14 @@ module _ (goes : WholeFile → Bool) (k n p : ℕ) (records : List Stored) (befo
       all_carry more (after_source goes source x) (records_left goes n source x ∙ same) (one_more x (after_source goes source x) same carries each.0) each.1
 
 -- none of what a stream isn't sending
-one_quiet : (goes : WholeFile → Bool) (k : ℕ) (x y : Filling) → is_sending (sender_at k x.outlet) ≡ false → Does goes k x y
-    → (is_sending (sender_at k y.outlet) ≡ false) × (records_under (rcb_of k) y.block.items ≡ records_under (rcb_of k) x.block.items)
-one_quiet goes k x y quiet (left l) = (ap is_sending l.sender ∙ quiet, l.items)
-one_quiet goes k x y quiet (gives_up g) = (ap is_sending g.after, g.items)
-one_quiet goes k x y quiet (asks a) = (ap is_sending a.after, a.items)
+one_quiet : (goes : WholeFile → Bool) (k : ℕ) (x y : Filling) → sends_file (sender_at k x.outlet) ≡ false → Does goes k x y
+    → (sends_file (sender_at k y.outlet) ≡ false) × (records_under (rcb_of k) y.block.items ≡ records_under (rcb_of k) x.block.items)
+one_quiet goes k x y quiet (left l) = (ap sends_file l.sender ∙ quiet, l.items)
+one_quiet goes k x y quiet (gives_up g) = (ap sends_file g.after, g.items)
+one_quiet goes k x y quiet (asks a) = (ap sends_file a.after, a.items)
 one_quiet goes k x y quiet (sends s) = absurd (cc (sym s.before ∙ quiet))
 
-pub all_quiet : (goes : WholeFile → Bool) (k : ℕ) (sources : List Source) (x : Filling) → is_sending (sender_at k x.outlet) ≡ false
+pub all_quiet : (goes : WholeFile → Bool) (k : ℕ) (sources : List Source) (x : Filling) → sends_file (sender_at k x.outlet) ≡ false
     → EachDoes goes k sources x → records_under (rcb_of k) (after_sources goes sources x).block.items ≡ records_under (rcb_of k) x.block.items
 unfolding after_sources
 all_quiet goes k [] x quiet each = refl
@@ -180,8 +180,8 @@ all_quiet goes k (source ∷ more) x quiet each =
 
 module _ (goes : WholeFile → Bool) (k : ℕ) (x : Filling) (few : k < 8) (inside : k < length x.outlet.senders) where
   pub filled_carries : (n p : ℕ) → sender_at k x.outlet ≡ Sending n p → p ≤ length (file_records n x.spool)
-      → Carries k n p (file_records n x.spool) (records_under (rcb_of k) x.block.items) (filled goes x)
-  unfolding filled
+      → Carries k n p (file_records n x.spool) (records_under (rcb_of k) x.block.items) (filled_block goes x)
+  unfolding filled_block
   filled_carries n p sender within = at_suspended (all_suspended x.outlet.peer)
     where
       begins : Carries k n p (file_records n x.spool) (records_under (rcb_of k) x.block.items) x
@@ -195,9 +195,9 @@ module _ (goes : WholeFile → Bool) (k : ℕ) (x : Filling) (few : k < 8) (insi
           let all = sources x.block.limit x.outlet in
           all_carry goes k n p (file_records n x.spool) (records_under (rcb_of k) x.block.items) all x refl begins (each_does goes k all x few inside)
 
-  pub filled_quiet : is_sending (sender_at k x.outlet) ≡ false
-      → records_under (rcb_of k) (filled goes x).block.items ≡ records_under (rcb_of k) x.block.items
-  unfolding filled
+  pub filled_quiet : sends_file (sender_at k x.outlet) ≡ false
+      → records_under (rcb_of k) (filled_block goes x).block.items ≡ records_under (rcb_of k) x.block.items
+  unfolding filled_block
   filled_quiet quiet = at_suspended (all_suspended x.outlet.peer)
     where
       at_suspended : (b : Bool) → records_under (rcb_of k) (filled_where b goes x).block.items ≡ records_under (rcb_of k) x.block.items

@@ -9,7 +9,7 @@ use Rattle.njh_record.specs.declared.Kind.{Kind}
 use Rattle.njh_record.specs.declared.Kind.TheVariants.{In, Out}
 use Rattle.njh_spool.specs.CustomerSpool.{CustomerSpool, WholeFile, with_state}
 use Rattle.njh_spool.specs.Headers.{summary}
-use Rattle.njh_spool.specs.Spools.{part}
+use Rattle.njh_spool.specs.Spools.{spool_at}
 use Rattle.njh_spool.specs.declared.State.TheVariants as state
 use Rattle.njh_spool.specs.declared.file_headers.FileSummary.{FileSummary}
 use Rattle.njh_stream.specs.Sending.{holds_of}
@@ -18,7 +18,7 @@ use Rattle.njh_table.specs.declared.LineId.{LineId}
 use Rattle.njh_sched.specs.NextBlock.{is_ready, may_go, oldest, same_kind}
 use Rattle.njh_sched.specs.code.FileCursor.{FileCursor, GoesOn, HasPassed, IsOver}
 use Rattle.njh_sched.specs.code.FileCursor.{files_of, first_file, goes_of, index_of, is_known_to_go}
-use Rattle.njh_sched.specs.code.FileCursor.{moved, other, passed_where}
+use Rattle.njh_sched.specs.code.FileCursor.{cursor_at, other, passed_where}
 use Rattle.njh_sched.proofs.FileLists.{by_summary, found_here, found_nowhere, none_changed, one_more}
 use Rattle.njh_sched.proofs.SpoolLaws.{as_long}
 
@@ -132,27 +132,27 @@ from_first entry id spools range = record { range = range; passed = none_passed 
     goes : WholeFile → Bool
     goes = goes_of (first_file entry id)
 
-    none_passed : (kind : Kind) → HasPassed goes kind (index_of kind (first_file entry id)) (part id.customer spools)
+    none_passed : (kind : Kind) → HasPassed goes kind (index_of kind (first_file entry id)) (spool_at id.customer spools)
     none_passed In = record {
       within = omega arith;
-      none = none_of_none (may_go goes In) (part id.customer spools).whole;
+      none = none_of_none (may_go goes In) (spool_at id.customer spools).whole;
     }
     none_passed Out = record {
       within = omega arith;
-      none = none_of_none (may_go goes Out) (part id.customer spools).whole;
+      none = none_of_none (may_go goes Out) (spool_at id.customer spools).whole;
     }
 
-pub index_is : (kind : Kind) (index others : ℕ) (x : FileCursor) → index_of kind (moved kind index others x) ≡ index
+pub index_is : (kind : Kind) (index others : ℕ) (x : FileCursor) → index_of kind (cursor_at kind index others x) ≡ index
 index_is In index others x = refl
 index_is Out index others x = refl
 
 pub known_is : (kind : Kind) (index others : ℕ) (x : FileCursor) (f : FileSummary)
-    → is_known_to_go (moved kind index others x) kind f ≡ is_known_to_go x kind f
+    → is_known_to_go (cursor_at kind index others x) kind f ≡ is_known_to_go x kind f
 known_is In index others x f = refl
 known_is Out index others x f = refl
 
 pub moved_again : (kind : Kind) (index others before beside : ℕ) (x : FileCursor)
-    → moved kind index others (moved kind before beside x) ≡ moved kind index others x
+    → cursor_at kind index others (cursor_at kind before beside x) ≡ cursor_at kind index others x
 moved_again In index others before beside x = refl
 moved_again Out index others before beside x = refl
 
@@ -163,15 +163,15 @@ pub goes_to :
     (x : FileCursor) (kind : Kind) (index others : ℕ) (spools : List CustomerSpool) → x.id.customer < length spools
     → HasPassed (goes_of x) kind index (files_of x spools)
     → HasPassed (goes_of x) (other kind) others (files_of x spools)
-    → GoesOn x (moved kind index others x) spools
+    → GoesOn x (cursor_at kind index others x) spools
 goes_to x In index others spools range own rest = record { line = refl; over = record { range = range; passed = at } }
   where
-    at : (kind : Kind) → HasPassed (goes_of x) kind (index_of kind (moved In index others x)) (files_of x spools)
+    at : (kind : Kind) → HasPassed (goes_of x) kind (index_of kind (cursor_at In index others x)) (files_of x spools)
     at In = own
     at Out = rest
 goes_to x Out index others spools range own rest = record { line = refl; over = record { range = range; passed = at } }
   where
-    at : (kind : Kind) → HasPassed (goes_of x) kind (index_of kind (moved Out index others x)) (files_of x spools)
+    at : (kind : Kind) → HasPassed (goes_of x) kind (index_of kind (cursor_at Out index others x)) (files_of x spools)
     at In = rest
     at Out = own
 
@@ -195,18 +195,18 @@ module _ (x y : FileCursor) (line : y ≡ record x { sysin = y.sysin; sysout = y
   module _ (kind : Kind) (c i : ℕ) (spools : List CustomerSpool) (same : c ≡ x.id.customer)
       (before : HasPassed (goes_of y) kind i (files_of y spools)) where
     -- none of the files is so
-    pub none_at_end : (files : ℕ) → files ≡ length (part c spools).whole → files ≤ i
+    pub none_at_end : (files : ℕ) → files ≡ length (spool_at c spools).whole → files ≤ i
         → None ≡ option_map (λ f. f.number) (oldest (goes_of x) kind (files_of x spools))
     none_at_end files is past =
-        let here : length (part c spools).whole ≤ i = omega (arith, is, past) in
+        let here : length (spool_at c spools).whole ≤ i = omega (arith, is, past) in
         let all : length (files_of y spools).whole ≤ i
-        = subst (λ (m : ℕ). length (part m spools).whole ≤ i) (same ∙ sym customer_is) here in
+        = subst (λ (m : ℕ). length (spool_at m spools).whole ≤ i) (same ∙ sym customer_is) here in
         oldest_is None kind spools (oldest_nowhere (goes_of y) kind (files_of y spools) i before all)
 
-    module _ (f : FileSummary) (seen : option_map summary (slice_get (part c spools).whole i) ≡ Some f) where
+    module _ (f : FileSummary) (seen : option_map summary (slice_get (spool_at c spools).whole i) ≡ Some f) where
       seen_there : option_map summary (slice_get (files_of y spools).whole i) ≡ Some f
       seen_there =
-          subst (λ (m : ℕ). option_map summary (slice_get (part m spools).whole i) ≡ Some f) (same ∙ sym customer_is)
+          subst (λ (m : ℕ). option_map summary (slice_get (spool_at m spools).whole i) ≡ Some f) (same ∙ sym customer_is)
           seen
 
       -- the file at the index is the oldest
@@ -219,13 +219,13 @@ module _ (x y : FileCursor) (line : y ≡ record x { sysin = y.sysin; sysout = y
 
       -- the file at the index may not go, and is passed
       pub passes_on :
-          (o : ℕ) → IsOver y spools → i < length (part c spools).whole
+          (o : ℕ) → IsOver y spools → i < length (spool_at c spools).whole
           → HasPassed (goes_of y) (other kind) o (files_of y spools) → is_known_to_go y kind f ≡ false
-          → GoesOn x (moved kind (i + 1) o y) spools
+          → GoesOn x (cursor_at kind (i + 1) o y) spools
       passes_on o over within rest not =
           let there : i < length (files_of y spools).whole
-          = subst (λ (m : ℕ). i < length (part m spools).whole) (same ∙ sym customer_is) within in
-          again (moved kind (i + 1) o y) spools
+          = subst (λ (m : ℕ). i < length (spool_at m spools).whole) (same ∙ sym customer_is) within in
+          again (cursor_at kind (i + 1) o y) spools
           (goes_to y kind (i + 1) o spools over.range
           (one_passed (goes_of y) kind (files_of y spools) i there before
           (sym (known y kind spools i f seen_there) ∙ not)) rest)
@@ -233,9 +233,9 @@ module _ (x y : FileCursor) (line : y ≡ record x { sysin = y.sysin; sysout = y
 -- a file that was asked for is Sending, and is passed as before
 pub sends_one :
     (x : FileCursor) (c n : ℕ) (old new : List CustomerSpool) → c ≡ x.id.customer → IsOver x old
-    → new ≡ slice_set old c (part c new) → part c new ≡ with_state n state.Sending (part c old) → IsOver x new
+    → new ≡ slice_set old c (spool_at c new) → spool_at c new ≡ with_state n state.Sending (spool_at c old) → IsOver x new
 sends_one x c n old new same over moves sends =
-    subst (λ m. new ≡ slice_set old m (part m new) → part m new ≡ with_state n state.Sending (part m old)
+    subst (λ m. new ≡ slice_set old m (spool_at m new) → spool_at m new ≡ with_state n state.Sending (spool_at m old)
     → IsOver x new) (sym same)
     (λ so is. record {
       range = as_long x.id.customer old new over.range so;

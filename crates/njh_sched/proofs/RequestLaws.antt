@@ -5,7 +5,7 @@ use Rattle.njh_block.specs.Codes.{kind_of}
 use Rattle.njh_block.specs.Writing.{Writing}
 use Rattle.njh_record.specs.declared.Kind.{Kind}
 use Rattle.njh_spool.specs.CustomerSpool.{CustomerSpool, WholeFile}
-use Rattle.njh_spool.specs.Spools.{part}
+use Rattle.njh_spool.specs.Spools.{spool_at}
 use Rattle.njh_stream.specs.Sending.{goes_by}
 use Rattle.njh_table.specs.TableFile.{NamedCustomer, entry_of}
 use Rattle.njh_table.specs.declared.LineId.{LineId}
@@ -96,12 +96,12 @@ module _ (entry : NamedCustomer) (id : LineId) (y : FileCursor)
   pub source_is :
       (source : Source) (b : Bool) (w v : Writing) (o p : Outlet) (old new : List CustomerSpool)
       → after_source (goes_of y) source (filling w o (files_of y old)) ≡ filling_where b v p (files_of y new)
-      → after_source (goes_by (entry_of entry) id.line) source (filling w o (part id.customer old))
-      ≡ filling_where b v p (part id.customer new)
+      → after_source (goes_by (entry_of entry) id.line) source (filling w o (spool_at id.customer old))
+      ≡ filling_where b v p (spool_at id.customer new)
   source_is source b w v o p old new e =
       subst (λ (x : FileCursor). after_source (goes_of x) source (filling w o (files_of x old))
       ≡ filling_where b v p (files_of x new)) line e
 
   pub spool_is : (old new : List CustomerSpool) → new ≡ slice_set old y.id.customer (files_of y new)
-      → new ≡ slice_set old id.customer (part id.customer new)
+      → new ≡ slice_set old id.customer (spool_at id.customer new)
   spool_is old new e = subst (λ (x : FileCursor). new ≡ slice_set old x.id.customer (files_of x new)) line e

@@ -5,7 +5,7 @@ use Rattle.njh_block.specs.Codes.{kind_of}
 use Rattle.njh_spool.specs.CustomerSpool.{WholeFile}
 use Rattle.njh_stream.specs.Sending.{next_of}
 use Rattle.njh_stream.specs.declared.sender.Sender.TheVariants.{Idle, Requested, Aborting}
-use Rattle.njh_sched.specs.NextBlock.{Filling, Source, after_source, data_item, is_sending, oldest, sender_at}
+use Rattle.njh_sched.specs.NextBlock.{Filling, Source, after_source, data_item, sends_file, oldest, sender_at}
 
 abbrev pub is_under : ℕ → Item → Bool
 is_under rcb (Data own srcb bytes) = own == rcb
@@ -41,7 +41,7 @@ pub record Asks (goes : WholeFile → Bool) (k : ℕ) (x y : Filling) : Type 0 w
 -- by it
 pub record Sends (k : ℕ) (x y : Filling) : Type 0 where
   pub lets : is_on x.outlet.peer k ≡ true
-  pub before : is_sending (sender_at k x.outlet) ≡ true
+  pub before : sends_file (sender_at k x.outlet) ≡ true
   pub item : y.block.items ≡ x.block.items ++ data_item k (next_of (sender_at k x.outlet) x.spool).stored ∷ []
   pub after : sender_at k y.outlet ≡ (next_of (sender_at k x.outlet) x.spool).sender
 

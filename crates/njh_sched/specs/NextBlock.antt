@@ -122,13 +122,13 @@ abbrev pub serving : Outlet → CustomerSpool → ℕ → Next → Candidate
 serving o s k next =
     record { item = data_item k next.stored; outlet = with_served k (with_sender k next.sender o); spool = s }
 
-abbrev pub is_sending : Sender → Bool
-is_sending (Sending n place) = true
-is_sending _ = false
+abbrev pub sends_file : Sender → Bool
+sends_file (Sending n place) = true
+sends_file _ = false
 
 -- whether a stream sends a file, and the peer lets it
 abbrev pub may_send : Outlet → ℕ → Bool
-may_send o k = is_on o.peer k && is_sending (sender_at k o)
+may_send o k = is_on o.peer k && sends_file (sender_at k o)
 
 unfoldable pub streams : List ℕ
 streams = 0 ∷ 1 ∷ 2 ∷ 3 ∷ 4 ∷ 5 ∷ 6 ∷ 7 ∷ []
@@ -196,11 +196,11 @@ pub record Filling : Type 0 where
   pub spool : CustomerSpool
   pub full : Bool  -- a candidate had no room: it waits for another block, and so do those behind it
 
-abbrev pub added : Candidate → Writing → Filling
-added c w = record { block = with_last c.item w; outlet = c.outlet; spool = c.spool; full = false }
+abbrev pub with_candidate : Candidate → Writing → Filling
+with_candidate c w = record { block = with_last c.item w; outlet = c.outlet; spool = c.spool; full = false }
 
 abbrev pub added_where : Bool → Candidate → Filling → Filling
-added_where true c x = added c x.block
+added_where true c x = with_candidate c x.block
 added_where false c x = record x { full = true }
 
 abbrev pub after_candidate : Option Candidate → Filling → Filling
@@ -224,8 +224,8 @@ filled_where true goes x = x
 filled_where false goes x = after_sources goes (sources x.block.limit x.outlet) x
 
 -- The block when it is filled; nothing is added where the peer suspends all.
-unfoldable pub filled : (WholeFile → Bool) → Filling → Filling
-filled goes x = filled_where (all_suspended x.outlet.peer) goes x
+unfoldable pub filled_block : (WholeFile → Bool) → Filling → Filling
+filled_block goes x = filled_where (all_suspended x.outlet.peer) goes x
 
 -- a block, an outlet and a customer's spool, as long as all had room
 abbrev pub filling : Writing → Outlet → CustomerSpool → Filling

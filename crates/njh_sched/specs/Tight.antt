@@ -2,7 +2,7 @@
 -- file of its own goes out.
 use Rattle.std.specs.Prelude.{ℕ, ◌-◌, Bool, true, false, nat_lt, cond, ◌&&◌}
 use Rattle.std.specs.List.{list_any}
-use Rattle.njh_spool.specs.CustomerSpool.{CustomerSpool, WholeFile, used}
+use Rattle.njh_spool.specs.CustomerSpool.{CustomerSpool, WholeFile, used_blocks}
 use Rattle.njh_spool.specs.declared.State.{State}
 use Rattle.njh_spool.specs.declared.State.TheVariants.{Sending}
 
@@ -19,7 +19,7 @@ sends_a_file s = list_any is_being_sent s.whole
 
 -- fewer than 16 blocks of the quota are left, and a file is being sent
 abbrev pub is_tight : CustomerSpool → Bool
-is_tight s = nat_lt (s.quota - used s) 16 && sends_a_file s
+is_tight s = nat_lt (s.quota - used_blocks s) 16 && sends_a_file s
 
 -- the function control sequence of a customer's blocks: streams wait where it is tight, and nothing does elsewhere
 abbrev pub own_fcs : CustomerSpool → ℕ × ℕ

@@ -2,12 +2,12 @@
 
 ghost use Rattle.std.specs.Prelude.{◌≡◌, ◌<◌, ◌≤◌, ◌-◌, ◌^◌, false, length, slice_get, ◌&&◌};
 ghost use Rattle.std.specs.Option.{option_map};
-ghost use Rattle.njh_spool.specs.Spools.{part};
+ghost use Rattle.njh_spool.specs.Spools.{spool_at};
 ghost use Rattle.njh_stream.specs.Sending.{destination_goes_by, node_goes_by};
 ghost use Rattle.njh_table.specs.TableFile.{entry_of};
 ghost use Rattle.njh_sched.specs.NextBlock.{is_ready, oldest, same_kind};
 ghost use Rattle.njh_sched.specs.code.FileCursor.{GoesOn, HasPassed, IsOver, files_of, first_file, goes_of, index_of};
-ghost use Rattle.njh_sched.specs.code.FileCursor.{is_known_to_go, moved, other};
+ghost use Rattle.njh_sched.specs.code.FileCursor.{is_known_to_go, cursor_at, other};
 
 use crate::files::{Elsewhere, goes_there, is_among, is_ready, other, pass_where, same_kind};
 use njh_header::Destination;
@@ -75,7 +75,7 @@ impl<'a> Cursor<'a> {
 
     /// Moves to an index for a kind, and to one for the other.
     fn set(&mut self, kind: Kind, index: u32, others: u32)
-        ensures { self.new ≡ moved kind index others self.old }
+        ensures { self.new ≡ cursor_at kind index others self.old }
     {
         match kind {
             Kind::In => {

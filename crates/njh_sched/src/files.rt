@@ -4,7 +4,7 @@ ghost use Rattle.std.specs.Prelude.{◌≡◌, ◌<◌, ◌-◌, ◌^◌, ◌==�
 ghost use Rattle.std.specs.Prelude.{IsSomeAnd, IsTrue};
 ghost use Rattle.std.specs.List.{list_any};
 ghost use Rattle.njh_spool.specs.CustomerSpool.{whole_numbered};
-ghost use Rattle.njh_spool.specs.Spools.{part};
+ghost use Rattle.njh_spool.specs.Spools.{spool_at};
 ghost use Rattle.njh_stream.specs.Sending.{node_goes_by};
 ghost use Rattle.njh_table.specs.TableFile.{entry_of};
 ghost use Rattle.njh_sched.specs.NextBlock.{is_ready, same_kind};
@@ -19,9 +19,9 @@ use njh_table::Customer;
 /// A customer's whole file by its index in order of arrival.
 pub fn file_at(customer: u16, index: u32, spool: &Spool) -> FileId
     requires range { customer < length spool.now }
-    requires index_range { index < length (part customer spool.now).whole }
-    ensures file { whole_numbered result (part customer spool.now) ≡ slice_get (part customer spool.now).whole index }
-    ensures number { IsSomeAnd (slice_get (part customer spool.now).whole index) (λ f. result ≡ f.number) }
+    requires index_range { index < length (spool_at customer spool.now).whole }
+    ensures file { whole_numbered result (spool_at customer spool.now) ≡ slice_get (spool_at customer spool.now).whole index }
+    ensures number { IsSomeAnd (slice_get (spool_at customer spool.now).whole index) (λ f. result ≡ f.number) }
 {
     spool.quota_holds(customer);
     spool.file_at(customer, index)

@@ -1,10 +1,10 @@
 //! The next block.
 
 ghost use Rattle.std.specs.Prelude.{◌≡◌, ◌<◌, length, slice_set};
-ghost use Rattle.njh_spool.specs.Spools.{part};
+ghost use Rattle.njh_spool.specs.Spools.{spool_at};
 ghost use Rattle.njh_stream.specs.Sending.{goes_by};
 ghost use Rattle.njh_table.specs.TableFile.{customer_at, entry_of};
-ghost use Rattle.njh_sched.specs.NextBlock.{sources, after_sources, filled, filling};
+ghost use Rattle.njh_sched.specs.NextBlock.{sources, after_sources, filled_block, filling};
 ghost use Rattle.njh_sched.specs.code.Filling.{filling_where, has_items};
 
 use crate::aborts::add_aborts;
@@ -33,9 +33,9 @@ fn add_all<L: Outgoing>(
 ) -> bool
     requires { id.customer < length spool.old }
     ensures source { after_sources (goes_by (entry_of entry.now) id.line) (sources writer.old.limit (L.outlet line.old))
-        (filling writer.old (L.outlet line.old) (part id.customer spool.old))
-        ≡ filling_where result writer.new (L.outlet line.new) (part id.customer spool.new) }
-    ensures spool { spool.new ≡ slice_set spool.old id.customer (part id.customer spool.new) }
+        (filling writer.old (L.outlet line.old) (spool_at id.customer spool.old))
+        ≡ filling_where result writer.new (L.outlet line.new) (spool_at id.customer spool.new) }
+    ensures spool { spool.new ≡ slice_set spool.old id.customer (spool_at id.customer spool.new) }
     ensures rest { L.rest line.new ≡ L.rest line.old }
 {
     if !add_answers(line, writer) {
@@ -57,7 +57,7 @@ fn add_all<L: Outgoing>(
 /// each idle stream a request for the oldest file that is Ready, of its kind, and goes by the line; the nodal messages,
 /// where the peer lets them; and records and ends of file of the streams that the peer lets send, in turn. The first
 /// that has no room waits for another block with all behind it. Nothing is added where the peer suspends all.
-#[tactic(auto, unfolding(crate::specs::NextBlock::filled))]
+#[tactic(auto, unfolding(crate::specs::NextBlock::filled_block))]
 pub fn fill<L: Outgoing>(
     line: &mut L,
     id: LineId,
@@ -67,13 +67,13 @@ pub fn fill<L: Outgoing>(
 ) -> bool
     requires range { id.customer < length spool.old }
     requires known { id.customer < length tables.now.customers }
-    ensures block { writer.new ≡ (filled (goes_by (entry_of (customer_at tables.now id.customer)) id.line)
-        (filling writer.old (L.outlet line.old) (part id.customer spool.old))).block }
-    ensures outlet { L.outlet line.new ≡ (filled (goes_by (entry_of (customer_at tables.now id.customer)) id.line)
-        (filling writer.old (L.outlet line.old) (part id.customer spool.old))).outlet }
+    ensures block { writer.new ≡ (filled_block (goes_by (entry_of (customer_at tables.now id.customer)) id.line)
+        (filling writer.old (L.outlet line.old) (spool_at id.customer spool.old))).block }
+    ensures outlet { L.outlet line.new ≡ (filled_block (goes_by (entry_of (customer_at tables.now id.customer)) id.line)
+        (filling writer.old (L.outlet line.old) (spool_at id.customer spool.old))).outlet }
     ensures spool { spool.new ≡ slice_set spool.old id.customer
-        (filled (goes_by (entry_of (customer_at tables.now id.customer)) id.line)
-        (filling writer.old (L.outlet line.old) (part id.customer spool.old))).spool }
+        (filled_block (goes_by (entry_of (customer_at tables.now id.customer)) id.line)
+        (filling writer.old (L.outlet line.old) (spool_at id.customer spool.old))).spool }
     ensures added { result ≡ has_items writer.new.items }
     // what isn't of its outlet stays
     ensures rest { L.rest line.new ≡ L.rest line.old }

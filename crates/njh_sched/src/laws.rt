@@ -3,7 +3,7 @@
 ghost use Rattle.std.specs.Prelude.{◌≡◌, ℕ, ◌<◌, ◌≤◌, Bool, true, false, List, length};
 ghost use Rattle.njh_block.specs.Blocks.{all_suspended, rcb_of};
 ghost use Rattle.njh_spool.specs.CustomerSpool.{WholeFile};
-ghost use Rattle.njh_sched.specs.NextBlock.{Filling, Source, after_source, after_sources, filled, is_sending};
+ghost use Rattle.njh_sched.specs.NextBlock.{Filling, Source, after_source, after_sources, filled_block, sends_file};
 ghost use Rattle.njh_sched.specs.NextBlock.{sender_at, sources};
 ghost use Rattle.njh_sched.specs.Laws.{Does, EachDoes, records_under};
 ghost use Rattle.njh_sched.specs.Carrying.{Carries, file_records};
@@ -11,9 +11,9 @@ ghost use Rattle.njh_sched.specs.Carrying.{Carries, file_records};
 use njh_stream::Sender;
 
 /// Where the peer suspends all, nothing is added and nothing moves.
-#[tactic(auto, unfolding(crate::specs::NextBlock::filled))]
+#[tactic(auto, unfolding(crate::specs::NextBlock::filled_block))]
 pub fn nothing_where_all_is_suspended()
-    ensures { (goes : WholeFile → Bool) (x : Filling) → all_suspended x.outlet.peer ≡ true → filled goes x ≡ x }
+    ensures { (goes : WholeFile → Bool) (x : Filling) → all_suspended x.outlet.peer ≡ true → filled_block goes x ≡ x }
 {}
 
 /// What each source of a block does to a stream, one after the other. A stream that isn't sending, or that the peer
@@ -28,10 +28,10 @@ pub fn sources_move_streams_so()
 {}
 
 /// A block is filled by its sources one after the other, where the peer doesn't suspend all.
-#[tactic(auto, unfolding(crate::specs::NextBlock::filled))]
+#[tactic(auto, unfolding(crate::specs::NextBlock::filled_block))]
 pub fn sources_fill_the_block()
     ensures { (goes : WholeFile → Bool) (x : Filling) → all_suspended x.outlet.peer ≡ false
-        → filled goes x ≡ after_sources goes (sources x.block.limit x.outlet) x }
+        → filled_block goes x ≡ after_sources goes (sources x.block.limit x.outlet) x }
 {}
 
 /// What a block carries under a stream's RCB. Of a stream that sends a file: the file's records from the place before
@@ -40,8 +40,8 @@ pub fn sources_fill_the_block()
 pub fn blocks_carry_files_in_order()
     ensures carried { (goes : WholeFile → Bool) (k n p : ℕ) (x : Filling) → k < 8 → k < length x.outlet.senders
         → sender_at k x.outlet ≡ Sender.Sending n p → p ≤ length (file_records n x.spool)
-        → Carries k n p (file_records n x.spool) (records_under (rcb_of k) x.block.items) (filled goes x) }
+        → Carries k n p (file_records n x.spool) (records_under (rcb_of k) x.block.items) (filled_block goes x) }
     ensures quiet { (goes : WholeFile → Bool) (k : ℕ) (x : Filling) → k < 8 → k < length x.outlet.senders
-        → is_sending (sender_at k x.outlet) ≡ false
-        → records_under (rcb_of k) (filled goes x).block.items ≡ records_under (rcb_of k) x.block.items }
+        → sends_file (sender_at k x.outlet) ≡ false
+        → records_under (rcb_of k) (filled_block goes x).block.items ≡ records_under (rcb_of k) x.block.items }
 {}

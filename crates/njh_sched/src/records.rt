@@ -2,7 +2,7 @@
 
 ghost use Rattle.std.specs.Prelude.{◌≡◌, ◌<◌, Bool, IsTrue, length, Some};
 ghost use Rattle.njh_spool.specs.CustomerSpool.{WholeFile};
-ghost use Rattle.njh_spool.specs.Spools.{part};
+ghost use Rattle.njh_spool.specs.Spools.{spool_at};
 ghost use Rattle.njh_stream.specs.Sending.{next_of};
 ghost use Rattle.njh_sched.specs.NextBlock.{turns, may_send, next_served, sender_at, serving};
 ghost use Rattle.njh_sched.specs.code.Filling.{room_of};
@@ -48,10 +48,10 @@ fn add_record<L: Outgoing>(
 ) -> bool
     requires { customer < length spool.old }
     ensures candidate { after_candidate
-        (Some (serving (L.outlet line.old) (part customer spool.old) stream
-        (next_of (sender_at stream (L.outlet line.old)) (part customer spool.old))))
-        (filling writer.old (L.outlet line.old) (part customer spool.old))
-        ≡ filling_where result writer.new (L.outlet line.new) (part customer spool.old) }
+        (Some (serving (L.outlet line.old) (spool_at customer spool.old) stream
+        (next_of (sender_at stream (L.outlet line.old)) (spool_at customer spool.old))))
+        (filling writer.old (L.outlet line.old) (spool_at customer spool.old))
+        ≡ filling_where result writer.new (L.outlet line.new) (spool_at customer spool.old) }
     ensures spool { spool.new ≡ spool.old }
     ensures room { IsTrue result → room_of writer.new < room_of writer.old }
     ensures rest { L.rest line.new ≡ L.rest line.old }
@@ -80,8 +80,8 @@ fn add_turns<L: Outgoing>(
 ) -> bool
     requires { customer < length spool.old }
     ensures source { (goes : WholeFile → Bool) → after_sources goes (turns writer.old.limit)
-        (filling writer.old (L.outlet line.old) (part customer spool.old))
-        ≡ filling_where result writer.new (L.outlet line.new) (part customer spool.old) }
+        (filling writer.old (L.outlet line.old) (spool_at customer spool.old))
+        ≡ filling_where result writer.new (L.outlet line.new) (spool_at customer spool.old) }
     ensures spool { spool.new ≡ spool.old }
     ensures rest { L.rest line.new ≡ L.rest line.old }
 {
@@ -104,8 +104,8 @@ pub fn add_records<L: Outgoing>(
 ) -> bool
     requires { customer < length spool.old }
     ensures source { (goes : WholeFile → Bool) → after_sources goes (turns writer.old.limit)
-        (filling writer.old (L.outlet line.old) (part customer spool.old))
-        ≡ filling_where result writer.new (L.outlet line.new) (part customer spool.old) }
+        (filling writer.old (L.outlet line.old) (spool_at customer spool.old))
+        ≡ filling_where result writer.new (L.outlet line.new) (spool_at customer spool.old) }
     ensures spool { spool.new ≡ spool.old }
     ensures rest { L.rest line.new ≡ L.rest line.old }
 {

@@ -2,7 +2,7 @@
 
 ghost use Rattle.std.specs.Prelude.{◌≡◌, ◌<◌, IsTrue, length, slice_set, Some};
 ghost use Rattle.njh_spool.specs.CustomerSpool.{with_state};
-ghost use Rattle.njh_spool.specs.Spools.{part};
+ghost use Rattle.njh_spool.specs.Spools.{spool_at};
 ghost use Rattle.njh_stream.specs.Sending.{goes_by};
 ghost use Rattle.njh_table.specs.TableFile.{entry_of};
 ghost use Rattle.njh_sched.specs.NextBlock.{StreamRequest, after_candidate, after_source, after_sources, asking};
@@ -35,11 +35,11 @@ fn ask<L: Outgoing>(
     writer: &mut BlockWriter,
 ) -> bool
     requires { customer < length spool.old }
-    ensures candidate { after_candidate (Some (asking (L.outlet line.old) (part customer spool.old) stream file))
-        (filling writer.old (L.outlet line.old) (part customer spool.old))
-        ≡ filling_where result writer.new (L.outlet line.new) (part customer spool.new) }
-    ensures spool { spool.new ≡ slice_set spool.old customer (part customer spool.new) }
-    ensures state { IsTrue result → part customer spool.new ≡ with_state file State.Sending (part customer spool.old) }
+    ensures candidate { after_candidate (Some (asking (L.outlet line.old) (spool_at customer spool.old) stream file))
+        (filling writer.old (L.outlet line.old) (spool_at customer spool.old))
+        ≡ filling_where result writer.new (L.outlet line.new) (spool_at customer spool.new) }
+    ensures spool { spool.new ≡ slice_set spool.old customer (spool_at customer spool.new) }
+    ensures state { IsTrue result → spool_at customer spool.new ≡ with_state file State.Sending (spool_at customer spool.old) }
     ensures rest { L.rest line.new ≡ L.rest line.old }
 {
     let out = Out::Control {
@@ -91,9 +91,9 @@ pub fn add_requests<L: Outgoing>(
 ) -> bool
     requires { id.customer < length spool.old }
     ensures source { after_sources (goes_by (entry_of entry.now) id.line) requests
-        (filling writer.old (L.outlet line.old) (part id.customer spool.old))
-        ≡ filling_where result writer.new (L.outlet line.new) (part id.customer spool.new) }
-    ensures spool { spool.new ≡ slice_set spool.old id.customer (part id.customer spool.new) }
+        (filling writer.old (L.outlet line.old) (spool_at id.customer spool.old))
+        ≡ filling_where result writer.new (L.outlet line.new) (spool_at id.customer spool.new) }
+    ensures spool { spool.new ≡ slice_set spool.old id.customer (spool_at id.customer spool.new) }
     ensures rest { L.rest line.new ≡ L.rest line.old }
 {
     if spool.files(id.customer) == 0 {

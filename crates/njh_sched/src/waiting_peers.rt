@@ -1,7 +1,7 @@
 //! When a customer's peers have to wait.
 
 ghost use Rattle.std.specs.Prelude.{◌≡◌, ◌<◌, length, slice_get};
-ghost use Rattle.njh_spool.specs.Spools.{part};
+ghost use Rattle.njh_spool.specs.Spools.{spool_at};
 ghost use Rattle.njh_stream.specs.Sending.{holds_of};
 ghost use Rattle.njh_table.specs.TableFile.{customer_at};
 ghost use Rattle.njh_sched.specs.Tight.{own_fcs, sends_a_file, is_being_sent};
@@ -17,8 +17,8 @@ const FEW: u32 = 16;
 /// Whether a customer's whole file of an index is being sent.
 fn is_sent_at(customer: u16, index: u32, spool: &Spool) -> bool
     requires range { customer < length spool.now }
-    requires index_range { index < length (part customer spool.now).whole }
-    ensures { result ≡ holds_of is_being_sent (slice_get (part customer spool.now).whole index) }
+    requires index_range { index < length (spool_at customer spool.now).whole }
+    ensures { result ≡ holds_of is_being_sent (slice_get (spool_at customer spool.now).whole index) }
 {
     let file = file_at(customer, index, spool);
     match spool.state(customer, file) {
@@ -30,7 +30,7 @@ fn is_sent_at(customer: u16, index: u32, spool: &Spool) -> bool
 /// Whether one of a customer's files is being sent.
 fn sends_a_file(customer: u16, spool: &Spool) -> bool
     requires { customer < length spool.now }
-    ensures { result ≡ sends_a_file (part customer spool.now) }
+    ensures { result ≡ sends_a_file (spool_at customer spool.now) }
 {
     for index in 0..spool.files(customer) {
         if is_sent_at(customer, index, spool) {
@@ -46,8 +46,8 @@ fn sends_a_file(customer: u16, spool: &Spool) -> bool
 pub fn own_fcs(customer: u16, spool: &Spool, tables: &Tables) -> Fcs
     requires range { customer < length spool.now }
     requires known { customer < length tables.now.customers }
-    requires quota { (customer_at tables.now customer).quota ≡ (part customer spool.now).quota }
-    ensures { result ≡ own_fcs (part customer spool.now) }
+    requires quota { (customer_at tables.now customer).quota ≡ (spool_at customer spool.now).quota }
+    ensures { result ≡ own_fcs (spool_at customer spool.now) }
 {
     spool.quota_holds(customer);
     let left = tables.customer(customer).quota() - spool.used(customer);

@@ -8,7 +8,7 @@ use Rattle.std.proofs.lemmas.List.Elements.{filter_map-append, All-map}
 use Rattle.njh_table.specs.declared.LineId.{LineId}
 use Rattle.njh_table.specs.TableFile.{TableFile, NamedLine, no_customer, customer_at, entry_of, HasLine}
 use Rattle.njh_hub.specs.Parts.{entries_of}
-use Rattle.njh_hub.specs.WholeHub.{Part, opened}
+use Rattle.njh_hub.specs.WholeHub.{Part, part_at_open}
 use Rattle.njh_hub.specs.WholeHub as hub
 use Rattle.njh_serve.specs.declared.endpoints.Endpoint.{Endpoint}
 
@@ -18,24 +18,24 @@ get_or-map_default f (x ∷ xs) zero d = refl
 get_or-map_default f (x ∷ xs) (suc k) d = get_or-map_default f xs k d
 
 -- a customer's part is that of its entry
-opened_part : (t : TableFile) (c : ℕ) → hub.part c (map opened (entries_of t)) ≡ opened (entry_of (customer_at t c))
-opened_part t c = get_or-map_default opened (entries_of t) c hub.no_entry
-    ∙ ap opened (get_or-map_default entry_of t.customers c no_customer)
+opened_part : (t : TableFile) (c : ℕ) → hub.part c (map part_at_open (entries_of t)) ≡ part_at_open (entry_of (customer_at t c))
+opened_part t c = get_or-map_default part_at_open (entries_of t) c hub.no_entry
+    ∙ ap part_at_open (get_or-map_default entry_of t.customers c no_customer)
 
 -- the hub has the lines of its tables
-pub opened_line : (t : TableFile) (line : LineId) → HasLine t line → hub.HasLine (map opened (entries_of t)) line
+pub opened_line : (t : TableFile) (line : LineId) → HasLine t line → hub.HasLine (map part_at_open (entries_of t)) line
 opened_line t line known =
     let e = entry_of (customer_at t line.customer) in
-    let here : length (hub.part line.customer (map opened (entries_of t))).customer.lines ≡ length (opened e).customer.lines =
+    let here : length (hub.part line.customer (map part_at_open (entries_of t))).customer.lines ≡ length (part_at_open e).customer.lines =
     ap (λ (p : Part). length p.customer.lines) (opened_part t line.customer) in
-    let states : length (opened e).customer.lines ≡ length e.lines = length-map e.lines _ in
+    let states : length (part_at_open e).customer.lines ≡ length e.lines = length-map e.lines _ in
     let entries : length e.lines ≡ length (customer_at t line.customer).lines =
     length-map (customer_at t line.customer).lines (λ (l : NamedLine). l.entry) in
     omega (arith, known, here, states, entries)
 
 -- so the lines of endpoints are lines of the hub
 pub opened_endpoints : (t : TableFile) (parts : List Part) (endpoints : List Endpoint)
-    → parts ≡ map opened (entries_of t)
+    → parts ≡ map part_at_open (entries_of t)
     → All (λ endpoint. HasLine t endpoint.line) endpoints → All (λ endpoint. hub.HasLine parts endpoint.line) endpoints
 opened_endpoints t parts endpoints fresh known = λ k port within.
     let here = opened_line t (get_or endpoints k port).line (known k port within) in
@@ -59,7 +59,7 @@ filter_map_more {X} h xs n x within at =
 
 -- lines that are served: one for each wire, and known to a hub of their tables
 pub served_lines : (t : TableFile) (parts : List Part) (endpoints : List Endpoint) (lines : List LineId)
-    → parts ≡ map opened (entries_of t) → lines ≡ map (λ endpoint. endpoint.line) endpoints
+    → parts ≡ map part_at_open (entries_of t) → lines ≡ map (λ endpoint. endpoint.line) endpoints
     → All (λ endpoint. HasLine t endpoint.line) endpoints → All (hub.HasLine parts) lines
 served_lines t parts endpoints lines fresh same known =
     opened_lines parts endpoints lines same (opened_endpoints t parts endpoints fresh known)

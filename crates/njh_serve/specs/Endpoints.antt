@@ -3,7 +3,7 @@ use Rattle.std.specs.Prelude.{◌==◌, if◌then◌else◌, List, map, Option, 
 use Rattle.std.specs.List.{filter_map, flat_map}
 use Rattle.std.specs.Option.{option_map}
 use Rattle.njh_table.specs.declared.LineId.{LineId}
-use Rattle.njh_table.specs.TableFile.{TableFile, NamedCustomer, NamedLine, owner_of}
+use Rattle.njh_table.specs.TableFile.{TableFile, NamedCustomer, NamedLine, line_named}
 use Rattle.njh_serve.specs.declared.endpoints.Endpoint.{Endpoint}
 use Rattle.njh_serve.specs.declared.endpoints.Site.{Site}
 use Rattle.njh_serve.specs.declared.endpoints.Site.TheVariants.{Port, Peer}
@@ -14,7 +14,7 @@ site_of l = elim l.peer [ Some address ↦ Some (Peer address) | None ↦ if l.p
 
 -- a line that is served, by its number
 abbrev pub endpoint_at : TableFile → NamedLine → Site → Option Endpoint
-endpoint_at t l site = option_map (λ line. record { line = line; site = site }) (owner_of t l.name)
+endpoint_at t l site = option_map (λ line. record { line = line; site = site }) (line_named t l.name)
 
 abbrev pub endpoint_of : TableFile → NamedLine → Option Endpoint
 endpoint_of t l = option_and_then (endpoint_at t l) (site_of l)

@@ -5,7 +5,7 @@ use Rattle.njh_table.specs.TableFile.{TableFile}
 use Rattle.njh_hub.specs.Service.{Happening, ArePossible, IsAttended, service_rounds}
 use Rattle.njh_hub.specs.Parts.{entries_of}
 use Rattle.njh_hub.specs.Turns.{no_quiets}
-use Rattle.njh_hub.specs.WholeHub.{Part, opened}
+use Rattle.njh_hub.specs.WholeHub.{Part, part_at_open}
 use Rattle.njh_hub.specs.Wires.{WireAct}
 use Rattle.njh_serve.specs.Endpoints.{endpoints_of, lines_of}
 use Rattle.njh_serve.specs.Opened.{IsApart}
@@ -33,7 +33,7 @@ pub record HasServed {W : Type 0} (passed : W → W → List WireAct → Type 0)
 -- port.
 pub record IsOpened {W : Type 0} (tables : TableFile) (service : Served W) : Type 0 where
   pub apart : IsApart (endpoints_of tables)
-  pub hub : service.hub ≡ map opened (entries_of tables)
+  pub hub : service.hub ≡ map part_at_open (entries_of tables)
   pub lines : service.lines ≡ lines_of (endpoints_of tables)
   pub calm : service.quiets ≡ no_quiets (lines_of (endpoints_of tables))
 
@@ -45,7 +45,7 @@ pub record AreServed (tables : TableFile) (turns : Option ℕ) : Type 0 where
   pub lines : List LineId
   pub quiets : List ℕ
   pub story : List Happening
-  pub hub_of : hub ≡ map opened (entries_of tables)
+  pub hub_of : hub ≡ map part_at_open (entries_of tables)
   pub lines_of_tables : lines ≡ lines_of (endpoints_of tables)
   pub calm : quiets ≡ no_quiets (lines_of (endpoints_of tables))
   pub many : length (service_rounds story) ≡ turn_count turns

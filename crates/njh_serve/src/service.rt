@@ -3,7 +3,7 @@
 ghost use Rattle.std.specs.Prelude.{◌≡◌, length, map, All, IfOk, OnErr, Err};
 ghost use Rattle.njh_hub.specs.Parts.{entries_of};
 ghost use Rattle.njh_hub.specs.Turns.{no_quiets};
-ghost use Rattle.njh_hub.specs.WholeHub.{opened};
+ghost use Rattle.njh_hub.specs.WholeHub.{part_at_open};
 ghost use Rattle.njh_table.specs.TableFile.{HasLine};
 ghost use Rattle.njh_serve.specs.Endpoints.{lines_of};
 ghost use Rattle.njh_serve.specs.Serving.{HasServed, turn_count};
@@ -78,7 +78,7 @@ impl<W: Drop, A: Drop> Service<W, A> {
     ) -> Result<Service<W, A>, HubFault>
         requires same { length wires.items ≡ length endpoints.now }
         requires known { All (λ endpoint. HasLine tables endpoint.line) endpoints.now }
-        ensures hub { IfOk result (λ service. service.hub ≡ map opened (entries_of tables)) }
+        ensures hub { IfOk result (λ service. service.hub ≡ map part_at_open (entries_of tables)) }
         ensures lines { IfOk result (λ service. service.lines ≡ lines_of endpoints.now) }
         ensures calm { IfOk result (λ service. service.quiets ≡ no_quiets (lines_of endpoints.now)) }
         ensures wires { IfOk result (λ service. service.wires ≡ wires.items) }

@@ -3,7 +3,7 @@
 ghost use Rattle.std.specs.Prelude.{◌≡◌, length, map, All, IfOk, OnOk};
 ghost use Rattle.njh_hub.specs.Parts.{entries_of};
 ghost use Rattle.njh_hub.specs.Turns.{no_quiets};
-ghost use Rattle.njh_hub.specs.WholeHub.{opened};
+ghost use Rattle.njh_hub.specs.WholeHub.{part_at_open};
 ghost use Rattle.njh_table.specs.TableFile.{HasLine};
 ghost use Rattle.njh_serve.specs.Endpoints.{endpoints_of, lines_of};
 ghost use Rattle.njh_serve.specs.Opened.{IsApart};

@@ -7,17 +7,17 @@ use Rattle.njh_table.specs.TableFile.{NamedLine, NamedCustomer, TableFile}
 -- ---- what stays
 
 -- a line but for its mark as up, which no table file gives
-abbrev pub unmarked : NamedLine → NamedLine
-unmarked l = record l { up = false }
+abbrev pub without_mark : NamedLine → NamedLine
+without_mark l = record l { up = false }
 
 -- a customer but for its routes
-abbrev pub unrouted : NamedCustomer → NamedCustomer
-unrouted c = record c { lines = map unmarked c.lines; routes = [] }
+abbrev pub without_routes : NamedCustomer → NamedCustomer
+without_routes c = record c { lines = map without_mark c.lines; routes = [] }
 
 -- tables that differ in routes alone, or not at all
 pub record AgreeButRoutes (old new : TableFile) : Type 0 where
   pub capacity : new.capacity ≡ old.capacity
-  pub customers : map unrouted new.customers ≡ map unrouted old.customers
+  pub customers : map without_routes new.customers ≡ map without_routes old.customers
 
 -- ---- what a customer is given
 

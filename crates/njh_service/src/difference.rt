@@ -1,7 +1,7 @@
 //! What differs between two tables, their routes aside.
 
 ghost use Rattle.std.specs.Prelude.{◌≡◌, None, length, map};
-ghost use Rattle.njh_service.specs.Revisions.{unmarked, unrouted, AgreeButRoutes};
+ghost use Rattle.njh_service.specs.Revisions.{without_mark, without_routes, AgreeButRoutes};
 
 use arrayvec::ArrayString;
 use njh_ebcdic::Name;
@@ -72,7 +72,7 @@ pub fn difference_of(tables: &Tables, other: &Tables) -> Option<Difference>
 
 /// What differs first between customers.
 fn of_customers(customers: &[Customer], others: &[Customer]) -> Option<Difference>
-    ensures { result ≡ None → map unrouted others.now ≡ map unrouted customers.now }
+    ensures { result ≡ None → map without_routes others.now ≡ map without_routes customers.now }
 {
     if others.len() != customers.len() {
         return Some(Difference::Customers);
@@ -88,7 +88,7 @@ fn of_customers(customers: &[Customer], others: &[Customer]) -> Option<Differenc
 
 /// What differs first between two customers.
 fn of_customer(customer: &Customer, other: &Customer) -> Option<Difference>
-    ensures { result ≡ None → unrouted other.now ≡ unrouted customer.now }
+    ensures { result ≡ None → without_routes other.now ≡ without_routes customer.now }
 {
     match customer_key(customer, other) {
         Some(key) => Some(Difference::Customer(customer.name(), key)),
@@ -123,7 +123,7 @@ fn customer_key(customer: &Customer, other: &Customer) -> Option<CustomerKey>
 /// What differs first between as many lines of two customers.
 fn of_lines(customer: Name, lines: &[Line], others: &[Line]) -> Option<Difference>
     requires { length others.now ≡ length lines.now }
-    ensures { result ≡ None → map unmarked others.now ≡ map unmarked lines.now }
+    ensures { result ≡ None → map without_mark others.now ≡ map without_mark lines.now }
 {
     for place in 0..lines.len() {
         match line_key(&lines[place], &others[place]) {
@@ -143,7 +143,7 @@ fn of_line(customer: Name, line: &Line, key: LineKey) -> Difference {
 
 /// What of two lines differs first.
 fn line_key(line: &Line, other: &Line) -> Option<LineKey>
-    ensures { result ≡ None → unmarked other.now ≡ unmarked line.now }
+    ensures { result ≡ None → without_mark other.now ≡ without_mark line.now }
 {
     if other.name() != line.name() {
         return Some(LineKey::Name);

@@ -11,10 +11,10 @@ use Rattle.njh_spool.specs.declared.SpoolFault.TheVariants.{QuotaFull, TooManyFi
 use Rattle.njh_spool.specs.declared.file_slot.Stage.{Stage}
 use Rattle.njh_spool.specs.declared.file_slot.Stage.TheVariants.{Free, Partial, Whole}
 use Rattle.njh_spool.specs.declared.customer_files.CustomerFiles.{CustomerFiles}
-use Rattle.njh_spool.specs.CustomerSpool.{CustomerSpool, WholeFile, PartialFile, used, has_file_room, has_block, is_number, next_number}
-use Rattle.njh_spool.specs.CustomerSpool.{begun}
+use Rattle.njh_spool.specs.CustomerSpool.{CustomerSpool, WholeFile, PartialFile, used_blocks, has_file_room, has_block, is_number, next_number}
+use Rattle.njh_spool.specs.CustomerSpool.{with_new_partial}
 use Rattle.njh_spool.specs.Spools.{begin_fault, fault_unless}
-use Rattle.njh_spool.specs.code.Slots.{Content, is_partial, is_whole, is_free, whole_file, partial_file, spool_of, IsOwn}
+use Rattle.njh_spool.specs.code.Slots.{Content, is_partial, is_whole_stage, is_free, whole_file, partial_file, spool_of, IsOwn}
 use Rattle.njh_spool.proofs.OnlyOne.{list_any-from_count, count_by_none}
 use Rattle.njh_spool.proofs.NumberLaws.{least_from_is, next_number-below, next_number-free}
 use Rattle.njh_spool.proofs.BegunLaws.{used-begun, sound_begun}
@@ -34,7 +34,7 @@ listed : (b : Bool) (xs : List ℕ) (n : ℕ) → count_by (is_at n) xs ≡ cond
 listed true xs n count = list_any-once xs n count
 listed false xs n count = list_any-from_count (is_at n) xs count
 
-by_stage : (stage : Stage) → (is_whole stage || is_partial stage) ≡ not (is_free stage)
+by_stage : (stage : Stage) → (is_whole_stage stage || is_partial stage) ≡ not (is_free stage)
 by_stage Free = refl
 by_stage Partial = refl
 by_stage (Whole state) = refl
@@ -62,8 +62,8 @@ module _ (own : CustomerFiles) (files : ℕ → Content) (is : IsOwn own files) 
   pub number_is-free : (n : ℕ) → is_number n (spool_of own files) ≡ not (is_free (files n).stage)
   number_is-free n =
       ap (λ (b : Bool). b || list_any (laws.is_partial n) (map (partial_file files) own.partial)) (whole-any files n own.whole
-      ∙ listed (is_whole (files n).stage) own.whole n (is.whole_once n))
-      ∙ ap (λ (b : Bool). is_whole (files n).stage || b) (partial-any files n own.partial ∙ listed (is_partial (files n).stage)
+      ∙ listed (is_whole_stage (files n).stage) own.whole n (is.whole_once n))
+      ∙ ap (λ (b : Bool). is_whole_stage (files n).stage || b) (partial-any files n own.partial ∙ listed (is_partial (files n).stage)
       own.partial n (is.partial_once n))
       ∙ by_stage (files n).stage
 
@@ -87,12 +87,12 @@ module _ (own : CustomerFiles) (files : ℕ → Content) (is : IsOwn own files) 
       begin_fault (spool_of own files) ≡ Some QuotaFull
   begin_fault-full room full =
       fault_is true false (lt-ltb (length (map (whole_file files) own.whole) + length (map (partial_file files) own.partial))
-      own.limit (omega (arith, lengths))) (le-ltb (used (spool_of own files)) own.quota (omega (arith, is.counted)))
+      own.limit (omega (arith, lengths))) (le-ltb (used_blocks (spool_of own files)) own.quota (omega (arith, is.counted)))
 
   pub begin_fault-none : length own.whole + length own.partial < own.limit → own.used < own.quota → begin_fault (spool_of own files) ≡ None
   begin_fault-none room block =
       fault_is true true (lt-ltb (length (map (whole_file files) own.whole) + length (map (partial_file files) own.partial))
-      own.limit (omega (arith, lengths))) (lt-ltb (used (spool_of own files)) own.quota (omega (arith, is.counted)))
+      own.limit (omega (arith, lengths))) (lt-ltb (used_blocks (spool_of own files)) own.quota (omega (arith, is.counted)))
 
   not_not : (b : Bool) → not b ≡ false → b ≡ true
   not_not true e = refl
@@ -119,12 +119,12 @@ module _ (own : CustomerFiles) (files : ℕ → Content) (is : IsOwn own files) 
   pub begins : (n : ℕ) (kind : Kind) (x : Content) (own' : CustomerFiles) → length own.whole + length own.partial < own.limit →
       n ≡ next_number (spool_of own files) → is_free (files n).stage ≡ true →
       x ≡ record { stage = Partial; kind = kind; records = [] } → own' ≡ record own { partial = own.partial ++ n ∷ [] } →
-      IsOwn own' (put files n x) × (spool_of own' (put files n x) ≡ begun kind (spool_of own files))
+      IsOwn own' (put files n x) × (spool_of own' (put files n x) ≡ with_new_partial kind (spool_of own files))
   begins n kind x own' room next free same owns =
       let stays : x.stage ≡ Partial = ap (λ (y : Content). y.stage) same in
       let new : CustomerFiles = record own { partial = own.partial ++ n ∷ [] } in
       let stage : (files n).stage ≡ Free = free_is (files n).stage free in
-      let not_whole = listed (is_whole (files n).stage) own.whole n (is.whole_once n) ∙ ap is_whole stage in
+      let not_whole = listed (is_whole_stage (files n).stage) own.whole n (is.whole_once n) ∙ ap is_whole_stage stage in
       let not_partial = listed (is_partial (files n).stage) own.partial n (is.partial_once n) ∙ ap is_partial stage in
       let last : partial_file (put files n x) n ≡ partial_from (next_number (spool_of own files))
       (record { stage = Partial; kind = kind; records = [] }) =
@@ -135,14 +135,14 @@ module _ (own : CustomerFiles) (files : ℕ → Content) (is : IsOwn own files) 
       map-append (partial_file (put files n x)) own.partial (n ∷ [])
       ∙ ap (λ (fs : List PartialFile). fs ++ partial_file (put files n x) n ∷ []) (partial-put files n x own.partial not_partial)
       ∙ ap (λ (f : PartialFile). map (partial_file files) own.partial ++ f ∷ []) last in
-      let is_now : spool_of new (put files n x) ≡ begun kind (spool_of own files) =
+      let is_now : spool_of new (put files n x) ≡ with_new_partial kind (spool_of own files) =
       ap (λ (fs : List WholeFile). spool_with own fs (map (partial_file (put files n x)) (own.partial ++ n ∷ [])))
       (whole-put files n x own.whole not_whole)
       ∙ ap (spool_with own (map (whole_file files) own.whole)) partial_now in
       let kept : IsOwn new (put files n x) = record {
-        counted = is.counted ∙ sym (used-begun kind (spool_of own files)) ∙ ap used (sym is_now);
+        counted = is.counted ∙ sym (used-begun kind (spool_of own files)) ∙ ap used_blocks (sym is_now);
         sound = rw is_now (sound_begun kind (spool_of own files) is.sound (omega (arith, lengths)));
-        whole_once = λ m. is.whole_once m ∙ sym (counted-put is_whole files n x (ap is_whole stays ∙ sym (ap is_whole stage)) m);
+        whole_once = λ m. is.whole_once m ∙ sym (counted-put is_whole_stage files n x (ap is_whole_stage stays ∙ sym (ap is_whole_stage stage)) m);
         partial_once = λ m.
             elim (cases_eq m n) [
               | inl same_number ↦

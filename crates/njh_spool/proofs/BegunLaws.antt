@@ -5,7 +5,7 @@ use Rattle.std.proofs.lemmas.Bool.{cases_eq, or_parts, ne_eqb}
 use Rattle.std.proofs.lemmas.List.{length_push}
 use Rattle.std.proofs.lemmas.List.Sums.{sum_by_push}
 use Rattle.njh_record.specs.declared.Kind.{Kind}
-use Rattle.njh_spool.specs.CustomerSpool.{CustomerSpool, PartialFile, cost, used, is_number, next_number, begun}
+use Rattle.njh_spool.specs.CustomerSpool.{CustomerSpool, PartialFile, cost, used_blocks, is_number, next_number, with_new_partial}
 use Rattle.njh_spool.specs.Spools.{IsSound, files_numbered}
 use Rattle.njh_spool.proofs.OnlyOne.{count_by_none}
 use Rattle.njh_spool.proofs.NumberLaws.{next_number-below, next_number-free}
@@ -19,14 +19,14 @@ no_file-numbered n s free =
 abbrev new_file : Kind → CustomerSpool → PartialFile
 new_file kind s = record { number = next_number s; kind = kind; records = [] }
 
-numbered-begun : (n : ℕ) (kind : Kind) (s : CustomerSpool) → files_numbered n (begun kind s) ≡ files_numbered n s + cond
+numbered-begun : (n : ℕ) (kind : Kind) (s : CustomerSpool) → files_numbered n (with_new_partial kind s) ≡ files_numbered n s + cond
     (eqb (next_number s) n) 1 0
 numbered-begun n kind s = omega (arith, sum_by_push (λ f. cond (is_partial n f) 1 0) s.partial (new_file kind s))
 
-pub used-begun : (kind : Kind) (s : CustomerSpool) → used (begun kind s) ≡ used s
+pub used-begun : (kind : Kind) (s : CustomerSpool) → used_blocks (with_new_partial kind s) ≡ used_blocks s
 used-begun kind s = omega (arith, sum_by_push (λ (f : PartialFile). cost f.records) s.partial (new_file kind s))
 
-pub sound_begun : (kind : Kind) (s : CustomerSpool) → IsSound s → length s.whole + length s.partial < s.limit → IsSound (begun kind s)
+pub sound_begun : (kind : Kind) (s : CustomerSpool) → IsSound s → length s.whole + length s.partial < s.limit → IsSound (with_new_partial kind s)
 sound_begun kind s sound room =
     let below = next_number-below s room in
     let free = no_file-numbered (next_number s) s (next_number-free s room) in

@@ -9,11 +9,11 @@ use Rattle.njh_spool.specs.declared.file_slot.Stage.TheVariants.{Free, Partial, 
 use Rattle.njh_spool.specs.declared.file_slot.FileSlot.{FileSlot}
 use Rattle.njh_spool.specs.declared.customer_files.CustomerFiles.{CustomerFiles}
 use Rattle.njh_spool.specs.code.Chains.{Chain, StoreValue, empty_chain, chain_at, with_chain, blocks_of, blocks_used}
-use Rattle.njh_spool.specs.CustomerSpool.{CustomerSpool, WholeFile, cost, used, stored_size, partial_numbered}
-use Rattle.njh_spool.specs.CustomerSpool.{whole_numbered, abandoned, finished, removed, on_file}
-use Rattle.njh_spool.specs.Spools.{part, append_fault, records_numbered}
+use Rattle.njh_spool.specs.CustomerSpool.{CustomerSpool, WholeFile, cost, used_blocks, stored_size, partial_numbered}
+use Rattle.njh_spool.specs.CustomerSpool.{whole_numbered, without_partial, with_finished, without_whole, on_file}
+use Rattle.njh_spool.specs.Spools.{spool_at, append_fault, records_numbered}
 use Rattle.njh_spool.specs.code.Packing.{packed_record}
-use Rattle.njh_spool.specs.code.Slots.{Content, contents, slot_of, chain_of, is_free, is_partial, is_whole}
+use Rattle.njh_spool.specs.code.Slots.{Content, contents, slot_of, chain_of, is_free, is_partial, is_whole_stage}
 use Rattle.njh_spool.specs.code.Slots.{whole_file, partial_file, spools_of, IsKept}
 use Rattle.njh_spool.proofs.CostLaws.{cost_push}
 use Rattle.njh_spool.proofs.IndexLaws.{at_is, small_used}
@@ -26,23 +26,23 @@ use Rattle.njh_spool.proofs.WholeLaws as whole
 
 -- where a call finds no partial file
 pub record FindsNoPartial (spools : List CustomerSpool) (c n : ℕ) : Type 0 where
-  pub none : partial_numbered n (part c spools) ≡ None
-  pub appends : (r : Stored) → append_fault n r (part c spools) ≡ Some NoSuchFile
-  pub abandons : spools ≡ set spools c (abandoned n (part c spools))
-  pub finishes : spools ≡ set spools c (finished n (part c spools))
+  pub none : partial_numbered n (spool_at c spools) ≡ None
+  pub appends : (r : Stored) → append_fault n r (spool_at c spools) ≡ Some NoSuchFile
+  pub abandons : spools ≡ set spools c (without_partial n (spool_at c spools))
+  pub finishes : spools ≡ set spools c (with_finished n (spool_at c spools))
 
 -- where it finds no whole one
 pub record FindsNoWhole (spools : List CustomerSpool) (c n : ℕ) : Type 0 where
-  pub none : whole_numbered n (part c spools) ≡ None
-  pub removes : spools ≡ set spools c (removed n (part c spools))
-  pub changes : (change : WholeFile → WholeFile) → spools ≡ set spools c (on_file n change (part c spools))
+  pub none : whole_numbered n (spool_at c spools) ≡ None
+  pub removes : spools ≡ set spools c (without_whole n (spool_at c spools))
+  pub changes : (change : WholeFile → WholeFile) → spools ≡ set spools c (on_file n change (spool_at c spools))
 
 pub not_free-partial : (stage : Stage) → is_partial stage ≡ true → is_free stage ≡ false
 not_free-partial Free e = cc
 not_free-partial Partial e = refl
 not_free-partial (Whole state) e = refl
 
-pub not_free-whole : (stage : Stage) → is_whole stage ≡ true → is_free stage ≡ false
+pub not_free-whole : (stage : Stage) → is_whole_stage stage ≡ true → is_free stage ≡ false
 not_free-whole Free e = cc
 not_free-whole Partial e = refl
 not_free-whole (Whole state) e = refl
@@ -80,20 +80,20 @@ module _ (store : StoreValue) (slots : List FileSlot) (customers : List Customer
       record {
         none = ap (partial_numbered n) has.part ∙ no.none;
         appends = λ r. ap (append_fault n r) has.part ∙ no.appends r;
-        abandons = stays customers (contents slots store.chains) c (abandoned n (part c spools)) (has.part ∙ sym no.abandons
-            ∙ ap (abandoned n) (sym has.part));
-        finishes = stays customers (contents slots store.chains) c (finished n (part c spools)) (has.part ∙ sym no.finishes
-            ∙ ap (finished n) (sym has.part));
+        abandons = stays customers (contents slots store.chains) c (without_partial n (spool_at c spools)) (has.part ∙ sym no.abandons
+            ∙ ap (without_partial n) (sym has.part));
+        finishes = stays customers (contents slots store.chains) c (with_finished n (spool_at c spools)) (has.part ∙ sym no.finishes
+            ∙ ap (with_finished n) (sym has.part));
       }
 
-  pub finds_no_whole : is_whole slot.stage ≡ false → FindsNoWhole spools c n
+  pub finds_no_whole : is_whole_stage slot.stage ≡ false → FindsNoWhole spools c n
   finds_no_whole other =
       let no = whole.has_no_whole own files n has.own other in
       record {
         none = ap (whole_numbered n) has.part ∙ no.none;
-        removes = stays customers (contents slots store.chains) c (removed n (part c spools)) (has.part ∙ sym no.removes
-            ∙ ap (removed n) (sym has.part));
-        changes = λ change. stays customers (contents slots store.chains) c (on_file n change (part c spools))
+        removes = stays customers (contents slots store.chains) c (without_whole n (spool_at c spools)) (has.part ∙ sym no.removes
+            ∙ ap (without_whole n) (sym has.part));
+        changes = λ change. stays customers (contents slots store.chains) c (on_file n change (spool_at c spools))
             (has.part ∙ sym (no.changes change) ∙ ap (on_file n change) (sym has.part));
       }
 
@@ -101,28 +101,28 @@ module _ (store : StoreValue) (slots : List FileSlot) (customers : List Customer
   chain_is small = sym (at_is store.chains empty_chain c n small)
 
   -- what a call finds
-  pub finds_partial : is_partial slot.stage ≡ true → partial_numbered n (part c spools) ≡ Some (partial_file files n)
+  pub finds_partial : is_partial slot.stage ≡ true → partial_numbered n (spool_at c spools) ≡ Some (partial_file files n)
   finds_partial there = ap (partial_numbered n) has.part ∙ partial.partial_is own files n has.own (stage_of slot.stage there)
 
-  pub finds_whole : is_whole slot.stage ≡ true → whole_numbered n (part c spools) ≡ Some (whole_file files n)
+  pub finds_whole : is_whole_stage slot.stage ≡ true → whole_numbered n (spool_at c spools) ≡ Some (whole_file files n)
   finds_whole there = ap (whole_numbered n) has.part ∙ whole.whole_is own files n has.own there (not_partial_of slot.stage there)
 
-  pub finds_records : is_free slot.stage ≡ false → records_numbered n (part c spools) ≡ Some (files n).records
+  pub finds_records : is_free slot.stage ≡ false → records_numbered n (spool_at c spools) ≡ Some (files n).records
   finds_records used' = ap (records_numbered n) has.part ∙ (has_file own files n has.own used').records
 
-  pub finds_no_records : is_free slot.stage ≡ true → records_numbered n (part c spools) ≡ None
+  pub finds_no_records : is_free slot.stage ≡ true → records_numbered n (spool_at c spools) ≡ None
   finds_no_records free = ap (records_numbered n) has.part ∙ (has_no_file own files n has.own free).records
 
   pub small_partial : is_partial slot.stage ≡ true → n < 1024
   small_partial there = small_used slots c n (not_free-partial slot.stage there)
 
-  pub small_whole : is_whole slot.stage ≡ true → n < 1024
+  pub small_whole : is_whole_stage slot.stage ≡ true → n < 1024
   small_whole there = small_used slots c n (not_free-whole slot.stage there)
 
   pub enough_partial : is_partial slot.stage ≡ true → cost (files n).records ≤ own.used
   enough_partial there = partial.covered own files n has.own (stage_of slot.stage there)
 
-  pub enough_whole : is_whole slot.stage ≡ true → cost (files n).records ≤ own.used
+  pub enough_whole : is_whole_stage slot.stage ≡ true → cost (files n).records ≤ own.used
   enough_whole there = whole.covered own files n has.own there (not_partial_of slot.stage there)
 
   longer_is : (r : Stored) → blocks_of (chain.bytes ++ packed_record r) ≡ cost ((files n).records ++ r ∷ [])
@@ -132,13 +132,13 @@ module _ (store : StoreValue) (slots : List FileSlot) (customers : List Customer
       ap (λ (k : ℕ). (k + 251) / 252) size ∙ sym (cost_push (files n).records r)
 
   pub append_full : (r : Stored) → is_partial slot.stage ≡ true → own.quota < own.used - blocks_of chain.bytes + blocks_of
-      (chain.bytes ++ packed_record r) → append_fault n r (part c spools) ≡ Some QuotaFull
+      (chain.bytes ++ packed_record r) → append_fault n r (spool_at c spools) ≡ Some QuotaFull
   append_full r there over =
       ap (append_fault n r) has.part ∙ partial.append_fault-full own files n has.own (stage_of slot.stage there) r
       (omega (arith, blocks_are, longer_is r))
 
   pub append_fits : (r : Stored) → is_partial slot.stage ≡ true → own.used - blocks_of chain.bytes + blocks_of
-      (chain.bytes ++ packed_record r) ≤ own.quota → append_fault n r (part c spools) ≡ None
+      (chain.bytes ++ packed_record r) ≤ own.quota → append_fault n r (spool_at c spools) ≡ None
   append_fits r there fits =
       ap (append_fault n r) has.part ∙ partial.append_fault-none own files n has.own (stage_of slot.stage there) r
       (omega (arith, blocks_are, longer_is r))
@@ -146,12 +146,12 @@ module _ (store : StoreValue) (slots : List FileSlot) (customers : List Customer
   -- the store has room for what the quota leaves
   pub room : (r : Stored) (keys : List ℕ) → is_partial slot.stage ≡ true → n < 1024 → own.used - blocks_of chain.bytes +
       blocks_of (chain.bytes ++ packed_record r) ≤ own.quota →
-      ((blocks : ℕ) → used (part c spools) + blocks ≤ (part c spools).quota → sum_by used spools + blocks ≤ store.capacity) →
+      ((blocks : ℕ) → used_blocks (spool_at c spools) + blocks ≤ (spool_at c spools).quota → sum_by used_blocks spools + blocks ≤ store.capacity) →
       blocks_used (with_chain (1024 * c + n) (record { keys = keys; bytes = chain.bytes ++ packed_record r }) store) ≤ store.capacity
   room r keys there small fits leaves =
       let more = blocks_of (chain.bytes ++ packed_record r) - blocks_of chain.bytes in
       let enough = partial.covered own files n has.own (stage_of slot.stage there) in
-      let used_is = ap used has.part in
+      let used_is = ap used_blocks has.part in
       let quota_is = ap (λ (s : CustomerSpool). s.quota) has.part in
       let grows : blocks_of chain.bytes ≤ blocks_of (chain.bytes ++ packed_record r) =
       omega (arith, length-append chain.bytes (packed_record r)) in

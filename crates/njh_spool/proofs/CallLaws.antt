@@ -16,11 +16,11 @@ use Rattle.njh_spool.specs.declared.file_slot.KeptPlaces.{KeptPlaces}
 use Rattle.njh_spool.specs.declared.customer_files.CustomerFiles.{CustomerFiles}
 use Rattle.njh_spool.specs.code.Chains.{Chain, StoreValue, empty_chain, with_chain, blocks_of}
 use Rattle.njh_spool.specs.CustomerSpool.{CustomerSpool, cost, stored_size, next_number}
-use Rattle.njh_spool.specs.CustomerSpool.{begun, appended, abandoned, finished, removed, with_state, rewritten}
+use Rattle.njh_spool.specs.CustomerSpool.{with_new_partial, with_appended, without_partial, with_finished, without_whole, with_state, with_rewritten_bytes}
 use Rattle.njh_spool.specs.CustomerSpool.{at_index, rewritten_record}
-use Rattle.njh_spool.specs.Spools.{part}
-use Rattle.njh_spool.specs.code.Packing.{packed_record, packed, unpacked, IsShort}
-use Rattle.njh_spool.specs.code.Slots.{Content, content, contents, slot_of, chain_of, free_slot, no_files, is_free, is_partial, is_whole}
+use Rattle.njh_spool.specs.Spools.{spool_at}
+use Rattle.njh_spool.specs.code.Packing.{packed_record, packed_bytes, unpacked_records, IsShort}
+use Rattle.njh_spool.specs.code.Slots.{Content, content, contents, slot_of, chain_of, free_slot, no_files, is_free, is_partial, is_whole_stage}
 use Rattle.njh_spool.specs.code.Slots.{whole_file, spool_of, spools_of, first_places, ArePlaces, IsOwn, IsFile, KeepsHeaders, IsKept}
 use Rattle.njh_spool.specs.Headers.{header_count, kept_headers}
 use Rattle.njh_spool.specs.declared.file_headers.KeptHeaders.{KeptHeaders}
@@ -76,13 +76,13 @@ module _ (store : StoreValue) (slots : List FileSlot) (customers : List Customer
       own'.quota ≡ own.quota → blocks_of chain'.bytes + own.used ≡ blocks_of chain.bytes + own'.used → IsFile slot' chain' →
       KeepsHeaders slot' chain' → IsOwn own' (put files n (content slot' chain')) × (spool_of own' (put files n (content slot' chain')) ≡ call
       (spool_of own files)) → Moves store slots customers (with_chain (1024 * c + n) chain' store)
-      (set slots (1024 * c + n) slot') (set customers c own') c (call (part c spools))
+      (set slots (1024 * c + n) slot') (set customers c own') c (call (spool_at c spools))
   goes call slot' chain' own' small quota blocks file headers owns =
-      moves store slots customers c n slot' chain' own' kept has small (call (part c spools)) quota blocks file headers
+      moves store slots customers c n slot' chain' own' kept has small (call (spool_at c spools)) quota blocks file headers
       (owns.0, owns.1 ∙ ap call (sym has.part))
 
   -- a slot without a whole file keeps nothing
-  keeps_none : (slot' : FileSlot) (chain' : Chain) → is_whole slot'.stage ≡ false → KeepsHeaders slot' chain'
+  keeps_none : (slot' : FileSlot) (chain' : Chain) → is_whole_stage slot'.stage ≡ false → KeepsHeaders slot' chain'
   keeps_none slot' chain' other = λ whole. absurd (let clash : false ≡ true = sym other ∙ whole in cc)
 
   empty_file : (slot' : FileSlot) (keys : List ℕ) → slot'.count ≡ 0 → slot'.places ≡ first_places → IsFile slot'
@@ -94,29 +94,29 @@ module _ (store : StoreValue) (slots : List FileSlot) (customers : List Customer
   pub abandons : (slot' : FileSlot) (own' : CustomerFiles) → is_partial slot.stage ≡ true → slot' ≡ free_slot →
       own' ≡ record own { used = own.used - blocks_of chain.bytes; partial = filter (λ m. not (eqb m n)) own.partial } →
       n < 1024 → Moves store slots customers (with_chain (1024 * c + n) empty_chain store) (set slots (1024 * c + n) slot')
-      (set customers c own') c (abandoned n (part c spools))
+      (set customers c own') c (without_partial n (spool_at c spools))
   abandons slot' own' there free owns small =
       let stage = stage_of slot.stage there in
       let enough = partial.covered own files n has.own stage in
       let now = owns ∙ ap (λ (b : ℕ). record own { used = own.used - b; partial = filter (λ m. not (eqb m n)) own.partial }) blocks_are in
       let left : own'.used ≡ own.used - cost (files n).records = ap (λ (o : CustomerFiles). o.used) now in
-      goes (abandoned n) slot' empty_chain own' small (ap (λ (o : CustomerFiles). o.quota) owns)
+      goes (without_partial n) slot' empty_chain own' small (ap (λ (o : CustomerFiles). o.quota) owns)
       (omega (arith, left, enough, blocks_are)) (empty_file slot' [] (ap (λ (x : FileSlot). x.count) free)
-      (ap (λ (x : FileSlot). x.places) free)) (keeps_none slot' empty_chain (ap (λ (x : FileSlot). is_whole x.stage) free))
+      (ap (λ (x : FileSlot). x.places) free)) (keeps_none slot' empty_chain (ap (λ (x : FileSlot). is_whole_stage x.stage) free))
       (partial.abandons own files n has.own stage (content slot' empty_chain) own' (ap (λ (x : FileSlot). x.stage) free) now)
 
-  pub removes : (slot' : FileSlot) (own' : CustomerFiles) → is_whole slot.stage ≡ true → slot' ≡ free_slot →
+  pub removes : (slot' : FileSlot) (own' : CustomerFiles) → is_whole_stage slot.stage ≡ true → slot' ≡ free_slot →
       own' ≡ record own { used = own.used - blocks_of chain.bytes; whole = filter (λ m. not (eqb m n)) own.whole } → n < 1024 →
       Moves store slots customers (with_chain (1024 * c + n) empty_chain store) (set slots (1024 * c + n) slot')
-      (set customers c own') c (removed n (part c spools))
+      (set customers c own') c (without_whole n (spool_at c spools))
   removes slot' own' there free owns small =
       let other = not_partial_of slot.stage there in
       let enough = whole.covered own files n has.own there other in
       let now = owns ∙ ap (λ (b : ℕ). record own { used = own.used - b; whole = filter (λ m. not (eqb m n)) own.whole }) blocks_are in
       let left : own'.used ≡ own.used - cost (files n).records = ap (λ (o : CustomerFiles). o.used) now in
-      goes (removed n) slot' empty_chain own' small (ap (λ (o : CustomerFiles). o.quota) owns)
+      goes (without_whole n) slot' empty_chain own' small (ap (λ (o : CustomerFiles). o.quota) owns)
       (omega (arith, left, enough, blocks_are)) (empty_file slot' [] (ap (λ (x : FileSlot). x.count) free)
-      (ap (λ (x : FileSlot). x.places) free)) (keeps_none slot' empty_chain (ap (λ (x : FileSlot). is_whole x.stage) free))
+      (ap (λ (x : FileSlot). x.places) free)) (keeps_none slot' empty_chain (ap (λ (x : FileSlot). is_whole_stage x.stage) free))
       (whole.removes own files n has.own there other (content slot' empty_chain) own' (ap (λ (x : FileSlot). x.stage) free) now)
 
   -- the file has another stage, and is not free
@@ -136,40 +136,40 @@ module _ (store : StoreValue) (slots : List FileSlot) (customers : List Customer
       is_partial slot.stage ≡ true → own' ≡ record own { whole = own.whole ++ n ∷ []; partial = filter (λ m. not (eqb m n)) own.partial } →
       n < 1024 → Moves store slots customers store
       (set slots (1024 * c + n) (record slot { stage = Whole Ready; headers = headers })) (set customers c own') c
-      (finished n (part c spools))
+      (with_finished n (spool_at c spools))
   finishes own' headers said there owns small =
       let stage = stage_of slot.stage there in
       let slot' : FileSlot = record slot { stage = Whole Ready; headers = headers } in
       let blocks = ap (λ (o : CustomerFiles). o.used) owns in
       subst (λ (t : StoreValue). Moves store slots customers t (set slots (1024 * c + n) slot') (set customers c own') c
-      (finished n (part c spools))) (store_same small)
-      (goes (finished n) slot' chain own' small (ap (λ (o : CustomerFiles). o.quota) owns) (omega arith)
+      (with_finished n (spool_at c spools))) (store_same small)
+      (goes (with_finished n) slot' chain own' small (ap (λ (o : CustomerFiles). o.quota) owns) (omega arith)
       (restaged (Whole Ready) headers refl) (λ _. said)
       (partial.finishes own files n has.own stage (content slot' chain) own' refl owns))
 
-  pub restates : (state : State) → is_whole slot.stage ≡ true → n < 1024 → Moves store slots customers store
-      (set slots (1024 * c + n) (record slot { stage = Whole state })) customers c (with_state n state (part c spools))
+  pub restates : (state : State) → is_whole_stage slot.stage ≡ true → n < 1024 → Moves store slots customers store
+      (set slots (1024 * c + n) (record slot { stage = Whole state })) customers c (with_state n state (spool_at c spools))
   restates state there small =
       let slot' : FileSlot = record slot { stage = Whole state } in
       let other = not_partial_of slot.stage there in
       subst (λ (os : List CustomerFiles). Moves store slots customers store (set slots (1024 * c + n) slot') os c
-      (with_state n state (part c spools))) customers_same
+      (with_state n state (spool_at c spools))) customers_same
       (subst (λ (t : StoreValue). Moves store slots customers t (set slots (1024 * c + n) slot') (set customers c own) c
-      (with_state n state (part c spools))) (store_same small)
+      (with_state n state (spool_at c spools))) (store_same small)
       (goes (with_state n state) slot' chain own small refl refl (restaged (Whole state) slot.headers refl)
       (λ _. kept.headers c n there)
       (whole.changes own files n has.own there other (λ x. record x { state = state }) (content slot' chain) refl refl refl refl)))
 
   -- it is read on from elsewhere
   pub reads_on : (kept' : KeptPlaces) → is_free slot.stage ≡ false → ArePlaces (files n).records chain.keys kept' → n < 1024 →
-      Moves store slots customers store (set slots (1024 * c + n) (record slot { places = kept' })) customers c (part c spools)
+      Moves store slots customers store (set slots (1024 * c + n) (record slot { places = kept' })) customers c (spool_at c spools)
   reads_on kept' used' places small =
       let slot' : FileSlot = record slot { places = kept' } in
       let file = kept.files c n in
       subst (λ (os : List CustomerFiles). Moves store slots customers store (set slots (1024 * c + n) slot') os c
-      (part c spools)) customers_same
+      (spool_at c spools)) customers_same
       (subst (λ (t : StoreValue). Moves store slots customers t (set slots (1024 * c + n) slot') (set customers c own) c
-      (part c spools)) (store_same small)
+      (spool_at c spools)) (store_same small)
       (goes (λ (s : CustomerSpool). s) slot' chain own small refl refl
       (record { bytes = file.bytes; short = file.short; free = file.free; small = file.small; places = places })
       (kept.headers c n)
@@ -181,19 +181,19 @@ module _ (store : StoreValue) (slots : List FileSlot) (customers : List Customer
         kind =
             kind;
       } → own' ≡ record own { partial = own.partial ++ n ∷ [] } → n < 1024 → Moves store slots customers store
-      (set slots (1024 * c + n) slot') (set customers c own') c (begun kind (part c spools))
+      (set slots (1024 * c + n) slot') (set customers c own') c (with_new_partial kind (spool_at c spools))
   begins kind slot' own' room next free is owns small =
       let file = kept.files c n in
-      let empty : chain.bytes ≡ [] = file.bytes ∙ ap (λ (count : ℕ). packed (unpacked count chain.bytes)) (file.free free) in
+      let empty : chain.bytes ≡ [] = file.bytes ∙ ap (λ (count : ℕ). packed_bytes (unpacked_records count chain.bytes)) (file.free free) in
       let none : slot'.count ≡ 0 = ap (λ (x : FileSlot). x.count) is in
       let blocks = ap (λ (o : CustomerFiles). o.used) owns in
       let made : IsFile slot' chain = file_of [] slot' chain (λ k d within. absurd (omega arith)) none empty (λ _. none)
       file.small (first_are [] chain.keys slot'.places (ap (λ (x : FileSlot). x.places) is)) in
       let same : content slot' chain ≡ record { stage = Partial; kind = kind; records = [] } = ap (λ (x : FileSlot). content x chain) is in
       subst (λ (t : StoreValue). Moves store slots customers t (set slots (1024 * c + n) slot') (set customers c own') c
-      (begun kind (part c spools))) (store_same small)
-      (goes (begun kind) slot' chain own' small (ap (λ (o : CustomerFiles). o.quota) owns) (omega arith) made
-      (keeps_none slot' chain (ap (λ (x : FileSlot). is_whole x.stage) is))
+      (with_new_partial kind (spool_at c spools))) (store_same small)
+      (goes (with_new_partial kind) slot' chain own' small (ap (λ (o : CustomerFiles). o.quota) owns) (omega arith) made
+      (keeps_none slot' chain (ap (λ (x : FileSlot). is_whole_stage x.stage) is))
       (begin.begins own files has.own n kind (content slot' chain) own' room next free same owns))
 
   -- one record more
@@ -202,7 +202,7 @@ module _ (store : StoreValue) (slots : List FileSlot) (customers : List Customer
       blocks ≤ own.quota → n < 1024 → Moves store slots customers
       (with_chain (1024 * c + n) (record { keys = keys; bytes = chain.bytes ++ packed_record r }) store)
       (set slots (1024 * c + n) (record slot { count = slot.count + 1 })) (set customers c (record own { used = blocks })) c
-      (appended n r (part c spools))
+      (with_appended n r (spool_at c spools))
   appends r keys blocks there short front counts fits small =
       let stage = stage_of slot.stage there in
       let file = kept.files c n in
@@ -214,8 +214,8 @@ module _ (store : StoreValue) (slots : List FileSlot) (customers : List Customer
       let records = appended-records slot chain keys r file short front in
       let longer : blocks_of (chain.bytes ++ packed_record r) ≡ cost ((files n).records ++ r ∷ []) =
       ap (λ (size : ℕ). (size + 251) / 252) (size_is slot' chain' made ∙ ap stored_size records) in
-      goes (appended n r) slot' chain' (record own { used = blocks }) small refl (omega (arith, enough, blocks_are)) made
-      (keeps_none slot' chain' (ap is_whole stage))
+      goes (with_appended n r) slot' chain' (record own { used = blocks }) small refl (omega (arith, enough, blocks_are)) made
+      (keeps_none slot' chain' (ap is_whole_stage stage))
       (partial.appends own files n has.own stage r (content slot' chain') (record own { used = blocks }) blocks
       (ap (λ (rs : List Stored). record { stage = slot.stage; kind = slot.kind; records = rs }) records) refl
       (omega (arith, blocks_are, longer)) fits)
@@ -231,7 +231,7 @@ module _ (store : StoreValue) (slots : List FileSlot) (customers : List Customer
       (sym same_customer) moved))
 
   -- a record is rewritten: the file's slot keeps what the headers say now
-  module _ (k at place : ℕ) (new : List ℕ) (there : is_whole slot.stage ≡ true) (small : n < 1024)
+  module _ (k at place : ℕ) (new : List ℕ) (there : is_whole_stage slot.stage ≡ true) (small : n < 1024)
       (is : at ≡ stored_size (take k (files n).records) + 3 + place) (within : k < slot.count)
       (fits : IsSomeAnd (slice_get (files n).records k) (λ r. place + length new ≤ length r.bytes)) where
     abbrev records : List Stored
@@ -243,7 +243,7 @@ module _ (store : StoreValue) (slots : List FileSlot) (customers : List Customer
     abbrev chain' : Chain
     chain' = record { keys = chain.keys; bytes = with_field at new chain.bytes }
 
-    bytes : with_field at new chain.bytes ≡ packed changed
+    bytes : with_field at new chain.bytes ≡ packed_bytes changed
     bytes =
         ap (λ (i : ℕ). with_field i new chain.bytes) is ∙ ap (with_field (stored_size (take k records) + 3 + place) new)
         (kept.files c n).bytes ∙ packed-at_index k place new records (omega (arith, length-unpacked slot.count chain.bytes)) fits
@@ -263,7 +263,7 @@ module _ (store : StoreValue) (slots : List FileSlot) (customers : List Customer
     size = ap length bytes ∙ length-packed changed ∙ stored_size-rewritten k place new records fits ∙ sym (size_is slot chain
         (kept.files c n))
 
-    now : unpacked slot.count (with_field at new chain.bytes) ≡ changed
+    now : unpacked_records slot.count (with_field at new chain.bytes) ≡ changed
     now = records_are changed slot.count (with_field at new chain.bytes) short counted bytes
 
     made : (headers : KeptHeaders) → IsFile (record slot { headers = headers }) chain'
@@ -277,7 +277,7 @@ module _ (store : StoreValue) (slots : List FileSlot) (customers : List Customer
     pub still_file : IsFile slot chain'
     still_file = made slot.headers
 
-    keeps : (headers : KeptHeaders) → (k < slot.headers.count → headers ≡ kept_headers slot.kind (unpacked slot.count chain'.bytes)) →
+    keeps : (headers : KeptHeaders) → (k < slot.headers.count → headers ≡ kept_headers slot.kind (unpacked_records slot.count chain'.bytes)) →
         (slot.headers.count ≤ k → headers ≡ slot.headers) → KeepsHeaders (record slot { headers = headers }) chain'
     keeps headers again same _ =
         elim (cases_lt k slot.headers.count) [
@@ -290,9 +290,9 @@ module _ (store : StoreValue) (slots : List FileSlot) (customers : List Customer
         ]
 
     pub rewrites : (headers : KeptHeaders) → (k < slot.headers.count → headers ≡ kept_headers slot.kind
-        (unpacked slot.count chain'.bytes)) → (slot.headers.count ≤ k → headers ≡ slot.headers) →
+        (unpacked_records slot.count chain'.bytes)) → (slot.headers.count ≤ k → headers ≡ slot.headers) →
         Moves store slots customers (with_chain (1024 * c + n) chain' store)
-        (set slots (1024 * c + n) (record slot { headers = headers })) customers c (rewritten n k place new (part c spools))
+        (set slots (1024 * c + n) (record slot { headers = headers })) customers c (with_rewritten_bytes n k place new (spool_at c spools))
     rewrites headers again same =
         let slot' : FileSlot = record slot { headers = headers } in
         let same_content : content slot' chain' ≡ record { stage = slot.stage; kind = slot.kind; records = changed } =
@@ -304,8 +304,8 @@ module _ (store : StoreValue) (slots : List FileSlot) (customers : List Customer
         let file_same : whole_from n (content slot' chain') ≡ record (whole_file files n) { records = changed } =
         ap (whole_from n) same_content in
         subst (λ (os : List CustomerFiles). Moves store slots customers (with_chain (1024 * c + n) chain' store)
-        (set slots (1024 * c + n) slot') os c (rewritten n k place new (part c spools))) customers_same
-        (goes (rewritten n k place new) slot' chain' own small refl (omega (arith, blocks)) (made headers)
+        (set slots (1024 * c + n) slot') os c (with_rewritten_bytes n k place new (spool_at c spools))) customers_same
+        (goes (with_rewritten_bytes n k place new) slot' chain' own small refl (omega (arith, blocks)) (made headers)
         (keeps headers again same)
         (whole.changes own files n has.own there other
         (λ x. record x { records = at_index k (rewritten_record place new) x.records }) (content slot' chain') there other

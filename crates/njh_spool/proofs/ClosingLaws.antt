@@ -5,7 +5,7 @@ use Rattle.std.specs.List.{list_any}
 use Rattle.std.proofs.lemmas.Bool.{ltb-true}
 use Rattle.std.proofs.lemmas.List.{take_all, take_more, append-nil, length-set, get_or-set_same, get_or-set_other}
 use Rattle.std.proofs.lemmas.List.Elements.{filter-append}
-use Rattle.njh_spool.specs.code.NumberEntries.{is_number, numbers_in, IsIndex}
+use Rattle.njh_spool.specs.code.NumberEntries.{is_file_entry, numbers_in, IsIndex}
 use Rattle.njh_spool.proofs.EntryLaws.{few_passed, filter_push, filter_twice, take-set_out}
 use Rattle.njh_spool.proofs.HoleLaws.{empty_index, not_before, pushed}
 
@@ -46,17 +46,17 @@ module _ {xs old_places old_counts : List ℕ} {count : ℕ} (was : IsIndex xs o
     same = closing.back place (omega arith)
 
     pub kept_is : length front ≡ kept
-    kept_is = sym (closing.is.counted ∙ ap length (filter_twice is_number (take place xs)))
+    kept_is = sym (closing.is.counted ∙ ap length (filter_twice is_file_entry (take place xs)))
 
     pub kept_within : kept ≤ place
-    kept_within = omega (arith, kept_is, few_passed is_number place xs)
+    kept_within = omega (arith, kept_is, few_passed is_file_entry place xs)
 
-    pub hole_passes : is_number n ≡ false → Closing xs (length old_places) (place + 1) kept moved places counts
+    pub hole_passes : is_file_entry n ≡ false → Closing xs (length old_places) (place + 1) kept moved places counts
     hole_passes hole =
-        let fails : is_number (get_or xs place 0) ≡ false = ap is_number (sym same) ∙ hole in
+        let fails : is_file_entry (get_or xs place 0) ≡ false = ap is_file_entry (sym same) ∙ hole in
         let none : numbers_in (get_or xs place 0 ∷ []) ≡ [] = rw fails refl in
         let longer : numbers_in (take (place + 1) xs) ≡ front =
-        ap numbers_in (take_more xs place 0 within) ∙ filter-append is_number (take place xs) (get_or xs place 0 ∷ [])
+        ap numbers_in (take_more xs place 0 within) ∙ filter-append is_file_entry (take place xs) (get_or xs place 0 ∷ [])
         ∙ ap (λ (ys : List ℕ). front ++ ys) none ∙ append-nil front in
         record {
           is = subst (λ (ys : List ℕ). IsIndex ys places counts kept) (sym longer) closing.is;
@@ -66,7 +66,7 @@ module _ {xs old_places old_counts : List ℕ} {count : ℕ} (was : IsIndex xs o
           reach_same = closing.reach_same;
         }
 
-    module _ (stands : is_number n ≡ true) where
+    module _ (stands : is_file_entry n ≡ true) where
       small : get_or xs place 0 < 1024
       small = omega (arith, same, ltb-true n 1024 stands)
 
@@ -85,7 +85,7 @@ module _ {xs old_places old_counts : List ℕ} {count : ℕ} (was : IsIndex xs o
       longer : numbers_in (take (place + 1) xs) ≡ front ++ n ∷ []
       longer =
           ap numbers_in (take_more xs place 0 within)
-          ∙ filter_push is_number (take place xs) (get_or xs place 0) (ap is_number (sym same) ∙ stands)
+          ∙ filter_push is_file_entry (take place xs) (get_or xs place 0) (ap is_file_entry (sym same) ∙ stands)
           ∙ ap (λ (k : ℕ). front ++ k ∷ []) (sym same)
 
       abbrev places' : List ℕ
@@ -127,6 +127,6 @@ module _ {xs old_places old_counts : List ℕ} {count : ℕ} (was : IsIndex xs o
 
     pub closed_index : IsIndex (take kept moved) places counts count
     closed_index =
-        let counted : kept ≡ count = closing.is.counted ∙ ap length (filter_twice is_number (take place xs) ∙ every) ∙ sym was.counted in
+        let counted : kept ≡ count = closing.is.counted ∙ ap length (filter_twice is_file_entry (take place xs) ∙ every) ∙ sym was.counted in
         subst (λ (k : ℕ). IsIndex (take kept moved) places counts k) counted
         (subst (λ (ys : List ℕ). IsIndex ys places counts kept) (sym closing.front) closing.is)

@@ -11,25 +11,25 @@ use Rattle.njh_spool.specs.declared.file_slot.KeptPlaces.{KeptPlaces}
 use Rattle.njh_spool.specs.declared.store.block_mark.Mark.{Mark}
 use Rattle.njh_spool.specs.code.Chains.{Chain, IsMark}
 use Rattle.njh_spool.specs.CustomerSpool.{stored_size}
-use Rattle.njh_spool.specs.code.Packing.{packed_record, packed, unpacked, IsShort}
+use Rattle.njh_spool.specs.code.Packing.{packed_record, packed_bytes, unpacked_records, IsShort}
 use Rattle.njh_spool.specs.code.Slots.{is_free, first_place, first_places, IsPlace, ArePlaces, IsFile}
 use Rattle.njh_spool.proofs.PackingLaws.{length-packed_record, length-packed, packed-append, length-unpacked, unpacked-packed}
 
 -- the records of bytes that are packed
 pub records_are : (records : List Stored) (count : ℕ) (bytes : List ℕ) → All IsShort records → count ≡ length records →
-    bytes ≡ packed records → unpacked count bytes ≡ records
+    bytes ≡ packed_bytes records → unpacked_records count bytes ≡ records
 records_are records count bytes short counted is =
-    ap (λ (n : ℕ). unpacked n bytes) counted ∙ ap (unpacked (length records)) (is ∙ sym (append-nil (packed records)))
+    ap (λ (n : ℕ). unpacked_records n bytes) counted ∙ ap (unpacked_records (length records)) (is ∙ sym (append-nil (packed_bytes records)))
     ∙ unpacked-packed records [] short
 
 -- a file of these records
 pub file_of : (records : List Stored) (slot : FileSlot) (chain : Chain) → All IsShort records → slot.count ≡ length records →
-    chain.bytes ≡ packed records → (is_free slot.stage ≡ true → slot.count ≡ 0) → length chain.bytes ≤ 252 * 65535 →
+    chain.bytes ≡ packed_bytes records → (is_free slot.stage ≡ true → slot.count ≡ 0) → length chain.bytes ≤ 252 * 65535 →
     ArePlaces records chain.keys slot.places → IsFile slot chain
 file_of records slot chain short counted is free small places =
     let same = records_are records slot.count chain.bytes short counted is in
     record {
-      bytes = is ∙ ap packed (sym same);
+      bytes = is ∙ ap packed_bytes (sym same);
       short = subst (λ (rs : List Stored). All IsShort rs) (sym same) short;
       free = free;
       small = small;
@@ -79,7 +79,7 @@ place-grown records r keys keys' at front is =
 module _ (slot : FileSlot) (chain : Chain) (keys : List ℕ) (r : Stored) (file : IsFile slot chain) (short : IsShort r)
     (front : take (length chain.keys) keys ≡ chain.keys) where
   abbrev records : List Stored
-  records = unpacked slot.count chain.bytes
+  records = unpacked_records slot.count chain.bytes
 
   abbrev longer : List Stored
   longer = records ++ r ∷ []
@@ -90,8 +90,8 @@ module _ (slot : FileSlot) (chain : Chain) (keys : List ℕ) (r : Stored) (file 
   abbrev slot' : FileSlot
   slot' = record slot { count = slot.count + 1 }
 
-  bytes_are : chain.bytes ++ packed_record r ≡ packed longer
-  bytes_are = ap (λ (xs : List ℕ). xs ++ packed_record r) file.bytes ∙ ap (λ (xs : List ℕ). packed records ++ xs)
+  bytes_are : chain.bytes ++ packed_record r ≡ packed_bytes longer
+  bytes_are = ap (λ (xs : List ℕ). xs ++ packed_record r) file.bytes ∙ ap (λ (xs : List ℕ). packed_bytes records ++ xs)
       (sym (append-nil (packed_record r))) ∙ sym (packed-append records (r ∷ []))
 
   counted : slot.count + 1 ≡ length longer
@@ -100,7 +100,7 @@ module _ (slot : FileSlot) (chain : Chain) (keys : List ℕ) (r : Stored) (file 
   all_short : All IsShort longer
   all_short = All-push IsShort records r file.short short
 
-  pub appended-records : unpacked (slot.count + 1) (chain.bytes ++ packed_record r) ≡ longer
+  pub appended-records : unpacked_records (slot.count + 1) (chain.bytes ++ packed_record r) ≡ longer
   appended-records = records_are longer (slot.count + 1) (chain.bytes ++ packed_record r) all_short counted bytes_are
 
   pub appended-file : is_free slot.stage ≡ false → length (chain.bytes ++ packed_record r) ≤ 252 * 65535 → IsFile slot' chain'
@@ -114,5 +114,5 @@ module _ (slot : FileSlot) (chain : Chain) (keys : List ℕ) (r : Stored) (file 
   pub appended-size : length (chain.bytes ++ packed_record r) ≡ length chain.bytes + (3 + length r.bytes)
   appended-size = omega (arith, length-append chain.bytes (packed_record r), length-packed_record r)
 
-pub size_is : (slot : FileSlot) (chain : Chain) → IsFile slot chain → length chain.bytes ≡ stored_size (unpacked slot.count chain.bytes)
-size_is slot chain file = ap length file.bytes ∙ length-packed (unpacked slot.count chain.bytes)
+pub size_is : (slot : FileSlot) (chain : Chain) → IsFile slot chain → length chain.bytes ≡ stored_size (unpacked_records slot.count chain.bytes)
+size_is slot chain file = ap length file.bytes ∙ length-packed (unpacked_records slot.count chain.bytes)

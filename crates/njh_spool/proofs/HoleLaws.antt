@@ -5,7 +5,7 @@ use Rattle.std.specs.List.{list_any, refill}
 use Rattle.std.proofs.lemmas.Bool.{or_parts, cases_lt, lt-ltb}
 use Rattle.std.proofs.lemmas.List.{take_all, drop_all, append-nil, length-set, length-replicate, get_or-replicate}
 use Rattle.std.proofs.lemmas.List.{get_or-set_same, get_or-set_other, get_or-take, get_or_append_left, get_or-append-add}
-use Rattle.njh_spool.specs.code.NumberEntries.{is_number, numbers_in, before, IsIndex}
+use Rattle.njh_spool.specs.code.NumberEntries.{is_file_entry, numbers_in, before, IsIndex}
 use Rattle.njh_spool.proofs.EntryLaws.{passed_all, few_passed, few_pass, passed_grows, passed_hole, passed_before_hole}
 use Rattle.njh_spool.proofs.EntryLaws.{absent, filter_hole, filter_push, passed_push, passed_before_push, is_same}
 
@@ -24,7 +24,7 @@ nowhere xs n q none within same =
     let clash : true ≡ false = sym (is_same (get_or xs q 0) n same) ∙ any_fails xs n q none within in cc
 
 before_none : (k : ℕ) → before k [] ≡ 0
-before_none k = passed_all is_number k [] (omega arith)
+before_none k = passed_all is_file_entry k [] (omega arith)
 
 pub empty_index : (places counts : List ℕ) → length places ≤ 1024 → counts ≡ replicate 32 0 → IsIndex [] places counts 0
 empty_index places counts all zeros =
@@ -56,21 +56,21 @@ module _ (xs places counts : List ℕ) (count : ℕ) (is : IsIndex xs places cou
     abbrev left : List ℕ
     left = set xs place 65535
 
-    stands : is_number (get_or xs place 0) ≡ true
+    stands : is_file_entry (get_or xs place 0) ≡ true
     stands = lt-ltb (get_or xs place 0) 1024 number
 
     pub some : 1 ≤ count
     some =
-        let hole = passed_hole is_number xs (length xs) place 65535 within within stands refl in
-        let all = passed_all is_number (length xs) xs (omega arith) in
+        let hole = passed_hole is_file_entry xs (length xs) place 65535 within within stands refl in
+        let all = passed_all is_file_entry (length xs) xs (omega arith) in
         omega (arith, is.counted, hole, all)
 
     pub some_here : 1 ≤ get_or counts (place / 32) 0
     some_here =
         let grouped = is.grouped (place / 32) (omega (arith, is.few)) in
-        let hole = passed_hole is_number xs (32 * (place / 32) + 32) place 65535 (omega arith) within stands refl in
-        let same = passed_before_hole is_number xs (32 * (place / 32)) place 65535 (omega arith) in
-        let grows = passed_grows is_number left (32 * (place / 32)) (32 * (place / 32) + 32) (omega arith) in
+        let hole = passed_hole is_file_entry xs (32 * (place / 32) + 32) place 65535 (omega arith) within stands refl in
+        let same = passed_before_hole is_file_entry xs (32 * (place / 32)) place 65535 (omega arith) in
+        let grows = passed_grows is_file_entry left (32 * (place / 32)) (32 * (place / 32) + 32) (omega arith) in
         omega (arith, grouped, hole, same, grows)
 
     group_left : (g : ℕ) → g < 32 → get_or (set counts (place / 32) (get_or counts (place / 32) 0 - 1)) g 0 + before (32 * g) left
@@ -84,8 +84,8 @@ module _ (xs places counts : List ℕ) (count : ℕ) (is : IsIndex xs places cou
                 arith,
                 grouped,
                 other,
-                passed_hole is_number xs (32 * g) place 65535 first within stands refl,
-                passed_hole is_number xs (32 * g + 32) place 65535 (omega arith) within stands refl,
+                passed_hole is_file_entry xs (32 * g) place 65535 first within stands refl,
+                passed_hole is_file_entry xs (32 * g + 32) place 65535 (omega arith) within stands refl,
               )
           | inr later ↦ elim (cases_lt place (32 * g + 32)) [
             | inl inside ↦
@@ -100,8 +100,8 @@ module _ (xs places counts : List ℕ) (count : ℕ) (is : IsIndex xs places cou
                   at,
                   was,
                   some_here,
-                  passed_before_hole is_number xs (32 * g) place 65535 later,
-                  passed_hole is_number xs (32 * g + 32) place 65535 inside within stands refl,
+                  passed_before_hole is_file_entry xs (32 * g) place 65535 later,
+                  passed_hole is_file_entry xs (32 * g + 32) place 65535 inside within stands refl,
                 )
             | inr past ↦
                 let other = get_or-set_other counts (place / 32) g (get_or counts (place / 32) 0 - 1) 0 (λ same. absurd (omega (arith, same))) in
@@ -109,8 +109,8 @@ module _ (xs places counts : List ℕ) (count : ℕ) (is : IsIndex xs places cou
                   arith,
                   grouped,
                   other,
-                  passed_before_hole is_number xs (32 * g) place 65535 later,
-                  passed_before_hole is_number xs (32 * g + 32) place 65535 past,
+                  passed_before_hole is_file_entry xs (32 * g) place 65535 later,
+                  passed_before_hole is_file_entry xs (32 * g + 32) place 65535 past,
                 )
           ]
         ]
@@ -141,9 +141,9 @@ module _ (xs places counts : List ℕ) (count : ℕ) (is : IsIndex xs places cou
 
     pub cleared : IsIndex left places (set counts (place / 32) (get_or counts (place / 32) 0 - 1)) (count - 1)
     cleared =
-        let hole = passed_hole is_number xs (length xs) place 65535 within within stands refl in
-        let all = passed_all is_number (length xs) xs (omega arith) in
-        let all_left = passed_all is_number (length xs) left (omega (arith, length-set xs place 65535)) in
+        let hole = passed_hole is_file_entry xs (length xs) place 65535 within within stands refl in
+        let all = passed_all is_file_entry (length xs) xs (omega arith) in
+        let all_left = passed_all is_file_entry (length xs) left (omega (arith, length-set xs place 65535)) in
         record {
           few = omega (arith, length-set xs place 65535, is.few);
           few_places = is.few_places;
@@ -156,13 +156,13 @@ module _ (xs places counts : List ℕ) (count : ℕ) (is : IsIndex xs places cou
 
     pub others_left : numbers_in left ≡ filter (λ m. not (eqb m (get_or xs place 0))) (numbers_in xs)
     others_left =
-        filter_hole is_number xs place 65535 (get_or xs place 0) within refl stands refl
+        filter_hole is_file_entry xs place 65535 (get_or xs place 0) within refl stands refl
         (λ q inside same. once place q within number inside same)
 
   pub not_before : (place : ℕ) → place < length xs → get_or xs place 0 < 1024 → list_any (λ m. eqb m (get_or xs place 0))
       (numbers_in (take place xs)) ≡ false
   not_before place within number =
-      absent is_number (take place xs) (get_or xs place 0)
+      absent is_file_entry (take place xs) (get_or xs place 0)
       (λ q inside same.
       let early : q < place = omega (arith, length-take place xs) in
       let there : get_or xs q 0 ≡ get_or xs place 0 = sym (get_or-take place xs q 0 early) ∙ same in
@@ -173,7 +173,7 @@ module _ (xs places counts : List ℕ) (count : ℕ) (is : IsIndex xs places cou
     abbrev more : List ℕ
     more = xs ++ n ∷ []
 
-    is_one : is_number n ≡ true
+    is_one : is_file_entry n ≡ true
     is_one = lt-ltb n 1024 number
 
     size : length more ≡ length xs + 1
@@ -183,7 +183,7 @@ module _ (xs places counts : List ℕ) (count : ℕ) (is : IsIndex xs places cou
     few_here = omega (
       arith,
       is.grouped (length xs / 32) (omega (arith, is.few)),
-      few_passed is_number (32 * (length xs / 32) + 32) xs,
+      few_passed is_file_entry (32 * (length xs / 32) + 32) xs,
       room,
     )
 
@@ -191,7 +191,7 @@ module _ (xs places counts : List ℕ) (count : ℕ) (is : IsIndex xs places cou
     fits_here = omega (arith, few_here)
 
     pub fits : count + 1 < 65536
-    fits = omega (arith, is.counted, few_pass is_number xs, room)
+    fits = omega (arith, is.counted, few_pass is_file_entry xs, room)
 
     group_more : (g : ℕ) → g < 32 → get_or (set counts (length xs / 32) (get_or counts (length xs / 32) 0 + 1)) g 0
         + before (32 * g) more ≡ before (32 * g + 32) more
@@ -205,8 +205,8 @@ module _ (xs places counts : List ℕ) (count : ℕ) (is : IsIndex xs places cou
                 arith,
                 grouped,
                 other,
-                passed_push is_number xs (32 * g) n first is_one,
-                passed_push is_number xs (32 * g + 32) n (omega arith) is_one,
+                passed_push is_file_entry xs (32 * g) n first is_one,
+                passed_push is_file_entry xs (32 * g + 32) n (omega arith) is_one,
               )
           | inr later ↦ elim (cases_lt (length xs) (32 * g + 32)) [
             | inl inside ↦
@@ -221,8 +221,8 @@ module _ (xs places counts : List ℕ) (count : ℕ) (is : IsIndex xs places cou
                   same,
                   at,
                   was,
-                  passed_before_push is_number xs (32 * g) n later,
-                  passed_push is_number xs (32 * g + 32) n inside is_one,
+                  passed_before_push is_file_entry xs (32 * g) n later,
+                  passed_push is_file_entry xs (32 * g + 32) n inside is_one,
                 )
             | inr past ↦
                 let other = get_or-set_other counts (length xs / 32) g (get_or counts (length xs / 32) 0 + 1) 0
@@ -231,8 +231,8 @@ module _ (xs places counts : List ℕ) (count : ℕ) (is : IsIndex xs places cou
                   arith,
                   grouped,
                   other,
-                  passed_before_push is_number xs (32 * g) n later,
-                  passed_before_push is_number xs (32 * g + 32) n past,
+                  passed_before_push is_file_entry xs (32 * g) n later,
+                  passed_before_push is_file_entry xs (32 * g + 32) n past,
                 )
           ]
         ]
@@ -270,7 +270,7 @@ module _ (xs places counts : List ℕ) (count : ℕ) (is : IsIndex xs places cou
             few = omega (arith, size, room);
             few_places = omega (arith, length-set places n (length xs), is.few_places);
             all_counts = length-set counts (length xs / 32) (get_or counts (length xs / 32) 0 + 1) ∙ is.all_counts;
-            counted = omega (arith, is.counted, ap length (filter_push is_number xs n is_one), length-append (numbers_in xs) (n ∷ []));
+            counted = omega (arith, is.counted, ap length (filter_push is_file_entry xs n is_one), length-append (numbers_in xs) (n ∷ []));
             placed = place_more;
             reached = reach_more;
             grouped = group_more;

@@ -8,8 +8,8 @@ use Rattle.std.proofs.lemmas.List.Sums.{sum_by-set, sum_by-cons}
 use Rattle.njh_spool.specs.declared.file_slot.FileSlot.{FileSlot}
 use Rattle.njh_spool.specs.declared.customer_files.CustomerFiles.{CustomerFiles}
 use Rattle.njh_spool.specs.code.Chains.{Chain, StoreValue, empty_chain, with_chain, blocks_of, blocks_used}
-use Rattle.njh_spool.specs.CustomerSpool.{CustomerSpool, used}
-use Rattle.njh_spool.specs.Spools.{no_spool, part}
+use Rattle.njh_spool.specs.CustomerSpool.{CustomerSpool, used_blocks}
+use Rattle.njh_spool.specs.Spools.{no_spool, spool_at}
 use Rattle.njh_spool.specs.code.Slots.{Content, content, contents, slot_of, chain_of, no_files, spool_of, spools_from, spools_of, IsOwn}
 use Rattle.njh_spool.specs.code.Slots.{IsFile, KeepsHeaders, IsKept}
 use Rattle.njh_spool.proofs.IndexLaws.{put, at_is, slot-same, chain-same, slot-other, chain-other, contents-same, contents-other}
@@ -59,7 +59,7 @@ spools_from-at (suc i) k (own ∷ more) files within =
     spools_from-at i (k + 1) more files (omega arith) ∙ ap (λ (j : ℕ). spool_of (own_of more i) (files j)) next
 
 pub part_is : (c : ℕ) (customers : List CustomerFiles) (files : ℕ → ℕ → Content) → c < length customers →
-    part c (spools_of customers files) ≡ spool_of (own_of customers c) (files c)
+    spool_at c (spools_of customers files) ≡ spool_of (own_of customers c) (files c)
 part_is c customers files within = spools_from-at c 0 customers files within
     ∙ ap (λ (j : ℕ). spool_of (own_of customers c) (files j)) (zero-add c)
 
@@ -69,7 +69,7 @@ pub record HasOwn (store : StoreValue) (slots : List FileSlot) (customers : List
   pub slot_within : (n : ℕ) → n < 1024 → 1024 * c + n < length slots
   pub chain_within : (n : ℕ) → n < 1024 → 1024 * c + n < length store.chains
   pub own : IsOwn (own_of customers c) (contents slots store.chains c)
-  pub part : part c (spools_of customers (contents slots store.chains)) ≡ spool_of (own_of customers c) (contents slots store.chains c)
+  pub part : spool_at c (spools_of customers (contents slots store.chains)) ≡ spool_of (own_of customers c) (contents slots store.chains c)
 
 row_within : (c n all : ℕ) → c < all → n < 1024 → 1024 * c + n < 1024 * all
 row_within c n all within small = omega arith
@@ -189,7 +189,7 @@ module _ (store : StoreValue) (slots : List FileSlot) (customers : List Customer
 
 -- a spool that stays as it is
 pub stays : (customers : List CustomerFiles) (files : ℕ → ℕ → Content) (c : ℕ) (s : CustomerSpool) →
-    part c (spools_of customers files) ≡ s → spools_of customers files ≡ set (spools_of customers files) c s
+    spool_at c (spools_of customers files) ≡ s → spools_of customers files ≡ set (spools_of customers files) c s
 stays customers files c s is = sym (set-get_or (spools_of customers files) c no_spool) ∙ ap (set (spools_of customers files) c) is
 
 -- a customer's lists as they are read
@@ -200,17 +200,17 @@ own_is customers c i own within same is =
 
 -- what the customers use and may use, added
 sum_used : (k : ℕ) (customers : List CustomerFiles) (files : ℕ → ℕ → Content) →
-    ((i : ℕ) → i < length customers → (own_of customers i).used ≡ used (spool_of (own_of customers i) (files (k + i)))) →
-    sum_by used (spools_from k customers files) ≡ sum_by (λ (o : CustomerFiles). o.used) customers
+    ((i : ℕ) → i < length customers → (own_of customers i).used ≡ used_blocks (spool_of (own_of customers i) (files (k + i)))) →
+    sum_by used_blocks (spools_from k customers files) ≡ sum_by (λ (o : CustomerFiles). o.used) customers
 sum_used k [] files counted = refl
 sum_used k (own ∷ more) files counted =
     let here : k + zero ≡ k = omega arith in
-    let first = counted zero (omega arith) ∙ ap (λ (j : ℕ). used (spool_of own (files j))) here in
+    let first = counted zero (omega arith) ∙ ap (λ (j : ℕ). used_blocks (spool_of own (files j))) here in
     let rest = sum_used (k + 1) more files (λ i within. counted (suc i) (omega arith)
-    ∙ ap (λ (j : ℕ). used (spool_of (own_of more i) (files j))) (let e : k + suc i ≡ k + 1 + i = omega arith in e)) in
+    ∙ ap (λ (j : ℕ). used_blocks (spool_of (own_of more i) (files j))) (let e : k + suc i ≡ k + 1 + i = omega arith in e)) in
     omega (
       arith,
-      sum_by-cons used (spool_of own (files k)) (spools_from (k + 1) more files),
+      sum_by-cons used_blocks (spool_of own (files k)) (spools_from (k + 1) more files),
       sum_by-cons
           (λ (o : CustomerFiles). o.used) own more,
     )
@@ -231,7 +231,7 @@ module _ (store : StoreValue) (slots : List FileSlot) (customers : List Customer
   abbrev all : List CustomerSpool
   all = spools_of customers (contents slots store.chains)
 
-  pub within_all : All (λ (s : CustomerSpool). used s ≤ s.quota) all
+  pub within_all : All (λ (s : CustomerSpool). used_blocks s ≤ s.quota) all
   within_all = λ k d within.
       let few : k < length customers = omega (arith, length-spools_from 0 customers (contents slots store.chains)) in
       let is = get_or_default all k d no_spool within ∙ part_is k customers (contents slots store.chains) few in
@@ -240,7 +240,7 @@ module _ (store : StoreValue) (slots : List FileSlot) (customers : List Customer
   pub quotas_fit : sum_by (λ (s : CustomerSpool). s.quota) all ≤ store.capacity
   quotas_fit = omega (arith, sum_quota 0 customers (contents slots store.chains), kept.quotas)
 
-  pub used_all : sum_by used all ≡ blocks_used store
+  pub used_all : sum_by used_blocks all ≡ blocks_used store
   used_all =
       sum_used 0 customers (contents slots store.chains) (λ i within. (kept.own i within).counted
-      ∙ ap (λ (j : ℕ). used (spool_of (own_of customers i) (contents slots store.chains j))) (sym (zero-add i))) ∙ sym kept.blocks
+      ∙ ap (λ (j : ℕ). used_blocks (spool_of (own_of customers i) (contents slots store.chains j))) (sym (zero-add i))) ∙ sym kept.blocks

@@ -13,7 +13,7 @@ use Rattle.njh_spool.specs.code.Chains.{Chain, StoreValue, empty_chain, blocks_o
 use Rattle.njh_spool.specs.CustomerSpool.{CustomerSpool, empty_spool}
 use Rattle.njh_spool.specs.Quotas.{IsWithinLimits}
 use Rattle.njh_spool.specs.Spools.{IsSound}
-use Rattle.njh_spool.specs.code.Slots.{Content, contents, slot_of, chain_of, is_whole, free_slot, no_files}
+use Rattle.njh_spool.specs.code.Slots.{Content, contents, slot_of, chain_of, is_whole_stage, free_slot, no_files}
 use Rattle.njh_spool.specs.code.Slots.{spools_from, IsOwn, IsFile, IsKept}
 use Rattle.njh_spool.proofs.KeptLaws.{own_of}
 use Rattle.njh_spool.proofs.FileLaws.{file_of, first_are}
@@ -125,5 +125,5 @@ kept_opened store slots quotas many few limits all slots_are store_is =
           subst (λ (x : Chain). IsFile (slot_of slots c n) x) (sym (ap (λ (xs : List Chain). chain_of xs c n) chains ∙ chain_is many c n))
           (subst (λ (s : FileSlot). IsFile s empty_chain) (sym (ap (λ (ss : List FileSlot). slot_of ss c n) slots_are
           ∙ slot_is many c n)) empty_file);
-      headers = λ c n whole. absurd (let clash : false ≡ true = sym (ap is_whole (stage c n)) ∙ whole in cc);
+      headers = λ c n whole. absurd (let clash : false ≡ true = sym (ap is_whole_stage (stage c n)) ∙ whole in cc);
     }

@@ -11,10 +11,10 @@ use Rattle.njh_spool.specs.declared.State.TheVariants.{Ready}
 use Rattle.njh_spool.specs.declared.SpoolFault.TheVariants.{QuotaFull, NoSuchFile}
 use Rattle.njh_spool.specs.declared.file_slot.Stage.TheVariants.{Free, Partial, Whole}
 use Rattle.njh_spool.specs.declared.customer_files.CustomerFiles.{CustomerFiles}
-use Rattle.njh_spool.specs.CustomerSpool.{CustomerSpool, WholeFile, PartialFile, cost, used, partial_numbered, whole_numbered}
-use Rattle.njh_spool.specs.CustomerSpool.{abandoned, appended, finished, as_whole, has_room_for}
+use Rattle.njh_spool.specs.CustomerSpool.{CustomerSpool, WholeFile, PartialFile, cost, used_blocks, partial_numbered, whole_numbered}
+use Rattle.njh_spool.specs.CustomerSpool.{without_partial, with_appended, with_finished, as_whole, has_room_for}
 use Rattle.njh_spool.specs.Spools.{IsSound, append_fault, fault_unless}
-use Rattle.njh_spool.specs.code.Slots.{Content, is_partial, is_whole, whole_file, partial_file, spool_of, IsOwn}
+use Rattle.njh_spool.specs.code.Slots.{Content, is_partial, is_whole_stage, whole_file, partial_file, spool_of, IsOwn}
 use Rattle.njh_spool.proofs.OnlyOne.{list_any-from_count, filter_none, find_none}
 use Rattle.njh_spool.proofs.SpoolLaws as laws
 use Rattle.njh_spool.proofs.IndexLaws.{put, put_same}
@@ -30,8 +30,8 @@ module _ (own : CustomerFiles) (files : ℕ → Content) (n : ℕ) (is : IsOwn o
       (ap is_partial stage))
 
   not_whole : list_any (is_at n) own.whole ≡ false
-  not_whole = list_any-from_count (is_at n) own.whole (once_none (is_whole (files n).stage) (count_by (is_at n) own.whole)
-      (is.whole_once n) (ap is_whole stage))
+  not_whole = list_any-from_count (is_at n) own.whole (once_none (is_whole_stage (files n).stage) (count_by (is_at n) own.whole)
+      (is.whole_once n) (ap is_whole_stage stage))
 
   abbrev file : PartialFile
   file = partial_file files n
@@ -59,12 +59,12 @@ module _ (own : CustomerFiles) (files : ℕ → Content) (n : ℕ) (is : IsOwn o
   no_whole = find_none (laws.is_whole n) whole (whole-any files n own.whole ∙ not_whole)
 
   pub covered : cost (files n).records ≤ own.used
-  covered = omega (arith, laws.used-partial own.quota own.limit whole before after file, is.counted, ap used spool_is)
+  covered = omega (arith, laws.used-partial own.quota own.limit whole before after file, is.counted, ap used_blocks spool_is)
 
   -- the file goes
   pub abandons : (x : Content) (own' : CustomerFiles) → x.stage ≡ Free →
       own' ≡ record own { used = own.used - cost (files n).records; partial = filter (λ m. not (eqb m n)) own.partial } →
-      IsOwn own' (put files n x) × (spool_of own' (put files n x) ≡ abandoned n (spool_of own files))
+      IsOwn own' (put files n x) × (spool_of own' (put files n x) ≡ without_partial n (spool_of own files))
   abandons x own' free owns =
       let left = own.used - cost (files n).records in
       let new : CustomerFiles = record own { used = left; partial = once.before ++ once.after } in
@@ -78,14 +78,14 @@ module _ (own : CustomerFiles) (files : ℕ → Content) (n : ℕ) (is : IsOwn o
       let is_now : spool_of new (put files n x) ≡ spool_with own whole (before ++ after) =
       ap (λ (fs : List WholeFile). spool_with own fs (map (partial_file (put files n x)) (once.before ++ once.after)))
       whole_same ∙ ap (spool_with own whole) partial_same in
-      let says : spool_with own whole (before ++ after) ≡ abandoned n (spool_of own files) =
-      sym (laws.abandoned_is own.quota own.limit whole before after file sound) ∙ ap (abandoned n) (sym spool_is) in
-      let blocks : left ≡ used (spool_with own whole (before ++ after)) =
-      omega (arith, laws.used-partial own.quota own.limit whole before after file, is.counted, ap used spool_is) in
+      let says : spool_with own whole (before ++ after) ≡ without_partial n (spool_of own files) =
+      sym (laws.abandoned_is own.quota own.limit whole before after file sound) ∙ ap (without_partial n) (sym spool_is) in
+      let blocks : left ≡ used_blocks (spool_with own whole (before ++ after)) =
+      omega (arith, laws.used-partial own.quota own.limit whole before after file, is.counted, ap used_blocks spool_is) in
       let kept : IsOwn new (put files n x) = record {
-        counted = blocks ∙ ap used (sym is_now);
+        counted = blocks ∙ ap used_blocks (sym is_now);
         sound = rw is_now (laws.sound_abandoned own.quota own.limit whole before after file sound);
-        whole_once = λ m. is.whole_once m ∙ sym (counted-put is_whole files n x (ap is_whole free ∙ sym (ap is_whole stage)) m);
+        whole_once = λ m. is.whole_once m ∙ sym (counted-put is_whole_stage files n x (ap is_whole_stage free ∙ sym (ap is_whole_stage stage)) m);
         partial_once = λ m.
             elim (cases_eq m n) [
               | inl same ↦
@@ -123,7 +123,7 @@ module _ (own : CustomerFiles) (files : ℕ → Content) (n : ℕ) (is : IsOwn o
   -- the file is the last whole one
   pub finishes : (x : Content) (own' : CustomerFiles) → x ≡ record (files n) { stage = Whole Ready } →
       own' ≡ record own { whole = own.whole ++ n ∷ []; partial = filter (λ m. not (eqb m n)) own.partial } →
-      IsOwn own' (put files n x) × (spool_of own' (put files n x) ≡ finished n (spool_of own files))
+      IsOwn own' (put files n x) × (spool_of own' (put files n x) ≡ with_finished n (spool_of own files))
   finishes x own' same owns =
       let stays : x.stage ≡ Whole Ready = ap (λ (y : Content). y.stage) same in
       let new : CustomerFiles = record own { whole = own.whole ++ n ∷ []; partial = once.before ++ once.after } in
@@ -137,23 +137,23 @@ module _ (own : CustomerFiles) (files : ℕ → Content) (n : ℕ) (is : IsOwn o
       let is_now : spool_of new (put files n x) ≡ spool_with own (whole ++ as_whole file ∷ []) (before ++ after) =
       ap (λ (fs : List WholeFile). spool_with own fs (map (partial_file (put files n x)) (once.before ++ once.after))) whole_now
       ∙ ap (spool_with own (whole ++ as_whole file ∷ [])) (rest_kept x) in
-      let says : spool_with own (whole ++ as_whole file ∷ []) (before ++ after) ≡ finished n (spool_of own files) =
-      sym (laws.finished_is own.quota own.limit whole before after file sound) ∙ ap (finished n) (sym spool_is) in
-      let blocks : own.used ≡ used (spool_with own (whole ++ as_whole file ∷ []) (before ++ after)) =
-      omega (arith, laws.used-finished own.quota own.limit whole before after file, is.counted, ap used spool_is) in
+      let says : spool_with own (whole ++ as_whole file ∷ []) (before ++ after) ≡ with_finished n (spool_of own files) =
+      sym (laws.finished_is own.quota own.limit whole before after file sound) ∙ ap (with_finished n) (sym spool_is) in
+      let blocks : own.used ≡ used_blocks (spool_with own (whole ++ as_whole file ∷ []) (before ++ after)) =
+      omega (arith, laws.used-finished own.quota own.limit whole before after file, is.counted, ap used_blocks spool_is) in
       let kept : IsOwn new (put files n x) = record {
-        counted = blocks ∙ ap used (sym is_now);
+        counted = blocks ∙ ap used_blocks (sym is_now);
         sound = rw is_now (laws.sound_finished own.quota own.limit whole before after file sound);
         whole_once = λ m.
             elim (cases_eq m n) [
               | inl same_number ↦
-                  let here : ◌≡◌ {A = ℕ} (cond (is_whole (put files n x m).stage) 1 0) 1 = rw (same_number, eq-eqb n n refl, stays) refl in
+                  let here : ◌≡◌ {A = ℕ} (cond (is_whole_stage (put files n x m).stage) 1 0) 1 = rw (same_number, eq-eqb n n refl, stays) refl in
                   let one : ◌≡◌ {A = ℕ} (cond (eqb n m) 1 0) 1 = rw (eq-eqb n m (sym same_number)) refl in
                   let was : count_by (is_at m) own.whole ≡ 0 = ap (λ (k : ℕ). count_by (is_at k) own.whole) same_number
-                  ∙ once_none (is_whole (files n).stage) (count_by (is_at n) own.whole) (is.whole_once n) (ap is_whole stage) in
+                  ∙ once_none (is_whole_stage (files n).stage) (count_by (is_at n) own.whole) (is.whole_once n) (ap is_whole_stage stage) in
                   omega (arith, sum_by_push (λ k. cond {A = ℕ} (is_at m k) 1 0) own.whole n)
               | inr other ↦
-                  let there : ◌≡◌ {A = ℕ} (cond (is_whole (put files n x m).stage) 1 0) (cond (is_whole (files m).stage) 1 0) =
+                  let there : ◌≡◌ {A = ℕ} (cond (is_whole_stage (put files n x m).stage) 1 0) (cond (is_whole_stage (files m).stage) 1 0) =
                   rw (ne_eqb m n other) refl in
                   let none : ◌≡◌ {A = ℕ} (cond (eqb n m) 1 0) 0 = rw (ne_eqb n m (λ e. other (sym e))) refl in
                   omega (arith, sum_by_push (λ k. cond {A = ℕ} (is_at m k) 1 0) own.whole n, is.whole_once m)
@@ -183,20 +183,20 @@ module _ (own : CustomerFiles) (files : ℕ → Content) (n : ℕ) (is : IsOwn o
   abbrev longer : Stored → PartialFile
   longer r = record file { records = (files n).records ++ r ∷ [] }
 
-  appended_is : (r : Stored) → spool_with own whole (before ++ longer r ∷ after) ≡ appended n r (spool_of own files)
-  appended_is r = sym (laws.appended_is own.quota own.limit whole before after file r sound) ∙ ap (appended n r) (sym spool_is)
+  appended_is : (r : Stored) → spool_with own whole (before ++ longer r ∷ after) ≡ with_appended n r (spool_of own files)
+  appended_is r = sym (laws.appended_is own.quota own.limit whole before after file r sound) ∙ ap (with_appended n r) (sym spool_is)
 
   -- the blocks that are used with the record, counted from those without it
-  pub used-appended : (r : Stored) → used (appended n r (spool_of own files)) ≡ own.used - cost (files n).records + cost
+  pub used-appended : (r : Stored) → used_blocks (with_appended n r (spool_of own files)) ≡ own.used - cost (files n).records + cost
       ((files n).records ++ r ∷ [])
   used-appended r =
       omega (
         arith,
-        ap used (appended_is r),
+        ap used_blocks (appended_is r),
         laws.used-partial own.quota own.limit whole before after (longer r),
         laws.used-partial own.quota own.limit whole before after file,
         is.counted,
-        ap used spool_is,
+        ap used_blocks spool_is,
       )
 
   append_fault-room : (r : Stored) (room : Bool) → has_room_for n r (spool_of own files) ≡ room →
@@ -208,17 +208,17 @@ module _ (own : CustomerFiles) (files : ℕ → Content) (n : ℕ) (is : IsOwn o
   pub append_fault-full : (r : Stored) → own.quota < own.used - cost (files n).records + cost ((files n).records ++ r ∷ []) →
       append_fault n r (spool_of own files) ≡ Some QuotaFull
   append_fault-full r over =
-      append_fault-room r false (lt-leb (used (appended n r (spool_of own files))) own.quota (omega (arith, used-appended r)))
+      append_fault-room r false (lt-leb (used_blocks (with_appended n r (spool_of own files))) own.quota (omega (arith, used-appended r)))
 
   pub append_fault-none : (r : Stored) → own.used - cost (files n).records + cost ((files n).records ++ r ∷ []) ≤ own.quota →
       append_fault n r (spool_of own files) ≡ None
   append_fault-none r fits =
-      append_fault-room r true (le-leb (used (appended n r (spool_of own files))) own.quota (omega (arith, used-appended r)))
+      append_fault-room r true (le-leb (used_blocks (with_appended n r (spool_of own files))) own.quota (omega (arith, used-appended r)))
 
   pub appends : (r : Stored) (x : Content) (own' : CustomerFiles) (blocks : ℕ) →
       x ≡ record (files n) { records = (files n).records ++ r ∷ [] } → own' ≡ record own { used = blocks } →
       blocks ≡ own.used - cost (files n).records + cost ((files n).records ++ r ∷ []) → blocks ≤ own.quota →
-      IsOwn own' (put files n x) × (spool_of own' (put files n x) ≡ appended n r (spool_of own files))
+      IsOwn own' (put files n x) × (spool_of own' (put files n x) ≡ with_appended n r (spool_of own files))
   appends r x own' blocks same owns counts fits =
       let stays : x.stage ≡ (files n).stage = ap (λ (y : Content). y.stage) same in
       let new : CustomerFiles = record own { used = blocks } in
@@ -232,12 +232,12 @@ module _ (own : CustomerFiles) (files : ℕ → Content) (n : ℕ) (is : IsOwn o
       let is_now : spool_of new (put files n x) ≡ spool_with own whole (before ++ longer r ∷ after) =
       ap (λ (fs : List WholeFile). spool_with own fs (map (partial_file (put files n x)) own.partial)) (whole_kept x)
       ∙ ap (spool_with own whole) partial_now in
-      let used_now : used (spool_with own whole (before ++ longer r ∷ after)) ≡ blocks = ap used (appended_is r)
+      let used_now : used_blocks (spool_with own whole (before ++ longer r ∷ after)) ≡ blocks = ap used_blocks (appended_is r)
       ∙ used-appended r ∙ sym counts in
       let kept : IsOwn new (put files n x) = record {
-        counted = sym used_now ∙ ap used (sym is_now);
+        counted = sym used_now ∙ ap used_blocks (sym is_now);
         sound = rw is_now (laws.sound_replaced own.quota own.limit whole before after file (longer r) refl (omega (arith, used_now)) sound);
-        whole_once = λ m. is.whole_once m ∙ sym (counted-put is_whole files n x (ap is_whole stays) m);
+        whole_once = λ m. is.whole_once m ∙ sym (counted-put is_whole_stage files n x (ap is_whole_stage stays) m);
         partial_once = λ m. is.partial_once m ∙ sym (counted-put is_partial files n x (ap is_partial stays) m);
       } in (
         subst (λ (o : CustomerFiles). IsOwn o (put files n x)) (sym owns) kept,
@@ -249,8 +249,8 @@ module _ (own : CustomerFiles) (files : ℕ → Content) (n : ℕ) (is : IsOwn o
 pub record HasNoPartial (own : CustomerFiles) (files : ℕ → Content) (n : ℕ) : Type 0 where
   pub none : partial_numbered n (spool_of own files) ≡ None
   pub appends : (r : Stored) → append_fault n r (spool_of own files) ≡ Some NoSuchFile
-  pub abandons : abandoned n (spool_of own files) ≡ spool_of own files
-  pub finishes : finished n (spool_of own files) ≡ spool_of own files
+  pub abandons : without_partial n (spool_of own files) ≡ spool_of own files
+  pub finishes : with_finished n (spool_of own files) ≡ spool_of own files
 
 pub has_no_partial : (own : CustomerFiles) (files : ℕ → Content) (n : ℕ) → IsOwn own files → is_partial (files n).stage ≡ false
     → HasNoPartial own files n
@@ -265,5 +265,5 @@ has_no_partial own files n is other =
       appends = λ r. ap (λ found. option_or (fault_unless found NoSuchFile) (fault_unless (has_room_for n r s) QuotaFull))
           (ap is_some none);
       abandons = ap (λ (partial : List PartialFile). record s { partial = partial }) (filter_none (laws.is_partial n) s.partial empty);
-      finishes = rw (none, finished) refl;
+      finishes = rw (none, with_finished) refl;
     }

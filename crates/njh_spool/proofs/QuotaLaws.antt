@@ -3,18 +3,18 @@ use Rattle.std.proofs.Common.{ℕ, zero, suc, ◌+◌, ◌<◌, ◌≤◌, List,
 use Rattle.std.specs.Prelude.{All}
 use Rattle.std.proofs.lemmas.List.Elements.{All-head, All-tail}
 use Rattle.std.proofs.lemmas.List.Sums.{sum_by-cons}
-use Rattle.njh_spool.specs.CustomerSpool.{CustomerSpool, used}
+use Rattle.njh_spool.specs.CustomerSpool.{CustomerSpool, used_blocks}
 use Rattle.njh_spool.specs.Spools.{no_spool}
 
 abbrev pub IsWithin : CustomerSpool → Type 0
-IsWithin s = used s ≤ s.quota
+IsWithin s = used_blocks s ≤ s.quota
 
-sum_by-used : (spools : List CustomerSpool) → All IsWithin spools → sum_by used spools ≤ sum_by (λ (s : CustomerSpool). s.quota) spools
+sum_by-used : (spools : List CustomerSpool) → All IsWithin spools → sum_by used_blocks spools ≤ sum_by (λ (s : CustomerSpool). s.quota) spools
 sum_by-used [] within_all = omega arith
 sum_by-used (s ∷ spools) within_all =
     omega (
       arith,
-      sum_by-cons used s spools,
+      sum_by-cons used_blocks s spools,
       sum_by-cons (λ (t : CustomerSpool). t.quota) s spools,
       All-head IsWithin s spools
           within_all,
@@ -23,13 +23,13 @@ sum_by-used (s ∷ spools) within_all =
 
 -- what a customer's quota leaves it, all quotas together leave
 pub room_left : (spools : List CustomerSpool) (c blocks : ℕ) → All IsWithin spools → c < length spools →
-    used (get_or spools c no_spool) + blocks ≤ (get_or spools c no_spool).quota → sum_by used spools + blocks ≤ sum_by
+    used_blocks (get_or spools c no_spool) + blocks ≤ (get_or spools c no_spool).quota → sum_by used_blocks spools + blocks ≤ sum_by
     (λ (s : CustomerSpool). s.quota) spools
 room_left [] c blocks within_all within room = absurd (omega arith)
 room_left (s ∷ spools) zero blocks within_all within room =
     omega (
       arith,
-      sum_by-cons used s spools,
+      sum_by-cons used_blocks s spools,
       sum_by-cons (λ (t : CustomerSpool). t.quota) s spools,
       sum_by-used spools
           (All-tail IsWithin s spools within_all),
@@ -37,7 +37,7 @@ room_left (s ∷ spools) zero blocks within_all within room =
 room_left (s ∷ spools) (suc c) blocks within_all within room =
     omega (
       arith,
-      sum_by-cons used s spools,
+      sum_by-cons used_blocks s spools,
       sum_by-cons (λ (t : CustomerSpool). t.quota) s spools,
       All-head IsWithin s spools
           within_all,

@@ -8,7 +8,7 @@ use Rattle.njh_spool.specs.declared.file_slot.Stage.TheVariants.{Free, Partial, 
 use Rattle.njh_spool.specs.declared.customer_files.CustomerFiles.{CustomerFiles}
 use Rattle.njh_spool.specs.CustomerSpool.{WholeFile, PartialFile, partial_numbered}
 use Rattle.njh_spool.specs.Spools.{kind_numbered, records_numbered}
-use Rattle.njh_spool.specs.code.Slots.{Content, is_free, is_partial, is_whole, spool_of, IsOwn}
+use Rattle.njh_spool.specs.code.Slots.{Content, is_free, is_partial, is_whole_stage, spool_of, IsOwn}
 use Rattle.njh_spool.proofs.PartialLaws as partial
 use Rattle.njh_spool.proofs.WholeLaws as whole
 
@@ -43,7 +43,7 @@ file_by_stage own files n Partial is same there =
     }
 file_by_stage own files n (Whole state) is same there =
     let s = spool_of own files in
-    let found = whole.whole_is own files n is (ap is_whole same) (ap is_partial same) in
+    let found = whole.whole_is own files n is (ap is_whole_stage same) (ap is_partial same) in
     record {
       kind = ap (λ w. kind_of w (partial_numbered n s)) found;
       records = ap (λ w. records_of w (partial_numbered n s)) found;
@@ -57,7 +57,7 @@ not_partial_free Free e = refl
 not_partial_free Partial e = cc
 not_partial_free (Whole state) e = refl
 
-pub not_whole_free : (stage : Stage) → is_free stage ≡ true → is_whole stage ≡ false
+pub not_whole_free : (stage : Stage) → is_free stage ≡ true → is_whole_stage stage ≡ false
 not_whole_free Free e = refl
 not_whole_free Partial e = refl
 not_whole_free (Whole state) e = cc
@@ -67,7 +67,7 @@ partial_stage Free e = cc
 partial_stage Partial e = refl
 partial_stage (Whole state) e = cc
 
-pub whole_not_partial : (stage : Stage) → is_whole stage ≡ true → is_partial stage ≡ false
+pub whole_not_partial : (stage : Stage) → is_whole_stage stage ≡ true → is_partial stage ≡ false
 whole_not_partial Free e = refl
 whole_not_partial Partial e = cc
 whole_not_partial (Whole state) e = refl

@@ -10,7 +10,7 @@ use Rattle.njh_record.specs.Stored.{Stored}
 use Rattle.njh_spool.specs.declared.file_slot.FileSlot.{FileSlot}
 use Rattle.njh_spool.specs.code.Chains.{Chain, IsMark}
 use Rattle.njh_spool.specs.CustomerSpool.{stored_size}
-use Rattle.njh_spool.specs.code.Packing.{packed_record, packed, unpacked, IsShort}
+use Rattle.njh_spool.specs.code.Packing.{packed_record, packed_bytes, unpacked_records, IsShort}
 use Rattle.njh_spool.specs.declared.file_slot.RecordPlace.{RecordPlace}
 use Rattle.njh_spool.specs.declared.store.block_mark.Mark.{Mark}
 use Rattle.njh_spool.specs.code.Slots.{IsPlace, IsFile}
@@ -47,14 +47,14 @@ lies_behind front bytes place r lies =
 -- the k-th record lies behind those before it
 pub record IsAt (records : List Stored) (k : ℕ) (r : Stored) : Type 0 where
   pub found : slice_get records k ≡ Some r
-  pub lies : LiesAt (packed records) (stored_size (take k records)) r
+  pub lies : LiesAt (packed_bytes records) (stored_size (take k records)) r
   pub next : stored_size (take (suc k) records) ≡ stored_size (take k records) + (3 + length r.bytes)
   pub short : IsShort r
 
 pub record_there : (records : List Stored) (k : ℕ) → k < length records → All IsShort records → (r : Stored) × IsAt records k r
 record_there [] k within short = absurd (omega arith)
 record_there (r ∷ records) zero within short =
-    (r, record { found = refl; lies = lies_first r (packed records); next = refl; short = All-head IsShort r records short })
+    (r, record { found = refl; lies = lies_first r (packed_bytes records); next = refl; short = All-head IsShort r records short })
 record_there (r ∷ records) (suc k) within short =
     let rest = record_there records k (omega arith) (All-tail IsShort r records short) in
     let before = sum_by-cons (λ (x : Stored). 3 + length x.bytes) r (take k records) in
@@ -64,7 +64,7 @@ record_there (r ∷ records) (suc k) within short =
       rest.0,
       record {
         found = rest.1.found;
-        lies = subst (λ (n : ℕ). LiesAt (packed (r ∷ records)) n rest.0) place (lies_behind (packed_record r) (packed records)
+        lies = subst (λ (n : ℕ). LiesAt (packed_bytes (r ∷ records)) n rest.0) place (lies_behind (packed_record r) (packed_bytes records)
             (stored_size (take k records)) rest.0 rest.1.lies);
         next = omega (arith, rest.1.next, before, after);
         short = rest.1.short;
@@ -73,27 +73,27 @@ record_there (r ∷ records) (suc k) within short =
 
 -- the same in a file
 pub in_file : (slot : FileSlot) (chain : Chain) (k : ℕ) → IsFile slot chain → k < slot.count →
-    (r : Stored) × IsAt (unpacked slot.count chain.bytes) k r × LiesAt chain.bytes
-    (stored_size (take k (unpacked slot.count chain.bytes))) r
+    (r : Stored) × IsAt (unpacked_records slot.count chain.bytes) k r × LiesAt chain.bytes
+    (stored_size (take k (unpacked_records slot.count chain.bytes))) r
 in_file slot chain k file within =
-    let there = record_there (unpacked slot.count chain.bytes) k (omega (arith, length-unpacked slot.count chain.bytes)) file.short in (
+    let there = record_there (unpacked_records slot.count chain.bytes) k (omega (arith, length-unpacked slot.count chain.bytes)) file.short in (
       there.0,
       there.1,
-      subst (λ (bytes : List ℕ). LiesAt bytes (stored_size (take k (unpacked slot.count chain.bytes))) there.0)
+      subst (λ (bytes : List ℕ). LiesAt bytes (stored_size (take k (unpacked_records slot.count chain.bytes))) there.0)
           (sym file.bytes) there.1.lies,
     )
 
 -- where the record after one begins
 pub next_place : (slot : FileSlot) (chain : Chain) (from : RecordPlace) (r : Stored) (size : ℕ) (mark : Mark) →
-    IsPlace (unpacked slot.count chain.bytes) chain.keys from → IsAt (unpacked slot.count chain.bytes) from.record_index r →
-    from.record_index < slot.count → length r.bytes ≡ size → IsMark chain.keys mark → IsPlace (unpacked slot.count chain.bytes)
+    IsPlace (unpacked_records slot.count chain.bytes) chain.keys from → IsAt (unpacked_records slot.count chain.bytes) from.record_index r →
+    from.record_index < slot.count → length r.bytes ≡ size → IsMark chain.keys mark → IsPlace (unpacked_records slot.count chain.bytes)
     chain.keys (record { record_index = from.record_index + 1; place = from.place + 3 + size; mark = mark })
 next_place slot chain from r size mark place here more length_is is_mark =
     let next : from.record_index + 1 ≡ suc from.record_index = omega arith in
-    let total : from.place + 3 + size ≡ stored_size (take (suc from.record_index) (unpacked slot.count chain.bytes)) =
+    let total : from.place + 3 + size ≡ stored_size (take (suc from.record_index) (unpacked_records slot.count chain.bytes)) =
     omega (arith, place.place, here.next) in
     record {
       before = omega (arith, length-unpacked slot.count chain.bytes);
-      place = total ∙ ap (λ (n : ℕ). stored_size (take n (unpacked slot.count chain.bytes))) (sym next);
+      place = total ∙ ap (λ (n : ℕ). stored_size (take n (unpacked_records slot.count chain.bytes))) (sym next);
       mark = is_mark;
     }

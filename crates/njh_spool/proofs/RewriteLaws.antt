@@ -9,7 +9,7 @@ use Rattle.njh_record.specs.Bytes.{with_field, two_bytes}
 use Rattle.njh_record.specs.Stored.{Stored}
 use Rattle.njh_spool.specs.declared.file_slot.RecordPlace.{RecordPlace}
 use Rattle.njh_spool.specs.CustomerSpool.{stored_size, at_index, rewritten_record}
-use Rattle.njh_spool.specs.code.Packing.{packed_record, packed, IsShort}
+use Rattle.njh_spool.specs.code.Packing.{packed_record, packed_bytes, IsShort}
 use Rattle.njh_spool.specs.code.Slots.{IsPlace}
 use Rattle.njh_spool.proofs.CostLaws.{length-with_field}
 use Rattle.njh_spool.proofs.PackingLaws.{length-packed_record}
@@ -43,19 +43,19 @@ packed_rewritten r new place fits =
 
 pub packed-at_index : (k place : ℕ) (new : List ℕ) (records : List Stored) → k < length records →
     IsSomeAnd (slice_get records k) (λ r. place + length new ≤ length r.bytes) →
-    with_field (stored_size (take k records) + 3 + place) new (packed records) ≡ packed (at_index k (rewritten_record place new) records)
+    with_field (stored_size (take k records) + 3 + place) new (packed_bytes records) ≡ packed_bytes (at_index k (rewritten_record place new) records)
 packed-at_index k place new [] within fits = absurd (omega arith)
 packed-at_index zero place new (r ∷ records) within fits =
     let start : stored_size [] + 3 + place ≡ 3 + place = omega arith in
-    ap (λ (n : ℕ). with_field n new (packed_record r ++ packed records)) start
-    ∙ with_field-front (packed_record r) (packed records) new (3 + place) (omega (arith, length-packed_record r, fits))
-    ∙ ap (λ (xs : List ℕ). xs ++ packed records) (sym (packed_rewritten r new place fits))
+    ap (λ (n : ℕ). with_field n new (packed_record r ++ packed_bytes records)) start
+    ∙ with_field-front (packed_record r) (packed_bytes records) new (3 + place) (omega (arith, length-packed_record r, fits))
+    ∙ ap (λ (xs : List ℕ). xs ++ packed_bytes records) (sym (packed_rewritten r new place fits))
 packed-at_index (suc k) place new (r ∷ records) within fits =
     let before = sum_by-cons (λ (x : Stored). 3 + length x.bytes) r (take k records) in
     let start : stored_size (take (suc k) (r ∷ records)) + 3 + place ≡ length (packed_record r) +
     (stored_size (take k records) + 3 + place) = omega (arith, length-packed_record r, before) in
-    ap (λ (n : ℕ). with_field n new (packed_record r ++ packed records)) start
-    ∙ with_field-behind (packed_record r) (packed records) new (stored_size (take k records) + 3 + place)
+    ap (λ (n : ℕ). with_field n new (packed_record r ++ packed_bytes records)) start
+    ∙ with_field-behind (packed_record r) (packed_bytes records) new (stored_size (take k records) + 3 + place)
     ∙ ap (λ (xs : List ℕ). packed_record r ++ xs) (packed-at_index k place new records (omega arith) fits)
 
 All-cons : (P : Stored → Type 0) (x : Stored) (xs : List Stored) → P x → All P xs → All P (x ∷ xs)

@@ -4,8 +4,8 @@ use Rattle.std.proofs.Common.{length-append, eq-eqb}
 use Rattle.std.specs.List.{list_any}
 use Rattle.std.proofs.lemmas.List.Sums.{sum_by-cons, sum_by-append}
 use Rattle.njh_record.specs.Stored.{Stored}
-use Rattle.njh_spool.specs.CustomerSpool.{CustomerSpool, WholeFile, PartialFile, cost, used, partial_numbered, whole_numbered, appended}
-use Rattle.njh_spool.specs.CustomerSpool.{abandoned, finished, as_whole, removed, on_file}
+use Rattle.njh_spool.specs.CustomerSpool.{CustomerSpool, WholeFile, PartialFile, cost, used_blocks, partial_numbered, whole_numbered, with_appended}
+use Rattle.njh_spool.specs.CustomerSpool.{without_partial, with_finished, as_whole, without_whole, on_file}
 use Rattle.njh_spool.specs.Spools.{IsSound, files_numbered}
 use Rattle.njh_spool.proofs.OnlyOne.{list_any-from_count, count_by_one, filter_one, map_one, find_one}
 
@@ -16,7 +16,7 @@ abbrev pub is_partial : ℕ → PartialFile → Bool
 is_partial n f = eqb f.number n
 
 -- a spool that needs no more than a sound one is sound
-pub sound_within : (s t : CustomerSpool) → IsSound s → t.quota ≡ s.quota → t.limit ≡ s.limit → used t ≤ s.quota →
+pub sound_within : (s t : CustomerSpool) → IsSound s → t.quota ≡ s.quota → t.limit ≡ s.limit → used_blocks t ≤ s.quota →
     length t.whole + length t.partial ≤ s.limit → ((n : ℕ) → files_numbered n t ≤ files_numbered n s) → IsSound t
 sound_within s t sound quota limit blocks files numbers =
     record {
@@ -54,26 +54,26 @@ module _ (quota limit : ℕ) (whole : List WholeFile) (before after : List Parti
       (spool_with (before ++ f ∷ after)) ≡ Some f
   partial_numbered_is sound = find_one (is_partial f.number) before after f (eq-eqb f.number f.number refl) (partial_alone sound).1
 
-  pub abandoned_is : IsSound (spool_with (before ++ f ∷ after)) → abandoned f.number (spool_with (before ++ f ∷ after)) ≡
+  pub abandoned_is : IsSound (spool_with (before ++ f ∷ after)) → without_partial f.number (spool_with (before ++ f ∷ after)) ≡
       spool_with (before ++ after)
   abandoned_is sound =
       let alone = partial_alone sound in
       ap spool_with (filter_one (is_partial f.number) before after f (eq-eqb f.number f.number refl) alone.1 alone.2)
 
   pub appended_is : (r : Stored) → IsSound (spool_with (before ++ f ∷ after)) →
-      appended f.number r (spool_with (before ++ f ∷ after)) ≡ spool_with (before ++ record f { records = f.records ++ r ∷ [] } ∷ after)
+      with_appended f.number r (spool_with (before ++ f ∷ after)) ≡ spool_with (before ++ record f { records = f.records ++ r ∷ [] } ∷ after)
   appended_is r sound =
       let alone = partial_alone sound in
       ap spool_with (map_one (is_partial f.number) (λ g. record g { records = g.records ++ r ∷ [] }) before after f
       (eq-eqb f.number f.number refl) alone.1 alone.2)
 
-  pub finished_is : IsSound (spool_with (before ++ f ∷ after)) → finished f.number (spool_with (before ++ f ∷ after)) ≡
+  pub finished_is : IsSound (spool_with (before ++ f ∷ after)) → with_finished f.number (spool_with (before ++ f ∷ after)) ≡
       record { quota = quota; limit = limit; whole = whole ++ as_whole f ∷ []; partial = before ++ after }
   finished_is sound =
-      rw (partial_numbered_is sound, finished) (ap (λ (s : CustomerSpool). record s { whole = whole ++ as_whole f ∷ [] })
+      rw (partial_numbered_is sound, with_finished) (ap (λ (s : CustomerSpool). record s { whole = whole ++ as_whole f ∷ [] })
       (abandoned_is sound))
 
-  pub used-partial : used (spool_with (before ++ f ∷ after)) ≡ used (spool_with (before ++ after)) + cost f.records
+  pub used-partial : used_blocks (spool_with (before ++ f ∷ after)) ≡ used_blocks (spool_with (before ++ after)) + cost f.records
   used-partial = omega (arith, sum_by_one (λ (g : PartialFile). cost g.records) before after f)
 
   pub sound_abandoned : IsSound (spool_with (before ++ f ∷ after)) → IsSound (spool_with (before ++ after))
@@ -83,7 +83,7 @@ module _ (quota limit : ℕ) (whole : List WholeFile) (before after : List Parti
       (omega (arith, length_one before after f, sound.within_limit))
       (λ n. omega (arith, sum_by_one (λ g. cond (is_partial n g) 1 0) before after f))
 
-  pub sound_replaced : (g : PartialFile) → g.number ≡ f.number → used (spool_with (before ++ g ∷ after)) ≤ quota →
+  pub sound_replaced : (g : PartialFile) → g.number ≡ f.number → used_blocks (spool_with (before ++ g ∷ after)) ≤ quota →
       IsSound (spool_with (before ++ f ∷ after)) → IsSound (spool_with (before ++ g ∷ after))
   sound_replaced g same fits sound =
       sound_within (spool_with (before ++ f ∷ after)) (spool_with (before ++ g ∷ after)) sound refl refl fits
@@ -92,13 +92,13 @@ module _ (quota limit : ℕ) (whole : List WholeFile) (before after : List Parti
       let number = ap (λ (m : ℕ). cond {A = ℕ} (eqb m n) 1 0) same in
       omega (arith, sum_by_one (λ h. cond (is_partial n h) 1 0) before after f, sum_by_one (λ h. cond (is_partial n h) 1 0) before after g))
 
-  pub used-finished : used (record {
+  pub used-finished : used_blocks (record {
     quota = quota;
     limit = limit;
     whole = whole ++ as_whole f ∷ [];
     partial = before
         ++ after;
-  }) ≡ used (spool_with (before ++ f ∷ after))
+  }) ≡ used_blocks (spool_with (before ++ f ∷ after))
   used-finished = omega (arith, used-partial, sum_by-append (λ (g : WholeFile). cost g.records) whole (as_whole f ∷ []))
 
   pub sound_finished : IsSound (spool_with (before ++ f ∷ after)) →
@@ -135,7 +135,7 @@ module _ (quota limit : ℕ) (partial : List PartialFile) (before after : List W
       (spool_of_whole (before ++ f ∷ after)) ≡ Some f
   whole_numbered_is sound = find_one (is_whole f.number) before after f (eq-eqb f.number f.number refl) (whole_alone sound).1
 
-  pub removed_is : IsSound (spool_of_whole (before ++ f ∷ after)) → removed f.number (spool_of_whole (before ++ f ∷ after)) ≡
+  pub removed_is : IsSound (spool_of_whole (before ++ f ∷ after)) → without_whole f.number (spool_of_whole (before ++ f ∷ after)) ≡
       spool_of_whole (before ++ after)
   removed_is sound =
       let alone = whole_alone sound in
@@ -147,7 +147,7 @@ module _ (quota limit : ℕ) (partial : List PartialFile) (before after : List W
       let alone = whole_alone sound in
       ap spool_of_whole (map_one (is_whole f.number) change before after f (eq-eqb f.number f.number refl) alone.1 alone.2)
 
-  pub used-whole : used (spool_of_whole (before ++ f ∷ after)) ≡ used (spool_of_whole (before ++ after)) + cost f.records
+  pub used-whole : used_blocks (spool_of_whole (before ++ f ∷ after)) ≡ used_blocks (spool_of_whole (before ++ after)) + cost f.records
   used-whole = omega (arith, sum_by_one (λ (g : WholeFile). cost g.records) before after f)
 
   pub sound_removed : IsSound (spool_of_whole (before ++ f ∷ after)) → IsSound (spool_of_whole (before ++ after))
@@ -157,7 +157,7 @@ module _ (quota limit : ℕ) (partial : List PartialFile) (before after : List W
       (omega (arith, length_one before after f, sound.within_limit))
       (λ n. omega (arith, sum_by_one (λ g. cond (is_whole n g) 1 0) before after f))
 
-  pub used-changed : (g : WholeFile) → cost g.records ≡ cost f.records → used (spool_of_whole (before ++ g ∷ after)) ≡ used
+  pub used-changed : (g : WholeFile) → cost g.records ≡ cost f.records → used_blocks (spool_of_whole (before ++ g ∷ after)) ≡ used_blocks
       (spool_of_whole (before ++ f ∷ after))
   used-changed g same = omega (
     arith,

@@ -11,9 +11,9 @@ use Rattle.njh_spool.specs.declared.file_headers.KeptHeaders.{KeptHeaders}
 use Rattle.njh_spool.specs.declared.customer_files.CustomerFiles.{CustomerFiles}
 use Rattle.njh_spool.specs.code.Chains.{StoreValue}
 use Rattle.njh_spool.specs.CustomerSpool.{CustomerSpool}
-use Rattle.njh_spool.specs.Spools.{part}
+use Rattle.njh_spool.specs.Spools.{spool_at}
 use Rattle.njh_spool.specs.Headers.{headers_of, summary}
-use Rattle.njh_spool.specs.code.Slots.{Content, contents, slot_of, chain_of, is_whole, state_of, whole_file, spools_of, IsKept}
+use Rattle.njh_spool.specs.code.Slots.{Content, contents, slot_of, chain_of, is_whole_stage, state_of, whole_file, spools_of, IsKept}
 use Rattle.njh_spool.proofs.KeptLaws.{has_own, own_of}
 use Rattle.njh_spool.proofs.PackingLaws.{length-unpacked}
 
@@ -43,7 +43,7 @@ stage_of_one false count is some = absurd (omega arith)
 
 -- a whole file's summary is what its slot tells
 pub summary_numbered : (store : StoreValue) (slots : List FileSlot) (customers : List CustomerFiles) (c n : ℕ) →
-    IsKept store slots customers → is_whole (slot_of slots c n).stage ≡ true →
+    IsKept store slots customers → is_whole_stage (slot_of slots c n).stage ≡ true →
     summary (whole_file (contents slots store.chains c) n) ≡ slot_summary n (slot_of slots c n)
 summary_numbered store slots customers c n kept whole =
     let slot = slot_of slots c n in
@@ -53,8 +53,8 @@ summary_numbered store slots customers c n kept whole =
 
 pub summary_is : (store : StoreValue) (slots : List FileSlot) (customers : List CustomerFiles) (c i n : ℕ) →
     IsKept store slots customers → c < length (spools_of customers (contents slots store.chains)) →
-    IsSomeAnd (slice_get (part c (spools_of customers (contents slots store.chains))).whole i) (λ f. n ≡ f.number) →
-    option_map summary (slice_get (part c (spools_of customers (contents slots store.chains))).whole i) ≡ Some
+    IsSomeAnd (slice_get (spool_at c (spools_of customers (contents slots store.chains))).whole i) (λ f. n ≡ f.number) →
+    option_map summary (slice_get (spool_at c (spools_of customers (contents slots store.chains))).whole i) ≡ Some
     (slot_summary n (slot_of slots c n))
 summary_is store slots customers c i n kept inside at =
     let has = has_own store slots customers c kept inside in
@@ -63,7 +63,7 @@ summary_is store slots customers c i n kept inside at =
     let slot = slot_of slots c n in
     let chain = chain_of store.chains c n in
     let there = listed files own.whole i n (rw has.part at at) in
-    let whole = stage_of_one (is_whole slot.stage) (count_by (λ m. eqb m n) own.whole) (has.own.whole_once n) there.0 in
+    let whole = stage_of_one (is_whole_stage slot.stage) (count_by (λ m. eqb m n) own.whole) (has.own.whole_once n) there.0 in
     let said = kept.headers c n whole in
     let records = (files n).records in
     let one : option_map summary (Some (whole_file files n)) ≡ Some (slot_summary n slot) =

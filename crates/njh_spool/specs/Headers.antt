@@ -5,14 +5,14 @@ use Rattle.njh_record.specs.Stored.{Stored}
 use Rattle.njh_record.specs.declared.Kind.{Kind}
 use Rattle.njh_record.specs.declared.Kind.TheVariants.{In, Out}
 use Rattle.njh_header.specs.Headers.{JobHeader}
-use Rattle.njh_header.specs.FileHeaders.{name_of, owner_of, destination_of}
+use Rattle.njh_header.specs.FileHeaders.{name_of, file_owner, destination_of}
 use Rattle.njh_spool.specs.declared.file_headers.FileHeaders.{FileHeaders}
 use Rattle.njh_spool.specs.declared.file_headers.KeptHeaders.{KeptHeaders}
 use Rattle.njh_spool.specs.declared.file_headers.FileSummary.{FileSummary}
 use Rattle.njh_spool.specs.CustomerSpool.{WholeFile}
 
 abbrev pub headers_of : Kind → List Stored → FileHeaders
-headers_of kind records = record { name = name_of records; owner = owner_of records; destination = destination_of kind records }
+headers_of kind records = record { name = name_of records; owner = file_owner records; destination = destination_of kind records }
 
 -- the records up to the first that is no job header or continuation of one, that one too
 abbrev pub reach_of : List Stored → ℕ

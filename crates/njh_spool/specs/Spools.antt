@@ -8,7 +8,7 @@ use Rattle.njh_record.specs.declared.Kind.{Kind}
 use Rattle.njh_spool.specs.declared.SpoolFault.{SpoolFault}
 use Rattle.njh_spool.specs.declared.SpoolFault.TheVariants.{QuotaFull, TooManyFiles, NoSuchFile}
 use Rattle.njh_table.specs.declared.limits.TheConstants.{MAX_QUOTA, MAX_FILES}
-use Rattle.njh_spool.specs.CustomerSpool.{CustomerSpool, empty_spool, used, has_file_room, has_block, partial_numbered}
+use Rattle.njh_spool.specs.CustomerSpool.{CustomerSpool, empty_spool, used_blocks, has_file_room, has_block, partial_numbered}
 use Rattle.njh_spool.specs.CustomerSpool.{whole_numbered}
 use Rattle.njh_spool.specs.CustomerSpool.{has_room_for}
 
@@ -17,8 +17,8 @@ abbrev pub no_spool : CustomerSpool
 no_spool = empty_spool 0 0
 
 -- a customer's part of the spool
-abbrev pub part : ℕ → List CustomerSpool → CustomerSpool
-part c spools = slice_index_or spools c no_spool
+abbrev pub spool_at : ℕ → List CustomerSpool → CustomerSpool
+spool_at c spools = slice_index_or spools c no_spool
 
 -- how many files have a number
 abbrev pub files_numbered : ℕ → CustomerSpool → ℕ
@@ -26,7 +26,7 @@ files_numbered n s = count_by (λ f. f.number == n) s.whole + count_by (λ f. f.
 
 -- what holds of a customer's spool after every call
 pub record IsSound (s : CustomerSpool) : Type 0 where
-  pub within_quota : used s ≤ s.quota
+  pub within_quota : used_blocks s ≤ s.quota
   pub within_limit : length s.whole + length s.partial ≤ s.limit
   pub apart : (n : ℕ) → files_numbered n s ≤ 1
   pub numbered : (n : ℕ) → s.limit ≤ n → files_numbered n s ≡ 0

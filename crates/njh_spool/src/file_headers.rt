@@ -5,7 +5,7 @@ ghost use Rattle.std.specs.Option.{option_map};
 ghost use Rattle.njh_header.specs.FileHeaders.{job_header_of, data_set_header_of};
 ghost use Rattle.njh_spool.specs.code.Chains.{chain_at};
 ghost use Rattle.njh_spool.specs.Headers.{by_headers, kept_headers, reach_of};
-ghost use Rattle.njh_spool.specs.code.Packing.{unpacked};
+ghost use Rattle.njh_spool.specs.code.Packing.{unpacked_records};
 ghost use Rattle.njh_spool.specs.code.Slots.{IsFile};
 
 use crate::State;
@@ -134,7 +134,7 @@ fn execution_by(job: &Option<JobHeader>) -> Option<Destination>
 pub fn read_headers(store: &Store, at: u32, slot: &FileSlot) -> KeptHeaders
     requires range { at < length store.now.chains }
     requires file { IsFile slot.now (chain_at at store.now) }
-    ensures { result ≡ kept_headers slot.now.kind (unpacked slot.now.count (chain_at at store.now).bytes) }
+    ensures { result ≡ kept_headers slot.now.kind (unpacked_records slot.now.count (chain_at at store.now).bytes) }
 {
     let job = read_job_header(&mut RecordReader::of(store, at, *slot));
     match slot.kind {
@@ -159,7 +159,7 @@ pub fn headers_behind(store: &Store, at: u32, slot: &FileSlot, n: u32) -> KeptHe
     requires range { at < length store.now.chains }
     requires file { IsFile slot.now (chain_at at store.now) }
     ensures read { n < slot.now.headers.count → result
-        ≡ kept_headers slot.now.kind (unpacked slot.now.count (chain_at at store.now).bytes) }
+        ≡ kept_headers slot.now.kind (unpacked_records slot.now.count (chain_at at store.now).bytes) }
     ensures same { slot.now.headers.count ≤ n → result ≡ slot.now.headers }
 {
     if n < slot.headers.count {

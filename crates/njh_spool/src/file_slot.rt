@@ -60,7 +60,7 @@ impl KeptPlaces {
 }
 
 impl FileSlot {
-    ghost use Rattle.njh_spool.specs.code.Slots.{free_slot, is_free, is_partial, is_whole, state_of};
+    ghost use Rattle.njh_spool.specs.code.Slots.{free_slot, is_free, is_partial, is_whole_stage, state_of};
 
     /// A slot in which a file begins, or none is.
     pub fn empty(stage: Stage, kind: Kind) -> Self
@@ -88,7 +88,7 @@ impl FileSlot {
     }
 
     pub fn is_whole(&self) -> bool
-        ensures { result ≡ is_whole self.now.stage }
+        ensures { result ≡ is_whole_stage self.now.stage }
     {
         matches!(self.stage, Stage::Whole(_))
     }

@@ -2,9 +2,9 @@
 
 ghost use Rattle.std.specs.Prelude.{◌≡◌, ℕ, ◌+◌, ◌*◌, ◌<◌, ◌≤◌, ◌↔◌, true, false, List, length, sum_by, All};
 ghost use Rattle.njh_record.specs.Stored.{Stored};
-ghost use Rattle.njh_spool.specs.CustomerSpool.{stored_size, CustomerSpool, cost, used, is_number, next_number};
+ghost use Rattle.njh_spool.specs.CustomerSpool.{stored_size, CustomerSpool, cost, used_blocks, is_number, next_number};
 ghost use Rattle.njh_spool.specs.CustomerSpool.{has_file_room};
-ghost use Rattle.njh_spool.specs.Spools.{part};
+ghost use Rattle.njh_spool.specs.Spools.{spool_at};
 
 /// The cost is the least number of blocks of 252 bytes that hold the records.
 pub fn cost_is_least()
@@ -21,7 +21,7 @@ pub fn next_number_is_least()
 /// Where the quotas add to at most the capacity, there is room for what a customer's quota leaves it, whatever the
 /// others hold.
 pub fn quotas_leave_room()
-    ensures { (spools : List CustomerSpool) (capacity c blocks : ℕ) → All (λ s. used s ≤ s.quota) spools
+    ensures { (spools : List CustomerSpool) (capacity c blocks : ℕ) → All (λ s. used_blocks s ≤ s.quota) spools
         → sum_by (λ s. s.quota) spools ≤ capacity → c < length spools
-        → used (part c spools) + blocks ≤ (part c spools).quota → sum_by used spools + blocks ≤ capacity }
+        → used_blocks (spool_at c spools) + blocks ≤ (spool_at c spools).quota → sum_by used_blocks spools + blocks ≤ capacity }
 {}

@@ -4,7 +4,7 @@ ghost use Rattle.std.specs.Prelude.{◌≡◌, ℕ, ◌+◌, ◌*◌, ◌==◌, 
 ghost use Rattle.std.specs.Prelude.{slice_index, slice_index_or, false, IfOk, MatchOption};
 ghost use Rattle.std.specs.Vec.{vec_capacity};
 ghost use Rattle.std.specs.List.{list_any};
-ghost use Rattle.njh_spool.specs.code.NumberEntries.{is_number, numbers_in, before, IsIndexed};
+ghost use Rattle.njh_spool.specs.code.NumberEntries.{is_file_entry, numbers_in, before, IsIndexed};
 
 use njh_table::MAX_FILES;
 use std::alloc::{AllocError, Global};
@@ -35,7 +35,7 @@ pub struct Entries {
 
 /// Whether an entry is no hole.
 fn is_number(entry: u16) -> bool
-    ensures { result ≡ is_number entry }
+    ensures { result ≡ is_file_entry entry }
 {
     u32::from(entry) < MAX_FILES
 }

@@ -3,7 +3,7 @@
 ghost use Rattle.std.specs.Prelude.{◌≡◌, ◌<◌, length, drop, slice_get, None};
 ghost use Rattle.std.specs.Option.{option_map};
 ghost use Rattle.njh_spool.specs.code.Chains.{chain_at};
-ghost use Rattle.njh_spool.specs.code.Packing.{unpacked};
+ghost use Rattle.njh_spool.specs.code.Packing.{unpacked_records};
 ghost use Rattle.njh_spool.specs.code.Slots.{IsFile};
 
 use crate::file_slot::{FileSlot, RecordPlace};
@@ -41,7 +41,7 @@ impl<'a> RecordReader<'a> {
     pub(crate) fn of(store: &'a Store, at: u32, slot: FileSlot) -> Self
         requires range { at < length store.now.chains }
         requires file { IsFile slot (chain_at at store.now) }
-        ensures { result ≡ unpacked slot.count (chain_at at store.now).bytes }
+        ensures { result ≡ unpacked_records slot.count (chain_at at store.now).bytes }
     {
         RecordReader {
             store,

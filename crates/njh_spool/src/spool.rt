@@ -6,10 +6,10 @@ mod whole;
 
 ghost use Rattle.std.specs.Prelude.{◌≡◌, ℕ, ◌+◌, ◌*◌, ◌<◌, ◌≤◌, length, map, IfOk, IsOkUnless, IsSomeAnd, All, Some};
 ghost use Rattle.std.specs.Prelude.{option_map, slice_get, sum_by};
-ghost use Rattle.njh_spool.specs.CustomerSpool.{empty_spool, used};
+ghost use Rattle.njh_spool.specs.CustomerSpool.{empty_spool, used_blocks};
 ghost use Rattle.njh_spool.specs.Headers.{summary};
 ghost use Rattle.njh_spool.specs.Quotas.{IsWithinLimits};
-ghost use Rattle.njh_spool.specs.Spools.{part, files_numbered, IsSound};
+ghost use Rattle.njh_spool.specs.Spools.{spool_at, files_numbered, IsSound};
 
 use crate::SpoolFault;
 use crate::customer_files::{CustomerFiles, open_all};
@@ -87,7 +87,7 @@ impl Spool {
     /// How many blocks a customer's files take, partial ones too.
     pub fn used(&self, customer: u16) -> u32
         requires { customer < length self.now }
-        ensures { result ≡ used (part customer self.now) }
+        ensures { result ≡ used_blocks (spool_at customer self.now) }
     {
         self.customers[usize::from(customer)].used
     }
@@ -95,7 +95,7 @@ impl Spool {
     /// How many whole files a customer has.
     pub fn files(&self, customer: u16) -> u32
         requires { customer < length self.now }
-        ensures { result ≡ length (part customer self.now).whole }
+        ensures { result ≡ length (spool_at customer self.now).whole }
     {
         self.customers[usize::from(customer)].whole.len() as u32
     }
@@ -103,8 +103,8 @@ impl Spool {
     /// A customer's whole file, by its index in order of arrival.
     pub fn file_at(&self, customer: u16, index: u32) -> FileId
         requires range { customer < length self.now }
-        requires index_range { index < length (part customer self.now).whole }
-        ensures { IsSomeAnd (slice_get (part customer self.now).whole index) (λ f. result ≡ f.number) }
+        requires index_range { index < length (spool_at customer self.now).whole }
+        ensures { IsSomeAnd (slice_get (spool_at customer self.now).whole index) (λ f. result ≡ f.number) }
     {
         FileId::of(
             self.customers[usize::from(customer)]
@@ -116,8 +116,8 @@ impl Spool {
     /// What is known of a customer's whole file without a look at its records, by its index in order of arrival.
     pub fn summary_at(&self, customer: u16, index: u32) -> FileSummary
         requires range { customer < length self.now }
-        requires index_range { index < length (part customer self.now).whole }
-        ensures { option_map summary (slice_get (part customer self.now).whole index) ≡ Some result }
+        requires index_range { index < length (spool_at customer self.now).whole }
+        ensures { option_map summary (slice_get (spool_at customer self.now).whole index) ≡ Some result }
     {
         let id = self.file_at(customer, index);
         slot_at(&self.slots, customer, id).summary(id)
@@ -127,11 +127,11 @@ impl Spool {
     /// limit, and no two of them have one number.
     pub fn quota_holds(&self, customer: u16)
         requires { customer < length self.now }
-        ensures blocks { used (part customer self.now) ≤ (part customer self.now).quota }
-        ensures files { length (part customer self.now).whole + length (part customer self.now).partial
-            ≤ (part customer self.now).limit }
-        ensures numbers { (n : ℕ) → files_numbered n (part customer self.now) ≤ 1 }
-        ensures sound { IsSound (part customer self.now) }
+        ensures blocks { used_blocks (spool_at customer self.now) ≤ (spool_at customer self.now).quota }
+        ensures files { length (spool_at customer self.now).whole + length (spool_at customer self.now).partial
+            ≤ (spool_at customer self.now).limit }
+        ensures numbers { (n : ℕ) → files_numbered n (spool_at customer self.now) ≤ 1 }
+        ensures sound { IsSound (spool_at customer self.now) }
     {
         let _store = &self.store;
     }

@@ -6,9 +6,9 @@ use Rattle.njh_record.specs.Stored.{Stored}
 use Rattle.njh_record.specs.declared.Kind.{Kind}
 use Rattle.njh_record.specs.declared.Kind.TheVariants.{In, Out}
 use Rattle.njh_table.specs.Entries.{CustomerEntry}
-use Rattle.njh_spool.specs.CustomerSpool.{CustomerSpool, PartialFile, partial_numbered, partial_records, appended, begun}
-use Rattle.njh_spool.specs.CustomerSpool.{next_number, has_file_room, has_block, is_number, abandoned, has_room_for}
-use Rattle.njh_spool.specs.Spools.{part, no_spool}
+use Rattle.njh_spool.specs.CustomerSpool.{CustomerSpool, PartialFile, partial_numbered, partial_records, with_appended, with_new_partial}
+use Rattle.njh_spool.specs.CustomerSpool.{next_number, has_file_room, has_block, is_number, without_partial, has_room_for}
+use Rattle.njh_spool.specs.Spools.{spool_at, no_spool}
 use Rattle.std.specs.Option.{option_map}
 use Rattle.std.proofs.lemmas.List.{get_or-set_same}
 use Rattle.njh_stream.specs.declared.receiver.Progress.{Progress}
@@ -18,7 +18,7 @@ use Rattle.njh_stream.specs.declared.receiver.Receiver.TheVariants.{Idle, Open, 
 use Rattle.njh_stream.specs.Transmissions.{Verdict, Taken, Cancelled, is_whole, judged_coming, Fitting}
 use Rattle.njh_stream.specs.Receiving.{Arrival, Request, Data, Long}
 use Rattle.njh_stream.specs.code.Agreement.{Agrees, AgreesWith}
-use Rattle.njh_stream.specs.Receiving.{Abort, progress_of, requested, requested_where, closed_by, stored_by, received}
+use Rattle.njh_stream.specs.Receiving.{Abort, progress_of, received_request, requested_where, closed_by, stored_by, received_arrival}
 
 -- the next number is no file's, where there may be one file more
 abbrev pub IsFree : CustomerSpool → Type 0
@@ -53,7 +53,7 @@ nothing_yet Out = refl
 
 pub begun_agrees :
     (kind : Kind) (s : CustomerSpool) → is_number (next_number s) s ≡ false
-    → AgreesWith kind Beginning (partial_numbered (next_number s) (begun kind s))
+    → AgreesWith kind Beginning (partial_numbered (next_number s) (with_new_partial kind s))
 begun_agrees kind s free =
     let new : PartialFile = record { number = next_number s; kind = kind; records = [] } in
     subst (AgreesWith kind Beginning)
@@ -61,7 +61,7 @@ begun_agrees kind s free =
     (or_right (list_any (λ f. f.number == next_number s) s.whole) (list_any (λ f. f.number == next_number s) s.partial) free)))
     (refl, nothing_yet kind)
 
-pub requested_agrees : (kind : Kind) (s : CustomerSpool) → IsFree s → Agrees kind (requested kind s).receiver (requested kind s).spool
+pub requested_agrees : (kind : Kind) (s : CustomerSpool) → IsFree s → Agrees kind (received_request kind s).receiver (received_request kind s).spool
 requested_agrees kind s free = at_room (has_file_room s && has_block s) refl
   where
     at_room :
@@ -97,12 +97,12 @@ records_or_none o = elim o [ Some f ↦ f.records | None ↦ [] ]
 
 pub appended_agrees :
     (kind : Kind) (progress : Progress) (n : ℕ) (r : Stored) (s : CustomerSpool) → AgreesWith kind progress (partial_numbered n s)
-    → AgreesWith kind (progress_of kind (partial_records n s ++ r ∷ [])) (partial_numbered n (appended n r s))
+    → AgreesWith kind (progress_of kind (partial_records n s ++ r ∷ [])) (partial_numbered n (with_appended n r s))
 appended_agrees kind progress n r s agrees = at_file (partial_numbered n s) refl agrees
   where
     at_file :
         (o : Option PartialFile) → partial_numbered n s ≡ o → AgreesWith kind progress o
-        → AgreesWith kind (progress_of kind (partial_records n s ++ r ∷ [])) (partial_numbered n (appended n r s))
+        → AgreesWith kind (progress_of kind (partial_records n s ++ r ∷ [])) (partial_numbered n (with_appended n r s))
     at_file None e agrees = absurd agrees
     at_file (Some f) e agrees =
         subst (AgreesWith kind (progress_of kind (partial_records n s ++ r ∷ []))) (sym (found_with_record n r s.partial f e))
@@ -122,7 +122,7 @@ closed_agrees false kind n s = tt
 
 pub received_agrees :
     (entry : CustomerEntry) (l : ℕ) (kind : Kind) (r : Receiver) (a : Arrival) (s : CustomerSpool) → ((x : CustomerSpool) → IsFree x) → Agrees kind r s
-    → Agrees kind (received entry l kind r a s).receiver (received entry l kind r a s).spool
+    → Agrees kind (received_arrival entry l kind r a s).receiver (received_arrival entry l kind r a s).spool
 received_agrees entry l kind Idle Request s free agrees = requested_agrees kind s (free s)
 received_agrees entry l kind Idle (Data srcb bytes) s free agrees = tt
 received_agrees entry l kind Idle Long s free agrees = tt
@@ -132,7 +132,7 @@ received_agrees entry l kind Draining (Data srcb []) s free agrees = tt
 received_agrees entry l kind Draining (Data srcb (b ∷ bytes)) s free agrees = tt
 received_agrees entry l kind Draining Long s free agrees = tt
 received_agrees entry l kind Draining Abort s free agrees = tt
-received_agrees entry l kind (Open n progress) Request s free agrees = requested_agrees kind (abandoned n s) (free (abandoned n s))
+received_agrees entry l kind (Open n progress) Request s free agrees = requested_agrees kind (without_partial n s) (free (without_partial n s))
 received_agrees entry l kind (Open n progress) (Data srcb []) s free agrees = closed_agrees (is_whole (partial_records n s)) kind n s
 received_agrees entry l kind (Open n progress) (Data srcb (b ∷ bytes)) s free agrees =
     let r : Stored = record { srcb = srcb; bytes = b ∷ bytes } in
@@ -143,10 +143,10 @@ received_agrees entry l kind (Open n progress) Abort s free agrees = tt
 -- the same of the whole spool
 pub step_agrees :
     (entry : CustomerEntry) (l c : ℕ) (kind : Kind) (r now : Receiver) (a : Arrival) (old new : List CustomerSpool) → ((x : CustomerSpool) → IsFree x)
-    → c < length old → Agrees kind r (part c old) → now ≡ (received entry l kind r a (part c old)).receiver
-    → new ≡ slice_set old c (received entry l kind r a (part c old)).spool → Agrees kind now (part c new)
+    → c < length old → Agrees kind r (spool_at c old) → now ≡ (received_arrival entry l kind r a (spool_at c old)).receiver
+    → new ≡ slice_set old c (received_arrival entry l kind r a (spool_at c old)).spool → Agrees kind now (spool_at c new)
 step_agrees entry l c kind r now a old new free range agrees now_is new_is =
-    subst (λ x. Agrees kind x (part c new)) (sym now_is)
-    (subst (Agrees kind (received entry l kind r a (part c old)).receiver)
-    (sym (ap (part c) new_is ∙ get_or-set_same old c (received entry l kind r a (part c old)).spool no_spool range))
-    (received_agrees entry l kind r a (part c old) free agrees))
+    subst (λ x. Agrees kind x (spool_at c new)) (sym now_is)
+    (subst (Agrees kind (received_arrival entry l kind r a (spool_at c old)).receiver)
+    (sym (ap (spool_at c) new_is ∙ get_or-set_same old c (received_arrival entry l kind r a (spool_at c old)).spool no_spool range))
+    (received_agrees entry l kind r a (spool_at c old) free agrees))

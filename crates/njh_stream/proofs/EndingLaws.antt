@@ -2,28 +2,28 @@
 use Rattle.std.proofs.Common.{◌≡◌, ◌<◌, ℕ, zero, suc, List, [], ◌∷◌, ◌++◌, length, take}
 use Rattle.std.proofs.Common.{drop, set, get_or, replicate, slice_set, refl, ap, ap₂, ◌∙◌, not-suc-le-zero, le_of_suc-le-suc, take-suc}
 use Rattle.std.proofs.lemmas.List.{set-set, get_or-set_same}
-use Rattle.njh_spool.specs.Spools.{part, no_spool}
+use Rattle.njh_spool.specs.Spools.{spool_at, no_spool}
 use Rattle.njh_spool.specs.CustomerSpool.{CustomerSpool}
 use Rattle.njh_stream.specs.declared.receiver.Receiver.{Receiver}
 use Rattle.njh_stream.specs.declared.sender.Sender.{Sender}
 use Rattle.njh_stream.specs.Receiving.{without_open, without_all_open}
-use Rattle.njh_stream.specs.Sending.{ended, all_ended}
+use Rattle.njh_stream.specs.Sending.{spool_after_session, all_ended}
 
 pub without_one_more : (rs : List Receiver) (r : Receiver) (s : CustomerSpool) → without_all_open (rs ++ r ∷ []) s ≡ without_open r (without_all_open rs s)
 without_one_more [] r s = refl
 without_one_more (x ∷ xs) r s = without_one_more xs r (without_open x s)
 
-pub one_more_ended : (xs : List Sender) (x : Sender) (s : CustomerSpool) → all_ended (xs ++ x ∷ []) s ≡ ended x (all_ended xs s)
+pub one_more_ended : (xs : List Sender) (x : Sender) (s : CustomerSpool) → all_ended (xs ++ x ∷ []) s ≡ spool_after_session x (all_ended xs s)
 one_more_ended [] x s = refl
-one_more_ended (y ∷ ys) x s = one_more_ended ys x (ended y s)
+one_more_ended (y ∷ ys) x s = one_more_ended ys x (spool_after_session y s)
 
 -- a customer's spool that moves twice
 pub moved_twice :
     (old now new : List CustomerSpool) (c : ℕ) (x : CustomerSpool) (f : CustomerSpool → CustomerSpool) → c < length old → now ≡ slice_set old c x
-    → new ≡ slice_set now c (f (part c now)) → new ≡ slice_set old c (f x)
+    → new ≡ slice_set now c (f (spool_at c now)) → new ≡ slice_set old c (f x)
 moved_twice old now new c x f range now_is new_is =
     new_is
-    ∙ ap₂ (λ m s. slice_set m c (f s)) now_is (ap (part c) now_is ∙ get_or-set_same old c x no_spool range)
+    ∙ ap₂ (λ m s. slice_set m c (f s)) now_is (ap (spool_at c) now_is ∙ get_or-set_same old c x no_spool range)
     ∙ set-set old c x (f x)
 
 -- one member more of a list has become x
@@ -46,5 +46,5 @@ pub open_so_far : (i : ℕ) (old : List Receiver) (d : Receiver) (s : CustomerSp
 open_so_far i old d s h = ap (λ rs. without_all_open rs s) (take-suc old i d h) ∙ without_one_more (take i old) (get_or old i d) s
 
 pub ended_so_far : (i : ℕ) (old : List Sender) (d : Sender) (s : CustomerSpool) → i < length old
-    → all_ended (take (suc i) old) s ≡ ended (get_or old i d) (all_ended (take i old) s)
+    → all_ended (take (suc i) old) s ≡ spool_after_session (get_or old i d) (all_ended (take i old) s)
 ended_so_far i old d s h = ap (λ xs. all_ended xs s) (take-suc old i d h) ∙ one_more_ended (take i old) (get_or old i d) s

@@ -9,14 +9,14 @@ use Rattle.std.proofs.lemmas.List.Folds.{find-append}
 use Rattle.njh_record.specs.Stored.{Stored}
 use Rattle.njh_record.specs.declared.Kind.{Kind}
 use Rattle.njh_table.specs.Entries.{CustomerEntry}
-use Rattle.njh_spool.specs.CustomerSpool.{CustomerSpool, PartialFile, partial_numbered, partial_records, appended, begun, abandoned, finished}
+use Rattle.njh_spool.specs.CustomerSpool.{CustomerSpool, PartialFile, partial_numbered, partial_records, with_appended, with_new_partial, without_partial, with_finished}
 use Rattle.njh_spool.specs.CustomerSpool.{next_number, has_file_room, has_block, has_room_for, as_whole}
 use Rattle.njh_stream.specs.declared.receiver.Receiver.{Receiver}
 use Rattle.njh_stream.specs.declared.receiver.Receiver.TheVariants.{Idle, Open, Draining}
 use Rattle.njh_stream.specs.Transmissions.{Verdict, Taken, Cancelled, is_whole, judged_coming, Fitting}
-use Rattle.njh_stream.specs.Receiving.{Arrival, Request, Data, Long, Abort, requested, requested_where, closed_by, stored_by}
-use Rattle.njh_stream.specs.Receiving.{received, without_open}
-use Rattle.njh_stream.specs.Streams.{file_on}
+use Rattle.njh_stream.specs.Receiving.{Arrival, Request, Data, Long, Abort, received_request, requested_where, closed_by, stored_by}
+use Rattle.njh_stream.specs.Receiving.{received_arrival, without_open}
+use Rattle.njh_stream.specs.Streams.{coming_file}
 use Rattle.njh_stream.proofs.AgreesLaws.{IsFree, or_right, and_left}
 use Rattle.njh_stream.proofs.PartialLaws.{numbered, others_kept, others_stay, gone}
 
@@ -92,7 +92,7 @@ none_found n (f ∷ fs) h = at_first (f.number == n) (none_found n fs) h
     at_first true more h = absurd (cc h)
     at_first false more h = more h
 
-pub begins : (kind : Kind) (s : CustomerSpool) → partial_numbered (next_number s) s ≡ None → Moves None s (Some (next_number s)) (begun kind s)
+pub begins : (kind : Kind) (s : CustomerSpool) → partial_numbered (next_number s) s ≡ None → Moves None s (Some (next_number s)) (with_new_partial kind s)
 begins kind s free = record {
   kept = λ n f not found. find-append (λ g. g.number == n) s.partial (new ∷ []) ∙ ap (λ o. option_or o (numbered n (new ∷ []))) found;
   own = λ n e. inr (subst (λ m. partial_numbered m s ≡ None) (cc e) free);
@@ -112,7 +112,7 @@ begins kind s free = record {
     at_number n f found None e (inr other) =
         absurd (cc (sym found ∙ ap (λ o. option_or o (numbered n (new ∷ []))) e ∙ ap (λ b. cond b (Some new) None) other.0))
 
-pub abandons : (n : ℕ) (s : CustomerSpool) → Moves (Some n) s None (abandoned n s)
+pub abandons : (n : ℕ) (s : CustomerSpool) → Moves (Some n) s None (without_partial n s)
 abandons n s = record {
   kept = λ m f not found. others_kept m n (differs m not) s.partial ∙ found;
   own = λ m e. absurd (cc e);
@@ -122,16 +122,16 @@ abandons n s = record {
     differs : (m : ℕ) → (Some n ≡ Some m → ⊥) → (m == n) ≡ false
     differs m not = ne_eqb m n (λ e. not (ap Some (sym e)))
 
-    is_gone : (m : ℕ) (f : PartialFile) → partial_numbered m (abandoned n s) ≡ Some f → n ≡ m → ⊥
-    is_gone m f found e = cc (sym (gone n s.partial) ∙ ap (λ x. partial_numbered x (abandoned n s)) e ∙ found)
+    is_gone : (m : ℕ) (f : PartialFile) → partial_numbered m (without_partial n s) ≡ Some f → n ≡ m → ⊥
+    is_gone m f found e = cc (sym (gone n s.partial) ∙ ap (λ x. partial_numbered x (without_partial n s)) e ∙ found)
 
     at_number :
-        (m : ℕ) (f : PartialFile) → partial_numbered m (abandoned n s) ≡ Some f
+        (m : ℕ) (f : PartialFile) → partial_numbered m (without_partial n s) ≡ Some f
         → ((m == n) ≡ true) × (m ≡ n) ⊎ ((m == n) ≡ false) × (m ≡ n → ⊥) → Has m s
     at_number m f found (inl same) = absurd (is_gone m f found (sym same.1))
     at_number m f found (inr other) = record { file = f; found = sym (others_kept m n other.0 s.partial) ∙ found }
 
-pub appends : (n : ℕ) (r : Stored) (s : CustomerSpool) → Moves (Some n) s (Some n) (appended n r s)
+pub appends : (n : ℕ) (r : Stored) (s : CustomerSpool) → Moves (Some n) s (Some n) (with_appended n r s)
 appends n r s = record {
   kept = λ m f not found. others_stay m n (ne_eqb m n (λ e. not (ap Some (sym e)))) r s.partial ∙ found;
   own = λ m e. inl e;
@@ -139,19 +139,19 @@ appends n r s = record {
 }
   where
     at_number :
-        (m : ℕ) (f : PartialFile) → partial_numbered m (appended n r s) ≡ Some f
+        (m : ℕ) (f : PartialFile) → partial_numbered m (with_appended n r s) ≡ Some f
         → ((m == n) ≡ true) × (m ≡ n) ⊎ ((m == n) ≡ false) × (m ≡ n → ⊥)
         → (Some n ≡ Some m) ⊎ ((Some n ≡ Some m → ⊥) × Has m s)
     at_number m f found (inl same) = inl (ap Some (sym same.1))
     at_number m f found (inr other) =
         inr (λ e. other.1 (cc e), record { file = f; found = sym (others_stay m n other.0 r s.partial) ∙ found })
 
-pub finishes : (n : ℕ) (s : CustomerSpool) → Moves (Some n) s None (finished n s)
+pub finishes : (n : ℕ) (s : CustomerSpool) → Moves (Some n) s None (with_finished n s)
 finishes n s = at_file (partial_numbered n s) refl
   where
     at_file :
         (o : Option PartialFile) → partial_numbered n s ≡ o
-        → Moves (Some n) s None (elim o [ None ↦ s | Some f ↦ record (abandoned n s) { whole = s.whole ++ as_whole f ∷ [] } ])
+        → Moves (Some n) s None (elim o [ None ↦ s | Some f ↦ record (without_partial n s) { whole = s.whole ++ as_whole f ∷ [] } ])
     at_file (Some f) e = let x = abandons n s in record { kept = x.kept; own = x.own; came = x.came }
     at_file None e = record {
       kept = λ m f not found. found;
@@ -161,29 +161,29 @@ finishes n s = at_file (partial_numbered n s) refl
 
 -- ---- every arrival
 
-requests : (kind : Kind) (s : CustomerSpool) → IsFree s → Moves None s (file_on (requested kind s).receiver) (requested kind s).spool
+requests : (kind : Kind) (s : CustomerSpool) → IsFree s → Moves None s (coming_file (received_request kind s).receiver) (received_request kind s).spool
 requests kind s free = at_room (has_file_room s && has_block s) refl
   where
-    at_room : (b : Bool) → (has_file_room s && has_block s) ≡ b → Moves None s (file_on (requested_where b kind s).receiver) (requested_where b kind s).spool
+    at_room : (b : Bool) → (has_file_room s && has_block s) ≡ b → Moves None s (coming_file (requested_where b kind s).receiver) (requested_where b kind s).spool
     at_room true e =
         begins kind s (none_found (next_number s) s.partial
         (or_right (list_any (λ f. f.number == next_number s) s.whole) (list_any (λ f. f.number == next_number s) s.partial)
         (free (and_left (has_file_room s) (has_block s) e))))
     at_room false e = quiet s
 
-closes : (b : Bool) (n : ℕ) (s : CustomerSpool) → Moves (Some n) s (file_on (closed_by b n s).receiver) (closed_by b n s).spool
+closes : (b : Bool) (n : ℕ) (s : CustomerSpool) → Moves (Some n) s (coming_file (closed_by b n s).receiver) (closed_by b n s).spool
 closes true n s = finishes n s
 closes false n s = abandons n s
 
 stores :
     (v : Verdict) (kind : Kind) (n : ℕ) (r : Stored) (more : List Stored) (s : CustomerSpool)
-    → Moves (Some n) s (file_on (stored_by v kind n r more s).receiver) (stored_by v kind n r more s).spool
+    → Moves (Some n) s (coming_file (stored_by v kind n r more s).receiver) (stored_by v kind n r more s).spool
 stores Taken kind n r more s = appends n r s
 stores (Cancelled text) kind n r more s = abandons n s
 
 pub arrivals :
     (entry : CustomerEntry) (l : ℕ) (kind : Kind) (r : Receiver) (a : Arrival) (s : CustomerSpool) → ((x : CustomerSpool) → IsFree x)
-    → Moves (file_on r) s (file_on (received entry l kind r a s).receiver) (received entry l kind r a s).spool
+    → Moves (coming_file r) s (coming_file (received_arrival entry l kind r a s).receiver) (received_arrival entry l kind r a s).spool
 arrivals entry l kind Idle Request s free = requests kind s (free s)
 arrivals entry l kind Idle (Data srcb bytes) s free = quiet s
 arrivals entry l kind Idle Long s free = quiet s
@@ -194,8 +194,8 @@ arrivals entry l kind Draining (Data srcb (b ∷ bytes)) s free = quiet s
 arrivals entry l kind Draining Long s free = quiet s
 arrivals entry l kind Draining Abort s free = quiet s
 arrivals entry l kind (Open n progress) Request s free =
-    let done = requested kind (abandoned n s) in
-    two_moves (Some n) None (file_on done.receiver) s (abandoned n s) done.spool (abandons n s) (requests kind (abandoned n s) (free (abandoned n s)))
+    let done = received_request kind (without_partial n s) in
+    two_moves (Some n) None (coming_file done.receiver) s (without_partial n s) done.spool (abandons n s) (requests kind (without_partial n s) (free (without_partial n s)))
 arrivals entry l kind (Open n progress) (Data srcb []) s free = closes (is_whole (partial_records n s)) n s
 arrivals entry l kind (Open n progress) (Data srcb (b ∷ bytes)) s free =
     let r : Stored = record { srcb = srcb; bytes = b ∷ bytes } in
@@ -205,7 +205,7 @@ arrivals entry l kind (Open n progress) Long s free = abandons n s
 arrivals entry l kind (Open n progress) Abort s free = abandons n s
 
 -- a stream whose session ends
-pub ends : (r : Receiver) (s : CustomerSpool) → Moves (file_on r) s None (without_open r s)
+pub ends : (r : Receiver) (s : CustomerSpool) → Moves (coming_file r) s None (without_open r s)
 ends Idle s = quiet s
 ends (Open n progress) s = abandons n s
 ends Draining s = quiet s

@@ -3,9 +3,9 @@ use Rattle.std.proofs.Common.{◌≡◌, ℕ, Bool, true, false, List, [], ◌�
 use Rattle.njh_record.specs.Stored.{Stored}
 use Rattle.njh_record.specs.declared.Kind.{Kind}
 use Rattle.njh_table.specs.Entries.{CustomerEntry}
-use Rattle.njh_stream.specs.Transmissions.{Verdict, Coming, Taken, Cancelled, judged_coming, is_whole}
+use Rattle.njh_stream.specs.Transmissions.{Verdict, ComingRecord, Taken, Cancelled, judged_coming, is_whole}
 use Rattle.njh_stream.specs.Outcomes.{AreTaken, IsCancelled, Becomes, records_of}
-use Rattle.njh_stream.specs.Outcomes.{Ending, EndOfFile, GivenUp, CutOff, Outcome, AFile, NotWhole, CancelledBy, Dropped}
+use Rattle.njh_stream.specs.Outcomes.{Ending, EndOfFile, GivenUp, CutOff, TransmissionOutcome, AFile, NotWhole, CancelledBy, Dropped}
 
 abbrev pub text_in : Verdict → Option (List ℕ)
 text_in Taken = None
@@ -13,7 +13,7 @@ text_in (Cancelled text) = text
 
 module _ (entry : CustomerEntry) (l : ℕ) (kind : Kind) where
   pub taken_or_cancelled :
-      (earlier : List Stored) (cs : List Coming)
+      (earlier : List Stored) (cs : List ComingRecord)
       → AreTaken entry l kind earlier cs ⊎ ((text : Option (List ℕ)) × IsCancelled entry l kind earlier cs text)
   taken_or_cancelled earlier [] = inl tt
   taken_or_cancelled earlier (c ∷ cs) =
@@ -29,14 +29,14 @@ module _ (entry : CustomerEntry) (l : ℕ) (kind : Kind) where
       at_verdict (Cancelled text) e more = inr (text, inl e)
 
   pub not_both :
-      (earlier : List Stored) (cs : List Coming) (text : Option (List ℕ))
+      (earlier : List Stored) (cs : List ComingRecord) (text : Option (List ℕ))
       → AreTaken entry l kind earlier cs → IsCancelled entry l kind earlier cs text → ⊥
   not_both earlier [] text taken refused = refused
   not_both earlier (c ∷ cs) text taken (inl e) = cc (sym taken.0 ∙ e)
   not_both earlier (c ∷ cs) text taken (inr more) = not_both (earlier ++ records_of (c ∷ [])) cs text taken.1 more.1
 
   pub one_text :
-      (earlier : List Stored) (cs : List Coming) (a b : Option (List ℕ))
+      (earlier : List Stored) (cs : List ComingRecord) (a b : Option (List ℕ))
       → IsCancelled entry l kind earlier cs a → IsCancelled entry l kind earlier cs b → a ≡ b
   one_text earlier [] a b x y = absurd x
   one_text earlier (c ∷ cs) a b (inl e) (inl f) = ap text_in (sym e ∙ f)
@@ -44,18 +44,18 @@ module _ (entry : CustomerEntry) (l : ℕ) (kind : Kind) where
   one_text earlier (c ∷ cs) a b (inr e) (inl f) = absurd (cc (sym e.0 ∙ f))
   one_text earlier (c ∷ cs) a b (inr e) (inr f) = one_text (earlier ++ records_of (c ∷ [])) cs a b e.1 f.1
 
-  pub some_outcome : (cs : List Coming) (ending : Ending) → (outcome : Outcome) × Becomes entry l kind cs ending outcome
+  pub some_outcome : (cs : List ComingRecord) (ending : Ending) → (outcome : TransmissionOutcome) × Becomes entry l kind cs ending outcome
   some_outcome cs ending = at_all ending (taken_or_cancelled [] cs)
     where
       at_whole :
           (b : Bool) → is_whole (records_of cs) ≡ b → AreTaken entry l kind [] cs
-          → (outcome : Outcome) × Becomes entry l kind cs EndOfFile outcome
+          → (outcome : TransmissionOutcome) × Becomes entry l kind cs EndOfFile outcome
       at_whole true e taken = (AFile (records_of cs), (taken, refl, e))
       at_whole false e taken = (NotWhole, (taken, e))
 
       at_all :
           (ending : Ending) → AreTaken entry l kind [] cs ⊎ ((text : Option (List ℕ)) × IsCancelled entry l kind [] cs text)
-          → (outcome : Outcome) × Becomes entry l kind cs ending outcome
+          → (outcome : TransmissionOutcome) × Becomes entry l kind cs ending outcome
       at_all EndOfFile (inl taken) = at_whole (is_whole (records_of cs)) refl taken
       at_all GivenUp (inl taken) = (Dropped, taken)
       at_all CutOff (inl taken) = (Dropped, taken)
@@ -64,7 +64,7 @@ module _ (entry : CustomerEntry) (l : ℕ) (kind : Kind) where
       at_all CutOff (inr x) = (CancelledBy x.0, x.1)
 
   pub only_one :
-      (cs : List Coming) (ending : Ending) (a b : Outcome) → Becomes entry l kind cs ending a → Becomes entry l kind cs ending b → a ≡ b
+      (cs : List ComingRecord) (ending : Ending) (a b : TransmissionOutcome) → Becomes entry l kind cs ending a → Becomes entry l kind cs ending b → a ≡ b
   only_one cs EndOfFile (AFile rs) (AFile qs) x y = ap AFile (x.1 ∙ sym y.1)
   only_one cs EndOfFile (AFile rs) NotWhole x y = absurd (true≢false (sym x.2 ∙ ap is_whole x.1 ∙ y.1))
   only_one cs EndOfFile (AFile rs) (CancelledBy text) x y = absurd (not_both [] cs text x.0 y)

@@ -17,8 +17,8 @@ use Rattle.njh_header.specs.declared.fault.HeaderFault.{HeaderFault}
 use Rattle.njh_stream.specs.declared.judging as declared_judging
 use Rattle.njh_stream.specs.declared.judging.Verdict.TheVariants as declared
 use Rattle.njh_stream.specs.code.Verdicts.{judged_placed, IsTakenAt, IsProgress, IsHeaderPlaced}
-use Rattle.njh_stream.specs.Transmissions.{Verdict, Taken, ends_in, judged, judged_against, judged_later, judged_data_set}
-use Rattle.njh_stream.specs.Receiving.{progress_of, placed, last_srcb}
+use Rattle.njh_stream.specs.Transmissions.{Verdict, Taken, ends_in, verdict_of, judged_against, judged_later, judged_data_set}
+use Rattle.njh_stream.specs.Receiving.{progress_of, placement, last_srcb}
 
 -- ---- the last record
 
@@ -74,8 +74,8 @@ last_in (Placed node last) = last
 last_in JobHeader = 0
 last_in Beginning = 0
 
-pub output_placed : (x : Stored) (xs : List Stored) → all_job_headers (x ∷ xs) ≡ false → progress_of Out (x ∷ xs) ≡ placed Out (x ∷ xs)
-output_placed x xs h = ap (λ b. elim b [ true ↦ JobHeader | false ↦ placed Out (x ∷ xs) ]) h
+pub output_placed : (x : Stored) (xs : List Stored) → all_job_headers (x ∷ xs) ≡ false → progress_of Out (x ∷ xs) ≡ placement Out (x ∷ xs)
+output_placed x xs h = ap (λ b. elim b [ true ↦ JobHeader | false ↦ placement Out (x ∷ xs) ]) h
 
 -- a job header and continuations of it alone
 pub record IsJobFile (kind : Kind) (file : List Stored) : Type 0 where
@@ -92,7 +92,7 @@ where_job In (x ∷ xs) h = absurd (cc h)
 where_job Out (x ∷ xs) h = at_all (all_job_headers (x ∷ xs)) refl h
   where
     at_all :
-        (b : Bool) → all_job_headers (x ∷ xs) ≡ b → JobHeader ≡ elim b [ true ↦ JobHeader | false ↦ placed Out (x ∷ xs) ]
+        (b : Bool) → all_job_headers (x ∷ xs) ≡ b → JobHeader ≡ elim b [ true ↦ JobHeader | false ↦ placement Out (x ∷ xs) ]
         → IsJobFile Out (x ∷ xs)
     at_all true e h = record { kind_is = refl; first = x; rest = xs; file_is = refl; all_is = e }
     at_all false e h = absurd (cc h)
@@ -102,7 +102,7 @@ pub record IsPlacedFile (kind : Kind) (file : List Stored) (node : List ℕ) (la
   pub first : Stored
   pub rest : List Stored
   pub file_is : file ≡ first ∷ rest
-  pub node_is : node ≡ node_in (placed kind file)
+  pub node_is : node ≡ node_in (placement kind file)
   pub last_is : last ≡ last_srcb file
   pub stage : (kind ≡ In) ⊎ ((kind ≡ Out) × (all_job_headers file ≡ false))
 
@@ -116,7 +116,7 @@ where_placed In (x ∷ xs) node last h =
 where_placed Out (x ∷ xs) node last h = at_all (all_job_headers (x ∷ xs)) refl h
   where
     at_all :
-        (b : Bool) → all_job_headers (x ∷ xs) ≡ b → Placed node last ≡ elim b [ true ↦ JobHeader | false ↦ placed Out (x ∷ xs) ]
+        (b : Bool) → all_job_headers (x ∷ xs) ≡ b → Placed node last ≡ elim b [ true ↦ JobHeader | false ↦ placement Out (x ∷ xs) ]
         → IsPlacedFile Out (x ∷ xs) node last
     at_all true e h = absurd (cc h)
     at_all false e h =
@@ -145,7 +145,7 @@ header_placed kind file r h job srcb_is header_is =
         ∙ ap (λ n. first_header (n == 0xc0) (record r { srcb = n }) None) srcb_is
         ∙ ap result_ok header_is
 
-    node_found : node_in (placed Out ((job.first ∷ job.rest) ++ r ∷ [])) ≡ h.destination.0
+    node_found : node_in (placement Out ((job.first ∷ job.rest) ++ r ∷ [])) ≡ h.destination.0
     node_found = ap (λ o. elim (option_map (λ x. x.destination) o) [ Some d ↦ d.0 | None ↦ [] ]) found
 
     placed_more : progress_of Out ((job.first ∷ job.rest) ++ r ∷ []) ≡ Placed h.destination.0 r.srcb
@@ -163,7 +163,7 @@ placed_stays In (x ∷ xs) r node last h = ap₂ Placed (ap node_in h) (sym (las
 placed_stays Out (x ∷ xs) r node last h = at_all (all_job_headers (x ∷ xs)) refl h
   where
     at_all :
-        (b : Bool) → all_job_headers (x ∷ xs) ≡ b → Placed node last ≡ elim b [ true ↦ JobHeader | false ↦ placed Out (x ∷ xs) ]
+        (b : Bool) → all_job_headers (x ∷ xs) ≡ b → Placed node last ≡ elim b [ true ↦ JobHeader | false ↦ placement Out (x ∷ xs) ]
         → Placed node r.srcb ≡ progress_of Out (x ∷ (xs ++ r ∷ []))
     at_all true e h = absurd (cc h)
     at_all false e h =
@@ -190,14 +190,14 @@ where_all b job later = elim b [ true ↦ job | false ↦ later ]
 
 pub placed_judged :
     (entry : CustomerEntry) (l : ℕ) (kind : Kind) (file : List Stored) (r : Stored) (node : List ℕ) (last : ℕ)
-    → Placed node last ≡ progress_of kind file → judged entry l kind file r ≡ judged_placed kind node last r.srcb r.bytes
+    → Placed node last ≡ progress_of kind file → verdict_of entry l kind file r ≡ judged_placed kind node last r.srcb r.bytes
 placed_judged entry l In [] r node last h = absurd (cc h)
 placed_judged entry l Out [] r node last h = absurd (cc h)
 placed_judged entry l In (x ∷ xs) r node last h = refl
 placed_judged entry l Out (x ∷ xs) r node last h = at_all (all_job_headers (x ∷ xs)) h
   where
     at_all :
-        (b : Bool) → Placed node last ≡ elim b [ true ↦ JobHeader | false ↦ placed Out (x ∷ xs) ]
+        (b : Bool) → Placed node last ≡ elim b [ true ↦ JobHeader | false ↦ placement Out (x ∷ xs) ]
         → where_all b (elim (has_srcb 0xc0 r) [ true ↦ Taken | false ↦ judged_data_set entry l (x ∷ xs) r ])
         (elim (has_srcb 0xe0 r && not (ends_in 0xe0 (x ∷ xs))) [ true ↦ judged_later (x ∷ xs) r | false ↦ Taken ])
         ≡ judged_placed Out node last r.srcb r.bytes

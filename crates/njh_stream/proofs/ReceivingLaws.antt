@@ -10,15 +10,15 @@ use Rattle.njh_table.specs.Entries.{CustomerEntry}
 use Rattle.njh_spool.specs.CustomerSpool.{CustomerSpool, WholeFile, PartialFile, whole_numbered, partial_numbered, partial_records}
 use Rattle.njh_stream.specs.declared.receiver.Progress.{Progress}
 use Rattle.njh_stream.specs.declared.receiver.Progress.TheVariants.{JobHeader}
-use Rattle.njh_spool.specs.Spools.{IsSound, part, no_spool}
+use Rattle.njh_spool.specs.Spools.{IsSound, spool_at, no_spool}
 use Rattle.std.proofs.lemmas.List.{set-set, get_or-set_same}
 use Rattle.njh_stream.specs.declared.receiver.After.{After}
 use Rattle.njh_stream.specs.code.Verdicts.{IsAfter}
 use Rattle.njh_stream.specs.SpoolFiles.{records_in}
 use Rattle.njh_stream.specs.Transmissions.{is_whole}
-use Rattle.njh_stream.specs.Receiving.{progress_of, placed, last_srcb}
+use Rattle.njh_stream.specs.Receiving.{progress_of, placement, last_srcb}
 use Rattle.njh_stream.specs.code.Agreement.{AgreesWith, ends_whole}
-use Rattle.njh_stream.specs.Receiving.{closed, closed_by, stored, received_open, requested, Data}
+use Rattle.njh_stream.specs.Receiving.{received_end, closed_by, received_record, received_open, received_request, Data}
 use Rattle.njh_stream.proofs.ProgressLaws.{ends_by_last, all_job_headers}
 
 -- ---- the end of file
@@ -44,7 +44,7 @@ whole_by_progress Out (x ∷ xs) = ends_by_last 0xd0 x xs ∙ at_all (all_job_he
   where
     at_all :
         (b : Bool) → all_job_headers (x ∷ xs) ≡ b
-        → (last_srcb (x ∷ xs) == 0xd0) ≡ ends_whole (elim b [ true ↦ JobHeader | false ↦ placed Out (x ∷ xs) ])
+        → (last_srcb (x ∷ xs) == 0xd0) ≡ ends_whole (elim b [ true ↦ JobHeader | false ↦ placement Out (x ∷ xs) ])
     at_all true e = job_headers_end x xs e
     at_all false e = refl
 
@@ -54,7 +54,7 @@ whole_in kind progress None agrees = absurd agrees
 whole_in kind progress (Some f) agrees = whole_by_progress kind f.records ∙ ap ends_whole (sym agrees.1)
 
 pub closed_as : (kind : Kind) (progress : Progress) (n : ℕ) (s : CustomerSpool) → AgreesWith kind progress (partial_numbered n s)
-    → closed n s ≡ closed_by (ends_whole progress) n s
+    → received_end n s ≡ closed_by (ends_whole progress) n s
 closed_as kind progress n s agrees = ap (λ b. closed_by b n s) (whole_in kind progress (partial_numbered n s) agrees)
 
 -- ---- the records of a partial file
@@ -101,7 +101,7 @@ progress_in kind progress n s agrees = at_partial (partial_numbered n s) agrees
 -- a record with bytes is stored
 pub record_stored :
     (entry : CustomerEntry) (l : ℕ) (kind : Kind) (n srcb : ℕ) (bytes : List ℕ) (s : CustomerSpool) → length bytes ≢ 0
-    → received_open entry l kind n (Data srcb bytes) s ≡ stored entry l kind n (record { srcb = srcb; bytes = bytes }) s
+    → received_open entry l kind n (Data srcb bytes) s ≡ received_record entry l kind n (record { srcb = srcb; bytes = bytes }) s
 record_stored entry l kind n srcb [] s some = absurd (some refl)
 record_stored entry l kind n srcb (b ∷ bytes) s some = refl
 
@@ -110,17 +110,17 @@ record_stored entry l kind n srcb (b ∷ bytes) s some = refl
 -- a file that begins after another was given up
 pub begun_after :
     (a : After) (new mid old : List CustomerSpool) (c : ℕ) (x : CustomerSpool) (kind : Kind) → c < length old → mid ≡ slice_set old c x
-    → IsAfter a new mid c (requested kind (part c mid)) → IsAfter a new old c (requested kind x)
+    → IsAfter a new mid c (received_request kind (spool_at c mid)) → IsAfter a new old c (received_request kind x)
 begun_after a new mid old c x kind range mid_is done =
     record {
-      receiver = done.receiver ∙ ap (λ s. (requested kind s).receiver) part_is;
-      answer = done.answer ∙ ap (λ s. (requested kind s).answer) part_is;
-      notice = done.notice ∙ ap (λ s. (requested kind s).notice) part_is;
+      receiver = done.receiver ∙ ap (λ s. (received_request kind s).receiver) part_is;
+      answer = done.answer ∙ ap (λ s. (received_request kind s).answer) part_is;
+      notice = done.notice ∙ ap (λ s. (received_request kind s).notice) part_is;
       spool =
           done.spool
-          ∙ ap₂ (λ m s. slice_set m c (requested kind s).spool) mid_is part_is
-          ∙ set-set old c x (requested kind x).spool;
+          ∙ ap₂ (λ m s. slice_set m c (received_request kind s).spool) mid_is part_is
+          ∙ set-set old c x (received_request kind x).spool;
     }
   where
-    part_is : part c mid ≡ x
-    part_is = ap (part c) mid_is ∙ get_or-set_same old c x no_spool range
+    part_is : spool_at c mid ≡ x
+    part_is = ap (spool_at c) mid_is ∙ get_or-set_same old c x no_spool range

@@ -14,30 +14,30 @@ use Rattle.njh_spool.specs.declared.SpoolFault.TheVariants.{NoSuchFile, QuotaFul
 use Rattle.njh_stream.specs.declared.receiver.Progress.TheVariants.{Placed}
 use Rattle.njh_stream.specs.code.Verdicts.{appended_where, judged_placed}
 use Rattle.njh_stream.proofs.ProgressLaws.{placed_judged, placed_stays}
-use Rattle.njh_stream.specs.Transmissions.{Taken, Cancelled, judged, with_room}
-use Rattle.njh_stream.specs.Receiving.{stored, stored_by, cancelled, notice_of, progress_of}
+use Rattle.njh_stream.specs.Transmissions.{Taken, Cancelled, verdict_of, with_room}
+use Rattle.njh_stream.specs.Receiving.{received_record, stored_by, received_cancelling, notice_of, progress_of}
 
 -- with the records so far by another name
 pub stored_after :
     (entry : CustomerEntry) (l : ℕ) (kind : Kind) (n : ℕ) (r : Stored) (s : CustomerSpool) (earlier : List Stored)
     → earlier ≡ partial_records n s
-    → stored entry l kind n r s
-    ≡ stored_by (with_room (has_room_for n r s) (earlier ++ r ∷ []) (judged entry l kind earlier r)) kind n r (earlier ++ r ∷ []) s
+    → received_record entry l kind n r s
+    ≡ stored_by (with_room (has_room_for n r s) (earlier ++ r ∷ []) (verdict_of entry l kind earlier r)) kind n r (earlier ++ r ∷ []) s
 stored_after entry l kind n r s earlier e =
-    ap (λ x. stored_by (with_room (has_room_for n r s) (x ++ r ∷ []) (judged entry l kind x r)) kind n r (x ++ r ∷ []) s) (sym e)
+    ap (λ x. stored_by (with_room (has_room_for n r s) (x ++ r ∷ []) (verdict_of entry l kind x r)) kind n r (x ++ r ∷ []) s) (sym e)
 
 pub stored_cancelled :
     (entry : CustomerEntry) (l : ℕ) (kind : Kind) (n : ℕ) (r : Stored) (s : CustomerSpool) (earlier : List Stored) (text : Option (List ℕ))
-    → earlier ≡ partial_records n s → Cancelled text ≡ judged entry l kind earlier r
-    → cancelled n (notice_of (option_map (λ h. h.origin) (job_header_of (earlier ++ r ∷ []))) text) s ≡ stored entry l kind n r s
+    → earlier ≡ partial_records n s → Cancelled text ≡ verdict_of entry l kind earlier r
+    → received_cancelling n (notice_of (option_map (λ h. h.origin) (job_header_of (earlier ++ r ∷ []))) text) s ≡ received_record entry l kind n r s
 stored_cancelled entry l kind n r s earlier text e h =
     ap (λ v. stored_by (with_room (has_room_for n r s) (earlier ++ r ∷ []) v) kind n r (earlier ++ r ∷ []) s) h
     ∙ sym (stored_after entry l kind n r s earlier e)
 
 pub stored_taken :
     (entry : CustomerEntry) (l : ℕ) (kind : Kind) (n : ℕ) (r : Stored) (s : CustomerSpool) (earlier : List Stored) (progress : Progress)
-    → earlier ≡ partial_records n s → Taken ≡ judged entry l kind earlier r → progress ≡ progress_of kind (earlier ++ r ∷ [])
-    → appended_where (has_room_for n r s) n progress (job_header_of (earlier ++ r ∷ [])) r s ≡ stored entry l kind n r s
+    → earlier ≡ partial_records n s → Taken ≡ verdict_of entry l kind earlier r → progress ≡ progress_of kind (earlier ++ r ∷ [])
+    → appended_where (has_room_for n r s) n progress (job_header_of (earlier ++ r ∷ [])) r s ≡ received_record entry l kind n r s
 stored_taken entry l kind n r s earlier progress e h progress_is =
     by_room (has_room_for n r s)
     ∙ ap (λ v. stored_by (with_room (has_room_for n r s) (earlier ++ r ∷ []) v) kind n r (earlier ++ r ∷ []) s) h
@@ -54,7 +54,7 @@ pub stored_unread :
     (entry : CustomerEntry) (l : ℕ) (kind : Kind) (n : ℕ) (r : Stored) (s : CustomerSpool) (node : List ℕ) (last : ℕ)
     → Placed node last ≡ progress_of kind (partial_records n s) → judged_placed kind node last r.srcb r.bytes ≡ Taken
     → has_room_for n r s ≡ true
-    → appended_where true n (Placed node r.srcb) (job_header_of (partial_records n s ++ r ∷ [])) r s ≡ stored entry l kind n r s
+    → appended_where true n (Placed node r.srcb) (job_header_of (partial_records n s ++ r ∷ [])) r s ≡ received_record entry l kind n r s
 stored_unread entry l kind n r s node last kept taken room =
     ap (λ b. appended_where b n (Placed node r.srcb) (job_header_of (partial_records n s ++ r ∷ [])) r s) (sym room)
     ∙ stored_taken entry l kind n r s (partial_records n s) (Placed node r.srcb) refl

@@ -11,9 +11,9 @@ use Rattle.njh_spool.specs.CustomerSpool.{CustomerSpool, PartialFile, partial_nu
 use Rattle.njh_stream.specs.declared.receiver.Receiver.{Receiver}
 use Rattle.njh_stream.specs.declared.receiver.Receiver.TheVariants.{Idle, Open, Draining}
 use Rattle.njh_table.specs.Entries.{CustomerEntry}
-use Rattle.njh_stream.specs.Receiving.{Arrival, received, without_open, without_all_open}
+use Rattle.njh_stream.specs.Receiving.{Arrival, received_arrival, without_open, without_all_open}
 use Rattle.njh_stream.specs.code.Agreement.{Agrees, AgreesWith}
-use Rattle.njh_stream.specs.Streams.{streams_at, stream_at, with_stream, without_streams, file_on}
+use Rattle.njh_stream.specs.Streams.{streams_at, stream_at, with_stream, without_streams, coming_file}
 use Rattle.njh_stream.specs.code.Agreement.{Comes, AreTied}
 use Rattle.njh_stream.proofs.AgreesLaws.{IsFree, received_agrees}
 use Rattle.njh_stream.proofs.EndingLaws.{become, next_is, open_so_far}
@@ -62,7 +62,7 @@ module _ (l k : ℕ) (r : Receiver) (lines : List (List Receiver)) (line_there :
 -- a stream that agrees with its file agrees with it where that is found as before
 agrees_still :
     (kind : Kind) (x : Receiver) (s t : CustomerSpool)
-    → ((n : ℕ) (f : PartialFile) → file_on x ≡ Some n → partial_numbered n s ≡ Some f → partial_numbered n t ≡ Some f)
+    → ((n : ℕ) (f : PartialFile) → coming_file x ≡ Some n → partial_numbered n s ≡ Some f → partial_numbered n t ≡ Some f)
     → Agrees kind x s → Agrees kind x t
 agrees_still kind Idle s t kept agrees = tt
 agrees_still kind Draining s t kept agrees = tt
@@ -73,7 +73,7 @@ agrees_still kind (Open n progress) s t kept agrees = at_file (partial_numbered 
     at_file (Some f) e agrees = subst (AgreesWith kind progress) (sym (kept n f refl e)) agrees
 
 -- a stream that agrees has its file
-has_file : (kind : Kind) (x : Receiver) (s : CustomerSpool) (n : ℕ) → Agrees kind x s → file_on x ≡ Some n → partial_numbered n s ≡ None → ⊥
+has_file : (kind : Kind) (x : Receiver) (s : CustomerSpool) (n : ℕ) → Agrees kind x s → coming_file x ≡ Some n → partial_numbered n s ≡ None → ⊥
 has_file kind Idle s n agrees e none = cc e
 has_file kind Draining s n agrees e none = cc e
 has_file kind (Open m progress) s n agrees e none =
@@ -81,7 +81,7 @@ has_file kind (Open m progress) s n agrees e none =
 
 pub stream_moved :
     (l k : ℕ) (r : Receiver) (lines : List (List Receiver)) (s t : CustomerSpool)
-    → l < length lines → k < length (streams_at l lines) → AreTied lines s → Moves (file_on (stream_at l k lines)) s (file_on r) t
+    → l < length lines → k < length (streams_at l lines) → AreTied lines s → Moves (coming_file (stream_at l k lines)) s (coming_file r) t
     → Agrees (kind_of k) r t → AreTied (with_stream l k r lines) t
 stream_moved l k r lines s t line_there stream_there tied moves agrees = record {
   agree = λ m j. agree_at m j (places l k m j);
@@ -99,7 +99,7 @@ stream_moved l k r lines s t line_there stream_there tied moves agrees = record 
     there = still_there l k r lines line_there
 
     was : ℕ → ℕ → Option ℕ
-    was m j = file_on (stream_at m j lines)
+    was m j = coming_file (stream_at m j lines)
 
     -- another stream's file
     not_its : (m j n : ℕ) → ((l ≡ m) × (k ≡ j) → ⊥) → was m j ≡ Some n → was l k ≡ Some n → ⊥
@@ -118,15 +118,15 @@ stream_moved l k r lines s t line_there stream_there tied moves agrees = record 
     alone m j n other e (inl mine) = not_its m j n other e mine
     alone m j n other e (inr none) = has_file (kind_of j) (stream_at m j lines) s n (tied.agree m j) e none
 
-    at_place : (m j n : ℕ) → l ≡ m → k ≡ j → file_on (stream_at m j new) ≡ Some n → file_on r ≡ Some n
+    at_place : (m j n : ℕ) → l ≡ m → k ≡ j → coming_file (stream_at m j new) ≡ Some n → coming_file r ≡ Some n
     at_place m j n line stream e =
-        sym (ap file_on (ap (λ x. stream_at x j new) (sym line) ∙ ap (λ x. stream_at l x new) (sym stream) ∙ here)) ∙ e
+        sym (ap coming_file (ap (λ x. stream_at x j new) (sym line) ∙ ap (λ x. stream_at l x new) (sym stream) ∙ here)) ∙ e
 
-    elsewhere : (m j n : ℕ) → ((l ≡ m) × (k ≡ j) → ⊥) → file_on (stream_at m j new) ≡ Some n → was m j ≡ Some n
-    elsewhere m j n other e = sym (ap file_on (there m j other)) ∙ e
+    elsewhere : (m j n : ℕ) → ((l ≡ m) × (k ≡ j) → ⊥) → coming_file (stream_at m j new) ≡ Some n → was m j ≡ Some n
+    elsewhere m j n other e = sym (ap coming_file (there m j other)) ∙ e
 
     apart_at :
-        (m j p i n : ℕ) → Places l k m j → Places l k p i → file_on (stream_at m j new) ≡ Some n → file_on (stream_at p i new) ≡ Some n
+        (m j p i n : ℕ) → Places l k m j → Places l k p i → coming_file (stream_at m j new) ≡ Some n → coming_file (stream_at p i new) ≡ Some n
         → (m ≡ p) × (j ≡ i)
     apart_at m j p i n (Same line stream) (Same line' stream') e f = (sym line ∙ line', sym stream ∙ stream')
     apart_at m j p i n (Same line stream) (Apart other) e f =
@@ -137,11 +137,11 @@ stream_moved l k r lines s t line_there stream_there tied moves agrees = record 
 
     stays : (n : ℕ) → (was l k ≡ Some n → ⊥) → (x : Comes n lines) → Places l k x.line x.stream → Comes n new
     stays n not x (Same line stream) =
-        absurd (not (ap file_on (ap (λ y. stream_at y k lines) line ∙ ap (λ y. stream_at x.line y lines) stream) ∙ x.file))
-    stays n not x (Apart other) = record { line = x.line; stream = x.stream; file = ap file_on (there x.line x.stream other) ∙ x.file }
+        absurd (not (ap coming_file (ap (λ y. stream_at y k lines) line ∙ ap (λ y. stream_at x.line y lines) stream) ∙ x.file))
+    stays n not x (Apart other) = record { line = x.line; stream = x.stream; file = ap coming_file (there x.line x.stream other) ∙ x.file }
 
-    come_at : (n : ℕ) → (file_on r ≡ Some n) ⊎ ((was l k ≡ Some n → ⊥) × Has n s) → Comes n new
-    come_at n (inl e) = record { line = l; stream = k; file = ap file_on here ∙ e }
+    come_at : (n : ℕ) → (coming_file r ≡ Some n) ⊎ ((was l k ≡ Some n → ⊥) × Has n s) → Comes n new
+    come_at n (inl e) = record { line = l; stream = k; file = ap coming_file here ∙ e }
     come_at n (inr old) =
         let x = tied.come n old.1.file old.1.found in
         stays n old.0 x (places l k x.line x.stream)
@@ -205,7 +205,7 @@ untouched lines s t same tied = record {
 pub at_rest : (lines : List (List Receiver)) (s : CustomerSpool) → ((l k : ℕ) → stream_at l k lines ≡ Idle) → s.partial ≡ [] → AreTied lines s
 at_rest lines s idle none = record {
   agree = λ l k. subst (λ x. Agrees (kind_of k) x s) (sym (idle l k)) tt;
-  apart = λ l k m j n e f. absurd (cc (sym (ap file_on (idle l k)) ∙ e));
+  apart = λ l k m j n e f. absurd (cc (sym (ap coming_file (idle l k)) ∙ e));
   come = λ n f found. absurd (cc (sym (ap (numbered n) none) ∙ found));
 }
 
@@ -214,9 +214,9 @@ at_rest lines s idle none = record {
 pub arrival_tied :
     (entry : CustomerEntry) (l k : ℕ) (a : Arrival) (lines : List (List Receiver)) (s : CustomerSpool) → ((x : CustomerSpool) → IsFree x)
     → l < length lines → k < length (streams_at l lines) → AreTied lines s
-    → (let done = received entry l (kind_of k) (stream_at l k lines) a s in AreTied (with_stream l k done.receiver lines) done.spool)
+    → (let done = received_arrival entry l (kind_of k) (stream_at l k lines) a s in AreTied (with_stream l k done.receiver lines) done.spool)
 arrival_tied entry l k a lines s free line_there stream_there tied =
     let r = stream_at l k lines in
-    let done = received entry l (kind_of k) r a s in
+    let done = received_arrival entry l (kind_of k) r a s in
     stream_moved l k done.receiver lines s done.spool line_there stream_there tied (arrivals entry l (kind_of k) r a s free)
     (received_agrees entry l (kind_of k) r a s free (tied.agree l k))

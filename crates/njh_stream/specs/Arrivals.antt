@@ -6,13 +6,13 @@ use Rattle.njh_block.specs.declared.answer.Answer.{Answer}
 use Rattle.njh_block.specs.declared.rcb.ControlRcb.{ControlRcb}
 use Rattle.njh_block.specs.declared.rcb.Rcb.{Rcb}
 use Rattle.njh_spool.specs.CustomerSpool.{CustomerSpool}
-use Rattle.njh_spool.specs.Spools.{part}
+use Rattle.njh_spool.specs.Spools.{spool_at}
 use Rattle.njh_table.specs.declared.LineId.{LineId}
 use Rattle.njh_table.specs.TableFile.{TableFile, customer_at, entry_of}
 use Rattle.njh_stream.specs.declared.receiver.Receiver.{Receiver}
 use Rattle.njh_stream.specs.declared.arrival.Arrival as code
 use Rattle.njh_stream.specs.declared.arrival.Arrival.TheVariants as variants
-use Rattle.njh_stream.specs.Receiving.{Arrival, Request, Data, Long, Abort, Received, received}
+use Rattle.njh_stream.specs.Receiving.{Arrival, Request, Data, Long, Abort, Received, received_arrival}
 
 abbrev pub arrival_of : code.Arrival → Arrival
 arrival_of variants.Request = Request
@@ -30,7 +30,7 @@ IsShort Abort = Unit {0}
 -- what an arrival on a stream of a line does, by the tables and the customers' spools
 abbrev pub received_on : TableFile → List CustomerSpool → LineId → ℕ → Receiver → Arrival → Received
 received_on tables spools line stream receiver arrival =
-    received (entry_of (customer_at tables line.customer)) line.line (kind_of stream) receiver arrival (part line.customer spools)
+    received_arrival (entry_of (customer_at tables line.customer)) line.line (kind_of stream) receiver arrival (spool_at line.customer spools)
 
 -- an answer carries the RCB of its stream
 abbrev pub answer_on : ℕ → ControlRcb → Answer

@@ -5,16 +5,16 @@ use Rattle.njh_record.specs.Stored.{Stored}
 use Rattle.njh_record.specs.declared.Kind.{Kind}
 use Rattle.njh_block.specs.declared.rcb.ControlRcb.{ControlRcb}
 use Rattle.njh_block.specs.declared.rcb.ControlRcb.TheVariants.{Refusal, Completion}
-use Rattle.njh_header.specs.FileHeaders.{owner_of}
+use Rattle.njh_header.specs.FileHeaders.{file_owner}
 use Rattle.njh_table.specs.Entries.{CustomerEntry}
 use Rattle.njh_spool.specs.declared.State.TheVariants.{Ready}
-use Rattle.njh_spool.specs.CustomerSpool.{CustomerSpool, partial_numbered, has_room_for, abandoned}
+use Rattle.njh_spool.specs.CustomerSpool.{CustomerSpool, partial_numbered, has_room_for, without_partial}
 use Rattle.njh_stream.specs.declared.receiver.Receiver.{Receiver}
 use Rattle.njh_stream.specs.declared.receiver.Receiver.TheVariants.{Idle, Open, Draining}
-use Rattle.njh_stream.specs.Transmissions.{Coming, Fitting, TooLong}
-use Rattle.njh_stream.specs.Outcomes.{Ending, EndOfFile, GivenUp, CutOff, Outcome, AFile, NotWhole, CancelledBy}
+use Rattle.njh_stream.specs.Transmissions.{ComingRecord, Fitting, TooLong}
+use Rattle.njh_stream.specs.Outcomes.{Ending, EndOfFile, GivenUp, CutOff, TransmissionOutcome, AFile, NotWhole, CancelledBy}
 use Rattle.njh_stream.specs.Outcomes.{Dropped}
-use Rattle.njh_stream.specs.Receiving.{Arrival, Data, Long, Abort, Notice, Received, received, unmoved, without_open}
+use Rattle.njh_stream.specs.Receiving.{Arrival, Data, Long, Abort, Notice, Received, received_arrival, received_nothing, without_open}
 use Rattle.njh_stream.specs.Receiving.{notice_of}
 
 -- A record of a byte or more came, or one of more than 256 bytes, and found the customer's spool so.
@@ -31,16 +31,16 @@ arrival_at (Came srcb byte bytes found) = Data srcb (byte ∷ bytes)
 arrival_at (CameLong found) = Long
 
 -- what came for the file of a number, with the room that there was
-abbrev pub coming_at : ℕ → Moment → Coming
+abbrev pub coming_at : ℕ → Moment → ComingRecord
 coming_at n (Came srcb byte bytes found) =
     let r : Stored = record { srcb = srcb; bytes = byte ∷ bytes } in Fitting r (has_room_for n r found)
 coming_at n (CameLong found) = TooLong
 
 -- how it ended, where the end of file has this SRCB
 abbrev pub ended_by : CustomerEntry → ℕ → Kind → Ending → ℕ → Receiver → CustomerSpool → Received
-ended_by entry l kind EndOfFile srcb receiver last = received entry l kind receiver (Data srcb []) last
-ended_by entry l kind GivenUp srcb receiver last = received entry l kind receiver Abort last
-ended_by entry l kind CutOff srcb receiver last = unmoved Idle (without_open receiver last)
+ended_by entry l kind EndOfFile srcb receiver last = received_arrival entry l kind receiver (Data srcb []) last
+ended_by entry l kind GivenUp srcb receiver last = received_arrival entry l kind receiver Abort last
+ended_by entry l kind CutOff srcb receiver last = received_nothing Idle (without_open receiver last)
 
 -- In the end: the stream, the customer's spool, and all that was answered and told.
 pub record Followed : Type 0 where
@@ -49,22 +49,22 @@ pub record Followed : Type 0 where
   pub answers : List ControlRcb
   pub notices : List Notice
 
-abbrev pub listed : {A : Type 0} → Option A → List A
-listed None = []
-listed (Some x) = x ∷ []
+abbrev pub some_list : {A : Type 0} → Option A → List A
+some_list None = []
+some_list (Some x) = x ∷ []
 
-abbrev pub alone : Received → Followed
-alone done = record { receiver = done.receiver; spool = done.spool; answers = listed done.answer; notices = listed done.notice }
+abbrev pub alone_outcome : Received → Followed
+alone_outcome done = record { receiver = done.receiver; spool = done.spool; answers = some_list done.answer; notices = some_list done.notice }
 
 abbrev pub before : Received → Followed → Followed
-before done rest = record rest { answers = listed done.answer ++ rest.answers; notices = listed done.notice ++ rest.notices }
+before done rest = record rest { answers = some_list done.answer ++ rest.answers; notices = some_list done.notice ++ rest.notices }
 
 -- through all moments, and then the end, which finds the spool so
-abbrev pub followed : CustomerEntry → ℕ → Kind → Ending → ℕ → CustomerSpool → Receiver → List Moment → Followed
-followed entry l kind ending srcb last receiver [] = alone (ended_by entry l kind ending srcb receiver last)
-followed entry l kind ending srcb last receiver (m ∷ ms) =
-    let done = received entry l kind receiver (arrival_at m) (found_at m) in
-    before done (followed entry l kind ending srcb last done.receiver ms)
+abbrev pub outcome_of_moments : CustomerEntry → ℕ → Kind → Ending → ℕ → CustomerSpool → Receiver → List Moment → Followed
+outcome_of_moments entry l kind ending srcb last receiver [] = alone_outcome (ended_by entry l kind ending srcb receiver last)
+outcome_of_moments entry l kind ending srcb last receiver (m ∷ ms) =
+    let done = received_arrival entry l kind receiver (arrival_at m) (found_at m) in
+    before done (outcome_of_moments entry l kind ending srcb last done.receiver ms)
 
 -- a stream's open file is in one spool as in another
 abbrev pub IsSameFile : Receiver → CustomerSpool → CustomerSpool → Type 0
@@ -76,21 +76,21 @@ IsSameFile Draining left found = Unit {0}
 abbrev pub IsUntouched : CustomerEntry → ℕ → Kind → CustomerSpool → Receiver → CustomerSpool → List Moment → Type 0
 IsUntouched entry l kind last receiver left [] = IsSameFile receiver left last
 IsUntouched entry l kind last receiver left (m ∷ ms) =
-    let done = received entry l kind receiver (arrival_at m) (found_at m) in
+    let done = received_arrival entry l kind receiver (arrival_at m) (found_at m) in
     IsSameFile receiver left (found_at m) × IsUntouched entry l kind last done.receiver done.spool ms
 
 -- the spool with the partial file of a number as its last whole one, of these records
 abbrev pub with_file : ℕ → Kind → List Stored → CustomerSpool → CustomerSpool
 with_file n kind records s =
-    record (abandoned n s) { whole = s.whole ++ record { number = n; kind = kind; records = records; state = Ready } ∷ [] }
+    record (without_partial n s) { whole = s.whole ++ record { number = n; kind = kind; records = records; state = Ready } ∷ [] }
 
 -- What a transmission that became this answers, tells and leaves. One that is cancelled abandons its file at once.
-abbrev pub following_from : Outcome → ℕ → Kind → List Stored → CustomerSpool → Followed
+abbrev pub following_from : TransmissionOutcome → ℕ → Kind → List Stored → CustomerSpool → Followed
 following_from (AFile records) n kind came last =
     record { receiver = Idle; spool = with_file n kind records last; answers = Completion ∷ []; notices = [] }
 following_from NotWhole n kind came last =
-    record { receiver = Idle; spool = abandoned n last; answers = Refusal ∷ []; notices = [] }
+    record { receiver = Idle; spool = without_partial n last; answers = Refusal ∷ []; notices = [] }
 following_from (CancelledBy text) n kind came last =
-    record { receiver = Idle; spool = last; answers = Refusal ∷ []; notices = listed (notice_of (owner_of came) text) }
+    record { receiver = Idle; spool = last; answers = Refusal ∷ []; notices = some_list (notice_of (file_owner came) text) }
 following_from Dropped n kind came last =
-    record { receiver = Idle; spool = abandoned n last; answers = []; notices = [] }
+    record { receiver = Idle; spool = without_partial n last; answers = []; notices = [] }

@@ -24,21 +24,21 @@ destination_unrouted entry None = false
 destination_unrouted entry (Some d) = node_unrouted entry d.0
 
 -- it may go, now or when a session has ended
-abbrev pub waits : State → Bool
-waits Ready = true
-waits Held = false
-waits Refused = true
-waits Sending = false
+abbrev pub waits_in_state : State → Bool
+waits_in_state Ready = true
+waits_in_state Held = false
+waits_in_state Refused = true
+waits_in_state Sending = false
 
 abbrev pub has_lost_route : CustomerEntry → WholeFile → Bool
-has_lost_route entry f = waits f.state && destination_unrouted entry (destination_of f.kind f.records)
+has_lost_route entry f = waits_in_state f.state && destination_unrouted entry (destination_of f.kind f.records)
 
-abbrev pub held : WholeFile → WholeFile
-held f = record f { state = Held }
+abbrev pub held_file : WholeFile → WholeFile
+held_file f = record f { state = Held }
 
 -- the files that wait and whose node has no route are held, and all else stays
 abbrev pub unrouted_held : CustomerEntry → CustomerSpool → CustomerSpool
-unrouted_held entry s = record s { whole = map (λ f. cond (has_lost_route entry f) (held f) f) s.whole }
+unrouted_held entry s = record s { whole = map (λ f. cond (has_lost_route entry f) (held_file f) f) s.whole }
 
 -- the whole file of a number alone
 abbrev pub held_numbered : CustomerEntry → ℕ → CustomerSpool → CustomerSpool

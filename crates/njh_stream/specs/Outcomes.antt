@@ -4,7 +4,7 @@ use Rattle.std.specs.Prelude.{◌≡◌, ℕ, true, false, ◌⊎◌, List, [], 
 use Rattle.njh_record.specs.Stored.{Stored}
 use Rattle.njh_record.specs.declared.Kind.{Kind}
 use Rattle.njh_table.specs.Entries.{CustomerEntry}
-use Rattle.njh_stream.specs.Transmissions.{Coming, Fitting, TooLong, Taken, Cancelled, judged_coming, is_whole}
+use Rattle.njh_stream.specs.Transmissions.{ComingRecord, Fitting, TooLong, Taken, Cancelled, judged_coming, is_whole}
 
 -- How a transmission ended: its end of file came, the sender gave it up, or the next request or the session's end came.
 pub data Ending : Type 0 where
@@ -14,33 +14,33 @@ pub data Ending : Type 0 where
 
 -- What became of it: a file of these records, nothing for want of records, nothing since a record was not taken (the
 -- owner may be told why), or nothing at all.
-pub data Outcome : Type 0 where
-  AFile : (records : List Stored) → Outcome
-  NotWhole : Outcome
-  CancelledBy : (text : Option (List ℕ)) → Outcome
-  Dropped : Outcome
+pub data TransmissionOutcome : Type 0 where
+  AFile : (records : List Stored) → TransmissionOutcome
+  NotWhole : TransmissionOutcome
+  CancelledBy : (text : Option (List ℕ)) → TransmissionOutcome
+  Dropped : TransmissionOutcome
 
 -- the records among what came
-abbrev pub records_of : List Coming → List Stored
+abbrev pub records_of : List ComingRecord → List Stored
 records_of [] = []
 records_of (Fitting r room ∷ cs) = r ∷ records_of cs
 records_of (TooLong ∷ cs) = records_of cs
 
 -- each is taken after the earlier records and those before it
-abbrev pub AreTaken : CustomerEntry → ℕ → Kind → List Stored → List Coming → Type 0
+abbrev pub AreTaken : CustomerEntry → ℕ → Kind → List Stored → List ComingRecord → Type 0
 AreTaken entry l kind earlier [] = Unit {0}
 AreTaken entry l kind earlier (c ∷ cs) =
     (judged_coming entry l kind earlier c ≡ Taken) × AreTaken entry l kind (earlier ++ records_of (c ∷ [])) cs
 
 -- the first that isn't taken cancels, with this text
-abbrev pub IsCancelled : CustomerEntry → ℕ → Kind → List Stored → List Coming → Option (List ℕ) → Type 0
+abbrev pub IsCancelled : CustomerEntry → ℕ → Kind → List Stored → List ComingRecord → Option (List ℕ) → Type 0
 IsCancelled entry l kind earlier [] text = ⊥
 IsCancelled entry l kind earlier (c ∷ cs) text =
     (judged_coming entry l kind earlier c ≡ Cancelled text)
     ⊎ ((judged_coming entry l kind earlier c ≡ Taken) × IsCancelled entry l kind (earlier ++ records_of (c ∷ [])) cs text)
 
 -- A transmission of what came becomes a file at its end of file where all was taken and is a whole file.
-abbrev pub Becomes : CustomerEntry → ℕ → Kind → List Coming → Ending → Outcome → Type 0
+abbrev pub Becomes : CustomerEntry → ℕ → Kind → List ComingRecord → Ending → TransmissionOutcome → Type 0
 Becomes entry l kind cs EndOfFile (AFile records) = AreTaken entry l kind [] cs × (records ≡ records_of cs) × (is_whole records ≡ true)
 Becomes entry l kind cs GivenUp (AFile records) = ⊥
 Becomes entry l kind cs CutOff (AFile records) = ⊥

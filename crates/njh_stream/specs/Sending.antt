@@ -10,42 +10,42 @@ use Rattle.njh_header.specs.FileHeaders.{destination_of}
 use Rattle.njh_table.specs.Entries.{CustomerEntry, route_of}
 use Rattle.njh_table.specs.declared.Route.{Route}
 use Rattle.njh_table.specs.declared.Route.TheVariants.{Here, Line, Unknown}
-use Rattle.njh_spool.specs.CustomerSpool.{CustomerSpool, WholeFile, whole_numbered, with_state, removed}
+use Rattle.njh_spool.specs.CustomerSpool.{CustomerSpool, WholeFile, whole_numbered, with_state, without_whole}
 use Rattle.njh_stream.specs.declared.sender.Sender.{Sender}
 use Rattle.njh_stream.specs.declared.sender.Sender.TheVariants.{Idle, Requested, Sending, EofSent, Aborting}
 
 -- A stream, and the customer's spool.
-pub record Sent : Type 0 where
+pub record SenderOutcome : Type 0 where
   pub sender : Sender
   pub spool : CustomerSpool
 
 -- ---- the peer's answers
 
 -- A0: the file may be sent
-abbrev pub granted : Sender → Sender
-granted (Requested n) = Sending n 0
-granted x = x
+abbrev pub after_grant : Sender → Sender
+after_grant (Requested n) = Sending n 0
+after_grant x = x
 
 -- B0: the file is refused
-abbrev pub refused : Sender → CustomerSpool → Sent
-refused (Requested n) s = record { sender = Idle; spool = with_state n Refused s }
-refused (Sending n place) s = record { sender = Aborting; spool = with_state n Refused s }
-refused (EofSent n) s = record { sender = Idle; spool = with_state n Refused s }
-refused x s = record { sender = x; spool = s }
+abbrev pub after_refusal : Sender → CustomerSpool → SenderOutcome
+after_refusal (Requested n) s = record { sender = Idle; spool = with_state n Refused s }
+after_refusal (Sending n place) s = record { sender = Aborting; spool = with_state n Refused s }
+after_refusal (EofSent n) s = record { sender = Idle; spool = with_state n Refused s }
+after_refusal x s = record { sender = x; spool = s }
 
 -- C0: the peer has the file
-abbrev pub completed : Sender → CustomerSpool → Sent
-completed (EofSent n) s = record { sender = Idle; spool = removed n s }
-completed x s = record { sender = x; spool = s }
+abbrev pub after_completion : Sender → CustomerSpool → SenderOutcome
+after_completion (EofSent n) s = record { sender = Idle; spool = without_whole n s }
+after_completion x s = record { sender = x; spool = s }
 
 -- ---- what else ends a transmission
 
 -- its file was cancelled by a command
-abbrev pub aborted : Sender → Sender
-aborted (Requested n) = Aborting
-aborted (Sending n place) = Aborting
-aborted (EofSent n) = Idle
-aborted x = x
+abbrev pub after_abort : Sender → Sender
+after_abort (Requested n) = Aborting
+after_abort (Sending n place) = Aborting
+after_abort (EofSent n) = Idle
+after_abort x = x
 
 -- the file that a stream is about
 abbrev pub file_in : Sender → Option ℕ
@@ -56,13 +56,13 @@ file_in (EofSent n) = Some n
 file_in Aborting = None
 
 -- the session ended: the file may go again
-abbrev pub ended : Sender → CustomerSpool → CustomerSpool
-ended x s = elim (file_in x) [ Some n ↦ with_state n Ready s | None ↦ s ]
+abbrev pub spool_after_session : Sender → CustomerSpool → CustomerSpool
+spool_after_session x s = elim (file_in x) [ Some n ↦ with_state n Ready s | None ↦ s ]
 
 -- of all streams of a line
 abbrev pub all_ended : List Sender → CustomerSpool → CustomerSpool
 all_ended [] s = s
-all_ended (x ∷ xs) s = all_ended xs (ended x s)
+all_ended (x ∷ xs) s = all_ended xs (spool_after_session x s)
 
 -- ---- the next record
 

@@ -18,7 +18,7 @@ abbrev pub without_streams : ℕ → List (List Receiver) → List (List Receive
 without_streams l lines = slice_set lines l (replicate (length (streams_at l lines)) Idle)
 
 -- the number of the file that comes
-abbrev pub file_on : Receiver → Option ℕ
-file_on Idle = None
-file_on (Open n progress) = Some n
-file_on Draining = None
+abbrev pub coming_file : Receiver → Option ℕ
+coming_file Idle = None
+coming_file (Open n progress) = Some n
+coming_file Draining = None

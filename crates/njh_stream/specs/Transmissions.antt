@@ -61,8 +61,8 @@ judged_data_set entry l earlier r =
     ]
 
 -- the destination's node of the first data set header
-abbrev pub node_of : List Stored → List ℕ
-node_of records = elim (data_set_header_of records) [ Some h ↦ h.destination.0 | None ↦ [] ]
+abbrev pub file_node : List Stored → List ℕ
+file_node records = elim (data_set_header_of records) [ Some h ↦ h.destination.0 | None ↦ [] ]
 
 -- a data set header that has to name this node
 abbrev pub judged_against : List ℕ → List ℕ → Verdict
@@ -74,7 +74,7 @@ judged_against node bytes =
 
 -- a later data set header names the same node
 abbrev pub judged_later : List Stored → Stored → Verdict
-judged_later earlier r = judged_against (node_of earlier) r.bytes
+judged_later earlier r = judged_against (file_node earlier) r.bytes
 
 -- whether the last record has this SRCB
 abbrev pub ends_in : ℕ → List Stored → Bool
@@ -96,10 +96,10 @@ judged_output entry l earlier r =
     ]
 
 -- a record that comes after earlier ones
-abbrev pub judged : CustomerEntry → ℕ → Kind → List Stored → Stored → Verdict
-judged entry l kind [] r = judged_first entry l kind r
-judged entry l In (e ∷ es) r = Taken
-judged entry l Out (e ∷ es) r = judged_output entry l (e ∷ es) r
+abbrev pub verdict_of : CustomerEntry → ℕ → Kind → List Stored → Stored → Verdict
+verdict_of entry l kind [] r = judged_first entry l kind r
+verdict_of entry l In (e ∷ es) r = Taken
+verdict_of entry l Out (e ∷ es) r = judged_output entry l (e ∷ es) r
 
 -- the records of a transmission that ends here are a whole file: the last one is a trailer
 abbrev pub is_whole : List Stored → Bool
@@ -109,9 +109,9 @@ is_whole records = ends_in 0xd0 records
 
 -- What comes of a transmission: a record, for which the spool has room at that moment or not, or one of more than 256
 -- bytes.
-pub data Coming : Type 0 where
-  Fitting : (stored : Stored) → (room : Bool) → Coming
-  TooLong : Coming
+pub data ComingRecord : Type 0 where
+  Fitting : (stored : Stored) → (room : Bool) → ComingRecord
+  TooLong : ComingRecord
 
 -- the text for the owner where the quota has no room, if the file has a name
 abbrev pub full_text : Option (List ℕ × ℕ) → Option (List ℕ)
@@ -124,7 +124,7 @@ with_room true more Taken = Taken
 with_room false more Taken = Cancelled (full_text (name_of more))
 
 -- what comes after earlier records is judged first and stored last
-abbrev pub judged_coming : CustomerEntry → ℕ → Kind → List Stored → Coming → Verdict
+abbrev pub judged_coming : CustomerEntry → ℕ → Kind → List Stored → ComingRecord → Verdict
 judged_coming entry l kind earlier TooLong = Cancelled None
 judged_coming entry l kind earlier (Fitting r room) =
-    with_room room (earlier ++ r ∷ []) (judged entry l kind earlier r)
+    with_room room (earlier ++ r ∷ []) (verdict_of entry l kind earlier r)

@@ -1,7 +1,7 @@
 //! The end of a session: what becomes of the files of a line's streams.
 
 ghost use Rattle.std.specs.Prelude.{◌≡◌, ◌<◌, length, map, replicate, slice_set};
-ghost use Rattle.njh_spool.specs.Spools.{part};
+ghost use Rattle.njh_spool.specs.Spools.{spool_at};
 ghost use Rattle.njh_stream.specs.Receiving.{without_all_open};
 ghost use Rattle.njh_stream.specs.Sending.{all_ended};
 
@@ -13,7 +13,7 @@ use njh_spool::Spool;
 pub fn end_receivers(receivers: &mut [Receiver], customer: u16, spool: &mut Spool)
     requires { customer < length spool.old }
     ensures receivers { receivers.new ≡ replicate (length receivers.old) Receiver.Idle }
-    ensures spool { spool.new ≡ slice_set spool.old customer (without_all_open receivers.old (part customer spool.old)) }
+    ensures spool { spool.new ≡ slice_set spool.old customer (without_all_open receivers.old (spool_at customer spool.old)) }
 {
     for place in 0..receivers.len() {
         let mut receiver = receivers[place];
@@ -26,7 +26,7 @@ pub fn end_receivers(receivers: &mut [Receiver], customer: u16, spool: &mut Spoo
 pub fn end_senders(senders: &mut [Sender], customer: u16, spool: &mut Spool)
     requires { customer < length spool.old }
     ensures senders { senders.new ≡ replicate (length senders.old) Sender.Idle }
-    ensures spool { spool.new ≡ slice_set spool.old customer (all_ended senders.old (part customer spool.old)) }
+    ensures spool { spool.new ≡ slice_set spool.old customer (all_ended senders.old (spool_at customer spool.old)) }
 {
     for place in 0..senders.len() {
         let mut sender = senders[place];

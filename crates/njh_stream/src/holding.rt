@@ -3,7 +3,7 @@
 ghost use Rattle.std.specs.Prelude.{◌≡◌, ◌<◌, length, slice_set, Some};
 ghost use Rattle.njh_header.specs.FileHeaders as headers;
 ghost use Rattle.njh_spool.specs.CustomerSpool.{WholeFile, whole_numbered};
-ghost use Rattle.njh_spool.specs.Spools.{part};
+ghost use Rattle.njh_spool.specs.Spools.{spool_at};
 ghost use Rattle.njh_stream.specs.Holding as holding;
 ghost use Rattle.njh_stream.specs.Sending.{holds_of};
 ghost use Rattle.njh_table.specs.TableFile.{entry_of};
@@ -17,7 +17,7 @@ use njh_table::{Customer, Route};
 /// as they are.
 pub fn hold_unrouted(entry: &Customer, customer: u16, spool: &mut Spool)
     requires { customer < length spool.old }
-    ensures { spool.new ≡ slice_set spool.old customer (holding.unrouted_held (entry_of entry.now) (part customer spool.old)) }
+    ensures { spool.new ≡ slice_set spool.old customer (holding.unrouted_held (entry_of entry.now) (spool_at customer spool.old)) }
 {
     for index in 0..spool.files(customer) {
         spool.quota_holds(customer);
@@ -29,7 +29,7 @@ pub fn hold_unrouted(entry: &Customer, customer: u16, spool: &mut Spool)
 /// A file that waits and whose node has no route is Held.
 fn hold_file(entry: &Customer, customer: u16, file: FileId, spool: &mut Spool)
     requires { customer < length spool.old }
-    ensures { spool.new ≡ slice_set spool.old customer (holding.held_numbered (entry_of entry.now) file (part customer spool.old)) }
+    ensures { spool.new ≡ slice_set spool.old customer (holding.held_numbered (entry_of entry.now) file (spool_at customer spool.old)) }
 {
     if has_lost_route(entry, customer, file, spool) {
         spool.set_state(customer, file, State::Held).ok();
@@ -39,7 +39,7 @@ fn hold_file(entry: &Customer, customer: u16, file: FileId, spool: &mut Spool)
 /// Whether a whole file is Ready or Refused, and its node has no route.
 fn has_lost_route(entry: &Customer, customer: u16, file: FileId, spool: &Spool) -> bool
     requires { customer < length spool.now }
-    ensures { result ≡ holds_of (holding.has_lost_route (entry_of entry.now)) (whole_numbered file (part customer spool.now)) }
+    ensures { result ≡ holds_of (holding.has_lost_route (entry_of entry.now)) (whole_numbered file (spool_at customer spool.now)) }
 {
     match spool.state(customer, file) {
         Ok(State::Ready) => is_unrouted(entry, customer, file, spool),
@@ -51,7 +51,7 @@ fn has_lost_route(entry: &Customer, customer: u16, file: FileId, spool: &Spool) 
 /// Whether the node of a customer's whole file has no route.
 fn is_unrouted(entry: &Customer, customer: u16, file: FileId, spool: &Spool) -> bool
     requires { customer < length spool.now }
-    ensures { (f : WholeFile) → whole_numbered file (part customer spool.now) ≡ Some f → result
+    ensures { (f : WholeFile) → whole_numbered file (spool_at customer spool.now) ≡ Some f → result
         ≡ holding.destination_unrouted (entry_of entry.now) (headers.destination_of f.kind f.records) }
 {
     match spool.headers(customer, file) {

@@ -4,7 +4,7 @@ ghost use Rattle.std.specs.Prelude.{◌≡◌, ◌++◌, ◌∷◌, []};
 ghost use Rattle.njh_header.specs.Headers.{data_set_header};
 ghost use Rattle.njh_table.specs.TableFile.{entry_of};
 ghost use Rattle.njh_stream.specs.Receiving.{progress_of};
-ghost use Rattle.njh_stream.specs.code.Verdicts.{said, judged_placed, IsHeaderPlaced, IsPlaced, IsProgress, IsTakenAt};
+ghost use Rattle.njh_stream.specs.code.Verdicts.{verdict_value, judged_placed, IsHeaderPlaced, IsPlaced, IsProgress, IsTakenAt};
 ghost use Rattle.njh_stream.specs.Transmissions as transmissions;
 
 use crate::receiver::Progress;
@@ -34,8 +34,8 @@ pub(crate) fn judge(
     bytes: &[u8],
 ) -> Verdict
     requires { progress ≡ progress_of kind file.now }
-    ensures verdict { said result
-        ≡ transmissions.judged (entry_of customer.now) line kind file.now (record { srcb = srcb; bytes = bytes.now }) }
+    ensures verdict { verdict_value result
+        ≡ transmissions.verdict_of (entry_of customer.now) line kind file.now (record { srcb = srcb; bytes = bytes.now }) }
     ensures progress { IsProgress result kind (file.now ++ record { srcb = srcb; bytes = bytes.now } ∷ []) }
 {
     match progress {
@@ -54,7 +54,7 @@ pub(crate) fn judge(
 /// A record of a file whose header said where it goes: a data set header that continues no other has to name the same
 /// node, and all else is data.
 fn judge_placed(kind: Kind, node: [u8; FIELD], last: u8, srcb: u8, bytes: &[u8]) -> Verdict
-    ensures verdict { said result ≡ judged_placed kind node last srcb bytes.now }
+    ensures verdict { verdict_value result ≡ judged_placed kind node last srcb bytes.now }
     ensures progress { IsTakenAt result (Progress.Placed node srcb) }
 {
     let placed = Progress::Placed { node, last: srcb };
@@ -72,7 +72,7 @@ fn judge_placed(kind: Kind, node: [u8; FIELD], last: u8, srcb: u8, bytes: &[u8])
 
 /// The first record: a job header that reads.
 fn judge_first(customer: &Customer, line: u16, kind: Kind, srcb: u8, bytes: &[u8]) -> Verdict
-    ensures verdict { said result
+    ensures verdict { verdict_value result
         ≡ transmissions.judged_first (entry_of customer.now) line kind (record { srcb = srcb; bytes = bytes.now }) }
     ensures progress { IsProgress result kind (record { srcb = srcb; bytes = bytes.now } ∷ []) }
 {
@@ -90,7 +90,7 @@ fn judge_first(customer: &Customer, line: u16, kind: Kind, srcb: u8, bytes: &[u8
 
 /// A job goes to the node where it runs.
 fn judge_job(customer: &Customer, line: u16, header: &JobHeader) -> Verdict
-    ensures verdict { said result ≡ transmissions.judged_job (entry_of customer.now) line header.now }
+    ensures verdict { verdict_value result ≡ transmissions.judged_job (entry_of customer.now) line header.now }
     ensures progress { IsPlaced result header.now.execution.0 0xc0 }
 {
     let node = header.destination().node;
@@ -117,7 +117,7 @@ fn judge_data_set(
     srcb: u8,
     bytes: &[u8],
 ) -> Verdict
-    ensures verdict { said result
+    ensures verdict { verdict_value result
         ≡ transmissions.judged_data_set (entry_of customer.now) line file.now (record { srcb = srcb; bytes = bytes.now }) }
     ensures progress { IsHeaderPlaced result (data_set_header bytes.now) srcb }
 {
@@ -139,7 +139,7 @@ fn judge_data_set(
 
 /// A later data set header names the same node.
 fn judge_later(node: [u8; FIELD], bytes: &[u8], progress: Progress) -> Verdict
-    ensures verdict { said result ≡ transmissions.judged_against node bytes.now }
+    ensures verdict { verdict_value result ≡ transmissions.judged_against node bytes.now }
     ensures progress { IsTakenAt result progress }
 {
     match DataSetHeader::read(bytes) {
@@ -156,7 +156,7 @@ fn judge_node(
     file: Option<FileName>,
     progress: Progress,
 ) -> Verdict
-    ensures verdict { said result ≡ transmissions.judged_node (entry_of customer.now) line node file }
+    ensures verdict { verdict_value result ≡ transmissions.judged_node (entry_of customer.now) line node file }
     ensures progress { IsTakenAt result progress }
 {
     match customer.route(node) {

@@ -4,22 +4,22 @@ ghost use Rattle.std.specs.Prelude.{◌≡◌, ℕ, ◌<◌, true, ◌&&◌, Lis
 ghost use Rattle.njh_block.specs.Codes.{kind_of};
 ghost use Rattle.njh_record.specs.declared.Kind.{Kind};
 ghost use Rattle.njh_table.specs.Entries.{CustomerEntry};
-ghost use Rattle.njh_spool.specs.CustomerSpool.{CustomerSpool, abandoned, has_block, has_file_room, next_number};
-ghost use Rattle.njh_stream.specs.Following.{Moment, coming_at, followed, following_from, IsUntouched};
-ghost use Rattle.njh_stream.specs.Outcomes.{Becomes, Ending, Outcome, records_of};
-ghost use Rattle.njh_stream.specs.Receiving.{Arrival, Request, received, requested, without_all_open, without_open};
+ghost use Rattle.njh_spool.specs.CustomerSpool.{CustomerSpool, without_partial, has_block, has_file_room, next_number};
+ghost use Rattle.njh_stream.specs.Following.{Moment, coming_at, outcome_of_moments, following_from, IsUntouched};
+ghost use Rattle.njh_stream.specs.Outcomes.{Becomes, Ending, TransmissionOutcome, records_of};
+ghost use Rattle.njh_stream.specs.Receiving.{Arrival, Request, received_arrival, received_request, without_all_open, without_open};
 ghost use Rattle.njh_stream.specs.Streams.{stream_at, streams_at, with_stream, without_streams};
 ghost use Rattle.njh_stream.specs.code.Agreement.{AreTied};
-ghost use Rattle.njh_stream.specs.Transmissions.{Coming};
+ghost use Rattle.njh_stream.specs.Transmissions.{ComingRecord};
 
 use crate::receiver::{Progress, Receiver};
 use njh_spool::next_number_is_least;
 
 /// Of the records that came and how it ended, a transmission becomes one thing and no other.
 pub fn one_outcome()
-    ensures some { (entry : CustomerEntry) (l : ℕ) (kind : Kind) (cs : List Coming) (ending : Ending)
-        → (outcome : Outcome) × Becomes entry l kind cs ending outcome }
-    ensures one { (entry : CustomerEntry) (l : ℕ) (kind : Kind) (cs : List Coming) (ending : Ending) (a b : Outcome)
+    ensures some { (entry : CustomerEntry) (l : ℕ) (kind : Kind) (cs : List ComingRecord) (ending : Ending)
+        → (outcome : TransmissionOutcome) × Becomes entry l kind cs ending outcome }
+    ensures one { (entry : CustomerEntry) (l : ℕ) (kind : Kind) (cs : List ComingRecord) (ending : Ending) (a b : TransmissionOutcome)
         → Becomes entry l kind cs ending a → Becomes entry l kind cs ending b → a ≡ b }
 {}
 
@@ -28,16 +28,16 @@ pub fn one_outcome()
 /// between.
 pub fn streams_end_so()
     ensures ends { (entry : CustomerEntry) (l : ℕ) (kind : Kind) (s last : CustomerSpool) (ms : List Moment) (ending : Ending) (srcb : ℕ)
-        (outcome : Outcome) → (has_file_room s && has_block s) ≡ true
-        → IsUntouched entry l kind last (requested kind s).receiver (requested kind s).spool ms
+        (outcome : TransmissionOutcome) → (has_file_room s && has_block s) ≡ true
+        → IsUntouched entry l kind last (received_request kind s).receiver (received_request kind s).spool ms
         → Becomes entry l kind (map (coming_at (next_number s)) ms) ending outcome
-        → followed entry l kind ending srcb last (requested kind s).receiver ms
+        → outcome_of_moments entry l kind ending srcb last (received_request kind s).receiver ms
         ≡ following_from outcome (next_number s) kind (records_of (map (coming_at (next_number s)) ms)) last }
     ensures dropped { (entry : CustomerEntry) (l : ℕ) (kind : Kind) (n : ℕ) (progress : Progress) (a : Arrival) (s : CustomerSpool)
-        → (received entry l kind (Receiver.Open n progress) a s).receiver ≡ Receiver.Draining
-        → (received entry l kind (Receiver.Open n progress) a s).spool ≡ abandoned n s }
+        → (received_arrival entry l kind (Receiver.Open n progress) a s).receiver ≡ Receiver.Draining
+        → (received_arrival entry l kind (Receiver.Open n progress) a s).spool ≡ without_partial n s }
     ensures cut { (entry : CustomerEntry) (l : ℕ) (kind : Kind) (receiver : Receiver) (s : CustomerSpool)
-        → received entry l kind receiver Request s ≡ requested kind (without_open receiver s) }
+        → received_arrival entry l kind receiver Request s ≡ received_request kind (without_open receiver s) }
 {
     next_number_is_least();
 }
@@ -50,8 +50,8 @@ pub fn streams_stay_tied()
         → s.partial ≡ [] → AreTied lines s }
     ensures arrival { (entry : CustomerEntry) (l k : ℕ) (a : Arrival) (lines : List (List Receiver)) (s : CustomerSpool)
         → l < length lines → k < length (streams_at l lines) → AreTied lines s
-        → AreTied (with_stream l k (received entry l (kind_of k) (stream_at l k lines) a s).receiver lines)
-        (received entry l (kind_of k) (stream_at l k lines) a s).spool }
+        → AreTied (with_stream l k (received_arrival entry l (kind_of k) (stream_at l k lines) a s).receiver lines)
+        (received_arrival entry l (kind_of k) (stream_at l k lines) a s).spool }
     ensures ended { (l : ℕ) (lines : List (List Receiver)) (s : CustomerSpool) → l < length lines → AreTied lines s
         → AreTied (without_streams l lines) (without_all_open (streams_at l lines) s) }
     ensures untouched { (lines : List (List Receiver)) (s t : CustomerSpool) → t.partial ≡ s.partial → AreTied lines s → AreTied lines t }

@@ -6,14 +6,14 @@ ghost use Rattle.njh_block.specs.Blocks.{rcb_of};
 ghost use Rattle.njh_block.specs.Codes.{kind_of};
 ghost use Rattle.njh_record.specs.declared.Kind.{Kind};
 ghost use Rattle.njh_spool.specs.CustomerSpool.{partial_numbered};
-ghost use Rattle.njh_spool.specs.Spools.{part};
+ghost use Rattle.njh_spool.specs.Spools.{spool_at};
 ghost use Rattle.njh_table.specs.Entries.{CustomerEntry};
 ghost use Rattle.njh_table.specs.TableFile.{customer_at, entry_of};
 ghost use Rattle.njh_stream.specs.Arrivals.{answer_on, arrival_of, received_on, IsShort};
 ghost use Rattle.njh_stream.specs.code.Verdicts.{IsAfter};
-ghost use Rattle.njh_stream.specs.Receiving.{closed, received};
+ghost use Rattle.njh_stream.specs.Receiving.{received_end, received_arrival};
 ghost use Rattle.njh_stream.specs.code.Agreement.{Agrees, AgreesWith, ends_whole};
-ghost use Rattle.njh_stream.specs.Receiving.{received_draining, received_idle, received_open, requested, without_open};
+ghost use Rattle.njh_stream.specs.Receiving.{received_draining, received_idle, received_open, received_request, without_open};
 ghost use Rattle.njh_stream.specs.Receiving.{Data};
 
 use crate::arrival::Arrival;
@@ -129,14 +129,14 @@ impl Receiver {
         requires known { line.customer < length tables.now.customers }
         requires spooled { line.customer < length spool.old }
         requires short { IsShort (arrival_of arrival) }
-        requires agrees { Agrees (kind_of stream) self.old (part line.customer spool.old) }
+        requires agrees { Agrees (kind_of stream) self.old (spool_at line.customer spool.old) }
         ensures receiver { self.new ≡ (received_on tables.now spool.old line stream self.old (arrival_of arrival.entry)).receiver }
         ensures answer { result.answer
             ≡ option_map (answer_on stream) (received_on tables.now spool.old line stream self.old (arrival_of arrival.entry)).answer }
         ensures notice { result.notice ≡ (received_on tables.now spool.old line stream self.old (arrival_of arrival.entry)).notice }
         ensures spool { spool.new ≡ slice_set spool.old line.customer
             (received_on tables.now spool.old line stream self.old (arrival_of arrival.entry)).spool }
-        ensures agrees { Agrees (kind_of stream) self.new (part line.customer spool.new) }
+        ensures agrees { Agrees (kind_of stream) self.new (spool_at line.customer spool.new) }
     {
         match arrival {
             Arrival::Record { srcb, bytes } => {
@@ -161,14 +161,14 @@ impl Receiver {
         requires known { line.customer < length tables.now.customers }
         requires spooled { line.customer < length spool.old }
         requires short { length bytes.now ≤ 256 }
-        requires agrees { Agrees (kind_of stream) self.old (part line.customer spool.old) }
+        requires agrees { Agrees (kind_of stream) self.old (spool_at line.customer spool.old) }
         ensures receiver { self.new ≡ (received_on tables.now spool.old line stream self.old (Data srcb bytes.now)).receiver }
         ensures answer { result.answer
             ≡ option_map (answer_on stream) (received_on tables.now spool.old line stream self.old (Data srcb bytes.now)).answer }
         ensures notice { result.notice ≡ (received_on tables.now spool.old line stream self.old (Data srcb bytes.now)).notice }
         ensures spool { spool.new ≡ slice_set spool.old line.customer
             (received_on tables.now spool.old line stream self.old (Data srcb bytes.now)).spool }
-        ensures agrees { Agrees (kind_of stream) self.new (part line.customer spool.new) }
+        ensures agrees { Agrees (kind_of stream) self.new (spool_at line.customer spool.new) }
     {
         next_number_is_least();
         let was = *self;
@@ -196,14 +196,14 @@ impl Receiver {
         requires known { line.customer < length tables.now.customers }
         requires spooled { line.customer < length spool.old }
         requires short { IsShort (arrival_of arrival) }
-        requires agrees { Agrees (kind_of stream) self.old (part line.customer spool.old) }
+        requires agrees { Agrees (kind_of stream) self.old (spool_at line.customer spool.old) }
         ensures receiver { self.new ≡ (received_on tables.now spool.old line stream self.old (arrival_of arrival.entry)).receiver }
         ensures answer { result.answer
             ≡ option_map (answer_on stream) (received_on tables.now spool.old line stream self.old (arrival_of arrival.entry)).answer }
         ensures notice { result.notice ≡ (received_on tables.now spool.old line stream self.old (arrival_of arrival.entry)).notice }
         ensures spool { spool.new ≡ slice_set spool.old line.customer
             (received_on tables.now spool.old line stream self.old (arrival_of arrival.entry)).spool }
-        ensures agrees { Agrees (kind_of stream) self.new (part line.customer spool.new) }
+        ensures agrees { Agrees (kind_of stream) self.new (spool_at line.customer spool.new) }
     {
         next_number_is_least();
         let was = *self;
@@ -222,7 +222,7 @@ impl Receiver {
     pub fn end(&mut self, customer: u16, spool: &mut Spool)
         requires { customer < length spool.old }
         ensures receiver { self.new ≡ Receiver.Idle }
-        ensures spool { spool.new ≡ slice_set spool.old customer (without_open self.old (part customer spool.old)) }
+        ensures spool { spool.new ≡ slice_set spool.old customer (without_open self.old (spool_at customer spool.old)) }
     {
         let was = *self;
         match was {
@@ -260,10 +260,10 @@ fn receive_unread(
 ) -> Option<Receiver>
     requires spooled { customer < length spool.old }
     requires short { length bytes.now ≤ 256 }
-    requires agrees { Agrees kind receiver (part customer spool.old) }
+    requires agrees { Agrees kind receiver (spool_at customer spool.old) }
     ensures { MatchOption result (spool.new ≡ spool.old) (λ after. (entry : CustomerEntry) (l : ℕ)
         → IsAfter (record { receiver = after; answer = None; notice = None }) spool.new spool.old customer
-        (received entry l kind receiver (Data srcb bytes.now) (part customer spool.old))) }
+        (received_arrival entry l kind receiver (Data srcb bytes.now) (spool_at customer spool.old))) }
 {
     match receiver {
         Receiver::Open { file, progress } => {
@@ -297,9 +297,9 @@ fn receive(
 ) -> After
     requires spooled { line.customer < length spool.old }
     requires short { IsShort (arrival_of arrival) }
-    requires agrees { Agrees kind receiver (part line.customer spool.old) }
+    requires agrees { Agrees kind receiver (spool_at line.customer spool.old) }
     ensures { IsAfter result spool.new spool.old line.customer
-        (received (entry_of entry.now) line.line kind receiver (arrival_of arrival.entry) (part line.customer spool.old)) }
+        (received_arrival (entry_of entry.now) line.line kind receiver (arrival_of arrival.entry) (spool_at line.customer spool.old)) }
 {
     match receiver {
         Receiver::Idle => receive_idle(arrival, kind, line.customer, spool),
@@ -325,7 +325,7 @@ fn receive(
 fn receive_idle(arrival: Arrival<'_>, kind: Kind, customer: u16, spool: &mut Spool) -> After
     requires { customer < length spool.old }
     ensures { IsAfter result spool.new spool.old customer
-        (received_idle kind (arrival_of arrival.entry) (part customer spool.old)) }
+        (received_idle kind (arrival_of arrival.entry) (spool_at customer spool.old)) }
 {
     match arrival {
         Arrival::Request => begin(customer, kind, spool),
@@ -339,7 +339,7 @@ fn receive_idle(arrival: Arrival<'_>, kind: Kind, customer: u16, spool: &mut Spo
 fn receive_draining(arrival: Arrival<'_>, kind: Kind, customer: u16, spool: &mut Spool) -> After
     requires { customer < length spool.old }
     ensures { IsAfter result spool.new spool.old customer
-        (received_draining kind (arrival_of arrival.entry) (part customer spool.old)) }
+        (received_draining kind (arrival_of arrival.entry) (spool_at customer spool.old)) }
 {
     match arrival {
         Arrival::Request => begin(customer, kind, spool),
@@ -368,9 +368,9 @@ fn receive_record(
 ) -> After
     requires spooled { line.customer < length spool.old }
     requires short { length bytes.now ≤ 256 }
-    requires agrees { AgreesWith kind progress (partial_numbered file (part line.customer spool.old)) }
+    requires agrees { AgreesWith kind progress (partial_numbered file (spool_at line.customer spool.old)) }
     ensures { IsAfter result spool.new spool.old line.customer
-        (received_open (entry_of entry.now) line.line kind file (Data srcb bytes.now) (part line.customer spool.old)) }
+        (received_open (entry_of entry.now) line.line kind file (Data srcb bytes.now) (spool_at line.customer spool.old)) }
 {
     if bytes.is_empty() {
         close(line.customer, kind, file, progress, spool)
@@ -392,7 +392,7 @@ fn receive_record(
 /// A new file begins, where the quota has room for one.
 fn begin(customer: u16, kind: Kind, spool: &mut Spool) -> After
     requires { customer < length spool.old }
-    ensures { IsAfter result spool.new spool.old customer (requested kind (part customer spool.old)) }
+    ensures { IsAfter result spool.new spool.old customer (received_request kind (spool_at customer spool.old)) }
 {
     match spool.begin(customer, kind) {
         Ok(file) => {
@@ -406,8 +406,8 @@ fn begin(customer: u16, kind: Kind, spool: &mut Spool) -> After
 /// A file ends: it is finished where it is whole, and given up otherwise.
 fn close(customer: u16, kind: Kind, file: FileId, progress: Progress, spool: &mut Spool) -> After
     requires range { customer < length spool.old }
-    requires agrees { AgreesWith kind progress (partial_numbered file (part customer spool.old)) }
-    ensures { IsAfter result spool.new spool.old customer (closed file (part customer spool.old)) }
+    requires agrees { AgreesWith kind progress (partial_numbered file (spool_at customer spool.old)) }
+    ensures { IsAfter result spool.new spool.old customer (received_end file (spool_at customer spool.old)) }
 {
     if progress.is_whole() {
         spool.finish(customer, file).ok();

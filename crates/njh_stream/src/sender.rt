@@ -2,7 +2,7 @@
 
 ghost use Rattle.std.specs.Prelude.{◌≡◌, ◌+◌, ◌<◌, ◌^◌, [], length, slice_set, IsSome, IsNone};
 ghost use Rattle.std.specs.Option.{option_map};
-ghost use Rattle.njh_spool.specs.Spools.{part};
+ghost use Rattle.njh_spool.specs.Spools.{spool_at};
 ghost use Rattle.njh_stream.specs.Sending as sending;
 
 use njh_record::Record;
@@ -27,7 +27,7 @@ pub enum Sender {
 impl Sender {
     /// The peer permits the file (A0): its first record is next.
     pub fn granted(&mut self)
-        ensures { self.new ≡ sending.granted self.old }
+        ensures { self.new ≡ sending.after_grant self.old }
     {
         let was = *self;
         match was {
@@ -39,8 +39,8 @@ impl Sender {
     /// The peer refuses the file or gives it up (B0): the file is Refused.
     pub fn refused(&mut self, customer: u16, spool: &mut Spool)
         requires { customer < length spool.old }
-        ensures sender { self.new ≡ (sending.refused self.old (part customer spool.old)).sender }
-        ensures spool { spool.new ≡ slice_set spool.old customer (sending.refused self.old (part customer spool.old)).spool }
+        ensures sender { self.new ≡ (sending.after_refusal self.old (spool_at customer spool.old)).sender }
+        ensures spool { spool.new ≡ slice_set spool.old customer (sending.after_refusal self.old (spool_at customer spool.old)).spool }
     {
         let was = *self;
         match was {
@@ -59,8 +59,8 @@ impl Sender {
     /// The peer has the whole file (C0): it leaves the spool.
     pub fn completed(&mut self, customer: u16, spool: &mut Spool)
         requires { customer < length spool.old }
-        ensures sender { self.new ≡ (sending.completed self.old (part customer spool.old)).sender }
-        ensures spool { spool.new ≡ slice_set spool.old customer (sending.completed self.old (part customer spool.old)).spool }
+        ensures sender { self.new ≡ (sending.after_completion self.old (spool_at customer spool.old)).sender }
+        ensures spool { spool.new ≡ slice_set spool.old customer (sending.after_completion self.old (spool_at customer spool.old)).spool }
     {
         let was = *self;
         match was {
@@ -76,7 +76,7 @@ impl Sender {
     pub fn ended(&mut self, customer: u16, spool: &mut Spool)
         requires { customer < length spool.old }
         ensures sender { self.new ≡ Sender.Idle }
-        ensures spool { spool.new ≡ slice_set spool.old customer (sending.ended self.old (part customer spool.old)) }
+        ensures spool { spool.new ≡ slice_set spool.old customer (sending.spool_after_session self.old (spool_at customer spool.old)) }
     {
         if let Some(file) = self.file() {
             spool.set_state(customer, file, State::Ready).ok();
@@ -86,7 +86,7 @@ impl Sender {
 
     /// Its file was removed by a command.
     pub fn abort(&mut self)
-        ensures { self.new ≡ sending.aborted self.old }
+        ensures { self.new ≡ sending.after_abort self.old }
     {
         match *self {
             Sender::Requested(_) | Sender::Sending(_, _) => *self = Sender::Aborting,
@@ -112,9 +112,9 @@ impl Sender {
     /// waits for the peer to say that it has the file.
     pub fn next(&mut self, customer: u16, spool: &mut Spool, into: &mut Record) -> Option<u8>
         requires { customer < length spool.old }
-        ensures sender { self.new ≡ (sending.next_of self.old (part customer spool.old)).sender }
+        ensures sender { self.new ≡ (sending.next_of self.old (spool_at customer spool.old)).sender }
         ensures stored { option_map (λ srcb. record { srcb = srcb; bytes = into.new.items }) result
-            ≡ (sending.next_of self.old (part customer spool.old)).stored }
+            ≡ (sending.next_of self.old (spool_at customer spool.old)).stored }
         ensures empty { IsNone result → into.new.items ≡ [] }
         ensures spool { spool.new ≡ spool.old }
     {
@@ -148,7 +148,7 @@ fn read_next(
 ) -> Option<u8>
     requires { customer < length spool.old }
     ensures stored { option_map (λ srcb. record { srcb = srcb; bytes = into.new.items }) result
-        ≡ sending.record_at file place (part customer spool.old) }
+        ≡ sending.record_at file place (spool_at customer spool.old) }
     ensures before { IsSome result → place + 1 < 2 ^ 32 }
     ensures empty { IsNone result → into.new.items ≡ [] }
     ensures spool { spool.new ≡ spool.old }

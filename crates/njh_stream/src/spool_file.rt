@@ -1,7 +1,7 @@
 //! Files of the spool, as their headers are read.
 
 ghost use Rattle.std.specs.Prelude.{◌≡◌, ◌<◌, length, slice_get, Some};
-ghost use Rattle.njh_spool.specs.Spools.{part};
+ghost use Rattle.njh_spool.specs.Spools.{spool_at};
 ghost use Rattle.njh_stream.specs.SpoolFiles.{records_in};
 
 use njh_header::FileRecords;
@@ -20,12 +20,12 @@ pub struct SpoolFile<'a> {
 impl<'a> Model for SpoolFile<'a> {
     ghost use Rattle.std.specs.Prelude.{◌<◌, List, length};
     ghost use Rattle.njh_record.specs.Stored.{Stored};
-    ghost use Rattle.njh_spool.specs.Spools.{part};
+    ghost use Rattle.njh_spool.specs.Spools.{spool_at};
     ghost use Rattle.njh_stream.specs.SpoolFiles.{records_in};
 
     ghost Value = { List Stored };
 
-    ghost view = { λ f. records_in f.file (part f.customer f.spool.now) };
+    ghost view = { λ f. records_in f.file (spool_at f.customer f.spool.now) };
 
     ghost invariant = { λ f. f.customer < length f.spool.now };
 }
@@ -34,7 +34,7 @@ impl<'a> SpoolFile<'a> {
     /// The file of a number.
     pub fn of(spool: &'a Spool, customer: u16, file: FileId) -> Self
         requires { customer < length spool.now }
-        ensures { result ≡ records_in file (part customer spool.now) }
+        ensures { result ≡ records_in file (spool_at customer spool.now) }
     {
         SpoolFile {
             spool,

@@ -6,12 +6,12 @@ ghost use Rattle.std.specs.Option.{option_map};
 ghost use Rattle.njh_header.specs.FileHeaders as headers;
 ghost use Rattle.njh_record.specs.Stored.{Stored};
 ghost use Rattle.njh_spool.specs.CustomerSpool.{has_room_for, partial_numbered};
-ghost use Rattle.njh_spool.specs.Spools.{part};
+ghost use Rattle.njh_spool.specs.Spools.{spool_at};
 ghost use Rattle.njh_table.specs.Entries.{CustomerEntry};
 ghost use Rattle.njh_table.specs.TableFile.{entry_of};
 ghost use Rattle.njh_stream.specs.code.Verdicts.{appended_where, judged_placed, IsAfter};
 ghost use Rattle.njh_stream.specs.SpoolFiles.{records_in};
-ghost use Rattle.njh_stream.specs.Receiving.{cancelled, notice_of, stored};
+ghost use Rattle.njh_stream.specs.Receiving.{received_cancelling, notice_of, received_record};
 ghost use Rattle.njh_stream.specs.code.Agreement.{AgreesWith};
 ghost use Rattle.njh_stream.specs.Transmissions as transmissions;
 
@@ -39,9 +39,9 @@ pub(crate) fn store(
 ) -> After
     requires range { customer < length spool.old }
     requires short { length bytes.now ≤ 256 }
-    requires agrees { AgreesWith kind progress (partial_numbered file (part customer spool.old)) }
+    requires agrees { AgreesWith kind progress (partial_numbered file (spool_at customer spool.old)) }
     ensures { IsAfter result spool.new spool.old customer
-        (stored (entry_of entry.now) line kind file (record { srcb = srcb; bytes = bytes.now }) (part customer spool.old)) }
+        (received_record (entry_of entry.now) line kind file (record { srcb = srcb; bytes = bytes.now }) (spool_at customer spool.old)) }
 {
     spool.quota_holds(customer);
     let records = SpoolFile::of(spool, customer, file);
@@ -86,10 +86,10 @@ pub(crate) fn store_unread(
 ) -> Option<Progress>
     requires range { customer < length spool.old }
     requires short { length bytes.now ≤ 256 }
-    requires agrees { AgreesWith kind progress (partial_numbered file (part customer spool.old)) }
+    requires agrees { AgreesWith kind progress (partial_numbered file (spool_at customer spool.old)) }
     ensures { MatchOption result (spool.new ≡ spool.old) (λ after. (entry : CustomerEntry) (l : ℕ)
         → IsAfter (record { receiver = Receiver.Open file after; answer = None; notice = None }) spool.new spool.old customer
-        (stored entry l kind file (record { srcb = srcb; bytes = bytes.now }) (part customer spool.old))) }
+        (received_record entry l kind file (record { srcb = srcb; bytes = bytes.now }) (spool_at customer spool.old))) }
 {
     match progress {
         Progress::Placed { node, last } => {
@@ -116,10 +116,10 @@ fn append(
 ) -> After
     requires range { customer < length spool.old }
     requires short { length bytes.now ≤ 256 }
-    requires there { IsSome (partial_numbered file (part customer spool.old)) }
+    requires there { IsSome (partial_numbered file (spool_at customer spool.old)) }
     ensures { let r : Stored = record { srcb = srcb; bytes = bytes.now } in IsAfter result spool.new spool.old customer
-        (appended_where (has_room_for file r (part customer spool.old)) file progress
-        (headers.job_header_of (records_in file (part customer spool.old) ++ r ∷ [])) r (part customer spool.old)) }
+        (appended_where (has_room_for file r (spool_at customer spool.old)) file progress
+        (headers.job_header_of (records_in file (spool_at customer spool.old) ++ r ∷ [])) r (spool_at customer spool.old)) }
 {
     match spool.append(customer, file, srcb, bytes) {
         Ok(()) => After {
@@ -170,7 +170,7 @@ pub(crate) fn cancel(
 ) -> After
     requires { customer < length spool.old }
     ensures { IsAfter result spool.new spool.old customer
-        (cancelled file (notice_of (option_map (λ h. h.origin) header) (option_map (λ t. t.items) text)) (part customer spool.old)) }
+        (received_cancelling file (notice_of (option_map (λ h. h.origin) header) (option_map (λ t. t.items) text)) (spool_at customer spool.old)) }
 {
     spool.abandon(customer, file).ok();
     After {

@@ -11,7 +11,7 @@ use Rattle.std.specs.Cmp.Lexicographic.{nat_list_eq_equiv}
 use Rattle.njh_table.specs.declared.LineId.{LineId}
 use Rattle.njh_table.specs.Accepted.{AreDistinct}
 use Rattle.njh_table.specs.TableFile.{NamedLine, NamedCustomer, TableFile, no_customer, no_line, line_owners}
-use Rattle.njh_table.specs.TableFile.{owners_from, owner_of, line_names, line_at, HasLine}
+use Rattle.njh_table.specs.TableFile.{owners_from, line_named, line_names, table_line, HasLine}
 use Rattle.njh_table.proofs.OwnersLaws.{numbered, names-owners_from}
 
 -- ---- each owner is the line of its name
@@ -101,11 +101,11 @@ owners_owned first (c ∷ customers) (suc i) l within =
     (Contains-append_right (line_owners first 0 c.lines) (owners_from (first + 1) customers) _
     (owners_owned (first + 1) customers i l within))
 
--- ---- what `owner_of` finds
+-- ---- what `line_named` finds
 
-pub owner_found : (t : TableFile) (name : List ℕ) → IfSome (owner_of t name) (λ line. HasLine t line × ((line_at t line).name ≡ name))
+pub owner_found : (t : TableFile) (name : List ℕ) → IfSome (line_named t name) (λ line. HasLine t line × ((table_line t line).name ≡ name))
 owner_found t name =
-    IfSome_then (owner_of t name) (IfSome-lookup (λ x y. (bytes_eq-Decides x y).0) name (owners_from 0 t.customers))
+    IfSome_then (line_named t name) (IfSome-lookup (λ x y. (bytes_eq-Decides x y).0) name (owners_from 0 t.customers))
     (λ line among. let owner =
     All-contains (IsOwnerFrom 0 t.customers) (owners_from 0 t.customers) (name, line) (owners_named 0 t.customers) among in
     let start : line.customer - 0 ≡ line.customer = omega arith in (
@@ -114,7 +114,7 @@ owner_found t name =
     ))
 
 pub owner_only : (t : TableFile) (name : List ℕ) → AreDistinct (line_names t.customers) → (line : LineId) → HasLine t line
-    → (line_at t line).name ≡ name → owner_of t name ≡ Some line
+    → (table_line t line).name ≡ name → line_named t name ≡ Some line
 owner_only t name distinct line has same =
     let unique = IsDistinct-from_AllPairs bytes_eq-Decides (map (λ o. o.0) (owners_from 0 t.customers))
     (subst AreDistinct (sym (names-owners_from 0 t.customers)) distinct) in

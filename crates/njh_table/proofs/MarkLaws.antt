@@ -8,7 +8,7 @@ use Rattle.std.proofs.lemmas.Simd.{map-map}
 use Rattle.std.specs.List.{flat_map}
 use Rattle.njh_table.specs.declared.LineId.{LineId}
 use Rattle.njh_table.specs.Accepted.{IsLine, IsRoute, IsCustomer, IsAccepted}
-use Rattle.njh_table.specs.Marks.{line_marked, customer_marked, with_mark, customer_unmarked, unmarked, entry_marked, entry_unmarked}
+use Rattle.njh_table.specs.Marks.{line_marked, customer_marked, with_mark, customer_unmarked, without_marks, entry_marked, entry_unmarked}
 use Rattle.njh_table.specs.TableFile.{NamedLine, NamedCustomer, TableFile, customer_at, entry_of, no_customer, no_line, owners_from, HasLine}
 use Rattle.njh_table.proofs.Replaced.{accepted_again, reads_alike, same_line_names, same_owners, same_owners_of_all}
 
@@ -77,7 +77,7 @@ unmarked_is c is = record {
   nodes = is.nodes;
 }
 
-pub unmarked_accepted : (t : TableFile) → IsAccepted t → IsAccepted (unmarked t)
+pub unmarked_accepted : (t : TableFile) → IsAccepted t → IsAccepted (without_marks t)
 unmarked_accepted t was =
     accepted_again t (map customer_unmarked t.customers)
     (map-map (λ (c : NamedCustomer). c.name) customer_unmarked t.customers)
@@ -120,6 +120,6 @@ entry-unmarked c =
     λ i. record { hub = c.hub; quota = c.quota; files = c.files; lines = lines i; up = marks i; routes = c.routes }
 
 pub each_entry-unmarked : (t : TableFile) (c : ℕ) → c < length t.customers
-    → entry_of (customer_at (unmarked t) c) ≡ entry_unmarked (entry_of (customer_at t c))
+    → entry_of (customer_at (without_marks t) c) ≡ entry_unmarked (entry_of (customer_at t c))
 each_entry-unmarked t c there =
     ap entry_of (get_or-map customer_unmarked t.customers c no_customer no_customer there) ∙ entry-unmarked (customer_at t c)

@@ -12,7 +12,7 @@ use Rattle.njh_table.specs.declared.limits.TheConstants.{MAX_LINES, MIN_BLOCK, M
 use Rattle.njh_table.specs.Accepted.{IsBetween, AreDistinct, IsLine}
 use Rattle.njh_table.specs.TableFile.{NamedLine}
 use Rattle.njh_table.specs.Keys.{number, node_name, is_line_name, line_name, role, password, peer}
-use Rattle.njh_table.specs.Walk.{line_of, next_line, lines_onto}
+use Rattle.njh_table.specs.Walk.{walked_line, next_line, lines_onto}
 use Rattle.njh_table.proofs.OwnersLaws.{AreApart}
 use Rattle.njh_table.proofs.Gives.{Gives, and_then, weaker, past, with_keys, with_value, with_any, with_value_or}
 use Rattle.njh_table.proofs.Gives.{with_any_or, number-is, line_name-is, IsPeerOf, peer-is}
@@ -23,8 +23,8 @@ pub record IsNewLine (taken : List (List ℕ)) (l : NamedLine) : Type 0 where
   pub absent : list_any (bytes_eq l.name) taken ≡ false
   pub is : IsLine l
 
-line_of-gives : (name : List ℕ) (keys : Members) → is_line_name name ≡ true → Gives (λ l. (l.name ≡ name) × IsLine l) (line_of name keys)
-unfolding line_of
+line_of-gives : (name : List ℕ) (keys : Members) → is_line_name name ≡ true → Gives (λ l. (l.name ≡ name) × IsLine l) (walked_line name keys)
+unfolding walked_line
 line_of-gives name keys is_name =
     with_any _ node_name (codes "node") keys _ (λ node.
     with_any _ role (codes "role") keys _ (λ role.
@@ -45,7 +45,7 @@ next_line-gives taken value =
     with_keys _ value _ (λ keys.
     with_value (λ name. is_line_name name ≡ true) _ line_name (codes "name") keys _ line_name-is (λ name is_name.
     past _ (list_any (bytes_eq name) taken) DoubleLine _ tt (λ absent.
-    weaker _ _ (line_of name keys) (line_of-gives name keys is_name) (λ l is. record {
+    weaker _ _ (walked_line name keys) (line_of-gives name keys is_name) (λ l is. record {
       room = leb-false MAX_LINES (length taken) room;
       absent = ap (λ name. list_any (bytes_eq name) taken) is.0 ∙ absent;
       is = is.1;

@@ -1,16 +1,16 @@
 -- The tables without a file: two customers with a line each.
 use Rattle.std.specs.Prelude.{List, ℕ, false, [], ◌∷◌, codes, None}
-use Rattle.njh_ebcdic.specs.Names.{ebcdic, padded}
+use Rattle.njh_ebcdic.specs.Names.{ebcdic, padded_field}
 use Rattle.njh_table.specs.declared.Role.TheVariants.{Answer}
 use Rattle.njh_table.specs.TableFile.{NamedCustomer, TableFile}
 
 -- a customer with one line, by which it reaches its node LYON
 abbrev pub customer_with_a_line : List ℕ → List ℕ → NamedCustomer
 customer_with_a_line name line =
-    let lyon = padded (ebcdic (codes "LYON")) in
+    let lyon = padded_field (ebcdic (codes "LYON")) in
     record {
-      name = padded (ebcdic name);
-      hub = padded (ebcdic (codes "BUREAU"));
+      name = padded_field (ebcdic name);
+      hub = padded_field (ebcdic (codes "BUREAU"));
       quota = 100;
       files = 8;
       lines =

@@ -19,8 +19,8 @@ with_mark line up t =
 abbrev pub customer_unmarked : NamedCustomer → NamedCustomer
 customer_unmarked c = record c { lines = map (line_marked false) c.lines }
 
-abbrev pub unmarked : TableFile → TableFile
-unmarked t = record t { customers = map customer_unmarked t.customers }
+abbrev pub without_marks : TableFile → TableFile
+without_marks t = record t { customers = map customer_unmarked t.customers }
 
 -- ---- what becomes of an entry
 

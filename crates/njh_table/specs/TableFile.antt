@@ -73,8 +73,8 @@ customer_at t c = slice_index_or t.customers c no_customer
 abbrev pub HasLine : TableFile → LineId → Type 0
 HasLine t line = line.line < length (customer_at t line.customer).lines
 
-abbrev pub line_at : TableFile → LineId → NamedLine
-line_at t line = slice_index_or (customer_at t line.customer).lines line.line no_line
+abbrev pub table_line : TableFile → LineId → NamedLine
+table_line t line = slice_index_or (customer_at t line.customer).lines line.line no_line
 
 -- ---- the lines of the hub by their names
 
@@ -104,5 +104,5 @@ owners_from customer [] = []
 owners_from customer (c ∷ customers) = line_owners customer 0 c.lines ++ owners_from (customer + 1) customers
 
 -- the line of a name
-abbrev pub owner_of : TableFile → List ℕ → Option LineId
-owner_of t name = lookup (bytes_eq name) (owners_from 0 t.customers)
+abbrev pub line_named : TableFile → List ℕ → Option LineId
+line_named t name = lookup (bytes_eq name) (owners_from 0 t.customers)

@@ -20,8 +20,8 @@ use Rattle.njh_table.specs.TableFile.{NamedLine, NamedCustomer, TableFile, line_
 -- ---- lines
 
 -- the line of a name, by its other keys
-unfoldable pub line_of : List ℕ → Members → Walked NamedLine
-line_of name keys = do
+unfoldable pub walked_line : List ℕ → Members → Walked NamedLine
+walked_line name keys = do
   node ← at_key node_name (codes "node") keys
   role ← at_key role (codes "role") keys
   block ← at_key (number MIN_BLOCK MAX_BLOCK) (codes "block") keys
@@ -44,7 +44,7 @@ next_line taken value = do
   keys ← keys_in value
   name ← at_key line_name (codes "name") keys
   fault_where (list_any (bytes_eq name) taken) DoubleLine
-  line_of name keys
+  walked_line name keys
 
 -- the lines of a customer, after those done, where those of earlier customers have the names taken
 abbrev pub lines_onto : List (List ℕ) → List NamedLine → Items → Walked (List NamedLine)

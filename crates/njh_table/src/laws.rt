@@ -9,7 +9,7 @@ ghost use Rattle.njh_table.specs.Accepted.{IsAccepted};
 ghost use Rattle.njh_table.specs.Addresses.{address_of};
 ghost use Rattle.njh_table.specs.Entries.{route_of};
 ghost use Rattle.njh_table.specs.declared.LineId.{LineId};
-ghost use Rattle.njh_table.specs.Marks.{entry_marked, entry_unmarked, unmarked, with_mark};
+ghost use Rattle.njh_table.specs.Marks.{entry_marked, entry_unmarked, without_marks, with_mark};
 ghost use Rattle.njh_table.specs.SameEntry.{SameEntry};
 ghost use Rattle.njh_table.specs.TableFile.{NamedCustomer, TableFile, customer_at, entry_of};
 ghost use Rattle.njh_table.specs.Walk.{tables_in, tables_of};
@@ -46,5 +46,5 @@ pub fn marks_change_one_entry()
     ensures others { (t : TableFile) (line : LineId) (up : Bool) (c : ℕ) → c ≢ line.customer
         → customer_at (with_mark line up t) c ≡ customer_at t c }
     ensures all { (t : TableFile) (c : ℕ) → c < length t.customers
-        → entry_of (customer_at (unmarked t) c) ≡ entry_unmarked (entry_of (customer_at t c)) }
+        → entry_of (customer_at (without_marks t) c) ≡ entry_unmarked (entry_of (customer_at t c)) }
 {}

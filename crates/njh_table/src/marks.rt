@@ -10,7 +10,7 @@ use crate::line::Line;
 use crate::tables::Tables;
 
 impl Tables {
-    ghost use Rattle.njh_table.specs.Marks.{unmarked, with_mark};
+    ghost use Rattle.njh_table.specs.Marks.{without_marks, with_mark};
     ghost use Rattle.njh_table.specs.TableFile.{HasLine};
 
     /// Marks a line as up, or takes the mark away. Takes no memory.
@@ -23,7 +23,7 @@ impl Tables {
 
     /// Takes the marks of all lines away. Takes no memory.
     pub fn set_all_down(&mut self)
-        ensures { self.new ≡ unmarked self.old }
+        ensures { self.new ≡ without_marks self.old }
     {
         take_marks(&mut self.customers);
     }

@@ -33,7 +33,7 @@ impl Tables {
     ghost use Rattle.njh_table.specs.Accepted.{IsAccepted};
     ghost use Rattle.njh_table.specs.declared.LineId.{LineId};
     ghost use Rattle.njh_table.specs.Entries.{route_of};
-    ghost use Rattle.njh_table.specs.TableFile.{customer_at, entry_of, line_at, owner_of, HasLine};
+    ghost use Rattle.njh_table.specs.TableFile.{customer_at, entry_of, table_line, line_named, HasLine};
 
     /// How many blocks the spool has.
     pub fn capacity(&self) -> u32
@@ -71,16 +71,16 @@ impl Tables {
     /// A line by its customer and its number.
     pub fn line(&self, line: LineId) -> &Line
         requires { HasLine self.now line }
-        ensures { result.now ≡ line_at self.now line }
+        ensures { result.now ≡ table_line self.now line }
     {
         &self.customer(line.customer).lines()[usize::from(line.line)]
     }
 
     /// The line of a name, which stands once on the whole hub.
     pub fn line_owner(&self, name: &str) -> Option<LineId>
-        ensures owner { result ≡ owner_of self.now name.now }
-        ensures found { IfSome result (λ line. HasLine self.now line × ((line_at self.now line).name ≡ name.now)) }
-        ensures only { (line : LineId) → HasLine self.now line → (line_at self.now line).name ≡ name.now → result ≡ Some line }
+        ensures owner { result ≡ line_named self.now name.now }
+        ensures found { IfSome result (λ line. HasLine self.now line × ((table_line self.now line).name ≡ name.now)) }
+        ensures only { (line : LineId) → HasLine self.now line → (table_line self.now line).name ≡ name.now → result ≡ Some line }
     {
         self.owners.get(name)
     }

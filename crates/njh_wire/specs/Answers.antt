@@ -8,7 +8,7 @@ use Rattle.njh_wire.specs.declared.end.End.TheVariants as ends
 use Rattle.njh_wire.specs.declared.end.Parting.TheVariants.{Closed, Failed}
 use Rattle.njh_wire.specs.declared.end.Stop.{Stop}
 use Rattle.njh_wire.specs.declared.end.Stop.TheVariants as why
-use Rattle.njh_wire.specs.Standing.{Standing, later, resumed, parted, failed, given_up, keeping, stopped, hearing}
+use Rattle.njh_wire.specs.Standing.{Standing, later, with_connection, without_connection, with_failure, given_up, keeping, after_stop, hearing}
 
 -- Nothing came. That is a quiet only when it is due, and then the next is due 100 milliseconds later.
 abbrev pub IsSilence : {C : Type 0} → Standing C → Reading → Standing C → Type 0
@@ -20,16 +20,16 @@ IsSilence s reading.Absent new = (s.connection ≡ None) × (new ≡ s)
 
 -- What a wire answers that gives no bytes: the end of a connection once, and silence where there is none to tell.
 abbrev pub IsAnswer : {C : Type 0} → Standing C → Result Reading WireFault → Standing C → Type 0
-IsAnswer s (Ok reading.Closed) new = (s.parting ≡ Some Closed) × (new ≡ resumed s.next s)
-IsAnswer s (Err fault) new = (s.parting ≡ Some Failed) × (new ≡ resumed s.next (failed s))
+IsAnswer s (Ok reading.Closed) new = (s.parting ≡ Some Closed) × (new ≡ with_connection s.next s)
+IsAnswer s (Err fault) new = (s.parting ≡ Some Failed) × (new ≡ with_connection s.next (with_failure s))
 IsAnswer s (Ok (reading.Bytes n)) new = ⊥
 IsAnswer s (Ok reading.Quiet) new = (s.parting ≡ None) × IsSilence s reading.Quiet new
 IsAnswer s (Ok reading.Pending) new = (s.parting ≡ None) × IsSilence s reading.Pending new
 IsAnswer s (Ok reading.Absent) new = (s.parting ≡ None) × IsSilence s reading.Absent new
 
 -- a wire that begins to read
-abbrev pub unanswered : {C : Type 0} → Standing C → Standing C
-unanswered s = record s { answered = false }
+abbrev pub before_answer : {C : Type 0} → Standing C → Standing C
+before_answer s = record s { answered = false }
 
 -- something may be there to read, and no end is to be told
 abbrev pub IsOpen : {C : Type 0} → Standing C → Type 0
@@ -46,7 +46,7 @@ pub record Receives {C : Type 0} (moved : C → C → List ℕ → List ℕ → 
   pub moves : moved before after bytes []
   pub dry : length bytes ≡ 0 → stop ≢ why.Full
   pub says : stop ≢ why.Full → stops after stop
-  pub stands : new ≡ stopped stop (record s { connection = Some after })
+  pub stands : new ≡ after_stop stop (record s { connection = Some after })
 
 -- No bytes came: the connection gave none, or wasn't read.
 pub record GivesNone {C : Type 0} (moved : C → C → List ℕ → List ℕ → Type 0) (stops : C → Stop → Type 0)
@@ -109,4 +109,4 @@ pub record IsSentOn {C : Type 0} (moved : C → C → List ℕ → List ℕ → 
 
 -- Bytes that waited were sent on, or the connection failed and the next read is to tell.
 abbrev pub IsFlushed : {C : Type 0} → (C → C → List ℕ → List ℕ → Type 0) → Standing C → Standing C → Type 0
-IsFlushed moved s new = IsSentOn moved s new ⊎ (new ≡ parted Failed ends.Failed s)
+IsFlushed moved s new = IsSentOn moved s new ⊎ (new ≡ without_connection Failed ends.Failed s)

@@ -7,11 +7,11 @@ use Rattle.njh_wire.specs.declared.end.Stop.{Stop}
 use Rattle.njh_wire.specs.declared.end.Stop.TheVariants as stop
 
 -- the bytes that a read gave
-abbrev pub came : Result Received ConnectionFault → List ℕ → List ℕ
-came (Ok (Bytes n)) buffer = take n buffer
-came (Ok Nothing) buffer = []
-came (Ok Ended) buffer = []
-came (Err fault) buffer = []
+abbrev pub bytes_given : Result Received ConnectionFault → List ℕ → List ℕ
+bytes_given (Ok (Bytes n)) buffer = take n buffer
+bytes_given (Ok Nothing) buffer = []
+bytes_given (Ok Ended) buffer = []
+bytes_given (Err fault) buffer = []
 
 -- at least one byte came, and no more than there was room for
 abbrev pub IsReceived : ℕ → Received → Type 0
@@ -27,6 +27,6 @@ IsStop stops (Ok Ended) = stops stop.Ended
 IsStop stops (Err fault) = stops stop.Failed
 
 -- how many bytes a call put out
-abbrev pub gone : Result ℕ ConnectionFault → ℕ
-gone (Ok n) = n
-gone (Err fault) = 0
+abbrev pub count_put_out : Result ℕ ConnectionFault → ℕ
+count_put_out (Ok n) = n
+count_put_out (Err fault) = 0

@@ -38,8 +38,8 @@ abbrev pub later : ℕ → ℕ
 later clock = min (clock + 100) 18446744073709551615
 
 -- nobody is connected to the line of this place, and the clock stands at 0
-abbrev pub opened : {C : Type 0} → ℕ → Standing C
-opened place = record {
+abbrev pub first_standing : {C : Type 0} → ℕ → Standing C
+first_standing place = record {
   place = place;
   connection = None;
   next = None;
@@ -56,8 +56,8 @@ opened place = record {
 }
 
 -- A connection, or none, is there anew: nothing waits, and its silence begins now.
-abbrev pub resumed : {C : Type 0} → Option C → Standing C → Standing C
-resumed connection s = record s {
+abbrev pub with_connection : {C : Type 0} → Option C → Standing C → Standing C
+with_connection connection s = record s {
   connection = connection;
   next = None;
   parting = None;
@@ -69,38 +69,38 @@ resumed connection s = record s {
 }
 
 -- The connection is dropped with what waits, and the next read is to tell.
-abbrev pub parted : {C : Type 0} → Parting → End → Standing C → Standing C
-parted parting end s = record s { connection = None; waiting = []; parting = Some parting; end = Some end }
+abbrev pub without_connection : {C : Type 0} → Parting → End → Standing C → Standing C
+without_connection parting end s = record s { connection = None; waiting = []; parting = Some parting; end = Some end }
 
 -- one failure more
-abbrev pub failed : {C : Type 0} → Standing C → Standing C
-failed s = record s { failures = min (s.failures + 1) 18446744073709551615 }
+abbrev pub with_failure : {C : Type 0} → Standing C → Standing C
+with_failure s = record s { failures = min (s.failures + 1) 18446744073709551615 }
 
 -- The connection is given up, which is a failure, and the next takes its place.
 abbrev pub given_up : {C : Type 0} → End → Standing C → Standing C
-given_up end s = resumed s.next (failed (parted Failed end s))
+given_up end s = with_connection s.next (with_failure (without_connection Failed end s))
 
 -- where somebody is connected, that one is replaced
-abbrev pub displaced : {C : Type 0} → Standing C → Standing C
-displaced s = elim (s.connection) [ None ↦ s | Some c ↦ parted Closed ends.Replaced s ]
+abbrev pub after_displacement : {C : Type 0} → Standing C → Standing C
+after_displacement s = elim (s.connection) [ None ↦ s | Some c ↦ without_connection Closed ends.Replaced s ]
 
 -- a connection is there, at once or once the end of the one before was told
-abbrev pub admitted : {C : Type 0} → C → Standing C → Standing C
-admitted c s = elim (s.parting) [ None ↦ resumed (Some c) s | Some parting ↦ record s { next = Some c } ]
+abbrev pub after_admission : {C : Type 0} → C → Standing C → Standing C
+after_admission c s = elim (s.parting) [ None ↦ with_connection (Some c) s | Some parting ↦ record s { next = Some c } ]
 
 -- the connection is ended from here
-abbrev pub closed : {C : Type 0} → Standing C → Standing C
-closed s = elim (s.connection) [
+abbrev pub after_close : {C : Type 0} → Standing C → Standing C
+after_close s = elim (s.connection) [
   | None ↦ record s { next = None }
-  | Some c ↦ record (parted Closed ends.Closed s) { next = None }
+  | Some c ↦ record (without_connection Closed ends.Closed s) { next = None }
 ]
 
 -- how receiving stopped
-abbrev pub stopped : {C : Type 0} → Stop → Standing C → Standing C
-stopped stops.Full s = s
-stopped stops.Dry s = record s { readable = false }
-stopped stops.Ended s = record s { parting = Some Closed; end = Some ends.Ended }
-stopped stops.Failed s = record s { parting = Some Failed; end = Some ends.Failed }
+abbrev pub after_stop : {C : Type 0} → Stop → Standing C → Standing C
+after_stop stops.Full s = s
+after_stop stops.Dry s = record s { readable = false }
+after_stop stops.Ended s = record s { parting = Some Closed; end = Some ends.Ended }
+after_stop stops.Failed s = record s { parting = Some Failed; end = Some ends.Failed }
 
 -- bytes came now
 abbrev pub hearing : {C : Type 0} → Standing C → Standing C

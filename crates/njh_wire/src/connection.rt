@@ -1,7 +1,7 @@
 //! Connections whose calls never wait.
 
 ghost use Rattle.std.specs.Prelude.{◌≡◌, ◌<◌, ◌≤◌, [], ◌++◌, length, take, IfOk};
-ghost use Rattle.njh_wire.specs.Moved.{IsReceived, IsStop, came, gone};
+ghost use Rattle.njh_wire.specs.Moved.{IsReceived, IsStop, bytes_given, count_put_out};
 
 /// What a read of a connection gives.
 #[derive(Clone, Copy, Debug, PartialEq, Eq)]
@@ -39,14 +39,14 @@ pub trait Connection {
     /// Reads what is there, up to the length of the buffer. A fault gives no bytes.
     fn receive(&mut self, into: &mut [u8]) -> Result<Received, ConnectionFault>
         requires { 0 < length into.old }
-        ensures moved { moved self.old self.new (came result into.new) [] }
+        ensures moved { moved self.old self.new (bytes_given result into.new) [] }
         ensures within { IfOk result (IsReceived (length into.new)) }
         ensures stops { IsStop (stops self.new) result }
         ensures place { place_of self.new ≡ place_of self.old };
 
     /// Sends as many of the bytes as go out now, and answers how many, 0 where none can. A fault sends none.
     fn send(&mut self, bytes: &[u8]) -> Result<usize, ConnectionFault>
-        ensures moved { moved self.old self.new [] (take (gone result) bytes.now) }
+        ensures moved { moved self.old self.new [] (take (count_put_out result) bytes.now) }
         ensures within { IfOk result (λ count. count ≤ length bytes.now) }
         ensures place { place_of self.new ≡ place_of self.old };
 

@@ -5,10 +5,10 @@ ghost use Rattle.std.specs.Prelude.{true, None, IsSome, IsOk, OnOk, OnErr, IfOk}
 ghost use Rattle.njh_hub.specs.Sent.{IsCounted};
 ghost use Rattle.njh_hub.specs.Wires.{IsReading};
 ghost use Rattle.njh_wire.specs.declared.end.End.TheVariants.{Failed};
-ghost use Rattle.njh_wire.specs.Standing.{opened, resumed, parted, failed, given_up, displaced, admitted, closed};
+ghost use Rattle.njh_wire.specs.Standing.{first_standing, with_connection, without_connection, with_failure, given_up, after_displacement, after_admission, after_close};
 ghost use Rattle.std.specs.Option.{option_map};
 ghost use Rattle.njh_wire.specs.Places.{IsAt, IsOwn};
-ghost use Rattle.njh_wire.specs.Answers.{IsOpen, IsWait, IsRead, IsWritten, IsFlushed, unanswered};
+ghost use Rattle.njh_wire.specs.Answers.{IsOpen, IsWait, IsRead, IsWritten, IsFlushed, before_answer};
 
 mod reading;
 mod writing;
@@ -78,7 +78,7 @@ impl<C: Connection + Drop> LineWire<C> {
     /// The wire of the line at this place. Nobody is connected on it. Takes the room for bytes that wait, and no
     /// memory later; out of memory is the only refusal.
     pub fn new(alloc: Global, place: usize) -> Result<Self, AllocError>
-        ensures { IfOk result (λ wire. wire ≡ opened place) }
+        ensures { IfOk result (λ wire. wire ≡ first_standing place) }
     {
         Ok(LineWire {
             place,
@@ -131,7 +131,7 @@ impl<C: Connection + Drop> LineWire<C> {
     /// and then the new one is read.
     pub fn connect(&mut self, connection: C)
         requires { C.place_of connection ≡ self.old.place }
-        ensures { self.new ≡ admitted connection (displaced self.old) }
+        ensures { self.new ≡ after_admission connection (after_displacement self.old) }
     {
         if self.connection.is_some() {
             self.part(Parting::Closed, End::Replaced);
@@ -144,7 +144,7 @@ impl<C: Connection + Drop> LineWire<C> {
 
     /// Drops the connection. The next read answers that it is closed.
     pub fn close(&mut self)
-        ensures { self.new ≡ closed self.old }
+        ensures { self.new ≡ after_close self.old }
     {
         if self.connection.is_some() {
             self.part(Parting::Closed, End::Closed);
@@ -216,7 +216,7 @@ impl<C: Connection + Drop> LineWire<C> {
     /// A connection, or none, is there anew.
     fn resume(&mut self, connection: Option<C>)
         requires { IsAt self.old.place (option_map C.place_of connection) }
-        ensures { self.new ≡ resumed connection self.old }
+        ensures { self.new ≡ with_connection connection self.old }
     {
         self.connection = connection;
         self.next = None;
@@ -230,7 +230,7 @@ impl<C: Connection + Drop> LineWire<C> {
 
     /// The connection is dropped with what waits, and the next read is to tell.
     fn part(&mut self, parting: Parting, end: End)
-        ensures { self.new ≡ parted parting end self.old }
+        ensures { self.new ≡ without_connection parting end self.old }
     {
         self.connection = None;
         self.waiting.clear();
@@ -240,7 +240,7 @@ impl<C: Connection + Drop> LineWire<C> {
 
     /// Takes the next connection, if there is one.
     fn advance(&mut self)
-        ensures { self.new ≡ resumed self.old.next self.old }
+        ensures { self.new ≡ with_connection self.old.next self.old }
     {
         let next = self.next.take();
         self.resume(next);
@@ -248,7 +248,7 @@ impl<C: Connection + Drop> LineWire<C> {
 
     /// Counts a failure.
     fn fail(&mut self)
-        ensures stands { self.new ≡ failed self.old }
+        ensures stands { self.new ≡ with_failure self.old }
         ensures counts { self.old.failures ≤ self.new.failures }
         ensures counted { IsCounted self.old.failures self.new.failures }
     {
@@ -294,8 +294,8 @@ impl<C: Connection + Drop> Wire for LineWire<C> {
     fn read(&mut self, into: &mut [u8]) -> Result<Reading, WireFault>
         requires { 0 < length into.old }
         ensures answered { self.old.place ≡ self.new.place }
-        ensures waits { 0 < length self.old.waiting → IsWait (unanswered self.old) result self.new }
-        ensures reads { self.old.waiting ≡ [] → IsRead C.moved C.stops (unanswered self.old) result into.new self.new }
+        ensures waits { 0 < length self.old.waiting → IsWait (before_answer self.old) result self.new }
+        ensures reads { self.old.waiting ≡ [] → IsRead C.moved C.stops (before_answer self.old) result into.new self.new }
         ensures within { IfOk result (IsReading (length into.new)) }
         ensures counts { self.old.failures ≤ self.new.failures }
         ensures counted { OnErr result (IsCounted self.old.failures self.new.failures) }

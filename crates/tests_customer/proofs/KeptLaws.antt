@@ -2,23 +2,23 @@
 use Rattle.std.proofs.Common.{◌≡◌, ◌<◌, ℕ, List, [], ◌∷◌, ◌++◌, length, slice_set, Option, Some, None, refl, ap, ◌∙◌}
 use Rattle.std.proofs.Math.ListN.{length-set}
 use Rattle.std.proofs.lemmas.List.{get_or-set_same}
-use Rattle.njh_spool.specs.CustomerSpool.{CustomerSpool, PartialFile, partial_numbered, finished, abandoned, as_whole}
-use Rattle.njh_spool.specs.Spools.{part, no_spool}
+use Rattle.njh_spool.specs.CustomerSpool.{CustomerSpool, PartialFile, partial_numbered, with_finished, without_partial, as_whole}
+use Rattle.njh_spool.specs.Spools.{spool_at, no_spool}
 use Rattle.tests_customer.specs.Kept.{IsKept}
 
-pub kept : (old new : List CustomerSpool) (s : CustomerSpool) → 0 < length old → new ≡ slice_set old 0 s → s.quota ≡ (part 0 old).quota
+pub kept : (old new : List CustomerSpool) (s : CustomerSpool) → 0 < length old → new ≡ slice_set old 0 s → s.quota ≡ (spool_at 0 old).quota
     → IsKept old new
 kept old new s h e q = record {
   customers = ap length e ∙ simp length-set;
-  quota = ap (λ m. (part 0 m).quota) e ∙ ap (λ x. x.quota) (get_or-set_same old 0 s no_spool h) ∙ q;
+  quota = ap (λ m. (spool_at 0 m).quota) e ∙ ap (λ x. x.quota) (get_or-set_same old 0 s no_spool h) ∙ q;
 }
 
 quota_where : (n : ℕ) (s : CustomerSpool) (f : Option PartialFile)
-    → (elim f as (λ _. CustomerSpool) [ None ↦ s | Some x ↦ record (abandoned n s) { whole = s.whole ++ as_whole x ∷ [] } ]).quota ≡ s.quota
+    → (elim f as (λ _. CustomerSpool) [ None ↦ s | Some x ↦ record (without_partial n s) { whole = s.whole ++ as_whole x ∷ [] } ]).quota ≡ s.quota
 quota_where n s None = refl
 quota_where n s (Some x) = refl
 
-pub finished_quota : (n : ℕ) (s : CustomerSpool) → (finished n s).quota ≡ s.quota
+pub finished_quota : (n : ℕ) (s : CustomerSpool) → (with_finished n s).quota ≡ s.quota
 finished_quota n s = quota_where n s (partial_numbered n s)
 
 pub kept_again : (old now new : List CustomerSpool) → IsKept old now → IsKept now new → IsKept old new

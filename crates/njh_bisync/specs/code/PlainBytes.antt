@@ -3,7 +3,7 @@ use Rattle.std.specs.Prelude.{ℕ, ◌+◌, ◌==◌, if◌then◌else◌, List,
 use Rattle.std.specs.List.{position_or_len}
 use Rattle.njh_bisync.specs.Frames.{Received}
 use Rattle.njh_bisync.specs.Reading.{Rest}
-use Rattle.njh_bisync.specs.ByteSteps.{Fed, ahead, fed}
+use Rattle.njh_bisync.specs.ByteSteps.{Fed, ahead, feed_outcome}
 
 -- how many bytes stand before the first 10, or all where there is none
 abbrev pub plain_len : List ℕ → ℕ
@@ -17,4 +17,4 @@ kept_all (Some held) bytes = if nat_lt 4096 (length held + length bytes) then No
 -- what is taken of a piece of which so much was taken first, with this frame, or none, and this rest then
 abbrev pub fed_on : ℕ → Option Received → Rest → List ℕ → Fed
 fed_on n (Some frame) rest piece = record { taken = n; frame = Some frame; rest = rest }
-fed_on n None rest piece = ahead n (fed rest (drop n piece))
+fed_on n None rest piece = ahead n (feed_outcome rest (drop n piece))

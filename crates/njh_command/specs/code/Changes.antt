@@ -6,19 +6,19 @@ use Rattle.njh_command.specs.declared.changing.Change.{Change}
 use Rattle.njh_command.specs.declared.changing.Change.TheVariants.{Hold, Release, Reroute}
 use Rattle.njh_command.specs.declared.changing.Standing.{Standing}
 use Rattle.njh_command.specs.declared.changing.Standing.TheVariants.{Other, Busy, Idle}
-use Rattle.njh_command.specs.Commands.{is_sending, rerouted, with_state}
-use Rattle.njh_command.specs.Files.{without}
-use Rattle.njh_command.specs.Replies.{held, released, rerouted_to}
+use Rattle.njh_command.specs.Commands.{is_sending, with_new_destination, file_in_state}
+use Rattle.njh_command.specs.Files.{without_at}
+use Rattle.njh_command.specs.Replies.{held_text, released_text, rerouted_to}
 
 abbrev pub change_by : Change → WholeFile → WholeFile
-change_by Hold f = with_state Held f
-change_by Release f = with_state Ready f
-change_by (Reroute node) f = rerouted node f
+change_by Hold f = file_in_state Held f
+change_by Release f = file_in_state Ready f
+change_by (Reroute node) f = with_new_destination node f
 
-abbrev pub text_of : Change → List ℕ × ℕ → ℕ → List ℕ
-text_of Hold name n = held name n
-text_of Release name n = released name n
-text_of (Reroute node) name n = rerouted_to name node n
+abbrev pub change_text : Change → List ℕ × ℕ → ℕ → List ℕ
+change_text Hold name n = held_text name n
+change_text Release name n = released_text name n
+change_text (Reroute node) name n = rerouted_to name node n
 
 -- what a file is that passes or doesn't, and is being sent or isn't
 abbrev pub standing_by : Bool → Bool → Standing
@@ -32,7 +32,7 @@ standing_of p f = standing_by (p f) (is_sending f.state)
 -- ---- CANCEL, file by file
 
 abbrev pub without_where : Bool → ℕ → CustomerSpool → CustomerSpool
-without_where true index s = without index s
+without_where true index s = without_at index s
 without_where false index s = s
 
 -- the number of a file, where it was being sent

@@ -4,7 +4,7 @@ use Rattle.njh_stream.specs.declared.receiver.Receiver.{Receiver}
 use Rattle.njh_stream.specs.code.Agreement.{AreTied}
 use Rattle.njh_table.specs.Entries.{RouteEntry}
 use Rattle.njh_customer.specs.Customer.{Customer, CustomerLine}
-use Rattle.njh_customer.specs.NewRoutes.{given}
+use Rattle.njh_customer.specs.NewRoutes.{customer_with_routes}
 
 -- the streams to the hub, line by line
 abbrev pub streams_to_hub : List CustomerLine → List (List Receiver)
@@ -24,4 +24,4 @@ pub record IsCoherent (c : Customer) : Type 0 where
 
 -- Routes that are given keep it coherent.
 abbrev pub RoutesKeepCoherent : Type 0
-RoutesKeepCoherent = (routes : List RouteEntry) (c : Customer) → IsCoherent c → IsCoherent (given routes c)
+RoutesKeepCoherent = (routes : List RouteEntry) (c : Customer) → IsCoherent c → IsCoherent (customer_with_routes routes c)

@@ -2,7 +2,7 @@
 
 ghost use Rattle.std.specs.Prelude.{◌≡◌, ◌<◌, ◌↔◌, length, IsTrue, IfOk, IsOk, OnErr, Err};
 ghost use Rattle.std.specs.Option.{option_map};
-ghost use Rattle.njh_hub.specs.Views.{HasGivenUp, file_on, file_summary, hub_line, session_view};
+ghost use Rattle.njh_hub.specs.Views.{HasGivenUp, whole_file_on, file_summary, hub_line, session_view};
 ghost use Rattle.njh_hub.specs.WholeHub.{part, HasLine};
 
 use crate::fault::HubFault;
@@ -95,7 +95,7 @@ impl Hub {
     /// A customer's whole file of a number, without its records; none where it has none of that number, or the hub has
     /// no such customer.
     pub fn file_summary(&self, customer: u16, file: FileId) -> Option<FileSummaryView>
-        ensures { result ≡ option_map file_summary (file_on customer file self.now) }
+        ensures { result ≡ option_map file_summary (whole_file_on customer file self.now) }
     {
         if usize::from(customer) >= self.lines.len() {
             return None;

@@ -1,7 +1,7 @@
 //! A customer that is given new routes while the hub runs.
 
 ghost use Rattle.std.specs.Prelude.{◌≡◌, ◌≢◌, ℕ, ◌<◌, length, slice_set, OnOk, OnErr, Ok, Err};
-ghost use Rattle.njh_customer.specs.NewRoutes.{routes_taken};
+ghost use Rattle.njh_customer.specs.NewRoutes.{part_after_routes};
 ghost use Rattle.njh_table.specs.NewRoutes.{own_routes, routes_checked, taken_routes, with_routes};
 ghost use Rattle.njh_table.specs.TableFile.{customer_at, entry_of};
 ghost use Rattle.njh_table.specs.declared.fault.TableFault.{TableFault};
@@ -21,7 +21,7 @@ impl Hub {
     /// own entry alone; then `Memory` where there was none for them. After each nothing has changed.
     pub fn retable(&mut self, customer: u16, routes: &[RouteEntry]) -> Result<(), HubFault>
         ensures hub { OnOk result (self.new
-            ≡ slice_set self.old customer (routes_taken (taken_routes (own_routes customer routes.now)) (part customer self.old))) }
+            ≡ slice_set self.old customer (part_after_routes (taken_routes (own_routes customer routes.now)) (part customer self.old))) }
         ensures others { (c : ℕ) → c ≢ customer → part c self.new ≡ part c self.old }
         ensures lines { SameLines self.old self.new }
         ensures known { OnOk result (customer < length self.old) }

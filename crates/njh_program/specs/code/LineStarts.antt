@@ -2,7 +2,7 @@
 use Rattle.std.specs.Prelude.{◌≡◌, ℕ, ◌==◌, false, List, [], ◌∷◌, ◌++◌, length, drop, All, Some}
 use Rattle.std.specs.Str.{IsUtf8}
 use Rattle.njh_table.specs.declared.LineId.{LineId}
-use Rattle.njh_table.specs.TableFile.{TableFile, owner_of, HasLine}
+use Rattle.njh_table.specs.TableFile.{TableFile, line_named, HasLine}
 
 -- It is the word, a blank, the name of the line, which is text without a blank, and a blank.
 pub record IsStart (tables : TableFile) (front : List ℕ) (line : LineId) : Type 0 where
@@ -10,7 +10,7 @@ pub record IsStart (tables : TableFile) (front : List ℕ) (line : LineId) : Typ
   pub spelled : front ≡ 66 ∷ 89 ∷ 84 ∷ 69 ∷ 83 ∷ 32 ∷ (name ++ 32 ∷ [])
   pub text : IsUtf8 name
   pub word : All (λ b. (b == 32) ≡ false) name
-  pub owner : owner_of tables name ≡ Some line
+  pub owner : line_named tables name ≡ Some line
   pub known : HasLine tables line
 
 -- A line begins with these bytes.

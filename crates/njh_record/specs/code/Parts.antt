@@ -47,12 +47,12 @@ StandsFirst bytes Bad = BeginsBad bytes
 StandsFirst bytes Cut = IsCutItem bytes
 
 -- what the code finds first stands there
-abbrev pub Leads : List ℕ → Result (Part × Bor (List ℕ)) RecordFault → Type 0
-Leads bytes (Ok (part.Item item, rest)) = StandsFirst bytes (OfItem (item_of item) rest.now)
-Leads bytes (Ok (part.End end, rest)) = StandsFirst bytes (OfEnd end rest.now)
-Leads bytes (Err faults.BadScb) = StandsFirst bytes Bad
-Leads bytes (Err faults.Truncated) = StandsFirst bytes Cut
-Leads bytes (Err (faults.TooLong used)) = ⊥
+abbrev pub LeadsToPart : List ℕ → Result (Part × Bor (List ℕ)) RecordFault → Type 0
+LeadsToPart bytes (Ok (part.Item item, rest)) = StandsFirst bytes (OfItem (item_of item) rest.now)
+LeadsToPart bytes (Ok (part.End end, rest)) = StandsFirst bytes (OfEnd end rest.now)
+LeadsToPart bytes (Err faults.BadScb) = StandsFirst bytes Bad
+LeadsToPart bytes (Err faults.Truncated) = StandsFirst bytes Cut
+LeadsToPart bytes (Err (faults.TooLong used)) = ⊥
 
 -- a record takes more bytes where it has the room for all of them
 abbrev pub Takes : Bool → List ℕ → List ℕ → List ℕ → Type 0

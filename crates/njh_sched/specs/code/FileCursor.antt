@@ -4,7 +4,7 @@ use Rattle.std.specs.List.{list_any}
 use Rattle.njh_record.specs.declared.Kind.{Kind}
 use Rattle.njh_record.specs.declared.Kind.TheVariants.{In, Out}
 use Rattle.njh_spool.specs.CustomerSpool.{CustomerSpool, WholeFile}
-use Rattle.njh_spool.specs.Spools.{part}
+use Rattle.njh_spool.specs.Spools.{spool_at}
 use Rattle.njh_spool.specs.declared.file_headers.FileSummary.{FileSummary}
 use Rattle.njh_stream.specs.Sending.{destination_goes_by, goes_by}
 use Rattle.njh_table.specs.TableFile.{NamedCustomer, entry_of}
@@ -34,7 +34,7 @@ is_known_to_go x kind f =
 
 -- the customer's part of the spool
 abbrev pub files_of : FileCursor → List CustomerSpool → CustomerSpool
-files_of x spools = part x.id.customer spools
+files_of x spools = spool_at x.id.customer spools
 
 abbrev pub other : Kind → Kind
 other In = Out
@@ -45,9 +45,9 @@ index_of In x = x.sysin
 index_of Out x = x.sysout
 
 -- at these indices for a kind and for the other
-abbrev pub moved : Kind → ℕ → ℕ → FileCursor → FileCursor
-moved In index others x = record x { sysin = index; sysout = others }
-moved Out index others x = record x { sysin = others; sysout = index }
+abbrev pub cursor_at : Kind → ℕ → ℕ → FileCursor → FileCursor
+cursor_at In index others x = record x { sysin = index; sysout = others }
+cursor_at Out index others x = record x { sysin = others; sysout = index }
 
 -- no file before an index may go on a stream of a kind
 pub record HasPassed (goes : WholeFile → Bool) (kind : Kind) (index : ℕ) (s : CustomerSpool) : Type 0 where

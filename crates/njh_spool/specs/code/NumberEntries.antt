@@ -5,11 +5,11 @@ use Rattle.njh_table.specs.declared.limits.TheConstants.{MAX_FILES}
 use Rattle.njh_spool.specs.declared.number_entries.Entries.{Entries}
 
 -- a hole is no file's number
-abbrev pub is_number : ℕ → Bool
-is_number entry = nat_lt entry MAX_FILES
+abbrev pub is_file_entry : ℕ → Bool
+is_file_entry entry = nat_lt entry MAX_FILES
 
 abbrev pub numbers_in : List ℕ → List ℕ
-numbers_in entries = filter is_number entries
+numbers_in entries = filter is_file_entry entries
 
 -- how many numbers stand before a place
 abbrev pub before : ℕ → List ℕ → ℕ

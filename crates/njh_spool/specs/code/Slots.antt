@@ -16,10 +16,10 @@ use Rattle.njh_spool.specs.declared.file_slot.RecordPlace.{RecordPlace}
 use Rattle.njh_spool.specs.declared.file_slot.KeptPlaces.{KeptPlaces}
 use Rattle.njh_spool.specs.declared.customer_files.CustomerFiles.{CustomerFiles}
 use Rattle.njh_spool.specs.code.Chains.{Chain, StoreValue, empty_chain, blocks_used, IsMark}
-use Rattle.njh_spool.specs.CustomerSpool.{CustomerSpool, WholeFile, PartialFile, stored_size, used}
+use Rattle.njh_spool.specs.CustomerSpool.{CustomerSpool, WholeFile, PartialFile, stored_size, used_blocks}
 use Rattle.njh_spool.specs.Spools.{IsSound}
 use Rattle.njh_spool.specs.Headers.{kept_headers, no_headers}
-use Rattle.njh_spool.specs.code.Packing.{packed, unpacked, IsShort}
+use Rattle.njh_spool.specs.code.Packing.{packed_bytes, unpacked_records, IsShort}
 
 -- where the first record of any file begins
 abbrev pub first_place : RecordPlace
@@ -55,7 +55,7 @@ pub record Content : Type 0 where
   pub records : List Stored
 
 abbrev pub content : FileSlot → Chain → Content
-content slot chain = record { stage = slot.stage; kind = slot.kind; records = unpacked slot.count chain.bytes }
+content slot chain = record { stage = slot.stage; kind = slot.kind; records = unpacked_records slot.count chain.bytes }
 
 -- a customer's files by their numbers
 abbrev pub contents : List FileSlot → List Chain → ℕ → ℕ → Content
@@ -71,10 +71,10 @@ is_partial Free = false
 is_partial Partial = true
 is_partial (Whole state) = false
 
-abbrev pub is_whole : Stage → Bool
-is_whole Free = false
-is_whole Partial = false
-is_whole (Whole state) = true
+abbrev pub is_whole_stage : Stage → Bool
+is_whole_stage Free = false
+is_whole_stage Partial = false
+is_whole_stage (Whole state) = true
 
 abbrev pub state_of : Stage → State
 state_of Free = Ready
@@ -105,9 +105,9 @@ spools_of customers files = spools_from 0 customers files
 -- what always holds of a customer: its blocks are counted, its spool is sound, and its lists name each of its files
 -- once
 pub record IsOwn (own : CustomerFiles) (files : ℕ → Content) : Type 0 where
-  pub counted : own.used ≡ used (spool_of own files)
+  pub counted : own.used ≡ used_blocks (spool_of own files)
   pub sound : IsSound (spool_of own files)
-  pub whole_once : (n : ℕ) → count_by (λ m. m == n) own.whole ≡ cond (is_whole (files n).stage) 1 0
+  pub whole_once : (n : ℕ) → count_by (λ m. m == n) own.whole ≡ cond (is_whole_stage (files n).stage) 1 0
   pub partial_once : (n : ℕ) → count_by (λ m. m == n) own.partial ≡ cond (is_partial (files n).stage) 1 0
 
 -- a record's place in a file of these records, in a chain of these blocks
@@ -124,15 +124,15 @@ pub record ArePlaces (records : List Stored) (keys : List ℕ) (kept : KeptPlace
 -- what always holds of a slot and its chain: the chain has the bytes of as many records as the slot counts, none where
 -- the slot is free, and records begin at the places that the slot keeps
 pub record IsFile (slot : FileSlot) (chain : Chain) : Type 0 where
-  pub bytes : chain.bytes ≡ packed (unpacked slot.count chain.bytes)
-  pub short : All IsShort (unpacked slot.count chain.bytes)
+  pub bytes : chain.bytes ≡ packed_bytes (unpacked_records slot.count chain.bytes)
+  pub short : All IsShort (unpacked_records slot.count chain.bytes)
   pub free : is_free slot.stage ≡ true → slot.count ≡ 0
   pub small : length chain.bytes ≤ 252 * MAX_QUOTA
-  pub places : ArePlaces (unpacked slot.count chain.bytes) chain.keys slot.places
+  pub places : ArePlaces (unpacked_records slot.count chain.bytes) chain.keys slot.places
 
 -- a whole file's slot keeps what the headers of its records say
 abbrev pub KeepsHeaders : FileSlot → Chain → Type 0
-KeepsHeaders slot chain = is_whole slot.stage ≡ true → slot.headers ≡ kept_headers slot.kind (unpacked slot.count chain.bytes)
+KeepsHeaders slot chain = is_whole_stage slot.stage ≡ true → slot.headers ≡ kept_headers slot.kind (unpacked_records slot.count chain.bytes)
 
 -- what always holds of the spool
 pub record IsKept (store : StoreValue) (slots : List FileSlot) (customers : List CustomerFiles) : Type 0 where

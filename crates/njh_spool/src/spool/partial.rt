@@ -2,9 +2,9 @@
 
 ghost use Rattle.std.specs.Prelude.{◌≡◌, ◌<◌, ◌≤◌, ◌^◌, length, MatchOption, IfOk, OnOk, OnErr, IsOk, slice_set};
 ghost use Rattle.std.specs.Option.{option_map};
-ghost use Rattle.njh_spool.specs.CustomerSpool.{next_number, begun, appended, finished, abandoned, partial_numbered};
+ghost use Rattle.njh_spool.specs.CustomerSpool.{next_number, with_new_partial, with_appended, with_finished, without_partial, partial_numbered};
 ghost use Rattle.njh_spool.specs.code.Chains.{blocks_for};
-ghost use Rattle.njh_spool.specs.Spools.{part, begin_fault, append_fault, or_no_file};
+ghost use Rattle.njh_spool.specs.Spools.{spool_at, begin_fault, append_fault, or_no_file};
 
 use crate::file_headers::read_headers;
 use crate::file_id::FileId;
@@ -32,10 +32,10 @@ impl Spool {
     /// left.
     pub fn begin(&mut self, customer: u16, kind: Kind) -> Result<FileId, SpoolFault>
         requires { customer < length self.old }
-        ensures fault { MatchOption (begin_fault (part customer self.old))
+        ensures fault { MatchOption (begin_fault (spool_at customer self.old))
             (IsOk result) (λ fault. result ≡ Err fault) }
-        ensures number { IfOk result (λ id. id ≡ next_number (part customer self.old)) }
-        ensures ok { OnOk result (self.new ≡ slice_set self.old customer (begun kind (part customer self.old))) }
+        ensures number { IfOk result (λ id. id ≡ next_number (spool_at customer self.old)) }
+        ensures ok { OnOk result (self.new ≡ slice_set self.old customer (with_new_partial kind (spool_at customer self.old))) }
         ensures err { OnErr result (self.new ≡ self.old) }
     {
         let own = &mut self.customers[usize::from(customer)];
@@ -66,10 +66,10 @@ impl Spool {
     ) -> Result<(), SpoolFault>
         requires range { customer < length self.old }
         requires short { length bytes.now ≤ 256 }
-        ensures fault { MatchOption (append_fault id (record { srcb = srcb; bytes = bytes.now }) (part customer self.old))
+        ensures fault { MatchOption (append_fault id (record { srcb = srcb; bytes = bytes.now }) (spool_at customer self.old))
             (IsOk result) (λ fault. result ≡ Err fault) }
         ensures ok { OnOk result (self.new
-            ≡ slice_set self.old customer (appended id (record { srcb = srcb; bytes = bytes.now }) (part customer self.old))) }
+            ≡ slice_set self.old customer (with_appended id (record { srcb = srcb; bytes = bytes.now }) (spool_at customer self.old))) }
         ensures err { OnErr result (self.new ≡ self.old) }
     {
         let mut slot = slot_at(&self.slots, customer, id);
@@ -97,8 +97,8 @@ impl Spool {
     /// S3 where the number is no partial file's.
     pub fn finish(&mut self, customer: u16, id: FileId) -> Result<(), SpoolFault>
         requires { customer < length self.old }
-        ensures answer { result ≡ or_no_file (option_map (λ _. tt) (partial_numbered id (part customer self.old))) }
-        ensures after { self.new ≡ slice_set self.old customer (finished id (part customer self.old)) }
+        ensures answer { result ≡ or_no_file (option_map (λ _. tt) (partial_numbered id (spool_at customer self.old))) }
+        ensures after { self.new ≡ slice_set self.old customer (with_finished id (spool_at customer self.old)) }
         ensures err { OnErr result (self.new ≡ self.old) }
     {
         let mut slot = slot_at(&self.slots, customer, id);
@@ -120,8 +120,8 @@ impl Spool {
     /// S3 where the number is no partial file's.
     pub fn abandon(&mut self, customer: u16, id: FileId) -> Result<(), SpoolFault>
         requires { customer < length self.old }
-        ensures answer { result ≡ or_no_file (option_map (λ _. tt) (partial_numbered id (part customer self.old))) }
-        ensures after { self.new ≡ slice_set self.old customer (abandoned id (part customer self.old)) }
+        ensures answer { result ≡ or_no_file (option_map (λ _. tt) (partial_numbered id (spool_at customer self.old))) }
+        ensures after { self.new ≡ slice_set self.old customer (without_partial id (spool_at customer self.old)) }
         ensures err { OnErr result (self.new ≡ self.old) }
     {
         if !slot_at(&self.slots, customer, id).is_partial() {

@@ -2,7 +2,7 @@
 
 ghost use Rattle.std.specs.Prelude.{◌≡◌, ◌<◌, length, IfOk, IsOk, OnErr, MatchOption, Some};
 ghost use Rattle.std.specs.Option.{option_map, ForSome};
-ghost use Rattle.njh_spool.specs.Spools.{part, or_no_file, kind_numbered, records_numbered, record_numbered};
+ghost use Rattle.njh_spool.specs.Spools.{spool_at, or_no_file, kind_numbered, records_numbered, record_numbered};
 
 use crate::SpoolFault;
 use crate::file_id::FileId;
@@ -17,7 +17,7 @@ impl Spool {
     /// S3 where the number is no file's.
     pub fn kind(&self, customer: u16, id: FileId) -> Result<Kind, SpoolFault>
         requires { customer < length self.now }
-        ensures { result ≡ or_no_file (kind_numbered id (part customer self.now)) }
+        ensures { result ≡ or_no_file (kind_numbered id (spool_at customer self.now)) }
     {
         let slot = slot_at(&self.slots, customer, id);
         if slot.is_free() {
@@ -29,7 +29,7 @@ impl Spool {
     /// How many records a file has. S3 where the number is no file's.
     pub fn records(&self, customer: u16, id: FileId) -> Result<u32, SpoolFault>
         requires { customer < length self.now }
-        ensures { result ≡ or_no_file (option_map (λ records. length records) (records_numbered id (part customer self.now))) }
+        ensures { result ≡ or_no_file (option_map (λ records. length records) (records_numbered id (spool_at customer self.now))) }
     {
         let slot = slot_at(&self.slots, customer, id);
         if slot.is_free() {
@@ -41,7 +41,7 @@ impl Spool {
     /// The records of a file, whole or partial, from the first on. S3 where the number is no file's.
     pub fn read_all(&self, customer: u16, id: FileId) -> Result<RecordReader<'_>, SpoolFault>
         requires { customer < length self.now }
-        ensures { result ≡ or_no_file (records_numbered id (part customer self.now)) }
+        ensures { result ≡ or_no_file (records_numbered id (spool_at customer self.now)) }
     {
         let slot = slot_at(&self.slots, customer, id);
         if slot.is_free() {
@@ -59,10 +59,10 @@ impl Spool {
         into: &mut Record,
     ) -> Result<u8, SpoolFault>
         requires range { customer < length self.now }
-        requires within { ForSome (records_numbered id (part customer self.now)) (λ records. n < length records) }
-        ensures fault { MatchOption (records_numbered id (part customer self.now))
+        requires within { ForSome (records_numbered id (spool_at customer self.now)) (λ records. n < length records) }
+        ensures fault { MatchOption (records_numbered id (spool_at customer self.now))
             (result ≡ Err SpoolFault.NoSuchFile) (λ _. IsOk result) }
-        ensures ok { IfOk result (λ srcb. record_numbered id n (part customer self.now)
+        ensures ok { IfOk result (λ srcb. record_numbered id n (spool_at customer self.now)
             ≡ Some (record { srcb = srcb; bytes = into.new.items })) }
         ensures err { OnErr result (into.new ≡ into.old) }
     {
@@ -87,10 +87,10 @@ impl Spool {
         into: &mut Record,
     ) -> Result<u8, SpoolFault>
         requires range { customer < length self.old }
-        requires within { ForSome (records_numbered id (part customer self.old)) (λ records. n < length records) }
-        ensures fault { MatchOption (records_numbered id (part customer self.old))
+        requires within { ForSome (records_numbered id (spool_at customer self.old)) (λ records. n < length records) }
+        ensures fault { MatchOption (records_numbered id (spool_at customer self.old))
             (result ≡ Err SpoolFault.NoSuchFile) (λ _. IsOk result) }
-        ensures ok { IfOk result (λ srcb. record_numbered id n (part customer self.old)
+        ensures ok { IfOk result (λ srcb. record_numbered id n (spool_at customer self.old)
             ≡ Some (record { srcb = srcb; bytes = into.new.items })) }
         ensures same { self.new ≡ self.old }
         ensures err { OnErr result (into.new ≡ into.old) }

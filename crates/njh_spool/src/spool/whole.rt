@@ -2,9 +2,9 @@
 
 ghost use Rattle.std.specs.Prelude.{◌≡◌, ◌+◌, ◌<◌, ◌≤◌, length, OnErr, IsSomeAnd, slice_get, slice_set};
 ghost use Rattle.std.specs.Option.{option_map, ForSome};
-ghost use Rattle.njh_spool.specs.CustomerSpool.{cost, whole_numbered, with_state, removed, rewritten};
+ghost use Rattle.njh_spool.specs.CustomerSpool.{cost, whole_numbered, with_state, without_whole, with_rewritten_bytes};
 ghost use Rattle.njh_spool.specs.Headers.{headers_of, summary};
-ghost use Rattle.njh_spool.specs.Spools.{part, or_no_file};
+ghost use Rattle.njh_spool.specs.Spools.{spool_at, or_no_file};
 
 use crate::file_headers::{FileHeaders, FileSummary, headers_behind};
 use crate::file_id::FileId;
@@ -20,8 +20,8 @@ impl Spool {
     /// S3 where the number is no whole file's.
     pub fn set_state(&mut self, customer: u16, id: FileId, state: State) -> Result<(), SpoolFault>
         requires { customer < length self.old }
-        ensures answer { result ≡ or_no_file (option_map (λ _. tt) (whole_numbered id (part customer self.old))) }
-        ensures after { self.new ≡ slice_set self.old customer (with_state id state (part customer self.old)) }
+        ensures answer { result ≡ or_no_file (option_map (λ _. tt) (whole_numbered id (spool_at customer self.old))) }
+        ensures after { self.new ≡ slice_set self.old customer (with_state id state (spool_at customer self.old)) }
         ensures err { OnErr result (self.new ≡ self.old) }
     {
         let mut slot = slot_at(&self.slots, customer, id);
@@ -36,7 +36,7 @@ impl Spool {
     /// S3 where the number is no whole file's.
     pub fn state(&self, customer: u16, id: FileId) -> Result<State, SpoolFault>
         requires { customer < length self.now }
-        ensures { result ≡ or_no_file (option_map (λ f. f.state) (whole_numbered id (part customer self.now))) }
+        ensures { result ≡ or_no_file (option_map (λ f. f.state) (whole_numbered id (spool_at customer self.now))) }
     {
         match slot_at(&self.slots, customer, id).stage {
             Stage::Whole(state) => Ok(state),
@@ -49,7 +49,7 @@ impl Spool {
     /// file's.
     pub fn headers(&self, customer: u16, id: FileId) -> Result<FileHeaders, SpoolFault>
         requires { customer < length self.now }
-        ensures { result ≡ or_no_file (option_map (λ f. headers_of f.kind f.records) (whole_numbered id (part customer self.now))) }
+        ensures { result ≡ or_no_file (option_map (λ f. headers_of f.kind f.records) (whole_numbered id (spool_at customer self.now))) }
     {
         let slot = slot_at(&self.slots, customer, id);
         if !slot.is_whole() {
@@ -61,7 +61,7 @@ impl Spool {
     /// What is known of a whole file without a look at its records. S3 where the number is no whole file's.
     pub fn summary(&self, customer: u16, id: FileId) -> Result<FileSummary, SpoolFault>
         requires { customer < length self.now }
-        ensures { result ≡ or_no_file (option_map summary (whole_numbered id (part customer self.now))) }
+        ensures { result ≡ or_no_file (option_map summary (whole_numbered id (spool_at customer self.now))) }
     {
         let slot = slot_at(&self.slots, customer, id);
         if !slot.is_whole() {
@@ -73,7 +73,7 @@ impl Spool {
     /// How many blocks a whole file takes, without a look at its records. S3 where the number is no whole file's.
     pub fn blocks(&self, customer: u16, id: FileId) -> Result<u32, SpoolFault>
         requires { customer < length self.now }
-        ensures { result ≡ or_no_file (option_map (λ f. cost f.records) (whole_numbered id (part customer self.now))) }
+        ensures { result ≡ or_no_file (option_map (λ f. cost f.records) (whole_numbered id (spool_at customer self.now))) }
     {
         if !slot_at(&self.slots, customer, id).is_whole() {
             return Err(SpoolFault::NoSuchFile);
@@ -84,8 +84,8 @@ impl Spool {
     /// S3 where the number is no whole file's.
     pub fn remove(&mut self, customer: u16, id: FileId) -> Result<(), SpoolFault>
         requires { customer < length self.old }
-        ensures answer { result ≡ or_no_file (option_map (λ _. tt) (whole_numbered id (part customer self.old))) }
-        ensures after { self.new ≡ slice_set self.old customer (removed id (part customer self.old)) }
+        ensures answer { result ≡ or_no_file (option_map (λ _. tt) (whole_numbered id (spool_at customer self.old))) }
+        ensures after { self.new ≡ slice_set self.old customer (without_whole id (spool_at customer self.old)) }
         ensures err { OnErr result (self.new ≡ self.old) }
     {
         if !slot_at(&self.slots, customer, id).is_whole() {
@@ -115,10 +115,10 @@ impl Spool {
         bytes: [u8; 8],
     ) -> Result<(), SpoolFault>
         requires range { customer < length self.old }
-        requires within { ForSome (whole_numbered id (part customer self.old))
+        requires within { ForSome (whole_numbered id (spool_at customer self.old))
             (λ f. IsSomeAnd (slice_get f.records n) (λ r. place + 8 ≤ length r.bytes)) }
-        ensures answer { result ≡ or_no_file (option_map (λ _. tt) (whole_numbered id (part customer self.old))) }
-        ensures after { self.new ≡ slice_set self.old customer (rewritten id n place bytes (part customer self.old)) }
+        ensures answer { result ≡ or_no_file (option_map (λ _. tt) (whole_numbered id (spool_at customer self.old))) }
+        ensures after { self.new ≡ slice_set self.old customer (with_rewritten_bytes id n place bytes (spool_at customer self.old)) }
         ensures err { OnErr result (self.new ≡ self.old) }
     {
         let mut slot = slot_at(&self.slots, customer, id);

@@ -8,7 +8,7 @@ use Rattle.njh_stream.specs.declared.receiver.Receiver.{Receiver}
 use Rattle.njh_stream.specs.declared.receiver.Receiver.TheVariants.{Idle, Open, Draining}
 use Rattle.njh_block.specs.Codes.{kind_of}
 use Rattle.njh_stream.specs.Receiving.{progress_of}
-use Rattle.njh_stream.specs.Streams.{stream_at, file_on}
+use Rattle.njh_stream.specs.Streams.{stream_at, coming_file}
 
 -- there is a partial file of this kind, and what is kept is what its records say
 abbrev pub AgreesWith : Kind → Progress → Option PartialFile → Type 0
@@ -31,11 +31,11 @@ Agrees kind Draining s = Unit {0}
 pub record Comes (n : ℕ) (lines : List (List Receiver)) : Type 0 where
   pub line : ℕ
   pub stream : ℕ
-  pub file : file_on (stream_at line stream lines) ≡ Some n
+  pub file : coming_file (stream_at line stream lines) ≡ Some n
 
 -- What ties a customer's streams to its files: each keeps what its partial file says, no two have the same file, and no
 -- partial file is without a stream.
 pub record AreTied (lines : List (List Receiver)) (s : CustomerSpool) : Type 0 where
   pub agree : (l k : ℕ) → Agrees (kind_of k) (stream_at l k lines) s
-  pub apart : (l k m j n : ℕ) → file_on (stream_at l k lines) ≡ Some n → file_on (stream_at m j lines) ≡ Some n → (l ≡ m) × (k ≡ j)
+  pub apart : (l k m j n : ℕ) → coming_file (stream_at l k lines) ≡ Some n → coming_file (stream_at m j lines) ≡ Some n → (l ≡ m) × (k ≡ j)
   pub come : (n : ℕ) (f : PartialFile) → partial_numbered n s ≡ Some f → Comes n lines

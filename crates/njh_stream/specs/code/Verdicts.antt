@@ -13,13 +13,13 @@ use Rattle.njh_stream.specs.declared.judging.Verdict.TheVariants.{Taken, Cancell
 use Rattle.njh_stream.specs.declared.receiver.Progress.{Progress}
 use Rattle.njh_stream.specs.declared.receiver.Progress.TheVariants.{Placed}
 use Rattle.njh_stream.specs.Transmissions as transmissions
-use Rattle.njh_spool.specs.CustomerSpool.{CustomerSpool, appended}
+use Rattle.njh_spool.specs.CustomerSpool.{CustomerSpool, with_appended}
 use Rattle.njh_stream.specs.declared.receiver.Receiver.TheVariants.{Open}
-use Rattle.njh_stream.specs.Receiving.{Received, progress_of, cancelled, notice_of}
+use Rattle.njh_stream.specs.Receiving.{Received, progress_of, received_cancelling, notice_of}
 
-abbrev pub said : Verdict → transmissions.Verdict
-said (Taken progress) = transmissions.Taken
-said (Cancelled text) = transmissions.Cancelled (option_map (λ t. t.items) text)
+abbrev pub verdict_value : Verdict → transmissions.Verdict
+verdict_value (Taken progress) = transmissions.Taken
+verdict_value (Cancelled text) = transmissions.Cancelled (option_map (λ t. t.items) text)
 
 -- a record of a placed file, by the file's node and the SRCB of the last record
 abbrev pub judged_placed : Kind → List ℕ → ℕ → ℕ → List ℕ → transmissions.Verdict
@@ -49,9 +49,9 @@ IsProgress (Cancelled text) kind records = Unit {0}
 -- a record that is taken, of a file with this job header, where the quota has room for it or not
 abbrev pub appended_where : Bool → ℕ → Progress → Option JobHeader → Stored → CustomerSpool → Received
 appended_where true n progress header r s =
-    record { receiver = Open n progress; spool = appended n r s; answer = None; notice = None }
+    record { receiver = Open n progress; spool = with_appended n r s; answer = None; notice = None }
 appended_where false n progress header r s =
-    cancelled n (notice_of (option_map (λ h. h.origin) header) (transmissions.full_text (option_map (λ h. (h.origin.0, h.number)) header))) s
+    received_cancelling n (notice_of (option_map (λ h. h.origin) header) (transmissions.full_text (option_map (λ h. (h.origin.0, h.number)) header))) s
 
 -- a step's outcome is as said: the stream, the answer, the notice, and the spool of customer c
 pub record IsAfter (after : After) (new old : List CustomerSpool) (c : ℕ) (done : Received) : Type 0 where

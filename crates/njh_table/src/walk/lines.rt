@@ -3,7 +3,7 @@
 ghost use Rattle.std.specs.Prelude.{◌≡◌, ◌≤◌, ◌++◌, [], ◌∷◌, length, IfOk};
 ghost use Rattle.toml.specs.View.{view, items_view, table_view};
 ghost use Rattle.njh_table.specs.TableFile.{names_in, line_owners};
-ghost use Rattle.njh_table.specs.Walk.{Walks, line_of, next_line, lines_onto};
+ghost use Rattle.njh_table.specs.Walk.{Walks, walked_line, next_line, lines_onto};
 
 use crate::LineId;
 use crate::fault::TableFault;
@@ -17,9 +17,9 @@ use std::alloc::Global;
 use toml::{Table, Value};
 
 /// The line of a name, by its other keys.
-#[tactic(auto, unfolding(crate::specs::Walk::line_of))]
+#[tactic(auto, unfolding(crate::specs::Walk::walked_line))]
 fn line_of(alloc: Global, name: &str, keys: &Table) -> Result<Line, TableFault>
-    ensures walk { Walks (λ l. l) result (line_of name.now (table_view keys.now)) }
+    ensures walk { Walks (λ l. l) result (walked_line name.now (table_view keys.now)) }
     ensures name { IfOk result (λ l. l.name ≡ name.now) }
 {
     let node = name_at(keys, "node")?;

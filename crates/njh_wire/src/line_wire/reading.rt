@@ -3,7 +3,7 @@
 ghost use Rattle.std.specs.Prelude.{◌≡◌, ◌<◌, ◌≤◌, length, take, IfOk, OnErr};
 ghost use Rattle.njh_hub.specs.Sent.{IsCounted};
 ghost use Rattle.njh_hub.specs.Wires.{IsReading};
-ghost use Rattle.njh_wire.specs.Standing.{stopped, hearing};
+ghost use Rattle.njh_wire.specs.Standing.{after_stop, hearing};
 ghost use Rattle.njh_wire.specs.Answers.{IsSilence, IsAnswer, IsOpen, IsWait, IsRead, Receives};
 
 use super::{LineWire, QUIET_TIME, STALL_TIME};
@@ -97,7 +97,7 @@ impl<C: Connection + Drop> LineWire<C> {
 
     /// Keeps why no more bytes came.
     fn stop(&mut self, stop: Stop)
-        ensures stands { self.new ≡ stopped stop self.old }
+        ensures stands { self.new ≡ after_stop stop self.old }
         ensures place { self.new.place ≡ self.old.place }
     {
         match stop {

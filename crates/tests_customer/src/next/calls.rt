@@ -1,7 +1,7 @@
 //! Calls with their conditions tested first.
 
 ghost use Rattle.std.specs.Prelude.{◌≡◌, ◌<◌, ◌≤◌, length, IfOk};
-ghost use Rattle.njh_spool.specs.Spools.{part};
+ghost use Rattle.njh_spool.specs.Spools.{spool_at};
 ghost use Rattle.tests_customer.specs.Kept.{IsKept};
 
 use super::memory::Memory;
@@ -16,7 +16,7 @@ use std::process::Abort;
 
 /// A spool of so many blocks for ACME, and as many files as it may have.
 pub fn opened<R: Abort>(rt: &R, alloc: Global, blocks: u32) -> Result<Spool, SpoolFault>
-    ensures { IfOk result (λ spool. (0 < length spool) × ((part 0 spool).quota ≡ blocks)) }
+    ensures { IfOk result (λ spool. (0 < length spool) × ((spool_at 0 spool).quota ≡ blocks)) }
 {
     let quota = Quota {
         blocks,

@@ -64,7 +64,7 @@ pub struct Bench {
 impl Model for Bench {
     ghost use Rattle.std.specs.Prelude.{◌<◌, length};
     ghost use Rattle.njh_block.specs.Codes.{kind_of};
-    ghost use Rattle.njh_spool.specs.Spools.{part};
+    ghost use Rattle.njh_spool.specs.Spools.{spool_at};
     ghost use Rattle.njh_stream.specs.code.Agreement.{Agrees};
     ghost use Rattle.njh_stream.specs.declared.receiver.Receiver.{Receiver};
 
@@ -73,7 +73,7 @@ impl Model for Bench {
     ghost view = { λ b. b.receiver };
 
     ghost invariant = { λ b. (0 < length b.spool)
-        × Agrees (kind_of b.stream) b.receiver (part 0 b.spool) };
+        × Agrees (kind_of b.stream) b.receiver (spool_at 0 b.spool) };
 }
 
 fn is_short(arrival: Arrival<'_>) -> bool

@@ -2,9 +2,9 @@
 use Rattle.std.proofs.Common.{◌≡◌, ◌<◌, ◌≤◌, ◌+◌, ℕ, true, false, filter, fold, length, map, take, sym, ap, ap₂, subst, ◌∙◌, arith}
 use Rattle.std.proofs.Common.{slice_set}
 use Rattle.njh_spool.specs.CustomerSpool.{CustomerSpool, WholeFile}
-use Rattle.njh_spool.specs.Spools.{part}
+use Rattle.njh_spool.specs.Spools.{spool_at}
 use Rattle.njh_command.specs.code.Changes.{numbers_where, without_where}
-use Rattle.njh_command.specs.Commands.{chosen, is_busy, without_file}
+use Rattle.njh_command.specs.Commands.{is_of_name, is_busy, without_file}
 use Rattle.njh_command.specs.Files.{file_at}
 use Rattle.njh_command.proofs.UpTo.{removed_up_to}
 use Rattle.njh_command.proofs.WalkLaws.{part_of, moved_twice, counted_more, index_more, removed_not_yet, removed_one_more, numbers_more}
@@ -14,15 +14,15 @@ use Rattle.njh_command.proofs.cancelling.cancel_each.Goals as goal
 
 pub loop-preserved : goal.loop-preserved
 loop-preserved g c =
-    let s = part c.args.customer c.args.spool.now in
-    let p = chosen c.args.choice.now.who c.args.choice.now.name in
+    let s = spool_at c.args.customer c.args.spool.now in
+    let p = is_of_name c.args.choice.now.who c.args.choice.now.name in
     let i = c.loop.counter in
     let n = c.loop.index in
     let f : WholeFile = file_at i s in
     let inside : i < length s.whole = subst (λ (m : ℕ). i < m) c.files-end.ensures c.loop-test.true in
     let left : CustomerSpool = removed_up_to p i s in
     let there : file_at n left ≡ f = ap (λ (m : ℕ). file_at m left) c.loop.invariant.index ∙ removed_not_yet p i s inside in
-    let here : file_at n (part c.args.customer c.loop.spool) ≡ f =
+    let here : file_at n (spool_at c.args.customer c.loop.spool) ≡ f =
     ap (file_at n) (part_of c.args.spool.now c.loop.spool c.args.customer left c.requires c.loop.invariant.spool) ∙ there in
     let removed : c.cancel_at.result ≡ p f = c.cancel_at.ensures.removed ∙ ap p here in
     let spool : c.cancel_at.new.spool ≡ slice_set c.args.spool.now c.args.customer (removed_up_to p (i + 1) s) =
@@ -67,9 +67,9 @@ loop-preserved g c =
 
 pub returns-clause-senders : goal.returns-clause-senders
 returns-clause-senders g c =
-    let s = part c.args.customer c.args.spool.now in
+    let s = spool_at c.args.customer c.args.spool.now in
     let all : length s.whole ≤ c.loop.counter = subst (λ (m : ℕ). m ≤ c.loop.counter) c.files-end.ensures c.loop-test.false in
     c.loop.invariant.senders
     ∙ ap (λ files. fold (λ x n. g.S.Senders.each x (without_file n)) c.args.senders.now
-    (map (λ f. f.number) (filter (is_busy (chosen c.args.choice.now.who c.args.choice.now.name)) files))) (all_looked_at s.whole
+    (map (λ f. f.number) (filter (is_busy (is_of_name c.args.choice.now.who c.args.choice.now.name)) files))) (all_looked_at s.whole
     c.loop.counter all)

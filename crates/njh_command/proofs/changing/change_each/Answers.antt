@@ -1,9 +1,9 @@
 -- One file more was looked at.
 use Rattle.std.proofs.Common.{◌≡◌, ◌<◌, ◌+◌, ℕ, true, false, length, sym, ap, subst, ◌∙◌, arith, slice_set}
 use Rattle.njh_spool.specs.CustomerSpool.{CustomerSpool, WholeFile}
-use Rattle.njh_spool.specs.Spools.{part}
+use Rattle.njh_spool.specs.Spools.{spool_at}
 use Rattle.njh_command.specs.code.Changes.{change_by, standing_of}
-use Rattle.njh_command.specs.Commands.{changed_file, chosen, is_busy, is_idle, is_sending}
+use Rattle.njh_command.specs.Commands.{changed_file, is_of_name, is_busy, may_change, is_sending}
 use Rattle.njh_command.specs.Files.{file_at, with_file}
 use Rattle.njh_command.proofs.UpTo.{changed_up_to}
 use Rattle.njh_command.proofs.WalkLaws.{part_of, moved_twice, counted_more, changed_not_yet, changed_one_more, as_other, as_busy, as_idle}
@@ -12,15 +12,15 @@ use Rattle.njh_command.proofs.changing.change_each.Goals as goal
 
 pub loop-index-preserved : goal.loop-index-preserved
 loop-index-preserved c =
-    let s = part c.args.customer c.args.spool.now in
-    let p = chosen c.args.choice.now.who c.args.choice.now.name in
+    let s = spool_at c.args.customer c.args.spool.now in
+    let p = is_of_name c.args.choice.now.who c.args.choice.now.name in
     let g : WholeFile → WholeFile = changed_file p (change_by c.args.change.now) in
     let i = c.loop-index.index in
     let f : WholeFile = file_at i s in
     let inside : i < length s.whole = subst (λ (m : ℕ). i < m) c.files-index-end.ensures c.loop-index-test.true in
-    let now_is : part c.args.customer c.loop-index.spool ≡ changed_up_to g i s =
+    let now_is : spool_at c.args.customer c.loop-index.spool ≡ changed_up_to g i s =
     part_of c.args.spool.now c.loop-index.spool c.args.customer (changed_up_to g i s) c.requires c.loop-index.invariant.spool in
-    let here : file_at i (part c.args.customer c.loop-index.spool) ≡ f = ap (file_at i) now_is ∙ changed_not_yet g i s inside in
+    let here : file_at i (spool_at c.args.customer c.loop-index.spool) ≡ f = ap (file_at i) now_is ∙ changed_not_yet g i s inside in
     let standing : c.change_at.result ≡ standing_of p f = c.change_at.ensures.standing ∙ ap (standing_of p) here in
     let spool : c.change_at.new.spool ≡ slice_set c.args.spool.now c.args.customer (changed_up_to g (i + 1) s) =
     moved_twice c.args.spool.now c.loop-index.spool c.change_at.new.spool c.args.customer (changed_up_to g i s)
@@ -30,7 +30,7 @@ loop-index-preserved c =
       | in-Other w ↦
           let is = as_other (p f) (is_sending f.state) (sym standing ∙ w.in-Other.is) in
           record {
-            idle = counted_more (is_idle p) false s i c.loop-index.idle c.match-change_at.idle inside is.0 c.loop-index.invariant.idle
+            idle = counted_more (may_change p) false s i c.loop-index.idle c.match-change_at.idle inside is.0 c.loop-index.invariant.idle
                 (omega (arith, w.idle-is));
             busy = counted_more (is_busy p) false s i c.loop-index.busy c.match-change_at.busy inside is.1 c.loop-index.invariant.busy
                 (omega (arith, w.busy-is));
@@ -40,7 +40,7 @@ loop-index-preserved c =
       | in-Busy w ↦
           let is = as_busy (p f) (is_sending f.state) (sym standing ∙ w.in-Busy.is) in
           record {
-            idle = counted_more (is_idle p) false s i c.loop-index.idle c.match-change_at.idle inside is.0 c.loop-index.invariant.idle
+            idle = counted_more (may_change p) false s i c.loop-index.idle c.match-change_at.idle inside is.0 c.loop-index.invariant.idle
                 (omega (arith, w.idle-is));
             busy = counted_more (is_busy p) true s i c.loop-index.busy c.match-change_at.busy inside is.1 c.loop-index.invariant.busy
                 (omega (arith, w.busy-is));
@@ -50,7 +50,7 @@ loop-index-preserved c =
       | in-Idle w ↦
           let is = as_idle (p f) (is_sending f.state) (sym standing ∙ w.in-Idle.is) in
           record {
-            idle = counted_more (is_idle p) true s i c.loop-index.idle c.match-change_at.idle inside is.0 c.loop-index.invariant.idle
+            idle = counted_more (may_change p) true s i c.loop-index.idle c.match-change_at.idle inside is.0 c.loop-index.invariant.idle
                 (omega (arith, w.idle-is));
             busy = counted_more (is_busy p) false s i c.loop-index.busy c.match-change_at.busy inside is.1 c.loop-index.invariant.busy
                 (omega (arith, w.busy-is));

@@ -3,8 +3,8 @@ use Rattle.std.proofs.Common.{◌≡◌, ◌<◌, ◌+◌, ℕ, List, Option, No
 use Rattle.njh_record.specs.Stored.{Stored}
 use Rattle.njh_record.specs.declared.Kind.{Kind}
 use Rattle.njh_spool.specs.CustomerSpool.{CustomerSpool, WholeFile}
-use Rattle.njh_spool.specs.Spools.{part}
-use Rattle.njh_command.specs.Files.{file_at, record_at, with_file, with_records, with_redirected}
+use Rattle.njh_spool.specs.Spools.{spool_at}
+use Rattle.njh_command.specs.Files.{file_at, stored_at, with_file, with_records, with_redirected}
 use Rattle.njh_command.proofs.UpTo.{redirected_up_to, srcb_before}
 use Rattle.njh_command.proofs.RecordLaws.{as_long, not_yet, one_more}
 use Rattle.njh_command.proofs.WalkLaws.{part_of, file_is, file_twice, moved_twice}
@@ -14,13 +14,13 @@ use Rattle.njh_command.proofs.rerouting.redirect.Goals as goal
 abbrev so_far : List ℕ → ℕ → WholeFile → WholeFile
 so_far node n f = with_records (redirected_up_to f.kind node n f.records) f
 
-known : (old now : List CustomerSpool) (c i n : ℕ) (node : List ℕ) → c < length old → i < length (part c old).whole
-    → n < length (file_at i (part c old)).records → now ≡ slice_set old c (with_file i (so_far node n (file_at i (part c old))) (part c
+known : (old now : List CustomerSpool) (c i n : ℕ) (node : List ℕ) → c < length old → i < length (spool_at c old).whole
+    → n < length (file_at i (spool_at c old)).records → now ≡ slice_set old c (with_file i (so_far node n (file_at i (spool_at c old))) (spool_at c
     old))
-    → file_at i (part c now) ≡ so_far node n (file_at i (part c old))
+    → file_at i (spool_at c now) ≡ so_far node n (file_at i (spool_at c old))
 known old now c i n node range within inside moved =
-    ap (file_at i) (part_of old now c (with_file i (so_far node n (file_at i (part c old))) (part c old)) range moved)
-    ∙ file_is (part c old) i (so_far node n (file_at i (part c old))) within
+    ap (file_at i) (part_of old now c (with_file i (so_far node n (file_at i (spool_at c old))) (spool_at c old)) range moved)
+    ∙ file_is (spool_at c old) i (so_far node n (file_at i (spool_at c old))) within
 
 -- a step at a file that is so far
 abbrev step : (kind : Kind) (before : Option ℕ) (node : List ℕ) (i n : ℕ) → CustomerSpool → CustomerSpool
@@ -43,7 +43,7 @@ stepped kind before node i n s within inside kind_is before_is =
 
 pub redirect_record-requires-clause-known : goal.redirect_record-requires-clause-known
 redirect_record-requires-clause-known c =
-    let s = part c.args.customer c.args.spool.now in
+    let s = spool_at c.args.customer c.args.spool.now in
     let f = file_at c.args.index s in
     let inside : c.loop-n.n < length f.records = subst (λ (m : ℕ). c.loop-n.n < m) c.count_records-n-end.ensures c.loop-n-test.true in
     subst (λ (m : ℕ). c.loop-n.n < m) (sym (as_long f.kind None c.args.node c.loop-n.n f.records)
@@ -53,13 +53,13 @@ redirect_record-requires-clause-known c =
 
 pub loop-n-preserved : goal.loop-n-preserved
 loop-n-preserved c =
-    let s = part c.args.customer c.args.spool.now in
+    let s = spool_at c.args.customer c.args.spool.now in
     let f = file_at c.args.index s in
     let inside : c.loop-n.n < length f.records = subst (λ (m : ℕ). c.loop-n.n < m) c.count_records-n-end.ensures c.loop-n-test.true in
     record {
       before =
           ap Some (c.redirect_record.ensures.srcb
-          ∙ ap (λ (x : WholeFile). (record_at c.loop-n.n x.records).srcb) (known c.args.spool.now c.loop-n.spool c.args.customer
+          ∙ ap (λ (x : WholeFile). (stored_at c.loop-n.n x.records).srcb) (known c.args.spool.now c.loop-n.spool c.args.customer
           c.args.index c.loop-n.n
           c.args.node c.requires.range c.requires.within inside c.loop-n.invariant.spool)
           ∙ ap (λ (r : Stored). r.srcb) (not_yet f.kind c.args.node c.loop-n.n f.records inside))

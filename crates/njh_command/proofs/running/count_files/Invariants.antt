@@ -1,11 +1,11 @@
 use Rattle.std.proofs.Common.{◌≡◌, ◌≤◌}
-use Rattle.njh_spool.specs.Spools.{part}
-use Rattle.njh_command.specs.Commands.{chosen}
+use Rattle.njh_spool.specs.Spools.{spool_at}
+use Rattle.njh_command.specs.Commands.{is_of_name}
 use Rattle.njh_command.proofs.UpTo.{count_up_to}
 use Rattle.njh_command.proofs.running.count_files.Given as goal
 
 abbrev pub invariant-loop-index : goal.invariant-loop-index
 invariant-loop-index l = record {
-  count : l.count ≡ count_up_to (chosen l.choice.who l.choice.name) l.index (part l.customer l.spool);
+  count : l.count ≡ count_up_to (is_of_name l.choice.who l.choice.name) l.index (spool_at l.customer l.spool);
   few : l.count ≤ l.index;
 }

@@ -1,6 +1,6 @@
 -- The customer stays coherent.
-use Rattle.njh_customer.specs.Acting.{acted}
-use Rattle.njh_block.specs.ItemViews.{shown}
+use Rattle.njh_customer.specs.Acting.{after_record}
+use Rattle.njh_block.specs.ItemViews.{given_item}
 use Rattle.njh_customer.specs.CustomerSteps.{customer_of}
 use Rattle.njh_customer.proofs.StepLaws.{acted_stays}
 use Rattle.njh_customer.proofs.ReadyLaws.{next_ready}
@@ -10,8 +10,8 @@ pub returns-clause-ready : goal.returns-clause-ready
 returns-clause-ready c =
     let line = c.args.line in
     let old = customer_of c.args.tables.now line.customer c.args.spool.now c.args.lines.now in
-    let item = shown c.args.bytes.now c.args.item in
-    next_ready c.args.tables.now line c.args.spool.now c.act.new.spool c.args.lines.now c.act.new.lines (acted line.line item old)
+    let item = given_item c.args.bytes.now c.args.item in
+    next_ready c.args.tables.now line c.args.spool.now c.act.new.spool c.args.lines.now c.act.new.lines (after_record line.line item old)
     c.requires.ready c.act.ensures
     (acted_stays c.streams_stay_tied.ensures.untouched c.streams_stay_tied.ensures.arrival line.line item old c.requires.ready.there
     c.requires.ready.coherent)

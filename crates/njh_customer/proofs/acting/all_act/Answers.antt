@@ -1,6 +1,6 @@
 -- One record more acted.
 use Rattle.std.proofs.Common.{◌≡◌, Some, slice_get, drop, ap, ◌∙◌, rules}
-use Rattle.njh_block.specs.ItemViews.{shown}
+use Rattle.njh_block.specs.ItemViews.{given_item}
 use Rattle.njh_customer.specs.Acting.{all_acted}
 use Rattle.njh_customer.specs.CustomerSteps.{customer_of}
 use Rattle.njh_customer.proofs.ReadyLaws.{others_twice, one_acted}
@@ -10,7 +10,7 @@ pub records-preserved : goal.records-preserved
 records-preserved c =
     let line = c.args.line in
     let before = customer_of c.args.tables.now line.customer c.records.spool c.records.lines in
-    let item = shown c.deref.result.now c.in-Some.item in
+    let item = given_item c.deref.result.now c.in-Some.item in
     let first : Some item ≡ slice_get c.records.block.items 0 = search rules in
     let others : c.next.new.self.items ≡ drop 1 c.records.block.items = search rules in
     let one = one_acted line.line c.records.block.items c.next.new.self.items item c.ends_session.result before first others c.if-ends_session.false

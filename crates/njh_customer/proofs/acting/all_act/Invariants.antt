@@ -1,5 +1,5 @@
 use Rattle.std.proofs.Common.{◌≡◌, length, slice_set}
-use Rattle.njh_spool.specs.Spools.{part}
+use Rattle.njh_spool.specs.Spools.{spool_at}
 use Rattle.njh_customer.specs.Acting.{all_acted}
 use Rattle.njh_customer.specs.CustomerSteps.{IsReady, customer_of}
 use Rattle.njh_customer.proofs.acting.all_act.Given as goal
@@ -9,7 +9,7 @@ abbrev pub invariant-records : goal.invariant-records
 invariant-records l = record {
   rest : all_acted l.line.line l.block.items (customer_of l.tables l.line.customer l.spool l.lines)
       ≡ all_acted l.line.line l.fn.block.items (customer_of l.tables l.line.customer l.fn.spool l.fn.lines);
-  others : l.spool ≡ slice_set l.fn.spool l.line.customer (part l.line.customer l.spool);
+  others : l.spool ≡ slice_set l.fn.spool l.line.customer (spool_at l.line.customer l.spool);
   ready : IsReady l.tables l.line l.spool l.lines;
 }
 

@@ -1,7 +1,7 @@
 -- The stream agrees with its file.
 use Rattle.std.proofs.Common.{ap, sym, subst, ◌∙◌}
 use Rattle.njh_block.specs.Codes.{kind_of}
-use Rattle.njh_spool.specs.Spools.{part}
+use Rattle.njh_spool.specs.Spools.{spool_at}
 use Rattle.njh_stream.specs.code.Agreement.{Agrees}
 use Rattle.njh_customer.specs.Customer.{receiver_at}
 use Rattle.njh_customer.specs.CustomerSteps.{customer_of}
@@ -11,7 +11,7 @@ use Rattle.njh_customer.proofs.acting.arrive.Goals as goal
 pub step-step-requires-clause-agrees : goal.step-step-requires-clause-agrees
 step-step-requires-clause-agrees c =
     let line = c.args.line in
-    subst (λ r. Agrees (kind_of c.args.stream) r (part line.customer c.args.spool.now))
+    subst (λ r. Agrees (kind_of c.args.stream) r (spool_at line.customer c.args.spool.now))
     (sym (c.receiver-receiver.ensures ∙ ap (receiver_at c.args.stream) c.line.ensures))
     (agrees_there line.line c.args.stream (customer_of c.args.tables.now line.customer c.args.spool.now c.args.lines.now)
     c.requires.ready.coherent)

@@ -1,10 +1,10 @@
 -- What the command leaves of the files, and who is told.
 use Rattle.std.proofs.Common.{◌≡◌, fold, slice_set, ap, sym, ◌∙◌}
 use Rattle.std.proofs.lemmas.List.{get_or-set_same}
-use Rattle.njh_spool.specs.Spools.{part, no_spool}
+use Rattle.njh_spool.specs.Spools.{spool_at, no_spool}
 use Rattle.njh_table.specs.TableFile.{customer_at, entry_of}
-use Rattle.njh_command.specs.Commands.{Outcome, commanded}
-use Rattle.njh_customer.specs.Acting.{given_up}
+use Rattle.njh_command.specs.Commands.{CommandOutcome, message_outcome}
+use Rattle.njh_customer.specs.Acting.{without_sending}
 use Rattle.njh_customer.specs.Customer.{customer_with}
 use Rattle.njh_customer.specs.Waiting.{all_said}
 use Rattle.njh_customer.proofs.acting.command.Goals as goal
@@ -13,15 +13,15 @@ pub returns : goal.returns
 returns c =
     let entry = entry_of (customer_at c.args.tables.now c.args.customer) in
     let spools = c.args.spool.now in
-    let files = part c.args.customer spools in
+    let files = spool_at c.args.customer spools in
     let n = c.args.message.now in
-    let done = commanded entry (n.origin, n.user) n.message files in
-    let same : commanded entry (c.origin-node.result, c.user-user.result) c.message.result.now files ≡ done =
-    λ i. commanded entry (c.origin-node.ensures i, c.user-user.ensures i) (c.message.ensures.value i) files in
-    let spool = c.obey.ensures.spool ∙ ap (λ (o : Outcome). slice_set spools c.args.customer o.spool) same in
-    let files_are = ap (part c.args.customer) spool ∙ get_or-set_same spools c.args.customer done.spool no_spool c.requires.spooled in
-    let replies = c.obey.ensures.replies ∙ ap (λ (o : Outcome). o.replies) same in
-    let cancelled = ap (λ (o : Outcome). fold given_up c.args.lines.now o.cancelled) same in
+    let done = message_outcome entry (n.origin, n.user) n.message files in
+    let same : message_outcome entry (c.origin-node.result, c.user-user.result) c.message.result.now files ≡ done =
+    λ i. message_outcome entry (c.origin-node.ensures i, c.user-user.ensures i) (c.message.ensures.value i) files in
+    let spool = c.obey.ensures.spool ∙ ap (λ (o : CommandOutcome). slice_set spools c.args.customer o.spool) same in
+    let files_are = ap (spool_at c.args.customer) spool ∙ get_or-set_same spools c.args.customer done.spool no_spool c.requires.spooled in
+    let replies = c.obey.ensures.replies ∙ ap (λ (o : CommandOutcome). o.replies) same in
+    let cancelled = ap (λ (o : CommandOutcome). fold without_sending c.args.lines.now o.cancelled) same in
     let lines = c.say_all.ensures
     ∙ (λ i. all_said (entry_of (c.customer.ensures i)) (c.origin-node.ensures i, c.user-user.ensures i) (replies i) ((c.obey.ensures.senders ∙ cancelled) i)) in
     record {

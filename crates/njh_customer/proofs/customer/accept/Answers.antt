@@ -1,5 +1,5 @@
 -- A line's session and its mark are nothing that ties the customer's parts to each other.
-use Rattle.njh_line.specs.LineTable.{shown}
+use Rattle.njh_line.specs.LineTable.{input_value}
 use Rattle.njh_customer.specs.Alone.{accepted_on}
 use Rattle.njh_customer.specs.CustomerSteps.{customer_of}
 use Rattle.njh_customer.proofs.StepLaws.{accepted_stays}
@@ -12,13 +12,13 @@ raise-requires-clause-line c = known_line c.args.tables.now c.args.line c.args.s
 pub returns-clause-after : goal.returns-clause-after
 returns-clause-after c =
     accepted_so c.args.tables.now c.raise.new.tables c.args.line c.args.spool.now c.args.lines.now c.accept-verdict.new.self
-    (shown c.args.input.now) c.is_up-was_up.result c.is_up-is_up.result c.goes_up.result c.requires.ready.there
+    (input_value c.args.input.now) c.is_up-was_up.result c.is_up-is_up.result c.goes_up.result c.requires.ready.there
     c.accept-verdict.ensures.lines c.is_up-was_up.ensures c.is_up-is_up.ensures c.goes_up.ensures c.raise.ensures.entry
 
 pub returns-clause-ready : goal.returns-clause-ready
 returns-clause-ready c =
     let line = c.args.line in
-    let came = shown c.args.input.now in
+    let came = input_value c.args.input.now in
     let old = customer_of c.args.tables.now line.customer c.args.spool.now c.args.lines.now in
     still_brought c.args.tables.now c.raise.new.tables line c.args.spool.now c.args.lines.now c.accept-verdict.new.self
     (accepted_on line.line came old) c.requires.ready (returns-clause-after c) c.raise.ensures.entries

@@ -1,7 +1,7 @@
 -- The mark is a part of the customer's entry.
 use Rattle.std.proofs.Common.{true, sym, ap, ◌∙◌}
 use Rattle.njh_table.specs.TableFile.{customer_at, entry_of}
-use Rattle.njh_customer.specs.Alone.{raised}
+use Rattle.njh_customer.specs.Alone.{with_raised_line}
 use Rattle.njh_customer.proofs.ReadyLaws.{retold_marked, retold_same}
 use Rattle.njh_customer.proofs.customer.raise.Goals as goal
 
@@ -11,7 +11,7 @@ returns-then-goes_up-clause-entry c =
     let old = c.args.tables.now in
     ap (λ t. entry_of (customer_at t line.customer)) c.set_up.ensures
     ∙ c.marks_change_one_entry.ensures.own old line true c.requires.known
-    ∙ ap (λ up. raised up line.line (entry_of (customer_at old line.customer))) (sym c.if-goes_up.true)
+    ∙ ap (λ up. with_raised_line up line.line (entry_of (customer_at old line.customer))) (sym c.if-goes_up.true)
 
 pub returns-then-goes_up-clause-entries : goal.returns-then-goes_up-clause-entries
 returns-then-goes_up-clause-entries c = retold_marked c.args.tables.now c.set_up.new.self c.args.line true c.requires.known c.set_up.ensures

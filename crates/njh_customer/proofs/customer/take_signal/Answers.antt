@@ -1,6 +1,6 @@
 -- The customer stays coherent, and has as many lines.
 use Rattle.std.proofs.Common.{length, ap, ◌∙◌}
-use Rattle.njh_customer.specs.Alone.{signal_came}
+use Rattle.njh_customer.specs.Alone.{after_signal}
 use Rattle.njh_customer.specs.CustomerSteps.{customer_of}
 use Rattle.njh_customer.proofs.ReadyLaws.{next_brought}
 use Rattle.njh_customer.proofs.SessionLaws.{signal_stays}
@@ -12,7 +12,7 @@ returns-clause-ready c =
     let old = customer_of c.args.tables.now line.customer c.args.spool.now c.args.lines.now in
     let law = c.streams_stay_tied.ensures in
     next_brought c.args.tables.now c.signal_came.new.tables line c.args.spool.now c.signal_came.new.spool c.args.lines.now c.signal_came.new.lines
-    (signal_came line.line c.args.signal old).after c.requires.ready c.signal_came.ensures.after
+    (after_signal line.line c.args.signal old).after c.requires.ready c.signal_came.ensures.after
     (signal_stays law.untouched law.ended law.arrival line.line c.args.signal old c.requires.ready.there c.requires.ready.coherent)
 
 pub returns-clause-count : goal.returns-clause-count

@@ -1,7 +1,7 @@
 use Rattle.std.proofs.Common.{ℕ, ◌<◌, [], ◌∷◌, ◌++◌, get_or, set, refl, ap, sym, subst, ◌∙◌, arith}
 use Rattle.std.proofs.lemmas.List.{length-append}
 use Rattle.std.proofs.lemmas.List.Elements.{All-set}
-use Rattle.njh_hub.specs.Turns.{IsRound, no_line}
+use Rattle.njh_hub.specs.Turns.{IsRound, no_line_id}
 use Rattle.njh_hub.proofs.RoundLaws.{GoesRound, round_more, round_none, round_over, passed_over}
 use Rattle.njh_hub.proofs.rounds.serve_due.Goals as goal
 
@@ -17,7 +17,7 @@ loop-i-preserved g c =
     let so_far = c.loop-i.invariant.turns in
     let did = c.wire_turn.ensures.turn in
     let goes : GoesRound g.W.Wire.passed g.W.Wire.count c.args.lines.now c.args.hub.now c.args.quiets.now c.args.wires.now so_far.0
-    c.loop-i.hub c.loop-i.quiets c.loop-i.wires c.loop-i.i (get_or c.args.lines.now c.loop-i.i no_line) (get_or c.loop-i.quiets c.loop-i.i 0)
+    c.loop-i.hub c.loop-i.quiets c.loop-i.wires c.loop-i.i (get_or c.args.lines.now c.loop-i.i no_line_id) (get_or c.loop-i.quiets c.loop-i.i 0)
     did.0 (get_or c.loop-i.wires c.loop-i.i c.index-wires-i.result) c.wire_turn.new.hub c.wire_turn.new.wire = record {
       so_far = so_far.2;
       at = so_far.1;

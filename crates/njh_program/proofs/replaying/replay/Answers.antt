@@ -2,7 +2,7 @@ use Rattle.std.proofs.Common.{List, map, inl, inr, subst}
 use Rattle.std.specs.Io.KnownBytes.{Appends}
 use Rattle.njh_hub.specs.declared.event.Event.{Event}
 use Rattle.njh_hub.specs.Parts.{entries_of}
-use Rattle.njh_hub.specs.WholeHub.{opened}
+use Rattle.njh_hub.specs.WholeHub.{part_at_open}
 use Rattle.njh_program.specs.LineNames.{customers_of, names_of}
 use Rattle.njh_program.specs.Printed.{AppendsBeginning, IsPrintedUpTo}
 use Rattle.njh_program.specs.Replayed.{text_of_run, text_with, IsSentUpTo}
@@ -33,7 +33,7 @@ returns-clause-memory g c = λ memory.
     let contents = g.W.Write.contents in
     let tables = c.args.tables in
     let events = c.in_ok-events.events.items in
-    let P : List Event → Type 0 = λ es. IsSentUpTo (names_of tables) (map opened (entries_of tables)) es (contents c.args.out.now)
+    let P : List Event → Type 0 = λ es. IsSentUpTo (names_of tables) (map part_at_open (entries_of tables)) es (contents c.args.out.now)
     (contents c.print_events.new.out) in
     let Q : List Event → Type 0 = λ es. IsPrintedUpTo (customers_of tables) (contents c.args.out.now) (contents c.print_events.new.out)
     (text_with tables es) in

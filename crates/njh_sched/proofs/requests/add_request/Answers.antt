@@ -1,5 +1,5 @@
 use Rattle.std.proofs.Common.{◌≡◌, ℕ, Some, sym, ap, subst, ◌∙◌}
-use Rattle.njh_spool.specs.Spools.{part}
+use Rattle.njh_spool.specs.Spools.{spool_at}
 use Rattle.njh_table.specs.declared.LineId.{LineId}
 use Rattle.njh_sched.specs.NextBlock.{after_candidate, asking, filling}
 use Rattle.njh_sched.specs.code.Filling.{filling_where}
@@ -19,9 +19,9 @@ returns-in-Some-clause-source g c =
     (files_of c.args.cursor.now c.args.spool.now) c.kind.result c.oldest.result c.in-Some.file
     (sym c.may_ask.ensures ∙ c.if-not-may_ask.false) c.kind.ensures c.oldest.ensures.oldest c.in-Some.is
     ∙ subst (λ (m : ℕ). after_candidate
-    (Some (asking (g.L.Outgoing.outlet c.args.line.now) (part m c.args.spool.now) c.args.stream c.in-Some.file))
-    (filling c.args.writer.now (g.L.Outgoing.outlet c.args.line.now) (part m c.args.spool.now))
-    ≡ filling_where c.ask.result c.ask.new.writer (g.L.Outgoing.outlet c.ask.new.line) (part m c.ask.new.spool))
+    (Some (asking (g.L.Outgoing.outlet c.args.line.now) (spool_at m c.args.spool.now) c.args.stream c.in-Some.file))
+    (filling c.args.writer.now (g.L.Outgoing.outlet c.args.line.now) (spool_at m c.args.spool.now))
+    ≡ filling_where c.ask.result c.ask.new.writer (g.L.Outgoing.outlet c.ask.new.line) (spool_at m c.ask.new.spool))
     (ap (λ (i : LineId). i.customer) c.id.ensures
     ∙ customer_is c.args.cursor.now c.oldest.new.self c.oldest.ensures.cursor.line)
     c.ask.ensures.candidate

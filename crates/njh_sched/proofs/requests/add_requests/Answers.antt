@@ -1,5 +1,5 @@
 use Rattle.std.proofs.Common.{◌≡◌, ◌∙◌, refl, sym, ap, subst, Some, false, true, length, arith}
-use Rattle.njh_spool.specs.Spools.{part}
+use Rattle.njh_spool.specs.Spools.{spool_at}
 use Rattle.njh_stream.specs.Sending.{goes_by}
 use Rattle.njh_table.specs.TableFile.{entry_of}
 use Rattle.njh_sched.specs.NextBlock.{StreamRequest, filling, streams}
@@ -12,10 +12,10 @@ use Rattle.njh_sched.proofs.requests.add_requests.Goals as goal
 
 pub returns-then-files-eq0-clause-source : goal.returns-then-files-eq0-clause-source
 returns-then-files-eq0-clause-source g c =
-    let none : length (part c.args.id.customer c.args.spool.now).whole ≡ 0 = omega (arith, c.files.ensures) in
+    let none : length (spool_at c.args.id.customer c.args.spool.now).whole ≡ 0 = omega (arith, c.files.ensures) in
     no_files (goes_by (entry_of c.args.entry.now) c.args.id.line) c.args.writer.now
     (g.L.Outgoing.outlet c.args.line.now)
-    (part c.args.id.customer c.args.spool.now) streams none
+    (spool_at c.args.id.customer c.args.spool.now) streams none
 
 pub loop-place-init : goal.loop-place-init
 loop-place-init g c = record {
@@ -35,9 +35,9 @@ returns-then-not-add_request-clause-source g c =
     ∙ stream_stopped (goes_by (entry_of c.args.entry.now) c.args.id.line) StreamRequest streams c.loop-place.place
     c.at.result
     c.add_request.result
-    (filling c.loop-place.writer (g.L.Outgoing.outlet c.loop-place.line) (part c.args.id.customer c.loop-place.spool))
+    (filling c.loop-place.writer (g.L.Outgoing.outlet c.loop-place.line) (spool_at c.args.id.customer c.loop-place.spool))
     c.add_request.new.writer (g.L.Outgoing.outlet c.add_request.new.line)
-    (part c.args.id.customer c.add_request.new.spool)
+    (spool_at c.args.id.customer c.add_request.new.spool)
     (stream_at c.loop-place.place c.loop-place-test.true ∙ ap Some (sym c.at.ensures)) no_room
     (source_is c.args.entry.now c.args.id c.loop-place.cursor c.loop-place.invariant.cursor.line
     (StreamRequest c.at.result)
@@ -60,9 +60,9 @@ loop-place-preserved g c =
           c.loop-place.place c.at.result
           c.add_request.result
           (filling c.loop-place.writer (g.L.Outgoing.outlet c.loop-place.line)
-          (part c.args.id.customer c.loop-place.spool))
+          (spool_at c.args.id.customer c.loop-place.spool))
           c.add_request.new.writer (g.L.Outgoing.outlet c.add_request.new.line)
-          (part c.args.id.customer c.add_request.new.spool)
+          (spool_at c.args.id.customer c.add_request.new.spool)
           (stream_at c.loop-place.place c.loop-place-test.true ∙ ap Some (sym c.at.ensures)) room
           (source_is c.args.entry.now c.args.id c.loop-place.cursor c.loop-place.invariant.cursor.line
           (StreamRequest c.at.result)
@@ -83,5 +83,5 @@ returns-clause-source g c =
     let done : c.loop-place.place ≡ 8 = omega arith in
     c.loop-place.invariant.source
     ∙ streams_done (goes_by (entry_of c.args.entry.now) c.args.id.line) StreamRequest streams c.loop-place.place
-    (filling c.loop-place.writer (g.L.Outgoing.outlet c.loop-place.line) (part c.args.id.customer c.loop-place.spool))
+    (filling c.loop-place.writer (g.L.Outgoing.outlet c.loop-place.line) (spool_at c.args.id.customer c.loop-place.spool))
     (no_streams c.loop-place.place done)

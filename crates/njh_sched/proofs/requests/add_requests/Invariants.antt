@@ -1,5 +1,5 @@
 use Rattle.std.proofs.Common.{◌≡◌, drop, map, slice_set}
-use Rattle.njh_spool.specs.Spools.{part}
+use Rattle.njh_spool.specs.Spools.{spool_at}
 use Rattle.njh_stream.specs.Sending.{goes_by}
 use Rattle.njh_table.specs.TableFile.{entry_of}
 use Rattle.njh_sched.specs.NextBlock.{StreamRequest, after_sources, filling, requests, streams}
@@ -9,10 +9,10 @@ use Rattle.njh_sched.proofs.requests.add_requests.Given as goal
 abbrev pub invariant-loop-place : goal.invariant-loop-place
 invariant-loop-place g l = record {
   source : after_sources (goes_by (entry_of l.entry) l.fn.id.line) requests
-      (filling l.initial.writer (g.L.Outgoing.outlet l.initial.line) (part l.fn.id.customer l.initial.spool))
+      (filling l.initial.writer (g.L.Outgoing.outlet l.initial.line) (spool_at l.fn.id.customer l.initial.spool))
       ≡ after_sources (goes_by (entry_of l.entry) l.fn.id.line) (map StreamRequest (drop l.place streams))
-      (filling l.writer (g.L.Outgoing.outlet l.line) (part l.fn.id.customer l.spool));
+      (filling l.writer (g.L.Outgoing.outlet l.line) (spool_at l.fn.id.customer l.spool));
   rest : g.L.Outgoing.rest l.line ≡ g.L.Outgoing.rest l.initial.line;
-  spool : l.spool ≡ slice_set l.initial.spool l.fn.id.customer (part l.fn.id.customer l.spool);
+  spool : l.spool ≡ slice_set l.initial.spool l.fn.id.customer (spool_at l.fn.id.customer l.spool);
   cursor : GoesOn (first_file l.entry l.fn.id) l.cursor l.spool;
 }

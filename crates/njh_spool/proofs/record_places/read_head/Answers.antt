@@ -5,7 +5,7 @@ use Rattle.njh_record.specs.Bytes.{field, two_bytes}
 use Rattle.njh_record.specs.Stored.{Stored}
 use Rattle.njh_spool.specs.code.Chains.{chain_at}
 use Rattle.njh_spool.specs.CustomerSpool.{stored_size}
-use Rattle.njh_spool.specs.code.Packing.{unpacked}
+use Rattle.njh_spool.specs.code.Packing.{unpacked_records}
 use Rattle.njh_spool.proofs.RecordLaws.{IsAt, LiesAt, in_file}
 use Rattle.njh_spool.proofs.record_places.read_head.Goals as goal
 use Rattle.njh_spool.proofs.record_places.read_head.Goals.{After-read-mark}
@@ -15,9 +15,9 @@ read-mark-requires-clause-within c =
     let r = in_file c.args.slot.now (chain_at c.args.at c.args.store.now) c.args.from.record_index c.requires.file c.requires.more in
     omega (arith, r.2.within, c.requires.place.place)
 
-there : (c : After-read-mark) → (r : Stored) × IsAt (unpacked c.args.slot.now.count (chain_at c.args.at c.args.store.now).bytes)
+there : (c : After-read-mark) → (r : Stored) × IsAt (unpacked_records c.args.slot.now.count (chain_at c.args.at c.args.store.now).bytes)
     c.args.from.record_index r × LiesAt (chain_at c.args.at c.args.store.now).bytes
-    (stored_size (take c.args.from.record_index (unpacked c.args.slot.now.count (chain_at c.args.at c.args.store.now).bytes))) r
+    (stored_size (take c.args.from.record_index (unpacked_records c.args.slot.now.count (chain_at c.args.at c.args.store.now).bytes))) r
 there c = in_file c.args.slot.now (chain_at c.args.at c.args.store.now) c.args.from.record_index c.requires.file c.requires.more
 
 head_is : (c : After-read-mark) → c.read-mark.new.into.items ≡ (there c).0.srcb ∷ two_bytes (length (there c).0.bytes)

@@ -1,5 +1,5 @@
 use Rattle.std.proofs.Common.{rules, ◌≢◌, length, sym, subst}
-use Rattle.njh_spool.specs.Spools.{part}
+use Rattle.njh_spool.specs.Spools.{spool_at}
 use Rattle.njh_table.specs.TableFile.{entry_of}
 use Rattle.njh_stream.specs.code.Verdicts.{IsAfter}
 use Rattle.njh_stream.proofs.ReceivingLaws.{record_stored}
@@ -10,5 +10,5 @@ returns-else-is_empty c =
     let some : length c.args.bytes.now ≢ 0 = search rules in
     subst (λ x. IsAfter c.store.result c.store.new.spool c.args.spool.now c.args.line.customer x)
     (sym (record_stored (entry_of c.args.entry.now) c.args.line.line c.args.kind c.args.file c.args.srcb c.args.bytes.now
-    (part c.args.line.customer c.args.spool.now) some))
+    (spool_at c.args.line.customer c.args.spool.now) some))
     c.store.ensures

@@ -1,6 +1,6 @@
 -- The customer's files are led on three times.
 use Rattle.std.proofs.Common.{slice_set, ap, ◌∙◌}
-use Rattle.njh_spool.specs.Spools.{part}
+use Rattle.njh_spool.specs.Spools.{spool_at}
 use Rattle.njh_stream.specs.Receiving.{without_all_open}
 use Rattle.njh_stream.specs.Sending.{all_ended, tried_again}
 use Rattle.njh_table.specs.TableFile.{entry_of}
@@ -13,7 +13,7 @@ returns-clause-spool c =
     let line = c.args.line in
     let old = c.args.spool.now in
     let entry = entry_of c.customer.result.now in
-    let files = part line.customer old in
+    let files = spool_at line.customer old in
     let ended = all_ended c.self.inside.senders files in
     let tried = tried_again entry line.line ended in
     moved_twice old c.retry_refused.new.spool c.end_receivers.new.spool line.customer tried (without_all_open c.self.inside.receivers)

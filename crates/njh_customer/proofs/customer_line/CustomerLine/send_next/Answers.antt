@@ -1,6 +1,6 @@
 -- Filling leaves the block's function control sequence.
 use Rattle.std.proofs.Common.{ap, ◌∙◌}
-use Rattle.njh_spool.specs.Spools.{part}
+use Rattle.njh_spool.specs.Spools.{spool_at}
 use Rattle.njh_stream.specs.Sending.{goes_by}
 use Rattle.njh_table.specs.TableFile.{customer_at, entry_of}
 use Rattle.njh_sched.specs.NextBlock.{filling}
@@ -13,5 +13,5 @@ send_written-requires c =
     let line = c.args.line in
     let entry = entry_of (customer_at c.args.tables.now line.customer) in
     ap (λ w. w.fcs) c.fill.ensures.block
-    ∙ (filled_kept (goes_by entry line.line) (filling c.begin_block.new.block (outlet_of c.args.self.now) (part line.customer c.args.spool.now))).fcs
+    ∙ (filled_kept (goes_by entry line.line) (filling c.begin_block.new.block (outlet_of c.args.self.now) (spool_at line.customer c.args.spool.now))).fcs
     ∙ ap (λ w. w.fcs) c.begin_block.ensures.begun

@@ -1,5 +1,5 @@
 use Rattle.std.proofs.Common.{◌≡◌, ◌+◌, ◌<◌, length, set, slice_set}
-use Rattle.njh_spool.specs.Spools.{part}
+use Rattle.njh_spool.specs.Spools.{spool_at}
 use Rattle.njh_customer.specs.Feeding.{take_step, or_later}
 use Rattle.njh_customer.specs.CustomerSteps.{IsReady, IsRetold, customer_of}
 use Rattle.njh_customer.specs.Part.{rest_at}
@@ -13,7 +13,7 @@ invariant-loop-out l = record {
       (take_step (rest_at l.line.line l.self.rests) (customer_of l.tables l.line.customer l.spool l.self.lines) l.line.line l.left)
       ≡ take_step (rest_at l.line.line l.fn.self.rests) (customer_of l.fn.tables l.line.customer l.fn.spool l.fn.self.lines) l.line.line l.piece;
   rests : l.self.rests ≡ set l.fn.self.rests l.line.line (rest_at l.line.line l.self.rests);
-  others : l.spool ≡ slice_set l.fn.spool l.line.customer (part l.line.customer l.spool);
+  others : l.spool ≡ slice_set l.fn.spool l.line.customer (spool_at l.line.customer l.spool);
   entries : IsRetold l.line.customer l.fn.tables l.tables;
   ready : IsReady l.tables l.line l.spool l.self.lines;
   count : length l.self.lines ≡ length l.fn.self.lines;

@@ -2,7 +2,7 @@ use Rattle.std.proofs.Common.{◌<◌, ◌≤◌, List, length, ap, sym, ◌∙�
 use Rattle.std.specs.Option.{option_map}
 use Rattle.std.proofs.lemmas.List.{get_or_past}
 use Rattle.njh_spool.specs.CustomerSpool.{whole_numbered}
-use Rattle.njh_hub.specs.Views.{file_on, file_summary}
+use Rattle.njh_hub.specs.Views.{whole_file_on, file_summary}
 use Rattle.njh_hub.specs.WholeHub.{Part, no_part}
 use Rattle.njh_hub.proofs.PartsLaws.{length-parts_of, part-there}
 use Rattle.njh_hub.proofs.hub.Hub.file_summary.Goals as goal
@@ -23,4 +23,4 @@ returns c =
     c.file_summary.ensures
     ∙ ap (λ (p : Part). option_map file_summary (whole_numbered c.args.file p.customer.spool))
     (sym (part-there s.tables s.spool s.lines.items c.args.customer there))
-    ∙ ap (λ (ps : List Part). option_map file_summary (file_on c.args.customer c.args.file ps)) c.self.view_is
+    ∙ ap (λ (ps : List Part). option_map file_summary (whole_file_on c.args.customer c.args.file ps)) c.self.view_is

@@ -4,7 +4,7 @@ use Rattle.njh_spool.specs.Spools as spools
 use Rattle.njh_table.specs.Entries.{RouteEntry}
 use Rattle.njh_table.specs.NewRoutes.{own_routes, routes_checked, taken_routes}
 use Rattle.njh_table.specs.TableFile.{TableFile, customer_at, entry_of}
-use Rattle.njh_customer.specs.NewRoutes.{routes_taken}
+use Rattle.njh_customer.specs.NewRoutes.{part_after_routes}
 use Rattle.njh_customer.specs.Part.{Lines, part_with}
 use Rattle.njh_hub.specs.Parts.{lines_at, no_lines, parts_of}
 use Rattle.njh_hub.specs.code.HubInvariant.{IsHub}
@@ -35,7 +35,7 @@ checked c =
 
 -- the customer's part with them
 abbrev new_part : (c : After-take_routes) → Part
-new_part c = routes_taken (given c) (part c.args.customer c.args.self.now)
+new_part c = part_after_routes (given c) (part c.args.customer c.args.self.now)
 
 retables : (c : After-take_routes) → Retabled c.self.inside.tables c.self.inside.spool c.self.inside.lines.items c.args.customer (given c)
     c.set_routes.new.tables c.take_routes.new.spool
@@ -46,8 +46,8 @@ retables c =
     let is : x ≡ lines_at n s.lines.items =
     get_or_read s.lines.items n x (omega (arith, s.lines.ok.0)) (search rules) no_lines in
     let entry = entry_of (customer_at c.set_routes.new.tables n) in
-    let P : Lines → Type 0 = λ y. part_with entry (spools.part n c.take_routes.new.spool) y
-    ≡ routes_taken entry.routes (part_with entry (spools.part n s.spool) y) in
+    let P : Lines → Type 0 = λ y. part_with entry (spools.spool_at n c.take_routes.new.spool) y
+    ≡ part_after_routes entry.routes (part_with entry (spools.spool_at n s.spool) y) in
     record {
       hub = c.self.invariant;
       there = there c;
@@ -61,7 +61,7 @@ leads : (c : After-take_routes) → parts_of c.set_routes.new.tables c.take_rout
     ≡ slice_set c.args.self.now c.args.customer (new_part c)
 leads c =
     parts-retabled (retables c)
-    ∙ ap (λ (ps : List Part). slice_set ps c.args.customer (routes_taken (given c) (part c.args.customer ps))) c.self.view_is
+    ∙ ap (λ (ps : List Part). slice_set ps c.args.customer (part_after_routes (given c) (part c.args.customer ps))) c.self.view_is
 
 pub invariant_of-self : goal.invariant_of-self
 invariant_of-self c =

@@ -7,7 +7,7 @@ use Rattle.std.proofs.lemmas.List.{take_all, length-append}
 use Rattle.njh_customer.specs.Runs.{alone_run}
 use Rattle.njh_hub.specs.declared.event.Event.{Event}
 use Rattle.njh_hub.specs.declared.fault.RunFault.{RunFault}
-use Rattle.njh_hub.specs.OwnEvents.{line_of, events_of, bytes_in_event, first_of}
+use Rattle.njh_hub.specs.OwnEvents.{line_of_event, events_of, bytes_in_event, first_events}
 use Rattle.njh_hub.specs.RunStops.{HandedUntil, IfHub, IsRefused, IsRoutes}
 use Rattle.njh_hub.specs.WholeHub.{Part, part, HubRun, IsNamed, hub_run}
 use Rattle.njh_hub.proofs.RunLaws.{each_is_alone}
@@ -26,8 +26,8 @@ returns-in-Err-clause-parts g c = λ d there.
     let stop = stopped_in start c.loop-index.self events k fault.events fault.bytes event within
     c.index-events-index.is c.in-Err.ensures.one.1 c.loop-index.invariant.parts in
     ap (part d) (c.in-Err.ensures.leads ∙ ap (λ (h : HubRun). h.parts) (sym stop))
-    ∙ (each_is_alone d start (first_of events (k + fault.events) fault.bytes) there).after
-    ∙ ap (λ (f : RunFault). (alone_run (part d start) (events_of d (first_of events f.events f.bytes))).after) (sym c.after.ensures)
+    ∙ (each_is_alone d start (first_events events (k + fault.events) fault.bytes) there).after
+    ∙ ap (λ (f : RunFault). (alone_run (part d start) (events_of d (first_events events f.events f.bytes))).after) (sym c.after.ensures)
 
 pub returns-in-Err-clause-handed : goal.returns-in-Err-clause-handed
 returns-in-Err-clause-handed g c =
@@ -40,13 +40,13 @@ returns-in-Err-clause-handed g c =
     let stop = stopped_in start c.loop-index.self events k fault.events fault.bytes event within
     c.index-events-index.is c.in-Err.ensures.one.1 c.loop-index.invariant.parts in
     let sent = (hub_run start (take k events)).sent in
-    let more = (hub_run c.loop-index.self (first_of (event ∷ []) fault.events fault.bytes)).sent in
+    let more = (hub_run c.loop-index.self (first_events (event ∷ []) fault.events fault.bytes)).sent in
     let handed = HandedUntil-after g.S.Sink.took g.S.Sink.refused fault.cause c.args.sink.now c.loop-index.sink
     c.run_event.new.sink sent more
     g.met.S.Sink.more c.loop-index.invariant.sent c.in-Err.ensures.handed in
     let P : HubRun → Type 0 = λ h. HandedUntil g.S.Sink.took g.S.Sink.refused fault.cause c.args.sink.now c.run_event.new.sink h.sent in
     let Q : RunFault → Type 0 = λ f. HandedUntil g.S.Sink.took g.S.Sink.refused f.cause c.args.sink.now c.run_event.new.sink
-    (hub_run start (first_of events f.events f.bytes)).sent in
+    (hub_run start (first_events events f.events f.bytes)).sent in
     subst Q (sym c.after.ensures) (subst P (sym stop) handed)
 
 pub returns-in-Err-clause-refused : goal.returns-in-Err-clause-refused
@@ -60,11 +60,11 @@ returns-in-Err-clause-refused g c = λ refused.
     let stop = stopped_in start c.loop-index.self events k fault.events fault.bytes event within
     c.index-events-index.is c.in-Err.ensures.one.1 c.loop-index.invariant.parts in
     let sent = (hub_run start (take k events)).sent in
-    let more = (hub_run c.loop-index.self (first_of (event ∷ []) fault.events fault.bytes)).sent in
+    let more = (hub_run c.loop-index.self (first_events (event ∷ []) fault.events fault.bytes)).sent in
     let some : 0 < length more = HandedUntil-some g.S.Sink.took g.S.Sink.refused fault.cause c.loop-index.sink c.run_event.new.sink more
     (sym (ap (λ (f : RunFault). f.cause) c.after.ensures) ∙ refused) c.in-Err.ensures.handed in
-    let same : length (hub_run start (first_of events c.after.result.events c.after.result.bytes)).sent ≡ length (sent ++ more) =
-    ap (λ (f : RunFault). length (hub_run start (first_of events f.events f.bytes)).sent) c.after.ensures
+    let same : length (hub_run start (first_events events c.after.result.events c.after.result.bytes)).sent ≡ length (sent ++ more) =
+    ap (λ (f : RunFault). length (hub_run start (first_events events f.events f.bytes)).sent) c.after.ensures
     ∙ ap (λ (h : HubRun). length h.sent) stop in
     omega (arith, same, length-append sent more, some)
 
@@ -76,7 +76,7 @@ returns-in-Err-clause-customers g c =
     let here : length now ≡ length start = ap (λ (ps : List Part). length ps) c.loop-index.invariant.parts
     ∙ hub_run-length start (take k c.args.events.now) in
     ap (λ (ps : List Part). length ps) c.in-Err.ensures.leads
-    ∙ hub_run-length now (first_of (c.index-events-index.result ∷ []) c.in-Err.fault.events c.in-Err.fault.bytes) ∙ here
+    ∙ hub_run-length now (first_events (c.index-events-index.result ∷ []) c.in-Err.fault.events c.in-Err.fault.bytes) ∙ here
 
 pub returns-in-Err-clause-before : goal.returns-in-Err-clause-before
 returns-in-Err-clause-before g c =
@@ -161,7 +161,7 @@ loop-index-preserved g c =
       sent = subst P (sym on) (g.met.S.Sink.more _ _ _ _ _ c.loop-index.invariant.sent c.in-Ok.ensures.handed);
       known = All-more (IsNamed start) events k event within c.index-events-index.is c.loop-index.invariant.known known;
       same = λ d. c.in-Ok.ensures.lines d ∙ c.loop-index.invariant.same d;
-      room = ⊎_elim (λ (line : IsSome (line_of event)). inr (c.in-Ok.ensures.room (inl line)))
+      room = ⊎_elim (λ (line : IsSome (line_of_event event)). inr (c.in-Ok.ensures.room (inl line)))
           (λ (routes : IsRoutes event). ⊎_elim
           (λ (all : All IsRoutes (take k events)). inl (All-more IsRoutes events k event within c.index-events-index.is all routes))
           (λ (enough : LONGEST_FRAME ≤ vec_capacity c.loop-index.out). inr (c.in-Ok.ensures.room (inr enough))) c.loop-index.invariant.room)

@@ -4,7 +4,7 @@ use Rattle.njh_table.specs.declared.LineId.{LineId}
 use Rattle.njh_customer.specs.Feeding.{sent_on}
 use Rattle.njh_hub.specs.declared.event.Event.TheVariants.{Bytes}
 use Rattle.njh_hub.specs.declared.fault.Cause.{Cause}
-use Rattle.njh_hub.specs.OwnEvents.{first_of}
+use Rattle.njh_hub.specs.OwnEvents.{first_events}
 use Rattle.njh_hub.specs.RunStops.{HandedUntil, IfHub, IsRefused}
 use Rattle.njh_hub.specs.WholeHub.{HubRun, HasLine, sent_by, hub_run}
 use Rattle.njh_hub.proofs.PieceLaws.{after_bytes}
@@ -110,7 +110,7 @@ returns-in-Err-hand_over g c =
     let stop = sink_done c.no_bytes_do_nothing.ensures start line c.args.piece.now taken fault.events fault.bytes
     c.after_sink.ensures.whole c.after_sink.ensures.part in
     let sent = (after_bytes start line (take c.loop-used.taken c.args.piece.now)).sent in
-    let all = (hub_run start (first_of (Bytes line c.args.piece.now ∷ []) fault.events fault.bytes)).sent in
+    let all = (hub_run start (first_events (Bytes line c.args.piece.now ∷ []) fault.events fault.bytes)).sent in
     let Q : Cause → Type 0 = λ cause. HandedUntil g.S.Sink.took g.S.Sink.refused cause c.args.sink.now c.hand_over.new.sink all in
     let C : Cause → Type 0 = λ cause. IfHub cause (λ why. (fault.events ≡ 0) × IsRefused start (Bytes line c.args.piece.now) why) in
     record {

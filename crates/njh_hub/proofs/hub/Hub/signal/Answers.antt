@@ -1,5 +1,5 @@
 use Rattle.std.proofs.Common.{◌≡◌, ℕ, ◌∙◌, List, length, get_or, slice_set, ap, subst, sym, rules, arith}
-use Rattle.njh_customer.specs.Part.{signal_taken, part_with}
+use Rattle.njh_customer.specs.Part.{part_after_signal, part_with}
 use Rattle.njh_hub.specs.Parts.{parts_of}
 use Rattle.njh_hub.specs.code.HubInvariant.{IsHub}
 use Rattle.njh_hub.specs.WholeHub.{Part, HasLine, part}
@@ -40,7 +40,7 @@ steps c =
     let s = c.self.inside in
     let t = c.take_signal in
     let n = c.args.line.customer in
-    let p = part_with (entry_of (customer_at s.tables n)) (spools.part n s.spool) c.index_mut-lines.result.now in
+    let p = part_with (entry_of (customer_at s.tables n)) (spools.spool_at n s.spool) c.index_mut-lines.result.now in
     record {
       in_table = t.ensures.entries;
       in_files = t.ensures.others;
@@ -52,7 +52,7 @@ steps c =
 
 -- the line's customer afterwards
 abbrev after : (c : After-drop-out) → Part
-after c = let p = part c.args.line.customer c.args.self.now in (signal_taken p c.args.line.line c.args.signal).after
+after c = let p = part c.args.line.customer c.args.self.now in (part_after_signal p c.args.line.line c.args.signal).after
 
 leads : (c : After-drop-out)
     → parts_of c.take_signal.new.tables c.take_signal.new.spool
@@ -62,7 +62,7 @@ leads c =
     let t = c.take_signal in
     ap (λ (n : ℕ). parts_of t.new.tables t.new.spool (slice_set c.self.inside.lines.items n t.new.self)) c.from.ensures
     ∙ step-leads (finds c) (steps c) (after c)
-    (t.ensures.part ∙ ap (λ (p : Part). (signal_taken p c.args.line.line c.args.signal).after) (finds c).part_is)
+    (t.ensures.part ∙ ap (λ (p : Part). (part_after_signal p c.args.line.line c.args.signal).after) (finds c).part_is)
 
 pub invariant_of-self : goal.invariant_of-self
 invariant_of-self c =
@@ -78,10 +78,10 @@ returns c =
       hub = leads c;
       others = λ d apart. ap (part d) (leads c) ∙ others-stay c.args.self.now c.args.line.customer (after c) d apart;
       frame = c.into_bytes.ensures.bytes ∙ t.ensures.frame
-          ∙ ap (λ (p : Part). (signal_taken p c.args.line.line c.args.signal).frame) (finds c).part_is;
+          ∙ ap (λ (p : Part). (part_after_signal p c.args.line.line c.args.signal).frame) (finds c).part_is;
       lines = λ d. ap (λ (ps : List Part). length (part d ps).customer.lines) (leads c)
           ∙ step-lines (finds c) (steps c) (after c)
-          (t.ensures.part ∙ ap (λ (p : Part). (signal_taken p c.args.line.line c.args.signal).after) (finds c).part_is) d;
+          (t.ensures.part ∙ ap (λ (p : Part). (part_after_signal p c.args.line.line c.args.signal).after) (finds c).part_is) d;
       room = c.into_bytes.ensures.room;
       known = known;
       unknown = λ nowhere. absurd (nowhere known);

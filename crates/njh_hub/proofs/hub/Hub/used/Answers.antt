@@ -1,6 +1,6 @@
 use Rattle.std.proofs.Common.{◌≡◌, ◌<◌, List, length, ap, sym, ◌∙◌, refl, arith}
 use Rattle.std.proofs.lemmas.Bool.{false≢true}
-use Rattle.njh_spool.specs.CustomerSpool.{used}
+use Rattle.njh_spool.specs.CustomerSpool.{used_blocks}
 use Rattle.njh_spool.specs.Spools as spools
 use Rattle.njh_hub.specs.WholeHub.{Part, part}
 use Rattle.njh_hub.proofs.PartsLaws.{length-parts_of, part-there}
@@ -10,15 +10,15 @@ pub returns-clause-used : goal.returns-clause-used
 returns-clause-used c =
     let s = c.self.inside in
     let there : c.args.customer < length s.tables.customers = omega (arith, s.lines.ok.0, c.self.invariant.lined) in
-    c.used.ensures ∙ ap (λ (p : Part). used p.customer.spool) (sym (part-there s.tables s.spool s.lines.items c.args.customer there))
-    ∙ ap (λ (ps : List Part). used (part c.args.customer ps).customer.spool) c.self.view_is
+    c.used.ensures ∙ ap (λ (p : Part). used_blocks p.customer.spool) (sym (part-there s.tables s.spool s.lines.items c.args.customer there))
+    ∙ ap (λ (ps : List Part). used_blocks (part c.args.customer ps).customer.spool) c.self.view_is
 
 pub returns-clause-quota : goal.returns-clause-quota
 returns-clause-quota c =
     let s = c.self.inside in
     let n = c.args.customer in
     let there : n < length s.tables.customers = omega (arith, s.lines.ok.0, c.self.invariant.lined) in
-    let entry_quota : (spools.part n s.spool).quota ≡ (part n c.args.self.now).customer.entry.quota =
+    let entry_quota : (spools.spool_at n s.spool).quota ≡ (part n c.args.self.now).customer.entry.quota =
     (c.self.invariant.coherent n there).quota
     ∙ ap (λ (p : Part). p.customer.entry.quota) (sym (part-there s.tables s.spool s.lines.items n there))
     ∙ ap (λ (ps : List Part). (part n ps).customer.entry.quota) c.self.view_is in

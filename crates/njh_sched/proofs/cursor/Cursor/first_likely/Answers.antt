@@ -1,6 +1,6 @@
 use Rattle.std.proofs.Common.{◌≡◌, ◌<◌, ℕ, length, slice_get, option_map, Some, refl, sym, ap, subst, ◌∙◌, arith}
 use Rattle.njh_spool.specs.Headers.{summary}
-use Rattle.njh_spool.specs.Spools.{part}
+use Rattle.njh_spool.specs.Spools.{spool_at}
 use Rattle.njh_table.specs.declared.LineId.{LineId}
 use Rattle.njh_sched.specs.code.FileCursor.{HasPassed, files_of, goes_of, other}
 use Rattle.njh_sched.proofs.CursorLaws.{known, one_passed, other_passed}
@@ -12,15 +12,15 @@ seen : (c : After-is_likely) → option_map summary
     (slice_get (files_of c.args.self.now c.args.spool.now).whole c.loop-index.index)
     ≡ Some c.summary_at-file.result
 seen c =
-    subst (λ (m : ℕ). option_map summary (slice_get (part m c.args.spool.now).whole c.loop-index.index)
+    subst (λ (m : ℕ). option_map summary (slice_get (spool_at m c.args.spool.now).whole c.loop-index.index)
     ≡ Some c.summary_at-file.result)
     (ap (λ (i : LineId). i.customer) c.id-customer.ensures) c.summary_at-file.ensures
 
 inside : (c : After-is_likely) → c.loop-index.index < length (files_of c.args.self.now c.args.spool.now).whole
 inside c =
-    let there : c.loop-index.index < length (part c.id-customer.result.customer c.args.spool.now).whole
+    let there : c.loop-index.index < length (spool_at c.id-customer.result.customer c.args.spool.now).whole
     = omega (arith, c.files-files.ensures) in
-    subst (λ (m : ℕ). c.loop-index.index < length (part m c.args.spool.now).whole)
+    subst (λ (m : ℕ). c.loop-index.index < length (spool_at m c.args.spool.now).whole)
     (ap (λ (i : LineId). i.customer) c.id-customer.ensures) there
 
 others_are : (c : After-is_likely)

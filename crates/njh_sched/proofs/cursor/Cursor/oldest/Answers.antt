@@ -1,7 +1,7 @@
 use Rattle.std.proofs.Common.{◌≡◌, ◌<◌, ◌≤◌, ◌+◌, ℕ, Bool, true, false, length, sym, ap, subst, ◌∙◌, arith}
-use Rattle.njh_spool.specs.Spools.{part}
+use Rattle.njh_spool.specs.Spools.{spool_at}
 use Rattle.njh_table.specs.declared.LineId.{LineId}
-use Rattle.njh_sched.specs.code.FileCursor.{FileCursor, GoesOn, index_of, is_known_to_go, moved}
+use Rattle.njh_sched.specs.code.FileCursor.{FileCursor, GoesOn, index_of, is_known_to_go, cursor_at}
 use Rattle.njh_sched.proofs.CursorLaws.{again, found_at, goes_to, known_is, moved_again, none_at_end, passes_on}
 use Rattle.njh_sched.proofs.cursor.Cursor.oldest.Goals as goal
 use Rattle.njh_sched.proofs.cursor.Cursor.oldest.Goals.{After-may_go}
@@ -33,17 +33,17 @@ returns-then-may_go-clause-cursor c =
     subst (λ (x : FileCursor). GoesOn c.args.self.now x c.args.spool.now)
     (sym (c.may_go.ensures.cursor ∙ c.set.ensures))
     (again c.args.self.now c.loop-kind.self c.loop-kind.invariant.line
-    (moved c.args.kind c.first_likely-index.result.0 c.first_likely-index.result.1 c.loop-kind.self) c.args.spool.now
+    (cursor_at c.args.kind c.first_likely-index.result.0 c.first_likely-index.result.1 c.loop-kind.self) c.args.spool.now
     (goes_to c.loop-kind.self c.args.kind c.first_likely-index.result.0 c.first_likely-index.result.1 c.args.spool.now
     c.loop-kind.invariant.over.range c.first_likely-index.ensures.index c.first_likely-index.ensures.others))
 
 pub loop-kind-preserved : goal.loop-kind-preserved
 loop-kind-preserved c =
-    let within : c.first_likely-index.result.0 < length (part c.id-customer.result.customer c.args.spool.now).whole
+    let within : c.first_likely-index.result.0 < length (spool_at c.id-customer.result.customer c.args.spool.now).whole
     = omega (arith, c.files-files.ensures) in
     subst (λ (x : FileCursor). GoesOn c.args.self.now x c.args.spool.now)
     (sym (c.set-in-loop-kind.ensures
-    ∙ ap (moved c.args.kind (c.first_likely-index.result.0 + 1) c.first_likely-index.result.1)
+    ∙ ap (cursor_at c.args.kind (c.first_likely-index.result.0 + 1) c.first_likely-index.result.1)
     (c.may_go.ensures.cursor ∙ c.set.ensures)
     ∙ moved_again c.args.kind (c.first_likely-index.result.0 + 1) c.first_likely-index.result.1
     c.first_likely-index.result.0

@@ -1,5 +1,5 @@
 use Rattle.std.proofs.Common.{◌≡◌, ℕ, ◌<◌, ◌≤◌, List, length, take, get_or, refl, sym, ap, subst, ◌∙◌, arith}
-use Rattle.njh_spool.specs.code.NumberEntries.{is_number, IsIndex}
+use Rattle.njh_spool.specs.code.NumberEntries.{is_file_entry, IsIndex}
 use Rattle.njh_spool.proofs.EntryLaws.{any_default}
 use Rattle.njh_spool.proofs.ClosingLaws.{closing_begins, kept_within, hole_passes, number_moves}
 use Rattle.njh_spool.proofs.ClosingLaws.{closed_entries, closed_index}
@@ -47,7 +47,7 @@ overflow_add-kept c = omega (arith, kept_small (goal.at.overflow_add-kept c).Aft
 pub loop-place-preserved : goal.loop-place-preserved
 loop-place-preserved c =
     let at = (goal.at.loop-place-preserved c).After-is_number in
-    let test = ap is_number (sym (entry_is at)) ∙ sym c.is_number.ensures in
+    let test = ap is_file_entry (sym (entry_is at)) ∙ sym c.is_number.ensures in
     elim c.if-is_number.branch [
       | then-is_number w ↦
           rw (w.self-is, w.kept-is, w.from.ensures, entry_is at) (

@@ -3,8 +3,8 @@ use Rattle.std.proofs.Common.{filter, refl, sym, ap, ◌∙◌, arith}
 use Rattle.njh_spool.specs.declared.file_slot.FileSlot.{FileSlot}
 use Rattle.njh_spool.specs.declared.customer_files.CustomerFiles.{CustomerFiles}
 use Rattle.njh_spool.specs.code.Chains.{Chain, chain_at, empty_chain}
-use Rattle.njh_spool.specs.CustomerSpool.{CustomerSpool, abandoned}
-use Rattle.njh_spool.specs.Spools.{part}
+use Rattle.njh_spool.specs.CustomerSpool.{CustomerSpool, without_partial}
+use Rattle.njh_spool.specs.Spools.{spool_at}
 use Rattle.njh_spool.specs.code.Slots.{contents, slot_of, chain_of, is_partial, spools_of}
 use Rattle.njh_spool.proofs.KeptLaws.{own_of, own_is, Moves}
 use Rattle.njh_spool.proofs.CallFinds as finds
@@ -75,8 +75,8 @@ moved : (c : After-set) → Moves c.self.inside.store c.self.inside.slots c.self
       used = c.index_mut-own.result.now.used - c.blocks_for.result;
       partial =
           c.remove.new.self;
-    })) c.args.customer (abandoned c.args.id
-    (part c.args.customer (spools_of c.self.inside.customers.items (contents c.self.inside.slots c.self.inside.store.chains))))
+    })) c.args.customer (without_partial c.args.id
+    (spool_at c.args.customer (spools_of c.self.inside.customers.items (contents c.self.inside.slots c.self.inside.store.chains))))
 moved c =
     let has = finds.has c.self.inside.store c.self.inside.slots c.self.inside.customers.items c.args.customer c.args.id
     c.self.invariant (rw c.self.view_is c.requires) in
@@ -117,7 +117,7 @@ moved c =
       partial =
           c.remove.new.self;
     }) c.set.new.self c.from.result
-    (abandoned c.args.id (part c.args.customer (spools_of c.self.inside.customers.items
+    (without_partial c.args.id (spool_at c.args.customer (spools_of c.self.inside.customers.items
     (contents c.self.inside.slots c.self.inside.store.chains)))) store c.set.ensures c.from.ensures
     (call.abandons c.self.inside.store c.self.inside.slots c.self.inside.customers.items c.args.customer c.args.id
     c.self.invariant (rw c.self.view_is c.requires) c.empty.result
@@ -142,4 +142,4 @@ returns-clause-answer c =
 pub returns-clause-after : goal.returns-clause-after
 returns-clause-after c =
     (moved (goal.at.returns-clause-after c).After-set).spools
-    ∙ ap (λ (old : List CustomerSpool). set old c.args.customer (abandoned c.args.id (part c.args.customer old))) c.self.view_is
+    ∙ ap (λ (old : List CustomerSpool). set old c.args.customer (without_partial c.args.id (spool_at c.args.customer old))) c.self.view_is

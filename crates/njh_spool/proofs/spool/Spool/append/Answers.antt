@@ -3,8 +3,8 @@ use Rattle.std.proofs.Common.{refl, sym, ap, subst, ◌∙◌, arith}
 use Rattle.njh_spool.specs.declared.file_slot.FileSlot.{FileSlot}
 use Rattle.njh_spool.specs.declared.customer_files.CustomerFiles.{CustomerFiles}
 use Rattle.njh_spool.specs.code.Chains.{Chain, chain_at}
-use Rattle.njh_spool.specs.CustomerSpool.{CustomerSpool, appended}
-use Rattle.njh_spool.specs.Spools.{part}
+use Rattle.njh_spool.specs.CustomerSpool.{CustomerSpool, with_appended}
+use Rattle.njh_spool.specs.Spools.{spool_at}
 use Rattle.njh_spool.specs.code.Slots.{contents, slot_of, chain_of, is_partial, spools_of}
 use Rattle.njh_spool.proofs.KeptLaws.{own_of, own_is, Moves}
 use Rattle.njh_spool.proofs.CallFinds as finds
@@ -192,8 +192,8 @@ moved : (c : After-append_both) → Moves c.self.inside.store c.self.inside.slot
     (record c.slot_at-slot.result { count = c.slot_at-slot.result.count + 1 }))
     (set c.self.inside.customers.items c.from.result
     (record c.index_mut-own.result.now { used = c.index_mut-own.result.now.used - c.blocks_for.result + c.blocks_for-2.result }))
-    c.args.customer (appended c.args.id (record { srcb = c.args.srcb; bytes = c.args.bytes.now })
-    (part c.args.customer (spools_of c.self.inside.customers.items (contents c.self.inside.slots c.self.inside.store.chains))))
+    c.args.customer (with_appended c.args.id (record { srcb = c.args.srcb; bytes = c.args.bytes.now })
+    (spool_at c.args.customer (spools_of c.self.inside.customers.items (contents c.self.inside.slots c.self.inside.store.chains))))
 moved c =
     let at = (goal.at.overflow_add-slot c).After-blocks_for-2 in
     let first = (goal.at.overflow_add-slot c).After-blocks_for in
@@ -238,8 +238,8 @@ moved c =
     (record c.slot_at-slot.result { count = c.slot_at-slot.result.count + 1 })
     (record c.index_mut-own.result.now { used = blocks }) (set c.self.inside.slots (1024 * c.args.customer + c.args.id)
     (record c.slot_at-slot.result { count = c.slot_at-slot.result.count + 1 })) c.from.result
-    (appended c.args.id (record { srcb = c.args.srcb; bytes = c.args.bytes.now })
-    (part c.args.customer (spools_of c.self.inside.customers.items
+    (with_appended c.args.id (record { srcb = c.args.srcb; bytes = c.args.bytes.now })
+    (spool_at c.args.customer (spools_of c.self.inside.customers.items
     (contents c.self.inside.slots c.self.inside.store.chains)))) store refl c.from.ensures
     (subst (λ (x : FileSlot). Moves c.self.inside.store c.self.inside.slots c.self.inside.customers.items
     (with_chain (1024 * c.args.customer + c.args.id)
@@ -250,8 +250,8 @@ moved c =
     }) c.self.inside.store)
     (set c.self.inside.slots (1024 * c.args.customer + c.args.id) (record x { count = x.count + 1 }))
     (set c.self.inside.customers.items c.args.customer (record c.index_mut-own.result.now { used = blocks }))
-    c.args.customer (appended c.args.id (record { srcb = c.args.srcb; bytes = c.args.bytes.now })
-    (part c.args.customer (spools_of c.self.inside.customers.items
+    c.args.customer (with_appended c.args.id (record { srcb = c.args.srcb; bytes = c.args.bytes.now })
+    (spool_at c.args.customer (spools_of c.self.inside.customers.items
     (contents c.self.inside.slots c.self.inside.store.chains))))) (sym same)
     (subst (λ (o : CustomerFiles). Moves c.self.inside.store c.self.inside.slots c.self.inside.customers.items
     (with_chain (1024 * c.args.customer + c.args.id)
@@ -266,8 +266,8 @@ moved c =
           (slot_of c.self.inside.slots c.args.customer c.args.id).count + 1;
     }))
     (set c.self.inside.customers.items c.args.customer (record o { used = blocks })) c.args.customer
-    (appended c.args.id (record { srcb = c.args.srcb; bytes = c.args.bytes.now })
-    (part c.args.customer (spools_of c.self.inside.customers.items
+    (with_appended c.args.id (record { srcb = c.args.srcb; bytes = c.args.bytes.now })
+    (spool_at c.args.customer (spools_of c.self.inside.customers.items
     (contents c.self.inside.slots c.self.inside.store.chains))))) (sym (own_same first))
     (call.appends c.self.inside.store c.self.inside.slots c.self.inside.customers.items c.args.customer c.args.id
     c.self.invariant (rw c.self.view_is c.requires.range) (record { srcb = c.args.srcb; bytes = c.args.bytes.now }) keys
@@ -293,4 +293,4 @@ pub returns-clause-ok : goal.returns-clause-ok
 returns-clause-ok c =
     rw c.set.ensures ((moved (goal.at.returns-clause-ok c).After-append_both).spools
     ∙ ap (λ (old : List CustomerSpool). set old c.args.customer
-    (appended c.args.id (record { srcb = c.args.srcb; bytes = c.args.bytes.now }) (part c.args.customer old))) c.self.view_is)
+    (with_appended c.args.id (record { srcb = c.args.srcb; bytes = c.args.bytes.now }) (spool_at c.args.customer old))) c.self.view_is)

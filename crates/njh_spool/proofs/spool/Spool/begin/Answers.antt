@@ -1,8 +1,8 @@
 use Rattle.std.proofs.Common.{◌≡◌, ℕ, ◌+◌, ◌*◌, ◌<◌, ◌≤◌, List, [], ◌∷◌, ◌++◌, length, set}
 use Rattle.std.proofs.Common.{refl, sym, ap, ◌∙◌, arith, Bool, true, cond, eqb, count_by}
 use Rattle.njh_spool.specs.declared.customer_files.CustomerFiles.{CustomerFiles}
-use Rattle.njh_spool.specs.CustomerSpool.{CustomerSpool, begun}
-use Rattle.njh_spool.specs.Spools.{part}
+use Rattle.njh_spool.specs.CustomerSpool.{CustomerSpool, with_new_partial}
+use Rattle.njh_spool.specs.Spools.{spool_at}
 use Rattle.njh_spool.specs.code.Slots.{contents, slot_of, is_free, spools_of}
 use Rattle.njh_spool.proofs.ReadLaws.{not_partial_free}
 use Rattle.njh_spool.proofs.KeptLaws.{own_of, own_is, Moves}
@@ -168,7 +168,7 @@ moved : (c : After-set) → length (own_of c.self.inside.customers.items c.args.
     → Moves c.self.inside.store c.self.inside.slots c.self.inside.customers.items c.self.inside.store
     c.set.new.self (set c.self.inside.customers.items c.from.result
     (record c.index_mut-own.result.now { partial = c.push.new.self })) c.args.customer
-    (begun c.args.kind (part c.args.customer (spools_of c.self.inside.customers.items
+    (with_new_partial c.args.kind (spool_at c.args.customer (spools_of c.self.inside.customers.items
     (contents c.self.inside.slots c.self.inside.store.chains))))
 moved c room =
     let has = finds.has c.self.inside.store c.self.inside.slots c.self.inside.customers.items c.args.customer 0
@@ -194,7 +194,7 @@ moved c room =
     call.arrives c.self.inside.store c.self.inside.slots c.self.inside.customers.items c.args.customer number
     c.self.invariant (rw c.self.view_is c.requires) c.self.inside.store c.self.inside.store c.empty.result
     (record c.index_mut-own.result.now { partial = c.push.new.self }) c.set.new.self c.from.result
-    (begun c.args.kind (part c.args.customer (spools_of c.self.inside.customers.items
+    (with_new_partial c.args.kind (spool_at c.args.customer (spools_of c.self.inside.customers.items
     (contents c.self.inside.slots c.self.inside.store.chains)))) refl slots c.from.ensures
     (call.begins c.self.inside.store c.self.inside.slots c.self.inside.customers.items c.args.customer number
     c.self.invariant (rw c.self.view_is c.requires) c.args.kind c.empty.result
@@ -232,11 +232,11 @@ returns-clause-number c =
     let next = next_is (goal.at.returns-clause-number c).After-free_number-number
     (omega (arith, n.whole, n.partial, n.limit, c.len.ensures, c.len-2.ensures, c.if-len-own.false)) in
     c.of-id.ensures ∙ next ∙ ap next_number (sym has.part)
-    ∙ ap (λ (old : List CustomerSpool). next_number (part c.args.customer old)) c.self.view_is
+    ∙ ap (λ (old : List CustomerSpool). next_number (spool_at c.args.customer old)) c.self.view_is
 
 pub returns-clause-ok : goal.returns-clause-ok
 returns-clause-ok c =
     let n = few (goal.at.returns-clause-ok c).After-index_mut-own in
     (moved (goal.at.returns-clause-ok c).After-set
     (omega (arith, n.whole, n.partial, n.limit, c.len.ensures, c.len-2.ensures, c.if-len-own.false))).spools
-    ∙ ap (λ (old : List CustomerSpool). set old c.args.customer (begun c.args.kind (part c.args.customer old))) c.self.view_is
+    ∙ ap (λ (old : List CustomerSpool). set old c.args.customer (with_new_partial c.args.kind (spool_at c.args.customer old))) c.self.view_is

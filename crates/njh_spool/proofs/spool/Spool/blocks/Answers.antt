@@ -2,7 +2,7 @@ use Rattle.std.proofs.Common.{◌≡◌, ℕ, Ok, length}
 use Rattle.std.proofs.Common.{refl, sym, ap, ◌∙◌, ◌+◌, ◌/◌, arith}
 use Rattle.njh_spool.specs.declared.file_slot.FileSlot.{FileSlot}
 use Rattle.njh_spool.specs.code.Chains.{Chain, chain_at}
-use Rattle.njh_spool.specs.code.Slots.{slot_of, is_whole}
+use Rattle.njh_spool.specs.code.Slots.{slot_of, is_whole_stage}
 use Rattle.njh_spool.proofs.CallFinds as finds
 use Rattle.njh_spool.proofs.spool.Spool.blocks.Goals as goal
 use Rattle.njh_spool.proofs.spool.Spool.blocks.Goals.{After-is_whole}
@@ -13,8 +13,8 @@ slot_at-requires c =
     c.self.invariant (rw c.self.view_is c.requires) in
     omega (arith, has.slot_within 1023 (omega arith))
 
-stage_is : (c : After-is_whole) → is_whole (slot_of c.self.inside.slots c.args.customer c.args.id).stage ≡ c.is_whole.result
-stage_is c = ap (λ (x : FileSlot). is_whole x.stage) (sym c.slot_at.ensures) ∙ sym c.is_whole.ensures
+stage_is : (c : After-is_whole) → is_whole_stage (slot_of c.self.inside.slots c.args.customer c.args.id).stage ≡ c.is_whole.result
+stage_is c = ap (λ (x : FileSlot). is_whole_stage x.stage) (sym c.slot_at.ensures) ∙ sym c.is_whole.ensures
 
 pub returns-then-not-is_whole : goal.returns-then-not-is_whole
 returns-then-not-is_whole c =

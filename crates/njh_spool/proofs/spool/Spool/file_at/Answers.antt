@@ -2,7 +2,7 @@ use Rattle.std.proofs.Common.{◌<◌, length, get_or}
 use Rattle.std.proofs.Common.{sym, ap, ◌∙◌, arith}
 use Rattle.njh_spool.specs.declared.customer_files.CustomerFiles.{CustomerFiles}
 use Rattle.njh_spool.specs.CustomerSpool.{CustomerSpool}
-use Rattle.njh_spool.specs.Spools.{part}
+use Rattle.njh_spool.specs.Spools.{spool_at}
 use Rattle.njh_spool.specs.code.Slots.{contents}
 use Rattle.njh_spool.proofs.KeptLaws.{has_own, own_of, own_is}
 use Rattle.std.proofs.lemmas.List.{length-map}
@@ -23,7 +23,7 @@ at-requires c =
     let own = own_is c.self.inside.customers.items c.args.customer c.from.result c.index.result.now has.within c.from.ensures
     c.index.ensures in
     let lists = ap (λ (o : CustomerFiles). length o.whole) own in
-    let here = ap (λ (s : CustomerSpool). length s.whole) (ap (part c.args.customer) (sym c.self.view_is) ∙ has.part) in
+    let here = ap (λ (s : CustomerSpool). length s.whole) (ap (spool_at c.args.customer) (sym c.self.view_is) ∙ has.part) in
     omega (
       arith,
       lists,
@@ -39,7 +39,7 @@ returns c =
     c.self.invariant (rw c.self.view_is c.requires.range) in
     let own = own_is c.self.inside.customers.items c.args.customer c.from.result c.index.result.now has.within c.from.ensures
     c.index.ensures in
-    let here = ap (λ (s : CustomerSpool). length s.whole) (ap (part c.args.customer) (sym c.self.view_is) ∙ has.part) in
+    let here = ap (λ (s : CustomerSpool). length s.whole) (ap (spool_at c.args.customer) (sym c.self.view_is) ∙ has.part) in
     let numbers = (own_of c.self.inside.customers.items c.args.customer).whole in
     let within : c.args.index < length numbers = omega (
       arith,

@@ -3,12 +3,12 @@ use Rattle.std.proofs.Common.{filter, refl, sym, ap, subst, ◌∙◌, arith}
 use Rattle.njh_spool.specs.declared.file_slot.FileSlot.{FileSlot}
 use Rattle.njh_spool.specs.declared.file_slot.Stage.TheVariants.{Whole}
 use Rattle.njh_spool.specs.declared.customer_files.CustomerFiles.{CustomerFiles}
-use Rattle.njh_spool.specs.CustomerSpool.{CustomerSpool, finished}
-use Rattle.njh_spool.specs.Spools.{part}
-use Rattle.njh_spool.specs.code.Slots.{contents, slot_of, is_partial, is_whole, spools_of, IsFile}
+use Rattle.njh_spool.specs.CustomerSpool.{CustomerSpool, with_finished}
+use Rattle.njh_spool.specs.Spools.{spool_at}
+use Rattle.njh_spool.specs.code.Slots.{contents, slot_of, is_partial, is_whole_stage, spools_of, IsFile}
 use Rattle.njh_spool.specs.code.Chains.{Chain, chain_at}
 use Rattle.njh_spool.specs.Headers.{kept_headers}
-use Rattle.njh_spool.specs.code.Packing.{unpacked}
+use Rattle.njh_spool.specs.code.Packing.{unpacked_records}
 use Rattle.njh_spool.proofs.KeptLaws.{own_of, own_is, Moves}
 use Rattle.njh_spool.proofs.CallFinds as finds
 use Rattle.njh_spool.proofs.CallLaws as call
@@ -61,7 +61,7 @@ returns-then-not-is_partial-clause-after c =
     let none = finds.finds_no_partial c.self.inside.store c.self.inside.slots c.self.inside.customers.items c.args.customer
     c.args.id c.self.invariant (rw c.self.view_is c.requires)
     (stage_is (goal.at.returns-then-not-is_partial-clause-after c).After-is_partial ∙ c.if-not-is_partial.true) in
-    subst (λ (old : List CustomerSpool). old ≡ set old c.args.customer (finished c.args.id (part c.args.customer old)))
+    subst (λ (old : List CustomerSpool). old ≡ set old c.args.customer (with_finished c.args.id (spool_at c.args.customer old)))
     c.self.view_is none.finishes
 
 own_same : (c : After-index_mut-own) → c.index_mut-own.result.now ≡ (own_of c.self.inside.customers.items c.args.customer)
@@ -111,7 +111,7 @@ push-requires-clause-absent c =
     let stage = partial_stage (slot_of c.self.inside.slots c.args.customer c.args.id).stage there in
     ap (λ (k : ℕ). count_by (λ m. eqb m k) c.index_mut-own.result.now.whole) c.number-2.ensures
     ∙ ap (λ (o : CustomerFiles). count_by (λ m. eqb m c.args.id) o.whole) own ∙ has.own.whole_once c.args.id
-    ∙ ap (λ (x : Stage). cond {A = ℕ} (is_whole x) 1 0) stage
+    ∙ ap (λ (x : Stage). cond {A = ℕ} (is_whole_stage x) 1 0) stage
 
 moved : (c : After-set) → Moves c.self.inside.store c.self.inside.slots c.self.inside.customers.items
     c.self.inside.store c.set.new.self
@@ -119,8 +119,8 @@ moved : (c : After-set) → Moves c.self.inside.store c.self.inside.slots c.self
       whole = c.push.new.self;
       partial =
           c.remove.new.self;
-    })) c.args.customer (finished c.args.id
-    (part c.args.customer (spools_of c.self.inside.customers.items (contents c.self.inside.slots c.self.inside.store.chains))))
+    })) c.args.customer (with_finished c.args.id
+    (spool_at c.args.customer (spools_of c.self.inside.customers.items (contents c.self.inside.slots c.self.inside.store.chains))))
 moved c =
     let has = finds.has c.self.inside.store c.self.inside.slots c.self.inside.customers.items c.args.customer c.args.id
     c.self.invariant (rw c.self.view_is c.requires) in
@@ -135,9 +135,9 @@ moved c =
     (rw c.self.view_is c.requires) small in
     let said =
     c.read_headers-slot.ensures
-    ∙ ap (λ (x : FileSlot). kept_headers x.kind (unpacked x.count (chain_at c.place-at.result c.self.inside.store).bytes)) same
+    ∙ ap (λ (x : FileSlot). kept_headers x.kind (unpacked_records x.count (chain_at c.place-at.result c.self.inside.store).bytes)) same
     ∙ ap (λ (x : Chain). kept_headers (slot_of c.self.inside.slots c.args.customer c.args.id).kind
-    (unpacked (slot_of c.self.inside.slots c.args.customer c.args.id).count x.bytes)) chain in
+    (unpacked_records (slot_of c.self.inside.slots c.args.customer c.args.id).count x.bytes)) chain in
     let list = c.remove.ensures ∙ ap (λ (k : ℕ). filter (λ m. not (eqb m k)) c.index_mut-own.result.now.partial) c.number.ensures in
     let longer = c.push.ensures ∙ ap (λ (k : ℕ). c.index_mut-own.result.now.whole ++ k ∷ []) c.number-2.ensures in
     let owns =
@@ -156,13 +156,13 @@ moved c =
     c.self.invariant (rw c.self.view_is c.requires) c.self.inside.store c.self.inside.store
     (record c.slot_at-slot.result { stage = Whole Ready; headers = c.read_headers-slot.result })
     (record c.index_mut-own.result.now { whole = c.push.new.self; partial = c.remove.new.self }) c.set.new.self
-    c.from.result (finished c.args.id (part c.args.customer (spools_of c.self.inside.customers.items
+    c.from.result (with_finished c.args.id (spool_at c.args.customer (spools_of c.self.inside.customers.items
     (contents c.self.inside.slots c.self.inside.store.chains)))) refl c.set.ensures c.from.ensures
     (subst (λ (x : FileSlot). Moves c.self.inside.store c.self.inside.slots c.self.inside.customers.items
     c.self.inside.store (set c.self.inside.slots (1024 * c.args.customer + c.args.id)
     (record x { stage = Whole Ready; headers = c.read_headers-slot.result })) (set c.self.inside.customers.items c.args.customer
     (record c.index_mut-own.result.now { whole = c.push.new.self; partial = c.remove.new.self })) c.args.customer
-    (finished c.args.id (part c.args.customer (spools_of c.self.inside.customers.items
+    (with_finished c.args.id (spool_at c.args.customer (spools_of c.self.inside.customers.items
     (contents c.self.inside.slots c.self.inside.store.chains))))) (sym same)
     (call.finishes c.self.inside.store c.self.inside.slots c.self.inside.customers.items c.args.customer c.args.id
     c.self.invariant (rw c.self.view_is c.requires) (record c.index_mut-own.result.now {
@@ -186,4 +186,4 @@ returns-clause-answer c =
 pub returns-clause-after : goal.returns-clause-after
 returns-clause-after c =
     (moved (goal.at.returns-clause-after c).After-set).spools
-    ∙ ap (λ (old : List CustomerSpool). set old c.args.customer (finished c.args.id (part c.args.customer old))) c.self.view_is
+    ∙ ap (λ (old : List CustomerSpool). set old c.args.customer (with_finished c.args.id (spool_at c.args.customer old))) c.self.view_is

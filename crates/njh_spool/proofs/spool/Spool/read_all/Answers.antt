@@ -2,7 +2,7 @@ use Rattle.std.proofs.Common.{ℕ, Ok}
 use Rattle.std.proofs.Common.{refl, sym, ap, ◌∙◌, arith}
 use Rattle.njh_spool.specs.declared.file_slot.FileSlot.{FileSlot}
 use Rattle.njh_spool.specs.code.Chains.{Chain, chain_at}
-use Rattle.njh_spool.specs.code.Packing.{unpacked}
+use Rattle.njh_spool.specs.code.Packing.{unpacked_records}
 use Rattle.njh_spool.specs.code.Slots.{contents, slot_of, is_free}
 use Rattle.njh_spool.proofs.CallFinds as finds
 use Rattle.njh_spool.proofs.IndexLaws.{small_used}
@@ -38,5 +38,5 @@ returns c =
     c.self.inside.slots c.self.inside.customers.items c.args.customer c.args.id c.self.invariant
     (rw c.self.view_is c.requires) (small_used c.self.inside.slots c.args.customer c.args.id used') in
     rw (← c.self.view_is, has.part, file.records) (ap Ok (c.of.ensures
-    ∙ ap (λ (x : FileSlot). unpacked x.count (chain_at c.place.result c.self.inside.store).bytes) same
-    ∙ ap (λ (x : Chain). unpacked (slot_of c.self.inside.slots c.args.customer c.args.id).count x.bytes) chain))
+    ∙ ap (λ (x : FileSlot). unpacked_records x.count (chain_at c.place.result c.self.inside.store).bytes) same
+    ∙ ap (λ (x : Chain). unpacked_records (slot_of c.self.inside.slots c.args.customer c.args.id).count x.bytes) chain))

@@ -4,7 +4,7 @@ use Rattle.njh_spool.specs.declared.file_slot.FileSlot.{FileSlot}
 use Rattle.njh_spool.specs.declared.file_slot.KeptPlaces.{KeptPlaces}
 use Rattle.njh_spool.specs.code.Chains.{Chain, chain_at}
 use Rattle.njh_spool.specs.CustomerSpool.{CustomerSpool}
-use Rattle.njh_spool.specs.Spools.{part, records_numbered}
+use Rattle.njh_spool.specs.Spools.{spool_at, records_numbered}
 use Rattle.njh_spool.specs.code.Slots.{contents, slot_of, chain_of, is_free, spools_of, ArePlaces}
 use Rattle.njh_spool.proofs.IndexLaws.{small_used}
 use Rattle.njh_spool.proofs.KeptLaws.{Moves}
@@ -17,7 +17,7 @@ use Rattle.std.specs.Option.{option_and_then}
 use Rattle.njh_record.specs.Stored.{Stored}
 use Rattle.std.proofs.lemmas.List.{set-get_or}
 use Rattle.njh_spool.specs.Spools.{no_spool}
-use Rattle.njh_spool.specs.code.Packing.{unpacked}
+use Rattle.njh_spool.specs.code.Packing.{unpacked_records}
 use Rattle.njh_spool.proofs.PackingLaws.{length-unpacked}
 
 pub slot_at-slot-requires : goal.slot_at-slot-requires
@@ -32,11 +32,11 @@ same_slot c = c.slot_at-slot.ensures
 stage_is : (c : After-is_free) → is_free (slot_of c.self.inside.slots c.args.customer c.args.id).stage ≡ c.is_free.result
 stage_is c = ap (λ (x : FileSlot). is_free x.stage) (sym (same_slot c)) ∙ sym c.is_free.ensures
 
-records_now : (c : After-is_free) → c.is_free.result ≡ false → records_numbered c.args.id (part c.args.customer c.args.self.now)
-    ≡ Some (unpacked (slot_of c.self.inside.slots c.args.customer c.args.id).count
+records_now : (c : After-is_free) → c.is_free.result ≡ false → records_numbered c.args.id (spool_at c.args.customer c.args.self.now)
+    ≡ Some (unpacked_records (slot_of c.self.inside.slots c.args.customer c.args.id).count
     (chain_of c.self.inside.store.chains c.args.customer c.args.id).bytes)
 records_now c used' =
-    ap (λ (old : List CustomerSpool). records_numbered c.args.id (part c.args.customer old)) (sym c.self.view_is)
+    ap (λ (old : List CustomerSpool). records_numbered c.args.id (spool_at c.args.customer old)) (sym c.self.view_is)
     ∙ finds.finds_records c.self.inside.store c.self.inside.slots c.self.inside.customers.items c.args.customer
     c.args.id c.self.invariant (rw c.self.view_is c.requires.range) (stage_is c ∙ used')
 
@@ -51,7 +51,7 @@ pub place_of_record-begins-requires-clause-within : goal.place_of_record-begins-
 place_of_record-begins-requires-clause-within c =
     let step = (goal.at.place_of_record-begins-requires-clause-within c).After-is_free in
     let count = ap (λ (x : FileSlot). x.count) (same_slot step) in
-    let many = c.requires.within (unpacked (slot_of c.self.inside.slots c.args.customer c.args.id).count
+    let many = c.requires.within (unpacked_records (slot_of c.self.inside.slots c.args.customer c.args.id).count
     (chain_of c.self.inside.store.chains c.args.customer c.args.id).bytes) (records_now step c.if-is_free.false) in
     omega (
       arith,
@@ -65,7 +65,7 @@ pub read_record-srcb-requires-clause-more : goal.read_record-srcb-requires-claus
 read_record-srcb-requires-clause-more c =
     let step = (goal.at.read_record-srcb-requires-clause-more c).After-is_free in
     let count = ap (λ (x : FileSlot). x.count) (same_slot step) in
-    let many = c.requires.within (unpacked (slot_of c.self.inside.slots c.args.customer c.args.id).count
+    let many = c.requires.within (unpacked_records (slot_of c.self.inside.slots c.args.customer c.args.id).count
     (chain_of c.self.inside.store.chains c.args.customer c.args.id).bytes) (records_now step c.if-is_free.false) in
     omega (
       arith,
@@ -96,11 +96,11 @@ returns-clause-ok c =
     let found = c.read_record-srcb.ensures.record in
     let index = c.place_of_record-begins.ensures.index in
     ap (option_and_then (λ (records : List Stored). slice_get records c.args.n)) (records_now step c.if-is_free.false)
-    ∙ ap (λ (x : FileSlot). slice_get (unpacked x.count (chain_of c.self.inside.store.chains c.args.customer c.args.id).bytes)
+    ∙ ap (λ (x : FileSlot). slice_get (unpacked_records x.count (chain_of c.self.inside.store.chains c.args.customer c.args.id).bytes)
     c.args.n) (sym (same_slot step))
-    ∙ ap (λ (x : Chain). slice_get (unpacked c.slot_at-slot.result.count x.bytes) c.args.n)
+    ∙ ap (λ (x : Chain). slice_get (unpacked_records c.slot_at-slot.result.count x.bytes) c.args.n)
     (sym (chain_is (goal.at.returns-clause-ok c).After-place_of_record-begins))
-    ∙ ap (slice_get (unpacked c.slot_at-slot.result.count (chain_at c.place-at.result c.self.inside.store).bytes)) (sym index)
+    ∙ ap (slice_get (unpacked_records c.slot_at-slot.result.count (chain_at c.place-at.result c.self.inside.store).bytes)) (sym index)
     ∙ found
 
 abbrev kept : After-set → KeptPlaces
@@ -109,7 +109,7 @@ kept c = record { last = c.place_of_record-begins.result; next = c.read_record-s
 moved : (c : After-set) → Moves c.self.inside.store c.self.inside.slots c.self.inside.customers.items
     c.self.inside.store c.set.new.self
     c.self.inside.customers.items c.args.customer
-    (part c.args.customer (spools_of c.self.inside.customers.items (contents c.self.inside.slots c.self.inside.store.chains)))
+    (spool_at c.args.customer (spools_of c.self.inside.customers.items (contents c.self.inside.slots c.self.inside.store.chains)))
 moved c =
     let same = c.slot_at-slot.ensures in
     let used' = ap (λ (x : FileSlot). is_free x.stage) (sym same) ∙ sym c.is_free.ensures ∙ c.if-is_free.false in
@@ -117,22 +117,22 @@ moved c =
     let chain = ap (λ (i : ℕ). chain_at i c.self.inside.store) c.place-at.ensures ∙ finds.chain_is c.self.inside.store
     c.self.inside.slots c.self.inside.customers.items c.args.customer c.args.id c.self.invariant
     (rw c.self.view_is c.requires.range) small in
-    let places : ArePlaces (unpacked (slot_of c.self.inside.slots c.args.customer c.args.id).count
+    let places : ArePlaces (unpacked_records (slot_of c.self.inside.slots c.args.customer c.args.id).count
     (chain_of c.self.inside.store.chains c.args.customer c.args.id).bytes)
     (chain_of c.self.inside.store.chains c.args.customer c.args.id).keys (kept c) =
-    subst (λ (x : Chain). ArePlaces (unpacked (slot_of c.self.inside.slots c.args.customer c.args.id).count x.bytes) x.keys
+    subst (λ (x : Chain). ArePlaces (unpacked_records (slot_of c.self.inside.slots c.args.customer c.args.id).count x.bytes) x.keys
     (kept c)) chain
-    (subst (λ (x : FileSlot). ArePlaces (unpacked x.count (chain_at c.place-at.result c.self.inside.store).bytes)
+    (subst (λ (x : FileSlot). ArePlaces (unpacked_records x.count (chain_at c.place-at.result c.self.inside.store).bytes)
     (chain_at c.place-at.result c.self.inside.store).keys (kept c)) same
     (record { last = c.place_of_record-begins.ensures.place; next = c.read_record-srcb.ensures.place })) in
     subst (λ (xs : List FileSlot). Moves c.self.inside.store c.self.inside.slots c.self.inside.customers.items c.self.inside.store
     xs c.self.inside.customers.items
-    c.args.customer (part c.args.customer (spools_of c.self.inside.customers.items
+    c.args.customer (spool_at c.args.customer (spools_of c.self.inside.customers.items
     (contents c.self.inside.slots c.self.inside.store.chains)))) (sym c.set.ensures)
     (subst (λ (x : FileSlot). Moves c.self.inside.store c.self.inside.slots c.self.inside.customers.items
     c.self.inside.store (set c.self.inside.slots (1024 * c.args.customer + c.args.id) (record x { places = kept c }))
     c.self.inside.customers.items c.args.customer
-    (part c.args.customer (spools_of c.self.inside.customers.items
+    (spool_at c.args.customer (spools_of c.self.inside.customers.items
     (contents c.self.inside.slots c.self.inside.store.chains)))) (sym same)
     (call.reads_on c.self.inside.store c.self.inside.slots c.self.inside.customers.items c.args.customer c.args.id
     c.self.invariant (rw c.self.view_is c.requires.range) (kept c) used' places small))

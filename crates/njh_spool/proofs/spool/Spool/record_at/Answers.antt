@@ -3,7 +3,7 @@ use Rattle.std.proofs.Common.{Some, refl, sym, ap, ◌∙◌, arith}
 use Rattle.njh_spool.specs.declared.file_slot.FileSlot.{FileSlot}
 use Rattle.njh_spool.specs.code.Chains.{Chain, chain_at}
 use Rattle.njh_spool.specs.CustomerSpool.{CustomerSpool}
-use Rattle.njh_spool.specs.Spools.{part, records_numbered}
+use Rattle.njh_spool.specs.Spools.{spool_at, records_numbered}
 use Rattle.njh_spool.specs.code.Slots.{slot_of, chain_of, is_free}
 use Rattle.njh_spool.proofs.IndexLaws.{small_used}
 use Rattle.njh_spool.proofs.CallFinds as finds
@@ -12,7 +12,7 @@ use Rattle.njh_spool.proofs.spool.Spool.record_at.Goals.{After-is_free, After-pl
 use Rattle.std.specs.Prelude.{slice_get}
 use Rattle.std.specs.Option.{option_and_then}
 use Rattle.njh_record.specs.Stored.{Stored}
-use Rattle.njh_spool.specs.code.Packing.{unpacked}
+use Rattle.njh_spool.specs.code.Packing.{unpacked_records}
 use Rattle.njh_spool.proofs.PackingLaws.{length-unpacked}
 
 pub slot_at-slot-requires : goal.slot_at-slot-requires
@@ -27,11 +27,11 @@ same_slot c = c.slot_at-slot.ensures
 stage_is : (c : After-is_free) → is_free (slot_of c.self.inside.slots c.args.customer c.args.id).stage ≡ c.is_free.result
 stage_is c = ap (λ (x : FileSlot). is_free x.stage) (sym (same_slot c)) ∙ sym c.is_free.ensures
 
-records_now : (c : After-is_free) → c.is_free.result ≡ false → records_numbered c.args.id (part c.args.customer c.args.self.now)
-    ≡ Some (unpacked (slot_of c.self.inside.slots c.args.customer c.args.id).count
+records_now : (c : After-is_free) → c.is_free.result ≡ false → records_numbered c.args.id (spool_at c.args.customer c.args.self.now)
+    ≡ Some (unpacked_records (slot_of c.self.inside.slots c.args.customer c.args.id).count
     (chain_of c.self.inside.store.chains c.args.customer c.args.id).bytes)
 records_now c used' =
-    ap (λ (old : List CustomerSpool). records_numbered c.args.id (part c.args.customer old)) (sym c.self.view_is)
+    ap (λ (old : List CustomerSpool). records_numbered c.args.id (spool_at c.args.customer old)) (sym c.self.view_is)
     ∙ finds.finds_records c.self.inside.store c.self.inside.slots c.self.inside.customers.items c.args.customer
     c.args.id c.self.invariant (rw c.self.view_is c.requires.range) (stage_is c ∙ used')
 
@@ -46,7 +46,7 @@ pub place_of_record-begins-requires-clause-within : goal.place_of_record-begins-
 place_of_record-begins-requires-clause-within c =
     let step = (goal.at.place_of_record-begins-requires-clause-within c).After-is_free in
     let count = ap (λ (x : FileSlot). x.count) (same_slot step) in
-    let many = c.requires.within (unpacked (slot_of c.self.inside.slots c.args.customer c.args.id).count
+    let many = c.requires.within (unpacked_records (slot_of c.self.inside.slots c.args.customer c.args.id).count
     (chain_of c.self.inside.store.chains c.args.customer c.args.id).bytes) (records_now step c.if-is_free.false) in
     omega (
       arith,
@@ -60,7 +60,7 @@ pub read_record-srcb-requires-clause-more : goal.read_record-srcb-requires-claus
 read_record-srcb-requires-clause-more c =
     let step = (goal.at.read_record-srcb-requires-clause-more c).After-is_free in
     let count = ap (λ (x : FileSlot). x.count) (same_slot step) in
-    let many = c.requires.within (unpacked (slot_of c.self.inside.slots c.args.customer c.args.id).count
+    let many = c.requires.within (unpacked_records (slot_of c.self.inside.slots c.args.customer c.args.id).count
     (chain_of c.self.inside.store.chains c.args.customer c.args.id).bytes) (records_now step c.if-is_free.false) in
     omega (
       arith,
@@ -91,9 +91,9 @@ returns-clause-ok c =
     let found = c.read_record-srcb.ensures.record in
     let index = c.place_of_record-begins.ensures.index in
     ap (option_and_then (λ (records : List Stored). slice_get records c.args.n)) (records_now step c.if-is_free.false)
-    ∙ ap (λ (x : FileSlot). slice_get (unpacked x.count (chain_of c.self.inside.store.chains c.args.customer c.args.id).bytes)
+    ∙ ap (λ (x : FileSlot). slice_get (unpacked_records x.count (chain_of c.self.inside.store.chains c.args.customer c.args.id).bytes)
     c.args.n) (sym (same_slot step))
-    ∙ ap (λ (x : Chain). slice_get (unpacked c.slot_at-slot.result.count x.bytes) c.args.n)
+    ∙ ap (λ (x : Chain). slice_get (unpacked_records c.slot_at-slot.result.count x.bytes) c.args.n)
     (sym (chain_is (goal.at.returns-clause-ok c).After-place_of_record-begins))
-    ∙ ap (slice_get (unpacked c.slot_at-slot.result.count (chain_at c.place-at.result c.self.inside.store).bytes)) (sym index)
+    ∙ ap (slice_get (unpacked_records c.slot_at-slot.result.count (chain_at c.place-at.result c.self.inside.store).bytes)) (sym index)
     ∙ found

@@ -3,9 +3,9 @@ use Rattle.std.proofs.Common.{filter, refl, sym, ap, ◌∙◌, arith}
 use Rattle.njh_spool.specs.declared.file_slot.FileSlot.{FileSlot}
 use Rattle.njh_spool.specs.declared.customer_files.CustomerFiles.{CustomerFiles}
 use Rattle.njh_spool.specs.code.Chains.{Chain, chain_at, empty_chain}
-use Rattle.njh_spool.specs.CustomerSpool.{CustomerSpool, removed}
-use Rattle.njh_spool.specs.Spools.{part}
-use Rattle.njh_spool.specs.code.Slots.{contents, slot_of, chain_of, is_whole, spools_of}
+use Rattle.njh_spool.specs.CustomerSpool.{CustomerSpool, without_whole}
+use Rattle.njh_spool.specs.Spools.{spool_at}
+use Rattle.njh_spool.specs.code.Slots.{contents, slot_of, chain_of, is_whole_stage, spools_of}
 use Rattle.njh_spool.proofs.KeptLaws.{own_of, own_is, Moves}
 use Rattle.njh_spool.proofs.CallFinds as finds
 use Rattle.njh_spool.proofs.CallLaws as call
@@ -20,8 +20,8 @@ slot_at-requires c =
     c.self.invariant (rw c.self.view_is c.requires) in
     omega (arith, has.slot_within 1023 (omega arith))
 
-stage_is : (c : After-is_whole) → is_whole (slot_of c.self.inside.slots c.args.customer c.args.id).stage ≡ c.is_whole.result
-stage_is c = ap (λ (x : FileSlot). is_whole x.stage)
+stage_is : (c : After-is_whole) → is_whole_stage (slot_of c.self.inside.slots c.args.customer c.args.id).stage ≡ c.is_whole.result
+stage_is c = ap (λ (x : FileSlot). is_whole_stage x.stage)
     (sym (c.slot_at.ensures))
     ∙ sym c.is_whole.ensures
 
@@ -75,12 +75,12 @@ moved : (c : After-set) → Moves c.self.inside.store c.self.inside.slots c.self
       used = c.index_mut-own.result.now.used - c.blocks_for.result;
       whole =
           c.remove.new.self;
-    })) c.args.customer (removed c.args.id
-    (part c.args.customer (spools_of c.self.inside.customers.items (contents c.self.inside.slots c.self.inside.store.chains))))
+    })) c.args.customer (without_whole c.args.id
+    (spool_at c.args.customer (spools_of c.self.inside.customers.items (contents c.self.inside.slots c.self.inside.store.chains))))
 moved c =
     let has = finds.has c.self.inside.store c.self.inside.slots c.self.inside.customers.items c.args.customer c.args.id
     c.self.invariant (rw c.self.view_is c.requires) in
-    let there = ap (λ (x : FileSlot). is_whole x.stage)
+    let there = ap (λ (x : FileSlot). is_whole_stage x.stage)
     (sym (c.slot_at.ensures))
     ∙ sym c.is_whole.ensures ∙ c.if-not-is_whole.false in
     let small = finds.small_whole c.self.inside.store c.self.inside.slots c.self.inside.customers.items c.args.customer
@@ -117,7 +117,7 @@ moved c =
       whole =
           c.remove.new.self;
     }) c.set.new.self c.from.result
-    (removed c.args.id (part c.args.customer (spools_of c.self.inside.customers.items
+    (without_whole c.args.id (spool_at c.args.customer (spools_of c.self.inside.customers.items
     (contents c.self.inside.slots c.self.inside.store.chains)))) store c.set.ensures c.from.ensures
     (call.removes c.self.inside.store c.self.inside.slots c.self.inside.customers.items c.args.customer c.args.id
     c.self.invariant (rw c.self.view_is c.requires) c.empty.result
@@ -142,4 +142,4 @@ returns-clause-answer c =
 pub returns-clause-after : goal.returns-clause-after
 returns-clause-after c =
     (moved (goal.at.returns-clause-after c).After-set).spools
-    ∙ ap (λ (old : List CustomerSpool). set old c.args.customer (removed c.args.id (part c.args.customer old))) c.self.view_is
+    ∙ ap (λ (old : List CustomerSpool). set old c.args.customer (without_whole c.args.id (spool_at c.args.customer old))) c.self.view_is

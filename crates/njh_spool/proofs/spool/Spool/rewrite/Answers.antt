@@ -6,9 +6,9 @@ use Rattle.njh_spool.specs.Headers.{kept_headers}
 use Rattle.std.proofs.lemmas.List.{get_or-set_same}
 use Rattle.std.proofs.Common.{length-set, true}
 use Rattle.njh_spool.specs.CustomerSpool.{CustomerSpool}
-use Rattle.njh_spool.specs.CustomerSpool.{rewritten}
-use Rattle.njh_spool.specs.Spools.{part}
-use Rattle.njh_spool.specs.code.Slots.{contents, slot_of, chain_of, is_whole, spools_of, IsPlace}
+use Rattle.njh_spool.specs.CustomerSpool.{with_rewritten_bytes}
+use Rattle.njh_spool.specs.Spools.{spool_at}
+use Rattle.njh_spool.specs.code.Slots.{contents, slot_of, chain_of, is_whole_stage, spools_of, IsPlace}
 use Rattle.njh_spool.proofs.KeptLaws.{Moves}
 use Rattle.njh_spool.proofs.CallFinds as finds
 use Rattle.njh_spool.proofs.CallLaws as call
@@ -17,7 +17,7 @@ use Rattle.std.specs.Prelude.{slice_get, IsSomeAnd}
 use Rattle.njh_spool.specs.code.Chains.{with_chain}
 use Rattle.njh_spool.specs.CustomerSpool.{stored_size, whole_numbered, at_index, rewritten_record}
 use Rattle.njh_record.specs.Bytes.{with_field}
-use Rattle.njh_spool.specs.code.Packing.{unpacked}
+use Rattle.njh_spool.specs.code.Packing.{unpacked_records}
 use Rattle.njh_spool.specs.code.Slots.{whole_file}
 use Rattle.njh_spool.proofs.PackingLaws.{length-unpacked}
 use Rattle.njh_spool.proofs.PlaceLaws.{within_some}
@@ -31,8 +31,8 @@ slot_at-slot-requires c =
     c.self.invariant (rw c.self.view_is c.requires.range) in
     omega (arith, has.slot_within 1023 (omega arith))
 
-stage_is : (c : After-is_whole) → is_whole (slot_of c.self.inside.slots c.args.customer c.args.id).stage ≡ c.is_whole.result
-stage_is c = ap (λ (x : FileSlot). is_whole x.stage)
+stage_is : (c : After-is_whole) → is_whole_stage (slot_of c.self.inside.slots c.args.customer c.args.id).stage ≡ c.is_whole.result
+stage_is c = ap (λ (x : FileSlot). is_whole_stage x.stage)
     (sym (c.slot_at-slot.ensures))
     ∙ sym c.is_whole.ensures
 
@@ -54,18 +54,18 @@ returns-then-not-is_whole-clause-after c =
 pub place_of_record-begins-requires-clause-within : goal.place_of_record-begins-requires-clause-within
 place_of_record-begins-requires-clause-within c =
     let same = c.slot_at-slot.ensures in
-    let there = ap (λ (x : FileSlot). is_whole x.stage) (sym same) ∙ sym c.is_whole.ensures ∙ c.if-not-is_whole.false in
-    let inner : IsSomeAnd (slice_get (unpacked (slot_of c.self.inside.slots c.args.customer c.args.id).count
+    let there = ap (λ (x : FileSlot). is_whole_stage x.stage) (sym same) ∙ sym c.is_whole.ensures ∙ c.if-not-is_whole.false in
+    let inner : IsSomeAnd (slice_get (unpacked_records (slot_of c.self.inside.slots c.args.customer c.args.id).count
     (chain_of c.self.inside.store.chains c.args.customer c.args.id).bytes) c.args.n) (λ r. c.args.place + 8 ≤ length r.bytes) =
     c.requires.within (whole_file (contents c.self.inside.slots c.self.inside.store.chains c.args.customer) c.args.id)
-    (subst (λ (old : List CustomerSpool). whole_numbered c.args.id (part c.args.customer old) ≡ Some
+    (subst (λ (old : List CustomerSpool). whole_numbered c.args.id (spool_at c.args.customer old) ≡ Some
     (whole_file (contents c.self.inside.slots c.self.inside.store.chains c.args.customer) c.args.id)) c.self.view_is
     (finds.finds_whole c.self.inside.store c.self.inside.slots c.self.inside.customers.items c.args.customer c.args.id
     c.self.invariant (rw c.self.view_is c.requires.range) there)) in
     let counted : c.args.n < (slot_of c.self.inside.slots c.args.customer c.args.id).count =
     omega (
       arith,
-      within_some (unpacked (slot_of c.self.inside.slots c.args.customer c.args.id).count
+      within_some (unpacked_records (slot_of c.self.inside.slots c.args.customer c.args.id).count
           (chain_of c.self.inside.store.chains c.args.customer c.args.id).bytes) c.args.n (λ r. c.args.place + 8 ≤ length r.bytes)
           inner,
       length-unpacked (slot_of c.self.inside.slots c.args.customer c.args.id).count
@@ -84,18 +84,18 @@ record Goes (c : After-place_of_record-begins) : Type 0 where
 goes : (c : After-place_of_record-begins) → Goes c
 goes c =
     let same = c.slot_at-slot.ensures in
-    let there = ap (λ (x : FileSlot). is_whole x.stage) (sym same) ∙ sym c.is_whole.ensures ∙ c.if-not-is_whole.false in
-    let inner : IsSomeAnd (slice_get (unpacked (slot_of c.self.inside.slots c.args.customer c.args.id).count
+    let there = ap (λ (x : FileSlot). is_whole_stage x.stage) (sym same) ∙ sym c.is_whole.ensures ∙ c.if-not-is_whole.false in
+    let inner : IsSomeAnd (slice_get (unpacked_records (slot_of c.self.inside.slots c.args.customer c.args.id).count
     (chain_of c.self.inside.store.chains c.args.customer c.args.id).bytes) c.args.n) (λ r. c.args.place + 8 ≤ length r.bytes) =
     c.requires.within (whole_file (contents c.self.inside.slots c.self.inside.store.chains c.args.customer) c.args.id)
-    (subst (λ (old : List CustomerSpool). whole_numbered c.args.id (part c.args.customer old) ≡ Some
+    (subst (λ (old : List CustomerSpool). whole_numbered c.args.id (spool_at c.args.customer old) ≡ Some
     (whole_file (contents c.self.inside.slots c.self.inside.store.chains c.args.customer) c.args.id)) c.self.view_is
     (finds.finds_whole c.self.inside.store c.self.inside.slots c.self.inside.customers.items c.args.customer c.args.id
     c.self.invariant (rw c.self.view_is c.requires.range) there)) in
     let counted : c.args.n < (slot_of c.self.inside.slots c.args.customer c.args.id).count =
     omega (
       arith,
-      within_some (unpacked (slot_of c.self.inside.slots c.args.customer c.args.id).count
+      within_some (unpacked_records (slot_of c.self.inside.slots c.args.customer c.args.id).count
           (chain_of c.self.inside.store.chains c.args.customer c.args.id).bytes) c.args.n (λ r. c.args.place + 8 ≤ length r.bytes)
           inner,
       length-unpacked (slot_of c.self.inside.slots c.args.customer c.args.id).count
@@ -106,18 +106,18 @@ goes c =
     let chain = ap (λ (i : ℕ). chain_at i c.self.inside.store) c.place-at.ensures ∙ finds.chain_is c.self.inside.store
     c.self.inside.slots c.self.inside.customers.items c.args.customer c.args.id c.self.invariant
     (rw c.self.view_is c.requires.range) small in
-    let place : IsPlace (unpacked (slot_of c.self.inside.slots c.args.customer c.args.id).count
+    let place : IsPlace (unpacked_records (slot_of c.self.inside.slots c.args.customer c.args.id).count
     (chain_of c.self.inside.store.chains c.args.customer c.args.id).bytes)
     (chain_of c.self.inside.store.chains c.args.customer c.args.id).keys c.place_of_record-begins.result =
-    subst (λ (x : Chain). IsPlace (unpacked (slot_of c.self.inside.slots c.args.customer c.args.id).count x.bytes) x.keys
+    subst (λ (x : Chain). IsPlace (unpacked_records (slot_of c.self.inside.slots c.args.customer c.args.id).count x.bytes) x.keys
     c.place_of_record-begins.result) chain
-    (subst (λ (x : FileSlot). IsPlace (unpacked x.count (chain_at c.place-at.result c.self.inside.store).bytes)
+    (subst (λ (x : FileSlot). IsPlace (unpacked_records x.count (chain_at c.place-at.result c.self.inside.store).bytes)
     (chain_at c.place-at.result c.self.inside.store).keys c.place_of_record-begins.result) same
     c.place_of_record-begins.ensures.place) in
     let begins : c.place_of_record-begins.result.place ≡ stored_size
-    (take c.args.n (unpacked (slot_of c.self.inside.slots c.args.customer c.args.id).count
+    (take c.args.n (unpacked_records (slot_of c.self.inside.slots c.args.customer c.args.id).count
     (chain_of c.self.inside.store.chains c.args.customer c.args.id).bytes)) = place.place
-    ∙ ap (λ (k : ℕ). stored_size (take k (unpacked (slot_of c.self.inside.slots c.args.customer c.args.id).count
+    ∙ ap (λ (k : ℕ). stored_size (take k (unpacked_records (slot_of c.self.inside.slots c.args.customer c.args.id).count
     (chain_of c.self.inside.store.chains c.args.customer c.args.id).bytes))) c.place_of_record-begins.ensures.index in
     let r = in_file (slot_of c.self.inside.slots c.args.customer c.args.id)
     (chain_of c.self.inside.store.chains c.args.customer c.args.id) c.args.n
@@ -155,11 +155,11 @@ chain_then store customer id at bytes =
 record Rewrites (store : StoreValue) (slots : List FileSlot) (slot : FileSlot) (customer id n at place index : ℕ) (bytes : List ℕ)
     (store' : StoreValue) : Type 0 where
   same : slot ≡ slot_of slots customer id
-  there : is_whole (slot_of slots customer id).stage ≡ true
+  there : is_whole_stage (slot_of slots customer id).stage ≡ true
   small : id < 1024
   counted : n < (slot_of slots customer id).count
-  begins : at ≡ stored_size (take n (unpacked (slot_of slots customer id).count (chain_of store.chains customer id).bytes)) + 3 + place
-  fits : IsSomeAnd (slice_get (unpacked (slot_of slots customer id).count (chain_of store.chains customer id).bytes) n)
+  begins : at ≡ stored_size (take n (unpacked_records (slot_of slots customer id).count (chain_of store.chains customer id).bytes)) + 3 + place
+  fits : IsSomeAnd (slice_get (unpacked_records (slot_of slots customer id).count (chain_of store.chains customer id).bytes) n)
       (λ r. place + length bytes ≤ length r.bytes)
   after : store' ≡ with_chain (1024 * customer + id) (chain_then store customer id at bytes) store
   chain : chain_at index store' ≡ chain_then store customer id at bytes
@@ -170,18 +170,18 @@ rewrites : (c : After-overwrite) → Rewrites c.self.inside.store c.self.inside.
     c.overwrite.new.self
 rewrites c =
     let same = c.slot_at-slot.ensures in
-    let there = ap (λ (x : FileSlot). is_whole x.stage) (sym same) ∙ sym c.is_whole.ensures ∙ c.if-not-is_whole.false in
-    let inner : IsSomeAnd (slice_get (unpacked (slot_of c.self.inside.slots c.args.customer c.args.id).count
+    let there = ap (λ (x : FileSlot). is_whole_stage x.stage) (sym same) ∙ sym c.is_whole.ensures ∙ c.if-not-is_whole.false in
+    let inner : IsSomeAnd (slice_get (unpacked_records (slot_of c.self.inside.slots c.args.customer c.args.id).count
     (chain_of c.self.inside.store.chains c.args.customer c.args.id).bytes) c.args.n) (λ r. c.args.place + 8 ≤ length r.bytes) =
     c.requires.within (whole_file (contents c.self.inside.slots c.self.inside.store.chains c.args.customer) c.args.id)
-    (subst (λ (old : List CustomerSpool). whole_numbered c.args.id (part c.args.customer old) ≡ Some
+    (subst (λ (old : List CustomerSpool). whole_numbered c.args.id (spool_at c.args.customer old) ≡ Some
     (whole_file (contents c.self.inside.slots c.self.inside.store.chains c.args.customer) c.args.id)) c.self.view_is
     (finds.finds_whole c.self.inside.store c.self.inside.slots c.self.inside.customers.items c.args.customer c.args.id
     c.self.invariant (rw c.self.view_is c.requires.range) there)) in
     let counted : c.args.n < (slot_of c.self.inside.slots c.args.customer c.args.id).count =
     omega (
       arith,
-      within_some (unpacked (slot_of c.self.inside.slots c.args.customer c.args.id).count
+      within_some (unpacked_records (slot_of c.self.inside.slots c.args.customer c.args.id).count
           (chain_of c.self.inside.store.chains c.args.customer c.args.id).bytes) c.args.n (λ r. c.args.place + 8 ≤ length r.bytes)
           inner,
       length-unpacked (slot_of c.self.inside.slots c.args.customer c.args.id).count
@@ -192,22 +192,22 @@ rewrites c =
     let chain = ap (λ (i : ℕ). chain_at i c.self.inside.store) c.place-at.ensures ∙ finds.chain_is c.self.inside.store
     c.self.inside.slots c.self.inside.customers.items c.args.customer c.args.id c.self.invariant
     (rw c.self.view_is c.requires.range) small in
-    let place : IsPlace (unpacked (slot_of c.self.inside.slots c.args.customer c.args.id).count
+    let place : IsPlace (unpacked_records (slot_of c.self.inside.slots c.args.customer c.args.id).count
     (chain_of c.self.inside.store.chains c.args.customer c.args.id).bytes)
     (chain_of c.self.inside.store.chains c.args.customer c.args.id).keys c.place_of_record-begins.result =
-    subst (λ (x : Chain). IsPlace (unpacked (slot_of c.self.inside.slots c.args.customer c.args.id).count x.bytes) x.keys
+    subst (λ (x : Chain). IsPlace (unpacked_records (slot_of c.self.inside.slots c.args.customer c.args.id).count x.bytes) x.keys
     c.place_of_record-begins.result) chain
-    (subst (λ (x : FileSlot). IsPlace (unpacked x.count (chain_at c.place-at.result c.self.inside.store).bytes)
+    (subst (λ (x : FileSlot). IsPlace (unpacked_records x.count (chain_at c.place-at.result c.self.inside.store).bytes)
     (chain_at c.place-at.result c.self.inside.store).keys c.place_of_record-begins.result) same
     c.place_of_record-begins.ensures.place) in
     let begins : c.place_of_record-begins.result.place ≡ stored_size
-    (take c.args.n (unpacked (slot_of c.self.inside.slots c.args.customer c.args.id).count
+    (take c.args.n (unpacked_records (slot_of c.self.inside.slots c.args.customer c.args.id).count
     (chain_of c.self.inside.store.chains c.args.customer c.args.id).bytes)) = place.place
-    ∙ ap (λ (k : ℕ). stored_size (take k (unpacked (slot_of c.self.inside.slots c.args.customer c.args.id).count
+    ∙ ap (λ (k : ℕ). stored_size (take k (unpacked_records (slot_of c.self.inside.slots c.args.customer c.args.id).count
     (chain_of c.self.inside.store.chains c.args.customer c.args.id).bytes))) c.place_of_record-begins.ensures.index in
     let eight : 8 ≡ length c.args.bytes = omega arith in
     let fits = subst (λ (size : ℕ). IsSomeAnd
-    (slice_get (unpacked (slot_of c.self.inside.slots c.args.customer c.args.id).count
+    (slice_get (unpacked_records (slot_of c.self.inside.slots c.args.customer c.args.id).count
     (chain_of c.self.inside.store.chains c.args.customer c.args.id).bytes) c.args.n)
     (λ r. c.args.place + size ≤ length r.bytes)) eight inner in
     let at = c.place_of_record-begins.result.place + (3 + c.args.place) in
@@ -264,19 +264,19 @@ moved : (c : After-set) → Rewrites c.self.inside.store c.self.inside.slots c.s
     c.args.id c.args.n (c.place_of_record-begins.result.place + (3 + c.args.place)) c.args.place c.place-at.result c.args.bytes
     c.overwrite.new.self → Moves c.self.inside.store c.self.inside.slots c.self.inside.customers.items
     c.overwrite.new.self c.set.new.self c.self.inside.customers.items c.args.customer
-    (rewritten c.args.id c.args.n c.args.place c.args.bytes
-    (part c.args.customer (spools_of c.self.inside.customers.items (contents c.self.inside.slots c.self.inside.store.chains))))
+    (with_rewritten_bytes c.args.id c.args.n c.args.place c.args.bytes
+    (spool_at c.args.customer (spools_of c.self.inside.customers.items (contents c.self.inside.slots c.self.inside.store.chains))))
 moved c is =
-    let s : CustomerSpool = rewritten c.args.id c.args.n c.args.place c.args.bytes
-    (part c.args.customer (spools_of c.self.inside.customers.items (contents c.self.inside.slots c.self.inside.store.chains))) in
+    let s : CustomerSpool = with_rewritten_bytes c.args.id c.args.n c.args.place c.args.bytes
+    (spool_at c.args.customer (spools_of c.self.inside.customers.items (contents c.self.inside.slots c.self.inside.store.chains))) in
     let at = c.place_of_record-begins.result.place + (3 + c.args.place) in
     let slot : FileSlot = slot_of c.self.inside.slots c.args.customer c.args.id in
     let then : Chain = chain_then c.self.inside.store c.args.customer c.args.id at c.args.bytes in
-    let again : c.args.n < slot.headers.count → c.headers_behind-slot.result ≡ kept_headers slot.kind (unpacked slot.count then.bytes) =
+    let again : c.args.n < slot.headers.count → c.headers_behind-slot.result ≡ kept_headers slot.kind (unpacked_records slot.count then.bytes) =
     λ before.
     c.headers_behind-slot.ensures.read (omega (arith, before, ap (λ (x : FileSlot). x.headers.count) is.same))
-    ∙ ap (λ (x : FileSlot). kept_headers x.kind (unpacked x.count (chain_at c.place-at.result c.overwrite.new.self).bytes)) is.same
-    ∙ ap (λ (x : Chain). kept_headers slot.kind (unpacked slot.count x.bytes)) is.chain in
+    ∙ ap (λ (x : FileSlot). kept_headers x.kind (unpacked_records x.count (chain_at c.place-at.result c.overwrite.new.self).bytes)) is.same
+    ∙ ap (λ (x : Chain). kept_headers slot.kind (unpacked_records slot.count x.bytes)) is.chain in
     let kept : slot.headers.count ≤ c.args.n → c.headers_behind-slot.result ≡ slot.headers =
     λ behind.
     c.headers_behind-slot.ensures.same (omega (arith, behind, ap (λ (x : FileSlot). x.headers.count) is.same))
@@ -310,5 +310,5 @@ returns-clause-answer c =
 pub returns-clause-after : goal.returns-clause-after
 returns-clause-after c =
     (moved (goal.at.returns-clause-after c).After-set (rewrites (goal.at.returns-clause-after c).After-overwrite)).spools
-    ∙ ap (λ (old : List CustomerSpool). set old c.args.customer (rewritten c.args.id c.args.n c.args.place c.args.bytes
-    (part c.args.customer old))) c.self.view_is
+    ∙ ap (λ (old : List CustomerSpool). set old c.args.customer (with_rewritten_bytes c.args.id c.args.n c.args.place c.args.bytes
+    (spool_at c.args.customer old))) c.self.view_is

@@ -3,8 +3,8 @@ use Rattle.std.proofs.Common.{refl, sym, ap, subst, ◌∙◌, arith}
 use Rattle.njh_spool.specs.declared.file_slot.FileSlot.{FileSlot}
 use Rattle.njh_spool.specs.declared.file_slot.Stage.TheVariants.{Whole}
 use Rattle.njh_spool.specs.CustomerSpool.{CustomerSpool, with_state}
-use Rattle.njh_spool.specs.Spools.{part}
-use Rattle.njh_spool.specs.code.Slots.{contents, slot_of, is_whole, spools_of}
+use Rattle.njh_spool.specs.Spools.{spool_at}
+use Rattle.njh_spool.specs.code.Slots.{contents, slot_of, is_whole_stage, spools_of}
 use Rattle.njh_spool.proofs.KeptLaws.{Moves}
 use Rattle.njh_spool.proofs.CallFinds as finds
 use Rattle.njh_spool.proofs.CallLaws as call
@@ -17,8 +17,8 @@ slot_at-slot-requires c =
     c.self.invariant (rw c.self.view_is c.requires) in
     omega (arith, has.slot_within 1023 (omega arith))
 
-stage_is : (c : After-is_whole) → is_whole (slot_of c.self.inside.slots c.args.customer c.args.id).stage ≡ c.is_whole.result
-stage_is c = ap (λ (x : FileSlot). is_whole x.stage)
+stage_is : (c : After-is_whole) → is_whole_stage (slot_of c.self.inside.slots c.args.customer c.args.id).stage ≡ c.is_whole.result
+stage_is c = ap (λ (x : FileSlot). is_whole_stage x.stage)
     (sym (c.slot_at-slot.ensures))
     ∙ sym c.is_whole.ensures
 
@@ -38,21 +38,21 @@ returns-then-not-is_whole-clause-after c =
 
 moved : (c : After-set) → Moves c.self.inside.store c.self.inside.slots c.self.inside.customers.items
     c.self.inside.store c.set.new.self c.self.inside.customers.items c.args.customer
-    (with_state c.args.id c.args.state (part c.args.customer (spools_of c.self.inside.customers.items
+    (with_state c.args.id c.args.state (spool_at c.args.customer (spools_of c.self.inside.customers.items
     (contents c.self.inside.slots c.self.inside.store.chains))))
 moved c =
-    let there = ap (λ (x : FileSlot). is_whole x.stage)
+    let there = ap (λ (x : FileSlot). is_whole_stage x.stage)
     (sym (c.slot_at-slot.ensures))
     ∙ sym c.is_whole.ensures ∙ c.if-not-is_whole.false in
     subst (λ (xs : List FileSlot). Moves c.self.inside.store c.self.inside.slots c.self.inside.customers.items c.self.inside.store
     xs
     c.self.inside.customers.items c.args.customer
-    (with_state c.args.id c.args.state (part c.args.customer (spools_of c.self.inside.customers.items
+    (with_state c.args.id c.args.state (spool_at c.args.customer (spools_of c.self.inside.customers.items
     (contents c.self.inside.slots c.self.inside.store.chains))))) (sym c.set.ensures)
     (subst (λ (x : FileSlot). Moves c.self.inside.store c.self.inside.slots c.self.inside.customers.items
     c.self.inside.store (set c.self.inside.slots (1024 * c.args.customer + c.args.id)
     (record x { stage = Whole c.args.state })) c.self.inside.customers.items c.args.customer
-    (with_state c.args.id c.args.state (part c.args.customer (spools_of c.self.inside.customers.items
+    (with_state c.args.id c.args.state (spool_at c.args.customer (spools_of c.self.inside.customers.items
     (contents c.self.inside.slots c.self.inside.store.chains)))))
     (sym (c.slot_at-slot.ensures))
     (call.restates c.self.inside.store c.self.inside.slots c.self.inside.customers.items c.args.customer c.args.id
@@ -76,4 +76,4 @@ pub returns-clause-after : goal.returns-clause-after
 returns-clause-after c =
     (moved (goal.at.returns-clause-after c).After-set).spools
     ∙ ap (λ (old : List CustomerSpool). set old c.args.customer
-    (with_state c.args.id c.args.state (part c.args.customer old))) c.self.view_is
+    (with_state c.args.id c.args.state (spool_at c.args.customer old))) c.self.view_is

@@ -2,7 +2,7 @@ use Rattle.std.proofs.Common.{Ok}
 use Rattle.std.proofs.Common.{refl, sym, ap, ◌∙◌, arith}
 use Rattle.njh_spool.specs.declared.file_slot.FileSlot.{FileSlot}
 use Rattle.njh_spool.specs.declared.file_slot.Stage.{Stage}
-use Rattle.njh_spool.specs.code.Slots.{contents, is_partial, is_whole, state_of}
+use Rattle.njh_spool.specs.code.Slots.{contents, is_partial, is_whole_stage, state_of}
 use Rattle.njh_spool.proofs.KeptLaws.{has_own, own_of}
 use Rattle.njh_spool.proofs.WholeLaws.{whole_is, has_no_whole}
 use Rattle.njh_spool.proofs.spool.Spool.state.Goals as goal
@@ -23,7 +23,7 @@ returns-in-Whole c =
       ← c.self.view_is,
       has.part,
       whole_is (own_of c.self.inside.customers.items c.args.customer)
-          (contents c.self.inside.slots c.self.inside.store.chains c.args.customer) c.args.id has.own (ap is_whole stage)
+          (contents c.self.inside.slots c.self.inside.store.chains c.args.customer) c.args.id has.own (ap is_whole_stage stage)
           (ap is_partial stage),
     ) (ap (λ (x : Stage). Ok (state_of x)) (sym stage))
 
@@ -37,7 +37,7 @@ returns-in-Partial c =
       ← c.self.view_is,
       has.part,
       (has_no_whole (own_of c.self.inside.customers.items c.args.customer)
-          (contents c.self.inside.slots c.self.inside.store.chains c.args.customer) c.args.id has.own (ap is_whole stage)).none,
+          (contents c.self.inside.slots c.self.inside.store.chains c.args.customer) c.args.id has.own (ap is_whole_stage stage)).none,
     ) refl
 
 pub returns-in-Free : goal.returns-in-Free
@@ -50,5 +50,5 @@ returns-in-Free c =
       ← c.self.view_is,
       has.part,
       (has_no_whole (own_of c.self.inside.customers.items c.args.customer)
-          (contents c.self.inside.slots c.self.inside.store.chains c.args.customer) c.args.id has.own (ap is_whole stage)).none,
+          (contents c.self.inside.slots c.self.inside.store.chains c.args.customer) c.args.id has.own (ap is_whole_stage stage)).none,
     ) refl

@@ -1,7 +1,7 @@
 use Rattle.std.proofs.Common.{◌≡◌, Ok}
 use Rattle.std.proofs.Common.{refl, sym, ap, ◌∙◌, arith}
 use Rattle.njh_spool.specs.declared.file_slot.FileSlot.{FileSlot}
-use Rattle.njh_spool.specs.code.Slots.{slot_of, is_whole}
+use Rattle.njh_spool.specs.code.Slots.{slot_of, is_whole_stage}
 use Rattle.njh_spool.proofs.CallFinds as finds
 use Rattle.njh_spool.proofs.SummaryLaws.{slot_summary, summary_numbered}
 use Rattle.njh_spool.proofs.spool.Spool.summary.Goals as goal
@@ -16,8 +16,8 @@ slot_at-slot-requires c =
 same_slot : (c : After-is_whole) → c.slot_at-slot.result ≡ slot_of c.self.inside.slots c.args.customer c.args.id
 same_slot c = c.slot_at-slot.ensures
 
-stage_is : (c : After-is_whole) → is_whole (slot_of c.self.inside.slots c.args.customer c.args.id).stage ≡ c.is_whole.result
-stage_is c = ap (λ (x : FileSlot). is_whole x.stage) (sym (same_slot c)) ∙ sym c.is_whole.ensures
+stage_is : (c : After-is_whole) → is_whole_stage (slot_of c.self.inside.slots c.args.customer c.args.id).stage ≡ c.is_whole.result
+stage_is c = ap (λ (x : FileSlot). is_whole_stage x.stage) (sym (same_slot c)) ∙ sym c.is_whole.ensures
 
 pub returns-then-not-is_whole : goal.returns-then-not-is_whole
 returns-then-not-is_whole c =

@@ -1,24 +1,24 @@
 use Rattle.std.proofs.Common.{false, Ok, ap, sym, ◌∙◌}
 use Rattle.njh_table.specs.TableFile.{password_bytes}
-use Rattle.njh_table.specs.Walk.{line_of}
+use Rattle.njh_table.specs.Walk.{walked_line}
 use Rattle.njh_table.proofs.Loops.{goes_on, ends, stops}
 use Rattle.njh_table.proofs.walk.lines.line_of.Goals as goal
 
 pub returns-in_err-node-clause-walk : goal.returns-in_err-node-clause-walk
-unfolding line_of
+unfolding walked_line
 returns-in_err-node-clause-walk c =
     stops _ _ _ _ c.from_residual.ensures.1
     (λ _. ends _ _ _ (sym c.in_err-node.ensures))
 
 pub returns-in_err-role-clause-walk : goal.returns-in_err-role-clause-walk
-unfolding line_of
+unfolding walked_line
 returns-in_err-role-clause-walk c =
     stops _ _ _ _ c.from_residual-in_err-role.ensures.1
     (λ _. goes_on _ _ _ (sym c.in_ok-node.ensures)
     ∙ ends _ _ _ (sym c.in_err-role.ensures))
 
 pub returns-in_err-block-clause-walk : goal.returns-in_err-block-clause-walk
-unfolding line_of
+unfolding walked_line
 returns-in_err-block-clause-walk c =
     stops _ _ _ _ c.from_residual-in_err-block.ensures.1
     (λ _. goes_on _ _ _ (sym c.in_ok-node.ensures)
@@ -26,7 +26,7 @@ returns-in_err-block-clause-walk c =
     ∙ ends _ _ _ (sym c.in_err-block.ensures.read))
 
 pub returns-in_err-streams-clause-walk : goal.returns-in_err-streams-clause-walk
-unfolding line_of
+unfolding walked_line
 returns-in_err-streams-clause-walk c =
     stops _ _ _ _ c.from_residual-in_err-streams.ensures.1
     (λ _. goes_on _ _ _ (sym c.in_ok-node.ensures)
@@ -35,7 +35,7 @@ returns-in_err-streams-clause-walk c =
     ∙ ends _ _ _ (sym c.in_err-streams.ensures.read))
 
 pub returns-in_err-password-clause-walk : goal.returns-in_err-password-clause-walk
-unfolding line_of
+unfolding walked_line
 returns-in_err-password-clause-walk c =
     stops _ _ _ _ c.from_residual-in_err-password.ensures.1
     (λ _. goes_on _ _ _ (sym c.in_ok-node.ensures)
@@ -45,7 +45,7 @@ returns-in_err-password-clause-walk c =
     ∙ ends _ _ _ (sym c.in_err-password.ensures))
 
 pub returns-in_err-port-clause-walk : goal.returns-in_err-port-clause-walk
-unfolding line_of
+unfolding walked_line
 returns-in_err-port-clause-walk c =
     stops _ _ _ _ c.from_residual-in_err-port.ensures.1
     (λ _. goes_on _ _ _ (sym c.in_ok-node.ensures)
@@ -56,7 +56,7 @@ returns-in_err-port-clause-walk c =
     ∙ ends _ _ _ (sym c.in_err-port.ensures.read))
 
 pub returns-in_err-peer-clause-walk : goal.returns-in_err-peer-clause-walk
-unfolding line_of
+unfolding walked_line
 returns-in_err-peer-clause-walk c =
     stops _ _ _ _ c.from_residual-in_err-peer.ensures.1
     (λ _. goes_on _ _ _ (sym c.in_ok-node.ensures)
@@ -68,7 +68,7 @@ returns-in_err-peer-clause-walk c =
     ∙ ends _ _ _ (sym c.in_err-peer.ensures))
 
 pub returns-clause-walk : goal.returns-clause-walk
-unfolding line_of
+unfolding walked_line
 returns-clause-walk c =
     goes_on _ _ _ (sym c.in_ok-node.ensures)
     ∙ goes_on _ _ _ (sym c.in_ok-role.ensures)
