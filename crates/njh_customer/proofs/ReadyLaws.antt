@@ -22,12 +22,12 @@ use Rattle.njh_customer.specs.CustomerSteps.{Brings, Leads, IsReady, IsRetold, c
 use Rattle.njh_customer.proofs.StepLaws.{Stays}
 
 pub next_ready :
-    (tables : TableFile) (line : LineId) (old new : List CustomerSpool) (lines_old lines_new : List CustomerLine) (after : Customer)
-    → IsReady tables line old lines_old → Leads tables line.customer old new lines_new after
-    → Stays after (customer_of tables line.customer old lines_old) → IsReady tables line new lines_new
-next_ready tables line old new lines_old lines_new after ready leads stays = record {
+    (tables : TableFile) (id : LineId) (old new : List CustomerSpool) (lines_old lines_new : List CustomerLine) (after : Customer)
+    → IsReady tables id old lines_old → Leads tables id.customer old new lines_new after
+    → Stays after (customer_of tables id.customer old lines_old) → IsReady tables id new lines_new
+next_ready tables id old new lines_old lines_new after ready leads stays = record {
   known = ready.known;
-  spooled = omega (arith, ready.spooled, ap length leads.others, length-set old line.customer (spool_at line.customer new));
+  spooled = omega (arith, ready.spooled, ap length leads.others, length-set old id.customer (spool_at id.customer new));
   there = omega (arith, ready.there, ap (λ c. length c.lines) leads.customer, stays.lines);
   coherent = subst IsCoherent (sym leads.customer) stays.coherent;
 }
@@ -77,11 +77,11 @@ pub retold_same : (tables : TableFile) (c : ℕ) → IsRetold c tables tables
 retold_same tables c = ap (λ customers. record tables { customers = customers }) (sym (set-get_or tables.customers c no_customer))
 
 -- a mark of a line
-pub retold_marked : (tables new : TableFile) (line : LineId) (up : Bool) → line.customer < length tables.customers → new ≡ with_mark line up tables
-    → IsRetold line.customer tables new
-retold_marked tables new line up there is =
-    subst (IsRetold line.customer tables) (sym is)
-    (retold_by tables line.customer (customer_marked line.line up (customer_at tables line.customer)) there)
+pub retold_marked : (tables new : TableFile) (id : LineId) (up : Bool) → id.customer < length tables.customers → new ≡ with_mark id up tables
+    → IsRetold id.customer tables new
+retold_marked tables new id up there is =
+    subst (IsRetold id.customer tables) (sym is)
+    (retold_by tables id.customer (customer_marked id.number up (customer_at tables id.customer)) there)
 
 -- a step that leaves the tables
 pub as_brings :
@@ -90,36 +90,36 @@ pub as_brings :
 as_brings tables c old new lines after leads = record { customer = leads.customer; others = leads.others; entries = retold_same tables c }
 
 pub next_brought :
-    (tables retold : TableFile) (line : LineId) (old new : List CustomerSpool) (lines_old lines_new : List CustomerLine) (after : Customer)
-    → IsReady tables line old lines_old → Brings tables retold line.customer old new lines_new after
-    → Stays after (customer_of tables line.customer old lines_old) → IsReady retold line new lines_new
-next_brought tables retold line old new lines_old lines_new after ready brings stays = record {
+    (tables retold : TableFile) (id : LineId) (old new : List CustomerSpool) (lines_old lines_new : List CustomerLine) (after : Customer)
+    → IsReady tables id old lines_old → Brings tables retold id.customer old new lines_new after
+    → Stays after (customer_of tables id.customer old lines_old) → IsReady retold id new lines_new
+next_brought tables retold id old new lines_old lines_new after ready brings stays = record {
   known = omega (
     arith,
     ready.known,
     ap (λ t. length t.customers) brings.entries,
-    length-set tables.customers line.customer (customer_at retold line.customer),
+    length-set tables.customers id.customer (customer_at retold id.customer),
   );
-  spooled = omega (arith, ready.spooled, ap length brings.others, length-set old line.customer (spool_at line.customer new));
+  spooled = omega (arith, ready.spooled, ap length brings.others, length-set old id.customer (spool_at id.customer new));
   there = omega (arith, ready.there, ap (λ c. length c.lines) brings.customer, stays.lines);
   coherent = subst IsCoherent (sym brings.customer) stays.coherent;
 }
 
 -- the files stay
 pub still_brought :
-    (tables retold : TableFile) (line : LineId) (spools : List CustomerSpool) (old new : List CustomerLine) (after : Customer)
-    → IsReady tables line spools old → customer_of retold line.customer spools new ≡ after → IsRetold line.customer tables retold
-    → Stays after (customer_of tables line.customer spools old) → IsReady retold line spools new
-still_brought tables retold line spools old new after ready customer entries =
-    next_brought tables retold line spools spools old new after ready
-    (record { customer = customer; others = sym (set-get_or spools line.customer no_spool); entries = entries })
+    (tables retold : TableFile) (id : LineId) (spools : List CustomerSpool) (old new : List CustomerLine) (after : Customer)
+    → IsReady tables id spools old → customer_of retold id.customer spools new ≡ after → IsRetold id.customer tables retold
+    → Stays after (customer_of tables id.customer spools old) → IsReady retold id spools new
+still_brought tables retold id spools old new after ready customer entries =
+    next_brought tables retold id spools spools old new after ready
+    (record { customer = customer; others = sym (set-get_or spools id.customer no_spool); entries = entries })
 
 -- a line of the customer is one of the tables
 pub known_line :
-    (tables : TableFile) (line : LineId) (spools : List CustomerSpool) (lines : List CustomerLine) → IsReady tables line spools lines
-    → HasLine tables line
-known_line tables line spools lines ready =
-    omega (arith, ready.there, ready.coherent.marks, length-map (customer_at tables line.customer).lines (λ l. l.up))
+    (tables : TableFile) (id : LineId) (spools : List CustomerSpool) (lines : List CustomerLine) → IsReady tables id spools lines
+    → HasLine tables id
+known_line tables id spools lines ready =
+    omega (arith, ready.there, ready.coherent.marks, length-map (customer_at tables id.customer).lines (λ l. l.up))
 
 -- what brings on from where it was brought
 pub brought_on :
@@ -135,53 +135,53 @@ brought_on tables between_tables retold c old now new lines_now lines_new betwee
 
 -- a mark behind what a step led to
 pub marked_behind :
-    (tables retold : TableFile) (line : LineId) (up : Bool) (old new : List CustomerSpool) (lines : List CustomerLine) (after : Customer)
-    → Leads tables line.customer old new lines after → line.customer < length tables.customers → retold ≡ with_mark line up tables
-    → entry_of (customer_at (with_mark line up tables) line.customer) ≡ entry_marked line.line up (entry_of (customer_at tables line.customer))
-    → Brings tables retold line.customer old new lines (record after { entry = entry_marked line.line up after.entry })
-marked_behind tables retold line up old new lines after leads there is own = record {
+    (tables retold : TableFile) (id : LineId) (up : Bool) (old new : List CustomerSpool) (lines : List CustomerLine) (after : Customer)
+    → Leads tables id.customer old new lines after → id.customer < length tables.customers → retold ≡ with_mark id up tables
+    → entry_of (customer_at (with_mark id up tables) id.customer) ≡ entry_marked id.number up (entry_of (customer_at tables id.customer))
+    → Brings tables retold id.customer old new lines (record after { entry = entry_marked id.number up after.entry })
+marked_behind tables retold id up old new lines after leads there is own = record {
   customer =
-      ap (λ entry. customer_with entry (spool_at line.customer new) lines) (ap (λ t. entry_of (customer_at t line.customer)) is ∙ own)
-      ∙ ap (λ (d : Customer). record d { entry = entry_marked line.line up d.entry }) leads.customer;
+      ap (λ entry. customer_with entry (spool_at id.customer new) lines) (ap (λ t. entry_of (customer_at t id.customer)) is ∙ own)
+      ∙ ap (λ (d : Customer). record d { entry = entry_marked id.number up d.entry }) leads.customer;
   others = leads.others;
-  entries = retold_marked tables retold line up there is;
+  entries = retold_marked tables retold id up there is;
 }
 
 -- The line table judged what came: the line's state, and its mark where it goes up.
 pub accepted_so :
-    (tables retold : TableFile) (line : LineId) (spools : List CustomerSpool) (old new : List CustomerLine) (came : Input) (was_up now_up up : Bool)
-    → line.line < length old → new ≡ on_line line.line (in_state (after_input came)) old
-    → was_up ≡ is_up (line_at line.line old).state.session.phase → now_up ≡ is_up (line_at line.line new).state.session.phase
-    → up ≡ (now_up && not was_up) → entry_of (customer_at retold line.customer) ≡ with_raised_line up line.line (entry_of (customer_at tables line.customer))
-    → customer_of retold line.customer spools new ≡ accepted_on line.line came (customer_of tables line.customer spools old)
-accepted_so tables retold line spools old new came was_up now_up up there lines was now goes entry =
-    let x = line_at line.line old in
-    let phase : is_up (line_at line.line new).state.session.phase ≡ is_up (after_input came x.state).session.phase =
-    ap (λ ls. is_up (line_at line.line ls).state.session.phase) lines
-    ∙ ap (λ y. is_up y.state.session.phase) (get_or-set_same old line.line (in_state (after_input came) x) no_customer_line there) in
-    ap (λ e. customer_with e (spool_at line.customer spools) new)
-    (entry ∙ ap (λ b. with_raised_line b line.line (entry_of (customer_at tables line.customer))) (goes ∙ ap₂ (λ n w. n && not w) (now ∙ phase) was))
-    ∙ ap (customer_with (with_raised_line (goes_up_by line.line came (customer_of tables line.customer spools old)) line.line (entry_of (customer_at tables line.customer))) (spool_at line.customer spools)) lines
+    (tables retold : TableFile) (id : LineId) (spools : List CustomerSpool) (old new : List CustomerLine) (came : Input) (was_up now_up up : Bool)
+    → id.number < length old → new ≡ on_line id.number (in_state (after_input came)) old
+    → was_up ≡ is_up (line_at id.number old).state.session.phase → now_up ≡ is_up (line_at id.number new).state.session.phase
+    → up ≡ (now_up && not was_up) → entry_of (customer_at retold id.customer) ≡ with_raised_line up id.number (entry_of (customer_at tables id.customer))
+    → customer_of retold id.customer spools new ≡ accepted_on id.number came (customer_of tables id.customer spools old)
+accepted_so tables retold id spools old new came was_up now_up up there lines was now goes entry =
+    let x = line_at id.number old in
+    let phase : is_up (line_at id.number new).state.session.phase ≡ is_up (after_input came x.state).session.phase =
+    ap (λ ls. is_up (line_at id.number ls).state.session.phase) lines
+    ∙ ap (λ y. is_up y.state.session.phase) (get_or-set_same old id.number (in_state (after_input came) x) no_customer_line there) in
+    ap (λ e. customer_with e (spool_at id.customer spools) new)
+    (entry ∙ ap (λ b. with_raised_line b id.number (entry_of (customer_at tables id.customer))) (goes ∙ ap₂ (λ n w. n && not w) (now ∙ phase) was))
+    ∙ ap (customer_with (with_raised_line (goes_up_by id.number came (customer_of tables id.customer spools old)) id.number (entry_of (customer_at tables id.customer))) (spool_at id.customer spools)) lines
 
 -- What comes but a good block: its verdict, and what that asks for.
 pub brought_by_verdict :
-    (tables accepted_tables retold : TableFile) (line : LineId) (old new : List CustomerSpool) (lines lines_accepted lines_new : List CustomerLine)
-    (came : Input) (v : Verdict) → v ≡ verdict_on line.line came (customer_of tables line.customer old lines)
-    → customer_of accepted_tables line.customer old lines_accepted ≡ accepted_on line.line came (customer_of tables line.customer old lines)
-    → IsRetold line.customer tables accepted_tables
-    → Brings accepted_tables retold line.customer old new lines_new (carried_out line.line v (customer_of accepted_tables line.customer old lines_accepted)).after
-    → Brings tables retold line.customer old new lines_new (after_line_input line.line came (customer_of tables line.customer old lines)).after
-brought_by_verdict tables accepted_tables retold line old new lines lines_accepted lines_new came v verdict accepted entries behind =
-    let l = line.line in
-    let c = customer_of tables line.customer old lines in
-    let d = customer_of accepted_tables line.customer old lines_accepted in
-    let all : Brings tables retold line.customer old new lines_new (carried_out l v d).after = record {
+    (tables accepted_tables retold : TableFile) (id : LineId) (old new : List CustomerSpool) (lines lines_accepted lines_new : List CustomerLine)
+    (came : Input) (v : Verdict) → v ≡ verdict_on id.number came (customer_of tables id.customer old lines)
+    → customer_of accepted_tables id.customer old lines_accepted ≡ accepted_on id.number came (customer_of tables id.customer old lines)
+    → IsRetold id.customer tables accepted_tables
+    → Brings accepted_tables retold id.customer old new lines_new (carried_out id.number v (customer_of accepted_tables id.customer old lines_accepted)).after
+    → Brings tables retold id.customer old new lines_new (after_line_input id.number came (customer_of tables id.customer old lines)).after
+brought_by_verdict tables accepted_tables retold id old new lines lines_accepted lines_new came v verdict accepted entries behind =
+    let l = id.number in
+    let c = customer_of tables id.customer old lines in
+    let d = customer_of accepted_tables id.customer old lines_accepted in
+    let all : Brings tables retold id.customer old new lines_new (carried_out l v d).after = record {
       customer = behind.customer;
       others = behind.others;
-      entries = retold_twice tables accepted_tables retold line.customer entries behind.entries;
+      entries = retold_twice tables accepted_tables retold id.customer entries behind.entries;
     } in
-    subst (λ w. Brings tables retold line.customer old new lines_new (carried_out l w (accepted_on l came c)).after) verdict
-    (subst (λ x. Brings tables retold line.customer old new lines_new (carried_out l v x).after) accepted all)
+    subst (λ w. Brings tables retold id.customer old new lines_new (carried_out l w (accepted_on l came c)).after) verdict
+    (subst (λ x. Brings tables retold id.customer old new lines_new (carried_out l v x).after) accepted all)
 
 -- a line that is there takes a step
 pub there_steps : (l : ℕ) (s : Step) (c : Customer) → l < length c.lines → where_there l s c ≡ s
@@ -193,28 +193,28 @@ there_steps l s c there = by (nat_lt l (length c.lines)) refl
 
 -- A good block: its verdict, its records, and what is behind them, where these ended the session or didn't.
 pub brought_by_block :
-    (ended : Bool) (tables accepted_tables retold : TableFile) (line : LineId) (old now new : List CustomerSpool)
+    (ended : Bool) (tables accepted_tables retold : TableFile) (id : LineId) (old now new : List CustomerSpool)
     (lines lines_accepted lines_now lines_new : List CustomerLine) (b : Block) (v : Verdict)
-    → v ≡ verdict_on line.line (block_input b) (customer_of tables line.customer old lines)
-    → customer_of accepted_tables line.customer old lines_accepted ≡ accepted_on line.line (block_input b) (customer_of tables line.customer old lines)
-    → IsRetold line.customer tables accepted_tables
-    → ended ≡ (acted_where v.acts line.line b.items (customer_of accepted_tables line.customer old lines_accepted)).ended
-    → Leads accepted_tables line.customer old now lines_now (acted_where v.acts line.line b.items (customer_of accepted_tables line.customer old lines_accepted)).customer
-    → Brings accepted_tables retold line.customer now new lines_new (behind_records ended line.line v (customer_of accepted_tables line.customer now lines_now)).after
-    → Brings tables retold line.customer old new lines_new (after_block line.line b (customer_of tables line.customer old lines)).after
-brought_by_block ended tables accepted_tables retold line old now new lines lines_accepted lines_now lines_new b v verdict accepted entries is_ended acted behind =
-    let l = line.line in
-    let c = customer_of tables line.customer old lines in
-    let d = customer_of accepted_tables line.customer old lines_accepted in
+    → v ≡ verdict_on id.number (block_input b) (customer_of tables id.customer old lines)
+    → customer_of accepted_tables id.customer old lines_accepted ≡ accepted_on id.number (block_input b) (customer_of tables id.customer old lines)
+    → IsRetold id.customer tables accepted_tables
+    → ended ≡ (acted_where v.acts id.number b.items (customer_of accepted_tables id.customer old lines_accepted)).ended
+    → Leads accepted_tables id.customer old now lines_now (acted_where v.acts id.number b.items (customer_of accepted_tables id.customer old lines_accepted)).customer
+    → Brings accepted_tables retold id.customer now new lines_new (behind_records ended id.number v (customer_of accepted_tables id.customer now lines_now)).after
+    → Brings tables retold id.customer old new lines_new (after_block id.number b (customer_of tables id.customer old lines)).after
+brought_by_block ended tables accepted_tables retold id old now new lines lines_accepted lines_now lines_new b v verdict accepted entries is_ended acted behind =
+    let l = id.number in
+    let c = customer_of tables id.customer old lines in
+    let d = customer_of accepted_tables id.customer old lines_accepted in
     let a = acted_where v.acts l b.items d in
-    let led = brought_on accepted_tables accepted_tables retold line.customer old now new lines_now lines_new a.customer (λ x. (behind_records ended l v x).after)
-    (as_brings accepted_tables line.customer old now lines_now a.customer acted) behind in
-    let all : Brings tables retold line.customer old new lines_new (behind_records ended l v a.customer).after = record {
+    let led = brought_on accepted_tables accepted_tables retold id.customer old now new lines_now lines_new a.customer (λ x. (behind_records ended l v x).after)
+    (as_brings accepted_tables id.customer old now lines_now a.customer acted) behind in
+    let all : Brings tables retold id.customer old new lines_new (behind_records ended l v a.customer).after = record {
       customer = led.customer;
       others = led.others;
-      entries = retold_twice tables accepted_tables retold line.customer entries led.entries;
+      entries = retold_twice tables accepted_tables retold id.customer entries led.entries;
     } in
-    subst (λ x. Brings tables retold line.customer old new lines_new (behind_records (acted_where x.acts l b.items (accepted_on l (block_input b) c)).ended l x
+    subst (λ x. Brings tables retold id.customer old new lines_new (behind_records (acted_where x.acts l b.items (accepted_on l (block_input b) c)).ended l x
     (acted_where x.acts l b.items (accepted_on l (block_input b) c)).customer).after) verdict
-    (subst (λ x. Brings tables retold line.customer old new lines_new (behind_records (acted_where v.acts l b.items x).ended l v (acted_where v.acts l b.items x).customer).after)
-    accepted (subst (λ e. Brings tables retold line.customer old new lines_new (behind_records e l v a.customer).after) is_ended all))
+    (subst (λ x. Brings tables retold id.customer old new lines_new (behind_records (acted_where v.acts l b.items x).ended l v (acted_where v.acts l b.items x).customer).after)
+    accepted (subst (λ e. Brings tables retold id.customer old new lines_new (behind_records e l v a.customer).after) is_ended all))

@@ -31,8 +31,8 @@ pub record Brings (tables retold : TableFile) (c : ℕ) (old new : List Customer
   pub entries : IsRetold c tables retold
 
 -- A line of a customer that is there, and whose customer is coherent.
-pub record IsReady (tables : TableFile) (line : LineId) (spools : List CustomerSpool) (lines : List CustomerLine) : Type 0 where
-  pub known : line.customer < length tables.customers
-  pub spooled : line.customer < length spools
-  pub there : line.line < length lines
-  pub coherent : IsCoherent (customer_of tables line.customer spools lines)
+pub record IsReady (tables : TableFile) (id : LineId) (spools : List CustomerSpool) (lines : List CustomerLine) : Type 0 where
+  pub known : id.customer < length tables.customers
+  pub spooled : id.customer < length spools
+  pub there : id.number < length lines
+  pub coherent : IsCoherent (customer_of tables id.customer spools lines)

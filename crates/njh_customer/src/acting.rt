@@ -27,42 +27,42 @@ use njh_table::{Customer, LineId, Route, Tables};
 
 /// An arrival on a stream of a line.
 fn arrive(
-    line: LineId,
+    id: LineId,
     stream: Stream,
     arrival: Arrival<'_>,
     tables: &Tables,
     spool: &mut Spool,
     lines: &mut CustomerLines,
 )
-    requires ready { IsReady tables.now line spool.old lines.old }
+    requires ready { IsReady tables.now id spool.old lines.old }
     requires short { IsShort (arrival_of arrival) }
-    ensures { Leads tables.now line.customer spool.old spool.new lines.new
-        (acting.after_stream_arrival line.line stream (arrival_of arrival.entry) (customer_of tables.now line.customer spool.old lines.old)) }
+    ensures { Leads tables.now id.customer spool.old spool.new lines.new
+        (acting.after_stream_arrival id.number stream (arrival_of arrival.entry) (customer_of tables.now id.customer spool.old lines.old)) }
 {
-    let mut receiver = lines.line(line.line).receiver(stream);
-    let step = receiver.step(arrival, stream, line, tables, spool);
-    lines.set_receiver(line.line, stream, receiver);
-    lines.push_answer(line.line, step.answer);
-    lines.notify(tables.customer(line.customer), &step.notice);
-    lines.note(line.line, stream, receiver, step.notice);
+    let mut receiver = lines.line(id.number).receiver(stream);
+    let step = receiver.step(arrival, stream, id, tables, spool);
+    lines.set_receiver(id.number, stream, receiver);
+    lines.push_answer(id.number, step.answer);
+    lines.notify(tables.customer(id.customer), &step.notice);
+    lines.note(id.number, stream, receiver, step.notice);
 }
 
 /// An arrival on a stream, where the RCB names one of the line.
 fn arrive_where(
-    line: LineId,
+    id: LineId,
     stream: Option<Stream>,
     arrival: Arrival<'_>,
     tables: &Tables,
     spool: &mut Spool,
     lines: &mut CustomerLines,
 )
-    requires ready { IsReady tables.now line spool.old lines.old }
+    requires ready { IsReady tables.now id spool.old lines.old }
     requires short { IsShort (arrival_of arrival) }
-    ensures { Leads tables.now line.customer spool.old spool.new lines.new
-        (acting.after_stream_record line.line stream (arrival_of arrival.entry) (customer_of tables.now line.customer spool.old lines.old)) }
+    ensures { Leads tables.now id.customer spool.old spool.new lines.new
+        (acting.after_stream_record id.number stream (arrival_of arrival.entry) (customer_of tables.now id.customer spool.old lines.old)) }
 {
     if let Some(stream) = stream {
-        arrive(line, stream, arrival, tables, spool, lines);
+        arrive(id, stream, arrival, tables, spool, lines);
     }
 }
 
@@ -76,30 +76,30 @@ fn stream_at(line: u16, rcb: Rcb, lines: &CustomerLines) -> Option<Stream>
 
 /// The peer's answer to a stream from the hub: permission, refusal, completion, or what isn't one.
 fn take_answer(
-    line: LineId,
+    id: LineId,
     rcb: ControlRcb,
     stream: Stream,
     tables: &Tables,
     spool: &mut Spool,
     lines: &mut CustomerLines,
 )
-    requires ready { IsReady tables.now line spool.old lines.old }
-    ensures { Leads tables.now line.customer spool.old spool.new lines.new
-        (acting.after_peer_answer line.line (control_byte rcb) stream (customer_of tables.now line.customer spool.old lines.old)) }
+    requires ready { IsReady tables.now id spool.old lines.old }
+    ensures { Leads tables.now id.customer spool.old spool.new lines.new
+        (acting.after_peer_answer id.number (control_byte rcb) stream (customer_of tables.now id.customer spool.old lines.old)) }
 {
-    let mut sender = lines.line(line.line).sender(stream);
+    let mut sender = lines.line(id.number).sender(stream);
     match rcb {
         ControlRcb::Permission => {
             sender.granted();
-            lines.set_sender(line.line, stream, sender);
+            lines.set_sender(id.number, stream, sender);
         }
         ControlRcb::Refusal => {
-            sender.refused(line.customer, spool);
-            lines.set_sender(line.line, stream, sender);
+            sender.refused(id.customer, spool);
+            lines.set_sender(id.number, stream, sender);
         }
         ControlRcb::Completion => {
-            sender.completed(line.customer, spool);
-            lines.set_sender(line.line, stream, sender);
+            sender.completed(id.customer, spool);
+            lines.set_sender(id.number, stream, sender);
         }
         ControlRcb::Request | ControlRcb::Ready | ControlRcb::SequenceError => {}
     }
@@ -107,27 +107,27 @@ fn take_answer(
 
 /// A control record that the peer sends: a request, or the answer to one of the hub's.
 fn take_control(
-    line: LineId,
+    id: LineId,
     rcb: ControlRcb,
     named: Rcb,
     tables: &Tables,
     spool: &mut Spool,
     lines: &mut CustomerLines,
 )
-    requires ready { IsReady tables.now line spool.old lines.old }
-    ensures { Leads tables.now line.customer spool.old spool.new lines.new
-        (acting.after_control_record line.line (control_byte rcb) named.byte (customer_of tables.now line.customer spool.old lines.old)) }
+    requires ready { IsReady tables.now id spool.old lines.old }
+    ensures { Leads tables.now id.customer spool.old spool.new lines.new
+        (acting.after_control_record id.number (control_byte rcb) named.byte (customer_of tables.now id.customer spool.old lines.old)) }
 {
-    let stream = stream_at(line.line, named, lines);
+    let stream = stream_at(id.number, named, lines);
     match rcb {
-        ControlRcb::Request => take_request(line, named, stream, tables, spool, lines),
+        ControlRcb::Request => take_request(id, named, stream, tables, spool, lines),
         ControlRcb::Permission
         | ControlRcb::Refusal
         | ControlRcb::Completion
         | ControlRcb::Ready
         | ControlRcb::SequenceError => {
             if let Some(stream) = stream {
-                take_answer(line, rcb, stream, tables, spool, lines);
+                take_answer(id, rcb, stream, tables, spool, lines);
             }
         }
     }
@@ -135,20 +135,20 @@ fn take_control(
 
 /// A request; one for a stream that the line doesn't have is refused.
 fn take_request(
-    line: LineId,
+    id: LineId,
     named: Rcb,
     stream: Option<Stream>,
     tables: &Tables,
     spool: &mut Spool,
     lines: &mut CustomerLines,
 )
-    requires ready { IsReady tables.now line spool.old lines.old }
-    ensures { Leads tables.now line.customer spool.old spool.new lines.new
-        (acting.after_stream_request line.line named.byte stream (customer_of tables.now line.customer spool.old lines.old)) }
+    requires ready { IsReady tables.now id spool.old lines.old }
+    ensures { Leads tables.now id.customer spool.old spool.new lines.new
+        (acting.after_stream_request id.number named.byte stream (customer_of tables.now id.customer spool.old lines.old)) }
 {
     match stream {
-        Some(stream) => arrive(line, stream, Arrival::Request, tables, spool, lines),
-        None => lines.push_answer(line.line, refusal_of(named)),
+        Some(stream) => arrive(id, stream, Arrival::Request, tables, spool, lines),
+        None => lines.push_answer(id.number, refusal_of(named)),
     }
 }
 
@@ -167,21 +167,21 @@ fn refusal_of(named: Rcb) -> Option<Answer>
 
 /// A nodal message: it is for the hub, goes on to another line, or has a node that nobody has.
 fn take_message(
-    line: LineId,
+    id: LineId,
     bytes: &[u8],
     tables: &Tables,
     spool: &mut Spool,
     lines: &mut CustomerLines,
     replies: &mut Replies,
 )
-    requires ready { IsReady tables.now line spool.old lines.old }
-    ensures { Leads tables.now line.customer spool.old spool.new lines.new
-        (acting.after_message line.line bytes.now (customer_of tables.now line.customer spool.old lines.old)) }
+    requires ready { IsReady tables.now id spool.old lines.old }
+    ensures { Leads tables.now id.customer spool.old spool.new lines.new
+        (acting.after_message id.number bytes.now (customer_of tables.now id.customer spool.old lines.old)) }
 {
     match Nmr::read(bytes) {
         Ok(message) => {
-            let route = tables.route(line.customer, message.to());
-            route_message(line, &message, route, tables, spool, lines, replies);
+            let route = tables.route(id.customer, message.to());
+            route_message(id, &message, route, tables, spool, lines, replies);
         }
         Err(_) => {}
     }
@@ -189,7 +189,7 @@ fn take_message(
 
 /// A nodal message by the route of its node.
 fn route_message(
-    line: LineId,
+    id: LineId,
     message: &Nmr,
     route: Route,
     tables: &Tables,
@@ -197,25 +197,25 @@ fn route_message(
     lines: &mut CustomerLines,
     replies: &mut Replies,
 )
-    requires ready { IsReady tables.now line spool.old lines.old }
+    requires ready { IsReady tables.now id spool.old lines.old }
     ensures { (bytes : List ℕ) → record_of message.now ≡ cut_after_message bytes →
-        Leads tables.now line.customer spool.old spool.new lines.new
-        (acting.message_routed line.line message.now bytes route (customer_of tables.now line.customer spool.old lines.old)) }
+        Leads tables.now id.customer spool.old spool.new lines.new
+        (acting.message_routed id.number message.now bytes route (customer_of tables.now id.customer spool.old lines.old)) }
 {
     match route {
         Route::Here => {
             if message.is_user_command() {
-                command(line.customer, message, tables, spool, lines, replies);
+                command(id.customer, message, tables, spool, lines, replies);
             }
         }
         Route::Line(other) => {
-            if other != line.line {
+            if other != id.number {
                 pass_on(other, message, lines);
             }
         }
         Route::Unknown => {
             if message.is_user_command() {
-                tell_unknown(tables.customer(line.customer), message, lines);
+                tell_unknown(tables.customer(id.customer), message, lines);
             }
         }
     }
@@ -270,7 +270,7 @@ fn command(
 
 /// A record that ends no session acts.
 fn act(
-    line: LineId,
+    id: LineId,
     item: Item<'_>,
     bytes: &[u8],
     tables: &Tables,
@@ -278,19 +278,19 @@ fn act(
     lines: &mut CustomerLines,
     replies: &mut Replies,
 )
-    requires ready { IsReady tables.now line spool.old lines.old }
+    requires ready { IsReady tables.now id spool.old lines.old }
     requires short { length bytes.now ≤ 256 }
-    ensures { Leads tables.now line.customer spool.old spool.new lines.new
-        (acting.after_record line.line (given_item bytes.now item.entry) (customer_of tables.now line.customer spool.old lines.old)) }
+    ensures { Leads tables.now id.customer spool.old spool.new lines.new
+        (acting.after_record id.number (given_item bytes.now item.entry) (customer_of tables.now id.customer spool.old lines.old)) }
 {
     match item {
         Item::Data { rcb, srcb } => {
             if rcb == Rcb::MESSAGE {
-                take_message(line, bytes, tables, spool, lines, replies);
+                take_message(id, bytes, tables, spool, lines, replies);
             } else {
-                let stream = stream_at(line.line, rcb, lines);
+                let stream = stream_at(id.number, rcb, lines);
                 arrive_where(
-                    line,
+                    id,
                     stream,
                     Arrival::Record { srcb, bytes },
                     tables,
@@ -300,15 +300,15 @@ fn act(
             }
         }
         Item::Abort { rcb, .. } => {
-            let stream = stream_at(line.line, rcb, lines);
-            arrive_where(line, stream, Arrival::Abort, tables, spool, lines);
+            let stream = stream_at(id.number, rcb, lines);
+            arrive_where(id, stream, Arrival::Abort, tables, spool, lines);
         }
         Item::Long { rcb, .. } => {
-            let stream = stream_at(line.line, rcb, lines);
-            arrive_where(line, stream, Arrival::TooLong, tables, spool, lines);
+            let stream = stream_at(id.number, rcb, lines);
+            arrive_where(id, stream, Arrival::TooLong, tables, spool, lines);
         }
         Item::Control { rcb, srcb } => {
-            take_control(line, rcb, Rcb { byte: srcb }, tables, spool, lines);
+            take_control(id, rcb, Rcb { byte: srcb }, tables, spool, lines);
         }
         Item::General { .. } => {}
     }
@@ -328,7 +328,7 @@ fn ends_session(item: &Item<'_>) -> bool
 
 /// One record acts, and its line is ready for the next.
 fn act_one(
-    line: LineId,
+    id: LineId,
     item: Item<'_>,
     bytes: &[u8],
     tables: &Tables,
@@ -336,31 +336,31 @@ fn act_one(
     lines: &mut CustomerLines,
     replies: &mut Replies,
 )
-    requires ready { IsReady tables.now line spool.old lines.old }
+    requires ready { IsReady tables.now id spool.old lines.old }
     requires short { length bytes.now ≤ 256 }
-    ensures after { Leads tables.now line.customer spool.old spool.new lines.new
-        (acting.after_record line.line (given_item bytes.now item.entry) (customer_of tables.now line.customer spool.old lines.old)) }
-    ensures ready { IsReady tables.now line spool.new lines.new }
+    ensures after { Leads tables.now id.customer spool.old spool.new lines.new
+        (acting.after_record id.number (given_item bytes.now item.entry) (customer_of tables.now id.customer spool.old lines.old)) }
+    ensures ready { IsReady tables.now id spool.new lines.new }
 {
     streams_stay_tied();
-    act(line, item, bytes, tables, spool, lines, replies);
+    act(id, item, bytes, tables, spool, lines, replies);
 }
 
 /// The records of a block act in their order, up to one that ends the session. Says whether one did.
 pub(crate) fn all_act(
-    line: LineId,
+    id: LineId,
     block: Block<'_>,
     tables: &Tables,
     spool: &mut Spool,
     lines: &mut CustomerLines,
     replies: &mut Replies,
 ) -> bool
-    requires ready { IsReady tables.now line spool.old lines.old }
+    requires ready { IsReady tables.now id spool.old lines.old }
     ensures ended { result
-        ≡ (acting.all_acted line.line block.entry.items (customer_of tables.now line.customer spool.old lines.old)).ended }
-    ensures after { Leads tables.now line.customer spool.old spool.new lines.new
-        (acting.all_acted line.line block.entry.items (customer_of tables.now line.customer spool.old lines.old)).customer }
-    ensures ready { IsReady tables.now line spool.new lines.new }
+        ≡ (acting.all_acted id.number block.entry.items (customer_of tables.now id.customer spool.old lines.old)).ended }
+    ensures after { Leads tables.now id.customer spool.old spool.new lines.new
+        (acting.all_acted id.number block.entry.items (customer_of tables.now id.customer spool.old lines.old)).customer }
+    ensures ready { IsReady tables.now id spool.new lines.new }
 {
     let mut block = block;
     let mut record = Record::new();
@@ -368,7 +368,7 @@ pub(crate) fn all_act(
         if ends_session(&item) {
             return true;
         }
-        act_one(line, item, &record, tables, spool, lines, replies);
+        act_one(id, item, &record, tables, spool, lines, replies);
     }
     false
 }

@@ -25,7 +25,7 @@ use njh_table::{LineId, Tables, marks_change_one_entry};
 
 /// A frame comes on a line, where one is whole. The line is ready for more.
 pub(crate) fn take_frame(
-    line: LineId,
+    id: LineId,
     frame: Option<Frame<'_>>,
     tables: &mut Tables,
     spool: &mut Spool,
@@ -34,21 +34,21 @@ pub(crate) fn take_frame(
     replies: &mut Replies,
     out: &mut FrameBuffer,
 )
-    requires ready { IsReady tables.old line spool.old lines.old }
-    ensures after { Brings tables.old tables.new line.customer spool.old spool.new lines.new
-        (acted_on line.line (option_map received_of frame.entry) (customer_of tables.old line.customer spool.old lines.old)).after }
+    requires ready { IsReady tables.old id spool.old lines.old }
+    ensures after { Brings tables.old tables.new id.customer spool.old spool.new lines.new
+        (acted_on id.number (option_map received_of frame.entry) (customer_of tables.old id.customer spool.old lines.old)).after }
     ensures frame { out.new
-        ≡ (acted_on line.line (option_map received_of frame.entry) (customer_of tables.old line.customer spool.old lines.old)).frame }
-    ensures ready { IsReady tables.new line spool.new lines.new }
+        ≡ (acted_on id.number (option_map received_of frame.entry) (customer_of tables.old id.customer spool.old lines.old)).frame }
+    ensures ready { IsReady tables.new id spool.new lines.new }
     ensures count { length lines.new ≡ length lines.old }
 {
     streams_stay_tied();
-    frame_came(line, frame, tables, spool, lines, block, replies, out);
+    frame_came(id, frame, tables, spool, lines, block, replies, out);
 }
 
 /// A signal comes on a line. The line is ready for more.
 pub(crate) fn take_signal(
-    line: LineId,
+    id: LineId,
     signal: Signal,
     tables: &mut Tables,
     spool: &mut Spool,
@@ -56,22 +56,22 @@ pub(crate) fn take_signal(
     block: &mut BlockWriter,
     out: &mut FrameBuffer,
 )
-    requires ready { IsReady tables.old line spool.old lines.old }
-    ensures after { Brings tables.old tables.new line.customer spool.old spool.new lines.new
-        (alone.after_signal line.line signal (customer_of tables.old line.customer spool.old lines.old)).after }
+    requires ready { IsReady tables.old id spool.old lines.old }
+    ensures after { Brings tables.old tables.new id.customer spool.old spool.new lines.new
+        (alone.after_signal id.number signal (customer_of tables.old id.customer spool.old lines.old)).after }
     ensures frame { out.new
-        ≡ (alone.after_signal line.line signal (customer_of tables.old line.customer spool.old lines.old)).frame }
-    ensures ready { IsReady tables.new line spool.new lines.new }
+        ≡ (alone.after_signal id.number signal (customer_of tables.old id.customer spool.old lines.old)).frame }
+    ensures ready { IsReady tables.new id spool.new lines.new }
     ensures count { length lines.new ≡ length lines.old }
 {
     streams_stay_tied();
-    signal_came(line, signal, tables, spool, lines, block, out);
+    signal_came(id, signal, tables, spool, lines, block, out);
 }
 
 /// A frame comes on a line, where one is whole.
 #[tactic(auto, unfolding(crate::specs::Alone::after_frame))]
 fn frame_came(
-    line: LineId,
+    id: LineId,
     frame: Option<Frame<'_>>,
     tables: &mut Tables,
     spool: &mut Spool,
@@ -80,22 +80,22 @@ fn frame_came(
     replies: &mut Replies,
     out: &mut FrameBuffer,
 )
-    requires ready { IsReady tables.old line spool.old lines.old }
-    ensures after { Brings tables.old tables.new line.customer spool.old spool.new lines.new
-        (acted_on line.line (option_map received_of frame.entry) (customer_of tables.old line.customer spool.old lines.old)).after }
+    requires ready { IsReady tables.old id spool.old lines.old }
+    ensures after { Brings tables.old tables.new id.customer spool.old spool.new lines.new
+        (acted_on id.number (option_map received_of frame.entry) (customer_of tables.old id.customer spool.old lines.old)).after }
     ensures frame { out.new
-        ≡ (acted_on line.line (option_map received_of frame.entry) (customer_of tables.old line.customer spool.old lines.old)).frame }
+        ≡ (acted_on id.number (option_map received_of frame.entry) (customer_of tables.old id.customer spool.old lines.old)).frame }
 {
     match frame {
         None => out.clear(),
-        Some(Frame::Enquiry) => input_came(line, &Input::Enquiry, tables, spool, lines, block, out),
-        Some(Frame::Ack0) => input_came(line, &Input::Ack0, tables, spool, lines, block, out),
-        Some(Frame::Nak) => input_came(line, &Input::Nak, tables, spool, lines, block, out),
-        Some(Frame::Eot) => input_came(line, &Input::Eot, tables, spool, lines, block, out),
-        Some(Frame::Spoiled) => input_came(line, &Input::Spoiled, tables, spool, lines, block, out),
+        Some(Frame::Enquiry) => input_came(id, &Input::Enquiry, tables, spool, lines, block, out),
+        Some(Frame::Ack0) => input_came(id, &Input::Ack0, tables, spool, lines, block, out),
+        Some(Frame::Nak) => input_came(id, &Input::Nak, tables, spool, lines, block, out),
+        Some(Frame::Eot) => input_came(id, &Input::Eot, tables, spool, lines, block, out),
+        Some(Frame::Spoiled) => input_came(id, &Input::Spoiled, tables, spool, lines, block, out),
         Some(Frame::Text(text)) => match Block::read(text) {
-            Ok(read) => block_came(line, read, tables, spool, lines, block, replies, out),
-            Err(_) => input_came(line, &Input::Bad, tables, spool, lines, block, out),
+            Ok(read) => block_came(id, read, tables, spool, lines, block, replies, out),
+            Err(_) => input_came(id, &Input::Bad, tables, spool, lines, block, out),
         },
     }
 }
@@ -103,7 +103,7 @@ fn frame_came(
 /// A signal comes on a line.
 #[tactic(auto, unfolding(crate::specs::Alone::after_signal))]
 fn signal_came(
-    line: LineId,
+    id: LineId,
     signal: Signal,
     tables: &mut Tables,
     spool: &mut Spool,
@@ -111,43 +111,43 @@ fn signal_came(
     block: &mut BlockWriter,
     out: &mut FrameBuffer,
 )
-    requires ready { IsReady tables.old line spool.old lines.old }
-    ensures after { Brings tables.old tables.new line.customer spool.old spool.new lines.new
-        (alone.after_signal line.line signal (customer_of tables.old line.customer spool.old lines.old)).after }
+    requires ready { IsReady tables.old id spool.old lines.old }
+    ensures after { Brings tables.old tables.new id.customer spool.old spool.new lines.new
+        (alone.after_signal id.number signal (customer_of tables.old id.customer spool.old lines.old)).after }
     ensures frame { out.new
-        ≡ (alone.after_signal line.line signal (customer_of tables.old line.customer spool.old lines.old)).frame }
+        ≡ (alone.after_signal id.number signal (customer_of tables.old id.customer spool.old lines.old)).frame }
 {
-    let verdict = accept_signal(line, signal, tables, spool, lines);
-    carry_out(line, verdict, tables, spool, lines, block, out);
+    let verdict = accept_signal(id, signal, tables, spool, lines);
+    carry_out(id, verdict, tables, spool, lines, block, out);
 }
 
 /// The line table judges a signal. A line that goes up by it counts as up from then on.
 fn accept_signal(
-    line: LineId,
+    id: LineId,
     signal: Signal,
     tables: &mut Tables,
     spool: &Spool,
     lines: &mut CustomerLines,
 ) -> Verdict
-    requires ready { IsReady tables.old line spool.now lines.old }
+    requires ready { IsReady tables.old id spool.now lines.old }
     ensures verdict { result
-        ≡ alone.verdict_on line.line (alone.signal_input signal) (customer_of tables.old line.customer spool.now lines.old) }
-    ensures after { customer_of tables.new line.customer spool.now lines.new
-        ≡ alone.accepted_on line.line (alone.signal_input signal) (customer_of tables.old line.customer spool.now lines.old) }
-    ensures entries { IsRetold line.customer tables.old tables.new }
-    ensures ready { IsReady tables.new line spool.now lines.new }
+        ≡ alone.verdict_on id.number (alone.signal_input signal) (customer_of tables.old id.customer spool.now lines.old) }
+    ensures after { customer_of tables.new id.customer spool.now lines.new
+        ≡ alone.accepted_on id.number (alone.signal_input signal) (customer_of tables.old id.customer spool.now lines.old) }
+    ensures entries { IsRetold id.customer tables.old tables.new }
+    ensures ready { IsReady tables.new id spool.now lines.new }
 {
     streams_stay_tied();
-    let was_up = lines.is_up(line.line);
-    let verdict = lines.accept_signal(line.line, signal);
-    let is_up = lines.is_up(line.line);
-    raise(line, goes_up(was_up, is_up), tables);
+    let was_up = lines.is_up(id.number);
+    let verdict = lines.accept_signal(id.number, signal);
+    let is_up = lines.is_up(id.number);
+    raise(id, goes_up(was_up, is_up), tables);
     verdict
 }
 
 /// What comes to a line but a good block.
 fn input_came(
-    line: LineId,
+    id: LineId,
     input: &Input<'_>,
     tables: &mut Tables,
     spool: &mut Spool,
@@ -155,36 +155,36 @@ fn input_came(
     block: &mut BlockWriter,
     out: &mut FrameBuffer,
 )
-    requires ready { IsReady tables.old line spool.old lines.old }
-    ensures after { Brings tables.old tables.new line.customer spool.old spool.new lines.new
-        (alone.after_line_input line.line (input_value input.now) (customer_of tables.old line.customer spool.old lines.old)).after }
+    requires ready { IsReady tables.old id spool.old lines.old }
+    ensures after { Brings tables.old tables.new id.customer spool.old spool.new lines.new
+        (alone.after_line_input id.number (input_value input.now) (customer_of tables.old id.customer spool.old lines.old)).after }
     ensures frame { out.new
-        ≡ (alone.after_line_input line.line (input_value input.now) (customer_of tables.old line.customer spool.old lines.old)).frame }
+        ≡ (alone.after_line_input id.number (input_value input.now) (customer_of tables.old id.customer spool.old lines.old)).frame }
 {
-    let verdict = accept(line, input, tables, spool, lines);
-    carry_out(line, verdict, tables, spool, lines, block, out);
+    let verdict = accept(id, input, tables, spool, lines);
+    carry_out(id, verdict, tables, spool, lines, block, out);
 }
 
 /// The line table judges what comes to a line. A line that goes up by it counts as up from then on.
 fn accept(
-    line: LineId,
+    id: LineId,
     input: &Input<'_>,
     tables: &mut Tables,
     spool: &Spool,
     lines: &mut CustomerLines,
 ) -> Verdict
-    requires ready { IsReady tables.old line spool.now lines.old }
-    ensures verdict { result ≡ alone.verdict_on line.line (input_value input.now) (customer_of tables.old line.customer spool.now lines.old) }
-    ensures after { customer_of tables.new line.customer spool.now lines.new
-        ≡ alone.accepted_on line.line (input_value input.now) (customer_of tables.old line.customer spool.now lines.old) }
-    ensures entries { IsRetold line.customer tables.old tables.new }
-    ensures ready { IsReady tables.new line spool.now lines.new }
+    requires ready { IsReady tables.old id spool.now lines.old }
+    ensures verdict { result ≡ alone.verdict_on id.number (input_value input.now) (customer_of tables.old id.customer spool.now lines.old) }
+    ensures after { customer_of tables.new id.customer spool.now lines.new
+        ≡ alone.accepted_on id.number (input_value input.now) (customer_of tables.old id.customer spool.now lines.old) }
+    ensures entries { IsRetold id.customer tables.old tables.new }
+    ensures ready { IsReady tables.new id spool.now lines.new }
 {
     streams_stay_tied();
-    let was_up = lines.is_up(line.line);
-    let verdict = lines.accept(line.line, input);
-    let is_up = lines.is_up(line.line);
-    raise(line, goes_up(was_up, is_up), tables);
+    let was_up = lines.is_up(id.number);
+    let verdict = lines.accept(id.number, input);
+    let is_up = lines.is_up(id.number);
+    raise(id, goes_up(was_up, is_up), tables);
     verdict
 }
 
@@ -196,22 +196,22 @@ fn goes_up(was_up: bool, is_up: bool) -> bool
 }
 
 /// Marks a line that goes up.
-fn raise(line: LineId, goes_up: bool, tables: &mut Tables)
-    requires known { line.customer < length tables.old.customers }
-    requires line { HasLine tables.old line }
-    ensures entry { entry_of (customer_at tables.new line.customer)
-        ≡ alone.with_raised_line goes_up line.line (entry_of (customer_at tables.old line.customer)) }
-    ensures entries { IsRetold line.customer tables.old tables.new }
+fn raise(id: LineId, goes_up: bool, tables: &mut Tables)
+    requires known { id.customer < length tables.old.customers }
+    requires line { HasLine tables.old id }
+    ensures entry { entry_of (customer_at tables.new id.customer)
+        ≡ alone.with_raised_line goes_up id.number (entry_of (customer_at tables.old id.customer)) }
+    ensures entries { IsRetold id.customer tables.old tables.new }
 {
     marks_change_one_entry();
     if goes_up {
-        tables.set_up(line, true);
+        tables.set_up(id, true);
     }
 }
 
 /// A good block comes on a line: its records act where the line table says so, and then it is answered.
 fn block_came(
-    line: LineId,
+    id: LineId,
     read: Block<'_>,
     tables: &mut Tables,
     spool: &mut Spool,
@@ -220,45 +220,45 @@ fn block_came(
     replies: &mut Replies,
     out: &mut FrameBuffer,
 )
-    requires ready { IsReady tables.old line spool.old lines.old }
-    ensures after { Brings tables.old tables.new line.customer spool.old spool.new lines.new
-        (alone.after_block line.line read.entry (customer_of tables.old line.customer spool.old lines.old)).after }
+    requires ready { IsReady tables.old id spool.old lines.old }
+    ensures after { Brings tables.old tables.new id.customer spool.old spool.new lines.new
+        (alone.after_block id.number read.entry (customer_of tables.old id.customer spool.old lines.old)).after }
     ensures frame { out.new
-        ≡ (alone.after_block line.line read.entry (customer_of tables.old line.customer spool.old lines.old)).frame }
+        ≡ (alone.after_block id.number read.entry (customer_of tables.old id.customer spool.old lines.old)).frame }
 {
     let input = Input::Block {
         bcb: read.bcb(),
         fcs: read.fcs(),
         first: read.first_general(),
     };
-    let verdict = accept(line, &input, tables, spool, lines);
-    if act_where(verdict.acts, line, read, tables, spool, lines, replies) {
-        end_session(line, tables, spool, lines);
+    let verdict = accept(id, &input, tables, spool, lines);
+    if act_where(verdict.acts, id, read, tables, spool, lines, replies) {
+        end_session(id, tables, spool, lines);
         out.clear();
     } else {
-        carry_out(line, verdict, tables, spool, lines, block, out);
+        carry_out(id, verdict, tables, spool, lines, block, out);
     }
 }
 
 /// The records of a block act where they may. Says whether one ended the session.
 fn act_where(
     acts: bool,
-    line: LineId,
+    id: LineId,
     read: Block<'_>,
     tables: &Tables,
     spool: &mut Spool,
     lines: &mut CustomerLines,
     replies: &mut Replies,
 ) -> bool
-    requires ready { IsReady tables.now line spool.old lines.old }
+    requires ready { IsReady tables.now id spool.old lines.old }
     ensures ended { result
-        ≡ (acted_where acts line.line read.entry.items (customer_of tables.now line.customer spool.old lines.old)).ended }
-    ensures after { Leads tables.now line.customer spool.old spool.new lines.new
-        (acted_where acts line.line read.entry.items (customer_of tables.now line.customer spool.old lines.old)).customer }
-    ensures ready { IsReady tables.now line spool.new lines.new }
+        ≡ (acted_where acts id.number read.entry.items (customer_of tables.now id.customer spool.old lines.old)).ended }
+    ensures after { Leads tables.now id.customer spool.old spool.new lines.new
+        (acted_where acts id.number read.entry.items (customer_of tables.now id.customer spool.old lines.old)).customer }
+    ensures ready { IsReady tables.now id spool.new lines.new }
 {
     if acts && !read.is_empty() {
-        all_act(line, read, tables, spool, lines, replies)
+        all_act(id, read, tables, spool, lines, replies)
     } else {
         false
     }
@@ -266,7 +266,7 @@ fn act_where(
 
 /// Sends what a verdict asks for, and then ends the session where it says so.
 fn carry_out(
-    line: LineId,
+    id: LineId,
     verdict: Verdict,
     tables: &mut Tables,
     spool: &mut Spool,
@@ -274,38 +274,38 @@ fn carry_out(
     block: &mut BlockWriter,
     out: &mut FrameBuffer,
 )
-    requires ready { IsReady tables.old line spool.old lines.old }
-    ensures after { Brings tables.old tables.new line.customer spool.old spool.new lines.new
-        (alone.carried_out line.line verdict (customer_of tables.old line.customer spool.old lines.old)).after }
+    requires ready { IsReady tables.old id spool.old lines.old }
+    ensures after { Brings tables.old tables.new id.customer spool.old spool.new lines.new
+        (alone.carried_out id.number verdict (customer_of tables.old id.customer spool.old lines.old)).after }
     ensures frame { out.new
-        ≡ (alone.carried_out line.line verdict (customer_of tables.old line.customer spool.old lines.old)).frame }
+        ≡ (alone.carried_out id.number verdict (customer_of tables.old id.customer spool.old lines.old)).frame }
 {
-    lines.send_reply(line, verdict.reply, tables, spool, block, out);
+    lines.send_reply(id, verdict.reply, tables, spool, block, out);
     if verdict.ended {
-        close_session(line, tables, spool, lines);
+        close_session(id, tables, spool, lines);
     }
 }
 
 /// A record ended the session.
-fn end_session(line: LineId, tables: &mut Tables, spool: &mut Spool, lines: &mut CustomerLines)
-    requires ready { IsReady tables.old line spool.old lines.old }
-    ensures { Brings tables.old tables.new line.customer spool.old spool.new lines.new
-        (alone.session_ended line.line (customer_of tables.old line.customer spool.old lines.old)) }
+fn end_session(id: LineId, tables: &mut Tables, spool: &mut Spool, lines: &mut CustomerLines)
+    requires ready { IsReady tables.old id spool.old lines.old }
+    ensures { Brings tables.old tables.new id.customer spool.old spool.new lines.new
+        (alone.session_ended id.number (customer_of tables.old id.customer spool.old lines.old)) }
 {
-    lines.end(line.line);
-    close_session(line, tables, spool, lines);
+    lines.end(id.number);
+    close_session(id, tables, spool, lines);
 }
 
 /// The end of a line's session, and behind it the line counts as not up.
-fn close_session(line: LineId, tables: &mut Tables, spool: &mut Spool, lines: &mut CustomerLines)
-    requires known { line.customer < length tables.old.customers }
-    requires line { HasLine tables.old line }
-    requires spooled { line.customer < length spool.old }
-    requires there { line.line < length lines.old }
-    ensures { Brings tables.old tables.new line.customer spool.old spool.new lines.new
-        (alone.session_over line.line (customer_of tables.old line.customer spool.old lines.old)) }
+fn close_session(id: LineId, tables: &mut Tables, spool: &mut Spool, lines: &mut CustomerLines)
+    requires known { id.customer < length tables.old.customers }
+    requires line { HasLine tables.old id }
+    requires spooled { id.customer < length spool.old }
+    requires there { id.number < length lines.old }
+    ensures { Brings tables.old tables.new id.customer spool.old spool.new lines.new
+        (alone.session_over id.number (customer_of tables.old id.customer spool.old lines.old)) }
 {
     marks_change_one_entry();
-    lines.end_session(line, tables, spool);
-    tables.set_up(line, false);
+    lines.end_session(id, tables, spool);
+    tables.set_up(id, false);
 }

@@ -208,21 +208,21 @@ impl CustomerLine {
     /// Sends what a verdict asks for. `block` is room for a block.
     pub(crate) fn send_reply(
         &mut self,
-        line: LineId,
+        id: LineId,
         reply: Reply,
         tables: &Tables,
         spool: &mut Spool,
         block: &mut BlockWriter,
         out: &mut FrameBuffer,
     )
-        requires known { line.customer < length tables.now.customers }
-        requires spooled { line.customer < length spool.old }
-        requires quota { (customer_at tables.now line.customer).quota ≡ (spool_at line.customer spool.old).quota }
-        ensures line { self.new ≡ (sending_of_reply (entry_of (customer_at tables.now line.customer)) line.line reply (spool_at line.customer spool.old) self.old).line }
-        ensures spool { spool.new ≡ slice_set spool.old line.customer
-            (sending_of_reply (entry_of (customer_at tables.now line.customer)) line.line reply (spool_at line.customer spool.old) self.old).spool }
+        requires known { id.customer < length tables.now.customers }
+        requires spooled { id.customer < length spool.old }
+        requires quota { (customer_at tables.now id.customer).quota ≡ (spool_at id.customer spool.old).quota }
+        ensures line { self.new ≡ (sending_of_reply (entry_of (customer_at tables.now id.customer)) id.number reply (spool_at id.customer spool.old) self.old).line }
+        ensures spool { spool.new ≡ slice_set spool.old id.customer
+            (sending_of_reply (entry_of (customer_at tables.now id.customer)) id.number reply (spool_at id.customer spool.old) self.old).spool }
         ensures frame { out.new
-            ≡ (sending_of_reply (entry_of (customer_at tables.now line.customer)) line.line reply (spool_at line.customer spool.old) self.old).frame }
+            ≡ (sending_of_reply (entry_of (customer_at tables.now id.customer)) id.number reply (spool_at id.customer spool.old) self.old).frame }
     {
         match reply {
             Reply::Nothing => out.clear(),
@@ -230,12 +230,12 @@ impl CustomerLine {
             Reply::Again => send_again(&mut self.line, out),
             Reply::SignOn(kind) => send_opening(&mut self.line, kind, block, out),
             Reply::Sequence { expected } => {
-                let fcs = own_fcs(line.customer, spool, tables);
+                let fcs = own_fcs(id.customer, spool, tables);
                 send_sequence(&mut self.line, expected, fcs, block, out);
             }
             Reply::Next { or_ack0 } => {
-                let fcs = own_fcs(line.customer, spool, tables);
-                self.send_next(line, or_ack0, fcs, tables, spool, block, out);
+                let fcs = own_fcs(id.customer, spool, tables);
+                self.send_next(id, or_ack0, fcs, tables, spool, block, out);
             }
         }
     }
@@ -243,7 +243,7 @@ impl CustomerLine {
     /// Sends the next block under a function control sequence, or what there is in its place.
     fn send_next(
         &mut self,
-        line: LineId,
+        id: LineId,
         or_ack0: bool,
         fcs: Fcs,
         tables: &Tables,
@@ -251,37 +251,37 @@ impl CustomerLine {
         block: &mut BlockWriter,
         out: &mut FrameBuffer,
     )
-        requires known { line.customer < length tables.now.customers }
-        requires spooled { line.customer < length spool.old }
-        requires own { fcs ≡ own_fcs (spool_at line.customer spool.old) }
-        ensures line { self.new ≡ (sending_of_next (entry_of (customer_at tables.now line.customer)) line.line or_ack0 (spool_at line.customer spool.old) self.old).line }
-        ensures spool { spool.new ≡ slice_set spool.old line.customer
-            (sending_of_next (entry_of (customer_at tables.now line.customer)) line.line or_ack0 (spool_at line.customer spool.old) self.old).spool }
+        requires known { id.customer < length tables.now.customers }
+        requires spooled { id.customer < length spool.old }
+        requires own { fcs ≡ own_fcs (spool_at id.customer spool.old) }
+        ensures line { self.new ≡ (sending_of_next (entry_of (customer_at tables.now id.customer)) id.number or_ack0 (spool_at id.customer spool.old) self.old).line }
+        ensures spool { spool.new ≡ slice_set spool.old id.customer
+            (sending_of_next (entry_of (customer_at tables.now id.customer)) id.number or_ack0 (spool_at id.customer spool.old) self.old).spool }
         ensures frame { out.new
-            ≡ (sending_of_next (entry_of (customer_at tables.now line.customer)) line.line or_ack0 (spool_at line.customer spool.old) self.old).frame }
+            ≡ (sending_of_next (entry_of (customer_at tables.now id.customer)) id.number or_ack0 (spool_at id.customer spool.old) self.old).frame }
     {
         begin_block(&self.line, fcs, block);
-        fill(self, line, spool, tables, block);
+        fill(self, id, spool, tables, block);
         send_written(&mut self.line, or_ack0, block, fcs, out);
     }
 
     /// The end of a session: the files that were being sent may go again, and so may those that were refused and go by
     /// this line; the files that came in are gone, and so are the answers; SYSOUT 4 counts as served last.
-    pub(crate) fn end_session(&mut self, line: LineId, tables: &Tables, spool: &mut Spool)
-        requires known { line.customer < length tables.now.customers }
-        requires spooled { line.customer < length spool.old }
+    pub(crate) fn end_session(&mut self, id: LineId, tables: &Tables, spool: &mut Spool)
+        requires known { id.customer < length tables.now.customers }
+        requires spooled { id.customer < length spool.old }
         ensures line { self.new ≡ quiet self.old }
-        ensures spool { spool.new ≡ slice_set spool.old line.customer
-            (spool_over (entry_of (customer_at tables.now line.customer)) line.line self.old (spool_at line.customer spool.old)) }
+        ensures spool { spool.new ≡ slice_set spool.old id.customer
+            (spool_over (entry_of (customer_at tables.now id.customer)) id.number self.old (spool_at id.customer spool.old)) }
     {
-        end_senders(&mut self.senders, line.customer, spool);
+        end_senders(&mut self.senders, id.customer, spool);
         retry_refused(
-            tables.customer(line.customer),
-            line.line,
-            line.customer,
+            tables.customer(id.customer),
+            id.number,
+            id.customer,
             spool,
         );
-        end_receivers(&mut self.receivers, line.customer, spool);
+        end_receivers(&mut self.receivers, id.customer, spool);
         self.line.clear_answers();
         self.served = Stream::at(7);
     }

@@ -133,31 +133,31 @@ impl CustomerLines {
     /// Sends what a verdict asks for. `block` is room for a block.
     pub(crate) fn send_reply(
         &mut self,
-        line: LineId,
+        id: LineId,
         reply: Reply,
         tables: &Tables,
         spool: &mut Spool,
         block: &mut BlockWriter,
         out: &mut FrameBuffer,
     )
-        requires ready { IsReady tables.now line spool.old self.old }
-        ensures after { Leads tables.now line.customer spool.old spool.new self.new
-            (replied_to line.line reply (customer_of tables.now line.customer spool.old self.old)).after }
-        ensures frame { out.new ≡ (replied_to line.line reply (customer_of tables.now line.customer spool.old self.old)).frame }
+        requires ready { IsReady tables.now id spool.old self.old }
+        ensures after { Leads tables.now id.customer spool.old spool.new self.new
+            (replied_to id.number reply (customer_of tables.now id.customer spool.old self.old)).after }
+        ensures frame { out.new ≡ (replied_to id.number reply (customer_of tables.now id.customer spool.old self.old)).frame }
     {
-        self.lines[usize::from(line.line)].send_reply(line, reply, tables, spool, block, out);
+        self.lines[usize::from(id.number)].send_reply(id, reply, tables, spool, block, out);
     }
 
     /// The end of a line's session, by the marks as they are: what becomes of its streams' files, and its answers are
     /// gone.
-    pub(crate) fn end_session(&mut self, line: LineId, tables: &Tables, spool: &mut Spool)
-        requires known { line.customer < length tables.now.customers }
-        requires spooled { line.customer < length spool.old }
-        requires there { line.line < length self.old }
-        ensures { Leads tables.now line.customer spool.old spool.new self.new
-            (session_closed line.line (customer_of tables.now line.customer spool.old self.old)) }
+    pub(crate) fn end_session(&mut self, id: LineId, tables: &Tables, spool: &mut Spool)
+        requires known { id.customer < length tables.now.customers }
+        requires spooled { id.customer < length spool.old }
+        requires there { id.number < length self.old }
+        ensures { Leads tables.now id.customer spool.old spool.new self.new
+            (session_closed id.number (customer_of tables.now id.customer spool.old self.old)) }
     {
-        self.lines[usize::from(line.line)].end_session(line, tables, spool);
+        self.lines[usize::from(id.number)].end_session(id, tables, spool);
     }
 
     /// Lets an answer to the peer of a line wait, if there is one.

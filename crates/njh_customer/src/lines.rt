@@ -115,32 +115,32 @@ impl Lines {
     /// frame that is sent is put into `out`, which is empty then where none is. Nothing depends on what `room` held.
     pub fn take_bytes(
         &mut self,
-        line: LineId,
+        id: LineId,
         piece: &[u8],
         tables: &mut Tables,
         spool: &mut Spool,
         room: &mut Room,
         out: &mut FrameBuffer,
     ) -> usize
-        requires ready { IsReady tables.old line spool.old self.old.lines }
+        requires ready { IsReady tables.old id spool.old self.old.lines }
         ensures taken { result
-            ≡ (part_after_bytes (part_with (entry_of (customer_at tables.old line.customer)) (spool_at line.customer spool.old) self.old) line.line piece.now).taken }
+            ≡ (part_after_bytes (part_with (entry_of (customer_at tables.old id.customer)) (spool_at id.customer spool.old) self.old) id.number piece.now).taken }
         ensures progress { 0 < length piece.now → 0 < result }
         ensures few { result ≤ length piece.now }
-        ensures part { part_with (entry_of (customer_at tables.new line.customer)) (spool_at line.customer spool.new) self.new
-            ≡ (part_after_bytes (part_with (entry_of (customer_at tables.old line.customer)) (spool_at line.customer spool.old) self.old) line.line piece.now).after }
-        ensures others { spool.new ≡ slice_set spool.old line.customer (spool_at line.customer spool.new) }
-        ensures entries { IsRetold line.customer tables.old tables.new }
-        ensures ready { IsReady tables.new line spool.new self.new.lines }
+        ensures part { part_with (entry_of (customer_at tables.new id.customer)) (spool_at id.customer spool.new) self.new
+            ≡ (part_after_bytes (part_with (entry_of (customer_at tables.old id.customer)) (spool_at id.customer spool.old) self.old) id.number piece.now).after }
+        ensures others { spool.new ≡ slice_set spool.old id.customer (spool_at id.customer spool.new) }
+        ensures entries { IsRetold id.customer tables.old tables.new }
+        ensures ready { IsReady tables.new id spool.new self.new.lines }
         ensures count { length self.new.lines ≡ length self.old.lines }
         ensures frame { out.new
-            ≡ (part_after_bytes (part_with (entry_of (customer_at tables.old line.customer)) (spool_at line.customer spool.old) self.old) line.line piece.now).frame }
+            ≡ (part_after_bytes (part_with (entry_of (customer_at tables.old id.customer)) (spool_at id.customer spool.old) self.old) id.number piece.now).frame }
     {
         out.clear();
         let mut left = piece;
         let mut taken = 0;
         while !left.is_empty() && out.is_empty() {
-            let used = self.take_frame(line, left, tables, spool, room, out);
+            let used = self.take_frame(id, left, tables, spool, room, out);
             taken += used;
             let (_, after) = left.split_at(used);
             left = after;
@@ -152,31 +152,31 @@ impl Lines {
     #[tactic(auto, using(crate::proofs::TakingLaws::fed_within, crate::proofs::TakingLaws::fed_some))]
     fn take_frame(
         &mut self,
-        line: LineId,
+        id: LineId,
         piece: &[u8],
         tables: &mut Tables,
         spool: &mut Spool,
         room: &mut Room,
         out: &mut FrameBuffer,
     ) -> usize
-        requires ready { IsReady tables.old line spool.old self.old.lines }
-        ensures taken { result ≡ (feed_outcome (rest_at line.line self.old.rests) piece.now).taken }
+        requires ready { IsReady tables.old id spool.old self.old.lines }
+        ensures taken { result ≡ (feed_outcome (rest_at id.number self.old.rests) piece.now).taken }
         ensures within { result ≤ length piece.now }
         ensures progress { 0 < length piece.now → 0 < result }
-        ensures rest { rest_at line.line self.new.rests ≡ (feed_outcome (rest_at line.line self.old.rests) piece.now).rest }
-        ensures rests { self.new.rests ≡ slice_set self.old.rests line.line (rest_at line.line self.new.rests) }
-        ensures after { Brings tables.old tables.new line.customer spool.old spool.new self.new.lines
-            (acted_on line.line (feed_outcome (rest_at line.line self.old.rests) piece.now).frame
-            (customer_of tables.old line.customer spool.old self.old.lines)).after }
-        ensures ready { IsReady tables.new line spool.new self.new.lines }
+        ensures rest { rest_at id.number self.new.rests ≡ (feed_outcome (rest_at id.number self.old.rests) piece.now).rest }
+        ensures rests { self.new.rests ≡ slice_set self.old.rests id.number (rest_at id.number self.new.rests) }
+        ensures after { Brings tables.old tables.new id.customer spool.old spool.new self.new.lines
+            (acted_on id.number (feed_outcome (rest_at id.number self.old.rests) piece.now).frame
+            (customer_of tables.old id.customer spool.old self.old.lines)).after }
+        ensures ready { IsReady tables.new id spool.new self.new.lines }
         ensures count { length self.new.lines ≡ length self.old.lines }
         ensures frame { out.new
-            ≡ (acted_on line.line (feed_outcome (rest_at line.line self.old.rests) piece.now).frame
-            (customer_of tables.old line.customer spool.old self.old.lines)).frame }
+            ≡ (acted_on id.number (feed_outcome (rest_at id.number self.old.rests) piece.now).frame
+            (customer_of tables.old id.customer spool.old self.old.lines)).frame }
     {
-        let (taken, frame) = self.deframers[usize::from(line.line)].feed(piece);
+        let (taken, frame) = self.deframers[usize::from(id.number)].feed(piece);
         take_frame(
-            line,
+            id,
             frame,
             tables,
             spool,
@@ -192,26 +192,26 @@ impl Lines {
     /// `out`, which is empty then where none is.
     pub fn take_signal(
         &mut self,
-        line: LineId,
+        id: LineId,
         signal: Signal,
         tables: &mut Tables,
         spool: &mut Spool,
         room: &mut Room,
         out: &mut FrameBuffer,
     )
-        requires ready { IsReady tables.old line spool.old self.old.lines }
-        ensures part { part_with (entry_of (customer_at tables.new line.customer)) (spool_at line.customer spool.new) self.new
-            ≡ (part_after_signal (part_with (entry_of (customer_at tables.old line.customer)) (spool_at line.customer spool.old) self.old) line.line signal).after }
-        ensures others { spool.new ≡ slice_set spool.old line.customer (spool_at line.customer spool.new) }
-        ensures entries { IsRetold line.customer tables.old tables.new }
-        ensures ready { IsReady tables.new line spool.new self.new.lines }
+        requires ready { IsReady tables.old id spool.old self.old.lines }
+        ensures part { part_with (entry_of (customer_at tables.new id.customer)) (spool_at id.customer spool.new) self.new
+            ≡ (part_after_signal (part_with (entry_of (customer_at tables.old id.customer)) (spool_at id.customer spool.old) self.old) id.number signal).after }
+        ensures others { spool.new ≡ slice_set spool.old id.customer (spool_at id.customer spool.new) }
+        ensures entries { IsRetold id.customer tables.old tables.new }
+        ensures ready { IsReady tables.new id spool.new self.new.lines }
         ensures count { length self.new.lines ≡ length self.old.lines }
         ensures frame { out.new
-            ≡ (part_after_signal (part_with (entry_of (customer_at tables.old line.customer)) (spool_at line.customer spool.old) self.old) line.line signal).frame }
+            ≡ (part_after_signal (part_with (entry_of (customer_at tables.old id.customer)) (spool_at id.customer spool.old) self.old) id.number signal).frame }
     {
-        self.deframers[usize::from(line.line)].reset();
+        self.deframers[usize::from(id.number)].reset();
         take_signal(
-            line,
+            id,
             signal,
             tables,
             spool,

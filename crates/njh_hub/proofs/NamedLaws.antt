@@ -54,10 +54,10 @@ led_on kept start now events leads same = record {
 
 -- so it names what it named before, and refuses what it refused
 pub named-before : (start now : List Part) → LedOn start now → (event : Event) → IsNamed now event → IsNamed start event
-named-before start now on (Bytes line piece) known = omega (arith, known, on.lines line.customer)
-named-before start now on (Tick line) known = omega (arith, known, on.lines line.customer)
-named-before start now on (Garbled line) known = omega (arith, known, on.lines line.customer)
-named-before start now on (Lost line) known = omega (arith, known, on.lines line.customer)
+named-before start now on (Bytes id piece) known = omega (arith, known, on.lines id.customer)
+named-before start now on (Tick id) known = omega (arith, known, on.lines id.customer)
+named-before start now on (Garbled id) known = omega (arith, known, on.lines id.customer)
+named-before start now on (Lost id) known = omega (arith, known, on.lines id.customer)
 named-before start now on (Routes c routes) known =
     let there : c < length start = omega (arith, known.0, on.many) in (there, sym (on.checked c there (own_routes c routes)) ∙ known.1)
 
@@ -77,27 +77,27 @@ refused-before start now on event (BadRoutes cause) refused = IsSomeAnd-weaker _
 refused-before start now on event Memory refused = named-before start now on event refused
 
 -- why a step on a line is refused
-pub step-refused : (parts : List Part) (event : Event) (line : LineId) → line_of_event event ≡ Some line →
-    (HasLine parts line → IsNamed parts event) → (why : HubFault) → ((HasLine parts line → ⊥) → why ≡ UnknownLine) →
-    (HasLine parts line → why ≡ Memory) → IsRefused parts event why
-step-refused parts event line on named UnknownLine unknown memory =
-    let never : HasLine parts line → ⊥ = λ known. cc (memory known) in
+pub step-refused : (parts : List Part) (event : Event) (id : LineId) → line_of_event event ≡ Some id →
+    (HasLine parts id → IsNamed parts event) → (why : HubFault) → ((HasLine parts id → ⊥) → why ≡ UnknownLine) →
+    (HasLine parts id → why ≡ Memory) → IsRefused parts event why
+step-refused parts event id on named UnknownLine unknown memory =
+    let never : HasLine parts id → ⊥ = λ known. cc (memory known) in
     subst (λ (o : Option LineId). IsSomeAnd o (λ l. HasLine parts l → ⊥)) (sym on) never
-step-refused parts event line on named UnknownCustomer unknown memory =
-    let never : HasLine parts line → ⊥ = λ known. cc (memory known) in cc (unknown never)
-step-refused parts event line on named (BadRoutes cause) unknown memory =
-    let never : HasLine parts line → ⊥ = λ known. cc (memory known) in cc (unknown never)
-step-refused parts event line on named Memory unknown memory =
-    ⊎_elim named (λ (w : length (part line.customer parts).customer.lines ≤ line.line). absurd (let never : HasLine parts line →
+step-refused parts event id on named UnknownCustomer unknown memory =
+    let never : HasLine parts id → ⊥ = λ known. cc (memory known) in cc (unknown never)
+step-refused parts event id on named (BadRoutes cause) unknown memory =
+    let never : HasLine parts id → ⊥ = λ known. cc (memory known) in cc (unknown never)
+step-refused parts event id on named Memory unknown memory =
+    ⊎_elim named (λ (w : length (part id.customer parts).customer.lines ≤ id.number). absurd (let never : HasLine parts id →
     ⊥ = λ known. omega arith in cc (unknown never)))
-    (cases_lt line.line (length (part line.customer parts).customer.lines))
+    (cases_lt id.number (length (part id.customer parts).customer.lines))
 
 -- an event comes on a line or gives routes
 pub either_event : (event : Event) → IsSome (line_of_event event) ⊎ IsRoutes event
-either_event (Bytes line piece) = inl refl
-either_event (Tick line) = inl refl
-either_event (Garbled line) = inl refl
-either_event (Lost line) = inl refl
+either_event (Bytes id piece) = inl refl
+either_event (Tick id) = inl refl
+either_event (Garbled id) = inl refl
+either_event (Lost id) = inl refl
 either_event (Routes c routes) = inr refl
 
 -- of one event more

@@ -22,15 +22,15 @@ sent_by-begins c front whole begins = (
 event-begins : FirstBytesSendFirst → (parts : List Part) (event : Event) (n : ℕ) →
     Begins (hub_run parts (first_bytes (Some event) n)).sent (hub_event parts event).sent
 event-begins first parts event zero = ((hub_event parts event).sent, refl)
-event-begins first parts (Bytes line piece) (suc n) =
-    let p = part line.customer parts in
+event-begins first parts (Bytes id piece) (suc n) =
+    let p = part id.customer parts in
     let front = take (suc n) piece in
-    let sent = (event_run p (OwnBytes line.line front)).sent in
-    let P : List ℕ → Type 0 = λ bytes. Begins (sent_by line.customer sent ++ []) (sent_by line.customer (event_run p (OwnBytes line.line bytes)).sent) in
-    subst P (take-append-drop (suc n) piece) (sent_by-begins line.customer sent _ (first p line.line front (drop (suc n) piece)))
-event-begins first parts (Tick line) (suc n) = ((hub_event parts (Tick line)).sent, refl)
-event-begins first parts (Garbled line) (suc n) = ((hub_event parts (Garbled line)).sent, refl)
-event-begins first parts (Lost line) (suc n) = ((hub_event parts (Lost line)).sent, refl)
+    let sent = (event_run p (OwnBytes id.number front)).sent in
+    let P : List ℕ → Type 0 = λ bytes. Begins (sent_by id.customer sent ++ []) (sent_by id.customer (event_run p (OwnBytes id.number bytes)).sent) in
+    subst P (take-append-drop (suc n) piece) (sent_by-begins id.customer sent _ (first p id.number front (drop (suc n) piece)))
+event-begins first parts (Tick id) (suc n) = ((hub_event parts (Tick id)).sent, refl)
+event-begins first parts (Garbled id) (suc n) = ((hub_event parts (Garbled id)).sent, refl)
+event-begins first parts (Lost id) (suc n) = ((hub_event parts (Lost id)).sent, refl)
 event-begins first parts (Routes c routes) (suc n) = ((hub_event parts (Routes c routes)).sent, refl)
 
 pub sent_in_order : FirstBytesSendFirst → SentInOrder

@@ -24,57 +24,57 @@ events_of-append c (x ∷ xs) ys =
 -- ---- a turn of another customer's wire
 
 abbrev OnLine : LineId → Option Event → Type 0
-OnLine line None = Unit {0}
-OnLine line (Some event) = line_of_event event ≡ Some line
+OnLine id None = Unit {0}
+OnLine id (Some event) = line_of_event event ≡ Some id
 
-tick_on : (line : LineId) (b : Bool) → OnLine line (cond b (Some (Tick line)) None)
-tick_on line true = refl
-tick_on line false = tt
+tick_on : (id : LineId) (b : Bool) → OnLine id (cond b (Some (Tick id)) None)
+tick_on id true = refl
+tick_on id false = tt
 
-event_on : (line : LineId) (quiet : ℕ) (heard : Heard) → OnLine line (wire_event line quiet heard)
-event_on line quiet (Came piece) = refl
-event_on line quiet Quiet = tick_on line (eqb quiet 9)
-event_on line quiet Pending = tt
-event_on line quiet Closed = refl
-event_on line quiet Absent = tt
-event_on line quiet Failed = refl
+event_on : (id : LineId) (quiet : ℕ) (heard : Heard) → OnLine id (wire_event id quiet heard)
+event_on id quiet (Came piece) = refl
+event_on id quiet Quiet = tick_on id (eqb quiet 9)
+event_on id quiet Pending = tt
+event_on id quiet Closed = refl
+event_on id quiet Absent = tt
+event_on id quiet Failed = refl
 
 customer_of-cut : (n : ℕ) (event : Event) → customer_of_event (cut_to n event) ≡ customer_of_event event
-customer_of-cut n (Bytes line piece) = refl
-customer_of-cut n (Tick line) = refl
-customer_of-cut n (Garbled line) = refl
-customer_of-cut n (Lost line) = refl
+customer_of-cut n (Bytes id piece) = refl
+customer_of-cut n (Tick id) = refl
+customer_of-cut n (Garbled id) = refl
+customer_of-cut n (Lost id) = refl
 customer_of-cut n (Routes c routes) = refl
 
-same_customer : (l line : LineId) → Some l ≡ Some line → l.customer ≡ line.customer
-same_customer l line is = let same : l ≡ line = cc is in ap (λ (x : LineId). x.customer) same
+same_customer : (l id : LineId) → Some l ≡ Some id → l.customer ≡ id.customer
+same_customer l id is = let same : l ≡ id = cc is in ap (λ (x : LineId). x.customer) same
 
 -- an event on a line is of that line's customer
-customer_of-on : (event : Event) (line : LineId) → line_of_event event ≡ Some line → customer_of_event event ≡ line.customer
-customer_of-on (Bytes l piece) line on = same_customer l line on
-customer_of-on (Tick l) line on = same_customer l line on
-customer_of-on (Garbled l) line on = same_customer l line on
-customer_of-on (Lost l) line on = same_customer l line on
-customer_of-on (Routes c routes) line on = cc on
+customer_of-on : (event : Event) (id : LineId) → line_of_event event ≡ Some id → customer_of_event event ≡ id.customer
+customer_of-on (Bytes l piece) id on = same_customer l id on
+customer_of-on (Tick l) id on = same_customer l id on
+customer_of-on (Garbled l) id on = same_customer l id on
+customer_of-on (Lost l) id on = same_customer l id on
+customer_of-on (Routes c routes) id on = cc on
 
-told-other : (c : ℕ) (line : LineId) (cut : Option ℕ) (event : Event) → line_of_event event ≡ Some line → eqb line.customer c ≡ false →
+told-other : (c : ℕ) (id : LineId) (cut : Option ℕ) (event : Event) → line_of_event event ≡ Some id → eqb id.customer c ≡ false →
     events_of c (heard_events cut event) ≡ []
-told-other c line None event on other =
-    ap (λ (d : ℕ). cond (eqb d c) (own event ∷ []) []) (customer_of-on event line on) ∙ ap (λ (b : Bool). cond b (own event ∷ []) []) other
-told-other c line (Some n) event on other =
+told-other c id None event on other =
+    ap (λ (d : ℕ). cond (eqb d c) (own event ∷ []) []) (customer_of-on event id on) ∙ ap (λ (b : Bool). cond b (own event ∷ []) []) other
+told-other c id (Some n) event on other =
     let last : List OwnEvent = events_of c (loss_of (line_of_event event)) in
-    ap (λ (d : ℕ). cond (eqb d c) (own (cut_to n event) ∷ last) last) (customer_of-cut n event ∙ customer_of-on event line on)
+    ap (λ (d : ℕ). cond (eqb d c) (own (cut_to n event) ∷ last) last) (customer_of-cut n event ∙ customer_of-on event id on)
     ∙ ap (λ (b : Bool). cond b (own (cut_to n event) ∷ last) last) other
     ∙ ap (λ (o : Option LineId). events_of c (loss_of o)) on
-    ∙ ap (λ (b : Bool). cond b (own (Lost line) ∷ []) []) other
+    ∙ ap (λ (b : Bool). cond b (own (Lost id) ∷ []) []) other
 
-where-other : (c : ℕ) (line : LineId) (cut : Option ℕ) (event : Option Event) → OnLine line event → eqb line.customer c ≡ false →
+where-other : (c : ℕ) (id : LineId) (cut : Option ℕ) (event : Option Event) → OnLine id event → eqb id.customer c ≡ false →
     events_of c (told_where cut event) ≡ []
-where-other c line cut None on other = refl
-where-other c line cut (Some event) on other = told-other c line cut event on other
+where-other c id cut None on other = refl
+where-other c id cut (Some event) on other = told-other c id cut event on other
 
-turn-other : (c : ℕ) (line : LineId) (quiet : ℕ) (turn : Turn) → eqb line.customer c ≡ false → events_of c (turn_events line quiet turn) ≡ []
-turn-other c line quiet turn other = where-other c line turn.cut (wire_event line quiet turn.heard) (event_on line quiet turn.heard) other
+turn-other : (c : ℕ) (id : LineId) (quiet : ℕ) (turn : Turn) → eqb id.customer c ≡ false → events_of c (turn_events id quiet turn) ≡ []
+turn-other c id quiet turn other = where-other c id turn.cut (wire_event id quiet turn.heard) (event_on id quiet turn.heard) other
 
 -- ---- a round
 
@@ -82,13 +82,13 @@ round_events-no_quiets : (lines : List LineId) (turns : List Turn) → round_eve
 round_events-no_quiets [] turns = refl
 round_events-no_quiets (line ∷ lines) turns = refl
 
-own_turn : (c : ℕ) (line : LineId) (quiet : ℕ) (turn : Turn) (lines : List LineId) (quiets : List ℕ) (turns : List Turn) (b : Bool) →
-    eqb line.customer c ≡ b → events_of c (turn_events line quiet turn) ++ events_of c (round_events lines quiets turns)
-    ≡ events_of c (round_events (cond b (line ∷ lines) lines) (cond b (quiet ∷ quiets) quiets) (cond b (turn ∷ turns) turns))
-own_turn c line quiet turn lines quiets turns true is =
-    sym (events_of-append c (turn_events line quiet turn) (round_events lines quiets turns))
-own_turn c line quiet turn lines quiets turns false is =
-    ap (λ (es : List OwnEvent). es ++ events_of c (round_events lines quiets turns)) (turn-other c line quiet turn is)
+own_turn : (c : ℕ) (id : LineId) (quiet : ℕ) (turn : Turn) (lines : List LineId) (quiets : List ℕ) (turns : List Turn) (b : Bool) →
+    eqb id.customer c ≡ b → events_of c (turn_events id quiet turn) ++ events_of c (round_events lines quiets turns)
+    ≡ events_of c (round_events (cond b (id ∷ lines) lines) (cond b (quiet ∷ quiets) quiets) (cond b (turn ∷ turns) turns))
+own_turn c id quiet turn lines quiets turns true is =
+    sym (events_of-append c (turn_events id quiet turn) (round_events lines quiets turns))
+own_turn c id quiet turn lines quiets turns false is =
+    ap (λ (es : List OwnEvent). es ++ events_of c (round_events lines quiets turns)) (turn-other c id quiet turn is)
 
 pub own_round : (c : ℕ) (lines : List LineId) (quiets : List ℕ) (turns : List Turn) →
     events_of c (round_events lines quiets turns)
@@ -119,10 +119,10 @@ own_quiets c (line ∷ lines) (quiet ∷ quiets) (turn ∷ turns) =
     ap (λ (qs : List ℕ). cond (eqb line.customer c) (quiet_after quiet turn.heard ∷ qs) qs) (own_quiets c lines quiets turns)
     ∙ own_quiets-where quiet turn (own_wires c lines quiets) (own_wires c lines turns) (eqb line.customer c)
 
-no_quiets-where : (line : LineId) (lines : List LineId) (b : Bool) →
-    cond b (0 ∷ no_quiets lines) (no_quiets lines) ≡ no_quiets (cond b (line ∷ lines) lines)
-no_quiets-where line lines true = refl
-no_quiets-where line lines false = refl
+no_quiets-where : (id : LineId) (lines : List LineId) (b : Bool) →
+    cond b (0 ∷ no_quiets lines) (no_quiets lines) ≡ no_quiets (cond b (id ∷ lines) lines)
+no_quiets-where id lines true = refl
+no_quiets-where id lines false = refl
 
 own_no_quiets : (c : ℕ) (lines : List LineId) → own_wires c lines (no_quiets lines) ≡ no_quiets (own_wires c lines lines)
 own_no_quiets c [] = refl

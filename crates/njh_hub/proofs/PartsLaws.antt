@@ -28,28 +28,28 @@ part-there table files lines c there =
     get_or-map-range_with_len (part_held table files lines) 0 (length table.customers) c c no_part there (omega arith)
 
 -- a line stands with a customer that is there
-pub line-there : (table : TableFile) (files : List CustomerSpool) (lines : List Lines) (line : LineId)
-    → HasLine (parts_of table files lines) line → line.customer < length table.customers
-line-there table files lines line known =
-    ⊎_elim (λ (w : line.customer < length table.customers). w)
-    (λ (w : length table.customers ≤ line.customer). absurd (omega (
+pub line-there : (table : TableFile) (files : List CustomerSpool) (lines : List Lines) (id : LineId)
+    → HasLine (parts_of table files lines) id → id.customer < length table.customers
+line-there table files lines id known =
+    ⊎_elim (λ (w : id.customer < length table.customers). w)
+    (λ (w : length table.customers ≤ id.customer). absurd (omega (
       arith,
       known,
       ap (λ (p : Part). length p.customer.lines)
-          (get_or_past (parts_of table files lines) line.customer no_part (omega (arith, w, length-parts_of table files lines))),
+          (get_or_past (parts_of table files lines) id.customer no_part (omega (arith, w, length-parts_of table files lines))),
     )))
-    (cases_lt line.customer (length table.customers))
+    (cases_lt id.customer (length table.customers))
 
 -- it is ready for what comes next
-pub line-ready : (table : TableFile) (files : List CustomerSpool) (lines : List Lines) (line : LineId) → IsHub table files lines
-    → HasLine (parts_of table files lines) line → IsReady table line files (lines_at line.customer lines).lines
-line-ready table files lines line hub known =
-    let there = line-there table files lines line known in
+pub line-ready : (table : TableFile) (files : List CustomerSpool) (lines : List Lines) (id : LineId) → IsHub table files lines
+    → HasLine (parts_of table files lines) id → IsReady table id files (lines_at id.customer lines).lines
+line-ready table files lines id hub known =
+    let there = line-there table files lines id known in
     record {
       known = there;
       spooled = omega (arith, there, hub.spooled);
-      there = omega (arith, known, ap (λ (p : Part). length p.customer.lines) (part-there table files lines line.customer there));
-      coherent = hub.coherent line.customer there;
+      there = omega (arith, known, ap (λ (p : Part). length p.customer.lines) (part-there table files lines id.customer there));
+      coherent = hub.coherent id.customer there;
     }
 
 -- Two lists that differ at one place at most.
@@ -151,30 +151,30 @@ entry-there table files lines parts c are there =
     ∙ ap (λ (p : Part). p.customer.entry) (part-there table files lines c there)
 
 -- What a step on a line finds in the hub: the lines of a customer that is there, and its part.
-pub record Found (table : TableFile) (files : List CustomerSpool) (lines : List Lines) (parts : List Part) (line : LineId) (x : Lines)
+pub record Found (table : TableFile) (files : List CustomerSpool) (lines : List Lines) (parts : List Part) (id : LineId) (x : Lines)
     : Type 0 where
   pub hub : IsHub table files lines
   pub are : parts_of table files lines ≡ parts
-  pub there : line.customer < length table.customers
-  pub lines_is : x ≡ lines_at line.customer lines
-  pub ready : IsReady table line files x.lines
-  pub marked : IsMarked (part_with (entry_of (customer_at table line.customer)) (spools.spool_at line.customer files) x).customer
-  pub part_is : part_with (entry_of (customer_at table line.customer)) (spools.spool_at line.customer files) x ≡ part line.customer parts
+  pub there : id.customer < length table.customers
+  pub lines_is : x ≡ lines_at id.customer lines
+  pub ready : IsReady table id files x.lines
+  pub marked : IsMarked (part_with (entry_of (customer_at table id.customer)) (spools.spool_at id.customer files) x).customer
+  pub part_is : part_with (entry_of (customer_at table id.customer)) (spools.spool_at id.customer files) x ≡ part id.customer parts
 
-pub found : (table : TableFile) (files : List CustomerSpool) (lines : List Lines) (parts : List Part) (line : LineId) (x : Lines)
-    → IsHub table files lines → parts_of table files lines ≡ parts → HasLine parts line → x ≡ get_or lines line.customer x
-    → Found table files lines parts line x
-found table files lines parts line x hub are known here =
-    let c = line.customer in
-    let has : HasLine (parts_of table files lines) line = subst (λ (ps : List Part). HasLine ps line) (sym are) known in
-    let there = line-there table files lines line has in
+pub found : (table : TableFile) (files : List CustomerSpool) (lines : List Lines) (parts : List Part) (id : LineId) (x : Lines)
+    → IsHub table files lines → parts_of table files lines ≡ parts → HasLine parts id → x ≡ get_or lines id.customer x
+    → Found table files lines parts id x
+found table files lines parts id x hub are known here =
+    let c = id.customer in
+    let has : HasLine (parts_of table files lines) id = subst (λ (ps : List Part). HasLine ps id) (sym are) known in
+    let there = line-there table files lines id has in
     let is : x ≡ lines_at c lines = get_or_read lines c x (omega (arith, there, hub.lined)) here no_lines in
     record {
       hub = hub;
       are = are;
       there = there;
       lines_is = is;
-      ready = subst (λ (y : Lines). IsReady table line files y.lines) (sym is) (line-ready table files lines line hub has);
+      ready = subst (λ (y : Lines). IsReady table id files y.lines) (sym is) (line-ready table files lines id hub has);
       marked = subst (λ (y : Lines). IsMarked (part_with (entry_of (customer_at table c)) (spools.spool_at c files) y).customer) (sym is)
           (hub.marked c there);
       part_is = ap (part_with (entry_of (customer_at table c)) (spools.spool_at c files)) is ∙ sym (part-there table files lines c there)
@@ -182,19 +182,19 @@ found table files lines parts line x hub are known here =
     }
 
 -- What a step on that line leads to: the customer is ready for the next, with as many lines, and those that are up are marked.
-pub record Stepped (table : TableFile) (files : List CustomerSpool) (x : Lines) (line : LineId)
+pub record Stepped (table : TableFile) (files : List CustomerSpool) (x : Lines) (id : LineId)
     (new : TableFile) (after : List CustomerSpool) (y : Lines) : Type 0 where
-  pub in_table : IsRetold line.customer table new
-  pub in_files : after ≡ slice_set files line.customer (spools.spool_at line.customer after)
-  pub ready : IsReady new line after y.lines
-  pub marked : IsMarked (part_with (entry_of (customer_at new line.customer)) (spools.spool_at line.customer after) y).customer
+  pub in_table : IsRetold id.customer table new
+  pub in_files : after ≡ slice_set files id.customer (spools.spool_at id.customer after)
+  pub ready : IsReady new id after y.lines
+  pub marked : IsMarked (part_with (entry_of (customer_at new id.customer)) (spools.spool_at id.customer after) y).customer
   pub count : length y.lines ≡ length x.lines
 
-pub stepped : {table : TableFile} {files : List CustomerSpool} {lines : List Lines} {parts : List Part} {line : LineId} {x : Lines}
-    {new : TableFile} {after : List CustomerSpool} {y : Lines} → Found table files lines parts line x
-    → Stepped table files x line new after y → Moves table files lines line.customer new after (set lines line.customer y)
-stepped {table} {files} {lines} {parts} {line} {x} {new} {after} {y} f t =
-    let c = line.customer in
+pub stepped : {table : TableFile} {files : List CustomerSpool} {lines : List Lines} {parts : List Part} {id : LineId} {x : Lines}
+    {new : TableFile} {after : List CustomerSpool} {y : Lines} → Found table files lines parts id x
+    → Stepped table files x id new after y → Moves table files lines id.customer new after (set lines id.customer y)
+stepped {table} {files} {lines} {parts} {id} {x} {new} {after} {y} f t =
+    let c = id.customer in
     let is : y ≡ lines_at c (set lines c y) = sym (get_or-set_same lines c y no_lines (omega (arith, f.there, f.hub.lined))) in
     record {
       hub = f.hub;
@@ -210,24 +210,24 @@ stepped {table} {files} {lines} {parts} {line} {x} {new} {after} {y} f t =
     }
 
 -- so its part becomes another, and no other does
-pub step-leads : {table : TableFile} {files : List CustomerSpool} {lines : List Lines} {parts : List Part} {line : LineId} {x : Lines}
-    {new : TableFile} {after : List CustomerSpool} {y : Lines} → Found table files lines parts line x
-    → Stepped table files x line new after y
-    → (p : Part) → part_with (entry_of (customer_at new line.customer)) (spools.spool_at line.customer after) y ≡ p
-    → parts_of new after (set lines line.customer y) ≡ set parts line.customer p
-step-leads {table} {files} {lines} {parts} {line} {x} {new} {after} {y} f t p is =
-    let c = line.customer in
+pub step-leads : {table : TableFile} {files : List CustomerSpool} {lines : List Lines} {parts : List Part} {id : LineId} {x : Lines}
+    {new : TableFile} {after : List CustomerSpool} {y : Lines} → Found table files lines parts id x
+    → Stepped table files x id new after y
+    → (p : Part) → part_with (entry_of (customer_at new id.customer)) (spools.spool_at id.customer after) y ≡ p
+    → parts_of new after (set lines id.customer y) ≡ set parts id.customer p
+step-leads {table} {files} {lines} {parts} {id} {x} {new} {after} {y} f t p is =
+    let c = id.customer in
     parts-moved (stepped f t)
     ∙ ap₂ (λ (ps : List Part) (q : Part). set ps c q) f.are
     (ap (part_with (entry_of (customer_at new c)) (spools.spool_at c after))
     (get_or-set_same lines c y no_lines (omega (arith, f.there, f.hub.lined))) ∙ is)
 
 -- and each keeps as many lines
-pub step-lines : {table : TableFile} {files : List CustomerSpool} {lines : List Lines} {parts : List Part} {line : LineId} {x : Lines}
-    {new : TableFile} {after : List CustomerSpool} {y : Lines} → Found table files lines parts line x
-    → Stepped table files x line new after y
-    → (p : Part) → part_with (entry_of (customer_at new line.customer)) (spools.spool_at line.customer after) y ≡ p
-    → SameLines parts (set parts line.customer p)
-step-lines {table} {files} {lines} {parts} {line} {x} {new} {after} {y} f t p is =
-    lines-stay parts line.customer p (customer-known table files lines parts line.customer f.are f.there)
+pub step-lines : {table : TableFile} {files : List CustomerSpool} {lines : List Lines} {parts : List Part} {id : LineId} {x : Lines}
+    {new : TableFile} {after : List CustomerSpool} {y : Lines} → Found table files lines parts id x
+    → Stepped table files x id new after y
+    → (p : Part) → part_with (entry_of (customer_at new id.customer)) (spools.spool_at id.customer after) y ≡ p
+    → SameLines parts (set parts id.customer p)
+step-lines {table} {files} {lines} {parts} {id} {x} {new} {after} {y} f t p is =
+    lines-stay parts id.customer p (customer-known table files lines parts id.customer f.are f.there)
     (ap (λ (q : Part). length q.customer.lines) (sym is) ∙ t.count ∙ ap (λ (q : Part). length q.customer.lines) f.part_is)

@@ -89,26 +89,26 @@ placed-here parts lines quiets turns turn =
 -- One wire more had its turn.
 pub record GoesRound {S : Type 0} (passed : S → S → List WireAct → Type 0) (count : S → ℕ) (lines : List LineId) (parts : List Part)
     (quiets : List ℕ) (wires : List S) (turns : List Turn) (now : List Part) (now_quiets : List ℕ) (now_wires : List S) (i : ℕ)
-    (line : LineId) (quiet : ℕ) (turn : Turn) (wire : S) (new : List Part) (new_wire : S) : Type 0 where
+    (id : LineId) (quiet : ℕ) (turn : Turn) (wire : S) (new : List Part) (new_wire : S) : Type 0 where
   pub so_far : IsRound passed count lines parts quiets wires turns now now_quiets now_wires
   pub at : length turns ≡ i
   pub lines_left : i < length lines
   pub quiets_left : i < length quiets
   pub wires_left : i < length now_wires
-  pub line_is : line ≡ get_or lines i no_line_id
+  pub line_is : id ≡ get_or lines i no_line_id
   pub quiet_is : quiet ≡ get_or now_quiets i 0
   pub wire_is : wire ≡ get_or now_wires i wire
-  pub did : IsTurn passed count now line quiet turn wire new new_wire
+  pub did : IsTurn passed count now id quiet turn wire new new_wire
 
 -- the wires that had their turn, that one among them
 round_had : {S : Type 0} {passed : S → S → List WireAct → Type 0} {count : S → ℕ} {lines : List LineId} {parts : List Part}
     {quiets : List ℕ} {wires : List S} {turns : List Turn} {now : List Part} {now_quiets : List ℕ} {now_wires : List S} {i : ℕ}
-    {line : LineId} {quiet : ℕ} {turn : Turn} {wire : S} {new : List Part} {new_wire : S} →
-    GoesRound passed count lines parts quiets wires turns now now_quiets now_wires i line quiet turn wire new new_wire →
+    {id : LineId} {quiet : ℕ} {turn : Turn} {wire : S} {new : List Part} {new_wire : S} →
+    GoesRound passed count lines parts quiets wires turns now now_quiets now_wires i id quiet turn wire new new_wire →
     HadTurn passed count (turn_at parts lines quiets (length turns) (turns ++ turn ∷ [])) wire new_wire →
     (k : ℕ) (d : S) → k < length (turns ++ turn ∷ []) → (k < length turns) ⊎ (length turns ≤ k) →
     HadTurn passed count (turn_at parts lines quiets k (turns ++ turn ∷ [])) (get_or wires k d) (get_or (set now_wires i new_wire) k d)
-round_had {S} {passed} {count} {lines} {parts} {quiets} {wires} {turns} {now} {now_quiets} {now_wires} {i} {line} {quiet} {turn} {wire}
+round_had {S} {passed} {count} {lines} {parts} {quiets} {wires} {turns} {now} {now_quiets} {now_wires} {i} {id} {quiet} {turn} {wire}
     {new} {new_wire} g this k d within which =
     ⊎_elim (λ (w : k < length turns).
     let P : Placed → Type 0 = λ p. HadTurn passed count p (get_or wires k d) (get_or (set now_wires i new_wire) k d) in
@@ -130,26 +130,26 @@ round_had {S} {passed} {count} {lines} {parts} {quiets} {wires} {turns} {now} {n
 
 pub round_more : {S : Type 0} {passed : S → S → List WireAct → Type 0} {count : S → ℕ} {lines : List LineId} {parts : List Part}
     {quiets : List ℕ} {wires : List S} {turns : List Turn} {now : List Part} {now_quiets : List ℕ} {now_wires : List S} {i : ℕ}
-    {line : LineId} {quiet : ℕ} {turn : Turn} {wire : S} {new : List Part} {new_wire : S} →
-    GoesRound passed count lines parts quiets wires turns now now_quiets now_wires i line quiet turn wire new new_wire →
+    {id : LineId} {quiet : ℕ} {turn : Turn} {wire : S} {new : List Part} {new_wire : S} →
+    GoesRound passed count lines parts quiets wires turns now now_quiets now_wires i id quiet turn wire new new_wire →
     IsRound passed count lines parts quiets wires (turns ++ turn ∷ []) new (set now_quiets i (quiet_after quiet turn.heard))
     (set now_wires i new_wire)
-round_more {S} {passed} {count} {lines} {parts} {quiets} {wires} {turns} {now} {now_quiets} {now_wires} {i} {line} {quiet} {turn} {wire}
+round_more {S} {passed} {count} {lines} {parts} {quiets} {wires} {turns} {now} {now_quiets} {now_wires} {i} {id} {quiet} {turn} {wire}
     {new} {new_wire} g =
     let before = round_events lines quiets turns in
-    let line_is : line ≡ get_or lines (length turns) no_line_id = g.line_is ∙ ap (λ (n : ℕ). get_or lines n no_line_id) (sym g.at) in
+    let line_is : id ≡ get_or lines (length turns) no_line_id = g.line_is ∙ ap (λ (n : ℕ). get_or lines n no_line_id) (sym g.at) in
     let quiet_is : quiet ≡ get_or quiets (length turns) 0 =
     g.quiet_is ∙ ap (λ (n : ℕ). get_or now_quiets n 0) (sym g.at) ∙ ap (λ (qs : List ℕ). get_or qs (length turns) 0) g.so_far.calm
     ∙ quiets_after-here quiets turns in
-    let here : turn_events line quiet turn ≡ turn_events (get_or lines (length turns) no_line_id) (get_or quiets (length turns) 0) turn =
+    let here : turn_events id quiet turn ≡ turn_events (get_or lines (length turns) no_line_id) (get_or quiets (length turns) 0) turn =
     ap (λ (l : LineId). turn_events l quiet turn) line_is
     ∙ ap (λ (q : ℕ). turn_events (get_or lines (length turns) no_line_id) q turn) quiet_is in
-    let events : round_events lines quiets (turns ++ turn ∷ []) ≡ before ++ turn_events line quiet turn =
+    let events : round_events lines quiets (turns ++ turn ∷ []) ≡ before ++ turn_events id quiet turn =
     round_events-more lines quiets turns turn (omega (arith, g.at, g.lines_left)) (omega (arith, g.at, g.quiets_left))
     ∙ ap (λ (es : List Event). before ++ es) (sym here) in
     let P : Placed → Type 0 = λ p. HadTurn passed count p wire new_wire in
-    let place : record { parts = now; line = line; quiet = quiet; turn = turn } ≡ turn_at parts lines quiets (length turns) (turns ++ turn ∷ []) =
-    ap (λ (ps : List Part). record { parts = ps; line = line; quiet = quiet; turn = turn }) g.so_far.hub
+    let place : record { parts = now; line = id; quiet = quiet; turn = turn } ≡ turn_at parts lines quiets (length turns) (turns ++ turn ∷ []) =
+    ap (λ (ps : List Part). record { parts = ps; line = id; quiet = quiet; turn = turn }) g.so_far.hub
     ∙ ap (λ (l : LineId). record { parts = (hub_run parts before).parts; line = l; quiet = quiet; turn = turn }) line_is
     ∙ ap (λ (q : ℕ). record {
       parts = (hub_run parts before).parts;
@@ -160,8 +160,8 @@ round_more {S} {passed} {count} {lines} {parts} {quiets} {wires} {turns} {now} {
     let this : HadTurn passed count (turn_at parts lines quiets (length turns) (turns ++ turn ∷ [])) wire new_wire =
     subst P place (record { acts = g.did.acts; stop = g.did.stop; counts = g.did.counts; counted = g.did.counted }) in
     record {
-      hub = g.did.hub ∙ ap (λ (ps : List Part). (hub_run ps (turn_events line quiet turn)).parts) g.so_far.hub
-          ∙ sym (ap (λ (h : HubRun). h.parts) (hub_run-append parts before (turn_events line quiet turn)))
+      hub = g.did.hub ∙ ap (λ (ps : List Part). (hub_run ps (turn_events id quiet turn)).parts) g.so_far.hub
+          ∙ sym (ap (λ (h : HubRun). h.parts) (hub_run-append parts before (turn_events id quiet turn)))
           ∙ sym (ap (λ (es : List Event). (hub_run parts es).parts) events);
       calm = ap (λ (qs : List ℕ). set qs i (quiet_after quiet turn.heard)) g.so_far.calm
           ∙ ap (λ (n : ℕ). set (quiets_after quiets turns) n (quiet_after quiet turn.heard)) (sym g.at)

@@ -21,7 +21,7 @@ cond-append false x xs ys zs e = e
 
 pub sent_to-append : (c : ℕ) (xs ys : List (LineId × List ℕ)) → sent_to c (xs ++ ys) ≡ sent_to c xs ++ sent_to c ys
 sent_to-append c [] ys = refl
-sent_to-append c (x ∷ xs) ys = cond-append (eqb x.0.customer c) (x.0.line, x.1) (sent_to c (xs ++ ys)) (sent_to c xs)
+sent_to-append c (x ∷ xs) ys = cond-append (eqb x.0.customer c) (x.0.number, x.1) (sent_to c (xs ++ ys)) (sent_to c xs)
     (sent_to c ys) (sent_to-append c xs ys)
 
 pub sent_to-sent_by_same : (c d : ℕ) → eqb d c ≡ true → (xs : List (ℕ × List ℕ)) → sent_to c (sent_by d xs) ≡ xs

@@ -28,88 +28,88 @@ use Rattle.njh_hub.specs.Sent.{IsCounted}
 use Rattle.njh_hub.proofs.PieceLaws.{after_bytes, after_bytes-none, after_bytes-step}
 
 -- a customer with a line is there
-pub known-there : (parts : List Part) (line : LineId) → HasLine parts line → line.customer < length parts
-known-there parts line known =
-    ⊎_elim (λ (w : line.customer < length parts). w)
-    (λ (w : length parts ≤ line.customer). absurd
-    (omega (arith, ap (λ (p : Part). length p.customer.lines) (get_or_past parts line.customer no_part w))))
-    (cases_lt line.customer (length parts))
+pub known-there : (parts : List Part) (id : LineId) → HasLine parts id → id.customer < length parts
+known-there parts id known =
+    ⊎_elim (λ (w : id.customer < length parts). w)
+    (λ (w : length parts ≤ id.customer). absurd
+    (omega (arith, ap (λ (p : Part). length p.customer.lines) (get_or_past parts id.customer no_part w))))
+    (cases_lt id.customer (length parts))
 
 only_one : (h : HubRun) → record { parts = h.parts; sent = h.sent ++ [] } ≡ h
 only_one h = ap (λ (s : List (LineId × List ℕ)). record h { sent = s }) (append-nil h.sent)
 
 -- the first bytes of an event as the only one
-pub part_done : NoBytesDoNothing → (parts : List Part) (line : LineId) (piece : List ℕ) (n : ℕ) →
-    hub_run parts (first_events (Bytes line piece ∷ []) 0 n) ≡ after_bytes parts line (take n piece)
-part_done nothing parts line piece zero = sym (after_bytes-none nothing parts line)
-part_done nothing parts line piece (suc n) = only_one (after_bytes parts line (take (suc n) piece))
+pub part_done : NoBytesDoNothing → (parts : List Part) (id : LineId) (piece : List ℕ) (n : ℕ) →
+    hub_run parts (first_events (Bytes id piece ∷ []) 0 n) ≡ after_bytes parts id (take n piece)
+part_done nothing parts id piece zero = sym (after_bytes-none nothing parts id)
+part_done nothing parts id piece (suc n) = only_one (after_bytes parts id (take (suc n) piece))
 
 pub whole_done : (parts : List Part) (event : Event) → hub_run parts (event ∷ []) ≡ hub_event parts event
 whole_done parts event = only_one (hub_event parts event)
 
 -- A step by bytes of a piece, so many of which were taken before.
-pub record GoesOn (start now after : List Part) (line : LineId) (piece left : List ℕ) (before used : ℕ) (frame : List ℕ) : Type 0 where
+pub record GoesOn (start now after : List Part) (id : LineId) (piece left : List ℕ) (before used : ℕ) (frame : List ℕ) : Type 0 where
   pub follow : StepsFollowBytes
-  pub known : HasLine start line
-  pub now_is : now ≡ (after_bytes start line (take before piece)).parts
+  pub known : HasLine start id
+  pub now_is : now ≡ (after_bytes start id (take before piece)).parts
   pub left_is : left ≡ drop before piece
-  pub rests : line.line < length (part line.customer now).rests
-  pub used_is : used ≡ (part_after_bytes (part line.customer now) line.line left).taken
-  pub after_is : after ≡ set now line.customer (part_after_bytes (part line.customer now) line.line left).after
-  pub frame_is : frame ≡ (part_after_bytes (part line.customer now) line.line left).frame
+  pub rests : id.number < length (part id.customer now).rests
+  pub used_is : used ≡ (part_after_bytes (part id.customer now) id.number left).taken
+  pub after_is : after ≡ set now id.customer (part_after_bytes (part id.customer now) id.number left).after
+  pub frame_is : frame ≡ (part_after_bytes (part id.customer now) id.number left).frame
 
 abbrev step_from : List Part → LineId → List (LineId × List ℕ) → List ℕ → HubRun
-step_from now line sent left =
-    let t = part_after_bytes (part line.customer now) line.line left in
-    record { parts = set now line.customer t.after; sent = sent ++ sent_by line.customer (sent_on line.line t.frame) }
+step_from now id sent left =
+    let t = part_after_bytes (part id.customer now) id.number left in
+    record { parts = set now id.customer t.after; sent = sent ++ sent_by id.customer (sent_on id.number t.frame) }
 
 -- such a step leads to where the bytes lead, and sends what they send
-pub step_done : {start now after : List Part} {line : LineId} {piece left : List ℕ} {before used : ℕ} {frame : List ℕ} →
-    GoesOn start now after line piece left before used frame →
-    after_bytes start line (take (before + used) piece)
+pub step_done : {start now after : List Part} {id : LineId} {piece left : List ℕ} {before used : ℕ} {frame : List ℕ} →
+    GoesOn start now after id piece left before used frame →
+    after_bytes start id (take (before + used) piece)
     ≡ record {
       parts = after;
-      sent = (after_bytes start line (take before piece)).sent ++ sent_by line.customer
-          (sent_on line.line frame);
+      sent = (after_bytes start id (take before piece)).sent ++ sent_by id.customer
+          (sent_on id.number frame);
     }
-step_done {start} {now} {after} {line} {piece} {left} {before} {used} {frame} h =
-    let there = known-there start line h.known in
+step_done {start} {now} {after} {id} {piece} {left} {before} {used} {frame} h =
+    let there = known-there start id h.known in
     let front = take before piece in
-    let old = after_bytes start line front in
-    let t = part_after_bytes (part line.customer now) line.line left in
-    let rests : line.line < length (part line.customer old.parts).rests =
-    omega (arith, h.rests, ap (λ (ps : List Part). length (part line.customer ps).rests) h.now_is) in
-    let o = part_after_bytes (part line.customer old.parts) line.line left in
-    let same : t ≡ o = ap (λ (ps : List Part). part_after_bytes (part line.customer ps) line.line left) h.now_is in
+    let old = after_bytes start id front in
+    let t = part_after_bytes (part id.customer now) id.number left in
+    let rests : id.number < length (part id.customer old.parts).rests =
+    omega (arith, h.rests, ap (λ (ps : List Part). length (part id.customer ps).rests) h.now_is) in
+    let o = part_after_bytes (part id.customer old.parts) id.number left in
+    let same : t ≡ o = ap (λ (ps : List Part). part_after_bytes (part id.customer ps) id.number left) h.now_is in
     let cut : take (before + used) piece ≡ front ++ take o.taken left =
     take-add before used piece ∙ ap (λ (n : ℕ). front ++ take n (drop before piece)) (h.used_is ∙ ap (λ x. x.taken) same)
     ∙ ap (λ (bs : List ℕ). front ++ take o.taken bs) (sym h.left_is) in
-    ap (after_bytes start line) cut ∙ after_bytes-step h.follow start line front left there rests
-    ∙ ap (λ (ps : List Part). step_from ps line old.sent left) (sym h.now_is)
-    ∙ ap (λ (ps : List Part). record { parts = ps; sent = old.sent ++ sent_by line.customer (sent_on line.line t.frame) })
+    ap (after_bytes start id) cut ∙ after_bytes-step h.follow start id front left there rests
+    ∙ ap (λ (ps : List Part). step_from ps id old.sent left) (sym h.now_is)
+    ∙ ap (λ (ps : List Part). record { parts = ps; sent = old.sent ++ sent_by id.customer (sent_on id.number t.frame) })
     (sym h.after_is)
-    ∙ ap (λ (b : List ℕ). record { parts = after; sent = old.sent ++ sent_by line.customer (sent_on line.line b) }) (sym h.frame_is)
+    ∙ ap (λ (b : List ℕ). record { parts = after; sent = old.sent ++ sent_by id.customer (sent_on id.number b) }) (sym h.frame_is)
 
 -- the same, where a sink refused the frame: the event is done with its last step
-pub sink_done : NoBytesDoNothing → (parts : List Part) (line : LineId) (piece : List ℕ) (taken events bytes : ℕ) →
+pub sink_done : NoBytesDoNothing → (parts : List Part) (id : LineId) (piece : List ℕ) (taken events bytes : ℕ) →
     (length piece ≤ taken → (events ≡ 1) × (bytes ≡ 0)) → (taken < length piece → (events ≡ 0) × (bytes ≡ taken)) →
-    hub_run parts (first_events (Bytes line piece ∷ []) events bytes) ≡ after_bytes parts line (take taken piece)
-sink_done nothing parts line piece taken events bytes whole part =
+    hub_run parts (first_events (Bytes id piece ∷ []) events bytes) ≡ after_bytes parts id (take taken piece)
+sink_done nothing parts id piece taken events bytes whole part =
     ⊎_elim (λ (w : taken < length piece).
     let e = part w in
-    ap (λ (n : ℕ). hub_run parts (first_events (Bytes line piece ∷ []) n bytes)) e.0
-    ∙ ap (λ (n : ℕ). hub_run parts (first_events (Bytes line piece ∷ []) 0 n)) e.1 ∙ part_done nothing parts line piece taken)
+    ap (λ (n : ℕ). hub_run parts (first_events (Bytes id piece ∷ []) n bytes)) e.0
+    ∙ ap (λ (n : ℕ). hub_run parts (first_events (Bytes id piece ∷ []) 0 n)) e.1 ∙ part_done nothing parts id piece taken)
     (λ (w : length piece ≤ taken).
     let e = whole w in
-    ap (λ (n : ℕ). hub_run parts (first_events (Bytes line piece ∷ []) n bytes)) e.0
-    ∙ ap (λ (n : ℕ). hub_run parts (first_events (Bytes line piece ∷ []) 1 n)) e.1
-    ∙ whole_done parts (Bytes line piece) ∙ ap (after_bytes parts line) (sym (take_all taken piece w)))
+    ap (λ (n : ℕ). hub_run parts (first_events (Bytes id piece ∷ []) n bytes)) e.0
+    ∙ ap (λ (n : ℕ). hub_run parts (first_events (Bytes id piece ∷ []) 1 n)) e.1
+    ∙ whole_done parts (Bytes id piece) ∙ ap (after_bytes parts id) (sym (take_all taken piece w)))
     (cases_lt taken (length piece))
 
 -- a frame that was sent, with its line
-pub sent_pair : (line : LineId) (frame : List ℕ) → 0 < length frame → sent_by line.customer (sent_on line.line frame) ≡ (line, frame) ∷ []
-sent_pair line [] some = absurd (omega arith)
-sent_pair line (b ∷ frame) some = refl
+pub sent_pair : (id : LineId) (frame : List ℕ) → 0 < length frame → sent_by id.customer (sent_on id.number frame) ≡ (id, frame) ∷ []
+sent_pair id [] some = absurd (omega arith)
+sent_pair id (b ∷ frame) some = refl
 
 pub counted_from : (before now after : ℕ) → before ≤ now → IsCounted now after → IsCounted before after
 counted_from before now after h c = ⊎_elim (λ (w : now < after). inl (omega arith)) (λ (w : after ≡ 18446744073709551615). inr w) c
@@ -192,26 +192,26 @@ went_on start now events k event within found here =
     ∙ ap (λ (ps : List Part). later_than ps (hub_run start (take k events)).sent (event ∷ [])) (sym here)
 
 -- the event of a signal on a line
-pub line-event_by : (s : Signal) (line : LineId) → line_of_event (event_by s line) ≡ Some line
-line-event_by signal.Tick line = refl
-line-event_by signal.Garbled line = refl
-line-event_by signal.Lost line = refl
+pub line-event_by : (s : Signal) (id : LineId) → line_of_event (event_by s id) ≡ Some id
+line-event_by signal.Tick id = refl
+line-event_by signal.Garbled id = refl
+line-event_by signal.Lost id = refl
 
-pub named-event_by : (parts : List Part) (s : Signal) (line : LineId) → HasLine parts line → IsNamed parts (event_by s line)
-named-event_by parts signal.Tick line known = known
-named-event_by parts signal.Garbled line known = known
-named-event_by parts signal.Lost line known = known
+pub named-event_by : (parts : List Part) (s : Signal) (id : LineId) → HasLine parts id → IsNamed parts (event_by s id)
+named-event_by parts signal.Tick id known = known
+named-event_by parts signal.Garbled id known = known
+named-event_by parts signal.Lost id known = known
 
 -- and as the only event
-pub signal_done : (parts : List Part) (s : Signal) (line : LineId) →
-    (let t = part_after_signal (part line.customer parts) line.line s in
-    hub_run parts (event_by s line ∷ []) ≡ record {
-      parts = set parts line.customer t.after;
-      sent = sent_by line.customer (sent_on line.line t.frame);
+pub signal_done : (parts : List Part) (s : Signal) (id : LineId) →
+    (let t = part_after_signal (part id.customer parts) id.number s in
+    hub_run parts (event_by s id ∷ []) ≡ record {
+      parts = set parts id.customer t.after;
+      sent = sent_by id.customer (sent_on id.number t.frame);
     })
-signal_done parts signal.Tick line = whole_done parts (Tick line)
-signal_done parts signal.Garbled line = whole_done parts (Garbled line)
-signal_done parts signal.Lost line = whole_done parts (Lost line)
+signal_done parts signal.Tick id = whole_done parts (Tick id)
+signal_done parts signal.Garbled id = whole_done parts (Garbled id)
+signal_done parts signal.Lost id = whole_done parts (Lost id)
 
 -- routes that aren't refused, as the only event
 pub routes_done : (parts : List Part) (c : ℕ) (routes : List RouteEntry) →
@@ -224,11 +224,11 @@ routes_done parts c routes checked =
     ap (λ (w : Walked (Unit {0})). record { parts = set parts c (taken_where w (own_routes c routes) (part c parts)); sent = [] }) checked
 
 -- a sink's stop is within the event
-pub is_within_one : (line : LineId) (piece : List ℕ) (taken : ℕ) (fault : RunFault) →
+pub is_within_one : (id : LineId) (piece : List ℕ) (taken : ℕ) (fault : RunFault) →
     (length piece ≤ taken → (fault.events ≡ 1) × (fault.bytes ≡ 0)) →
     (taken < length piece → (fault.events ≡ 0) × (fault.bytes ≡ taken)) →
-    IsWithinOne (Bytes line piece) fault
-is_within_one line piece taken fault whole part =
+    IsWithinOne (Bytes id piece) fault
+is_within_one id piece taken fault whole part =
     ⊎_elim (λ (w : taken < length piece). let e = part w in (λ _. (e.0, omega (arith, e.1)), inl e.0))
     (λ (w : length piece ≤ taken). let e = whole w in (λ some. absurd (omega (arith, e.1, some)), inr e))
     (cases_lt taken (length piece))

@@ -29,16 +29,16 @@ counted_on before now after first then c =
     (cases_lt now after)) c
 
 -- a turn of a read and of what came of its answer
-pub read_turn : {S : Type 0} (passed : S → S → List WireAct → Type 0) (count : S → ℕ) (parts new : List Part) (line : LineId)
+pub read_turn : {S : Type 0} (passed : S → S → List WireAct → Type 0) (count : S → ℕ) (parts new : List Part) (id : LineId)
     (quiet : ℕ) (answer : Result Reading WireFault) (buffer : List ℕ) (cut : Option ℕ) (wire read new_wire : S) →
     ((a b c : S) (xs ys : List WireAct) → passed a b xs → passed b c ys → passed a c (xs ++ ys)) →
     passed wire read (answer_acts (heard_of answer buffer)) → count wire ≤ count read →
     OnErr answer (IsCounted (count wire) (count read)) →
-    IsHeard passed count parts (wire_event line quiet (heard_of answer buffer)) cut read new new_wire →
-    IsTurn passed count parts line quiet (record { heard = heard_of answer buffer; cut = cut }) wire new new_wire
-read_turn passed count parts new line quiet answer buffer cut wire read new_wire more answered counts counted h = record {
+    IsHeard passed count parts (wire_event id quiet (heard_of answer buffer)) cut read new new_wire →
+    IsTurn passed count parts id quiet (record { heard = heard_of answer buffer; cut = cut }) wire new new_wire
+read_turn passed count parts new id quiet answer buffer cut wire read new_wire more answered counts counted h = record {
   hub = h.hub;
-  acts = more wire read new_wire (answer_acts (heard_of answer buffer)) (written_where parts cut (wire_event line quiet (heard_of answer buffer)))
+  acts = more wire read new_wire (answer_acts (heard_of answer buffer)) (written_where parts cut (wire_event id quiet (heard_of answer buffer)))
       answered h.acts;
   stop = h.stop;
   counts = omega (arith, counts, h.counts);

@@ -39,17 +39,17 @@ silent_before rest c l (byte ∷ bytes) (suc k) within =
     (silent_before x.rest x.after l bytes k)
 
 -- a byte less than a step takes sends no frame of it
-pub byte_less : CutsAreLike → {start now after : List Part} {line : LineId} {piece left : List ℕ} {before used : ℕ} {frame : List ℕ} →
-    GoesOn start now after line piece left before used frame → 0 < used →
-    (after_bytes start line (take (before + used - 1) piece)).sent ≡ (after_bytes start line (take before piece)).sent
-byte_less cuts {start} {now} {after} {line} {piece} {left} {before} {used} {frame} h some =
-    let c = line.customer in
-    let l = line.line in
+pub byte_less : CutsAreLike → {start now after : List Part} {id : LineId} {piece left : List ℕ} {before used : ℕ} {frame : List ℕ} →
+    GoesOn start now after id piece left before used frame → 0 < used →
+    (after_bytes start id (take (before + used - 1) piece)).sent ≡ (after_bytes start id (take before piece)).sent
+byte_less cuts {start} {now} {after} {id} {piece} {left} {before} {used} {frame} h some =
+    let c = id.customer in
+    let l = id.number in
     let p = part c start in
     let front = take before piece in
     let x = event_run p (OwnBytes l front) in
     let k = used - 1 in
-    let moved : part c now ≡ x.after = ap (part c) h.now_is ∙ get_or-set_same start c x.after no_part (known-there start line h.known) in
+    let moved : part c now ≡ x.after = ap (part c) h.now_is ∙ get_or-set_same start c x.after no_part (known-there start id h.known) in
     let inside : l < length p.rests = omega (
       arith,
       h.rests,
@@ -71,9 +71,9 @@ byte_less cuts {start} {now} {after} {line} {piece} {left} {before} {used} {fram
 
 -- ---- what is written
 
-pub frame_acts-sent : (line : LineId) (frame : List ℕ) → map sent_act (sent_by line.customer (sent_on line.line frame)) ≡ frame_acts frame
-frame_acts-sent line [] = refl
-frame_acts-sent line (b ∷ frame) = refl
+pub frame_acts-sent : (id : LineId) (frame : List ℕ) → map sent_act (sent_by id.customer (sent_on id.number frame)) ≡ frame_acts frame
+frame_acts-sent id [] = refl
+frame_acts-sent id (b ∷ frame) = refl
 
 pub last_unsent-append : (front : List (LineId × List ℕ)) (pair : LineId × List ℕ) →
     last_unsent (front ++ pair ∷ []) ≡ map sent_act front ++ Unsent pair.1 ∷ []
@@ -82,94 +82,94 @@ last_unsent-append (x ∷ []) pair = refl
 last_unsent-append (x ∷ y ∷ front) pair = ap (λ (s : List WireAct). sent_act x ∷ s) (last_unsent-append (y ∷ front) pair)
 
 -- a step's frame is written behind those before it
-pub step_written : {start now after : List Part} {line : LineId} {piece left : List ℕ} {before used : ℕ} {frame : List ℕ} →
-    GoesOn start now after line piece left before used frame →
-    map sent_act (after_bytes start line (take (before + used) piece)).sent
-    ≡ map sent_act (after_bytes start line (take before piece)).sent ++ frame_acts frame
-step_written {start} {now} {after} {line} {piece} {left} {before} {used} {frame} h =
-    let sent = (after_bytes start line (take before piece)).sent in
+pub step_written : {start now after : List Part} {id : LineId} {piece left : List ℕ} {before used : ℕ} {frame : List ℕ} →
+    GoesOn start now after id piece left before used frame →
+    map sent_act (after_bytes start id (take (before + used) piece)).sent
+    ≡ map sent_act (after_bytes start id (take before piece)).sent ++ frame_acts frame
+step_written {start} {now} {after} {id} {piece} {left} {before} {used} {frame} h =
+    let sent = (after_bytes start id (take before piece)).sent in
     ap (λ (r : HubRun). map sent_act r.sent) (step_done h)
-    ∙ map-append sent_act sent (sent_by line.customer (sent_on line.line frame))
-    ∙ ap (λ (s : List WireAct). map sent_act sent ++ s) (frame_acts-sent line frame)
+    ∙ map-append sent_act sent (sent_by id.customer (sent_on id.number frame))
+    ∙ ap (λ (s : List WireAct). map sent_act sent ++ s) (frame_acts-sent id frame)
 
 -- the frames up to a step that sends one
-pub step_sends : {start now after : List Part} {line : LineId} {piece left : List ℕ} {before used : ℕ} {frame : List ℕ} →
-    GoesOn start now after line piece left before used frame → 0 < length frame →
-    (run_until start (before + used) (Bytes line piece)).sent ≡ (after_bytes start line (take before piece)).sent ++ (line, frame) ∷ []
-step_sends {start} {now} {after} {line} {piece} {left} {before} {used} {frame} h some =
-    let sent = (after_bytes start line (take before piece)).sent in
-    ap (λ (r : HubRun). r.sent) (whole_done start (Bytes line (take (before + used) piece)) ∙ step_done h)
-    ∙ ap (λ (s : List (LineId × List ℕ)). sent ++ s) (sent_pair line frame some)
+pub step_sends : {start now after : List Part} {id : LineId} {piece left : List ℕ} {before used : ℕ} {frame : List ℕ} →
+    GoesOn start now after id piece left before used frame → 0 < length frame →
+    (run_until start (before + used) (Bytes id piece)).sent ≡ (after_bytes start id (take before piece)).sent ++ (id, frame) ∷ []
+step_sends {start} {now} {after} {id} {piece} {left} {before} {used} {frame} h some =
+    let sent = (after_bytes start id (take before piece)).sent in
+    ap (λ (r : HubRun). r.sent) (whole_done start (Bytes id (take (before + used) piece)) ∙ step_done h)
+    ∙ ap (λ (s : List (LineId × List ℕ)). sent ++ s) (sent_pair id frame some)
 
 -- the write of a step's frame fails
-pub step_unsent : {start now after : List Part} {line : LineId} {piece left : List ℕ} {before used : ℕ} {frame : List ℕ} →
-    GoesOn start now after line piece left before used frame → 0 < length frame →
-    last_unsent (run_until start (before + used) (Bytes line piece)).sent
-    ≡ map sent_act (after_bytes start line (take before piece)).sent ++ Unsent frame ∷ []
-step_unsent {start} {now} {after} {line} {piece} {left} {before} {used} {frame} h some =
-    ap last_unsent (step_sends h some) ∙ last_unsent-append (after_bytes start line (take before piece)).sent (line, frame)
+pub step_unsent : {start now after : List Part} {id : LineId} {piece left : List ℕ} {before used : ℕ} {frame : List ℕ} →
+    GoesOn start now after id piece left before used frame → 0 < length frame →
+    last_unsent (run_until start (before + used) (Bytes id piece)).sent
+    ≡ map sent_act (after_bytes start id (take before piece)).sent ++ Unsent frame ∷ []
+step_unsent {start} {now} {after} {id} {piece} {left} {before} {used} {frame} h some =
+    ap last_unsent (step_sends h some) ∙ last_unsent-append (after_bytes start id (take before piece)).sent (id, frame)
 
-pub step_stops : CutsAreLike → {start now after : List Part} {line : LineId} {piece left : List ℕ} {before used : ℕ} {frame : List ℕ} →
-    GoesOn start now after line piece left before used frame → 0 < length frame → 0 < used → before + used ≤ length piece →
-    SendsAt start (Bytes line piece) (before + used)
-step_stops cuts {start} {now} {after} {line} {piece} {left} {before} {used} {frame} h some any within =
-    let sent = (after_bytes start line (take before piece)).sent in
-    let whole : length (run_until start (before + used) (Bytes line piece)).sent ≡ length sent + 1 =
-    ap (λ (s : List (LineId × List ℕ)). length s) (step_sends h some) ∙ length-append sent ((line, frame) ∷ []) in
-    let less : length (run_until start (before + used - 1) (Bytes line piece)).sent ≡ length sent =
-    ap (λ (r : HubRun). length r.sent) (whole_done start (Bytes line (take (before + used - 1) piece)))
+pub step_stops : CutsAreLike → {start now after : List Part} {id : LineId} {piece left : List ℕ} {before used : ℕ} {frame : List ℕ} →
+    GoesOn start now after id piece left before used frame → 0 < length frame → 0 < used → before + used ≤ length piece →
+    SendsAt start (Bytes id piece) (before + used)
+step_stops cuts {start} {now} {after} {id} {piece} {left} {before} {used} {frame} h some any within =
+    let sent = (after_bytes start id (take before piece)).sent in
+    let whole : length (run_until start (before + used) (Bytes id piece)).sent ≡ length sent + 1 =
+    ap (λ (s : List (LineId × List ℕ)). length s) (step_sends h some) ∙ length-append sent ((id, frame) ∷ []) in
+    let less : length (run_until start (before + used - 1) (Bytes id piece)).sent ≡ length sent =
+    ap (λ (r : HubRun). length r.sent) (whole_done start (Bytes id (take (before + used - 1) piece)))
     ∙ ap (λ (s : List (LineId × List ℕ)). length s) (byte_less cuts h any) in
     record { within = within; some = omega (arith, whole); last = λ _. omega (arith, whole, less) }
 
 -- ---- signals
 
-pub cut_to-event_by : (n : ℕ) (s : Signal) (line : LineId) → cut_to n (event_by s line) ≡ event_by s line
-cut_to-event_by n signal.Tick line = refl
-cut_to-event_by n signal.Garbled line = refl
-cut_to-event_by n signal.Lost line = refl
+pub cut_to-event_by : (n : ℕ) (s : Signal) (id : LineId) → cut_to n (event_by s id) ≡ event_by s id
+cut_to-event_by n signal.Tick id = refl
+cut_to-event_by n signal.Garbled id = refl
+cut_to-event_by n signal.Lost id = refl
 
 -- an event, and then the loss of its line
-pub lost_next : (start now new : List Part) (event : Event) (line : LineId) → Some line ≡ line_of_event event →
-    now ≡ (hub_run start (event ∷ [])).parts → new ≡ set now line.customer (part_after_signal (part line.customer now) line.line signal.Lost).after →
+pub lost_next : (start now new : List Part) (event : Event) (id : LineId) → Some id ≡ line_of_event event →
+    now ≡ (hub_run start (event ∷ [])).parts → new ≡ set now id.customer (part_after_signal (part id.customer now) id.number signal.Lost).after →
     new ≡ (hub_run start (event ∷ loss_of (line_of_event event))).parts
-lost_next start now new event line on before after =
-    after ∙ sym (ap (λ (h : HubRun). h.parts) (signal_done now signal.Lost line))
-    ∙ ap (λ (ps : List Part). (hub_run ps (Lost line ∷ [])).parts) before
+lost_next start now new event id on before after =
+    after ∙ sym (ap (λ (h : HubRun). h.parts) (signal_done now signal.Lost id))
+    ∙ ap (λ (ps : List Part). (hub_run ps (Lost id ∷ [])).parts) before
     ∙ ap (λ (o : Option LineId). (hub_run (hub_run start (event ∷ [])).parts (loss_of o)).parts) on
 
 -- a signal, and then the loss of its line
-pub lost_after : (start now new : List Part) (s : Signal) (line : LineId) →
-    now ≡ (hub_run start (cut_to 0 (event_by s line) ∷ [])).parts →
-    new ≡ set now line.customer (part_after_signal (part line.customer now) line.line signal.Lost).after →
-    new ≡ (hub_run start (cut_to 0 (event_by s line) ∷ loss_of (line_of_event (event_by s line)))).parts
-lost_after start now new s line before after =
-    let on : Some line ≡ line_of_event (cut_to 0 (event_by s line)) = sym (ap line_of_event (cut_to-event_by 0 s line) ∙ line-event_by s line) in
-    lost_next start now new (cut_to 0 (event_by s line)) line on before after
-    ∙ ap (λ (e : Event). (hub_run start (cut_to 0 (event_by s line) ∷ loss_of (line_of_event e))).parts) (cut_to-event_by 0 s line)
+pub lost_after : (start now new : List Part) (s : Signal) (id : LineId) →
+    now ≡ (hub_run start (cut_to 0 (event_by s id) ∷ [])).parts →
+    new ≡ set now id.customer (part_after_signal (part id.customer now) id.number signal.Lost).after →
+    new ≡ (hub_run start (cut_to 0 (event_by s id) ∷ loss_of (line_of_event (event_by s id)))).parts
+lost_after start now new s id before after =
+    let on : Some id ≡ line_of_event (cut_to 0 (event_by s id)) = sym (ap line_of_event (cut_to-event_by 0 s id) ∙ line-event_by s id) in
+    lost_next start now new (cut_to 0 (event_by s id)) id on before after
+    ∙ ap (λ (e : Event). (hub_run start (cut_to 0 (event_by s id) ∷ loss_of (line_of_event e))).parts) (cut_to-event_by 0 s id)
 
 -- a signal whose frame could not be written
-pub signal_stops : (parts : List Part) (s : Signal) (line : LineId) (frame : List ℕ) →
-    frame ≡ (part_after_signal (part line.customer parts) line.line s).frame → 0 < length frame → SendsAt parts (event_by s line) 0
-signal_stops parts s line frame is some =
-    let sent : (run_until parts 0 (event_by s line)).sent ≡ (line, frame) ∷ [] =
-    ap (λ (e : Event). (hub_run parts (e ∷ [])).sent) (cut_to-event_by 0 s line)
-    ∙ ap (λ (h : HubRun). h.sent) (signal_done parts s line)
-    ∙ ap (λ (b : List ℕ). sent_by line.customer (sent_on line.line b)) (sym is) ∙ sent_pair line frame some in
-    let one : length (run_until parts 0 (event_by s line)).sent ≡ 1 = ap (λ (s : List (LineId × List ℕ)). length s) sent in
+pub signal_stops : (parts : List Part) (s : Signal) (id : LineId) (frame : List ℕ) →
+    frame ≡ (part_after_signal (part id.customer parts) id.number s).frame → 0 < length frame → SendsAt parts (event_by s id) 0
+signal_stops parts s id frame is some =
+    let sent : (run_until parts 0 (event_by s id)).sent ≡ (id, frame) ∷ [] =
+    ap (λ (e : Event). (hub_run parts (e ∷ [])).sent) (cut_to-event_by 0 s id)
+    ∙ ap (λ (h : HubRun). h.sent) (signal_done parts s id)
+    ∙ ap (λ (b : List ℕ). sent_by id.customer (sent_on id.number b)) (sym is) ∙ sent_pair id frame some in
+    let one : length (run_until parts 0 (event_by s id)).sent ≡ 1 = ap (λ (s : List (LineId × List ℕ)). length s) sent in
     record { within = omega arith; some = omega (arith, one); last = λ none. absurd (omega (arith, none)) }
 
-pub signal_unsent : (parts : List Part) (s : Signal) (line : LineId) (frame : List ℕ) →
-    frame ≡ (part_after_signal (part line.customer parts) line.line s).frame → 0 < length frame →
-    last_unsent (run_until parts 0 (event_by s line)).sent ≡ Unsent frame ∷ []
-signal_unsent parts s line frame is some =
-    ap (λ (e : Event). last_unsent (hub_run parts (e ∷ [])).sent) (cut_to-event_by 0 s line)
-    ∙ ap (λ (h : HubRun). last_unsent h.sent) (signal_done parts s line)
-    ∙ ap (λ (b : List ℕ). last_unsent (sent_by line.customer (sent_on line.line b))) (sym is)
-    ∙ ap last_unsent (sent_pair line frame some)
+pub signal_unsent : (parts : List Part) (s : Signal) (id : LineId) (frame : List ℕ) →
+    frame ≡ (part_after_signal (part id.customer parts) id.number s).frame → 0 < length frame →
+    last_unsent (run_until parts 0 (event_by s id)).sent ≡ Unsent frame ∷ []
+signal_unsent parts s id frame is some =
+    ap (λ (e : Event). last_unsent (hub_run parts (e ∷ [])).sent) (cut_to-event_by 0 s id)
+    ∙ ap (λ (h : HubRun). last_unsent h.sent) (signal_done parts s id)
+    ∙ ap (λ (b : List ℕ). last_unsent (sent_by id.customer (sent_on id.number b))) (sym is)
+    ∙ ap last_unsent (sent_pair id frame some)
 
-pub signal_written : (parts : List Part) (s : Signal) (line : LineId) (frame : List ℕ) →
-    frame ≡ (part_after_signal (part line.customer parts) line.line s).frame →
-    map sent_act (hub_run parts (event_by s line ∷ [])).sent ≡ frame_acts frame
-signal_written parts s line frame is =
-    ap (λ (h : HubRun). map sent_act h.sent) (signal_done parts s line)
-    ∙ ap (λ (b : List ℕ). map sent_act (sent_by line.customer (sent_on line.line b))) (sym is) ∙ frame_acts-sent line frame
+pub signal_written : (parts : List Part) (s : Signal) (id : LineId) (frame : List ℕ) →
+    frame ≡ (part_after_signal (part id.customer parts) id.number s).frame →
+    map sent_act (hub_run parts (event_by s id ∷ [])).sent ≡ frame_acts frame
+signal_written parts s id frame is =
+    ap (λ (h : HubRun). map sent_act h.sent) (signal_done parts s id)
+    ∙ ap (λ (b : List ℕ). map sent_act (sent_by id.customer (sent_on id.number b))) (sym is) ∙ frame_acts-sent id frame

@@ -12,40 +12,40 @@ use Rattle.njh_customer.specs.Runs.{OwnEvent, OwnBytes, OwnSignal, OwnRoutes}
 
 -- the customer whose event it is: that of its line, or the one that is given routes
 abbrev pub customer_of_event : Event → ℕ
-customer_of_event (Bytes line piece) = line.customer
-customer_of_event (Tick line) = line.customer
-customer_of_event (Garbled line) = line.customer
-customer_of_event (Lost line) = line.customer
+customer_of_event (Bytes id piece) = id.customer
+customer_of_event (Tick id) = id.customer
+customer_of_event (Garbled id) = id.customer
+customer_of_event (Lost id) = id.customer
 customer_of_event (Routes c routes) = c
 
 -- the line that it comes on; new routes come on none
 abbrev pub line_of_event : Event → Option LineId
-line_of_event (Bytes line piece) = Some line
-line_of_event (Tick line) = Some line
-line_of_event (Garbled line) = Some line
-line_of_event (Lost line) = Some line
+line_of_event (Bytes id piece) = Some id
+line_of_event (Tick id) = Some id
+line_of_event (Garbled id) = Some id
+line_of_event (Lost id) = Some id
 line_of_event (Routes c routes) = None
 
 -- the customer that is given routes, and these
 abbrev pub routes_of : Event → Option (ℕ × List RouteEntry)
-routes_of (Bytes line piece) = None
-routes_of (Tick line) = None
-routes_of (Garbled line) = None
-routes_of (Lost line) = None
+routes_of (Bytes id piece) = None
+routes_of (Tick id) = None
+routes_of (Garbled id) = None
+routes_of (Lost id) = None
 routes_of (Routes c routes) = Some (c, routes)
 
 -- the event of a signal on a line
 abbrev pub event_by : Signal → LineId → Event
-event_by signal.Tick line = Tick line
-event_by signal.Garbled line = Garbled line
-event_by signal.Lost line = Lost line
+event_by signal.Tick id = Tick id
+event_by signal.Garbled id = Garbled id
+event_by signal.Lost id = Lost id
 
 -- the event as its customer sees it: a line by its number within the customer, and any other line as none
 abbrev pub own : Event → OwnEvent
-own (Bytes line piece) = OwnBytes line.line piece
-own (Tick line) = OwnSignal signal.Tick line.line
-own (Garbled line) = OwnSignal signal.Garbled line.line
-own (Lost line) = OwnSignal signal.Lost line.line
+own (Bytes id piece) = OwnBytes id.number piece
+own (Tick id) = OwnSignal signal.Tick id.number
+own (Garbled id) = OwnSignal signal.Garbled id.number
+own (Lost id) = OwnSignal signal.Lost id.number
 own (Routes c routes) = OwnRoutes (own_routes c routes)
 
 -- the events of customer c, in order
@@ -56,24 +56,24 @@ events_of c (event ∷ events) = cond (customer_of_event event == c) (own event 
 -- what was sent on the lines of customer c, in order
 abbrev pub sent_to : ℕ → List (LineId × List ℕ) → List (ℕ × List ℕ)
 sent_to c [] = []
-sent_to c (pair ∷ pairs) = cond (pair.0.customer == c) ((pair.0.line, pair.1) ∷ sent_to c pairs) (sent_to c pairs)
+sent_to c (pair ∷ pairs) = cond (pair.0.customer == c) ((pair.0.number, pair.1) ∷ sent_to c pairs) (sent_to c pairs)
 
 -- how many bytes an event brings
 abbrev pub bytes_in_event : Event → ℕ
-bytes_in_event (Bytes line piece) = length piece
-bytes_in_event (Tick line) = 0
-bytes_in_event (Garbled line) = 0
-bytes_in_event (Lost line) = 0
+bytes_in_event (Bytes id piece) = length piece
+bytes_in_event (Tick id) = 0
+bytes_in_event (Garbled id) = 0
+bytes_in_event (Lost id) = 0
 bytes_in_event (Routes c routes) = 0
 
 -- the first bytes of an event, if there are any
 abbrev pub first_bytes : Option Event → ℕ → List Event
 first_bytes event zero = []
 first_bytes None (suc n) = []
-first_bytes (Some (Bytes line piece)) (suc n) = Bytes line (take (suc n) piece) ∷ []
-first_bytes (Some (Tick line)) (suc n) = []
-first_bytes (Some (Garbled line)) (suc n) = []
-first_bytes (Some (Lost line)) (suc n) = []
+first_bytes (Some (Bytes id piece)) (suc n) = Bytes id (take (suc n) piece) ∷ []
+first_bytes (Some (Tick id)) (suc n) = []
+first_bytes (Some (Garbled id)) (suc n) = []
+first_bytes (Some (Lost id)) (suc n) = []
 first_bytes (Some (Routes c routes)) (suc n) = []
 
 -- the first so many events, and then the first so many bytes of the next

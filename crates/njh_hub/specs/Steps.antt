@@ -9,14 +9,14 @@ use Rattle.njh_hub.specs.WholeHub.{Part, part, HasLine, SameLines}
 
 -- A step on a line leads that line's customer to `after` and no other anywhere, and puts what it sent in the place of
 -- what `out` held; or it is refused, and nothing has changed.
-pub record IsStep {A Z : Type 0} (parts : List Part) (line : LineId) (after : Part) (sent : List ℕ) (out : Vec ℕ Z)
+pub record IsStep {A Z : Type 0} (parts : List Part) (id : LineId) (after : Part) (sent : List ℕ) (out : Vec ℕ Z)
     (result : Result A HubFault) (new : List Part) (new_out : Vec ℕ Z) : Type 0 where
-  pub hub : OnOk result (new ≡ slice_set parts line.customer after)
-  pub others : (c : ℕ) → c ≢ line.customer → part c new ≡ part c parts
+  pub hub : OnOk result (new ≡ slice_set parts id.customer after)
+  pub others : (c : ℕ) → c ≢ id.customer → part c new ≡ part c parts
   pub frame : OnOk result (new_out.items ≡ sent)
   pub lines : SameLines parts new
   pub room : OnOk result (LONGEST_FRAME ≤ vec_capacity new_out)
-  pub known : OnOk result (HasLine parts line)
-  pub unknown : (HasLine parts line → ⊥) → result ≡ Err UnknownLine
-  pub memory : HasLine parts line → OnErr result ((result ≡ Err Memory) × (vec_capacity out < vec_len out + LONGEST_FRAME))
+  pub known : OnOk result (HasLine parts id)
+  pub unknown : (HasLine parts id → ⊥) → result ≡ Err UnknownLine
+  pub memory : HasLine parts id → OnErr result ((result ≡ Err Memory) × (vec_capacity out < vec_len out + LONGEST_FRAME))
   pub err : OnErr result ((new ≡ parts) × (new_out.items ≡ out.items) × (vec_capacity new_out ≡ vec_capacity out))

@@ -21,12 +21,12 @@ pub record Turn : Type 0 where
 -- What the hub is told of an answer: bytes that came; a tick, at the tenth quiet in a row; the loss of a line that was
 -- closed or could not be read.
 abbrev pub wire_event : LineId → ℕ → Heard → Option Event
-wire_event line quiet (Came piece) = Some (Bytes line piece)
-wire_event line quiet Quiet = cond (quiet == 9) (Some (Tick line)) None
-wire_event line quiet Pending = None
-wire_event line quiet Closed = Some (Lost line)
-wire_event line quiet Absent = None
-wire_event line quiet Failed = Some (Lost line)
+wire_event id quiet (Came piece) = Some (Bytes id piece)
+wire_event id quiet Quiet = cond (quiet == 9) (Some (Tick id)) None
+wire_event id quiet Pending = None
+wire_event id quiet Closed = Some (Lost id)
+wire_event id quiet Absent = None
+wire_event id quiet Failed = Some (Lost id)
 
 -- the quiets in a row, of which a tenth begins anew; an answer that is pending leaves them as they are
 abbrev pub quiet_after : ℕ → Heard → ℕ
@@ -60,23 +60,23 @@ pub record IsHeard {S : Type 0} (passed : S → S → List WireAct → Type 0) (
 
 -- the events of a turn
 abbrev pub turn_events : LineId → ℕ → Turn → List Event
-turn_events line quiet turn = told_where turn.cut (wire_event line quiet turn.heard)
+turn_events id quiet turn = told_where turn.cut (wire_event id quiet turn.heard)
 
 -- What passes on the wire in a turn. Where its answer is pending that is nothing: a wire that isn't visited has such a
 -- turn.
 abbrev pub turn_acts : List Part → LineId → ℕ → Turn → List WireAct
-turn_acts parts line quiet turn = answer_acts turn.heard ++ written_where parts turn.cut (wire_event line quiet turn.heard)
+turn_acts parts id quiet turn = answer_acts turn.heard ++ written_where parts turn.cut (wire_event id quiet turn.heard)
 
 -- a read or a write failed
 abbrev pub HasFault : Turn → Type 0
 HasFault turn = (turn.heard ≡ Failed) ⊎ IsSome turn.cut
 
 -- A turn of a wire: from a hub and a wire to what it leaves.
-pub record IsTurn {S : Type 0} (passed : S → S → List WireAct → Type 0) (count : S → ℕ) (parts : List Part) (line : LineId)
+pub record IsTurn {S : Type 0} (passed : S → S → List WireAct → Type 0) (count : S → ℕ) (parts : List Part) (id : LineId)
     (quiet : ℕ) (turn : Turn) (wire : S) (new : List Part) (new_wire : S) : Type 0 where
-  pub hub : new ≡ (hub_run parts (turn_events line quiet turn)).parts
-  pub acts : passed wire new_wire (turn_acts parts line quiet turn)
-  pub stop : IsStopWhere parts turn.cut (wire_event line quiet turn.heard)
+  pub hub : new ≡ (hub_run parts (turn_events id quiet turn)).parts
+  pub acts : passed wire new_wire (turn_acts parts id quiet turn)
+  pub stop : IsStopWhere parts turn.cut (wire_event id quiet turn.heard)
   pub counts : count wire ≤ count new_wire
   pub counted : HasFault turn → IsCounted (count wire) (count new_wire)
 
@@ -103,7 +103,7 @@ pub record Placed : Type 0 where
   pub turn : Turn
 
 abbrev pub no_line_id : LineId
-no_line_id = record { customer = 0; line = 0 }
+no_line_id = record { customer = 0; number = 0 }
 
 abbrev pub no_turn : Turn
 no_turn = record { heard = Absent; cut = None }

@@ -12,16 +12,16 @@ use Rattle.njh_hub.specs.WholeHub.{Part, part, HasLine}
 
 -- a line of the hub
 abbrev pub hub_line : LineId → List Part → CustomerLine
-hub_line line parts = line_at line.line (part line.customer parts).customer.lines
+hub_line id parts = line_at id.number (part id.customer parts).customer.lines
 
 abbrev pub session_view : Session → SessionView
 session_view s = record { phase = s.phase; tries = s.tries }
 
 -- A line of the hub is down, and its last session had made its five tries.
-pub record HasGivenUp (parts : List Part) (line : LineId) : Type 0 where
-  pub there : HasLine parts line
-  pub phase : (hub_line line parts).state.session.phase ≡ Down
-  pub tries : (hub_line line parts).state.session.tries ≡ 5
+pub record HasGivenUp (parts : List Part) (id : LineId) : Type 0 where
+  pub there : HasLine parts id
+  pub phase : (hub_line id parts).state.session.phase ≡ Down
+  pub tries : (hub_line id parts).state.session.tries ≡ 5
 
 -- the whole file of a number of customer c
 abbrev pub whole_file_on : ℕ → ℕ → List Part → Option WholeFile

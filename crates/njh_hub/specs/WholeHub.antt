@@ -22,14 +22,14 @@ part c parts = slice_index_or parts c no_part
 
 -- the hub has this line
 abbrev pub HasLine : List Part → LineId → Type 0
-HasLine parts line = line.line < length (part line.customer parts).customer.lines
+HasLine parts id = id.number < length (part id.customer parts).customer.lines
 
 -- An event names a line of the hub, or a customer of it with routes that aren't refused.
 abbrev pub IsNamed : List Part → Event → Type 0
-IsNamed parts (Bytes line piece) = HasLine parts line
-IsNamed parts (Tick line) = HasLine parts line
-IsNamed parts (Garbled line) = HasLine parts line
-IsNamed parts (Lost line) = HasLine parts line
+IsNamed parts (Bytes id piece) = HasLine parts id
+IsNamed parts (Tick id) = HasLine parts id
+IsNamed parts (Garbled id) = HasLine parts id
+IsNamed parts (Lost id) = HasLine parts id
 IsNamed parts (Routes c routes) = (c < length parts) × (routes_checked (part c parts).customer.entry (own_routes c routes) ≡ Ok tt)
 
 -- each customer has as many lines in both
@@ -39,7 +39,7 @@ SameLines old new = (c : ℕ) → length (part c new).customer.lines ≡ length 
 -- what a customer sent, with its lines as the hub names them
 abbrev pub sent_by : ℕ → List (ℕ × List ℕ) → List (LineId × List ℕ)
 sent_by c [] = []
-sent_by c (pair ∷ pairs) = (record { customer = c; line = pair.0 }, pair.1) ∷ sent_by c pairs
+sent_by c (pair ∷ pairs) = (record { customer = c; number = pair.0 }, pair.1) ∷ sent_by c pairs
 
 -- what events lead a whole hub to, and all frames that are sent
 pub record HubRun : Type 0 where

@@ -58,10 +58,10 @@ answer_acts Failed = Answered Failed ∷ []
 
 -- the first bytes of an event; one that brings no bytes is whole
 abbrev pub cut_to : ℕ → Event → Event
-cut_to n (Bytes line piece) = Bytes line (take n piece)
-cut_to n (Tick line) = Tick line
-cut_to n (Garbled line) = Garbled line
-cut_to n (Lost line) = Lost line
+cut_to n (Bytes id piece) = Bytes id (take n piece)
+cut_to n (Tick id) = Tick id
+cut_to n (Garbled id) = Garbled id
+cut_to n (Lost id) = Lost id
 cut_to n (Routes c routes) = Routes c routes
 
 -- the hub after the first bytes of an event
@@ -107,9 +107,9 @@ IsStop parts None event = ⊤
 IsStop parts (Some n) event = SendsAt parts event n
 
 -- A step on a line in the room that `out` has: it leads that line's customer to `after` and no other anywhere.
-pub record IsTaken {Z : Type 0} (parts : List Part) (line : LineId) (after : Part) (sent : List ℕ) (new : List Part)
+pub record IsTaken {Z : Type 0} (parts : List Part) (id : LineId) (after : Part) (sent : List ℕ) (new : List Part)
     (new_out : Vec ℕ Z) : Type 0 where
-  pub hub : new ≡ slice_set parts line.customer after
+  pub hub : new ≡ slice_set parts id.customer after
   pub frame : new_out.items ≡ sent
   pub lines : SameLines parts new
   pub room : LONGEST_FRAME ≤ vec_capacity new_out

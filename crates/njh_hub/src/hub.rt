@@ -75,15 +75,15 @@ impl Hub {
     }
 
     /// Whether the hub has this line.
-    pub fn is_line(&self, line: LineId) -> bool
-        ensures line { IsTrue result ↔ HasLine self.now line }
-        ensures rests { IsTrue result → line.line < length (part line.customer self.now).rests }
+    pub fn is_line(&self, id: LineId) -> bool
+        ensures line { IsTrue result ↔ HasLine self.now id }
+        ensures rests { IsTrue result → id.number < length (part id.customer self.now).rests }
     {
-        let customer = usize::from(line.customer);
+        let customer = usize::from(id.customer);
         if customer >= self.lines.len() {
             return false;
         }
-        usize::from(line.line) < self.lines[customer].len()
+        usize::from(id.number) < self.lines[customer].len()
     }
 
     /// A customer's whole files in their order of arrival, each with all its records.
@@ -136,18 +136,18 @@ impl Hub {
     ///
     /// `UnknownLine` comes where the hub has no such line, `Memory` where `out` found no room for a frame past what it
     /// held.
-    pub fn take(&mut self, line: LineId, piece: &[u8], out: &mut Vec<u8>) -> Result<usize, HubFault>
-        ensures taken { IfOk result (λ taken. taken ≡ (part_after_bytes (part line.customer self.old) line.line piece.now).taken) }
+    pub fn take(&mut self, id: LineId, piece: &[u8], out: &mut Vec<u8>) -> Result<usize, HubFault>
+        ensures taken { IfOk result (λ taken. taken ≡ (part_after_bytes (part id.customer self.old) id.number piece.now).taken) }
         ensures progress { IfOk result (λ taken. (0 < length piece.now → 0 < taken) × (taken ≤ length piece.now)) }
-        ensures step { let t = part_after_bytes (part line.customer self.old) line.line piece.now in
-            IsStep self.old line t.after t.frame out.old result self.new out.new }
-        ensures rests { OnOk result (line.line < length (part line.customer self.old).rests) }
+        ensures step { let t = part_after_bytes (part id.customer self.old) id.number piece.now in
+            IsStep self.old id t.after t.frame out.old result self.new out.new }
+        ensures rests { OnOk result (id.number < length (part id.customer self.old).rests) }
     {
         marks_are_right();
-        let mut frame = self.frame_buffer(line, out)?;
-        let lines = &mut self.lines[usize::from(line.customer)];
+        let mut frame = self.frame_buffer(id, out)?;
+        let lines = &mut self.lines[usize::from(id.customer)];
         let taken = lines.take_bytes(
-            line,
+            id,
             piece,
             &mut self.tables,
             &mut self.spool,
@@ -159,44 +159,44 @@ impl Hub {
     }
 
     /// A tick of the clock on a line. Refusals and `out` are those of `take`.
-    pub fn tick(&mut self, line: LineId, out: &mut Vec<u8>) -> Result<(), HubFault>
-        ensures { let t = part_after_signal (part line.customer self.old) line.line Signal.Tick in
-            IsStep self.old line t.after t.frame out.old result self.new out.new }
+    pub fn tick(&mut self, id: LineId, out: &mut Vec<u8>) -> Result<(), HubFault>
+        ensures { let t = part_after_signal (part id.customer self.old) id.number Signal.Tick in
+            IsStep self.old id t.after t.frame out.old result self.new out.new }
     {
-        self.signal(line, Signal::Tick, out)
+        self.signal(id, Signal::Tick, out)
     }
 
     /// The adapter's word that a block check failed on a line. Refusals and `out` are those of `take`.
-    pub fn garbled(&mut self, line: LineId, out: &mut Vec<u8>) -> Result<(), HubFault>
-        ensures { let t = part_after_signal (part line.customer self.old) line.line Signal.Garbled in
-            IsStep self.old line t.after t.frame out.old result self.new out.new }
+    pub fn garbled(&mut self, id: LineId, out: &mut Vec<u8>) -> Result<(), HubFault>
+        ensures { let t = part_after_signal (part id.customer self.old) id.number Signal.Garbled in
+            IsStep self.old id t.after t.frame out.old result self.new out.new }
     {
-        self.signal(line, Signal::Garbled, out)
+        self.signal(id, Signal::Garbled, out)
     }
 
     /// The loss of a line. Refusals and `out` are those of `take`.
-    pub fn lost(&mut self, line: LineId, out: &mut Vec<u8>) -> Result<(), HubFault>
-        ensures { let t = part_after_signal (part line.customer self.old) line.line Signal.Lost in
-            IsStep self.old line t.after t.frame out.old result self.new out.new }
+    pub fn lost(&mut self, id: LineId, out: &mut Vec<u8>) -> Result<(), HubFault>
+        ensures { let t = part_after_signal (part id.customer self.old) id.number Signal.Lost in
+            IsStep self.old id t.after t.frame out.old result self.new out.new }
     {
-        self.signal(line, Signal::Lost, out)
+        self.signal(id, Signal::Lost, out)
     }
 
     /// One step by a signal on a line. Refusals and `out` are those of `take`.
     pub(crate) fn signal(
         &mut self,
-        line: LineId,
+        id: LineId,
         signal: Signal,
         out: &mut Vec<u8>,
     ) -> Result<(), HubFault>
-        ensures { let t = part_after_signal (part line.customer self.old) line.line signal in
-            IsStep self.old line t.after t.frame out.old result self.new out.new }
+        ensures { let t = part_after_signal (part id.customer self.old) id.number signal in
+            IsStep self.old id t.after t.frame out.old result self.new out.new }
     {
         marks_are_right();
-        let mut frame = self.frame_buffer(line, out)?;
-        let lines = &mut self.lines[usize::from(line.customer)];
+        let mut frame = self.frame_buffer(id, out)?;
+        let lines = &mut self.lines[usize::from(id.customer)];
         lines.take_signal(
-            line,
+            id,
             signal,
             &mut self.tables,
             &mut self.spool,
@@ -208,15 +208,15 @@ impl Hub {
     }
 
     /// The room of `out` for the frame of a step on a line. Where the step is refused `out` stays as it was.
-    fn frame_buffer(&self, line: LineId, out: &mut Vec<u8>) -> Result<FrameBuffer, HubFault>
-        ensures known { OnOk result (HasLine self.now line) }
-        ensures rests { OnOk result (line.line < length (part line.customer self.now).rests) }
-        ensures unknown { ¬ HasLine self.now line → result ≡ Err HubFault.UnknownLine }
-        ensures memory { HasLine self.now line →
+    fn frame_buffer(&self, id: LineId, out: &mut Vec<u8>) -> Result<FrameBuffer, HubFault>
+        ensures known { OnOk result (HasLine self.now id) }
+        ensures rests { OnOk result (id.number < length (part id.customer self.now).rests) }
+        ensures unknown { ¬ HasLine self.now id → result ≡ Err HubFault.UnknownLine }
+        ensures memory { HasLine self.now id →
             OnErr result ((result ≡ Err HubFault.Memory) × (vec_capacity out.old < vec_len out.old + LONGEST_FRAME)) }
         ensures err { OnErr result ((out.new.items ≡ out.old.items) × (vec_capacity out.new ≡ vec_capacity out.old)) }
     {
-        if !self.is_line(line) {
+        if !self.is_line(id) {
             return Err(HubFault::UnknownLine);
         }
         match out.reserve(LONGEST_FRAME) {

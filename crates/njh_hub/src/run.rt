@@ -91,15 +91,15 @@ impl Hub {
     /// A signal on a line.
     fn run_signal<S: Sink>(
         &mut self,
-        line: LineId,
+        id: LineId,
         signal: Signal,
         out: &mut Vec<u8>,
         sink: &mut S,
     ) -> Result<(), RunFault>
-        ensures { IsEventRun S.took S.refused S.count self.old (event_by signal line) out.old sink.old result self.new out.new sink.new }
+        ensures { IsEventRun S.took S.refused S.count self.old (event_by signal id) out.old sink.old result self.new out.new sink.new }
     {
         out.clear();
-        match self.signal(line, signal, out) {
+        match self.signal(id, signal, out) {
             Ok(()) => {}
             Err(fault) => return Err(RunFault {
                 events: 0,
@@ -107,7 +107,7 @@ impl Hub {
                 cause: Cause::Hub(fault),
             }),
         }
-        match hand_over(line, out, sink) {
+        match hand_over(id, out, sink) {
             Ok(()) => Ok(()),
             Err(_) => Err(RunFault {
                 events: 1,
@@ -120,12 +120,12 @@ impl Hub {
     /// The bytes of an event, in as many steps as they need.
     fn run_bytes<S: Sink>(
         &mut self,
-        line: LineId,
+        id: LineId,
         piece: &[u8],
         out: &mut Vec<u8>,
         sink: &mut S,
     ) -> Result<(), RunFault>
-        ensures { IsEventRun S.took S.refused S.count self.old (Bytes line piece.now) out.old sink.old result self.new out.new sink.new }
+        ensures { IsEventRun S.took S.refused S.count self.old (Bytes id piece.now) out.old sink.old result self.new out.new sink.new }
     {
         no_bytes_do_nothing();
         steps_follow_bytes();
@@ -133,7 +133,7 @@ impl Hub {
         loop {
             let (_, left) = piece.split_at(taken);
             out.clear();
-            match self.take(line, left, out) {
+            match self.take(id, left, out) {
                 Ok(used) => taken += used,
                 Err(fault) => return Err(RunFault {
                     events: 0,
@@ -141,7 +141,7 @@ impl Hub {
                     cause: Cause::Hub(fault),
                 }),
             }
-            match hand_over(line, out, sink) {
+            match hand_over(id, out, sink) {
                 Ok(()) => {}
                 Err(_) => return Err(after_sink(taken, piece.len())),
             }
@@ -175,14 +175,14 @@ fn after_sink(taken: usize, len: usize) -> RunFault
 }
 
 /// Hands the frame of a step to the sink, where one was sent.
-fn hand_over<S: Sink>(line: LineId, frame: &[u8], sink: &mut S) -> Result<(), SinkFault>
-    ensures ok { OnOk result (S.took sink.old sink.new (sent_by line.customer (sent_on line.line frame.now))) }
-    ensures err { OnErr result (S.refused sink.old sink.new (line, frame.now) × (0 < length frame.now)) }
+fn hand_over<S: Sink>(id: LineId, frame: &[u8], sink: &mut S) -> Result<(), SinkFault>
+    ensures ok { OnOk result (S.took sink.old sink.new (sent_by id.customer (sent_on id.number frame.now))) }
+    ensures err { OnErr result (S.refused sink.old sink.new (id, frame.now) × (0 < length frame.now)) }
     ensures counts { S.count sink.old ≤ S.count sink.new }
     ensures counted { OnErr result (IsCounted (S.count sink.old) (S.count sink.new)) }
 {
     if frame.is_empty() {
         return Ok(());
     }
-    sink.send(line, frame)
+    sink.send(id, frame)
 }

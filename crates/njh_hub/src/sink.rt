@@ -31,9 +31,9 @@ pub trait Sink {
     fn failures(&self) -> u64
         ensures { result ≡ count self.now };
 
-    fn send(&mut self, line: LineId, frame: &[u8]) -> Result<(), SinkFault>
-        ensures ok { OnOk result (took self.old self.new ((line, frame.now) ∷ [])) }
-        ensures err { OnErr result (refused self.old self.new (line, frame.now)) }
+    fn send(&mut self, id: LineId, frame: &[u8]) -> Result<(), SinkFault>
+        ensures ok { OnOk result (took self.old self.new ((id, frame.now) ∷ [])) }
+        ensures err { OnErr result (refused self.old self.new (id, frame.now)) }
         ensures counts { count self.old ≤ count self.new }
         ensures counted { OnErr result (IsCounted (count self.old) (count self.new)) };
 

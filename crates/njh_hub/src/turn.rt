@@ -67,20 +67,20 @@ impl TurnRoom {
 /// dropped. Takes no memory, and clears none.
 pub fn wire_turn<W: Wire>(
     hub: &mut Hub,
-    line: LineId,
+    id: LineId,
     wire: &mut W,
     quiet: u8,
     room: &mut TurnRoom,
 ) -> u8
-    requires known { HasLine hub.old line }
+    requires known { HasLine hub.old id }
     requires few { quiet < 10 }
-    ensures turn { (turn : Turn) × IsTurn W.passed W.count hub.old line quiet turn wire.old hub.new wire.new × (result ≡ quiet_after quiet turn.heard) }
+    ensures turn { (turn : Turn) × IsTurn W.passed W.count hub.old id quiet turn wire.old hub.new wire.new × (result ≡ quiet_after quiet turn.heard) }
     ensures few { result < 10 }
     ensures lines { SameLines hub.old hub.new }
 {
     let buffer = room.buffer.as_mut_slice();
     let answer = wire.read(buffer);
-    act_on(answer, buffer, hub, line, wire, quiet, &mut room.out)
+    act_on(answer, buffer, hub, id, wire, quiet, &mut room.out)
 }
 
 /// Hands the hub what a read answered, of bytes that stand at the front of the buffer. Answers the quiets in a row.
@@ -88,17 +88,17 @@ fn act_on<W: Wire>(
     answer: Result<Reading, WireFault>,
     buffer: &[u8],
     hub: &mut Hub,
-    line: LineId,
+    id: LineId,
     wire: &mut W,
     quiet: u8,
     out: &mut Vec<u8>,
 ) -> u8
     requires within { IfOk answer (IsReading (length buffer.now)) }
-    requires known { HasLine hub.old line }
+    requires known { HasLine hub.old id }
     requires few { quiet < 10 }
     requires room { LONGEST_FRAME ≤ vec_capacity out.old }
     ensures heard { (cut : Option ℕ) ×
-        IsHeard W.passed W.count hub.old (wire_event line quiet (heard_of answer buffer.now)) cut wire.old hub.new wire.new }
+        IsHeard W.passed W.count hub.old (wire_event id quiet (heard_of answer buffer.now)) cut wire.old hub.new wire.new }
     ensures quiets { result ≡ quiet_after quiet (heard_of answer buffer.now) }
     ensures few { result < 10 }
     ensures lines { SameLines hub.old hub.new }
@@ -106,34 +106,34 @@ fn act_on<W: Wire>(
 {
     match answer {
         Ok(Reading::Bytes(count)) => {
-            pass_bytes(hub, line, &buffer[..count], wire, out);
+            pass_bytes(hub, id, &buffer[..count], wire, out);
             0
         }
         Ok(Reading::Quiet) => {
             if quiet < QUIETS {
                 return quiet + 1;
             }
-            pass_signal(hub, line, Signal::Tick, wire, out);
+            pass_signal(hub, id, Signal::Tick, wire, out);
             0
         }
         Ok(Reading::Pending) => quiet,
         Ok(Reading::Closed) => {
-            pass_signal(hub, line, Signal::Lost, wire, out);
+            pass_signal(hub, id, Signal::Lost, wire, out);
             0
         }
         Ok(Reading::Absent) => 0,
         Err(_) => {
-            pass_signal(hub, line, Signal::Lost, wire, out);
+            pass_signal(hub, id, Signal::Lost, wire, out);
             0
         }
     }
 }
 
 /// Hands the hub bytes of a line and writes each frame that it sends. Where a write fails the line is lost.
-fn pass_bytes<W: Wire>(hub: &mut Hub, line: LineId, piece: &[u8], wire: &mut W, out: &mut Vec<u8>)
-    requires known { HasLine hub.old line }
+fn pass_bytes<W: Wire>(hub: &mut Hub, id: LineId, piece: &[u8], wire: &mut W, out: &mut Vec<u8>)
+    requires known { HasLine hub.old id }
     requires room { LONGEST_FRAME ≤ vec_capacity out.old }
-    ensures done { (cut : Option ℕ) × IsDone W.passed W.count hub.old (Bytes line piece.now) cut wire.old hub.new wire.new }
+    ensures done { (cut : Option ℕ) × IsDone W.passed W.count hub.old (Bytes id piece.now) cut wire.old hub.new wire.new }
     ensures lines { SameLines hub.old hub.new }
     ensures room { LONGEST_FRAME ≤ vec_capacity out.new }
 {
@@ -143,11 +143,11 @@ fn pass_bytes<W: Wire>(hub: &mut Hub, line: LineId, piece: &[u8], wire: &mut W, 
     let mut taken = 0;
     while taken < piece.len() {
         let (_, left) = piece.split_at(taken);
-        taken += take_bytes(hub, line, left, out);
+        taken += take_bytes(hub, id, left, out);
         match send(wire, out) {
             Ok(()) => {}
             Err(_) => {
-                take_signal(hub, line, Signal::Lost, out);
+                take_signal(hub, id, Signal::Lost, out);
                 return;
             }
         }
@@ -157,51 +157,51 @@ fn pass_bytes<W: Wire>(hub: &mut Hub, line: LineId, piece: &[u8], wire: &mut W, 
 /// Hands the hub a signal on a line and writes the frame that it sends. Where the write fails the line is lost.
 fn pass_signal<W: Wire>(
     hub: &mut Hub,
-    line: LineId,
+    id: LineId,
     signal: Signal,
     wire: &mut W,
     out: &mut Vec<u8>,
 )
-    requires known { HasLine hub.old line }
+    requires known { HasLine hub.old id }
     requires room { LONGEST_FRAME ≤ vec_capacity out.old }
-    ensures done { (cut : Option ℕ) × IsDone W.passed W.count hub.old (event_by signal line) cut wire.old hub.new wire.new }
+    ensures done { (cut : Option ℕ) × IsDone W.passed W.count hub.old (event_by signal id) cut wire.old hub.new wire.new }
     ensures lines { SameLines hub.old hub.new }
     ensures room { LONGEST_FRAME ≤ vec_capacity out.new }
 {
-    take_signal(hub, line, signal, out);
+    take_signal(hub, id, signal, out);
     match send(wire, out) {
         Ok(()) => {}
-        Err(_) => take_signal(hub, line, Signal::Lost, out),
+        Err(_) => take_signal(hub, id, Signal::Lost, out),
     }
 }
 
 /// A step by bytes, in the room that `out` has.
-fn take_bytes(hub: &mut Hub, line: LineId, piece: &[u8], out: &mut Vec<u8>) -> usize
-    requires known { HasLine hub.old line }
+fn take_bytes(hub: &mut Hub, id: LineId, piece: &[u8], out: &mut Vec<u8>) -> usize
+    requires known { HasLine hub.old id }
     requires room { LONGEST_FRAME ≤ vec_capacity out.old }
-    ensures taken { result ≡ (part_after_bytes (part line.customer hub.old) line.line piece.now).taken }
+    ensures taken { result ≡ (part_after_bytes (part id.customer hub.old) id.number piece.now).taken }
     ensures progress { 0 < length piece.now → 0 < result }
     ensures within { result ≤ length piece.now }
-    ensures rests { line.line < length (part line.customer hub.old).rests }
-    ensures step { let t = part_after_bytes (part line.customer hub.old) line.line piece.now in
-        IsTaken hub.old line t.after t.frame hub.new out.new }
+    ensures rests { id.number < length (part id.customer hub.old).rests }
+    ensures step { let t = part_after_bytes (part id.customer hub.old) id.number piece.now in
+        IsTaken hub.old id t.after t.frame hub.new out.new }
 {
     out.clear();
-    match hub.take(line, piece, out) {
+    match hub.take(id, piece, out) {
         Ok(taken) => taken,
         Err(_) => unreachable!(),
     }
 }
 
 /// A step by a signal, in the room that `out` has.
-fn take_signal(hub: &mut Hub, line: LineId, signal: Signal, out: &mut Vec<u8>)
-    requires known { HasLine hub.old line }
+fn take_signal(hub: &mut Hub, id: LineId, signal: Signal, out: &mut Vec<u8>)
+    requires known { HasLine hub.old id }
     requires room { LONGEST_FRAME ≤ vec_capacity out.old }
-    ensures { let t = part_after_signal (part line.customer hub.old) line.line signal in
-        IsTaken hub.old line t.after t.frame hub.new out.new }
+    ensures { let t = part_after_signal (part id.customer hub.old) id.number signal in
+        IsTaken hub.old id t.after t.frame hub.new out.new }
 {
     out.clear();
-    match hub.signal(line, signal, out) {
+    match hub.signal(id, signal, out) {
         Ok(()) => {}
         Err(_) => unreachable!(),
     }

@@ -42,10 +42,10 @@ test-none : (test : Bool) (piece : Option Event) → piece ≡ None → cond tes
 test-none true piece none = none
 test-none false piece none = refl
 
-bytes_on-blank : (word digits : List ℕ) (line : LineId) → position_or_len is_blank digits < length digits → bytes_on word digits line ≡ None
-bytes_on-blank word digits line below = test-none (bytes_eq word (codes "BYTES")) _ (rw (piece_of-blank digits below) refl)
+bytes_on-blank : (word digits : List ℕ) (id : LineId) → position_or_len is_blank digits < length digits → bytes_on word digits id ≡ None
+bytes_on-blank word digits id below = test-none (bytes_eq word (codes "BYTES")) _ (rw (piece_of-blank digits below) refl)
 
-no_line : (found : Option LineId) (tell : LineId → Option Event) → ((line : LineId) → tell line ≡ None) → option_and_then tell found ≡ None
+no_line : (found : Option LineId) (tell : LineId → Option Event) → ((id : LineId) → tell id ≡ None) → option_and_then tell found ≡ None
 no_line (Some line) tell none = none line
 no_line None tell none = refl
 
@@ -102,9 +102,9 @@ event_on_line-three names word rest name digits found split known =
     ∙ digits_event names word name.now digits.now ∙ ap (option_and_then (bytes_on word digits.now)) (sym known)
 
 -- an event on a line of the tables names what they have
-pub named_on : (tables : TableFile) (event : Event) (line : LineId) → HasLine tables line → line_of_event event ≡ Some line → IsNamedIn tables event
-named_on tables (Bytes at piece) line known on = subst (HasLine tables) (sym (cc on)) known
-named_on tables (Tick at) line known on = subst (HasLine tables) (sym (cc on)) known
-named_on tables (Garbled at) line known on = subst (HasLine tables) (sym (cc on)) known
-named_on tables (Lost at) line known on = subst (HasLine tables) (sym (cc on)) known
-named_on tables (Routes c routes) line known on = absurd (cc on)
+pub named_on : (tables : TableFile) (event : Event) (id : LineId) → HasLine tables id → line_of_event event ≡ Some id → IsNamedIn tables event
+named_on tables (Bytes at piece) id known on = subst (HasLine tables) (sym (cc on)) known
+named_on tables (Tick at) id known on = subst (HasLine tables) (sym (cc on)) known
+named_on tables (Garbled at) id known on = subst (HasLine tables) (sym (cc on)) known
+named_on tables (Lost at) id known on = subst (HasLine tables) (sym (cc on)) known
+named_on tables (Routes c routes) id known on = absurd (cc on)

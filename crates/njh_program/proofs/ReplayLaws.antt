@@ -41,22 +41,22 @@ opened_part t c = get_or-map_default part_at_open (entries_of t) c hub.no_entry
     ∙ ap part_at_open (get_or-map_default entry_of t.customers c no_customer)
 
 -- the hub has the lines of its tables
-opened_line : (t : TableFile) (line : LineId) → HasLine t line → hub.HasLine (map part_at_open (entries_of t)) line
-opened_line t line known =
-    let e = entry_of (customer_at t line.customer) in
-    let here : length (hub.part line.customer (map part_at_open (entries_of t))).customer.lines ≡ length (part_at_open e).customer.lines =
-    ap (λ (p : Part). length p.customer.lines) (opened_part t line.customer) in
+opened_line : (t : TableFile) (id : LineId) → HasLine t id → hub.HasLine (map part_at_open (entries_of t)) id
+opened_line t id known =
+    let e = entry_of (customer_at t id.customer) in
+    let here : length (hub.part id.customer (map part_at_open (entries_of t))).customer.lines ≡ length (part_at_open e).customer.lines =
+    ap (λ (p : Part). length p.customer.lines) (opened_part t id.customer) in
     let states : length (part_at_open e).customer.lines ≡ length e.lines = length-map e.lines _ in
-    let entries : length e.lines ≡ length (customer_at t line.customer).lines =
-    length-map (customer_at t line.customer).lines (λ (l : NamedLine). l.entry) in
+    let entries : length e.lines ≡ length (customer_at t id.customer).lines =
+    length-map (customer_at t id.customer).lines (λ (l : NamedLine). l.entry) in
     omega (arith, known, here, states, entries)
 
 -- and what an event names in the tables, it names in the hub
 opened_named : (t : TableFile) (event : Event) → IsNamedIn t event → hub.IsNamed (map part_at_open (entries_of t)) event
-opened_named t (Bytes line piece) named = opened_line t line named
-opened_named t (Tick line) named = opened_line t line named
-opened_named t (Garbled line) named = opened_line t line named
-opened_named t (Lost line) named = opened_line t line named
+opened_named t (Bytes id piece) named = opened_line t id named
+opened_named t (Tick id) named = opened_line t id named
+opened_named t (Garbled id) named = opened_line t id named
+opened_named t (Lost id) named = opened_line t id named
 opened_named t (Routes c routes) named =
     let parts : length (map part_at_open (entries_of t)) ≡ length t.customers =
     length-map (entries_of t) part_at_open ∙ length-map t.customers entry_of in
@@ -78,24 +78,24 @@ IsSomeAnd-never (Some x) P never some = never x refl some
 
 -- an event that names what is there is refused for want of memory alone
 not_unknown : (parts : List Part) (event : Event) → hub.IsNamed parts event → IsRefused parts event UnknownLine → ⊥
-not_unknown parts (Bytes line piece) named refused = refused named
-not_unknown parts (Tick line) named refused = refused named
-not_unknown parts (Garbled line) named refused = refused named
-not_unknown parts (Lost line) named refused = refused named
+not_unknown parts (Bytes id piece) named refused = refused named
+not_unknown parts (Tick id) named refused = refused named
+not_unknown parts (Garbled id) named refused = refused named
+not_unknown parts (Lost id) named refused = refused named
 not_unknown parts (Routes c routes) named refused = refused
 
 not_foreign : (parts : List Part) (event : Event) → hub.IsNamed parts event → IsRefused parts event UnknownCustomer → ⊥
-not_foreign parts (Bytes line piece) named refused = refused
-not_foreign parts (Tick line) named refused = refused
-not_foreign parts (Garbled line) named refused = refused
-not_foreign parts (Lost line) named refused = refused
+not_foreign parts (Bytes id piece) named refused = refused
+not_foreign parts (Tick id) named refused = refused
+not_foreign parts (Garbled id) named refused = refused
+not_foreign parts (Lost id) named refused = refused
 not_foreign parts (Routes c routes) named refused = refused named.0
 
 not_bad : (parts : List Part) (event : Event) (fault : TableFault) → hub.IsNamed parts event → IsRefused parts event (BadRoutes fault) → ⊥
-not_bad parts (Bytes line piece) fault named refused = refused
-not_bad parts (Tick line) fault named refused = refused
-not_bad parts (Garbled line) fault named refused = refused
-not_bad parts (Lost line) fault named refused = refused
+not_bad parts (Bytes id piece) fault named refused = refused
+not_bad parts (Tick id) fault named refused = refused
+not_bad parts (Garbled id) fault named refused = refused
+not_bad parts (Lost id) fault named refused = refused
 not_bad parts (Routes c routes) fault named refused = cc (sym named.1 ∙ refused.1)
 
 module _ (parts : List Part) (events : List Event) (k : ℕ) (named : All (hub.IsNamed parts) events) where
@@ -118,10 +118,10 @@ module _ (parts : List Part) (events : List Event) (k : ℕ) (named : All (hub.I
 
 -- new routes send nothing
 routes_silent : (parts : List Part) (event : Event) → IsRoutes event → (hub.hub_event parts event).sent ≡ []
-routes_silent parts (Bytes line piece) routes = absurd (cc routes)
-routes_silent parts (Tick line) routes = absurd (cc routes)
-routes_silent parts (Garbled line) routes = absurd (cc routes)
-routes_silent parts (Lost line) routes = absurd (cc routes)
+routes_silent parts (Bytes id piece) routes = absurd (cc routes)
+routes_silent parts (Tick id) routes = absurd (cc routes)
+routes_silent parts (Garbled id) routes = absurd (cc routes)
+routes_silent parts (Lost id) routes = absurd (cc routes)
 routes_silent parts (Routes c given) routes = refl
 
 pub all_silent : (parts : List Part) (events : List Event) → All IsRoutes events → (hub.hub_run parts events).sent ≡ []

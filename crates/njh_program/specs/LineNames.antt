@@ -17,4 +17,4 @@ names_of tables = map names_in tables.customers
 
 -- the name of a line, by its number within its customer and the customer's
 abbrev pub name_at : List (List (List ℕ)) → LineId → Option (List ℕ)
-name_at names line = option_and_then (λ lines. slice_get lines line.line) (slice_get names line.customer)
+name_at names id = option_and_then (λ lines. slice_get lines id.number) (slice_get names id.customer)

@@ -37,16 +37,16 @@ piece_of digits = some_bytes (decode_of digits)
 
 -- the event of a word alone on a line of the hub
 abbrev pub signal_of : List ℕ → LineId → Option Event
-signal_of word line =
-    if bytes_eq word (codes "TICK") then Some (Tick line)
-    else if bytes_eq word (codes "GARBLED") then Some (Garbled line)
-    else if bytes_eq word (codes "LOST") then Some (Lost line)
+signal_of word id =
+    if bytes_eq word (codes "TICK") then Some (Tick id)
+    else if bytes_eq word (codes "GARBLED") then Some (Garbled id)
+    else if bytes_eq word (codes "LOST") then Some (Lost id)
     else None
 
 -- the event of `BYTES` with hex digits on a line of the hub
 abbrev pub bytes_on : List ℕ → List ℕ → LineId → Option Event
-bytes_on word digits line =
-    if bytes_eq word (codes "BYTES") then option_map (λ piece. Bytes line piece) (piece_of digits) else None
+bytes_on word digits id =
+    if bytes_eq word (codes "BYTES") then option_map (λ piece. Bytes id piece) (piece_of digits) else None
 
 -- the event of words on a line of the hub, where names gives the line of a name
 abbrev pub event_on_line : (List ℕ → Option LineId) → List (List ℕ) → Option Event

@@ -67,9 +67,9 @@ routes_event tables (name ∷ pairs) = option_and_then (λ c. option_and_then (r
 
 -- An event names what the tables have: its line, or its customer, which may have these routes.
 abbrev pub IsNamedIn : TableFile → Event → Type 0
-IsNamedIn tables (Bytes line piece) = HasLine tables line
-IsNamedIn tables (Tick line) = HasLine tables line
-IsNamedIn tables (Garbled line) = HasLine tables line
-IsNamedIn tables (Lost line) = HasLine tables line
+IsNamedIn tables (Bytes id piece) = HasLine tables id
+IsNamedIn tables (Tick id) = HasLine tables id
+IsNamedIn tables (Garbled id) = HasLine tables id
+IsNamedIn tables (Lost id) = HasLine tables id
 IsNamedIn tables (Routes c routes) = (c < length tables.customers)
     × (routes_checked (entry_of (customer_at tables c)) (own_routes c routes) ≡ Ok tt)

@@ -98,24 +98,24 @@ fn event_on_line(
         None => Ok(
             tables
                 .line_owner(rest)
-                .and_then(|line| signal_of(word, line)),
+                .and_then(|id| signal_of(word, id)),
         ),
         Some((name, digits)) => match tables.line_owner(name) {
             None => Ok(None),
-            Some(line) => bytes_on(alloc, word, digits, line),
+            Some(id) => bytes_on(alloc, word, digits, id),
         },
     }
 }
 
 /// The event of a word alone on a line of the hub.
-fn signal_of(word: &str, line: LineId) -> Option<Event>
-    ensures event { result ≡ signal_of word.now line }
-    ensures line { IfSome result (λ e. line_of_event e ≡ Some line) }
+fn signal_of(word: &str, id: LineId) -> Option<Event>
+    ensures event { result ≡ signal_of word.now id }
+    ensures line { IfSome result (λ e. line_of_event e ≡ Some id) }
 {
     match word {
-        "TICK" => Some(Event::Tick(line)),
-        "GARBLED" => Some(Event::Garbled(line)),
-        "LOST" => Some(Event::Lost(line)),
+        "TICK" => Some(Event::Tick(id)),
+        "GARBLED" => Some(Event::Garbled(id)),
+        "LOST" => Some(Event::Lost(id)),
         _ => None,
     }
 }
@@ -125,16 +125,16 @@ fn bytes_on(
     alloc: Global,
     word: &str,
     digits: &str,
-    line: LineId,
+    id: LineId,
 ) -> Result<Option<Event>, AllocError>
-    ensures event { IfOk result (λ event. event ≡ bytes_on word.now digits.now line) }
-    ensures line { IfOk result (λ event. IfSome event (λ e. line_of_event e ≡ Some line)) }
+    ensures event { IfOk result (λ event. event ≡ bytes_on word.now digits.now id) }
+    ensures line { IfOk result (λ event. IfSome event (λ e. line_of_event e ≡ Some id)) }
 {
     if word != "BYTES" {
         return Ok(None);
     }
     match piece_of(alloc, digits.as_bytes())? {
-        Some(piece) => Ok(Some(Event::Bytes(line, piece))),
+        Some(piece) => Ok(Some(Event::Bytes(id, piece))),
         None => Ok(None),
     }
 }

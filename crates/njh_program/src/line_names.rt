@@ -35,11 +35,11 @@ impl LineNames {
     }
 
     /// The name of a line, if there is such a line.
-    pub fn get(&self, line: LineId) -> Option<&str>
-        ensures { option_map (λ name. name.now) result ≡ name_at self.now line }
+    pub fn get(&self, id: LineId) -> Option<&str>
+        ensures { option_map (λ name. name.now) result ≡ name_at self.now id }
     {
-        let lines = self.customers.get(usize::from(line.customer))?;
-        let name = lines.get(usize::from(line.line))?;
+        let lines = self.customers.get(usize::from(id.customer))?;
+        let name = lines.get(usize::from(id.number))?;
         Some(name.as_str())
     }
 }

@@ -26,15 +26,15 @@ pub struct Printer<'a, W> {
 
 impl<W: Write> Printer<'_, W> {
     /// Prints a frame, and says whether it is printed whole.
-    fn print(&mut self, line: LineId, frame: &[u8]) -> bool
+    fn print(&mut self, id: LineId, frame: &[u8]) -> bool
         ensures whole { OnTrue result (IsPrinted self.old.names.now self.new.names.now
-            (W.contents self.old.out.now) (W.contents self.new.out.now) ((line, frame.now) ∷ [])) }
+            (W.contents self.old.out.now) (W.contents self.new.out.now) ((id, frame.now) ∷ [])) }
         ensures part { OnFalse result (IsPrintedInPart self.old.names.now self.new.names.now
-            (W.contents self.old.out.now) (W.contents self.new.out.now) (line, frame.now)) }
+            (W.contents self.old.out.now) (W.contents self.new.out.now) (id, frame.now)) }
         ensures same_reference { self.new.out.ghost_name ≡ self.old.out.ghost_name }
         ensures failures { self.new.failures ≡ self.old.failures }
     {
-        match self.names.get(line) {
+        match self.names.get(id) {
             Some(name) => match print_frame(self.out, name, frame, &mut self.room) {
                 Ok(()) => true,
                 Err(_) => false,
@@ -66,8 +66,8 @@ impl<W: Write> Sink for Printer<'_, W> {
         self.failures
     }
 
-    fn send(&mut self, line: LineId, frame: &[u8]) -> Result<(), SinkFault> {
-        if self.print(line, frame) {
+    fn send(&mut self, id: LineId, frame: &[u8]) -> Result<(), SinkFault> {
+        if self.print(id, frame) {
             return Ok(());
         }
         self.failures = self.failures.saturating_add(1);

@@ -125,9 +125,9 @@ fn route_by(tables: &Tables, node: &str, line: &str, second: Option<&str>) -> Op
     ensures { result ≡ route_by tables.now node.now line.now (option_map (λ name. name.now) second.entry) }
 {
     let node = Name::of_text(node).ok()?;
-    let line = tables.line_owner(line)?;
+    let id = tables.line_owner(line)?;
     let second = second_by(tables, second)?;
-    Some(RouteEntry { node, line, second })
+    Some(RouteEntry { node, line: id, second })
 }
 
 /// The second line of a route by its name, whoever's it is; none where no name is given.
@@ -137,8 +137,8 @@ fn second_by(tables: &Tables, second: Option<&str>) -> Option<Option<LineId>>
     match second {
         None => Some(None),
         Some(name) => {
-            let line = tables.line_owner(name)?;
-            Some(Some(line))
+            let id = tables.line_owner(name)?;
+            Some(Some(id))
         }
     }
 }

@@ -96,7 +96,7 @@ module _ (entry : NamedCustomer) (id : LineId) (y : FileCursor)
   pub source_is :
       (source : Source) (b : Bool) (w v : Writing) (o p : Outlet) (old new : List CustomerSpool)
       → after_source (goes_of y) source (filling w o (files_of y old)) ≡ filling_where b v p (files_of y new)
-      → after_source (goes_by (entry_of entry) id.line) source (filling w o (spool_at id.customer old))
+      → after_source (goes_by (entry_of entry) id.number) source (filling w o (spool_at id.customer old))
       ≡ filling_where b v p (spool_at id.customer new)
   source_is source b w v o p old new e =
       subst (λ (x : FileCursor). after_source (goes_of x) source (filling w o (files_of x old))

@@ -39,7 +39,7 @@ impl<'a> Model for Cursor<'a> {
 
     ghost view = { λ x. record { entry = x.entry.now; id = x.id; sysin = x.sysin; sysout = x.sysout } };
 
-    ghost invariant = { λ x. list_any (node_goes_by (entry_of x.entry.now) x.id.line) x.elsewhere.items ≡ false };
+    ghost invariant = { λ x. list_any (node_goes_by (entry_of x.entry.now) x.id.number) x.elsewhere.items ≡ false };
 }
 
 impl<'a> Cursor<'a> {
@@ -91,7 +91,7 @@ impl<'a> Cursor<'a> {
 
     /// Whether a node isn't known not to go by the line.
     fn may_reach(&self, node: &[u8; 8]) -> bool
-        ensures { result ≡ false → node_goes_by (entry_of self.now.entry) self.now.id.line node.now ≡ false }
+        ensures { result ≡ false → node_goes_by (entry_of self.now.entry) self.now.id.number node.now ≡ false }
     {
         !is_among(&self.elsewhere, node)
     }
@@ -99,7 +99,7 @@ impl<'a> Cursor<'a> {
     /// Whether there is a destination, and its node isn't known not to go by the line.
     fn may_arrive(&self, destination: &Option<Destination>) -> bool
         ensures { result ≡ false
-            → destination_goes_by (entry_of self.now.entry) self.now.id.line destination.now ≡ false }
+            → destination_goes_by (entry_of self.now.entry) self.now.id.number destination.now ≡ false }
     {
         match destination {
             Some(destination) => self.may_reach(&destination.node),
@@ -121,13 +121,13 @@ impl<'a> Cursor<'a> {
 
     /// Whether a destination's node goes by the line.
     fn is_destined(&mut self, destination: Option<Destination>) -> bool
-        ensures goes { result ≡ destination_goes_by (entry_of self.old.entry) self.old.id.line destination }
+        ensures goes { result ≡ destination_goes_by (entry_of self.old.entry) self.old.id.number destination }
         ensures cursor { self.new ≡ self.old }
     {
         match destination {
             Some(destination) => goes_there(
                 self.entry,
-                self.id.line,
+                self.id.number,
                 &destination.node,
                 &mut self.elsewhere,
             ),

@@ -90,7 +90,7 @@ pub fn add_requests<L: Outgoing>(
     writer: &mut BlockWriter,
 ) -> bool
     requires { id.customer < length spool.old }
-    ensures source { after_sources (goes_by (entry_of entry.now) id.line) requests
+    ensures source { after_sources (goes_by (entry_of entry.now) id.number) requests
         (filling writer.old (L.outlet line.old) (spool_at id.customer spool.old))
         ≡ filling_where result writer.new (L.outlet line.new) (spool_at id.customer spool.new) }
     ensures spool { spool.new ≡ slice_set spool.old id.customer (spool_at id.customer spool.new) }

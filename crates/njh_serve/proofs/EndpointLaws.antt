@@ -23,14 +23,14 @@ opened_part t c = get_or-map_default part_at_open (entries_of t) c hub.no_entry
     ∙ ap part_at_open (get_or-map_default entry_of t.customers c no_customer)
 
 -- the hub has the lines of its tables
-pub opened_line : (t : TableFile) (line : LineId) → HasLine t line → hub.HasLine (map part_at_open (entries_of t)) line
-opened_line t line known =
-    let e = entry_of (customer_at t line.customer) in
-    let here : length (hub.part line.customer (map part_at_open (entries_of t))).customer.lines ≡ length (part_at_open e).customer.lines =
-    ap (λ (p : Part). length p.customer.lines) (opened_part t line.customer) in
+pub opened_line : (t : TableFile) (id : LineId) → HasLine t id → hub.HasLine (map part_at_open (entries_of t)) id
+opened_line t id known =
+    let e = entry_of (customer_at t id.customer) in
+    let here : length (hub.part id.customer (map part_at_open (entries_of t))).customer.lines ≡ length (part_at_open e).customer.lines =
+    ap (λ (p : Part). length p.customer.lines) (opened_part t id.customer) in
     let states : length (part_at_open e).customer.lines ≡ length e.lines = length-map e.lines _ in
-    let entries : length e.lines ≡ length (customer_at t line.customer).lines =
-    length-map (customer_at t line.customer).lines (λ (l : NamedLine). l.entry) in
+    let entries : length e.lines ≡ length (customer_at t id.customer).lines =
+    length-map (customer_at t id.customer).lines (λ (l : NamedLine). l.entry) in
     omega (arith, known, here, states, entries)
 
 -- so the lines of endpoints are lines of the hub

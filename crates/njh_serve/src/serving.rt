@@ -162,22 +162,22 @@ fn add_lines<N: Network + Drop, L: Write + Drop, S: TableSource + Drop>(
 {
     let mut ways = ways.into_iter();
     for place in 0..endpoints.len() {
-        let line = endpoints[place].line;
+        let id = endpoints[place].line;
         let Some(way) = ways.next() else {
             return Ok(());
         };
-        exchange.add(line, &names_of(tables, line), way)?;
+        exchange.add(id, &names_of(tables, id), way)?;
     }
     Ok(())
 }
 
 /// What a line is called.
-fn names_of<'a>(tables: &'a Tables, line: LineId) -> LineNames<'a>
-    requires { HasLine tables.now line }
+fn names_of<'a>(tables: &'a Tables, id: LineId) -> LineNames<'a>
+    requires { HasLine tables.now id }
 {
-    let entry = tables.line(line);
+    let entry = tables.line(id);
     LineNames {
-        customer: tables.customer(line.customer).name(),
+        customer: tables.customer(id.customer).name(),
         line: entry.name(),
         node: entry.node(),
     }

@@ -25,8 +25,8 @@ pub record AgreeButRoutes (old new : TableFile) : Type 0 where
 abbrev pub given_route : ℕ → RouteEntry → GivenRoute
 given_route c r = record {
   node = r.node;
-  line = record { customer = c; line = r.line };
-  second = option_map (λ line. record { customer = c; line = line }) r.second;
+  line = record { customer = c; number = r.line };
+  second = option_map (λ line. record { customer = c; number = line }) r.second;
 }
 
 abbrev pub given_routes : ℕ → List RouteEntry → List GivenRoute

@@ -56,11 +56,11 @@ fn given_route(number: u16, node: Name, lines: RouteLines) -> RouteEntry
 
 /// A line of the customer of a number.
 fn own_line(number: u16, line: u16) -> LineId
-    ensures { result ≡ record { customer = number; line = line } }
+    ensures { result ≡ record { customer = number; number = line } }
 {
     LineId {
         customer: number,
-        line,
+        number: line,
     }
 }
 

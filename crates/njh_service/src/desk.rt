@@ -290,8 +290,8 @@ impl<N: Network + Drop, L: Write + Drop> Desk<N, L> {
 }
 
 /// How far a line's session is.
-fn phase_of(hub: &Hub, line: LineId) -> Phase {
-    match hub.session(line) {
+fn phase_of(hub: &Hub, id: LineId) -> Phase {
+    match hub.session(id) {
         Ok(session) => session.phase,
         Err(_) => Phase::Down,
     }

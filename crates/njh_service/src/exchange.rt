@@ -98,17 +98,17 @@ impl<N: Network + Drop, L: Write + Drop, S: TableSource + Drop> Exchange<N, L, S
     /// Serves a further line. Out of memory is the only refusal.
     pub fn add(
         &mut self,
-        line: LineId,
+        id: LineId,
         names: &LineNames<'_>,
         way: Way<N::Listener>,
     ) -> Result<(), AllocError>
-        ensures added { OnOk result (self.new ≡ self.old ++ line ∷ []) }
+        ensures added { OnOk result (self.new ≡ self.old ++ id ∷ []) }
         ensures err { OnErr result (self.new ≡ self.old) }
     {
         let label = Label::of(names);
         self.ready.push(NOTHING)?;
         self.watches.push(AT_ONCE)?;
-        self.posts.push(Post::new(line, label, way))?;
+        self.posts.push(Post::new(id, label, way))?;
         Ok(())
     }
 
@@ -209,7 +209,7 @@ impl<N: Network + Drop, L: Write + Drop, S: TableSource + Drop> Exchange<N, L, S
         ensures counts { wire.old.failures ≤ wire.new.failures }
         ensures place { wire.new.place ≡ wire.old.place }
         ensures lines { self.new ≡ self.old }
-        ensures kept { (line : LineId) → slice_get self.old place ≡ Some line → ¬ HasGivenUp hub.now line →
+        ensures kept { (id : LineId) → slice_get self.old place ≡ Some id → ¬ HasGivenUp hub.now id →
             wire.new.connection ≡ wire.old.connection }
     {
         let Some(post) = self.posts.get_mut(place) else {

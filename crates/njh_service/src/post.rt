@@ -91,14 +91,14 @@ pub(crate) struct Post<Li: Drop, C: Drop> {
 
 impl<Li: Drop, C: Drop> Post<Li, C> {
     /// A line on which nothing happened yet.
-    pub(crate) fn new(line: LineId, label: Label, way: Way<Li>) -> Post<Li, C>
-        ensures { result.line ≡ line }
+    pub(crate) fn new(id: LineId, label: Label, way: Way<Li>) -> Post<Li, C>
+        ensures { result.line ≡ id }
     {
         Post {
             moment: 0,
             seen: u64::MAX,
             linked: false,
-            line,
+            line: id,
             door: match way {
                 Way::Listens(listener) => Door::Listens(listener),
                 Way::Dials(address) => Door::Dials(address, Dial::new()),

@@ -20,19 +20,19 @@ impl<N: Network + Drop, L: Write + Drop> Desk<N, L> {
     /// has come near its quota.
     pub(crate) fn tell_files(
         &mut self,
-        line: LineId,
+        id: LineId,
         label: &Label,
         streams: &mut Streams,
         hub: &Hub,
     ) {
-        self.tell_coming(line, label, streams, hub);
-        self.tell_going(line, label, streams, hub);
-        self.tell_quota(line.customer, label, hub);
+        self.tell_coming(id, label, streams, hub);
+        self.tell_going(id, label, streams, hub);
+        self.tell_quota(id.customer, label, hub);
     }
 
     /// Tells of the files that came in.
-    fn tell_coming(&mut self, line: LineId, label: &Label, streams: &mut Streams, hub: &Hub) {
-        let (Ok(receivers), Ok(notices)) = (hub.receivers(line), hub.notices(line)) else {
+    fn tell_coming(&mut self, id: LineId, label: &Label, streams: &mut Streams, hub: &Hub) {
+        let (Ok(receivers), Ok(notices)) = (hub.receivers(id), hub.notices(id)) else {
             return;
         };
         let now = files_coming(receivers);
@@ -44,7 +44,7 @@ impl<N: Network + Drop, L: Write + Drop> Desk<N, L> {
                 break;
             };
             if let Some(file) = streams.coming[place] {
-                let happening = match hub.file_summary(line.customer, file) {
+                let happening = match hub.file_summary(id.customer, file) {
                     Some(summary) => arrival(&summary),
                     None => {
                         let drains = matches!(receivers.get(place), Some(Receiver::Draining));
@@ -60,13 +60,13 @@ impl<N: Network + Drop, L: Write + Drop> Desk<N, L> {
     }
 
     /// Tells of the files that went out, and keeps what is to be told of those that go out now.
-    fn tell_going(&mut self, line: LineId, label: &Label, streams: &mut Streams, hub: &Hub) {
-        let Ok(senders) = hub.senders(line) else {
+    fn tell_going(&mut self, id: LineId, label: &Label, streams: &mut Streams, hub: &Hub) {
+        let Ok(senders) = hub.senders(id) else {
             return;
         };
         let now = files_going(senders);
         if now != streams.going {
-            self.tell_gone(line.customer, label, streams, &now, hub);
+            self.tell_gone(id.customer, label, streams, &now, hub);
             streams.going = now;
         }
         streams.ended = ended(senders);

@@ -122,28 +122,28 @@ impl Receiver {
         &mut self,
         arrival: Arrival<'_>,
         stream: Stream,
-        line: LineId,
+        id: LineId,
         tables: &Tables,
         spool: &mut Spool,
     ) -> Step
-        requires known { line.customer < length tables.now.customers }
-        requires spooled { line.customer < length spool.old }
+        requires known { id.customer < length tables.now.customers }
+        requires spooled { id.customer < length spool.old }
         requires short { IsShort (arrival_of arrival) }
-        requires agrees { Agrees (kind_of stream) self.old (spool_at line.customer spool.old) }
-        ensures receiver { self.new ≡ (received_on tables.now spool.old line stream self.old (arrival_of arrival.entry)).receiver }
+        requires agrees { Agrees (kind_of stream) self.old (spool_at id.customer spool.old) }
+        ensures receiver { self.new ≡ (received_on tables.now spool.old id stream self.old (arrival_of arrival.entry)).receiver }
         ensures answer { result.answer
-            ≡ option_map (answer_on stream) (received_on tables.now spool.old line stream self.old (arrival_of arrival.entry)).answer }
-        ensures notice { result.notice ≡ (received_on tables.now spool.old line stream self.old (arrival_of arrival.entry)).notice }
-        ensures spool { spool.new ≡ slice_set spool.old line.customer
-            (received_on tables.now spool.old line stream self.old (arrival_of arrival.entry)).spool }
-        ensures agrees { Agrees (kind_of stream) self.new (spool_at line.customer spool.new) }
+            ≡ option_map (answer_on stream) (received_on tables.now spool.old id stream self.old (arrival_of arrival.entry)).answer }
+        ensures notice { result.notice ≡ (received_on tables.now spool.old id stream self.old (arrival_of arrival.entry)).notice }
+        ensures spool { spool.new ≡ slice_set spool.old id.customer
+            (received_on tables.now spool.old id stream self.old (arrival_of arrival.entry)).spool }
+        ensures agrees { Agrees (kind_of stream) self.new (spool_at id.customer spool.new) }
     {
         match arrival {
             Arrival::Record { srcb, bytes } => {
-                self.take_record(srcb, bytes, stream, line, tables, spool)
+                self.take_record(srcb, bytes, stream, id, tables, spool)
             }
             Arrival::Request | Arrival::TooLong | Arrival::Abort => {
-                self.take(arrival, stream, line, tables, spool)
+                self.take(arrival, stream, id, tables, spool)
             }
         }
     }
@@ -154,25 +154,25 @@ impl Receiver {
         srcb: u8,
         bytes: &[u8],
         stream: Stream,
-        line: LineId,
+        id: LineId,
         tables: &Tables,
         spool: &mut Spool,
     ) -> Step
-        requires known { line.customer < length tables.now.customers }
-        requires spooled { line.customer < length spool.old }
+        requires known { id.customer < length tables.now.customers }
+        requires spooled { id.customer < length spool.old }
         requires short { length bytes.now ≤ 256 }
-        requires agrees { Agrees (kind_of stream) self.old (spool_at line.customer spool.old) }
-        ensures receiver { self.new ≡ (received_on tables.now spool.old line stream self.old (Data srcb bytes.now)).receiver }
+        requires agrees { Agrees (kind_of stream) self.old (spool_at id.customer spool.old) }
+        ensures receiver { self.new ≡ (received_on tables.now spool.old id stream self.old (Data srcb bytes.now)).receiver }
         ensures answer { result.answer
-            ≡ option_map (answer_on stream) (received_on tables.now spool.old line stream self.old (Data srcb bytes.now)).answer }
-        ensures notice { result.notice ≡ (received_on tables.now spool.old line stream self.old (Data srcb bytes.now)).notice }
-        ensures spool { spool.new ≡ slice_set spool.old line.customer
-            (received_on tables.now spool.old line stream self.old (Data srcb bytes.now)).spool }
-        ensures agrees { Agrees (kind_of stream) self.new (spool_at line.customer spool.new) }
+            ≡ option_map (answer_on stream) (received_on tables.now spool.old id stream self.old (Data srcb bytes.now)).answer }
+        ensures notice { result.notice ≡ (received_on tables.now spool.old id stream self.old (Data srcb bytes.now)).notice }
+        ensures spool { spool.new ≡ slice_set spool.old id.customer
+            (received_on tables.now spool.old id stream self.old (Data srcb bytes.now)).spool }
+        ensures agrees { Agrees (kind_of stream) self.new (spool_at id.customer spool.new) }
     {
         next_number_is_least();
         let was = *self;
-        match receive_unread(was, srcb, bytes, stream.kind(), line.customer, spool) {
+        match receive_unread(was, srcb, bytes, stream.kind(), id.customer, spool) {
             Some(receiver) => {
                 *self = receiver;
                 Step {
@@ -180,7 +180,7 @@ impl Receiver {
                     notice: None,
                 }
             }
-            None => self.take(Arrival::Record { srcb, bytes }, stream, line, tables, spool),
+            None => self.take(Arrival::Record { srcb, bytes }, stream, id, tables, spool),
         }
     }
 
@@ -189,26 +189,26 @@ impl Receiver {
         &mut self,
         arrival: Arrival<'_>,
         stream: Stream,
-        line: LineId,
+        id: LineId,
         tables: &Tables,
         spool: &mut Spool,
     ) -> Step
-        requires known { line.customer < length tables.now.customers }
-        requires spooled { line.customer < length spool.old }
+        requires known { id.customer < length tables.now.customers }
+        requires spooled { id.customer < length spool.old }
         requires short { IsShort (arrival_of arrival) }
-        requires agrees { Agrees (kind_of stream) self.old (spool_at line.customer spool.old) }
-        ensures receiver { self.new ≡ (received_on tables.now spool.old line stream self.old (arrival_of arrival.entry)).receiver }
+        requires agrees { Agrees (kind_of stream) self.old (spool_at id.customer spool.old) }
+        ensures receiver { self.new ≡ (received_on tables.now spool.old id stream self.old (arrival_of arrival.entry)).receiver }
         ensures answer { result.answer
-            ≡ option_map (answer_on stream) (received_on tables.now spool.old line stream self.old (arrival_of arrival.entry)).answer }
-        ensures notice { result.notice ≡ (received_on tables.now spool.old line stream self.old (arrival_of arrival.entry)).notice }
-        ensures spool { spool.new ≡ slice_set spool.old line.customer
-            (received_on tables.now spool.old line stream self.old (arrival_of arrival.entry)).spool }
-        ensures agrees { Agrees (kind_of stream) self.new (spool_at line.customer spool.new) }
+            ≡ option_map (answer_on stream) (received_on tables.now spool.old id stream self.old (arrival_of arrival.entry)).answer }
+        ensures notice { result.notice ≡ (received_on tables.now spool.old id stream self.old (arrival_of arrival.entry)).notice }
+        ensures spool { spool.new ≡ slice_set spool.old id.customer
+            (received_on tables.now spool.old id stream self.old (arrival_of arrival.entry)).spool }
+        ensures agrees { Agrees (kind_of stream) self.new (spool_at id.customer spool.new) }
     {
         next_number_is_least();
         let was = *self;
-        let entry = tables.customer(line.customer);
-        let after = receive(was, arrival, stream.kind(), line, entry, spool);
+        let entry = tables.customer(id.customer);
+        let after = receive(was, arrival, stream.kind(), id, entry, spool);
         *self = after.receiver;
         Step {
             answer: answer_of(after.answer, stream),
@@ -291,30 +291,30 @@ fn receive(
     receiver: Receiver,
     arrival: Arrival<'_>,
     kind: Kind,
-    line: LineId,
+    id: LineId,
     entry: &Customer,
     spool: &mut Spool,
 ) -> After
-    requires spooled { line.customer < length spool.old }
+    requires spooled { id.customer < length spool.old }
     requires short { IsShort (arrival_of arrival) }
-    requires agrees { Agrees kind receiver (spool_at line.customer spool.old) }
-    ensures { IsAfter result spool.new spool.old line.customer
-        (received_arrival (entry_of entry.now) line.line kind receiver (arrival_of arrival.entry) (spool_at line.customer spool.old)) }
+    requires agrees { Agrees kind receiver (spool_at id.customer spool.old) }
+    ensures { IsAfter result spool.new spool.old id.customer
+        (received_arrival (entry_of entry.now) id.number kind receiver (arrival_of arrival.entry) (spool_at id.customer spool.old)) }
 {
     match receiver {
-        Receiver::Idle => receive_idle(arrival, kind, line.customer, spool),
-        Receiver::Draining => receive_draining(arrival, kind, line.customer, spool),
+        Receiver::Idle => receive_idle(arrival, kind, id.customer, spool),
+        Receiver::Draining => receive_draining(arrival, kind, id.customer, spool),
         Receiver::Open { file, progress } => match arrival {
             Arrival::Request => {
-                spool.abandon(line.customer, file).ok();
-                begin(line.customer, kind, spool)
+                spool.abandon(id.customer, file).ok();
+                begin(id.customer, kind, spool)
             }
             Arrival::Record { srcb, bytes } => {
-                receive_record(line, entry, kind, file, progress, srcb, bytes, spool)
+                receive_record(id, entry, kind, file, progress, srcb, bytes, spool)
             }
-            Arrival::TooLong => cancel(line.customer, file, None, None, spool),
+            Arrival::TooLong => cancel(id.customer, file, None, None, spool),
             Arrival::Abort => {
-                spool.abandon(line.customer, file).ok();
+                spool.abandon(id.customer, file).ok();
                 After::silent(Receiver::Idle)
             }
         },
@@ -357,7 +357,7 @@ fn receive_draining(arrival: Arrival<'_>, kind: Kind, customer: u16, spool: &mut
 
 /// A record for an open file; one without bytes ends it.
 fn receive_record(
-    line: LineId,
+    id: LineId,
     entry: &Customer,
     kind: Kind,
     file: FileId,
@@ -366,19 +366,19 @@ fn receive_record(
     bytes: &[u8],
     spool: &mut Spool,
 ) -> After
-    requires spooled { line.customer < length spool.old }
+    requires spooled { id.customer < length spool.old }
     requires short { length bytes.now ≤ 256 }
-    requires agrees { AgreesWith kind progress (partial_numbered file (spool_at line.customer spool.old)) }
-    ensures { IsAfter result spool.new spool.old line.customer
-        (received_open (entry_of entry.now) line.line kind file (Data srcb bytes.now) (spool_at line.customer spool.old)) }
+    requires agrees { AgreesWith kind progress (partial_numbered file (spool_at id.customer spool.old)) }
+    ensures { IsAfter result spool.new spool.old id.customer
+        (received_open (entry_of entry.now) id.number kind file (Data srcb bytes.now) (spool_at id.customer spool.old)) }
 {
     if bytes.is_empty() {
-        close(line.customer, kind, file, progress, spool)
+        close(id.customer, kind, file, progress, spool)
     } else {
         store(
-            line.customer,
+            id.customer,
             entry,
-            line.line,
+            id.number,
             kind,
             file,
             progress,

@@ -19,13 +19,13 @@ use Rattle.njh_table.proofs.OwnersLaws.{numbered, names-owners_from}
 -- the line is one of those from a number on, and has the name
 abbrev IsLineFrom : ℕ → ℕ → List NamedLine → List ℕ × LineId → Type 0
 IsLineFrom customer first lines o =
-    (o.1.customer ≡ customer) × (first ≤ o.1.line) × (o.1.line - first < length lines)
-    × ((get_or lines (o.1.line - first) no_line).name ≡ o.0)
+    (o.1.customer ≡ customer) × (first ≤ o.1.number) × (o.1.number - first < length lines)
+    × ((get_or lines (o.1.number - first) no_line).name ≡ o.0)
 
 later_line : (customer first : ℕ) (l : NamedLine) (lines : List NamedLine) (o : List ℕ × LineId)
     → IsLineFrom customer (first + 1) lines o → IsLineFrom customer first (l ∷ lines) o
 later_line customer first l lines o h =
-    let next : o.1.line - first ≡ suc (o.1.line - (first + 1)) = omega (arith, h.1) in
+    let next : o.1.number - first ≡ suc (o.1.number - (first + 1)) = omega (arith, h.1) in
     (h.0, omega (arith, h.1), omega (arith, h.1, h.2), ap (λ n. (get_or (l ∷ lines) n no_line).name) next ∙ h.3)
 
 lines_named : (customer first : ℕ) (lines : List NamedLine) → All (IsLineFrom customer first lines) (line_owners customer first lines)
@@ -40,17 +40,17 @@ lines_named customer first (l ∷ lines) =
 -- the same, over the customers from a number on
 abbrev IsOwnerFrom : ℕ → List NamedCustomer → List ℕ × LineId → Type 0
 IsOwnerFrom first customers o =
-    (first ≤ o.1.customer) × (o.1.line < length (get_or customers (o.1.customer - first) no_customer).lines)
-    × ((get_or (get_or customers (o.1.customer - first) no_customer).lines o.1.line no_line).name ≡ o.0)
+    (first ≤ o.1.customer) × (o.1.number < length (get_or customers (o.1.customer - first) no_customer).lines)
+    × ((get_or (get_or customers (o.1.customer - first) no_customer).lines o.1.number no_line).name ≡ o.0)
 
 own_line_from : (first : ℕ) (c : NamedCustomer) (customers : List NamedCustomer) (o : List ℕ × LineId)
     → IsLineFrom first 0 c.lines o → IsOwnerFrom first (c ∷ customers) o
 own_line_from first c customers o h =
     let here : 0 ≡ o.1.customer - first = omega (arith, h.0) in
-    let start : o.1.line - 0 ≡ o.1.line = omega arith in (
+    let start : o.1.number - 0 ≡ o.1.number = omega arith in (
       omega (arith, h.0),
-      subst (λ n. o.1.line < length (get_or (c ∷ customers) n no_customer).lines) here (subst (λ n. n < length c.lines) start h.2),
-      subst (λ n. (get_or (get_or (c ∷ customers) n no_customer).lines o.1.line no_line).name ≡ o.0) here
+      subst (λ n. o.1.number < length (get_or (c ∷ customers) n no_customer).lines) here (subst (λ n. n < length c.lines) start h.2),
+      subst (λ n. (get_or (get_or (c ∷ customers) n no_customer).lines o.1.number no_line).name ≡ o.0) here
           (subst (λ n. (get_or c.lines n no_line).name ≡ o.0) start h.3),
     )
 
@@ -59,8 +59,8 @@ later_customer : (first : ℕ) (c : NamedCustomer) (customers : List NamedCustom
 later_customer first c customers o h =
     let next : suc (o.1.customer - (first + 1)) ≡ o.1.customer - first = omega (arith, h.0) in (
       omega (arith, h.0),
-      subst (λ n. o.1.line < length (get_or (c ∷ customers) n no_customer).lines) next h.1,
-      subst (λ n. (get_or (get_or (c ∷ customers) n no_customer).lines o.1.line no_line).name ≡ o.0) next h.2,
+      subst (λ n. o.1.number < length (get_or (c ∷ customers) n no_customer).lines) next h.1,
+      subst (λ n. (get_or (get_or (c ∷ customers) n no_customer).lines o.1.number no_line).name ≡ o.0) next h.2,
     )
 
 owners_named : (first : ℕ) (customers : List NamedCustomer) → All (IsOwnerFrom first customers) (owners_from first customers)
@@ -109,17 +109,17 @@ owner_found t name =
     (λ line among. let owner =
     All-contains (IsOwnerFrom 0 t.customers) (owners_from 0 t.customers) (name, line) (owners_named 0 t.customers) among in
     let start : line.customer - 0 ≡ line.customer = omega arith in (
-      subst (λ n. line.line < length (get_or t.customers n no_customer).lines) start owner.1,
-      subst (λ n. (get_or (get_or t.customers n no_customer).lines line.line no_line).name ≡ name) start owner.2,
+      subst (λ n. line.number < length (get_or t.customers n no_customer).lines) start owner.1,
+      subst (λ n. (get_or (get_or t.customers n no_customer).lines line.number no_line).name ≡ name) start owner.2,
     ))
 
-pub owner_only : (t : TableFile) (name : List ℕ) → AreDistinct (line_names t.customers) → (line : LineId) → HasLine t line
-    → (table_line t line).name ≡ name → line_named t name ≡ Some line
-owner_only t name distinct line has same =
+pub owner_only : (t : TableFile) (name : List ℕ) → AreDistinct (line_names t.customers) → (id : LineId) → HasLine t id
+    → (table_line t id).name ≡ name → line_named t name ≡ Some id
+owner_only t name distinct id has same =
     let unique = IsDistinct-from_AllPairs bytes_eq-Decides (map (λ o. o.0) (owners_from 0 t.customers))
     (subst AreDistinct (sym (names-owners_from 0 t.customers)) distinct) in
-    let owned : Contains (owners_from 0 t.customers) (name, numbered line.customer line.line) =
-    subst (λ n. Contains (owners_from 0 t.customers) (name, numbered n line.line)) (zero-add line.customer)
-    (subst (λ n. Contains (owners_from 0 t.customers) (n, numbered (0 + line.customer) line.line)) same
-    (owners_owned 0 t.customers line.customer line.line has)) in
-    lookup-from_Contains nat_list_eq_equiv name line (owners_from 0 t.customers) unique owned
+    let owned : Contains (owners_from 0 t.customers) (name, numbered id.customer id.number) =
+    subst (λ n. Contains (owners_from 0 t.customers) (name, numbered n id.number)) (zero-add id.customer)
+    (subst (λ n. Contains (owners_from 0 t.customers) (n, numbered (0 + id.customer) id.number)) same
+    (owners_owned 0 t.customers id.customer id.number has)) in
+    lookup-from_Contains nat_list_eq_equiv name id (owners_from 0 t.customers) unique owned

@@ -15,15 +15,15 @@ use Rattle.njh_table.proofs.Replaced.{accepted_again, reads_alike, same_line_nam
 -- ---- one mark
 
 -- a line stands with a customer that is there
-pub customer_there : (t : TableFile) (line : LineId) → HasLine t line → line.customer < length t.customers
-customer_there t line has =
-    ⊎_elim (λ (w : line.customer < length t.customers). w)
-    (λ (w : length t.customers ≤ line.customer). absurd (omega (
+pub customer_there : (t : TableFile) (id : LineId) → HasLine t id → id.customer < length t.customers
+customer_there t id has =
+    ⊎_elim (λ (w : id.customer < length t.customers). w)
+    (λ (w : length t.customers ≤ id.customer). absurd (omega (
       arith,
       has,
-      ap (λ (c : NamedCustomer). length c.lines) (get_or_past t.customers line.customer no_customer w),
+      ap (λ (c : NamedCustomer). length c.lines) (get_or_past t.customers id.customer no_customer w),
     )))
-    (cases_lt line.customer (length t.customers))
+    (cases_lt id.customer (length t.customers))
 
 still_line : (up : Bool) (l : NamedLine) → IsLine l → IsLine (line_marked up l)
 still_line up l is = record { name = is.name; block = is.block; streams = is.streams; port = is.port; peer = is.peer }
@@ -43,24 +43,24 @@ marked_is line up c there is =
       nodes = is.nodes;
     }
 
-pub marked_accepted : (t : TableFile) (line : LineId) (up : Bool) → HasLine t line → IsAccepted t → IsAccepted (with_mark line up t)
-marked_accepted t line up has was =
-    let there = customer_there t line has in
-    let old = customer_at t line.customer in
-    let new = customer_marked line.line up old in
-    accepted_again t (set t.customers line.customer new)
-    (reads_alike (λ (c : NamedCustomer). c.name) t.customers line.customer new no_customer refl)
-    (reads_alike (λ (c : NamedCustomer). c.quota) t.customers line.customer new no_customer refl)
-    (same_line_names t.customers line.customer new (marked_names line.line up old))
-    (All-set IsCustomer t.customers line.customer new
-    (marked_is line.line up old has (All-get_or IsCustomer t.customers line.customer no_customer there was.each)) was.each)
+pub marked_accepted : (t : TableFile) (id : LineId) (up : Bool) → HasLine t id → IsAccepted t → IsAccepted (with_mark id up t)
+marked_accepted t id up has was =
+    let there = customer_there t id has in
+    let old = customer_at t id.customer in
+    let new = customer_marked id.number up old in
+    accepted_again t (set t.customers id.customer new)
+    (reads_alike (λ (c : NamedCustomer). c.name) t.customers id.customer new no_customer refl)
+    (reads_alike (λ (c : NamedCustomer). c.quota) t.customers id.customer new no_customer refl)
+    (same_line_names t.customers id.customer new (marked_names id.number up old))
+    (All-set IsCustomer t.customers id.customer new
+    (marked_is id.number up old has (All-get_or IsCustomer t.customers id.customer no_customer there was.each)) was.each)
     was
 
-pub marked_owners : (t : TableFile) (line : LineId) (up : Bool)
-    → owners_from 0 (set t.customers line.customer (customer_marked line.line up (customer_at t line.customer))) ≡ owners_from 0 t.customers
-marked_owners t line up =
-    same_owners 0 t.customers line.customer (customer_marked line.line up (customer_at t line.customer))
-    (marked_names line.line up (customer_at t line.customer))
+pub marked_owners : (t : TableFile) (id : LineId) (up : Bool)
+    → owners_from 0 (set t.customers id.customer (customer_marked id.number up (customer_at t id.customer))) ≡ owners_from 0 t.customers
+marked_owners t id up =
+    same_owners 0 t.customers id.customer (customer_marked id.number up (customer_at t id.customer))
+    (marked_names id.number up (customer_at t id.customer))
 
 -- ---- no mark
 
@@ -100,17 +100,17 @@ entry-marked line up c =
     let marks = map-set (λ (l : NamedLine). l.up) c.lines line l in
     λ i. record { hub = c.hub; quota = c.quota; files = c.files; lines = lines i; up = marks i; routes = c.routes }
 
-pub own_entry-marked : (t : TableFile) (line : LineId) (up : Bool) → line.customer < length t.customers
-    → entry_of (customer_at (with_mark line up t) line.customer) ≡ entry_marked line.line up (entry_of (customer_at t line.customer))
-own_entry-marked t line up there =
-    let old = customer_at t line.customer in
-    ap entry_of (get_or-set_same t.customers line.customer (customer_marked line.line up old) no_customer there)
-    ∙ entry-marked line.line up old
+pub own_entry-marked : (t : TableFile) (id : LineId) (up : Bool) → id.customer < length t.customers
+    → entry_of (customer_at (with_mark id up t) id.customer) ≡ entry_marked id.number up (entry_of (customer_at t id.customer))
+own_entry-marked t id up there =
+    let old = customer_at t id.customer in
+    ap entry_of (get_or-set_same t.customers id.customer (customer_marked id.number up old) no_customer there)
+    ∙ entry-marked id.number up old
 
-pub others-marked : (t : TableFile) (line : LineId) (up : Bool) (c : ℕ) → c ≢ line.customer
-    → customer_at (with_mark line up t) c ≡ customer_at t c
-others-marked t line up c apart =
-    get_or-set_other t.customers line.customer c (customer_marked line.line up (customer_at t line.customer)) no_customer apart
+pub others-marked : (t : TableFile) (id : LineId) (up : Bool) (c : ℕ) → c ≢ id.customer
+    → customer_at (with_mark id up t) c ≡ customer_at t c
+others-marked t id up c apart =
+    get_or-set_other t.customers id.customer c (customer_marked id.number up (customer_at t id.customer)) no_customer apart
 
 entry-unmarked : (c : NamedCustomer) → entry_of (customer_unmarked c) ≡ entry_unmarked (entry_of c)
 entry-unmarked c =

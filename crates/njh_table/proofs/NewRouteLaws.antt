@@ -93,46 +93,46 @@ may_be-own lines None = refl
 may_be-own lines (Some n) = refl
 
 -- a line of the customer's own
-record IsMine (lines c : ℕ) (line : LineId) : Type 0 where
-  pub customer : line.customer ≡ c
-  pub below : line.line < lines
-  pub number : own_number c line ≡ Some line.line
+record IsMine (lines c : ℕ) (id : LineId) : Type 0 where
+  pub customer : id.customer ≡ c
+  pub below : id.number < lines
+  pub number : own_number c id ≡ Some id.number
 
-mine : (lines c : ℕ) (line : LineId) → is_own lines (own_number c line) ≡ true → IsMine lines c line
-mine lines c line = by (line.customer == c) refl
+mine : (lines c : ℕ) (id : LineId) → is_own lines (own_number c id) ≡ true → IsMine lines c id
+mine lines c id = by (id.customer == c) refl
   where
-    by : (b : Bool) → (line.customer == c) ≡ b → is_own lines (cond b (Some line.line) None) ≡ true → IsMine lines c line
+    by : (b : Bool) → (id.customer == c) ≡ b → is_own lines (cond b (Some id.number) None) ≡ true → IsMine lines c id
     by true same below = record {
-      customer = eqb-true line.customer c same;
-      below = ltb-true line.line lines below;
-      number = ap (λ b. cond b (Some line.line) None) same;
+      customer = eqb-true id.customer c same;
+      below = ltb-true id.number lines below;
+      number = ap (λ b. cond b (Some id.number) None) same;
     }
     by false other below = absurd (cc below)
 
 -- what is taken of a second line that was passed: another line of the customer's
-second-taken : (lines c : ℕ) (line : LineId) (second : Option LineId) → IsMine lines c line → is_again (own_second c line second) ≡ false
-    → may_be_second lines (own_second c line second) ≡ true
-    → (taken_second (own_second c line second) ≡ option_map (λ l. l.line) second)
-    × IfSome (option_map (λ l. l.line) second) (λ n. (n < lines) × (n ≢ line.line))
-second-taken lines c line None first once may = (refl, tt)
-second-taken lines c line (Some second) first once may =
-    by (repeats line (Some second)) refl (own_number c second) refl once may
+second-taken : (lines c : ℕ) (id : LineId) (second : Option LineId) → IsMine lines c id → is_again (own_second c id second) ≡ false
+    → may_be_second lines (own_second c id second) ≡ true
+    → (taken_second (own_second c id second) ≡ option_map (λ l. l.number) second)
+    × IfSome (option_map (λ l. l.number) second) (λ n. (n < lines) × (n ≢ id.number))
+second-taken lines c id None first once may = (refl, tt)
+second-taken lines c id (Some second) first once may =
+    by (repeats id (Some second)) refl (own_number c second) refl once may
   where
-    apart : IsMine lines c second → repeats line (Some second) ≡ false → second.line ≢ line.line
+    apart : IsMine lines c second → repeats id (Some second) ≡ false → second.number ≢ id.number
     apart own other same =
-        both_ways (repeats line (Some second)) other (and_from _ _ (eq-eqb line.customer second.customer (first.customer ∙ sym own.customer))
-        (eq-eqb line.line second.line (sym same)))
+        both_ways (repeats id (Some second)) other (and_from _ _ (eq-eqb id.customer second.customer (first.customer ∙ sym own.customer))
+        (eq-eqb id.number second.number (sym same)))
 
-    told : (n : Option ℕ) → own_number c second ≡ n → repeats line (Some second) ≡ false → may_be_second lines (own_or_foreign n) ≡ true
-        → (taken_second (own_or_foreign n) ≡ Some second.line) × ((second.line < lines) × (second.line ≢ line.line))
+    told : (n : Option ℕ) → own_number c second ≡ n → repeats id (Some second) ≡ false → may_be_second lines (own_or_foreign n) ≡ true
+        → (taken_second (own_or_foreign n) ≡ Some second.number) × ((second.number < lines) × (second.number ≢ id.number))
     told None is other may = absurd (cc may)
     told (Some n) is other may =
         let own = mine lines c second (ap (is_own lines) is ∙ may) in
         (ap (λ o. taken_second (own_or_foreign o)) (sym is ∙ own.number), (own.below, apart own other))
 
-    by : (same : Bool) → repeats line (Some second) ≡ same → (n : Option ℕ) → own_number c second ≡ n
+    by : (same : Bool) → repeats id (Some second) ≡ same → (n : Option ℕ) → own_number c second ≡ n
         → is_again (cond same Again (own_or_foreign n)) ≡ false → may_be_second lines (cond same Again (own_or_foreign n)) ≡ true
-        → (taken_second (cond same Again (own_or_foreign n)) ≡ Some second.line) × ((second.line < lines) × (second.line ≢ line.line))
+        → (taken_second (cond same Again (own_or_foreign n)) ≡ Some second.number) × ((second.number < lines) × (second.number ≢ id.number))
     by true same n is once may = absurd (cc once)
     by false other n is once may = told n is other may
 

@@ -28,18 +28,18 @@ names_after owners customer lines =
 -- one more line at the end
 pub line_owners-push : (customer line : ℕ) (lines : List NamedLine) (l : NamedLine)
     → line_owners customer line (lines ++ l ∷ [])
-    ≡ line_owners customer line lines ++ (l.name, record { customer = customer; line = line + length lines }) ∷ []
-line_owners-push customer line [] l = ap (λ n. (l.name, record { customer = customer; line = n }) ∷ []) (sym (add-zero line))
+    ≡ line_owners customer line lines ++ (l.name, record { customer = customer; number = line + length lines }) ∷ []
+line_owners-push customer line [] l = ap (λ n. (l.name, record { customer = customer; number = n }) ∷ []) (sym (add-zero line))
 line_owners-push customer line (x ∷ lines) l =
-    ap (λ rest. (x.name, record { customer = customer; line = line }) ∷ rest) (line_owners-push customer (line + 1) lines l
-    ∙ ap (λ n. line_owners customer (line + 1) lines ++ (l.name, record { customer = customer; line = n }) ∷ []) (omega arith))
+    ap (λ rest. (x.name, record { customer = customer; number = line }) ∷ rest) (line_owners-push customer (line + 1) lines l
+    ∙ ap (λ n. line_owners customer (line + 1) lines ++ (l.name, record { customer = customer; number = n }) ∷ []) (omega arith))
 
 pub owners_push : (owners : Owners) (customer : ℕ) (lines : List NamedLine) (l : NamedLine) (n : ℕ) → n ≡ length lines
-    → (owners ++ line_owners customer 0 lines) ++ (l.name, record { customer = customer; line = n }) ∷ []
+    → (owners ++ line_owners customer 0 lines) ++ (l.name, record { customer = customer; number = n }) ∷ []
     ≡ owners ++ line_owners customer 0 (lines ++ l ∷ [])
 owners_push owners customer lines l n same =
     append_assoc owners (line_owners customer 0 lines) _
-    ∙ ap (λ k. owners ++ (line_owners customer 0 lines ++ (l.name, record { customer = customer; line = k }) ∷ []))
+    ∙ ap (λ k. owners ++ (line_owners customer 0 lines ++ (l.name, record { customer = customer; number = k }) ∷ []))
     (same ∙ sym (zero-add (length lines)))
     ∙ ap (λ rest. owners ++ rest) (sym (line_owners-push customer 0 lines l))
 
@@ -81,7 +81,7 @@ lookup-append test (o ∷ before) after = by (test o.0) (lookup-append test befo
 
 -- the line of a number
 abbrev pub numbered : ℕ → ℕ → LineId
-numbered customer line = record { customer = customer; line = line }
+numbered customer line = record { customer = customer; number = line }
 
 numbered-cond : (customer line : ℕ) (test : Bool) (rest : Option ℕ)
     → cond test (Some (numbered customer line)) (option_map (numbered customer) rest)
@@ -142,18 +142,18 @@ no_line taken (l ∷ lines) name k apart is_taken =
 
 -- what is found of a customer, where its own come after those of customers below
 picked : (n : ℕ) (before : Option LineId) (own : Option ℕ) → AreBelow n before → (is_some before ≡ true → own ≡ None)
-    → option_and_then (λ o. cond (eqb o.customer n) (Some o.line) None) (option_or before (option_map (numbered n) own)) ≡ own
+    → option_and_then (λ o. cond (eqb o.customer n) (Some o.number) None) (option_or before (option_map (numbered n) own)) ≡ own
 picked n None None below apart = refl
 picked n None (Some line) below apart = cond-true (eqb n n) (Some line) None (eq-eqb n n refl)
 picked n (Some o) own below apart =
-    cond-false (eqb o.customer n) (Some o.line) None (ne_eqb o.customer n (λ same. absurd (omega arith))) ∙ sym (apart refl)
+    cond-false (eqb o.customer n) (Some o.number) None (ne_eqb o.customer n (λ same. absurd (omega arith))) ∙ sym (apart refl)
 
 own_line-at : (customers : List NamedCustomer) (lines : List NamedLine) (name : List ℕ) → AreApart (line_names customers) lines
     → own_line (owners_from 0 customers ++ line_owners (length customers) 0 lines) (length customers) name ≡ line_number lines name
 own_line-at customers lines name apart =
     let n = length customers in
     let before = owners_from 0 customers in
-    let pick : Option LineId → Option ℕ = λ o. option_and_then (λ o. cond (eqb o.customer n) (Some o.line) None) o in
+    let pick : Option LineId → Option ℕ = λ o. option_and_then (λ o. cond (eqb o.customer n) (Some o.number) None) o in
     let taken : is_some (lookup (bytes_eq name) before) ≡ true → list_any (bytes_eq name) (line_names customers) ≡ true =
     λ found. ap (list_any (bytes_eq name)) (sym (names-owners_from 0 customers)) ∙ sym (is_some-lookup (bytes_eq name) before) ∙ found in
     ap pick (lookup-append (bytes_eq name) before (line_owners n 0 lines)

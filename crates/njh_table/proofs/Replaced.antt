@@ -37,11 +37,11 @@ same_line_owners customer k lines others same = named customer k lines ∙ ap (o
   where
     owned : ℕ → ℕ → List (List ℕ) → Owners
     owned customer k [] = []
-    owned customer k (name ∷ names) = (name, record { customer = customer; line = k }) ∷ owned customer (k + 1) names
+    owned customer k (name ∷ names) = (name, record { customer = customer; number = k }) ∷ owned customer (k + 1) names
 
     named : (customer k : ℕ) (lines : List NamedLine) → line_owners customer k lines ≡ owned customer k (map (λ l. l.name) lines)
     named customer k [] = refl
-    named customer k (l ∷ lines) = ap (λ os. (l.name, record { customer = customer; line = k }) ∷ os) (named customer (k + 1) lines)
+    named customer k (l ∷ lines) = ap (λ os. (l.name, record { customer = customer; number = k }) ∷ os) (named customer (k + 1) lines)
 
 -- ---- one customer in the place of another
 

@@ -12,8 +12,8 @@ customer_marked line up c = record c { lines = slice_set c.lines line (line_mark
 
 -- one line has this mark, and nothing else is changed
 abbrev pub with_mark : LineId → Bool → TableFile → TableFile
-with_mark line up t =
-    record t { customers = slice_set t.customers line.customer (customer_marked line.line up (customer_at t line.customer)) }
+with_mark id up t =
+    record t { customers = slice_set t.customers id.customer (customer_marked id.number up (customer_at t id.customer)) }
 
 -- all marks are off
 abbrev pub customer_unmarked : NamedCustomer → NamedCustomer

@@ -27,12 +27,12 @@ pub record NewRoute : Type 0 where
   pub second : Second
 
 abbrev pub own_number : ℕ → LineId → Option ℕ
-own_number c line = cond (line.customer == c) (Some line.line) None
+own_number c id = cond (id.customer == c) (Some id.number) None
 
 -- a second line that is the route's line
 abbrev pub repeats : LineId → Option LineId → Bool
-repeats line None = false
-repeats line (Some second) = (line.customer == second.customer) && (line.line == second.line)
+repeats id None = false
+repeats id (Some second) = (id.customer == second.customer) && (id.number == second.number)
 
 abbrev pub own_or_foreign : Option ℕ → Second
 own_or_foreign None = Foreign
@@ -43,7 +43,7 @@ other_second c None = NoSecond
 other_second c (Some second) = own_or_foreign (own_number c second)
 
 abbrev pub own_second : ℕ → LineId → Option LineId → Second
-own_second c line second = cond (repeats line second) Again (other_second c second)
+own_second c id second = cond (repeats id second) Again (other_second c second)
 
 -- the routes that the customer of a number is given, as it sees them
 abbrev pub own_route : ℕ → GivenRoute → NewRoute
@@ -95,7 +95,7 @@ routes_checked entry routes = do
 
 -- the lines of a route by their numbers, whoever's they are
 abbrev pub given_lines : GivenRoute → RouteLines
-given_lines r = record { line = r.line.line; second = option_map (λ l. l.line) r.second }
+given_lines r = record { line = r.line.number; second = option_map (λ l. l.number) r.second }
 
 abbrev pub number_or : Option ℕ → ℕ
 number_or None = 0

@@ -71,10 +71,10 @@ abbrev pub customer_at : TableFile → ℕ → NamedCustomer
 customer_at t c = slice_index_or t.customers c no_customer
 
 abbrev pub HasLine : TableFile → LineId → Type 0
-HasLine t line = line.line < length (customer_at t line.customer).lines
+HasLine t id = id.number < length (customer_at t id.customer).lines
 
 abbrev pub table_line : TableFile → LineId → NamedLine
-table_line t line = slice_index_or (customer_at t line.customer).lines line.line no_line
+table_line t id = slice_index_or (customer_at t id.customer).lines id.number no_line
 
 -- ---- the lines of the hub by their names
 
@@ -91,12 +91,12 @@ names_in owners = map (λ o. o.0) owners
 abbrev pub line_owners : ℕ → ℕ → List NamedLine → Owners
 line_owners customer line [] = []
 line_owners customer line (l ∷ lines) =
-    (l.name, record { customer = customer; line = line }) ∷ line_owners customer (line + 1) lines
+    (l.name, record { customer = customer; number = line }) ∷ line_owners customer (line + 1) lines
 
 -- the number of the line of a name, where it is of this customer
 abbrev pub own_line : Owners → ℕ → List ℕ → Option ℕ
 own_line owners customer name =
-    option_and_then (λ o. if o.customer == customer then Some o.line else None) (lookup (bytes_eq name) owners)
+    option_and_then (λ o. if o.customer == customer then Some o.number else None) (lookup (bytes_eq name) owners)
 
 -- the lines of all customers, from the one of a number on
 abbrev pub owners_from : ℕ → List NamedCustomer → Owners

@@ -14,11 +14,11 @@ impl Tables {
     ghost use Rattle.njh_table.specs.TableFile.{HasLine};
 
     /// Marks a line as up, or takes the mark away. Takes no memory.
-    pub fn set_up(&mut self, line: LineId, up: bool)
-        requires { HasLine self.old line }
-        ensures { self.new ≡ with_mark line up self.old }
+    pub fn set_up(&mut self, id: LineId, up: bool)
+        requires { HasLine self.old id }
+        ensures { self.new ≡ with_mark id up self.old }
     {
-        mark_line(&mut self.customers, line, up);
+        mark_line(&mut self.customers, id, up);
     }
 
     /// Takes the marks of all lines away. Takes no memory.
@@ -30,13 +30,13 @@ impl Tables {
 }
 
 /// One line of one customer has this mark.
-fn mark_line(customers: &mut Vec<Customer>, line: LineId, up: bool)
-    requires customer { line.customer < vec_len customers.old }
-    requires line { line.line < length (slice_index_or customers.old.items line.customer no_customer).lines }
-    ensures { customers.new.items ≡ slice_set customers.old.items line.customer
-        (customer_marked line.line up (slice_index_or customers.old.items line.customer no_customer)) }
+fn mark_line(customers: &mut Vec<Customer>, id: LineId, up: bool)
+    requires customer { id.customer < vec_len customers.old }
+    requires line { id.number < length (slice_index_or customers.old.items id.customer no_customer).lines }
+    ensures { customers.new.items ≡ slice_set customers.old.items id.customer
+        (customer_marked id.number up (slice_index_or customers.old.items id.customer no_customer)) }
 {
-    customers[usize::from(line.customer)].set_up(line.line, up);
+    customers[usize::from(id.customer)].set_up(id.number, up);
 }
 
 /// No line of the customers has a mark.

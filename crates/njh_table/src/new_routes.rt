@@ -81,8 +81,8 @@ fn given_lines(route: &RouteEntry) -> RouteLines
     ensures { result ≡ given_lines route.now }
 {
     RouteLines {
-        line: route.line.line,
-        second: route.second.map(|second| second.line),
+        line: route.line.number,
+        second: route.second.map(|second| second.number),
     }
 }
 
@@ -140,11 +140,11 @@ fn check_one(
 }
 
 /// Whether a route's second line is its line.
-fn repeats(line: LineId, second: Option<LineId>) -> bool
-    ensures { result ≡ repeats line second }
+fn repeats(id: LineId, second: Option<LineId>) -> bool
+    ensures { result ≡ repeats id second }
 {
     match second {
-        Some(second) => line == second,
+        Some(second) => id == second,
         None => false,
     }
 }
@@ -173,10 +173,10 @@ fn is_for(route: &RouteEntry, node: Name) -> bool
 }
 
 /// Whether a line is one of a customer's own.
-fn is_own(number: u16, customer: &Customer, line: LineId) -> bool
-    ensures { result ≡ is_own (length customer.now.lines) (own_number number line) }
+fn is_own(number: u16, customer: &Customer, id: LineId) -> bool
+    ensures { result ≡ is_own (length customer.now.lines) (own_number number id) }
 {
-    line.customer == number && usize::from(line.line) < customer.lines().len()
+    id.customer == number && usize::from(id.number) < customer.lines().len()
 }
 
 /// Whether there is no second line, or it is one of a customer's own.

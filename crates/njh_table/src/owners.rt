@@ -58,8 +58,8 @@ impl Owners {
     pub(crate) fn own_line(&self, customer: u16, name: &str) -> Option<u16>
         ensures { result ≡ own_line self.now customer name.now }
     {
-        let line = self.get(name)?;
-        (line.customer == customer).then_some(line.line)
+        let id = self.get(name)?;
+        (id.customer == customer).then_some(id.number)
     }
 
     /// Adds a line whose name is new.
@@ -67,13 +67,13 @@ impl Owners {
         &mut self,
         alloc: Global,
         name: &str,
-        line: LineId,
+        id: LineId,
     ) -> Result<(), AllocError>
         requires { list_any (bytes_eq name.now) (names_in self.old) ≡ false }
-        ensures { OnOk result (self.new ≡ self.old ++ (name.now, line) ∷ []) }
+        ensures { OnOk result (self.new ≡ self.old ++ (name.now, id) ∷ []) }
     {
         let name = String::from_str(alloc, name)?;
-        self.lines.insert(name, line)?;
+        self.lines.insert(name, id)?;
         Ok(())
     }
 }

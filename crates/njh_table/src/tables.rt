@@ -59,28 +59,28 @@ impl Tables {
     }
 
     /// Whether there is such a line.
-    pub fn has_line(&self, line: LineId) -> bool
-        ensures { IsTrue result ↔ HasLine self.now line }
+    pub fn has_line(&self, id: LineId) -> bool
+        ensures { IsTrue result ↔ HasLine self.now id }
     {
-        match self.customers.get(usize::from(line.customer)) {
-            Some(customer) => usize::from(line.line) < customer.lines().len(),
+        match self.customers.get(usize::from(id.customer)) {
+            Some(customer) => usize::from(id.number) < customer.lines().len(),
             None => false,
         }
     }
 
     /// A line by its customer and its number.
-    pub fn line(&self, line: LineId) -> &Line
-        requires { HasLine self.now line }
-        ensures { result.now ≡ table_line self.now line }
+    pub fn line(&self, id: LineId) -> &Line
+        requires { HasLine self.now id }
+        ensures { result.now ≡ table_line self.now id }
     {
-        &self.customer(line.customer).lines()[usize::from(line.line)]
+        &self.customer(id.customer).lines()[usize::from(id.number)]
     }
 
     /// The line of a name, which stands once on the whole hub.
     pub fn line_owner(&self, name: &str) -> Option<LineId>
         ensures owner { result ≡ line_named self.now name.now }
         ensures found { IfSome result (λ line. HasLine self.now line × ((table_line self.now line).name ≡ name.now)) }
-        ensures only { (line : LineId) → HasLine self.now line → (table_line self.now line).name ≡ name.now → result ≡ Some line }
+        ensures only { (id : LineId) → HasLine self.now id → (table_line self.now id).name ≡ name.now → result ≡ Some id }
     {
         self.owners.get(name)
     }

@@ -104,9 +104,9 @@ impl Desk {
         if usize::from(line) >= self.lines.len() {
             return 0;
         }
-        let line = LineId { customer: 0, line };
+        let id = LineId { customer: 0, number: line };
         self.lines.take_bytes(
-            line,
+            id,
             piece,
             &mut self.tables,
             &mut self.spool,
@@ -118,9 +118,9 @@ impl Desk {
     /// A signal comes on a line.
     pub fn signal(&mut self, line: u16, signal: Signal) {
         if usize::from(line) < self.lines.len() {
-            let line = LineId { customer: 0, line };
+            let id = LineId { customer: 0, number: line };
             self.lines.take_signal(
-                line,
+                id,
                 signal,
                 &mut self.tables,
                 &mut self.spool,

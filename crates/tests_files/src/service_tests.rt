@@ -27,11 +27,11 @@ fn quiet_wire() -> [MemoryWire; 1] {
 }
 
 /// A route to METZ on a line, for the first customer.
-fn metz_by(alloc: Global, line: LineId) -> Result<NewRoutes, Fail> {
+fn metz_by(alloc: Global, id: LineId) -> Result<NewRoutes, Fail> {
     let node = Name::of_text("METZ")?;
     let entry = RouteEntry {
         node,
-        line,
+        line: id,
         second: None,
     };
     let routes = RouteList::of(alloc, &[entry])?;

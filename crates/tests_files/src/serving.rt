@@ -38,19 +38,19 @@ route = [{ node = "LYON", line = "b1" }, { node = "PARIS", line = "b2" }]
 pub const LINES: [LineId; 4] = [
     LineId {
         customer: 0,
-        line: 0,
+        number: 0,
     },
     LineId {
         customer: 0,
-        line: 1,
+        number: 1,
     },
     LineId {
         customer: 1,
-        line: 0,
+        number: 0,
     },
     LineId {
         customer: 1,
-        line: 1,
+        number: 1,
     },
 ];
 

@@ -28,12 +28,12 @@ const ACME: u16 = 0;
 /// The line to LYON, and the line to METZ.
 const A1: LineId = LineId {
     customer: ACME,
-    line: 0,
+    number: 0,
 };
 
 const A2: LineId = LineId {
     customer: ACME,
-    line: 1,
+    number: 1,
 };
 
 /// Compares what each script does with what is stored.
@@ -123,13 +123,13 @@ fn take_event(
     told: &mut String,
 ) -> Result<(), Failure> {
     let (name, digits) = rest.split_once(' ').unwrap_or((rest, ""));
-    let line = if name == "a2" { A2 } else { A1 };
+    let id = if name == "a2" { A2 } else { A1 };
     let piece = bytes_of(alloc, digits)?;
     let mut out = Vec::new(alloc);
     let answer = match word {
-        "BYTES" => take_bytes(hub, line, &piece, &mut out),
-        "CUT" => take_bytes(hub, line, beginning(&piece, place), &mut out),
-        "LOST" => hub.lost(line, &mut out),
+        "BYTES" => take_bytes(hub, id, &piece, &mut out),
+        "CUT" => take_bytes(hub, id, beginning(&piece, place), &mut out),
+        "LOST" => hub.lost(id, &mut out),
         _ => Ok(()),
     };
     match answer {
@@ -141,11 +141,11 @@ fn take_event(
 /// A step by bytes, of which one frame at most is answered.
 fn take_bytes(
     hub: &mut Hub,
-    line: LineId,
+    id: LineId,
     piece: &[u8],
     out: &mut Vec<u8>,
 ) -> Result<(), HubFault> {
-    match hub.take(line, piece, out) {
+    match hub.take(id, piece, out) {
         Ok(_) => Ok(()),
         Err(fault) => Err(fault),
     }

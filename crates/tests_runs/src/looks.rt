@@ -16,19 +16,19 @@ use std::rt::Files;
 /// LYON's line of ACME, on which the file comes.
 const A1: LineId = LineId {
     customer: 0,
-    line: 0,
+    number: 0,
 };
 
 /// METZ's, on which it goes.
 const A2: LineId = LineId {
     customer: 0,
-    line: 1,
+    number: 1,
 };
 
 /// No line.
 const NOWHERE: LineId = LineId {
     customer: 0,
-    line: 2,
+    number: 2,
 };
 
 /// The sign-on of METZ.
@@ -56,38 +56,38 @@ const ANOTHER: &str = "1002838fcf909900001026";
 fn take<R: Print + AllocGlobal>(
     rt: &R,
     hub: &mut Hub,
-    line: LineId,
+    id: LineId,
     digits: &str,
 ) -> Result<(), Failure> {
     let piece = bytes_of(rt.alloc(), digits)?;
     let mut out = Vec::new(rt.alloc());
-    match hub.take(line, &piece, &mut out) {
-        Ok(_) => show_line(rt, hub, line),
+    match hub.take(id, &piece, &mut out) {
+        Ok(_) => show_line(rt, hub, id),
         Err(fault) => Err(of_hub(fault)),
     }
 }
 
 /// A tick of a line, and then what is seen of the line.
-fn tick<R: Print + AllocGlobal>(rt: &R, hub: &mut Hub, line: LineId) -> Result<(), Failure> {
+fn tick<R: Print + AllocGlobal>(rt: &R, hub: &mut Hub, id: LineId) -> Result<(), Failure> {
     let mut out = Vec::new(rt.alloc());
-    match hub.tick(line, &mut out) {
-        Ok(()) => show_line(rt, hub, line),
+    match hub.tick(id, &mut out) {
+        Ok(()) => show_line(rt, hub, id),
         Err(fault) => Err(of_hub(fault)),
     }
 }
 
 /// What is seen of a line: its session, and SYSOUT 1 to the hub and from it.
-fn show_line<R: Print>(rt: &R, hub: &Hub, line: LineId) -> Result<(), Failure> {
-    let given_up = hub.has_given_up(line);
-    match hub.session(line) {
+fn show_line<R: Print>(rt: &R, hub: &Hub, id: LineId) -> Result<(), Failure> {
+    let given_up = hub.has_given_up(id);
+    match hub.session(id) {
         Ok(session) => println!(rt; "look: {session:?} {given_up}")?,
         Err(fault) => println!(rt; "look: {fault} {given_up}")?,
     }
-    match hub.receivers(line) {
+    match hub.receivers(id) {
         Ok(receivers) => println!(rt; "in: {:?}", receivers[4])?,
         Err(fault) => println!(rt; "in: {fault}")?,
     }
-    match hub.senders(line) {
+    match hub.senders(id) {
         Ok(senders) => println!(rt; "out: {:?}", senders[4])?,
         Err(fault) => println!(rt; "out: {fault}")?,
     }
@@ -95,8 +95,8 @@ fn show_line<R: Print>(rt: &R, hub: &Hub, line: LineId) -> Result<(), Failure> {
 }
 
 /// The file that comes on SYSOUT 1 of a line.
-fn file_coming(hub: &Hub, line: LineId) -> Option<FileId> {
-    match hub.receivers(line) {
+fn file_coming(hub: &Hub, id: LineId) -> Option<FileId> {
+    match hub.receivers(id) {
         Ok(receivers) => match receivers[4] {
             Receiver::Open { file, .. } => Some(file),
             Receiver::Idle | Receiver::Draining => None,

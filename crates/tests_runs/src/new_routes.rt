@@ -10,23 +10,23 @@ use std::rt::Files;
 
 const A1: LineId = LineId {
     customer: 0,
-    line: 0,
+    number: 0,
 };
 
 const A2: LineId = LineId {
     customer: 0,
-    line: 1,
+    number: 1,
 };
 
 const B1: LineId = LineId {
     customer: 1,
-    line: 0,
+    number: 0,
 };
 
 /// A route to a node by a line, and by a second one if there is one.
-pub fn route_by(node: &str, line: LineId, second: Option<LineId>) -> Result<RouteEntry, Failure> {
+pub fn route_by(node: &str, id: LineId, second: Option<LineId>) -> Result<RouteEntry, Failure> {
     match Name::of_text(node) {
-        Ok(node) => Ok(RouteEntry { node, line, second }),
+        Ok(node) => Ok(RouteEntry { node, line: id, second }),
         Err(_) => Err(of_hub(HubFault::UnknownCustomer)),
     }
 }

@@ -65,9 +65,9 @@ pub struct Peer<'a> {
 }
 
 impl<'a> Peer<'a> {
-    pub fn new(line: LineId, sign_on: &'a [u8]) -> Self {
+    pub fn new(id: LineId, sign_on: &'a [u8]) -> Self {
         Peer {
-            line,
+            line: id,
             sign_on,
             count: None,
         }

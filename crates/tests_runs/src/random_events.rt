@@ -86,10 +86,10 @@ fn route_of(
     second: Option<u16>,
 ) -> Result<RouteEntry, Failure> {
     let second = match second {
-        Some(line) => Some(LineId { customer, line }),
+        Some(line) => Some(LineId { customer, number: line }),
         None => None,
     };
-    route_by(node, LineId { customer, line }, second)
+    route_by(node, LineId { customer, number: line }, second)
 }
 
 /// The peers of a customer's lines.
@@ -101,11 +101,11 @@ fn peers_of<'a>(
 ) -> Result<Vec<Peer<'a>>, AllocError> {
     let mut peers = Vec::new(alloc);
     for (line, sign_on) in lines {
-        let line = LineId {
+        let id = LineId {
             customer,
-            line: *line,
+            number: *line,
         };
-        peers.push(Peer::new(line, bytes_at(&texts.sign_ons, *sign_on)))?;
+        peers.push(Peer::new(id, bytes_at(&texts.sign_ons, *sign_on)))?;
     }
     Ok(peers)
 }

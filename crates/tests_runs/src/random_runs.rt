@@ -39,11 +39,11 @@ impl Sink for Kept {
         self.failures
     }
 
-    fn send(&mut self, line: LineId, frame: &[u8]) -> Result<(), SinkFault> {
-        if line.customer != ACME {
+    fn send(&mut self, id: LineId, frame: &[u8]) -> Result<(), SinkFault> {
+        if id.customer != ACME {
             return Ok(());
         }
-        match put_frame(&mut self.bytes, line.line, frame) {
+        match put_frame(&mut self.bytes, id.number, frame) {
             Ok(()) => Ok(()),
             Err(_) => {
                 self.failures = self.failures.saturating_add(1);

@@ -55,18 +55,18 @@ impl Watch {
         self.metz = new;
     }
 
-    fn see_line(&mut self, line: LineId, sending: usize, frame: &[u8]) {
+    fn see_line(&mut self, id: LineId, sending: usize, frame: &[u8]) {
         let first = self.metz.map(|route| route.line);
         let second = self.metz.and_then(|route| route.second);
-        if self.asked.is_some() && first == Some(line) && frame.starts_with(&SIGN_ON) {
+        if self.asked.is_some() && first == Some(id) && frame.starts_with(&SIGN_ON) {
             self.back = self.back.saturating_add(1);
         }
-        if self.asked == Some(line) && frame.ends_with(&FILE_END) {
+        if self.asked == Some(id) && frame.ends_with(&FILE_END) {
             self.sent = self.sent.saturating_add(1);
         }
-        if sending > self.sending && second == Some(line) {
-            self.asked = Some(line);
-        } else if sending == 0 || (sending < self.sending && self.asked == Some(line)) {
+        if sending > self.sending && second == Some(id) {
+            self.asked = Some(id);
+        } else if sending == 0 || (sending < self.sending && self.asked == Some(id)) {
             self.asked = None;
         }
     }

@@ -9,12 +9,12 @@ use std::rt::Files;
 
 const A1: LineId = LineId {
     customer: 0,
-    line: 0,
+    number: 0,
 };
 
 const NOWHERE: LineId = LineId {
     customer: 9,
-    line: 0,
+    number: 0,
 };
 
 /// ENQ, in hex as all frames here.
@@ -70,7 +70,7 @@ impl Sink for Refusing {
         self.failures
     }
 
-    fn send(&mut self, _line: LineId, _frame: &[u8]) -> Result<(), SinkFault> {
+    fn send(&mut self, _id: LineId, _frame: &[u8]) -> Result<(), SinkFault> {
         if self.left == 0 {
             self.failures = self.failures.saturating_add(1);
             return Err(SinkFault);
@@ -129,13 +129,13 @@ fn take_signal<R: Print + AllocGlobal>(
     rt: &R,
     hub: &mut Hub,
     step: &str,
-    line: LineId,
+    id: LineId,
 ) -> Result<(), Failure> {
     let mut out = Vec::new(rt.alloc());
     let answer = match step {
-        "tick" => hub.tick(line, &mut out),
-        "garbled" => hub.garbled(line, &mut out),
-        _ => hub.lost(line, &mut out),
+        "tick" => hub.tick(id, &mut out),
+        "garbled" => hub.garbled(id, &mut out),
+        _ => hub.lost(id, &mut out),
     };
     show(rt, step, answer.map(|_| 0), &out)
 }

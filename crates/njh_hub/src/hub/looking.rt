@@ -20,25 +20,25 @@ const TRIES: u8 = 5;
 
 impl Hub {
     /// The lines of a line's customer. `UnknownLine` comes where the hub has no such line.
-    fn lines_of(&self, line: LineId) -> Result<&Lines, HubFault>
-        ensures lines { IfOk result (λ lines. lines.now.lines ≡ (part line.customer self.now).customer.lines) }
-        ensures known { IsOk result ↔ HasLine self.now line }
+    fn lines_of(&self, id: LineId) -> Result<&Lines, HubFault>
+        ensures lines { IfOk result (λ lines. lines.now.lines ≡ (part id.customer self.now).customer.lines) }
+        ensures known { IsOk result ↔ HasLine self.now id }
         ensures unknown { OnErr result (result ≡ Err HubFault.UnknownLine) }
     {
-        if !self.is_line(line) {
+        if !self.is_line(id) {
             return Err(HubFault::UnknownLine);
         }
-        Ok(&self.lines[usize::from(line.customer)])
+        Ok(&self.lines[usize::from(id.customer)])
     }
 
     /// A line's session, as far as it is shown. `UnknownLine` comes where the hub has no such line.
-    pub fn session(&self, line: LineId) -> Result<SessionView, HubFault>
-        ensures session { IfOk result (λ s. s ≡ session_view (hub_line line self.now).state.session) }
-        ensures known { IsOk result ↔ HasLine self.now line }
+    pub fn session(&self, id: LineId) -> Result<SessionView, HubFault>
+        ensures session { IfOk result (λ s. s ≡ session_view (hub_line id self.now).state.session) }
+        ensures known { IsOk result ↔ HasLine self.now id }
         ensures unknown { OnErr result (result ≡ Err HubFault.UnknownLine) }
     {
-        let lines = self.lines_of(line)?;
-        Ok(SessionView::of(lines.session(line.line)))
+        let lines = self.lines_of(id)?;
+        Ok(SessionView::of(lines.session(id.number)))
     }
 
     /// Whether a line is down and its last session had made all its five tries.
@@ -46,10 +46,10 @@ impl Hub {
     /// So it is from the moment at which a session ends after its tries, until another session begins, and on a line
     /// that calls until its next tick. A session that ends otherwise while it has made five tries looks the same: by
     /// the line's loss, say.
-    pub fn has_given_up(&self, line: LineId) -> bool
-        ensures { IsTrue result ↔ HasGivenUp self.now line }
+    pub fn has_given_up(&self, id: LineId) -> bool
+        ensures { IsTrue result ↔ HasGivenUp self.now id }
     {
-        match self.session(line) {
+        match self.session(id) {
             Ok(session) => session.phase == Phase::Down && session.tries == TRIES,
             Err(_) => false,
         }
@@ -57,39 +57,39 @@ impl Hub {
 
     /// What each of a line's streams to the hub is about: SYSIN 1 to 4, SYSOUT 1 to 4. `UnknownLine` comes where the
     /// hub has no such line.
-    pub fn receivers(&self, line: LineId) -> Result<&[Receiver], HubFault>
-        ensures receivers { IfOk result (λ receivers. receivers.now ≡ (hub_line line self.now).receivers) }
+    pub fn receivers(&self, id: LineId) -> Result<&[Receiver], HubFault>
+        ensures receivers { IfOk result (λ receivers. receivers.now ≡ (hub_line id self.now).receivers) }
         ensures eight { IfOk result (λ receivers. length receivers.now ≡ 8) }
-        ensures known { IsOk result ↔ HasLine self.now line }
+        ensures known { IsOk result ↔ HasLine self.now id }
         ensures unknown { OnErr result (result ≡ Err HubFault.UnknownLine) }
     {
-        let lines = self.lines_of(line)?;
-        Ok(lines.receivers(line.line))
+        let lines = self.lines_of(id)?;
+        Ok(lines.receivers(id.number))
     }
 
     /// What the owner of the file was told that the hub refused last on each of a line's streams to the hub: none where
     /// that file had no owner or there was nothing to say, and none once another file opens there. `UnknownLine` comes
     /// where the hub has no such line.
-    pub fn notices(&self, line: LineId) -> Result<&[Option<Notice>], HubFault>
-        ensures notices { IfOk result (λ notices. notices.now ≡ (hub_line line self.now).notices) }
+    pub fn notices(&self, id: LineId) -> Result<&[Option<Notice>], HubFault>
+        ensures notices { IfOk result (λ notices. notices.now ≡ (hub_line id self.now).notices) }
         ensures eight { IfOk result (λ notices. length notices.now ≡ 8) }
-        ensures known { IsOk result ↔ HasLine self.now line }
+        ensures known { IsOk result ↔ HasLine self.now id }
         ensures unknown { OnErr result (result ≡ Err HubFault.UnknownLine) }
     {
-        let lines = self.lines_of(line)?;
-        Ok(lines.notices(line.line))
+        let lines = self.lines_of(id)?;
+        Ok(lines.notices(id.number))
     }
 
     /// What each of a line's streams from the hub is about, in the same order. `UnknownLine` comes where the hub has no
     /// such line.
-    pub fn senders(&self, line: LineId) -> Result<&[Sender], HubFault>
-        ensures senders { IfOk result (λ senders. senders.now ≡ (hub_line line self.now).senders) }
+    pub fn senders(&self, id: LineId) -> Result<&[Sender], HubFault>
+        ensures senders { IfOk result (λ senders. senders.now ≡ (hub_line id self.now).senders) }
         ensures eight { IfOk result (λ senders. length senders.now ≡ 8) }
-        ensures known { IsOk result ↔ HasLine self.now line }
+        ensures known { IsOk result ↔ HasLine self.now id }
         ensures unknown { OnErr result (result ≡ Err HubFault.UnknownLine) }
     {
-        let lines = self.lines_of(line)?;
-        Ok(lines.senders(line.line))
+        let lines = self.lines_of(id)?;
+        Ok(lines.senders(id.number))
     }
 
     /// A customer's whole file of a number, without its records; none where it has none of that number, or the hub has

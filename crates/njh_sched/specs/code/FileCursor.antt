@@ -24,13 +24,13 @@ first_file entry id = record { entry = entry; id = id; sysin = 0; sysout = 0 }
 
 -- the files that go by the line
 abbrev pub goes_of : FileCursor → WholeFile → Bool
-goes_of x = goes_by (entry_of x.entry) x.id.line
+goes_of x = goes_by (entry_of x.entry) x.id.number
 
 -- whether a file may go on the line's streams of a kind, by what is known of it without a look at its records
 abbrev pub is_known_to_go : FileCursor → Kind → FileSummary → Bool
 is_known_to_go x kind f =
     is_ready f.state
-    && (same_kind f.kind kind && destination_goes_by (entry_of x.entry) x.id.line f.headers.destination)
+    && (same_kind f.kind kind && destination_goes_by (entry_of x.entry) x.id.number f.headers.destination)
 
 -- the customer's part of the spool
 abbrev pub files_of : FileCursor → List CustomerSpool → CustomerSpool

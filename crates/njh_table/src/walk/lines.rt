@@ -53,7 +53,7 @@ fn next_line(
 ) -> Result<Line, TableFault>
     requires { number ≤ length (names_in owners.old) }
     ensures walk { Walks (λ l. l) result (next_line (names_in owners.old) (view value.now)) }
-    ensures owners { IfOk result (λ l. owners.new ≡ owners.old ++ (l.name, record { customer = customer; line = number }) ∷ []) }
+    ensures owners { IfOk result (λ l. owners.new ≡ owners.old ++ (l.name, record { customer = customer; number = number }) ∷ []) }
 {
     if owners.len() >= MAX_LINES {
         return Err(TableFault::TooMany);
@@ -66,7 +66,7 @@ fn next_line(
     let line = line_of(alloc, name, keys)?;
     let id = LineId {
         customer,
-        line: number as u16,
+        number: number as u16,
     };
     owners.insert(alloc, name, id)?;
     Ok(line)

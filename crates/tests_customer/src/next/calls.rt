@@ -83,11 +83,11 @@ pub fn next_block<R: Abort>(
     assert!(rt; 300 <= size);
     assert!(rt; size <= 4096);
     let mut writer = BlockWriter::new(size, Bcb::normal(3), Fcs::nothing_suspended());
-    let line = LineId {
+    let id = LineId {
         customer: 0,
-        line: memory.line,
+        number: memory.line,
     };
-    if fill(memory, line, spool, tables, &mut writer) {
+    if fill(memory, id, spool, tables, &mut writer) {
         Some(writer.finish())
     } else {
         None

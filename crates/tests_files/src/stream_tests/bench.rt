@@ -106,12 +106,12 @@ impl Bench {
     pub fn come<R: Abort>(&mut self, rt: &R, tables: &Tables, arrival: Arrival<'_>) -> Step {
         assert!(rt; !tables.customers().is_empty());
         assert!(rt; is_short(arrival));
-        let line = LineId {
+        let id = LineId {
             customer: 0,
-            line: 0,
+            number: 0,
         };
         self.receiver
-            .step(arrival, self.stream, line, tables, &mut self.spool)
+            .step(arrival, self.stream, id, tables, &mut self.spool)
     }
 
     /// The line's session ends.

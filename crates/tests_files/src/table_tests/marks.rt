@@ -23,11 +23,11 @@ fn number_of(word: Option<&str>) -> Result<u16, Fail> {
     Ok(word.ok_or("a number is missing")?.parse::<u16>()?)
 }
 
-fn set(tables: &mut Tables, line: LineId, up: bool) -> Result<(), Fail> {
-    if !tables.has_line(line) {
+fn set(tables: &mut Tables, id: LineId, up: bool) -> Result<(), Fail> {
+    if !tables.has_line(id) {
         return Err("no such line".into());
     }
-    tables.set_up(line, up);
+    tables.set_up(id, up);
     Ok(())
 }
 
@@ -40,7 +40,7 @@ fn step(tables: &mut Tables, what: &str) -> Result<(), Fail> {
     }
     let customer = number_of(words.next())?;
     let line = number_of(words.next())?;
-    set(tables, LineId { customer, line }, word == "up")
+    set(tables, LineId { customer, number: line }, word == "up")
 }
 
 fn push_marks(alloc: Global, text: &mut String, customer: &Customer) -> Result<(), AllocError> {

@@ -48,18 +48,18 @@ fn number_of(word: Option<&str>) -> Result<u16, Fail> {
 fn route_of(text: &str) -> Result<RouteEntry, Fail> {
     let mut words = text.split(" ");
     let node = name_of(words.next())?;
-    let line = line_of(words.next(), words.next())?;
+    let id = line_of(words.next(), words.next())?;
     let second = match words.next() {
         Some(customer) => Some(line_of(Some(customer), words.next())?),
         None => None,
     };
-    Ok(RouteEntry { node, line, second })
+    Ok(RouteEntry { node, line: id, second })
 }
 
 fn line_of(customer: Option<&str>, line: Option<&str>) -> Result<LineId, Fail> {
     let customer = number_of(customer)?;
     let line = number_of(line)?;
-    Ok(LineId { customer, line })
+    Ok(LineId { customer, number: line })
 }
 
 fn routes_of(alloc: Global, text: &str) -> Result<Vec<RouteEntry>, Fail> {
@@ -77,12 +77,12 @@ fn many(alloc: Global, count: u32) -> Result<Vec<RouteEntry>, Fail> {
     let mut routes = Vec::new(alloc);
     for number in 0..count {
         let node = Name::of_text(format!(in alloc; "N{number}")?.as_str())?;
-        let line = LineId {
+        let id = LineId {
             customer: 0,
-            line: 0,
+            number: 0,
         };
         let second = None;
-        routes.push(RouteEntry { node, line, second })?;
+        routes.push(RouteEntry { node, line: id, second })?;
     }
     Ok(routes)
 }

@@ -36,8 +36,8 @@ const PEERS: &str = "
 
 /// What is looked up in the base tables: a line's owner, or a node's route for the second customer.
 const LOOKED_UP: &str = "
-line a1 = Some(LineId { customer: 0, line: 0 })
-line b1 = Some(LineId { customer: 1, line: 0 })
+line a1 = Some(LineId { customer: 0, number: 0 })
+line b1 = Some(LineId { customer: 1, number: 0 })
 line a2 = None
 node LYON = Line(0)
 node BUREAU = Here

@@ -10,7 +10,7 @@ use std::alloc::{AllocError, Global};
 /// A line that no hub here has.
 const NOWHERE: LineId = LineId {
     customer: 1,
-    line: 9,
+    number: 9,
 };
 
 /// The number of no customer here.

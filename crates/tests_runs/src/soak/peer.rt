@@ -99,10 +99,10 @@ pub struct Peer {
 
 impl Peer {
     /// Nobody called yet.
-    pub fn new(alloc: Global, line: LineId, wear: u64) -> Peer {
+    pub fn new(alloc: Global, id: LineId, wear: u64) -> Peer {
         Peer {
-            line,
-            is_called: line.line == 1,
+            line: id,
+            is_called: id.number == 1,
             wear,
             phase: Phase::Down,
             count: 0,
@@ -224,7 +224,7 @@ impl Peer {
     /// A sign-on of a block size of 1,024.
     fn put_sign_on(&self, alloc: Global, srcb: u8, out: &mut Vec<u8>) -> Result<(), AllocError> {
         let mut data = Vec::from_slice(alloc, &[0xa0, 0x8f, 0xcf, 0xf0, srcb, 0x29])?;
-        put_text(&mut data, node_of(self.line.line))?;
+        put_text(&mut data, node_of(self.line.number))?;
         data.extend_from_slice(&[1, 0, 0, 0, 0, 0, 0, 0x04, 0x00])?;
         put_text(&mut data, b"                ")?;
         data.extend_from_slice(&[0, 0, 0, 0, 0, 0])?;
@@ -262,7 +262,7 @@ impl Peer {
     ) -> Result<(), AllocError> {
         for _ in 0..numbers.below(4) {
             if numbers.one_in(4) {
-                put_record(data, 0x9a, DATA, &message(alloc, self.line.line, numbers)?)?;
+                put_record(data, 0x9a, DATA, &message(alloc, self.line.number, numbers)?)?;
             } else {
                 let stream = numbers.place(8);
                 self.put_stream(alloc, stream, numbers, data)?;
@@ -282,7 +282,7 @@ impl Peer {
         numbers: &mut Numbers,
         data: &mut Vec<u8>,
     ) -> Result<(), AllocError> {
-        let line = self.line.line;
+        let line = self.line.number;
         if let (Some(stage), Some(rcb)) = (self.stages.get_mut(stream), STREAMS.get(stream)) {
             for _ in 0..numbers.below(RECORDS_AT_ONCE) {
                 *stage = put_stage(alloc, *stage, *rcb, line, numbers, data)?;

@@ -7,10 +7,10 @@ use Rattle.njh_customer.proofs.acting.all_act.Given as goal
 -- what is left to act is what leads on from here
 abbrev pub invariant-records : goal.invariant-records
 invariant-records l = record {
-  rest : all_acted l.line.line l.block.items (customer_of l.tables l.line.customer l.spool l.lines)
-      ≡ all_acted l.line.line l.fn.block.items (customer_of l.tables l.line.customer l.fn.spool l.fn.lines);
-  others : l.spool ≡ slice_set l.fn.spool l.line.customer (spool_at l.line.customer l.spool);
-  ready : IsReady l.tables l.line l.spool l.lines;
+  rest : all_acted l.id.number l.block.items (customer_of l.tables l.id.customer l.spool l.lines)
+      ≡ all_acted l.id.number l.fn.block.items (customer_of l.tables l.id.customer l.fn.spool l.fn.lines);
+  others : l.spool ≡ slice_set l.fn.spool l.id.customer (spool_at l.id.customer l.spool);
+  ready : IsReady l.tables l.id l.spool l.lines;
 }
 
 abbrev pub decreases-records : goal.decreases-records

@@ -10,8 +10,8 @@ use Rattle.njh_customer.proofs.acting.arrive.Goals as goal
 
 pub step-step-requires-clause-agrees : goal.step-step-requires-clause-agrees
 step-step-requires-clause-agrees c =
-    let line = c.args.line in
-    subst (λ r. Agrees (kind_of c.args.stream) r (spool_at line.customer c.args.spool.now))
+    let id = c.args.id in
+    subst (λ r. Agrees (kind_of c.args.stream) r (spool_at id.customer c.args.spool.now))
     (sym (c.receiver-receiver.ensures ∙ ap (receiver_at c.args.stream) c.line.ensures))
-    (agrees_there line.line c.args.stream (customer_of c.args.tables.now line.customer c.args.spool.now c.args.lines.now)
+    (agrees_there id.number c.args.stream (customer_of c.args.tables.now id.customer c.args.spool.now c.args.lines.now)
     c.requires.ready.coherent)

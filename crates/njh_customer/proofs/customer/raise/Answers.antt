@@ -7,14 +7,14 @@ use Rattle.njh_customer.proofs.customer.raise.Goals as goal
 
 pub returns-then-goes_up-clause-entry : goal.returns-then-goes_up-clause-entry
 returns-then-goes_up-clause-entry c =
-    let line = c.args.line in
+    let id = c.args.id in
     let old = c.args.tables.now in
-    ap (λ t. entry_of (customer_at t line.customer)) c.set_up.ensures
-    ∙ c.marks_change_one_entry.ensures.own old line true c.requires.known
-    ∙ ap (λ up. with_raised_line up line.line (entry_of (customer_at old line.customer))) (sym c.if-goes_up.true)
+    ap (λ t. entry_of (customer_at t id.customer)) c.set_up.ensures
+    ∙ c.marks_change_one_entry.ensures.own old id true c.requires.known
+    ∙ ap (λ up. with_raised_line up id.number (entry_of (customer_at old id.customer))) (sym c.if-goes_up.true)
 
 pub returns-then-goes_up-clause-entries : goal.returns-then-goes_up-clause-entries
-returns-then-goes_up-clause-entries c = retold_marked c.args.tables.now c.set_up.new.self c.args.line true c.requires.known c.set_up.ensures
+returns-then-goes_up-clause-entries c = retold_marked c.args.tables.now c.set_up.new.self c.args.id true c.requires.known c.set_up.ensures
 
 pub returns-else-goes_up-clause-entries : goal.returns-else-goes_up-clause-entries
-returns-else-goes_up-clause-entries c = retold_same c.args.tables.now c.args.line.customer
+returns-else-goes_up-clause-entries c = retold_same c.args.tables.now c.args.id.customer

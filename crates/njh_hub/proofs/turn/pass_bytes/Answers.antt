@@ -10,7 +10,7 @@ use Rattle.njh_hub.proofs.turn.pass_bytes.Goals as goal
 
 pub loop-taken-init : goal.loop-taken-init
 loop-taken-init g c =
-    let none = after_bytes-none c.no_bytes_do_nothing.ensures c.args.hub.now c.args.line in
+    let none = after_bytes-none c.no_bytes_do_nothing.ensures c.args.hub.now c.args.id in
     let P : HubRun → Type 0 = λ h. g.W.Wire.passed c.args.wire.now c.args.wire.now (map sent_act h.sent) in
     record {
       within = omega arith;
@@ -22,7 +22,7 @@ loop-taken-init g c =
     }
 
 pub take_bytes-taken-requires-clause-known : goal.take_bytes-taken-requires-clause-known
-take_bytes-taken-requires-clause-known g c = omega (arith, c.requires.known, c.loop-taken.invariant.same c.args.line.customer)
+take_bytes-taken-requires-clause-known g c = omega (arith, c.requires.known, c.loop-taken.invariant.same c.args.id.customer)
 
 pub take_bytes-taken-requires-clause-room : goal.take_bytes-taken-requires-clause-room
 take_bytes-taken-requires-clause-room g c = c.loop-taken.invariant.room
@@ -30,10 +30,10 @@ take_bytes-taken-requires-clause-room g c = c.loop-taken.invariant.room
 pub loop-taken-preserved : goal.loop-taken-preserved
 loop-taken-preserved g c =
     let start = c.args.hub.now in
-    let line = c.args.line in
-    let known : HasLine start line = c.requires.known in
+    let id = c.args.id in
+    let known : HasLine start id = c.requires.known in
     let did = c.take_bytes-taken.ensures.step in
-    let step : GoesOn start c.loop-taken.hub c.take_bytes-taken.new.hub line c.args.piece.now c.split_at.result.1.now
+    let step : GoesOn start c.loop-taken.hub c.take_bytes-taken.new.hub id c.args.piece.now c.split_at.result.1.now
     c.loop-taken.taken c.take_bytes-taken.result c.take_bytes-taken.new.out.items = record {
       follow = c.steps_follow_bytes.ensures;
       known = known;
@@ -46,7 +46,7 @@ loop-taken-preserved g c =
     } in
     let F : List ℕ → Type 0 = λ b. g.W.Wire.passed c.loop-taken.wire c.send.new.wire (frame_acts b) in
     let sent = subst F c.deref.ensures.value c.in-Ok.ensures.ok in
-    let before = map sent_act (after_bytes start line (take c.loop-taken.taken c.args.piece.now)).sent in
+    let before = map sent_act (after_bytes start id (take c.loop-taken.taken c.args.piece.now)).sent in
     let frame = c.take_bytes-taken.new.out.items in
     let acts = g.met.W.Wire.more c.args.wire.now c.loop-taken.wire c.send.new.wire before (frame_acts frame) c.loop-taken.invariant.acts sent in
     let P : List WireAct → Type 0 = λ s. g.W.Wire.passed c.args.wire.now c.send.new.wire s in
@@ -63,17 +63,17 @@ pub take_signal-requires-clause-known : goal.take_signal-requires-clause-known
 take_signal-requires-clause-known g c = omega (
   arith,
   c.requires.known,
-  c.loop-taken.invariant.same c.args.line.customer,
-  c.take_bytes-taken.ensures.step.lines c.args.line.customer,
+  c.loop-taken.invariant.same c.args.id.customer,
+  c.take_bytes-taken.ensures.step.lines c.args.id.customer,
 )
 
 pub returns-in-Err-clause-done : goal.returns-in-Err-clause-done
 returns-in-Err-clause-done g c =
     let start = c.args.hub.now in
-    let line = c.args.line in
-    let known : HasLine start line = c.requires.known in
+    let id = c.args.id in
+    let known : HasLine start id = c.requires.known in
     let did = c.take_bytes-taken.ensures.step in
-    let step : GoesOn start c.loop-taken.hub c.take_bytes-taken.new.hub line c.args.piece.now c.split_at.result.1.now
+    let step : GoesOn start c.loop-taken.hub c.take_bytes-taken.new.hub id c.args.piece.now c.split_at.result.1.now
     c.loop-taken.taken c.take_bytes-taken.result c.take_bytes-taken.new.out.items = record {
       follow = c.steps_follow_bytes.ensures;
       known = known;
@@ -88,17 +88,17 @@ returns-in-Err-clause-done g c =
     let frame = c.take_bytes-taken.new.out.items in
     let F : List ℕ → Type 0 = λ b. g.W.Wire.passed c.loop-taken.wire c.send.new.wire (Unsent b ∷ []) in
     let unsent = subst F c.deref.ensures.value c.in-Err.ensures.err.0 in
-    let before = map sent_act (after_bytes start line (take c.loop-taken.taken c.args.piece.now)).sent in
+    let before = map sent_act (after_bytes start id (take c.loop-taken.taken c.args.piece.now)).sent in
     let acts = g.met.W.Wire.more c.args.wire.now c.loop-taken.wire c.send.new.wire before (Unsent frame ∷ []) c.loop-taken.invariant.acts unsent in
     let P : List WireAct → Type 0 = λ s. g.W.Wire.passed c.args.wire.now c.send.new.wire s in
     let some : 0 < length frame = omega (arith, c.in-Err.ensures.err.1, ap (λ (b : List ℕ). length b) c.deref.ensures.value) in
     let any : 0 < c.take_bytes-taken.result = c.take_bytes-taken.ensures.progress (omega (arith, c.split_at.ensures.back_len)) in
     let within : n ≤ length c.args.piece.now = omega (arith, c.take_bytes-taken.ensures.within, c.split_at.ensures.back_len) in
-    let here : c.take_bytes-taken.new.hub ≡ (hub_run start (Bytes line (take n c.args.piece.now) ∷ [])).parts =
-    sym (ap (λ (h : HubRun). h.parts) (whole_done start (Bytes line (take n c.args.piece.now)) ∙ step_done step)) in (
+    let here : c.take_bytes-taken.new.hub ≡ (hub_run start (Bytes id (take n c.args.piece.now) ∷ [])).parts =
+    sym (ap (λ (h : HubRun). h.parts) (whole_done start (Bytes id (take n c.args.piece.now)) ∙ step_done step)) in (
       Some n,
       record {
-        hub = lost_next start c.take_bytes-taken.new.hub c.take_signal.new.hub (Bytes line (take n c.args.piece.now)) line refl here
+        hub = lost_next start c.take_bytes-taken.new.hub c.take_signal.new.hub (Bytes id (take n c.args.piece.now)) id refl here
             c.take_signal.ensures.hub;
         acts = subst P (sym (step_unsent step some)) acts;
         stop = step_stops c.cuts_are_like.ensures step some any within;
@@ -113,9 +113,9 @@ returns-in-Err-clause-lines g c = λ d. c.take_signal.ensures.lines d ∙ c.take
 pub returns-clause-done : goal.returns-clause-done
 returns-clause-done g c =
     let all : take c.loop-taken.taken c.args.piece.now ≡ c.args.piece.now = take_all _ c.args.piece.now (omega arith) in
-    let on : after_bytes c.args.hub.now c.args.line (take c.loop-taken.taken c.args.piece.now)
-    ≡ hub_run c.args.hub.now (Bytes c.args.line c.args.piece.now ∷ []) =
-    ap (after_bytes c.args.hub.now c.args.line) all ∙ sym (whole_done c.args.hub.now (Bytes c.args.line c.args.piece.now)) in
+    let on : after_bytes c.args.hub.now c.args.id (take c.loop-taken.taken c.args.piece.now)
+    ≡ hub_run c.args.hub.now (Bytes c.args.id c.args.piece.now ∷ []) =
+    ap (after_bytes c.args.hub.now c.args.id) all ∙ sym (whole_done c.args.hub.now (Bytes c.args.id c.args.piece.now)) in
     let P : HubRun → Type 0 = λ h. g.W.Wire.passed c.args.wire.now c.loop-taken.wire (map sent_act h.sent) in (
       None,
       record {

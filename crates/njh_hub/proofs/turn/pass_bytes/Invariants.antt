@@ -10,8 +10,8 @@ use Rattle.njh_hub.proofs.turn.pass_bytes.Given as goal
 abbrev pub invariant-loop-taken : goal.invariant-loop-taken
 invariant-loop-taken g l = record {
   within : l.taken ≤ length l.piece;
-  parts : l.hub ≡ (after_bytes l.fn.hub l.line (take l.taken l.piece)).parts;
-  acts : g.W.Wire.passed l.fn.wire l.wire (map sent_act (after_bytes l.fn.hub l.line (take l.taken l.piece)).sent);
+  parts : l.hub ≡ (after_bytes l.fn.hub l.id (take l.taken l.piece)).parts;
+  acts : g.W.Wire.passed l.fn.wire l.wire (map sent_act (after_bytes l.fn.hub l.id (take l.taken l.piece)).sent);
   same : SameLines l.fn.hub l.hub;
   room : LONGEST_FRAME ≤ vec_capacity l.out;
   counts : g.W.Wire.count l.fn.wire ≤ g.W.Wire.count l.wire;

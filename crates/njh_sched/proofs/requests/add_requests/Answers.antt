@@ -13,7 +13,7 @@ use Rattle.njh_sched.proofs.requests.add_requests.Goals as goal
 pub returns-then-files-eq0-clause-source : goal.returns-then-files-eq0-clause-source
 returns-then-files-eq0-clause-source g c =
     let none : length (spool_at c.args.id.customer c.args.spool.now).whole ≡ 0 = omega (arith, c.files.ensures) in
-    no_files (goes_by (entry_of c.args.entry.now) c.args.id.line) c.args.writer.now
+    no_files (goes_by (entry_of c.args.entry.now) c.args.id.number) c.args.writer.now
     (g.L.Outgoing.outlet c.args.line.now)
     (spool_at c.args.id.customer c.args.spool.now) streams none
 
@@ -32,7 +32,7 @@ pub returns-then-not-add_request-clause-source : goal.returns-then-not-add_reque
 returns-then-not-add_request-clause-source g c =
     let no_room : c.add_request.result ≡ false = grind arith in
     c.loop-place.invariant.source
-    ∙ stream_stopped (goes_by (entry_of c.args.entry.now) c.args.id.line) StreamRequest streams c.loop-place.place
+    ∙ stream_stopped (goes_by (entry_of c.args.entry.now) c.args.id.number) StreamRequest streams c.loop-place.place
     c.at.result
     c.add_request.result
     (filling c.loop-place.writer (g.L.Outgoing.outlet c.loop-place.line) (spool_at c.args.id.customer c.loop-place.spool))
@@ -56,7 +56,7 @@ loop-place-preserved g c =
     let room : c.add_request.result ≡ true = grind arith in
     record {
       source = c.loop-place.invariant.source
-          ∙ stream_went_on (goes_by (entry_of c.args.entry.now) c.args.id.line) StreamRequest streams
+          ∙ stream_went_on (goes_by (entry_of c.args.entry.now) c.args.id.number) StreamRequest streams
           c.loop-place.place c.at.result
           c.add_request.result
           (filling c.loop-place.writer (g.L.Outgoing.outlet c.loop-place.line)
@@ -82,6 +82,6 @@ pub returns-clause-source : goal.returns-clause-source
 returns-clause-source g c =
     let done : c.loop-place.place ≡ 8 = omega arith in
     c.loop-place.invariant.source
-    ∙ streams_done (goes_by (entry_of c.args.entry.now) c.args.id.line) StreamRequest streams c.loop-place.place
+    ∙ streams_done (goes_by (entry_of c.args.entry.now) c.args.id.number) StreamRequest streams c.loop-place.place
     (filling c.loop-place.writer (g.L.Outgoing.outlet c.loop-place.line) (spool_at c.args.id.customer c.loop-place.spool))
     (no_streams c.loop-place.place done)

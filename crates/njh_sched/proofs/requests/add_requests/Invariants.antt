@@ -8,9 +8,9 @@ use Rattle.njh_sched.proofs.requests.add_requests.Given as goal
 
 abbrev pub invariant-loop-place : goal.invariant-loop-place
 invariant-loop-place g l = record {
-  source : after_sources (goes_by (entry_of l.entry) l.fn.id.line) requests
+  source : after_sources (goes_by (entry_of l.entry) l.fn.id.number) requests
       (filling l.initial.writer (g.L.Outgoing.outlet l.initial.line) (spool_at l.fn.id.customer l.initial.spool))
-      ≡ after_sources (goes_by (entry_of l.entry) l.fn.id.line) (map StreamRequest (drop l.place streams))
+      ≡ after_sources (goes_by (entry_of l.entry) l.fn.id.number) (map StreamRequest (drop l.place streams))
       (filling l.writer (g.L.Outgoing.outlet l.line) (spool_at l.fn.id.customer l.spool));
   rest : g.L.Outgoing.rest l.line ≡ g.L.Outgoing.rest l.initial.line;
   spool : l.spool ≡ slice_set l.initial.spool l.fn.id.customer (spool_at l.fn.id.customer l.spool);

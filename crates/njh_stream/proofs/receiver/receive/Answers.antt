@@ -10,9 +10,9 @@ use Rattle.njh_stream.proofs.receiver.receive.Goals as goal
 
 pub returns-in-Request : goal.returns-in-Request
 returns-in-Request c =
-    subst (λ x. IsAfter c.begin.result c.begin.new.spool c.args.spool.now c.args.line.customer x)
-    (sym (ap₂ (λ r a. received_arrival (entry_of c.args.entry.now) c.args.line.line c.args.kind r (arrival_of a) (spool_at c.args.line.customer c.args.spool.now))
+    subst (λ x. IsAfter c.begin.result c.begin.new.spool c.args.spool.now c.args.id.customer x)
+    (sym (ap₂ (λ r a. received_arrival (entry_of c.args.entry.now) c.args.id.number c.args.kind r (arrival_of a) (spool_at c.args.id.customer c.args.spool.now))
     c.in-Open.is c.in-Request.is))
-    (begun_after c.begin.result c.begin.new.spool c.abandon.new.self c.args.spool.now c.args.line.customer
-    (without_partial c.in-Open.file (spool_at c.args.line.customer c.args.spool.now)) c.args.kind
+    (begun_after c.begin.result c.begin.new.spool c.abandon.new.self c.args.spool.now c.args.id.customer
+    (without_partial c.in-Open.file (spool_at c.args.id.customer c.args.spool.now)) c.args.kind
     c.requires.spooled c.abandon.ensures.after c.begin.ensures)

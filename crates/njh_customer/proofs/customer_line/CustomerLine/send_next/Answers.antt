@@ -10,8 +10,8 @@ use Rattle.njh_customer.proofs.customer_line.CustomerLine.send_next.Goals as goa
 
 pub send_written-requires : goal.send_written-requires
 send_written-requires c =
-    let line = c.args.line in
-    let entry = entry_of (customer_at c.args.tables.now line.customer) in
+    let id = c.args.id in
+    let entry = entry_of (customer_at c.args.tables.now id.customer) in
     ap (λ w. w.fcs) c.fill.ensures.block
-    ∙ (filled_kept (goes_by entry line.line) (filling c.begin_block.new.block (outlet_of c.args.self.now) (spool_at line.customer c.args.spool.now))).fcs
+    ∙ (filled_kept (goes_by entry id.number) (filling c.begin_block.new.block (outlet_of c.args.self.now) (spool_at id.customer c.args.spool.now))).fcs
     ∙ ap (λ w. w.fcs) c.begin_block.ensures.begun

@@ -12,10 +12,10 @@ use Rattle.njh_customer.proofs.lines.Lines.take_bytes.Goals as goal
 pub loop-out-preserved : goal.loop-out-preserved
 loop-out-preserved c =
     let t = c.take_frame-used in
-    let line = c.args.line in
-    let l = line.line in
-    let before = customer_of c.loop-out.tables line.customer c.loop-out.spool c.loop-out.self.lines in
-    let after = customer_of t.new.tables line.customer t.new.spool t.new.self.lines in
+    let id = c.args.id in
+    let l = id.number in
+    let before = customer_of c.loop-out.tables id.customer c.loop-out.spool c.loop-out.self.lines in
+    let after = customer_of t.new.tables id.customer t.new.spool t.new.self.lines in
     let old = rest_at l c.loop-out.self.rests in
     let new = rest_at l t.new.self.rests in
     let unanswered : c.loop-out.out ≡ [] = search rules in
@@ -30,8 +30,8 @@ loop-out-preserved c =
           ∙ c.loop-out.invariant.taken;
       rests = t.ensures.rests ∙ ap (λ (rests : List Rest). set rests l new) c.loop-out.invariant.rests
           ∙ set-set c.args.self.now.rests l old new;
-      others = others_twice c.args.spool.now c.loop-out.spool t.new.spool line.customer c.loop-out.invariant.others t.ensures.after.others;
-      entries = retold_twice c.args.tables.now c.loop-out.tables t.new.tables line.customer c.loop-out.invariant.entries t.ensures.after.entries;
+      others = others_twice c.args.spool.now c.loop-out.spool t.new.spool id.customer c.loop-out.invariant.others t.ensures.after.others;
+      entries = retold_twice c.args.tables.now c.loop-out.tables t.new.tables id.customer c.loop-out.invariant.entries t.ensures.after.entries;
       ready = t.ensures.ready;
       count = t.ensures.count ∙ c.loop-out.invariant.count;
       few = omega (arith, c.split_at.ensures.back_len);

@@ -16,14 +16,14 @@ returns-then-customer-len-clause-line c =
             arith,
             c.self.inside.lines.ok.0,
             c.self.invariant.lined,
-            line-there s.tables s.spool s.lines.items c.args.line (subst (λ ps. HasLine ps c.args.line) (sym c.self.view_is) here),
+            line-there s.tables s.spool s.lines.items c.args.id (subst (λ ps. HasLine ps c.args.id) (sym c.self.view_is) here),
           )),
     )
 
 pub returns-clause-line : goal.returns-clause-line
 returns-clause-line c =
     let s = c.self.inside in
-    let n = c.args.line.customer in
+    let n = c.args.id.customer in
     let within : n < length s.lines.items = omega (arith, c.self.inside.lines.ok.0) in
     let is : c.index.result.now ≡ lines_at n s.lines.items = get_or_read s.lines.items n c.index.result.now within (search rules) no_lines in
     let count : length c.index.result.now.lines ≡ length (part n c.args.self.now).customer.lines =
@@ -35,7 +35,7 @@ returns-clause-line c =
 pub returns-clause-rests : goal.returns-clause-rests
 returns-clause-rests c =
     let s = c.self.inside in
-    let n = c.args.line.customer in
+    let n = c.args.id.customer in
     let within : n < length s.lines.items = omega (arith, c.self.inside.lines.ok.0) in
     let is : c.index.result.now ≡ lines_at n s.lines.items = get_or_read s.lines.items n c.index.result.now within (search rules) no_lines in
     let count : length c.index.result.now.rests ≡ length (part n c.args.self.now).rests =

@@ -9,17 +9,17 @@ use Rattle.njh_hub.proofs.hub.Hub.lines_of.Goals as goal
 pub index-requires : goal.index-requires
 index-requires c =
     let s = c.self.inside in
-    let here : HasLine c.args.self.now c.args.line = search rules in
-    let known = subst (λ ps. HasLine ps c.args.line) (sym c.self.view_is) here in
-    omega (arith, line-there s.tables s.spool s.lines.items c.args.line known, c.self.invariant.lined, s.lines.ok.0)
+    let here : HasLine c.args.self.now c.args.id = search rules in
+    let known = subst (λ ps. HasLine ps c.args.id) (sym c.self.view_is) here in
+    omega (arith, line-there s.tables s.spool s.lines.items c.args.id known, c.self.invariant.lined, s.lines.ok.0)
 
 pub returns-clause-lines : goal.returns-clause-lines
 returns-clause-lines c =
     let s = c.self.inside in
-    let n = c.args.line.customer in
-    let here : HasLine c.args.self.now c.args.line = search rules in
-    let known = subst (λ ps. HasLine ps c.args.line) (sym c.self.view_is) here in
-    let there = line-there s.tables s.spool s.lines.items c.args.line known in
+    let n = c.args.id.customer in
+    let here : HasLine c.args.self.now c.args.id = search rules in
+    let known = subst (λ ps. HasLine ps c.args.id) (sym c.self.view_is) here in
+    let there = line-there s.tables s.spool s.lines.items c.args.id known in
     let within : n < length s.lines.items = omega (arith, there, c.self.invariant.lined) in
     let is : c.index.result.now ≡ lines_at n s.lines.items = get_or_read s.lines.items n c.index.result.now within (search rules) no_lines in
     ap (λ (x : Lines). x.lines) is

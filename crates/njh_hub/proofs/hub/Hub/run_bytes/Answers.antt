@@ -14,10 +14,10 @@ use Rattle.njh_hub.proofs.hub.Hub.run_bytes.Goals as goal
 pub loop-used-preserved : goal.loop-used-preserved
 loop-used-preserved g c =
     let start = c.args.self.now in
-    let line = c.args.line in
+    let id = c.args.id in
     let did = c.in-Ok.ensures.step in
-    let known : HasLine start line = omega (arith, did.known, c.loop-used.invariant.same line.customer) in
-    let step : GoesOn start c.loop-used.self c.take.new.self line c.args.piece.now c.split_at.result.1.now
+    let known : HasLine start id = omega (arith, did.known, c.loop-used.invariant.same id.customer) in
+    let step : GoesOn start c.loop-used.self c.take.new.self id c.args.piece.now c.split_at.result.1.now
     c.loop-used.taken c.in-Ok.used c.take.new.out.items = record {
       follow = c.steps_follow_bytes.ensures;
       known = known;
@@ -29,7 +29,7 @@ loop-used-preserved g c =
       frame_is = did.frame;
     } in
     let there = step_done step in
-    let F : List ℕ → Type 0 = λ b. g.S.Sink.took c.loop-used.sink c.hand_over.new.sink (sent_by line.customer (sent_on line.line b)) in
+    let F : List ℕ → Type 0 = λ b. g.S.Sink.took c.loop-used.sink c.hand_over.new.sink (sent_by id.customer (sent_on id.number b)) in
     let handed = subst F c.deref.ensures.value c.in-Ok-hand_over.ensures.ok in
     let P : HubRun → Type 0 = λ h. g.S.Sink.took c.args.sink.now c.hand_over.new.sink h.sent in
     let took = subst P (sym there) (g.met.S.Sink.more _ _ _ _ _ c.loop-used.invariant.sent handed) in
@@ -49,10 +49,10 @@ loop-used-preserved g c =
 pub returns-then-taken-piece : goal.returns-then-taken-piece
 returns-then-taken-piece g c =
     let start = c.args.self.now in
-    let line = c.args.line in
+    let id = c.args.id in
     let did = c.in-Ok.ensures.step in
-    let known : HasLine start line = omega (arith, did.known, c.loop-used.invariant.same line.customer) in
-    let step : GoesOn start c.loop-used.self c.take.new.self line c.args.piece.now c.split_at.result.1.now
+    let known : HasLine start id = omega (arith, did.known, c.loop-used.invariant.same id.customer) in
+    let step : GoesOn start c.loop-used.self c.take.new.self id c.args.piece.now c.split_at.result.1.now
     c.loop-used.taken c.in-Ok.used c.take.new.out.items = record {
       follow = c.steps_follow_bytes.ensures;
       known = known;
@@ -64,14 +64,14 @@ returns-then-taken-piece g c =
       frame_is = did.frame;
     } in
     let there = step_done step in
-    let F : List ℕ → Type 0 = λ b. g.S.Sink.took c.loop-used.sink c.hand_over.new.sink (sent_by line.customer (sent_on line.line b)) in
+    let F : List ℕ → Type 0 = λ b. g.S.Sink.took c.loop-used.sink c.hand_over.new.sink (sent_by id.customer (sent_on id.number b)) in
     let handed = subst F c.deref.ensures.value c.in-Ok-hand_over.ensures.ok in
     let P : HubRun → Type 0 = λ h. g.S.Sink.took c.args.sink.now c.hand_over.new.sink h.sent in
     let took = subst P (sym there) (g.met.S.Sink.more _ _ _ _ _ c.loop-used.invariant.sent handed) in
     let all : take (c.loop-used.taken + c.in-Ok.used) c.args.piece.now ≡ c.args.piece.now = take_all _ c.args.piece.now (omega arith) in
-    let on : after_bytes start line (take (c.loop-used.taken + c.in-Ok.used) c.args.piece.now)
-    ≡ hub_run start (Bytes line c.args.piece.now ∷ []) =
-    ap (after_bytes start line) all ∙ sym (whole_done start (Bytes line c.args.piece.now)) in
+    let on : after_bytes start id (take (c.loop-used.taken + c.in-Ok.used) c.args.piece.now)
+    ≡ hub_run start (Bytes id c.args.piece.now ∷ []) =
+    ap (after_bytes start id) all ∙ sym (whole_done start (Bytes id c.args.piece.now)) in
     record {
       leads = sym (ap (λ (h : HubRun). h.parts) there) ∙ ap (λ (h : HubRun). h.parts) on;
       handed = subst P on took;
@@ -89,10 +89,10 @@ returns-then-taken-piece g c =
 pub returns-in-Err-hand_over : goal.returns-in-Err-hand_over
 returns-in-Err-hand_over g c =
     let start = c.args.self.now in
-    let line = c.args.line in
+    let id = c.args.id in
     let did = c.in-Ok.ensures.step in
-    let known : HasLine start line = omega (arith, did.known, c.loop-used.invariant.same line.customer) in
-    let step : GoesOn start c.loop-used.self c.take.new.self line c.args.piece.now c.split_at.result.1.now
+    let known : HasLine start id = omega (arith, did.known, c.loop-used.invariant.same id.customer) in
+    let step : GoesOn start c.loop-used.self c.take.new.self id c.args.piece.now c.split_at.result.1.now
     c.loop-used.taken c.in-Ok.used c.take.new.out.items = record {
       follow = c.steps_follow_bytes.ensures;
       known = known;
@@ -107,29 +107,29 @@ returns-in-Err-hand_over g c =
     let frame = c.deref.result.now in
     let fault = c.after_sink.result in
     let taken = c.loop-used.taken + c.in-Ok.used in
-    let stop = sink_done c.no_bytes_do_nothing.ensures start line c.args.piece.now taken fault.events fault.bytes
+    let stop = sink_done c.no_bytes_do_nothing.ensures start id c.args.piece.now taken fault.events fault.bytes
     c.after_sink.ensures.whole c.after_sink.ensures.part in
-    let sent = (after_bytes start line (take c.loop-used.taken c.args.piece.now)).sent in
-    let all = (hub_run start (first_events (Bytes line c.args.piece.now ∷ []) fault.events fault.bytes)).sent in
+    let sent = (after_bytes start id (take c.loop-used.taken c.args.piece.now)).sent in
+    let all = (hub_run start (first_events (Bytes id c.args.piece.now ∷ []) fault.events fault.bytes)).sent in
     let Q : Cause → Type 0 = λ cause. HandedUntil g.S.Sink.took g.S.Sink.refused cause c.args.sink.now c.hand_over.new.sink all in
-    let C : Cause → Type 0 = λ cause. IfHub cause (λ why. (fault.events ≡ 0) × IsRefused start (Bytes line c.args.piece.now) why) in
+    let C : Cause → Type 0 = λ cause. IfHub cause (λ why. (fault.events ≡ 0) × IsRefused start (Bytes id c.args.piece.now) why) in
     record {
       leads = sym (ap (λ (h : HubRun). h.parts) (stop ∙ there));
       handed = subst Q (sym c.after_sink.ensures.cause) (record {
         front = sent;
-        last = (line, frame);
+        last = (id, frame);
         between = c.loop-used.sink;
         are = ap (λ (h : HubRun). h.sent) (stop ∙ there)
             ∙ ap (λ (pairs : List (LineId × List ℕ)). sent ++ pairs)
-            (ap (λ (b : List ℕ). sent_by line.customer (sent_on line.line b)) (sym c.deref.ensures.value)
-            ∙ sent_pair line frame c.in-Err-hand_over.ensures.err.1);
+            (ap (λ (b : List ℕ). sent_by id.customer (sent_on id.number b)) (sym c.deref.ensures.value)
+            ∙ sent_pair id frame c.in-Err-hand_over.ensures.err.1);
         took_front = c.loop-used.invariant.sent;
         refused_last = c.in-Err-hand_over.ensures.err.0;
       });
       known = search rules;
       lines = λ d. did.lines d ∙ c.loop-used.invariant.same d;
       room = search rules;
-      one = is_within_one line c.args.piece.now taken fault c.after_sink.ensures.whole c.after_sink.ensures.part;
+      one = is_within_one id c.args.piece.now taken fault c.after_sink.ensures.whole c.after_sink.ensures.part;
       behind = λ _. known;
       causes = subst C (sym c.after_sink.ensures.cause) tt;
       memory = λ is. cc (is, c.after_sink.ensures.cause);

@@ -10,10 +10,10 @@ abbrev pub invariant-loop-used : goal.invariant-loop-used
 invariant-loop-used g l = record {
   within : l.taken ≤ length l.piece;
   left : 0 < l.taken → l.taken < length l.piece;
-  parts : l.self ≡ (after_bytes l.fn.self l.line (take l.taken l.piece)).parts;
-  sent : g.S.Sink.took l.fn.sink l.sink (after_bytes l.fn.self l.line (take l.taken l.piece)).sent;
+  parts : l.self ≡ (after_bytes l.fn.self l.id (take l.taken l.piece)).parts;
+  sent : g.S.Sink.took l.fn.sink l.sink (after_bytes l.fn.self l.id (take l.taken l.piece)).sent;
   same : SameLines l.fn.self l.self;
-  known : 0 < l.taken → HasLine l.fn.self l.line;
+  known : 0 < l.taken → HasLine l.fn.self l.id;
   room : 0 < l.taken → LONGEST_FRAME ≤ vec_capacity l.out;
   first : l.taken ≡ 0 → vec_capacity l.out ≡ vec_capacity l.fn.out;
   counts : g.S.Sink.count l.fn.sink ≤ g.S.Sink.count l.sink;

@@ -7,19 +7,19 @@ use Rattle.njh_hub.proofs.hub.Hub.run_signal.Goals as goal
 pub returns-in-Err-hand_over : goal.returns-in-Err-hand_over
 returns-in-Err-hand_over g c =
     let start = c.args.self.now in
-    let line = c.args.line in
+    let id = c.args.id in
     let frame = c.deref.result.now in
-    let there = signal_done start c.args.signal line in
+    let there = signal_done start c.args.signal id in
     let same : c.signal.new.out.items ≡ frame = sym c.deref.ensures.value in
     record {
       leads = c.in-Ok.ensures.hub ∙ ap (λ (h : HubRun). h.parts) (sym there);
       handed = record {
         front = [];
-        last = (line, frame);
+        last = (id, frame);
         between = c.args.sink.now;
         are = ap (λ (h : HubRun). h.sent) there
-            ∙ ap (λ (b : List ℕ). sent_by line.customer (sent_on line.line b)) (sym c.in-Ok.ensures.frame ∙ same)
-            ∙ sent_pair line frame c.in-Err-hand_over.ensures.err.1;
+            ∙ ap (λ (b : List ℕ). sent_by id.customer (sent_on id.number b)) (sym c.in-Ok.ensures.frame ∙ same)
+            ∙ sent_pair id frame c.in-Err-hand_over.ensures.err.1;
         took_front = g.met.S.Sink.none c.args.sink.now;
         refused_last = c.in-Err-hand_over.ensures.err.0;
       };
@@ -27,7 +27,7 @@ returns-in-Err-hand_over g c =
       lines = c.in-Ok.ensures.lines;
       room = search rules;
       one = search rules;
-      behind = λ _. named-event_by start c.args.signal line c.in-Ok.ensures.known;
+      behind = λ _. named-event_by start c.args.signal id c.in-Ok.ensures.known;
       causes = search rules;
       memory = search rules;
       counts = c.in-Err-hand_over.ensures.counts;

@@ -14,55 +14,55 @@ use Rattle.njh_hub.proofs.hub.Hub.signal.Goals as goal
 pub index_mut-lines-requires : goal.index_mut-lines-requires
 index_mut-lines-requires c =
     let s = c.self.inside in
-    let known = subst (λ ps. HasLine ps c.args.line) (sym c.self.view_is) c.in_ok-frame.ensures.known in
-    omega (arith, line-there s.tables s.spool s.lines.items c.args.line known, c.self.invariant.lined, s.lines.ok.0)
+    let known = subst (λ ps. HasLine ps c.args.id) (sym c.self.view_is) c.in_ok-frame.ensures.known in
+    omega (arith, line-there s.tables s.spool s.lines.items c.args.id known, c.self.invariant.lined, s.lines.ok.0)
 
 pub take_signal-requires : goal.take_signal-requires
 take_signal-requires c =
     let s = c.self.inside in
     let x = c.index_mut-lines.result.now in
-    let here : x ≡ get_or s.lines.items c.args.line.customer x = search rules in
-    let f = found s.tables s.spool s.lines.items c.args.self.now c.args.line x c.self.invariant c.self.view_is c.in_ok-frame.ensures.known here in
+    let here : x ≡ get_or s.lines.items c.args.id.customer x = search rules in
+    let f = found s.tables s.spool s.lines.items c.args.self.now c.args.id x c.self.invariant c.self.view_is c.in_ok-frame.ensures.known here in
     record { ready = f.ready }
 
 -- what the step finds, and what it leads to
-finds : (c : After-drop-out) → Found c.self.inside.tables c.self.inside.spool c.self.inside.lines.items c.args.self.now c.args.line
+finds : (c : After-drop-out) → Found c.self.inside.tables c.self.inside.spool c.self.inside.lines.items c.args.self.now c.args.id
     c.index_mut-lines.result.now
 finds c =
     let s = c.self.inside in
     let x = c.index_mut-lines.result.now in
-    let here : x ≡ get_or s.lines.items c.args.line.customer x = search rules in
-    found s.tables s.spool s.lines.items c.args.self.now c.args.line x c.self.invariant c.self.view_is c.in_ok-frame.ensures.known here
+    let here : x ≡ get_or s.lines.items c.args.id.customer x = search rules in
+    found s.tables s.spool s.lines.items c.args.self.now c.args.id x c.self.invariant c.self.view_is c.in_ok-frame.ensures.known here
 
-steps : (c : After-drop-out) → Stepped c.self.inside.tables c.self.inside.spool c.index_mut-lines.result.now c.args.line
+steps : (c : After-drop-out) → Stepped c.self.inside.tables c.self.inside.spool c.index_mut-lines.result.now c.args.id
     c.take_signal.new.tables c.take_signal.new.spool c.take_signal.new.self
 steps c =
     let s = c.self.inside in
     let t = c.take_signal in
-    let n = c.args.line.customer in
+    let n = c.args.id.customer in
     let p = part_with (entry_of (customer_at s.tables n)) (spools.spool_at n s.spool) c.index_mut-lines.result.now in
     record {
       in_table = t.ensures.entries;
       in_files = t.ensures.others;
       ready = t.ensures.ready;
       marked = subst (λ (q : Part). IsMarked q.customer) (sym t.ensures.part)
-          (c.marks_are_right.ensures.events p (OwnSignal c.args.signal c.args.line.line) (finds c).marked);
+          (c.marks_are_right.ensures.events p (OwnSignal c.args.signal c.args.id.number) (finds c).marked);
       count = t.ensures.count;
     }
 
 -- the line's customer afterwards
 abbrev after : (c : After-drop-out) → Part
-after c = let p = part c.args.line.customer c.args.self.now in (part_after_signal p c.args.line.line c.args.signal).after
+after c = let p = part c.args.id.customer c.args.self.now in (part_after_signal p c.args.id.number c.args.signal).after
 
 leads : (c : After-drop-out)
     → parts_of c.take_signal.new.tables c.take_signal.new.spool
     (slice_set c.self.inside.lines.items c.from.result c.take_signal.new.self)
-    ≡ slice_set c.args.self.now c.args.line.customer (after c)
+    ≡ slice_set c.args.self.now c.args.id.customer (after c)
 leads c =
     let t = c.take_signal in
     ap (λ (n : ℕ). parts_of t.new.tables t.new.spool (slice_set c.self.inside.lines.items n t.new.self)) c.from.ensures
     ∙ step-leads (finds c) (steps c) (after c)
-    (t.ensures.part ∙ ap (λ (p : Part). (part_after_signal p c.args.line.line c.args.signal).after) (finds c).part_is)
+    (t.ensures.part ∙ ap (λ (p : Part). (part_after_signal p c.args.id.number c.args.signal).after) (finds c).part_is)
 
 pub invariant_of-self : goal.invariant_of-self
 invariant_of-self c =
@@ -76,12 +76,12 @@ returns c =
     let known = c.in_ok-frame.ensures.known in
     record {
       hub = leads c;
-      others = λ d apart. ap (part d) (leads c) ∙ others-stay c.args.self.now c.args.line.customer (after c) d apart;
+      others = λ d apart. ap (part d) (leads c) ∙ others-stay c.args.self.now c.args.id.customer (after c) d apart;
       frame = c.into_bytes.ensures.bytes ∙ t.ensures.frame
-          ∙ ap (λ (p : Part). (part_after_signal p c.args.line.line c.args.signal).frame) (finds c).part_is;
+          ∙ ap (λ (p : Part). (part_after_signal p c.args.id.number c.args.signal).frame) (finds c).part_is;
       lines = λ d. ap (λ (ps : List Part). length (part d ps).customer.lines) (leads c)
           ∙ step-lines (finds c) (steps c) (after c)
-          (t.ensures.part ∙ ap (λ (p : Part). (part_after_signal p c.args.line.line c.args.signal).after) (finds c).part_is) d;
+          (t.ensures.part ∙ ap (λ (p : Part). (part_after_signal p c.args.id.number c.args.signal).after) (finds c).part_is) d;
       room = c.into_bytes.ensures.room;
       known = known;
       unknown = λ nowhere. absurd (nowhere known);

@@ -8,8 +8,8 @@ use Rattle.njh_stream.proofs.receiver.Receiver.take.Goals as goal
 
 pub returns-clause-agrees : goal.returns-clause-agrees
 returns-clause-agrees c =
-    subst (λ k. Agrees k c.receive-after.result.receiver (spool_at c.args.line.customer c.receive-after.new.spool)) c.kind.ensures
-    (step_agrees (entry_of c.customer-entry.result.now) c.args.line.line c.args.line.customer c.kind.result c.args.self.now c.receive-after.result.receiver
+    subst (λ k. Agrees k c.receive-after.result.receiver (spool_at c.args.id.customer c.receive-after.new.spool)) c.kind.ensures
+    (step_agrees (entry_of c.customer-entry.result.now) c.args.id.number c.args.id.customer c.kind.result c.args.self.now c.receive-after.result.receiver
     (arrival_of c.args.arrival) c.args.spool.now c.receive-after.new.spool c.next_number_is_least.ensures.free c.requires.spooled
-    (subst (λ k. Agrees k c.args.self.now (spool_at c.args.line.customer c.args.spool.now)) (sym c.kind.ensures) c.requires.agrees)
+    (subst (λ k. Agrees k c.args.self.now (spool_at c.args.id.customer c.args.spool.now)) (sym c.kind.ensures) c.requires.agrees)
     c.receive-after.ensures.receiver c.receive-after.ensures.spool)

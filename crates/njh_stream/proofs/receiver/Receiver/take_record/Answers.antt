@@ -8,10 +8,10 @@ use Rattle.njh_stream.proofs.receiver.Receiver.take_record.Goals as goal
 
 pub returns-in-Some-clause-agrees : goal.returns-in-Some-clause-agrees
 returns-in-Some-clause-agrees c =
-    let entry = entry_of (customer_at c.args.tables.now c.args.line.customer) in
-    let after = c.in-Some.ensures entry c.args.line.line in
-    subst (λ k. Agrees k c.in-Some.receiver (spool_at c.args.line.customer c.receive_unread.new.spool)) c.kind.ensures
-    (step_agrees entry c.args.line.line c.args.line.customer c.kind.result c.args.self.now c.in-Some.receiver
+    let entry = entry_of (customer_at c.args.tables.now c.args.id.customer) in
+    let after = c.in-Some.ensures entry c.args.id.number in
+    subst (λ k. Agrees k c.in-Some.receiver (spool_at c.args.id.customer c.receive_unread.new.spool)) c.kind.ensures
+    (step_agrees entry c.args.id.number c.args.id.customer c.kind.result c.args.self.now c.in-Some.receiver
     (Data c.args.srcb c.args.bytes.now) c.args.spool.now c.receive_unread.new.spool c.next_number_is_least.ensures.free c.requires.spooled
-    (subst (λ k. Agrees k c.args.self.now (spool_at c.args.line.customer c.args.spool.now)) (sym c.kind.ensures) c.requires.agrees)
+    (subst (λ k. Agrees k c.args.self.now (spool_at c.args.id.customer c.args.spool.now)) (sym c.kind.ensures) c.requires.agrees)
     after.receiver after.spool)

@@ -14,7 +14,7 @@ returns c =
     let absent = none_from_false _ (is_some-lookup (bytes_eq c.args.name.now) c.args.self.now ∙ c.requires) in
     let new = sym (lookup-map_keys string_bytes (bytes_eq name) m.entries) ∙ ap (lookup (bytes_eq name)) c.self.view_is
     ∙ ap (λ n. lookup (bytes_eq n) c.args.self.now) same ∙ absent in
-    let entries = c.in_ok-insert.ensures.entries ∙ insert_entry-new string_eq m c.in_ok-name.name c.args.line new in
+    let entries = c.in_ok-insert.ensures.entries ∙ insert_entry-new string_eq m c.in_ok-name.name c.args.id new in
     ap (map (λ e. (string_bytes e.0, e.1))) entries ∙ map-append _ m.entries _
-    ∙ ap (λ lines. lines ++ (name, c.args.line) ∷ []) c.self.view_is
-    ∙ ap (λ n. c.args.self.now ++ (n, c.args.line) ∷ []) same
+    ∙ ap (λ lines. lines ++ (name, c.args.id) ∷ []) c.self.view_is
+    ∙ ap (λ n. c.args.self.now ++ (n, c.args.id) ∷ []) same

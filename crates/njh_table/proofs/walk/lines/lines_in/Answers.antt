@@ -35,7 +35,7 @@ loop-value-preserved c =
           (items_view (drop (c.loop-value.value-index + 1) c.args.values.now))) c.in_ok-push.ensures.items ∙ sym walked
           ∙ c.loop-value.invariant.0,
       c.in_ok-line.ensures.owners
-          ∙ ap (λ owners. owners ++ (line.name, record { customer = c.args.customer; line = c.len.result }) ∷ []) c.loop-value.invariant.1
+          ∙ ap (λ owners. owners ++ (line.name, record { customer = c.args.customer; number = c.len.result }) ∷ []) c.loop-value.invariant.1
           ∙ owners_push c.args.owners.now c.args.customer done line c.len.result (c.len.ensures ∙ c.loop-value.lines.ok.0)
           ∙ ap (λ ls. c.args.owners.now ++ line_owners c.args.customer 0 ls) (sym c.in_ok-push.ensures.items),
     )
