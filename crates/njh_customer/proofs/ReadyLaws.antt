@@ -18,7 +18,7 @@ use Rattle.njh_line.specs.declared.verdict.Verdict.{Verdict}
 use Rattle.njh_customer.specs.Alone.{Step, accepted_on, behind_records, after_block, block_input, carried_out, goes_up_by, after_line_input, with_raised_line, silent}
 use Rattle.njh_customer.specs.Alone.{verdict_on, where_there}
 use Rattle.njh_customer.specs.Acting.{after_record, acted_where, all_acted, ended_or, ends_session}
-use Rattle.njh_customer.specs.CustomerSteps.{Brings, Leads, IsReady, IsRetold, customer_of, with_customer}
+use Rattle.njh_customer.specs.CustomerSteps.{Brings, Leads, IsReady, KeepsOtherEntries, customer_of, with_customer}
 use Rattle.njh_customer.proofs.StepLaws.{Stays}
 
 pub next_ready :
@@ -62,25 +62,25 @@ moved_twice old now new c x f range now_is new_is =
 -- ---- steps that may mark the customer's lines
 
 -- what the tables say of one customer is changed twice
-pub retold_twice : (old now new : TableFile) (c : ℕ) → IsRetold c old now → IsRetold c now new → IsRetold c old new
+pub retold_twice : (old now new : TableFile) (c : ℕ) → KeepsOtherEntries c old now → KeepsOtherEntries c now new → KeepsOtherEntries c old new
 retold_twice old now new c first then =
     then
     ∙ ap (with_customer c (customer_at new c)) first
     ∙ ap (λ customers. record old { customers = customers }) (set-set old.customers c (customer_at now c) (customer_at new c))
 
 -- another customer in a place that is there
-retold_by : (tables : TableFile) (c : ℕ) (customer : NamedCustomer) → c < length tables.customers → IsRetold c tables (with_customer c customer tables)
+retold_by : (tables : TableFile) (c : ℕ) (customer : NamedCustomer) → c < length tables.customers → KeepsOtherEntries c tables (with_customer c customer tables)
 retold_by tables c customer there = ap (λ x. with_customer c x tables) (sym (get_or-set_same tables.customers c customer no_customer there))
 
 -- nothing is changed
-pub retold_same : (tables : TableFile) (c : ℕ) → IsRetold c tables tables
+pub retold_same : (tables : TableFile) (c : ℕ) → KeepsOtherEntries c tables tables
 retold_same tables c = ap (λ customers. record tables { customers = customers }) (sym (set-get_or tables.customers c no_customer))
 
 -- a mark of a line
 pub retold_marked : (tables new : TableFile) (id : LineId) (up : Bool) → id.customer < length tables.customers → new ≡ with_mark id up tables
-    → IsRetold id.customer tables new
+    → KeepsOtherEntries id.customer tables new
 retold_marked tables new id up there is =
-    subst (IsRetold id.customer tables) (sym is)
+    subst (KeepsOtherEntries id.customer tables) (sym is)
     (retold_by tables id.customer (customer_marked id.number up (customer_at tables id.customer)) there)
 
 -- a step that leaves the tables
@@ -108,7 +108,7 @@ next_brought tables retold id old new lines_old lines_new after ready brings sta
 -- the files stay
 pub still_brought :
     (tables retold : TableFile) (id : LineId) (spools : List CustomerSpool) (old new : List CustomerLine) (after : Customer)
-    → IsReady tables id spools old → customer_of retold id.customer spools new ≡ after → IsRetold id.customer tables retold
+    → IsReady tables id spools old → customer_of retold id.customer spools new ≡ after → KeepsOtherEntries id.customer tables retold
     → Stays after (customer_of tables id.customer spools old) → IsReady retold id spools new
 still_brought tables retold id spools old new after ready customer entries =
     next_brought tables retold id spools spools old new after ready
@@ -168,7 +168,7 @@ pub brought_by_verdict :
     (tables accepted_tables retold : TableFile) (id : LineId) (old new : List CustomerSpool) (lines lines_accepted lines_new : List CustomerLine)
     (came : Input) (v : Verdict) → v ≡ verdict_on id.number came (customer_of tables id.customer old lines)
     → customer_of accepted_tables id.customer old lines_accepted ≡ accepted_on id.number came (customer_of tables id.customer old lines)
-    → IsRetold id.customer tables accepted_tables
+    → KeepsOtherEntries id.customer tables accepted_tables
     → Brings accepted_tables retold id.customer old new lines_new (carried_out id.number v (customer_of accepted_tables id.customer old lines_accepted)).after
     → Brings tables retold id.customer old new lines_new (after_line_input id.number came (customer_of tables id.customer old lines)).after
 brought_by_verdict tables accepted_tables retold id old new lines lines_accepted lines_new came v verdict accepted entries behind =
@@ -197,7 +197,7 @@ pub brought_by_block :
     (lines lines_accepted lines_now lines_new : List CustomerLine) (b : Block) (v : Verdict)
     → v ≡ verdict_on id.number (block_input b) (customer_of tables id.customer old lines)
     → customer_of accepted_tables id.customer old lines_accepted ≡ accepted_on id.number (block_input b) (customer_of tables id.customer old lines)
-    → IsRetold id.customer tables accepted_tables
+    → KeepsOtherEntries id.customer tables accepted_tables
     → ended ≡ (acted_where v.acts id.number b.items (customer_of accepted_tables id.customer old lines_accepted)).ended
     → Leads accepted_tables id.customer old now lines_now (acted_where v.acts id.number b.items (customer_of accepted_tables id.customer old lines_accepted)).customer
     → Brings accepted_tables retold id.customer now new lines_new (behind_records ended id.number v (customer_of accepted_tables id.customer now lines_now)).after

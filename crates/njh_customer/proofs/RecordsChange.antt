@@ -20,7 +20,7 @@ use Rattle.njh_spool.specs.CustomerSpool.{WholeFile}
 use Rattle.njh_spool.specs.declared.State.{State}
 use Rattle.njh_spool.specs.declared.State.TheVariants as state
 use Rattle.njh_table.specs.Entries.{CustomerEntry}
-use Rattle.njh_table.specs.NewRoutes.{taken_routes}
+use Rattle.njh_table.specs.NewRoutes.{entries_of_routes}
 use Rattle.njh_stream.specs.Sending.{ready}
 use Rattle.njh_stream.specs.Transmissions.{is_whole}
 use Rattle.njh_command.specs.declared.command.Command.TheVariants as commands
@@ -214,4 +214,4 @@ module _ (by_records : (kind : Kind) (node : List ℕ) (records : List Stored) �
   pub records_change : RecordsChangeSo
   records_change entry (Records l items) x y g (up, move) there = (up, changes (with_marks up entry) l items x y g move there)
   records_change entry (Routes routes) x y g given there =
-      held_so (entry_with (taken_routes routes) entry) x g (subst (λ z. Contains z.files g) given.holds there)
+      held_so (entry_with (entries_of_routes routes) entry) x g (subst (λ z. Contains z.files g) given.holds there)

@@ -16,8 +16,8 @@ abbrev pub with_customer : ℕ → NamedCustomer → TableFile → TableFile
 with_customer c customer tables = record tables { customers = slice_set tables.customers c customer }
 
 -- Of the tables nothing is changed but what they say of one customer.
-abbrev pub IsRetold : ℕ → TableFile → TableFile → Type 0
-IsRetold c old new = new ≡ with_customer c (customer_at new c) old
+abbrev pub KeepsOtherEntries : ℕ → TableFile → TableFile → Type 0
+KeepsOtherEntries c old new = new ≡ with_customer c (customer_at new c) old
 
 -- It is led to what it is after, and the others' files stay. The tables stay too.
 pub record Leads (tables : TableFile) (c : ℕ) (old new : List CustomerSpool) (lines : List CustomerLine) (after : Customer) : Type 0 where
@@ -28,7 +28,7 @@ pub record Leads (tables : TableFile) (c : ℕ) (old new : List CustomerSpool) (
 pub record Brings (tables retold : TableFile) (c : ℕ) (old new : List CustomerSpool) (lines : List CustomerLine) (after : Customer) : Type 0 where
   pub customer : customer_of retold c new lines ≡ after
   pub others : new ≡ slice_set old c (spool_at c new)
-  pub entries : IsRetold c tables retold
+  pub entries : KeepsOtherEntries c tables retold
 
 -- A line of a customer that is there, and whose customer is coherent.
 pub record IsReady (tables : TableFile) (id : LineId) (spools : List CustomerSpool) (lines : List CustomerLine) : Type 0 where

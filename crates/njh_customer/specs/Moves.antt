@@ -10,7 +10,7 @@ use Rattle.njh_record.specs.Stored.{Stored}
 use Rattle.njh_spool.specs.CustomerSpool.{WholeFile}
 use Rattle.njh_spool.specs.declared.State.TheVariants as state
 use Rattle.njh_table.specs.Entries.{CustomerEntry, route_of}
-use Rattle.njh_table.specs.NewRoutes.{NewRoute, routes_checked, taken_routes}
+use Rattle.njh_table.specs.NewRoutes.{NewRoute, routes_checked, entries_of_routes}
 use Rattle.njh_table.specs.declared.Route.TheVariants.{Here, Line}
 use Rattle.njh_stream.specs.declared.sender.Sender.{Sender}
 use Rattle.njh_stream.specs.declared.sender.Sender.TheVariants.{Idle, Requested, Sending, EofSent, Aborting}
@@ -141,7 +141,7 @@ routeless_held entry x = with_files (map (λ f. cond (has_lost_route entry f) (h
 -- Routes without a fault are the customer's from then on.
 pub record RoutesMove (entry : CustomerEntry) (routes : List NewRoute) (x y : Outgoing) : Type 0 where
   pub faultless : routes_checked entry routes ≡ Ok tt
-  pub holds : y ≡ routeless_held (entry_with (taken_routes routes) entry) x
+  pub holds : y ≡ routeless_held (entry_with (entries_of_routes routes) entry) x
 
 -- What comes to a customer: records on a line, or new routes.
 pub data Coming : Type 0 where

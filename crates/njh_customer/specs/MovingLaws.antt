@@ -11,7 +11,7 @@ use Rattle.njh_record.specs.Stored.{Stored}
 use Rattle.njh_spool.specs.CustomerSpool.{WholeFile}
 use Rattle.njh_spool.specs.declared.State.TheVariants.{Ready}
 use Rattle.njh_table.specs.Entries.{CustomerEntry}
-use Rattle.njh_table.specs.NewRoutes.{NewRoute, routes_checked, taken_routes}
+use Rattle.njh_table.specs.NewRoutes.{NewRoute, routes_checked, entries_of_routes}
 use Rattle.njh_table.specs.declared.fault.TableFault.{TableFault}
 use Rattle.njh_stream.specs.declared.sender.Sender.TheVariants.{Idle, Requested, Sending, EofSent}
 use Rattle.njh_stream.specs.Holding.{has_lost_route, held_file}
@@ -46,7 +46,7 @@ pub record RoutesDo (p : Part) (routes : List NewRoute) (r : Run) : Type 0 where
   pub rests : r.after.rests ≡ p.rests
   pub lines : r.after.customer.lines ≡ p.customer.lines
   pub partial : r.after.customer.spool.partial ≡ p.customer.spool.partial
-  pub faultless : routes_checked p.customer.entry routes ≡ Ok tt → r.after.customer.entry.routes ≡ taken_routes routes
+  pub faultless : routes_checked p.customer.entry routes ≡ Ok tt → r.after.customer.entry.routes ≡ entries_of_routes routes
   pub faulty : (fault : TableFault) → routes_checked p.customer.entry routes ≡ Err fault → r.after ≡ p
 
 abbrev pub RoutesDoSo : Type 0
@@ -160,7 +160,7 @@ pub data RoutesMoveFile (entry : CustomerEntry) (x : Outgoing) (g : WholeFile) :
 
 abbrev pub FileMovesBy : CustomerEntry → Coming → Outgoing → WholeFile → Type 0
 FileMovesBy entry (Records l items) x g = (up : List Bool) × FileMoves (with_marks up entry) items x g
-FileMovesBy entry (Routes routes) x g = RoutesMoveFile (entry_with (taken_routes routes) entry) x g
+FileMovesBy entry (Routes routes) x g = RoutesMoveFile (entry_with (entries_of_routes routes) entry) x g
 
 abbrev pub RecordsChangeSo : Type 0
 RecordsChangeSo =

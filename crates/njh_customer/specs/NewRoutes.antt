@@ -6,7 +6,7 @@ use Rattle.njh_stream.specs.Holding.{destination_unrouted, unrouted_held}
 use Rattle.njh_stream.specs.Sending.{goes_by}
 use Rattle.njh_table.specs.Entries.{CustomerEntry, RouteEntry}
 use Rattle.njh_table.specs.Keys.{Walked}
-use Rattle.njh_table.specs.NewRoutes.{NewRoute, routes_checked, taken_routes}
+use Rattle.njh_table.specs.NewRoutes.{NewRoute, routes_checked, entries_of_routes}
 use Rattle.njh_customer.specs.Customer.{Customer}
 use Rattle.njh_customer.specs.Part.{Part}
 
@@ -26,7 +26,7 @@ part_after_routes routes p = record p { customer = customer_with_routes routes p
 
 -- Routes that are given are the customer's from then on, where there is no fault in them; else nothing changes.
 abbrev pub taken_where : Walked (Unit {0}) → List NewRoute → Part → Part
-taken_where (Ok faultless) routes p = part_after_routes (taken_routes routes) p
+taken_where (Ok faultless) routes p = part_after_routes (entries_of_routes routes) p
 taken_where (Err fault) routes p = p
 
 abbrev pub routes_given : List NewRoute → Part → Part

@@ -9,7 +9,7 @@ ghost use Rattle.njh_line.specs.LineTable.{input_value};
 ghost use Rattle.njh_table.specs.TableFile.{HasLine, customer_at, entry_of};
 ghost use Rattle.njh_customer.specs.Acting.{acted_where};
 ghost use Rattle.njh_customer.specs.Alone as alone;
-ghost use Rattle.njh_customer.specs.CustomerSteps.{Brings, IsReady, IsRetold, Leads, customer_of};
+ghost use Rattle.njh_customer.specs.CustomerSteps.{Brings, IsReady, KeepsOtherEntries, Leads, customer_of};
 
 use crate::acting::all_act;
 use crate::customer_lines::CustomerLines;
@@ -134,7 +134,7 @@ fn accept_signal(
         ≡ alone.verdict_on id.number (alone.signal_input signal) (customer_of tables.old id.customer spool.now lines.old) }
     ensures after { customer_of tables.new id.customer spool.now lines.new
         ≡ alone.accepted_on id.number (alone.signal_input signal) (customer_of tables.old id.customer spool.now lines.old) }
-    ensures entries { IsRetold id.customer tables.old tables.new }
+    ensures entries { KeepsOtherEntries id.customer tables.old tables.new }
     ensures ready { IsReady tables.new id spool.now lines.new }
 {
     streams_stay_tied();
@@ -177,7 +177,7 @@ fn accept(
     ensures verdict { result ≡ alone.verdict_on id.number (input_value input.now) (customer_of tables.old id.customer spool.now lines.old) }
     ensures after { customer_of tables.new id.customer spool.now lines.new
         ≡ alone.accepted_on id.number (input_value input.now) (customer_of tables.old id.customer spool.now lines.old) }
-    ensures entries { IsRetold id.customer tables.old tables.new }
+    ensures entries { KeepsOtherEntries id.customer tables.old tables.new }
     ensures ready { IsReady tables.new id spool.now lines.new }
 {
     streams_stay_tied();
@@ -201,7 +201,7 @@ fn raise(id: LineId, goes_up: bool, tables: &mut Tables)
     requires line { HasLine tables.old id }
     ensures entry { entry_of (customer_at tables.new id.customer)
         ≡ alone.with_raised_line goes_up id.number (entry_of (customer_at tables.old id.customer)) }
-    ensures entries { IsRetold id.customer tables.old tables.new }
+    ensures entries { KeepsOtherEntries id.customer tables.old tables.new }
 {
     marks_change_one_entry();
     if goes_up {

@@ -8,7 +8,7 @@ ghost use Rattle.njh_table.specs.Marks.{entry_unmarked};
 ghost use Rattle.njh_table.specs.TableFile.{customer_at, entry_of, password_bytes};
 ghost use Rattle.njh_customer.specs.Customer.{config_of, line_at, password_in};
 ghost use Rattle.njh_customer.specs.Feeding.{acted_on};
-ghost use Rattle.njh_customer.specs.CustomerSteps.{Brings, IsReady, IsRetold, customer_of};
+ghost use Rattle.njh_customer.specs.CustomerSteps.{Brings, IsReady, KeepsOtherEntries, customer_of};
 ghost use Rattle.njh_customer.specs.Part.{rest_at};
 
 use crate::customer::{take_frame, take_signal};
@@ -130,7 +130,7 @@ impl Lines {
         ensures part { part_with (entry_of (customer_at tables.new id.customer)) (spool_at id.customer spool.new) self.new
             ≡ (part_after_bytes (part_with (entry_of (customer_at tables.old id.customer)) (spool_at id.customer spool.old) self.old) id.number piece.now).after }
         ensures others { spool.new ≡ slice_set spool.old id.customer (spool_at id.customer spool.new) }
-        ensures entries { IsRetold id.customer tables.old tables.new }
+        ensures entries { KeepsOtherEntries id.customer tables.old tables.new }
         ensures ready { IsReady tables.new id spool.new self.new.lines }
         ensures count { length self.new.lines ≡ length self.old.lines }
         ensures frame { out.new
@@ -203,7 +203,7 @@ impl Lines {
         ensures part { part_with (entry_of (customer_at tables.new id.customer)) (spool_at id.customer spool.new) self.new
             ≡ (part_after_signal (part_with (entry_of (customer_at tables.old id.customer)) (spool_at id.customer spool.old) self.old) id.number signal).after }
         ensures others { spool.new ≡ slice_set spool.old id.customer (spool_at id.customer spool.new) }
-        ensures entries { IsRetold id.customer tables.old tables.new }
+        ensures entries { KeepsOtherEntries id.customer tables.old tables.new }
         ensures ready { IsReady tables.new id spool.new self.new.lines }
         ensures count { length self.new.lines ≡ length self.old.lines }
         ensures frame { out.new

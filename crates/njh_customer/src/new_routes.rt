@@ -15,7 +15,7 @@ use njh_table::Tables;
 impl Lines {
     /// The tables have new routes for the customer: its files that are Ready or Refused and whose node has no route now
     /// are Held. Its lines stay as they are, and no frame goes out.
-    pub fn take_routes(&self, customer: u16, tables: &Tables, spool: &mut Spool)
+    pub fn set_routes(&self, customer: u16, tables: &Tables, spool: &mut Spool)
         requires known { customer < length tables.now.customers }
         requires spooled { customer < length spool.old }
         ensures part { part_with (entry_of (customer_at tables.now customer)) (spool_at customer spool.new) self.now

@@ -9,6 +9,6 @@ pub mod WireLaws
 pub mod TurnLaws
 pub mod RoundLaws
 pub mod OwnWires
-pub mod RetableLaws
+pub mod SetRoutesLaws
 pub mod ServiceLaws
 pub mod OwnRoutes

@@ -8,7 +8,7 @@ use Rattle.std.proofs.lemmas.List.Elements.{All-push, All-same}
 use Rattle.std.specs.Prelude.{All, IsSome, IsSomeAnd, slice_get}
 use Rattle.std.proofs.lemmas.Bool.{cases_lt}
 use Rattle.njh_table.specs.declared.LineId.{LineId}
-use Rattle.njh_table.specs.NewRoutes.{NewRoute, own_routes, routes_checked}
+use Rattle.njh_table.specs.NewRoutes.{NewRoute, new_routes_of, routes_checked}
 use Rattle.njh_hub.specs.declared.event.Event.{Event}
 use Rattle.njh_hub.specs.declared.event.Event.TheVariants.{Bytes, Tick, Garbled, Lost, Routes}
 use Rattle.njh_customer.specs.Laws.{EventsKeepFaults}
@@ -59,7 +59,7 @@ named-before start now on (Tick id) known = omega (arith, known, on.lines id.cus
 named-before start now on (Garbled id) known = omega (arith, known, on.lines id.customer)
 named-before start now on (Lost id) known = omega (arith, known, on.lines id.customer)
 named-before start now on (Routes c routes) known =
-    let there : c < length start = omega (arith, known.0, on.many) in (there, sym (on.checked c there (own_routes c routes)) ∙ known.1)
+    let there : c < length start = omega (arith, known.0, on.many) in (there, sym (on.checked c there (new_routes_of c routes)) ∙ known.1)
 
 IsSomeAnd-weaker : {X : Type 0} (P Q : X → Type 0) → ((x : X) → P x → Q x) → (o : Option X) → IsSomeAnd o P → IsSomeAnd o Q
 IsSomeAnd-weaker P Q weaker None is = is
@@ -73,7 +73,7 @@ refused-before start now on event UnknownCustomer refused = IsSomeAnd-weaker _ _
     (λ given nowhere there. nowhere (omega (arith, there, on.many))) (routes_of event) refused
 refused-before start now on event (BadRoutes cause) refused = IsSomeAnd-weaker _ _
     (λ given bad. let there : given.0 < length start = omega (arith, bad.0, on.many) in
-    (there, sym (on.checked given.0 there (own_routes given.0 given.1)) ∙ bad.1)) (routes_of event) refused
+    (there, sym (on.checked given.0 there (new_routes_of given.0 given.1)) ∙ bad.1)) (routes_of event) refused
 refused-before start now on event Memory refused = named-before start now on event refused
 
 -- why a step on a line is refused

@@ -1,7 +1,7 @@
 -- The events of a customer in a service, among those of all wires and the new routes of all customers.
 use Rattle.std.proofs.Common.{◌≡◌, ℕ, Bool, true, false, cond, eqb, List, [], ◌∷◌, ◌++◌, refl, ap, sym, ◌∙◌}
 use Rattle.njh_table.specs.declared.LineId.{LineId}
-use Rattle.njh_table.specs.declared.new_routes.RouteEntry.{RouteEntry}
+use Rattle.njh_table.specs.declared.new_routes.GivenRoute.{GivenRoute}
 use Rattle.njh_customer.specs.Runs.{OwnEvent}
 use Rattle.njh_hub.specs.declared.event.Event.TheVariants.{Routes}
 use Rattle.njh_hub.specs.OwnEvents.{own, events_of}
@@ -11,7 +11,7 @@ use Rattle.njh_hub.specs.WireLaws.{own_wires}
 use Rattle.njh_hub.proofs.OwnWires.{events_of-append, own_round, own_quiets}
 
 -- new routes of a customer, or of another
-routes_first : (c d : ℕ) (routes : List RouteEntry) (lines : List LineId) (quiets : List ℕ) (story : List Happening)
+routes_first : (c d : ℕ) (routes : List GivenRoute) (lines : List LineId) (quiets : List ℕ) (story : List Happening)
     (events : List OwnEvent) (b : Bool) → eqb d c ≡ b → events ≡ events_of c (service_events lines quiets story) →
     cond b (own (Routes d routes) ∷ events) events
     ≡ events_of c (service_events lines quiets (cond b (NewRoutes d routes ∷ story) story))

@@ -11,7 +11,7 @@ use Rattle.njh_table.specs.declared.LineId.{LineId}
 use Rattle.njh_table.specs.TableFile.{NamedCustomer, TableFile, customer_at, entry_of, no_customer}
 use Rattle.njh_customer.specs.Customer.{IsMarked}
 use Rattle.njh_customer.specs.code.Coherence.{IsCoherent}
-use Rattle.njh_customer.specs.CustomerSteps.{IsReady, IsRetold}
+use Rattle.njh_customer.specs.CustomerSteps.{IsReady, KeepsOtherEntries}
 use Rattle.njh_customer.specs.Part.{Part, Lines, part_with}
 use Rattle.njh_hub.specs.WholeHub.{no_part, part, HasLine, SameLines}
 use Rattle.njh_hub.specs.Parts.{lines_at, no_lines, part_held, parts_of}
@@ -184,7 +184,7 @@ found table files lines parts id x hub are known here =
 -- What a step on that line leads to: the customer is ready for the next, with as many lines, and those that are up are marked.
 pub record Stepped (table : TableFile) (files : List CustomerSpool) (x : Lines) (id : LineId)
     (new : TableFile) (after : List CustomerSpool) (y : Lines) : Type 0 where
-  pub in_table : IsRetold id.customer table new
+  pub in_table : KeepsOtherEntries id.customer table new
   pub in_files : after ≡ slice_set files id.customer (spools.spool_at id.customer after)
   pub ready : IsReady new id after y.lines
   pub marked : IsMarked (part_with (entry_of (customer_at new id.customer)) (spools.spool_at id.customer after) y).customer

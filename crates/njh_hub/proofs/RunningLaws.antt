@@ -8,8 +8,8 @@ use Rattle.std.proofs.lemmas.Bool.{cases_lt}
 use Rattle.std.proofs.Math.Seq.{take-add}
 use Rattle.njh_table.specs.declared.LineId.{LineId}
 use Rattle.njh_table.specs.Keys.{Walked}
-use Rattle.njh_table.specs.NewRoutes.{own_routes, routes_checked, taken_routes}
-use Rattle.njh_table.specs.declared.new_routes.RouteEntry.{RouteEntry}
+use Rattle.njh_table.specs.NewRoutes.{new_routes_of, routes_checked, entries_of_routes}
+use Rattle.njh_table.specs.declared.new_routes.GivenRoute.{GivenRoute}
 use Rattle.njh_hub.specs.declared.event.Event.{Event}
 use Rattle.njh_hub.specs.declared.event.Event.TheVariants.{Bytes, Tick, Garbled, Lost, Routes}
 use Rattle.njh_customer.specs.Feeding.{sent_on}
@@ -214,14 +214,14 @@ signal_done parts signal.Garbled id = whole_done parts (Garbled id)
 signal_done parts signal.Lost id = whole_done parts (Lost id)
 
 -- routes that aren't refused, as the only event
-pub routes_done : (parts : List Part) (c : ℕ) (routes : List RouteEntry) →
-    routes_checked (part c parts).customer.entry (own_routes c routes) ≡ Ok tt →
+pub routes_done : (parts : List Part) (c : ℕ) (routes : List GivenRoute) →
+    routes_checked (part c parts).customer.entry (new_routes_of c routes) ≡ Ok tt →
     hub_run parts (Routes c routes ∷ []) ≡ record {
-      parts = set parts c (part_after_routes (taken_routes (own_routes c routes)) (part c parts));
+      parts = set parts c (part_after_routes (entries_of_routes (new_routes_of c routes)) (part c parts));
       sent = [];
     }
 routes_done parts c routes checked =
-    ap (λ (w : Walked (Unit {0})). record { parts = set parts c (taken_where w (own_routes c routes) (part c parts)); sent = [] }) checked
+    ap (λ (w : Walked (Unit {0})). record { parts = set parts c (taken_where w (new_routes_of c routes) (part c parts)); sent = [] }) checked
 
 -- a sink's stop is within the event
 pub is_within_one : (id : LineId) (piece : List ℕ) (taken : ℕ) (fault : RunFault) →

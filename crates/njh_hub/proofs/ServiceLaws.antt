@@ -5,8 +5,8 @@ use Rattle.std.specs.Prelude.{All, OnOk, OnErr}
 use Rattle.std.proofs.lemmas.Grind.{flat_map-append}
 use Rattle.std.proofs.lemmas.List.Elements.{All-push}
 use Rattle.njh_table.specs.declared.LineId.{LineId}
-use Rattle.njh_table.specs.declared.new_routes.RouteEntry.{RouteEntry}
-use Rattle.njh_table.specs.NewRoutes.{own_routes, routes_checked, taken_routes}
+use Rattle.njh_table.specs.declared.new_routes.GivenRoute.{GivenRoute}
+use Rattle.njh_table.specs.NewRoutes.{new_routes_of, routes_checked, entries_of_routes}
 use Rattle.njh_customer.specs.NewRoutes.{part_after_routes}
 use Rattle.njh_hub.specs.declared.event.Event.{Event}
 use Rattle.njh_hub.specs.declared.event.Event.TheVariants.{Routes}
@@ -146,18 +146,18 @@ at_still passed count lines parts quiets wires story now now_quiets now_wires ne
 }
 
 -- the happening, if any, of new routes
-abbrev pub with_given : List Happening → Option (ℕ × List RouteEntry) → List Happening
+abbrev pub with_given : List Happening → Option (ℕ × List GivenRoute) → List Happening
 with_given story None = story
 with_given story (Some given) = story ++ NewRoutes given.0 given.1 ∷ []
 
-pub rounds-with_given : (story : List Happening) (given : Option (ℕ × List RouteEntry)) →
+pub rounds-with_given : (story : List Happening) (given : Option (ℕ × List GivenRoute)) →
     service_rounds (with_given story given) ≡ service_rounds story
 rounds-with_given story None = refl
 rounds-with_given story (Some given) = service_rounds-more story (NewRoutes given.0 given.1) ∙ append-nil (service_rounds story)
 
 pub at_given : {S : Type 0} (passed : S → S → List WireAct → Type 0) (count : S → ℕ) (lines : List LineId) (parts : List Part)
     (quiets : List ℕ) (wires : List S) (story : List Happening) (now : List Part) (now_quiets : List ℕ) (now_wires : List S)
-    (given : Option (ℕ × List RouteEntry)) (new : List Part) →
+    (given : Option (ℕ × List GivenRoute)) (new : List Part) →
     IsAt passed count lines parts quiets wires story now now_quiets now_wires → IsGiven now given new →
     IsAt passed count lines parts quiets wires (with_given story given) new now_quiets now_wires
 at_given passed count lines parts quiets wires story now now_quiets now_wires None new h done = record {
@@ -220,11 +220,11 @@ rounds-with_round story round = service_rounds-more story (Round round)
 -- ---- new routes
 
 -- what came of routes that a customer was to have
-pub given_by : {A E : Type 0} (parts new : List Part) (c : ℕ) (routes : List RouteEntry) (answer : Result A E) →
-    OnOk answer (new ≡ set parts c (part_after_routes (taken_routes (own_routes c routes)) (part c parts))) →
+pub given_by : {A E : Type 0} (parts new : List Part) (c : ℕ) (routes : List GivenRoute) (answer : Result A E) →
+    OnOk answer (new ≡ set parts c (part_after_routes (entries_of_routes (new_routes_of c routes)) (part c parts))) →
     OnOk answer (c < length parts) →
-    OnOk answer (routes_checked (part c parts).customer.entry (own_routes c routes) ≡ Ok tt) →
-    OnErr answer (new ≡ parts) → (given : Option (ℕ × List RouteEntry)) × IsGiven parts given new
+    OnOk answer (routes_checked (part c parts).customer.entry (new_routes_of c routes) ≡ Ok tt) →
+    OnErr answer (new ≡ parts) → (given : Option (ℕ × List GivenRoute)) × IsGiven parts given new
 given_by parts new c routes (Ok x) hub known checked err =
     (Some (c, routes), ((known, checked), hub ∙ sym (ap (λ (h : HubRun). h.parts) (routes_done parts c routes checked))))
 given_by parts new c routes (Err e) hub known checked err = (None, err)

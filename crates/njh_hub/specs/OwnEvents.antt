@@ -2,8 +2,8 @@
 use Rattle.std.specs.Prelude.{ℕ, zero, suc, List, [], ◌∷◌, ◌++◌, ◌==◌, cond, take, length, Option, Some, None}
 use Rattle.std.specs.Prelude.{slice_get}
 use Rattle.njh_table.specs.declared.LineId.{LineId}
-use Rattle.njh_table.specs.declared.new_routes.RouteEntry.{RouteEntry}
-use Rattle.njh_table.specs.NewRoutes.{own_routes}
+use Rattle.njh_table.specs.declared.new_routes.GivenRoute.{GivenRoute}
+use Rattle.njh_table.specs.NewRoutes.{new_routes_of}
 use Rattle.njh_hub.specs.declared.event.Event.{Event}
 use Rattle.njh_hub.specs.declared.event.Event.TheVariants.{Bytes, Tick, Garbled, Lost, Routes}
 use Rattle.njh_customer.specs.declared.signal.Signal.{Signal}
@@ -27,7 +27,7 @@ line_of_event (Lost id) = Some id
 line_of_event (Routes c routes) = None
 
 -- the customer that is given routes, and these
-abbrev pub routes_of : Event → Option (ℕ × List RouteEntry)
+abbrev pub routes_of : Event → Option (ℕ × List GivenRoute)
 routes_of (Bytes id piece) = None
 routes_of (Tick id) = None
 routes_of (Garbled id) = None
@@ -46,7 +46,7 @@ own (Bytes id piece) = OwnBytes id.number piece
 own (Tick id) = OwnSignal signal.Tick id.number
 own (Garbled id) = OwnSignal signal.Garbled id.number
 own (Lost id) = OwnSignal signal.Lost id.number
-own (Routes c routes) = OwnRoutes (own_routes c routes)
+own (Routes c routes) = OwnRoutes (new_routes_of c routes)
 
 -- the events of customer c, in order
 abbrev pub events_of : ℕ → List Event → List OwnEvent

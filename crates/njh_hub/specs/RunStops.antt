@@ -4,7 +4,7 @@ use Rattle.std.specs.Prelude.{vec_capacity, ⊤}
 use Rattle.std.specs.Prelude.{IsSome, IsSomeAnd}
 use Rattle.njh_bisync.specs.declared.frame.TheConstants.{LONGEST_FRAME}
 use Rattle.njh_table.specs.declared.LineId.{LineId}
-use Rattle.njh_table.specs.NewRoutes.{own_routes, routes_checked}
+use Rattle.njh_table.specs.NewRoutes.{new_routes_of, routes_checked}
 use Rattle.njh_hub.specs.declared.event.Event.{Event}
 use Rattle.njh_hub.specs.declared.fault.HubFault.{HubFault}
 use Rattle.njh_hub.specs.declared.fault.HubFault.TheVariants.{UnknownLine, UnknownCustomer, Memory, BadRoutes}
@@ -26,7 +26,7 @@ abbrev pub IsRefused : List Part → Event → HubFault → Type 0
 IsRefused parts event UnknownLine = IsSomeAnd (line_of_event event) (λ line. HasLine parts line → ⊥)
 IsRefused parts event UnknownCustomer = IsSomeAnd (routes_of event) (λ given. given.0 < length parts → ⊥)
 IsRefused parts event (BadRoutes cause) = IsSomeAnd (routes_of event) (λ given. (given.0 < length parts) ×
-    (routes_checked (part given.0 parts).customer.entry (own_routes given.0 given.1) ≡ Err cause))
+    (routes_checked (part given.0 parts).customer.entry (new_routes_of given.0 given.1) ≡ Err cause))
 IsRefused parts event Memory = IsNamed parts event
 
 -- where the hub is the cause, and not the sink, this is so of its refusal

@@ -3,7 +3,7 @@ use Rattle.std.specs.Prelude.{◌≡◌, ℕ, ◌<◌, ◌≤◌, ◌==◌, cond
 use Rattle.std.specs.Prelude.{slice_index_or, All}
 use Rattle.std.specs.List.{flat_map}
 use Rattle.njh_table.specs.declared.LineId.{LineId}
-use Rattle.njh_table.specs.declared.new_routes.RouteEntry.{RouteEntry}
+use Rattle.njh_table.specs.declared.new_routes.GivenRoute.{GivenRoute}
 use Rattle.njh_hub.specs.declared.event.Event.{Event}
 use Rattle.njh_hub.specs.declared.event.Event.TheVariants.{Routes}
 use Rattle.njh_hub.specs.OwnEvents.{events_of}
@@ -17,7 +17,7 @@ use Rattle.njh_hub.specs.Wires.{WireAct}
 -- What happens in a service: a round of turns, or new routes of a customer.
 pub data Happening : Type 0 where
   Round : (turns : List Turn) → Happening
-  NewRoutes : (customer : ℕ) (routes : List RouteEntry) → Happening
+  NewRoutes : (customer : ℕ) (routes : List GivenRoute) → Happening
 
 -- what the hub is told
 abbrev pub happening_events : List LineId → List ℕ → Happening → List Event
@@ -91,7 +91,7 @@ pub record AreStill {S : Type 0} (passed : S → S → List WireAct → Type 0) 
   pub counts : (i : ℕ) (d : S) → i < length wires → count (slice_index_or wires i d) ≤ count (slice_index_or new_wires i d)
 
 -- A customer was given these routes, if any, which it may have.
-abbrev pub IsGiven : List Part → Option (ℕ × List RouteEntry) → List Part → Type 0
+abbrev pub IsGiven : List Part → Option (ℕ × List GivenRoute) → List Part → Type 0
 IsGiven parts None new = new ≡ parts
 IsGiven parts (Some given) new = IsNamed parts (Routes given.0 given.1) × (new ≡ (hub_run parts (Routes given.0 given.1 ∷ [])).parts)
 

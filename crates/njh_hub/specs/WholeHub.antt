@@ -2,7 +2,7 @@
 use Rattle.std.specs.Prelude.{◌≡◌, ℕ, ◌<◌, List, [], ◌∷◌, ◌++◌, length, slice_index_or, slice_set, Ok}
 use Rattle.njh_table.specs.declared.LineId.{LineId}
 use Rattle.njh_table.specs.Entries.{CustomerEntry}
-use Rattle.njh_table.specs.NewRoutes.{own_routes, routes_checked}
+use Rattle.njh_table.specs.NewRoutes.{new_routes_of, routes_checked}
 pub use Rattle.njh_customer.specs.Part.{Part, part_at_open}
 use Rattle.njh_customer.specs.Runs.{OwnEvent, event_run}
 use Rattle.njh_hub.specs.OwnEvents.{customer_of_event, own}
@@ -30,7 +30,7 @@ IsNamed parts (Bytes id piece) = HasLine parts id
 IsNamed parts (Tick id) = HasLine parts id
 IsNamed parts (Garbled id) = HasLine parts id
 IsNamed parts (Lost id) = HasLine parts id
-IsNamed parts (Routes c routes) = (c < length parts) × (routes_checked (part c parts).customer.entry (own_routes c routes) ≡ Ok tt)
+IsNamed parts (Routes c routes) = (c < length parts) × (routes_checked (part c parts).customer.entry (new_routes_of c routes) ≡ Ok tt)
 
 -- each customer has as many lines in both
 abbrev pub SameLines : List Part → List Part → Type 0

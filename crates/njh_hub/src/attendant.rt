@@ -3,7 +3,7 @@
 ghost use Rattle.njh_hub.specs.Service.{AreStill};
 
 use crate::fault::HubFault;
-use crate::given_routes::RouteList;
+use crate::given_routes::GivenRoutes;
 use crate::hub::Hub;
 use crate::wire::Wire;
 
@@ -13,7 +13,7 @@ pub struct NewRoutes {
     /// The customer's number.
     pub customer: u16,
     /// Its routes.
-    pub routes: RouteList,
+    pub routes: GivenRoutes,
 }
 
 /// Sees to the wires before and after each round of a service, says which of them are visited in it, and brings new
@@ -26,7 +26,7 @@ pub trait Attendant<W: Wire> {
     /// New routes, where a customer is to have some. It is asked once before each round.
     fn new_routes(&mut self) -> Option<NewRoutes>;
 
-    /// What came of the routes that it brought: those of `Hub::retable`.
+    /// What came of the routes that it brought: those of `Hub::set_routes`.
     fn routes_given(&mut self, customer: u16, answer: Result<(), HubFault>);
 
     /// Whether the wire at this place is visited in this round. One that isn't has the turn of an answer `Pending`: no

@@ -2,7 +2,7 @@
 
 ghost use Rattle.std.specs.Prelude.{◌≡◌, ◌≤◌, ◌<◌, take, IfOk};
 
-use crate::given_routes::RouteList;
+use crate::given_routes::GivenRoutes;
 use njh_table::LineId;
 use std::alloc::{AllocError, Global};
 use std::marker::Model;
@@ -94,5 +94,5 @@ pub enum Event {
     /// The line is lost.
     Lost(LineId),
     /// New routes for the customer of this number, in place of all that it has.
-    Routes(u16, RouteList),
+    Routes(u16, GivenRoutes),
 }

@@ -2,37 +2,37 @@
 
 ghost use Rattle.std.specs.Prelude.{◌≡◌, IfOk};
 
-use njh_table::RouteEntry;
+use njh_table::GivenRoute;
 use std::alloc::{AllocError, Global};
 use std::marker::Model;
 
 /// Some routes of a customer, of any number; a caller sees them as a list.
 #[derive(Drop)]
-pub struct RouteList {
-    routes: Vec<RouteEntry>,
+pub struct GivenRoutes {
+    routes: Vec<GivenRoute>,
 }
 
-impl Model for RouteList {
+impl Model for GivenRoutes {
     ghost use Rattle.std.specs.Prelude.{List};
-    ghost use Rattle.njh_table.specs.declared.new_routes.RouteEntry.{RouteEntry};
+    ghost use Rattle.njh_table.specs.declared.new_routes.GivenRoute.{GivenRoute};
 
-    ghost Value = { List RouteEntry };
+    ghost Value = { List GivenRoute };
 
     ghost view = { λ list. list.routes.items };
 }
 
-impl RouteList {
+impl GivenRoutes {
     /// A copy of the routes. Out of memory is the only refusal.
-    pub fn of(alloc: Global, routes: &[RouteEntry]) -> Result<RouteList, AllocError>
+    pub fn of(alloc: Global, routes: &[GivenRoute]) -> Result<GivenRoutes, AllocError>
         ensures { IfOk result (λ list. list ≡ routes.now) }
     {
-        Ok(RouteList {
+        Ok(GivenRoutes {
             routes: Vec::from_slice(alloc, routes)?,
         })
     }
 
     /// The routes.
-    pub fn routes(&self) -> &[RouteEntry]
+    pub fn routes(&self) -> &[GivenRoute]
         ensures { result.now ≡ self.now }
     {
         self.routes.as_slice()

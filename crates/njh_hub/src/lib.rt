@@ -27,7 +27,7 @@ pub use event::{Event, Piece, SHORT_PIECE};
 pub use fault::{Cause, HubFault, RunFault};
 pub use file_summary::FileSummaryView;
 pub use file_view::{FileRecord, FileView};
-pub use given_routes::RouteList;
+pub use given_routes::GivenRoutes;
 pub use headline::{outcome, two_runs};
 pub use hub::Hub;
 pub use laws::{

@@ -77,7 +77,7 @@ impl Hub {
             Event::Tick(line) => self.run_signal(*line, Signal::Tick, out, sink),
             Event::Garbled(line) => self.run_signal(*line, Signal::Garbled, out, sink),
             Event::Lost(line) => self.run_signal(*line, Signal::Lost, out, sink),
-            Event::Routes(customer, routes) => match self.retable(*customer, routes.routes()) {
+            Event::Routes(customer, routes) => match self.set_routes(*customer, routes.routes()) {
                 Ok(()) => Ok(()),
                 Err(fault) => Err(RunFault {
                     events: 0,

@@ -1,7 +1,7 @@
 //! A service: rounds of turns, with an attendant between them.
 
 ghost use Rattle.std.specs.Prelude.{◌≡◌, ℕ, List, length, Option, All};
-ghost use Rattle.njh_table.specs.declared.new_routes.RouteEntry.{RouteEntry};
+ghost use Rattle.njh_table.specs.declared.new_routes.GivenRoute.{GivenRoute};
 ghost use Rattle.njh_hub.specs.Service.{IsAttended, IsGiven};
 ghost use Rattle.njh_hub.specs.WholeHub.{HasLine, SameLines};
 
@@ -13,7 +13,7 @@ use crate::wire::Wire;
 /// So many rounds of a hub's wires, in each of which those are visited that the attendant calls due. Before each the
 /// attendant comes, and a customer is given new routes where it brings some; after each it comes again.
 ///
-/// Routes that `Hub::retable` refuses change nothing; the attendant is told. What fails on a wire loses its own line
+/// Routes that `Hub::set_routes` refuses change nothing; the attendant is told. What fails on a wire loses its own line
 /// and no other.
 pub fn attend<W: Wire, A: Attendant<W>>(
     hub: &mut Hub,
@@ -39,7 +39,7 @@ pub fn attend<W: Wire, A: Attendant<W>>(
 
 /// Gives a customer new routes, where the attendant brings some.
 fn give_routes<W: Wire, A: Attendant<W>>(hub: &mut Hub, attendant: &mut A)
-    ensures given { (given : Option (ℕ × List RouteEntry)) × IsGiven hub.old given hub.new }
+    ensures given { (given : Option (ℕ × List GivenRoute)) × IsGiven hub.old given hub.new }
     ensures lines { SameLines hub.old hub.new }
 {
     match attendant.new_routes() {
@@ -50,9 +50,9 @@ fn give_routes<W: Wire, A: Attendant<W>>(hub: &mut Hub, attendant: &mut A)
 
 /// Gives a customer these routes, and tells the attendant what came of that.
 fn give<W: Wire, A: Attendant<W>>(hub: &mut Hub, attendant: &mut A, new: &NewRoutes)
-    ensures given { (given : Option (ℕ × List RouteEntry)) × IsGiven hub.old given hub.new }
+    ensures given { (given : Option (ℕ × List GivenRoute)) × IsGiven hub.old given hub.new }
     ensures lines { SameLines hub.old hub.new }
 {
-    let answer = hub.retable(new.customer, new.routes.routes());
+    let answer = hub.set_routes(new.customer, new.routes.routes());
     attendant.routes_given(new.customer, answer);
 }

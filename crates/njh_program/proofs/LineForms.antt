@@ -17,7 +17,7 @@ use Rattle.njh_hub.specs.declared.event.Event.{Event}
 use Rattle.njh_hub.specs.declared.event.Event.TheVariants.{Bytes, Tick, Garbled, Lost, Routes}
 use Rattle.njh_hub.specs.OwnEvents.{line_of_event}
 use Rattle.njh_program.specs.Script.{words_of, event_of_words, event_on_line, bytes_on, piece_of, some_bytes, signal_of}
-use Rattle.njh_program.specs.ScriptRoutes.{routes_event, IsNamedIn}
+use Rattle.njh_program.specs.ScriptRoutes.{event_of_routes, IsNamedIn}
 use Rattle.njh_program.proofs.Parting.{parts-first, parts-none, parts-some, parts-whole}
 
 abbrev pub is_blank : ℕ → Bool
@@ -62,10 +62,10 @@ event_of_words-one tables line whole =
 -- `ROUTES` and other words
 pub event_of_words-routes : (tables : TableFile) (line : List ℕ) (word rest : Bor (List ℕ))
     → IsSplitOnceResult 32 line (Some (word, rest)) → bytes_eq word.now (codes "ROUTES") ≡ true
-    → event_of_words tables (words_of line) ≡ routes_event tables (words_of rest.now)
+    → event_of_words tables (words_of line) ≡ event_of_routes tables (words_of rest.now)
 event_of_words-routes tables line word rest split same =
     ap (event_of_words tables) (parts-first 32 line word rest (lit< tt) split).0
-    ∙ ap (λ test. cond test (routes_event tables (words_of rest.now)) (event_on_line (line_named tables) (word.now ∷ words_of rest.now))) same
+    ∙ ap (λ test. cond test (event_of_routes tables (words_of rest.now)) (event_on_line (line_named tables) (word.now ∷ words_of rest.now))) same
 
 -- any other word
 pub event_of_words-other : (tables : TableFile) (line : List ℕ) (word rest : Bor (List ℕ))
@@ -73,7 +73,7 @@ pub event_of_words-other : (tables : TableFile) (line : List ℕ) (word rest : B
     → event_of_words tables (words_of line) ≡ event_on_line (line_named tables) (word.now ∷ words_of rest.now)
 event_of_words-other tables line word rest split other =
     ap (event_of_words tables) (parts-first 32 line word rest (lit< tt) split).0
-    ∙ ap (λ test. cond test (routes_event tables (words_of rest.now)) (event_on_line (line_named tables) (word.now ∷ words_of rest.now))) other
+    ∙ ap (λ test. cond test (event_of_routes tables (words_of rest.now)) (event_on_line (line_named tables) (word.now ∷ words_of rest.now))) other
 
 -- the event of a word and the name of a line
 pub event_on_line-two : (names : List ℕ → Option LineId) (word name : List ℕ) → IsSplitOnceResult 32 name None

@@ -9,7 +9,7 @@ use Rattle.njh_table.specs.declared.LineId.{LineId}
 use Rattle.njh_table.specs.declared.fault.TableFault.{TableFault}
 use Rattle.njh_table.specs.Entries.{CustomerEntry}
 use Rattle.njh_table.specs.Marks.{entry_unmarked}
-use Rattle.njh_table.specs.NewRoutes.{own_routes, routes_checked}
+use Rattle.njh_table.specs.NewRoutes.{new_routes_of, routes_checked}
 use Rattle.njh_table.specs.TableFile.{TableFile, NamedCustomer, NamedLine, no_customer, customer_at, entry_of, HasLine}
 use Rattle.njh_hub.specs.declared.event.Event.{Event}
 use Rattle.njh_hub.specs.declared.event.Event.TheVariants.{Bytes, Tick, Garbled, Lost, Routes}
@@ -63,7 +63,7 @@ opened_named t (Routes c routes) named =
     let within : c < length (map part_at_open (entries_of t)) = omega (arith, named.0, parts) in
     let entry : (hub.part c (map part_at_open (entries_of t))).customer.entry ≡ entry_unmarked (entry_of (customer_at t c)) =
     ap (λ (p : Part). p.customer.entry) (opened_part t c) in
-    (within, ap (λ (e : CustomerEntry). routes_checked e (own_routes c routes)) entry ∙ named.1)
+    (within, ap (λ (e : CustomerEntry). routes_checked e (new_routes_of c routes)) entry ∙ named.1)
 
 -- so do all events of a script
 pub all_named : (t : TableFile) (parts : List Part) (events : List Event) → parts ≡ map part_at_open (entries_of t)

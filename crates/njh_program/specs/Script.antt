@@ -10,7 +10,7 @@ use Rattle.njh_table.specs.declared.LineId.{LineId}
 use Rattle.njh_table.specs.TableFile.{TableFile, line_named}
 use Rattle.njh_hub.specs.declared.event.Event.{Event}
 use Rattle.njh_hub.specs.declared.event.Event.TheVariants.{Bytes, Tick, Garbled, Lost}
-use Rattle.njh_program.specs.ScriptRoutes.{routes_event}
+use Rattle.njh_program.specs.ScriptRoutes.{event_of_routes}
 
 -- the lines of a text, each ended by the byte 0A, the last by that or by the text's end
 abbrev pub lines_of : List ℕ → List (List ℕ)
@@ -58,7 +58,7 @@ event_on_line names words = None
 abbrev pub event_of_words : TableFile → List (List ℕ) → Option Event
 event_of_words tables [] = None
 event_of_words tables (word ∷ words) =
-    if bytes_eq word (codes "ROUTES") then routes_event tables words else event_on_line (line_named tables) (word ∷ words)
+    if bytes_eq word (codes "ROUTES") then event_of_routes tables words else event_on_line (line_named tables) (word ∷ words)
 
 -- the event of a line, which is UTF-8
 unfoldable pub script_event : TableFile → List ℕ → Option Event

@@ -9,7 +9,7 @@ ghost use Rattle.njh_program.specs.ScriptRoutes.{IsNamedIn};
 ghost use Rattle.njh_program.specs.code.LineStarts.{Begins, IsStart};
 
 use crate::line_starts::Start;
-use crate::script_routes::routes_event;
+use crate::script_routes::event_of_routes;
 use hex::FromHexError;
 use njh_hub::{Event, Piece, SHORT_PIECE};
 use njh_table::{LineId, Tables};
@@ -78,7 +78,7 @@ fn event_of_text(alloc: Global, tables: &Tables, line: &str) -> Result<Option<Ev
         return Ok(None);
     };
     if word == "ROUTES" {
-        return routes_event(alloc, tables, rest);
+        return event_of_routes(alloc, tables, rest);
     }
     event_on_line(alloc, tables, word, rest)
 }

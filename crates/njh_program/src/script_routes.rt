@@ -6,21 +6,21 @@ ghost use Rattle.njh_program.specs.code.FirstLines.{parts_behind};
 ghost use Rattle.njh_program.specs.Script.{words_of};
 ghost use Rattle.njh_program.specs.ScriptRoutes.{customer_named, parts_of_pair, routes_for, route_of_pair, route_by};
 ghost use Rattle.njh_program.specs.ScriptRoutes.{route_by_lines};
-ghost use Rattle.njh_program.specs.ScriptRoutes.{routes_event, routes_of_pairs, second_by, IsNamedIn};
+ghost use Rattle.njh_program.specs.ScriptRoutes.{event_of_routes, routes_of_pairs, second_by, IsNamedIn};
 
 use njh_ebcdic::Name;
-use njh_hub::{Event, RouteList};
-use njh_table::{Customer, LineId, RouteEntry, Tables};
+use njh_hub::{Event, GivenRoutes};
+use njh_table::{Customer, LineId, GivenRoute, Tables};
 use std::alloc::{AllocError, Global};
 
 /// The event of the words behind `ROUTES`, if they have one: a customer's name and then a pair for each route, which
 /// the customer may have all together. Out of memory is the only refusal.
-pub fn routes_event(
+pub fn event_of_routes(
     alloc: Global,
     tables: &Tables,
     words: &str,
 ) -> Result<Option<Event>, AllocError>
-    ensures event { IfOk result (λ event. event ≡ routes_event tables.now (words_of words.now)) }
+    ensures event { IfOk result (λ event. event ≡ event_of_routes tables.now (words_of words.now)) }
     ensures named { IfOk result (λ event. IfSome event (IsNamedIn tables.now)) }
 {
     let (name, pairs) = first_part(words, ' ');
@@ -38,14 +38,14 @@ fn routes_for(
     alloc: Global,
     tables: &Tables,
     customer: u16,
-    routes: &[RouteEntry],
+    routes: &[GivenRoute],
 ) -> Result<Option<Event>, AllocError>
     requires { customer < length tables.now.customers }
     ensures event { IfOk result (λ event. event ≡ routes_for tables.now customer routes.now) }
     ensures named { IfOk result (λ event. IfSome event (IsNamedIn tables.now)) }
 {
     match tables.check_routes(customer, routes) {
-        Ok(()) => Ok(Some(Event::Routes(customer, RouteList::of(alloc, routes)?))),
+        Ok(()) => Ok(Some(Event::Routes(customer, GivenRoutes::of(alloc, routes)?))),
         Err(_) => Ok(None),
     }
 }
@@ -81,7 +81,7 @@ fn routes_of_pairs(
     alloc: Global,
     tables: &Tables,
     pairs: Option<&str>,
-) -> Result<Option<Vec<RouteEntry>>, AllocError>
+) -> Result<Option<Vec<GivenRoute>>, AllocError>
     ensures { IfOk result (λ routes. option_map (λ r. r.items) routes ≡ routes_of_pairs tables.now (parts_behind 32 pairs.entry)) }
 {
     let mut routes = Vec::new(alloc);
@@ -99,7 +99,7 @@ fn routes_of_pairs(
 
 /// The route of a pair: a node, a colon and the name of a line, and another colon and the name of a second line where
 /// it has one.
-fn route_of_pair(tables: &Tables, pair: &str) -> Option<RouteEntry>
+fn route_of_pair(tables: &Tables, pair: &str) -> Option<GivenRoute>
     ensures { result ≡ route_of_pair tables.now pair.now }
 {
     let (node, lines) = first_part(pair, ':');
@@ -107,7 +107,7 @@ fn route_of_pair(tables: &Tables, pair: &str) -> Option<RouteEntry>
 }
 
 /// The route of a node and of the names of its lines: one, or two with a colon between them.
-fn route_by_lines(tables: &Tables, node: &str, lines: &str) -> Option<RouteEntry>
+fn route_by_lines(tables: &Tables, node: &str, lines: &str) -> Option<GivenRoute>
     ensures { result ≡ route_by_lines tables.now node.now (parts_of_pair lines.now) }
 {
     let (line, behind) = first_part(lines, ':');
@@ -121,13 +121,13 @@ fn route_by_lines(tables: &Tables, node: &str, lines: &str) -> Option<RouteEntry
 }
 
 /// The route of a node and the names of its lines, whoever's lines these are.
-fn route_by(tables: &Tables, node: &str, line: &str, second: Option<&str>) -> Option<RouteEntry>
+fn route_by(tables: &Tables, node: &str, line: &str, second: Option<&str>) -> Option<GivenRoute>
     ensures { result ≡ route_by tables.now node.now line.now (option_map (λ name. name.now) second.entry) }
 {
     let node = Name::of_text(node).ok()?;
     let id = tables.line_owner(line)?;
     let second = second_by(tables, second)?;
-    Some(RouteEntry { node, line: id, second })
+    Some(GivenRoute { node, line: id, second })
 }
 
 /// The second line of a route by its name, whoever's it is; none where no name is given.

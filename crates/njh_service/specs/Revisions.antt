@@ -1,6 +1,6 @@
 -- What tables may change while a hub runs: the routes of its customers, and nothing else.
 use Rattle.std.specs.Prelude.{◌≡◌, ℕ, false, List, [], map, Option, Some, None, option_map, IfSome}
-use Rattle.njh_table.specs.declared.new_routes.RouteEntry.{RouteEntry as GivenRoute}
+use Rattle.njh_table.specs.declared.new_routes.GivenRoute.{GivenRoute}
 use Rattle.njh_table.specs.Entries.{RouteEntry}
 use Rattle.njh_table.specs.TableFile.{NamedLine, NamedCustomer, TableFile}
 

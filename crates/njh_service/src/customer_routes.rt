@@ -5,18 +5,18 @@ ghost use Rattle.njh_table.specs.TableFile.{customer_at, route_entry};
 ghost use Rattle.njh_service.specs.Revisions.{given_route, given_routes};
 
 use njh_ebcdic::Name;
-use njh_hub::RouteList;
-use njh_table::{Customer, LineId, RouteEntry, RouteLines, Tables};
+use njh_hub::GivenRoutes;
+use njh_table::{Customer, LineId, GivenRoute, RouteLines, Tables};
 use std::alloc::{AllocError, Global};
 
 /// The routes of a customer, all of them and in their order, each by the customer's own lines. Out of memory is the
 /// only refusal.
-pub fn routes_of(alloc: Global, tables: &Tables, customer: u16) -> Result<RouteList, AllocError>
+pub fn routes_of(alloc: Global, tables: &Tables, customer: u16) -> Result<GivenRoutes, AllocError>
     requires { customer < length tables.now.customers }
     ensures { IfOk result (λ routes. routes ≡ given_routes customer (customer_at tables.now customer).routes) }
 {
     let routes = each_route(alloc, customer, tables.customer(customer))?;
-    RouteList::of(alloc, &routes)
+    GivenRoutes::of(alloc, &routes)
 }
 
 /// The routes of the customer of a number.
@@ -24,7 +24,7 @@ fn each_route(
     alloc: Global,
     number: u16,
     customer: &Customer,
-) -> Result<Vec<RouteEntry>, AllocError>
+) -> Result<Vec<GivenRoute>, AllocError>
     ensures { IfOk result (λ routes. routes.items ≡ given_routes number customer.now.routes) }
 {
     let mut routes = Vec::new(alloc);
@@ -35,7 +35,7 @@ fn each_route(
 }
 
 /// A route of the customer of a number.
-fn route_at(number: u16, customer: &Customer, place: usize) -> RouteEntry
+fn route_at(number: u16, customer: &Customer, place: usize) -> GivenRoute
     requires { place < length customer.now.routes }
     ensures { slice_get (given_routes number customer.now.routes) place ≡ Some result }
 {
@@ -44,10 +44,10 @@ fn route_at(number: u16, customer: &Customer, place: usize) -> RouteEntry
 }
 
 /// A route by lines of the customer of a number.
-fn given_route(number: u16, node: Name, lines: RouteLines) -> RouteEntry
+fn given_route(number: u16, node: Name, lines: RouteLines) -> GivenRoute
     ensures { result ≡ given_route number (route_entry (node, lines)) }
 {
-    RouteEntry {
+    GivenRoute {
         node,
         line: own_line(number, lines.line),
         second: lines.second.map(|line| own_line(number, line)),

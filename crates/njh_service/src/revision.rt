@@ -8,7 +8,7 @@ use crate::customer_routes::{have_other_routes, routes_of};
 use crate::difference::{Difference, difference_of};
 use crate::table_source::{NoSource, TableSource};
 use njh_ebcdic::Name;
-use njh_hub::{HubFault, NewRoutes, RouteList};
+use njh_hub::{HubFault, NewRoutes, GivenRoutes};
 use njh_table::Tables;
 use std::alloc::{AllocError, Global};
 use std::fmt;
@@ -187,7 +187,7 @@ fn routes_in(
     alloc: Global,
     tables: &Option<Tables>,
     customer: u16,
-) -> Option<Result<RouteList, AllocError>>
+) -> Option<Result<GivenRoutes, AllocError>>
     ensures { IfSome result (λ given. IfOk given (λ routes. IfSome tables.now (λ tables.
         routes ≡ given_routes customer (customer_at tables customer).routes))) }
 {

@@ -8,16 +8,16 @@ use Rattle.std.proofs.lemmas.List.Elements.{All-set, All-nil, All-cons, All-get_
 use Rattle.std.proofs.lemmas.Simd.{map-map}
 use Rattle.std.proofs.lemmas.Slice.Eq.{bytes_eq-Decides}
 use Rattle.njh_table.specs.declared.LineId.{LineId}
-use Rattle.njh_table.specs.declared.new_routes.RouteEntry.{RouteEntry as GivenRoute}
+use Rattle.njh_table.specs.declared.new_routes.GivenRoute.{GivenRoute}
 use Rattle.njh_table.specs.declared.fault.TableFault.{TableFault}
 use Rattle.njh_table.specs.declared.fault.TableFault.TheVariants.{BadValue, DoubleNode, UnknownLine, TooMany}
 use Rattle.njh_table.specs.declared.limits.TheConstants.{MAX_ROUTES}
 use Rattle.njh_table.specs.Accepted.{AreDistinct, IsRoute, IsCustomer, IsAccepted}
 use Rattle.njh_table.specs.Entries.{RouteEntry, lines_to}
 use Rattle.njh_table.specs.Keys.{Walked, ◌>>◌, fault_where}
-use Rattle.njh_table.specs.NewRoutes.{NewRoute, Again, own_number, own_or_foreign, other_second, own_second, own_route, own_routes, repeats, is_again, is_own}
+use Rattle.njh_table.specs.NewRoutes.{NewRoute, Again, own_number, own_or_foreign, other_second, own_second, own_route, new_routes_of, repeats, is_again, is_own}
 use Rattle.njh_table.specs.NewRoutes.{may_be_second, route_checked, checked_from, routes_checked, given_lines, number_or, taken_second, taken_route}
-use Rattle.njh_table.specs.NewRoutes.{taken_routes, with_routes}
+use Rattle.njh_table.specs.NewRoutes.{entries_of_routes, with_routes}
 use Rattle.njh_table.specs.TableFile.{NamedCustomer, TableFile, customer_at, entry_of, no_customer, route_entry}
 use Rattle.njh_table.proofs.Distinct.{distinct_push}
 use Rattle.njh_table.proofs.Replaced.{accepted_again, reads_alike, same_line_names}
@@ -137,8 +137,8 @@ second-taken lines c id (Some second) first once may =
     by false other n is once may = told n is other may
 
 -- what is taken of routes of lines that are all the customer's
-pub taken-given : (lines c : ℕ) (taken : List (List ℕ)) (routes : List GivenRoute) → checked_from lines taken (own_routes c routes) ≡ Ok tt
-    → (taken_routes (own_routes c routes) ≡ map as_given routes) × All (IsRoute lines) (map as_given routes)
+pub taken-given : (lines c : ℕ) (taken : List (List ℕ)) (routes : List GivenRoute) → checked_from lines taken (new_routes_of c routes) ≡ Ok tt
+    → (entries_of_routes (new_routes_of c routes) ≡ map as_given routes) × All (IsRoute lines) (map as_given routes)
 taken-given lines c taken [] e = (refl, All-nil (IsRoute lines))
 taken-given lines c taken (r ∷ routes) e =
     let (this, rest) = both_ok (route_checked lines taken (own_route c r)) _ tt e in
@@ -188,23 +188,23 @@ alone hub = λ i j d below within. absurd (omega (arith, below, within))
 
 -- the nodes of routes that were checked differ from each other
 pub checked-distinct : (t : TableFile) (c : ℕ) (routes : List GivenRoute)
-    → routes_checked (entry_of (customer_at t c)) (own_routes c routes) ≡ Ok tt → AreDistinct (map (λ r. r.node) routes)
+    → routes_checked (entry_of (customer_at t c)) (new_routes_of c routes) ≡ Ok tt → AreDistinct (map (λ r. r.node) routes)
 checked-distinct t c routes e =
     let entry = entry_of (customer_at t c) in
-    let (few, rest) = passed (nat_lt MAX_ROUTES (length (own_routes c routes))) TooMany _ tt e in
-    let nodes : AreDistinct (entry.hub ∷ map (λ r. r.node) (own_routes c routes)) =
-    distinct (length entry.lines) (entry.hub ∷ []) (own_routes c routes) (alone entry.hub) rest in
+    let (few, rest) = passed (nat_lt MAX_ROUTES (length (new_routes_of c routes))) TooMany _ tt e in
+    let nodes : AreDistinct (entry.hub ∷ map (λ r. r.node) (new_routes_of c routes)) =
+    distinct (length entry.lines) (entry.hub ∷ []) (new_routes_of c routes) (alone entry.hub) rest in
     let given = subst (λ ns. AreDistinct (entry.hub ∷ ns)) (map-map (λ (r : NewRoute). r.node) (own_route c) routes) nodes in
     λ i j d below within. given (suc i) (suc j) d (omega (arith, below)) (omega (arith, within))
 
 pub checked-given : (t : TableFile) (c : ℕ) (routes : List GivenRoute)
-    → routes_checked (entry_of (customer_at t c)) (own_routes c routes) ≡ Ok tt
-    → (taken_routes (own_routes c routes) ≡ map as_given routes)
+    → routes_checked (entry_of (customer_at t c)) (new_routes_of c routes) ≡ Ok tt
+    → (entries_of_routes (new_routes_of c routes) ≡ map as_given routes)
     × All (IsRoute (length (entry_of (customer_at t c)).lines)) (map as_given routes)
 checked-given t c routes e =
     let entry = entry_of (customer_at t c) in
     taken-given (length entry.lines) c (entry.hub ∷ []) routes
-    (passed (nat_lt MAX_ROUTES (length (own_routes c routes))) TooMany _ tt e).1
+    (passed (nat_lt MAX_ROUTES (length (new_routes_of c routes))) TooMany _ tt e).1
 
 -- ---- the tables with them
 
@@ -212,11 +212,11 @@ entry_lines : (c : NamedCustomer) → length (entry_of c).lines ≡ length c.lin
 entry_lines c = length-map c.lines (λ l. l.entry)
 
 with_routes-is : (t : TableFile) (c : ℕ) (routes : List GivenRoute) → IsCustomer (customer_at t c)
-    → routes_checked (entry_of (customer_at t c)) (own_routes c routes) ≡ Ok tt
-    → IsCustomer (record (customer_at t c) { routes = taken_routes (own_routes c routes) })
+    → routes_checked (entry_of (customer_at t c)) (new_routes_of c routes) ≡ Ok tt
+    → IsCustomer (record (customer_at t c) { routes = entries_of_routes (new_routes_of c routes) })
 with_routes-is t c given was e =
     let customer = customer_at t c in
-    let routes = own_routes c given in
+    let routes = new_routes_of c given in
     let (few, rest) = passed (nat_lt MAX_ROUTES (length routes)) TooMany _ tt e in
     let (same, each) = checked-given t c given e in
     record {
@@ -231,10 +231,10 @@ with_routes-is t c given was e =
     }
 
 pub still_accepted : (t : TableFile) (c : ℕ) (routes : List GivenRoute) → IsAccepted t → c < length t.customers
-    → routes_checked (entry_of (customer_at t c)) (own_routes c routes) ≡ Ok tt → IsAccepted (with_routes c (own_routes c routes) t)
+    → routes_checked (entry_of (customer_at t c)) (new_routes_of c routes) ≡ Ok tt → IsAccepted (with_routes c (new_routes_of c routes) t)
 still_accepted t c routes accepted there e =
     let was : IsCustomer (customer_at t c) = All-get_or IsCustomer t.customers c no_customer there accepted.each in
-    let now : NamedCustomer = record (customer_at t c) { routes = taken_routes (own_routes c routes) } in
+    let now : NamedCustomer = record (customer_at t c) { routes = entries_of_routes (new_routes_of c routes) } in
     accepted_again t (set t.customers c now)
     (reads_alike (λ (c : NamedCustomer). c.name) t.customers c now no_customer refl)
     (reads_alike (λ (c : NamedCustomer). c.quota) t.customers c now no_customer refl)

@@ -6,7 +6,7 @@ use Rattle.std.specs.List.{list_any}
 use Rattle.njh_table.specs.declared.LineId.{LineId}
 use Rattle.njh_table.specs.declared.fault.TableFault.TheVariants.{BadValue, DoubleNode, UnknownLine, TooMany}
 use Rattle.njh_table.specs.declared.limits.TheConstants.{MAX_ROUTES}
-use Rattle.njh_table.specs.declared.new_routes.RouteEntry.{RouteEntry as GivenRoute}
+use Rattle.njh_table.specs.declared.new_routes.GivenRoute.{GivenRoute}
 use Rattle.njh_table.specs.declared.routes.RouteLines.{RouteLines}
 use Rattle.njh_table.specs.Entries.{RouteEntry, CustomerEntry}
 use Rattle.njh_table.specs.Keys.{Walked, ◌>>◌, fault_where}
@@ -49,8 +49,8 @@ own_second c id second = cond (repeats id second) Again (other_second c second)
 abbrev pub own_route : ℕ → GivenRoute → NewRoute
 own_route c r = record { node = r.node; line = own_number c r.line; second = own_second c r.line r.second }
 
-abbrev pub own_routes : ℕ → List GivenRoute → List NewRoute
-own_routes c routes = map (own_route c) routes
+abbrev pub new_routes_of : ℕ → List GivenRoute → List NewRoute
+new_routes_of c routes = map (own_route c) routes
 
 -- ---- the first fault
 
@@ -110,10 +110,10 @@ taken_second Foreign = None
 abbrev pub taken_route : NewRoute → RouteEntry
 taken_route r = record { node = r.node; line = number_or r.line; second = taken_second r.second }
 
-abbrev pub taken_routes : List NewRoute → List RouteEntry
-taken_routes routes = map taken_route routes
+abbrev pub entries_of_routes : List NewRoute → List RouteEntry
+entries_of_routes routes = map taken_route routes
 
 -- the customer of a number has these routes alone, and nothing else is changed
 abbrev pub with_routes : ℕ → List NewRoute → TableFile → TableFile
 with_routes c routes t =
-    record t { customers = slice_set t.customers c (record (customer_at t c) { routes = taken_routes routes }) }
+    record t { customers = slice_set t.customers c (record (customer_at t c) { routes = entries_of_routes routes }) }

@@ -6,7 +6,7 @@ ghost use Rattle.std.specs.List.{list_any};
 ghost use Rattle.njh_table.specs.Accepted.{AreDistinct};
 ghost use Rattle.njh_table.specs.NewRoutes.{checked_from, given_lines, is_own, may_be_second, other_second, own_number};
 ghost use Rattle.njh_table.specs.NewRoutes.{own_route};
-ghost use Rattle.njh_table.specs.NewRoutes.{own_routes, repeats, route_checked};
+ghost use Rattle.njh_table.specs.NewRoutes.{new_routes_of, repeats, route_checked};
 ghost use Rattle.njh_table.specs.TableFile.{no_customer, route_entry};
 
 use crate::LineId;
@@ -19,7 +19,7 @@ use njh_ebcdic::Name;
 
 /// A route that a customer is given: a node, and the lines that lead to it.
 #[derive(Clone, Copy, Debug, PartialEq, Eq)]
-pub struct RouteEntry {
+pub struct GivenRoute {
     /// The node.
     pub node: Name,
     /// The line, which has to be the customer's own.
@@ -37,9 +37,9 @@ impl Tables {
     /// then, from the left and at each route in this order, `BadValue` where its second line is its line, `DoubleNode`
     /// where an earlier one has its node or that is the hub's own name, and `UnknownLine` where its line, and then
     /// where its second line, isn't the customer's. Takes no memory.
-    pub fn check_routes(&self, customer: u16, routes: &[RouteEntry]) -> Result<(), TableFault>
+    pub fn check_routes(&self, customer: u16, routes: &[GivenRoute]) -> Result<(), TableFault>
         requires { customer < length self.now.customers }
-        ensures { result ≡ routes_checked (entry_of (customer_at self.now customer)) (own_routes customer routes.now) }
+        ensures { result ≡ routes_checked (entry_of (customer_at self.now customer)) (new_routes_of customer routes.now) }
     {
         if routes.len() > MAX_ROUTES {
             return Err(TableFault::TooMany);
@@ -49,10 +49,10 @@ impl Tables {
 
     /// Gives a customer these routes in place of its own. Want of memory is the only refusal, and then nothing has
     /// changed.
-    pub fn set_routes(&mut self, customer: u16, routes: &[RouteEntry]) -> Result<(), TableFault>
+    pub fn set_routes(&mut self, customer: u16, routes: &[GivenRoute]) -> Result<(), TableFault>
         requires known { customer < length self.old.customers }
-        requires checked { routes_checked (entry_of (customer_at self.old customer)) (own_routes customer routes.now) ≡ Ok tt }
-        ensures routes { OnOk result (self.new ≡ with_routes customer (own_routes customer routes.now) self.old) }
+        requires checked { routes_checked (entry_of (customer_at self.old customer)) (new_routes_of customer routes.now) ≡ Ok tt }
+        ensures routes { OnOk result (self.new ≡ with_routes customer (new_routes_of customer routes.now) self.old) }
         ensures memory { OnErr result ((result ≡ Err TableFault.Memory) × (self.new ≡ self.old)) }
     {
         let new = self.customer(customer).routes.replaced_by(routes)?;
@@ -63,7 +63,7 @@ impl Tables {
 
 impl Routes {
     /// These routes alone.
-    fn replaced_by(&self, routes: &[RouteEntry]) -> Result<Routes, TableFault>
+    fn replaced_by(&self, routes: &[GivenRoute]) -> Result<Routes, TableFault>
         requires { AreDistinct (map (λ r. r.node) routes.now) }
         ensures routes { IfOk result (λ new. new ≡ map (λ r. route_entry (r.node, given_lines r)) routes.now) }
         ensures memory { OnErr result (result ≡ Err TableFault.Memory) }
@@ -77,7 +77,7 @@ impl Routes {
 }
 
 /// The lines of a route by their numbers, whoever's they are.
-fn given_lines(route: &RouteEntry) -> RouteLines
+fn given_lines(route: &GivenRoute) -> RouteLines
     ensures { result ≡ given_lines route.now }
 {
     RouteLines {
@@ -104,8 +104,8 @@ impl Customer {
 }
 
 /// The first fault of a customer's new routes, from the left.
-fn check_each(number: u16, customer: &Customer, routes: &[RouteEntry]) -> Result<(), TableFault>
-    ensures { result ≡ checked_from (length customer.now.lines) (customer.now.hub ∷ []) (own_routes number routes.now) }
+fn check_each(number: u16, customer: &Customer, routes: &[GivenRoute]) -> Result<(), TableFault>
+    ensures { result ≡ checked_from (length customer.now.lines) (customer.now.hub ∷ []) (new_routes_of number routes.now) }
 {
     for index in 0..routes.len() {
         check_one(number, customer, &routes[..index], routes[index])?;
@@ -118,8 +118,8 @@ fn check_each(number: u16, customer: &Customer, routes: &[RouteEntry]) -> Result
 fn check_one(
     number: u16,
     customer: &Customer,
-    before: &[RouteEntry],
-    route: RouteEntry,
+    before: &[GivenRoute],
+    route: GivenRoute,
 ) -> Result<(), TableFault>
     ensures { result
         ≡ route_checked (length customer.now.lines) (customer.now.hub ∷ map (λ r. r.node) before.now) (own_route number route) }
@@ -150,7 +150,7 @@ fn repeats(id: LineId, second: Option<LineId>) -> bool
 }
 
 /// Whether a node is the hub's own name, or that of one of these routes.
-fn is_taken(hub: Name, before: &[RouteEntry], node: Name) -> bool
+fn is_taken(hub: Name, before: &[GivenRoute], node: Name) -> bool
     ensures { result ≡ list_any (bytes_eq node) (hub ∷ map (λ r. r.node) before.now) }
 {
     if node == hub {
@@ -160,13 +160,13 @@ fn is_taken(hub: Name, before: &[RouteEntry], node: Name) -> bool
 }
 
 /// Whether one of these routes is for a node.
-fn have_node(routes: &[RouteEntry], node: Name) -> bool
+fn have_node(routes: &[GivenRoute], node: Name) -> bool
     ensures { result ≡ list_any (λ r. bytes_eq node r.node) routes.now }
 {
     routes.iter().any(|route| is_for(route, node))
 }
 
-fn is_for(route: &RouteEntry, node: Name) -> bool
+fn is_for(route: &GivenRoute, node: Name) -> bool
     ensures { result ≡ bytes_eq node route.now.node }
 {
     node == route.node

@@ -4,8 +4,8 @@ use crate::memory_attendant::{MemoryAttendant, Pause};
 use crate::memory_wire::{MemoryWire, Step};
 use crate::serving::{LINES, attend_twice};
 use njh_ebcdic::Name;
-use njh_hub::{HubFault, NewRoutes, RouteList};
-use njh_table::{LineId, RouteEntry, TableFault};
+use njh_hub::{HubFault, NewRoutes, GivenRoutes};
+use njh_table::{LineId, GivenRoute, TableFault};
 use std::alloc::Global;
 use std::process::Abort;
 use std::test::Fail;
@@ -29,12 +29,12 @@ fn quiet_wire() -> [MemoryWire; 1] {
 /// A route to METZ on a line, for the first customer.
 fn metz_by(alloc: Global, id: LineId) -> Result<NewRoutes, Fail> {
     let node = Name::of_text("METZ")?;
-    let entry = RouteEntry {
+    let entry = GivenRoute {
         node,
         line: id,
         second: None,
     };
-    let routes = RouteList::of(alloc, &[entry])?;
+    let routes = GivenRoutes::of(alloc, &[entry])?;
     Ok(NewRoutes {
         customer: 0,
         routes,

@@ -4,7 +4,7 @@ use crate::steps::{of_hub, open};
 use njh_ebcdic::Name;
 use njh_hub::{Hub, HubFault};
 use njh_program::Failure;
-use njh_table::{LineId, RouteEntry, Tables};
+use njh_table::{LineId, GivenRoute, Tables};
 use std::fs;
 use std::rt::Files;
 
@@ -24,44 +24,44 @@ const B1: LineId = LineId {
 };
 
 /// A route to a node by a line, and by a second one if there is one.
-pub fn route_by(node: &str, id: LineId, second: Option<LineId>) -> Result<RouteEntry, Failure> {
+pub fn route_by(node: &str, id: LineId, second: Option<LineId>) -> Result<GivenRoute, Failure> {
     match Name::of_text(node) {
-        Ok(node) => Ok(RouteEntry { node, line: id, second }),
+        Ok(node) => Ok(GivenRoute { node, line: id, second }),
         Err(_) => Err(of_hub(HubFault::UnknownCustomer)),
     }
 }
 
 /// What comes of routes for a customer.
-fn retable<R: Print>(
+fn set_routes<R: Print>(
     rt: &R,
     hub: &mut Hub,
     customer: u16,
-    routes: &[RouteEntry],
+    routes: &[GivenRoute],
 ) -> Result<(), Failure> {
-    match hub.retable(customer, routes) {
+    match hub.set_routes(customer, routes) {
         Ok(()) => println!(rt; "routes: taken")?,
         Err(fault) => println!(rt; "routes: {fault}")?,
     }
     Ok(())
 }
 
-fn retable_each<R: Print>(rt: &R, hub: &mut Hub) -> Result<(), Failure> {
+fn set_each_routes<R: Print>(rt: &R, hub: &mut Hub) -> Result<(), Failure> {
     let lyon = route_by("LYON", A1, None)?;
-    retable(rt, hub, 0, &[route_by("LYON", B1, None)?])?;
-    retable(rt, hub, 0, &[lyon, lyon])?;
-    retable(rt, hub, 0, &[route_by("BUREAU", A1, None)?])?;
-    retable(rt, hub, 0, &[lyon; 513])?;
-    retable(rt, hub, 9, &[lyon])?;
-    retable(rt, hub, 0, &[lyon])?;
-    retable(rt, hub, 0, &[route_by("BUREAU", B1, Some(B1))?])?;
-    retable(rt, hub, 0, &[route_by("BUREAU", A1, Some(B1))?])?;
-    retable(rt, hub, 0, &[route_by("LYON", A1, Some(B1))?])?;
-    retable(rt, hub, 0, &[route_by("LYON", A1, Some(A2))?])
+    set_routes(rt, hub, 0, &[route_by("LYON", B1, None)?])?;
+    set_routes(rt, hub, 0, &[lyon, lyon])?;
+    set_routes(rt, hub, 0, &[route_by("BUREAU", A1, None)?])?;
+    set_routes(rt, hub, 0, &[lyon; 513])?;
+    set_routes(rt, hub, 9, &[lyon])?;
+    set_routes(rt, hub, 0, &[lyon])?;
+    set_routes(rt, hub, 0, &[route_by("BUREAU", B1, Some(B1))?])?;
+    set_routes(rt, hub, 0, &[route_by("BUREAU", A1, Some(B1))?])?;
+    set_routes(rt, hub, 0, &[route_by("LYON", A1, Some(B1))?])?;
+    set_routes(rt, hub, 0, &[route_by("LYON", A1, Some(A2))?])
 }
 
 /// Says which routes are refused.
 pub fn refuse<R: Files + Print + AllocGlobal>(rt: &R) -> Result<(), Failure> {
     let tables = fs::read_to_string(rt, "two_networks.toml")?;
     let mut hub = open(rt.alloc(), Tables::read(rt.alloc(), tables.as_str())?)?;
-    retable_each(rt, &mut hub)
+    set_each_routes(rt, &mut hub)
 }

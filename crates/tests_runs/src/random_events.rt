@@ -4,9 +4,9 @@
 use crate::new_routes::route_by;
 use crate::peers::{Numbers, Peer, bytes_at};
 use crate::steps::bytes_of;
-use njh_hub::{Event, RouteList};
+use njh_hub::{Event, GivenRoutes};
 use njh_program::Failure;
-use njh_table::{LineId, RouteEntry};
+use njh_table::{LineId, GivenRoute};
 use std::alloc::{AllocError, Global};
 use std::fs;
 use std::rt::Files;
@@ -31,8 +31,8 @@ const OTHER_LINES: [(u16, usize); 2] = [(0, 0), (1, 2)];
 pub struct Texts {
     records: Vec<Vec<u8>>,
     sign_ons: Vec<Vec<u8>>,
-    own_routes: [RouteEntry; 5],
-    other_routes: [RouteEntry; 5],
+    own_routes: [GivenRoute; 5],
+    other_routes: [GivenRoute; 5],
 }
 
 impl Texts {
@@ -58,7 +58,7 @@ impl Texts {
     }
 
     /// ACME's route to METZ by its table.
-    pub fn metz(&self) -> RouteEntry {
+    pub fn metz(&self) -> GivenRoute {
         let [_, _, metz, _, _] = self.own_routes;
         metz
     }
@@ -84,7 +84,7 @@ fn route_of(
     node: &str,
     line: u16,
     second: Option<u16>,
-) -> Result<RouteEntry, Failure> {
+) -> Result<GivenRoute, Failure> {
     let second = match second {
         Some(line) => Some(LineId { customer, number: line }),
         None => None,
@@ -114,7 +114,7 @@ fn peers_of<'a>(
 fn give_routes(
     alloc: Global,
     customer: u16,
-    routes: &[RouteEntry],
+    routes: &[GivenRoute],
     numbers: &mut Numbers,
     events: &mut Vec<Event>,
 ) -> Result<(), AllocError> {
@@ -125,7 +125,7 @@ fn give_routes(
         _ => 2,
     };
     let (given, _) = back.split_at(back.len().min(count));
-    Ok(events.push(Event::Routes(customer, RouteList::of(alloc, given)?))?)
+    Ok(events.push(Event::Routes(customer, GivenRoutes::of(alloc, given)?))?)
 }
 
 /// What comes on a customer's lines, and the routes that it is given.
@@ -135,7 +135,7 @@ fn events_of(
     texts: &Texts,
     customer: u16,
     lines: &[(u16, usize)],
-    routes: &[RouteEntry],
+    routes: &[GivenRoute],
 ) -> Result<Vec<Event>, AllocError> {
     let mut peers = peers_of(alloc, texts, customer, lines)?;
     let mut numbers = Numbers::from_seed(seed);

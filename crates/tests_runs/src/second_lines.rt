@@ -6,7 +6,7 @@ use crate::random_runs::{PAIRS, nothing_kept, of_cause};
 use crate::steps::{of_hub, open};
 use njh_hub::{Event, Hub};
 use njh_program::Failure;
-use njh_table::{LineId, RouteEntry, Tables};
+use njh_table::{LineId, GivenRoute, Tables};
 use std::alloc::Global;
 
 /// How a file's line ends while it is being sent: SENDING.
@@ -21,7 +21,7 @@ const FILE_END: [u8; 6] = [0x99, 0x80, 0x00, 0x00, 0x10, 0x26];
 #[derive(Clone, Copy)]
 struct Watch {
     /// The route to METZ, if there is one.
-    metz: Option<RouteEntry>,
+    metz: Option<GivenRoute>,
     /// How many of ACME's files are being sent.
     sending: usize,
     /// The second line on which one is being sent that it asked for.
@@ -36,7 +36,7 @@ struct Watch {
 
 impl Watch {
     /// An event is over: so many files are being sent now, and it sent these bytes on its line, if any.
-    fn see(&mut self, event: &Event, metz: RouteEntry, sending: usize, frame: &[u8]) {
+    fn see(&mut self, event: &Event, metz: GivenRoute, sending: usize, frame: &[u8]) {
         match event {
             Event::Routes(_, routes) => self.see_routes(metz, routes.routes()),
             Event::Bytes(line, _) => self.see_line(*line, sending, frame),
@@ -47,7 +47,7 @@ impl Watch {
         self.sending = sending;
     }
 
-    fn see_routes(&mut self, metz: RouteEntry, routes: &[RouteEntry]) {
+    fn see_routes(&mut self, metz: GivenRoute, routes: &[GivenRoute]) {
         let new = routes.iter().find(|route| route.node == metz.node).copied();
         if self.sending > 0 && new != self.metz {
             self.moved = self.moved.saturating_add(1);

@@ -2,7 +2,7 @@
 
 ghost use Rattle.std.specs.Prelude.{◌≡◌, ◌≢◌, ℕ, ◌<◌, length, slice_set, OnOk, OnErr, Ok, Err};
 ghost use Rattle.njh_customer.specs.NewRoutes.{part_after_routes};
-ghost use Rattle.njh_table.specs.NewRoutes.{own_routes, routes_checked, taken_routes, with_routes};
+ghost use Rattle.njh_table.specs.NewRoutes.{new_routes_of, routes_checked, entries_of_routes, with_routes};
 ghost use Rattle.njh_table.specs.TableFile.{customer_at, entry_of};
 ghost use Rattle.njh_table.specs.declared.fault.TableFault.{TableFault};
 ghost use Rattle.njh_hub.specs.WholeHub.{part, SameLines};
@@ -10,7 +10,7 @@ ghost use Rattle.njh_hub.specs.WholeHub.{part, SameLines};
 use crate::fault::HubFault;
 use crate::hub::Hub;
 use njh_customer::routes_keep_coherent;
-use njh_table::{RouteEntry, Tables};
+use njh_table::{GivenRoute, Tables};
 
 impl Hub {
     /// Gives a customer these routes in place of its own. Its files that are Ready or Refused and whose node has no
@@ -19,45 +19,45 @@ impl Hub {
     /// `UnknownCustomer` comes where the hub has no such customer; then `BadRoutes`, with the first fault in the
     /// routes, by the customer's
     /// own entry alone; then `Memory` where there was none for them. After each nothing has changed.
-    pub fn retable(&mut self, customer: u16, routes: &[RouteEntry]) -> Result<(), HubFault>
+    pub fn set_routes(&mut self, customer: u16, routes: &[GivenRoute]) -> Result<(), HubFault>
         ensures hub { OnOk result (self.new
-            ≡ slice_set self.old customer (part_after_routes (taken_routes (own_routes customer routes.now)) (part customer self.old))) }
+            ≡ slice_set self.old customer (part_after_routes (entries_of_routes (new_routes_of customer routes.now)) (part customer self.old))) }
         ensures others { (c : ℕ) → c ≢ customer → part c self.new ≡ part c self.old }
         ensures lines { SameLines self.old self.new }
         ensures known { OnOk result (customer < length self.old) }
-        ensures checked { OnOk result (routes_checked (part customer self.old).customer.entry (own_routes customer routes.now) ≡ Ok tt) }
+        ensures checked { OnOk result (routes_checked (part customer self.old).customer.entry (new_routes_of customer routes.now) ≡ Ok tt) }
         ensures unknown { ¬ (customer < length self.old) → result ≡ Err HubFault.UnknownCustomer }
         ensures refused { customer < length self.old → (cause : TableFault) →
-            routes_checked (part customer self.old).customer.entry (own_routes customer routes.now) ≡ Err cause →
+            routes_checked (part customer self.old).customer.entry (new_routes_of customer routes.now) ≡ Err cause →
             result ≡ Err (HubFault.BadRoutes cause) }
         ensures memory { customer < length self.old →
-            routes_checked (part customer self.old).customer.entry (own_routes customer routes.now) ≡ Ok tt →
+            routes_checked (part customer self.old).customer.entry (new_routes_of customer routes.now) ≡ Ok tt →
             OnErr result (result ≡ Err HubFault.Memory) }
         ensures err { OnErr result (self.new ≡ self.old) }
     {
         if usize::from(customer) >= self.lines.len() {
             return Err(HubFault::UnknownCustomer);
         }
-        match set_routes(&mut self.tables, customer, routes) {
+        match set_in_tables(&mut self.tables, customer, routes) {
             Ok(()) => {}
             Err(fault) => return Err(fault),
         }
         routes_keep_coherent();
         let lines = &self.lines[usize::from(customer)];
-        lines.take_routes(customer, &self.tables, &mut self.spool);
+        lines.set_routes(customer, &self.tables, &mut self.spool);
         Ok(())
     }
 }
 
 /// The tables have these routes for a customer, if it may have them.
-fn set_routes(tables: &mut Tables, customer: u16, routes: &[RouteEntry]) -> Result<(), HubFault>
+fn set_in_tables(tables: &mut Tables, customer: u16, routes: &[GivenRoute]) -> Result<(), HubFault>
     requires { customer < length tables.old.customers }
-    ensures routes { OnOk result (tables.new ≡ with_routes customer (own_routes customer routes.now) tables.old) }
-    ensures checked { OnOk result (routes_checked (entry_of (customer_at tables.old customer)) (own_routes customer routes.now) ≡ Ok tt) }
+    ensures routes { OnOk result (tables.new ≡ with_routes customer (new_routes_of customer routes.now) tables.old) }
+    ensures checked { OnOk result (routes_checked (entry_of (customer_at tables.old customer)) (new_routes_of customer routes.now) ≡ Ok tt) }
     ensures refused { (cause : TableFault) →
-        routes_checked (entry_of (customer_at tables.old customer)) (own_routes customer routes.now) ≡ Err cause →
+        routes_checked (entry_of (customer_at tables.old customer)) (new_routes_of customer routes.now) ≡ Err cause →
         result ≡ Err (HubFault.BadRoutes cause) }
-    ensures memory { routes_checked (entry_of (customer_at tables.old customer)) (own_routes customer routes.now) ≡ Ok tt →
+    ensures memory { routes_checked (entry_of (customer_at tables.old customer)) (new_routes_of customer routes.now) ≡ Ok tt →
         OnErr result (result ≡ Err HubFault.Memory) }
     ensures err { OnErr result (tables.new ≡ tables.old) }
 {

@@ -2,7 +2,7 @@
 
 use super::*;
 use crate::same::is_same;
-use njh_table::{Customer, LineId, RouteEntry};
+use njh_table::{Customer, LineId, GivenRoute};
 use std::process::Abort;
 use std::test::Fail;
 
@@ -45,7 +45,7 @@ fn number_of(word: Option<&str>) -> Result<u16, Fail> {
     Ok(word.ok_or("a number is missing")?.parse::<u16>()?)
 }
 
-fn route_of(text: &str) -> Result<RouteEntry, Fail> {
+fn route_of(text: &str) -> Result<GivenRoute, Fail> {
     let mut words = text.split(" ");
     let node = name_of(words.next())?;
     let id = line_of(words.next(), words.next())?;
@@ -53,7 +53,7 @@ fn route_of(text: &str) -> Result<RouteEntry, Fail> {
         Some(customer) => Some(line_of(Some(customer), words.next())?),
         None => None,
     };
-    Ok(RouteEntry { node, line: id, second })
+    Ok(GivenRoute { node, line: id, second })
 }
 
 fn line_of(customer: Option<&str>, line: Option<&str>) -> Result<LineId, Fail> {
@@ -62,7 +62,7 @@ fn line_of(customer: Option<&str>, line: Option<&str>) -> Result<LineId, Fail> {
     Ok(LineId { customer, number: line })
 }
 
-fn routes_of(alloc: Global, text: &str) -> Result<Vec<RouteEntry>, Fail> {
+fn routes_of(alloc: Global, text: &str) -> Result<Vec<GivenRoute>, Fail> {
     let mut routes = Vec::new(alloc);
     if text != "-" {
         for route in text.split(", ") {
@@ -73,7 +73,7 @@ fn routes_of(alloc: Global, text: &str) -> Result<Vec<RouteEntry>, Fail> {
 }
 
 /// So many routes by the first customer's first line, each for a node of its own.
-fn many(alloc: Global, count: u32) -> Result<Vec<RouteEntry>, Fail> {
+fn many(alloc: Global, count: u32) -> Result<Vec<GivenRoute>, Fail> {
     let mut routes = Vec::new(alloc);
     for number in 0..count {
         let node = Name::of_text(format!(in alloc; "N{number}")?.as_str())?;
@@ -82,13 +82,13 @@ fn many(alloc: Global, count: u32) -> Result<Vec<RouteEntry>, Fail> {
             number: 0,
         };
         let second = None;
-        routes.push(RouteEntry { node, line: id, second })?;
+        routes.push(GivenRoute { node, line: id, second })?;
     }
     Ok(routes)
 }
 
 /// The first customer is given the routes, if it may have them.
-fn give(tables: &mut Tables, routes: &[RouteEntry]) -> Result<(), TableFault> {
+fn give(tables: &mut Tables, routes: &[GivenRoute]) -> Result<(), TableFault> {
     if tables.customers().is_empty() {
         return Err(TableFault::MissingKey);
     }
@@ -115,7 +115,7 @@ fn text_of(alloc: Global, tables: &Tables) -> Result<String, AllocError> {
 }
 
 /// What comes of routes.
-fn given(alloc: Global, tables: &mut Tables, routes: &[RouteEntry]) -> Result<String, AllocError> {
+fn given(alloc: Global, tables: &mut Tables, routes: &[GivenRoute]) -> Result<String, AllocError> {
     match give(tables, routes) {
         Ok(()) => text_of(alloc, tables),
         Err(TableFault::Memory) => Err(AllocError),
@@ -124,7 +124,7 @@ fn given(alloc: Global, tables: &mut Tables, routes: &[RouteEntry]) -> Result<St
 }
 
 /// What comes of routes, as a text.
-fn outcome_of(alloc: Global, routes: &[RouteEntry]) -> Result<String, Fail> {
+fn outcome_of(alloc: Global, routes: &[GivenRoute]) -> Result<String, Fail> {
     let mut tables = with_a2(alloc)?;
     Ok(given(alloc, &mut tables, routes)?)
 }

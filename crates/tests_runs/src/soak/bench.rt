@@ -161,7 +161,7 @@ impl<'a> Bench<'a> {
                 self.look(peer, answer)
             }
             Event::Routes(customer, routes) => {
-                let answer = self.hub.retable(*customer, routes.routes());
+                let answer = self.hub.set_routes(*customer, routes.routes());
                 self.look(peer, answer)
             }
         }

@@ -9,7 +9,7 @@ pub returns-then-eq-clause-event : goal.returns-then-eq-clause-event
 returns-then-eq-clause-event c =
     let test : bytes_eq c.in-Some.word.now (codes "ROUTES") ≡ true = search rules in
     let same = event_of_words-routes c.args.tables.now c.args.line.now c.in-Some.word c.in-Some.rest c.in-Some.ensures.cases test in
-    rw same c.routes_event.ensures.event
+    rw same c.event_of_routes.ensures.event
 
 pub returns-clause-event : goal.returns-clause-event
 returns-clause-event c =

@@ -1,7 +1,7 @@
 use Rattle.std.proofs.Common.{◌≡◌, ◌+◌, ◌<◌, length, set, slice_set}
 use Rattle.njh_spool.specs.Spools.{spool_at}
 use Rattle.njh_customer.specs.Feeding.{take_step, or_later}
-use Rattle.njh_customer.specs.CustomerSteps.{IsReady, IsRetold, customer_of}
+use Rattle.njh_customer.specs.CustomerSteps.{IsReady, KeepsOtherEntries, customer_of}
 use Rattle.njh_customer.specs.Part.{rest_at}
 use Rattle.njh_customer.proofs.lines.Lines.take_bytes.Given as goal
 
@@ -14,7 +14,7 @@ invariant-loop-out l = record {
       ≡ take_step (rest_at l.id.number l.fn.self.rests) (customer_of l.fn.tables l.id.customer l.fn.spool l.fn.self.lines) l.id.number l.piece;
   rests : l.self.rests ≡ set l.fn.self.rests l.id.number (rest_at l.id.number l.self.rests);
   others : l.spool ≡ slice_set l.fn.spool l.id.customer (spool_at l.id.customer l.spool);
-  entries : IsRetold l.id.customer l.fn.tables l.tables;
+  entries : KeepsOtherEntries l.id.customer l.fn.tables l.tables;
   ready : IsReady l.tables l.id l.spool l.self.lines;
   count : length l.self.lines ≡ length l.fn.self.lines;
   few : l.taken + length l.left ≡ length l.piece;

@@ -2,7 +2,7 @@
 use Rattle.std.proofs.Common.{◌≡◌, ◌<◌, List, length, slice_set, Ok, refl, sym, ap, subst, ◌∙◌}
 use Rattle.njh_table.specs.Accepted.{IsAccepted}
 use Rattle.njh_table.specs.Entries.{RouteEntry}
-use Rattle.njh_table.specs.NewRoutes.{own_routes, taken_routes, routes_checked, with_routes}
+use Rattle.njh_table.specs.NewRoutes.{new_routes_of, entries_of_routes, routes_checked, with_routes}
 use Rattle.njh_table.specs.TableFile.{NamedCustomer, TableFile, customer_at, entry_of, owners_from}
 use Rattle.njh_table.proofs.NewRouteLaws.{checked-distinct, still_accepted, checked-given}
 use Rattle.njh_table.proofs.Replaced.{same_owners}
@@ -16,13 +16,13 @@ replaced_by-requires c = checked-distinct c.args.self.now c.args.customer c.args
 abbrev before : (c : After-give_routes) → TableFile
 before c = record { capacity = c.self.inside.capacity; customers = c.self.inside.customers.items }
 
-checked : (c : After-give_routes) → routes_checked (entry_of (customer_at (before c) c.args.customer)) (own_routes c.args.customer c.args.routes.now) ≡ Ok tt
+checked : (c : After-give_routes) → routes_checked (entry_of (customer_at (before c) c.args.customer)) (new_routes_of c.args.customer c.args.routes.now) ≡ Ok tt
 checked c =
-    subst (λ t. routes_checked (entry_of (customer_at t c.args.customer)) (own_routes c.args.customer c.args.routes.now) ≡ Ok tt)
+    subst (λ t. routes_checked (entry_of (customer_at t c.args.customer)) (new_routes_of c.args.customer c.args.routes.now) ≡ Ok tt)
     (sym c.self.view_is) c.requires.checked
 
 abbrev with_new : (c : After-give_routes) → NamedCustomer
-with_new c = record (customer_at (before c) c.args.customer) { routes = taken_routes (own_routes c.args.customer c.args.routes.now) }
+with_new c = record (customer_at (before c) c.args.customer) { routes = entries_of_routes (new_routes_of c.args.customer c.args.routes.now) }
 
 now_are : (c : After-give_routes) → c.give_routes.new.customers.items ≡ slice_set (before c).customers c.args.customer (with_new c)
 now_are c =
@@ -43,4 +43,4 @@ invariant_of-self c =
 pub returns-clause-routes : goal.returns-clause-routes
 returns-clause-routes c =
     ap (λ customers. record (before c) { customers = customers }) (now_are c)
-    ∙ ap (with_routes c.args.customer (own_routes c.args.customer c.args.routes.now)) c.self.view_is
+    ∙ ap (with_routes c.args.customer (new_routes_of c.args.customer c.args.routes.now)) c.self.view_is

@@ -21,7 +21,7 @@ abbrev pub table_with : ℕ → List RouteEntry → TableFile → TableFile
 table_with c routes table = record table { customers = slice_set table.customers c (record (customer_at table c) { routes = routes }) }
 
 -- The tables have other routes for a customer, and its files have become others.
-pub record Retabled (table : TableFile) (files : List CustomerSpool) (lines : List Lines) (c : ℕ) (routes : List RouteEntry)
+pub record SetsRoutes (table : TableFile) (files : List CustomerSpool) (lines : List Lines) (c : ℕ) (routes : List RouteEntry)
     (new : TableFile) (after : List CustomerSpool) : Type 0 where
   pub hub : IsHub table files lines
   pub there : c < length table.customers
@@ -34,7 +34,7 @@ pub record Retabled (table : TableFile) (files : List CustomerSpool) (lines : Li
 
 -- its part is another
 pub held-new : {table : TableFile} {files : List CustomerSpool} {lines : List Lines} {c : ℕ} {routes : List RouteEntry} {new : TableFile}
-    {after : List CustomerSpool} → Retabled table files lines c routes new after
+    {after : List CustomerSpool} → SetsRoutes table files lines c routes new after
     → part_held new after lines c ≡ part_after_routes routes (part_held table files lines c)
 held-new {table} {files} {lines} {c} {routes} {new} {after} r =
     let now = record (customer_at table c) { routes = routes } in
@@ -42,9 +42,9 @@ held-new {table} {files} {lines} {c} {routes} {new} {after} r =
     ap (λ t. customer_at t c) r.tables ∙ get_or-set_same table.customers c now no_customer r.there in
     r.is ∙ ap (λ x. part_after_routes (entry_of x).routes (part_with (entry_of x) (spools.spool_at c files) (lines_at c lines))) the_customer
 
-pub retabled : {table : TableFile} {files : List CustomerSpool} {lines : List Lines} {c : ℕ} {routes : List RouteEntry} {new : TableFile}
-    {after : List CustomerSpool} → Retabled table files lines c routes new after → Moves table files lines c new after lines
-retabled {table} {files} {lines} {c} {routes} {new} {after} r =
+pub sets_routes : {table : TableFile} {files : List CustomerSpool} {lines : List Lines} {c : ℕ} {routes : List RouteEntry} {new : TableFile}
+    {after : List CustomerSpool} → SetsRoutes table files lines c routes new after → Moves table files lines c new after lines
+sets_routes {table} {files} {lines} {c} {routes} {new} {after} r =
     let now = record (customer_at table c) { routes = routes } in
     record {
       hub = r.hub;
@@ -59,10 +59,10 @@ retabled {table} {files} {lines} {c} {routes} {new} {after} r =
       marked = subst (λ (p : Part). IsMarked p.customer) (sym (held-new r)) (r.hub.marked c r.there);
     }
 
-pub parts-retabled : {table : TableFile} {files : List CustomerSpool} {lines : List Lines} {c : ℕ} {routes : List RouteEntry}
-    {new : TableFile} {after : List CustomerSpool} → Retabled table files lines c routes new after
+pub parts-set_routes : {table : TableFile} {files : List CustomerSpool} {lines : List Lines} {c : ℕ} {routes : List RouteEntry}
+    {new : TableFile} {after : List CustomerSpool} → SetsRoutes table files lines c routes new after
     → parts_of new after lines ≡ set (parts_of table files lines) c (part_after_routes routes (part c (parts_of table files lines)))
-parts-retabled {table} {files} {lines} {c} {routes} {new} {after} r =
+parts-set_routes {table} {files} {lines} {c} {routes} {new} {after} r =
     let old = parts_of table files lines in
-    parts-moved (retabled r)
+    parts-moved (sets_routes r)
     ∙ ap (set old c) (held-new r ∙ ap (part_after_routes routes) (sym (part-there table files lines c r.there)))

@@ -2,7 +2,7 @@ use Rattle.std.proofs.Common.{◌≡◌, ◌<◌, ◌∙◌, List, length, slice
 use Rattle.std.proofs.lemmas.List.{get_or_read}
 use Rattle.njh_spool.specs.Spools as spools
 use Rattle.njh_table.specs.Entries.{RouteEntry}
-use Rattle.njh_table.specs.NewRoutes.{own_routes, routes_checked, taken_routes}
+use Rattle.njh_table.specs.NewRoutes.{new_routes_of, routes_checked, entries_of_routes}
 use Rattle.njh_table.specs.TableFile.{TableFile, customer_at, entry_of}
 use Rattle.njh_customer.specs.NewRoutes.{part_after_routes}
 use Rattle.njh_customer.specs.Part.{Lines, part_with}
@@ -10,57 +10,57 @@ use Rattle.njh_hub.specs.Parts.{lines_at, no_lines, parts_of}
 use Rattle.njh_hub.specs.code.HubInvariant.{IsHub}
 use Rattle.njh_hub.specs.WholeHub.{Part, part}
 use Rattle.njh_hub.proofs.PartsLaws.{customer-known, entry-there, hub-moved, length-parts_of, lines-stay, others-stay}
-use Rattle.njh_hub.proofs.RetableLaws.{Retabled, parts-retabled, retabled}
-use Rattle.njh_hub.proofs.hub.Hub.retable.Goals.{After-take_routes}
-use Rattle.njh_hub.proofs.hub.Hub.retable.Goals as goal
+use Rattle.njh_hub.proofs.SetRoutesLaws.{SetsRoutes, parts-set_routes, sets_routes}
+use Rattle.njh_hub.proofs.hub.Hub.set_routes.Goals.{After-set_routes}
+use Rattle.njh_hub.proofs.hub.Hub.set_routes.Goals as goal
 
-abbrev given : (c : After-take_routes) → List RouteEntry
-given c = taken_routes (own_routes c.args.customer c.args.routes.now)
+abbrev given : (c : After-set_routes) → List RouteEntry
+given c = entries_of_routes (new_routes_of c.args.customer c.args.routes.now)
 
-there : (c : After-take_routes) → c.args.customer < length c.self.inside.tables.customers
+there : (c : After-set_routes) → c.args.customer < length c.self.inside.tables.customers
 there c = omega (arith, c.self.inside.lines.ok.0, c.self.invariant.lined)
 
-known : (c : After-take_routes) → c.args.customer < length c.args.self.now
+known : (c : After-set_routes) → c.args.customer < length c.args.self.now
 known c =
     let s = c.self.inside in
     customer-known s.tables s.spool s.lines.items c.args.self.now c.args.customer c.self.view_is (there c)
 
-checked : (c : After-take_routes)
-    → routes_checked (part c.args.customer c.args.self.now).customer.entry (own_routes c.args.customer c.args.routes.now) ≡ Ok tt
+checked : (c : After-set_routes)
+    → routes_checked (part c.args.customer c.args.self.now).customer.entry (new_routes_of c.args.customer c.args.routes.now) ≡ Ok tt
 checked c =
     let s = c.self.inside in
     let n = c.args.customer in
-    subst (λ e. routes_checked e (own_routes n c.args.routes.now) ≡ Ok tt)
+    subst (λ e. routes_checked e (new_routes_of n c.args.routes.now) ≡ Ok tt)
     (sym (entry-there s.tables s.spool s.lines.items c.args.self.now n c.self.view_is (there c))) c.in-Ok.ensures.checked
 
 -- the customer's part with them
-abbrev new_part : (c : After-take_routes) → Part
+abbrev new_part : (c : After-set_routes) → Part
 new_part c = part_after_routes (given c) (part c.args.customer c.args.self.now)
 
-retables : (c : After-take_routes) → Retabled c.self.inside.tables c.self.inside.spool c.self.inside.lines.items c.args.customer (given c)
-    c.set_routes.new.tables c.take_routes.new.spool
-retables c =
+routes_set : (c : After-set_routes) → SetsRoutes c.self.inside.tables c.self.inside.spool c.self.inside.lines.items c.args.customer (given c)
+    c.set_in_tables.new.tables c.set_routes.new.spool
+routes_set c =
     let s = c.self.inside in
     let n = c.args.customer in
     let x = c.index-lines.result.now in
     let is : x ≡ lines_at n s.lines.items =
     get_or_read s.lines.items n x (omega (arith, s.lines.ok.0)) (search rules) no_lines in
-    let entry = entry_of (customer_at c.set_routes.new.tables n) in
-    let P : Lines → Type 0 = λ y. part_with entry (spools.spool_at n c.take_routes.new.spool) y
+    let entry = entry_of (customer_at c.set_in_tables.new.tables n) in
+    let P : Lines → Type 0 = λ y. part_with entry (spools.spool_at n c.set_routes.new.spool) y
     ≡ part_after_routes entry.routes (part_with entry (spools.spool_at n s.spool) y) in
     record {
       hub = c.self.invariant;
       there = there c;
       tables = c.in-Ok.ensures.routes;
-      others = c.take_routes.ensures.others;
-      is = subst P is c.take_routes.ensures.part;
+      others = c.set_routes.ensures.others;
+      is = subst P is c.set_routes.ensures.part;
       kept = c.routes_keep_coherent.ensures;
     }
 
-leads : (c : After-take_routes) → parts_of c.set_routes.new.tables c.take_routes.new.spool c.self.inside.lines.items
+leads : (c : After-set_routes) → parts_of c.set_in_tables.new.tables c.set_routes.new.spool c.self.inside.lines.items
     ≡ slice_set c.args.self.now c.args.customer (new_part c)
 leads c =
-    parts-retabled (retables c)
+    parts-set_routes (routes_set c)
     ∙ ap (λ (ps : List Part). slice_set ps c.args.customer (part_after_routes (given c) (part c.args.customer ps))) c.self.view_is
 
 pub invariant_of-self : goal.invariant_of-self
@@ -69,7 +69,7 @@ invariant_of-self c =
     subst (λ (t : TableFile). IsHub t s.spool s.lines.items) (sym c.in-Err.ensures.err) c.self.invariant
 
 pub invariant_of-self-2 : goal.invariant_of-self-2
-invariant_of-self-2 c = hub-moved (retabled (retables c))
+invariant_of-self-2 c = hub-moved (sets_routes (routes_set c))
 
 -- ---- where the hub has no such customer
 
@@ -99,7 +99,7 @@ returns-in-Err-clause-refused c =
     let n = c.args.customer in
     let is : n < length s.tables.customers = omega (arith, s.lines.ok.0, c.self.invariant.lined) in
     λ here cause told. c.in-Err.ensures.refused cause
-    (subst (λ e. routes_checked e (own_routes n c.args.routes.now) ≡ Err cause)
+    (subst (λ e. routes_checked e (new_routes_of n c.args.routes.now) ≡ Err cause)
     (entry-there s.tables s.spool s.lines.items c.args.self.now n c.self.view_is is) told)
 
 pub returns-in-Err-clause-memory : goal.returns-in-Err-clause-memory
@@ -108,7 +108,7 @@ returns-in-Err-clause-memory c =
     let n = c.args.customer in
     let is : n < length s.tables.customers = omega (arith, s.lines.ok.0, c.self.invariant.lined) in
     λ here checked. c.in-Err.ensures.memory
-    (subst (λ e. routes_checked e (own_routes n c.args.routes.now) ≡ Ok tt)
+    (subst (λ e. routes_checked e (new_routes_of n c.args.routes.now) ≡ Ok tt)
     (entry-there s.tables s.spool s.lines.items c.args.self.now n c.self.view_is is) checked)
 
 -- ---- where it has them
