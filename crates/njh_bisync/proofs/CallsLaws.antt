@@ -6,7 +6,8 @@ use Rattle.njh_bisync.specs.Frames.{Received}
 use Rattle.njh_bisync.specs.Reading.{Rest, Nothing, Reads, frame_list}
 use Rattle.njh_bisync.specs.ByteSteps.{feed_outcome, frames_after, rest_after}
 use Rattle.njh_bisync.specs.Calls.{Call, Feed, Reset, taken_by, given_by, left_by}
-use Rattle.njh_bisync.proofs.FedLaws.{frames_after-append, rest_after-append, takes_front, reads_from, reads_frames, reads_rest}
+use Rattle.njh_bisync.proofs.FedLaws.{frames_after-append, rest_after-append, takes_front, reads_from, reads_frames}
+use Rattle.njh_bisync.proofs.FedLaws.{reads_rest}
 
 pub given_before : (rest : Rest) (before : List Call) (later : List Call)
     → given_by rest (before ++ Reset ∷ later) ≡ given_by rest before ++ given_by Nothing later

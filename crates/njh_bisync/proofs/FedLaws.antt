@@ -1,12 +1,13 @@
 -- What one call takes of a piece, and the frames of bytes that come one after another.
-use Rattle.std.proofs.Common.{◌≡◌, ℕ, zero, suc, ◌+◌, ◌<◌, ◌≤◌, List, [], ◌∷◌, ◌++◌, length, take, drop, refl, ap, sym, ◌∙◌, subst, arith}
-use Rattle.std.proofs.Common.{append-nil, one-add, zero-add}
+use Rattle.std.proofs.Common.{◌≡◌, ℕ, zero, suc, ◌+◌, ◌<◌, ◌≤◌, List, [], ◌∷◌, ◌++◌, length, take, drop, refl, ap, sym}
+use Rattle.std.proofs.Common.{◌∙◌, subst, arith, append-nil, one-add, zero-add}
 use Rattle.std.specs.Prelude.{Option, Some, None}
 use Rattle.std.specs.List.{cons_option}
 use Rattle.std.proofs.lemmas.List.{take-append-drop, take_all}
 use Rattle.njh_bisync.specs.Frames.{Received, LineUnit, Partial, nothing, Splits, frames_of}
 use Rattle.njh_bisync.specs.Reading.{Rest, Nothing, rest_of, Reads, frame_list, TakesFirst}
-use Rattle.njh_bisync.specs.ByteSteps.{RestStep, rest_step, Fed, ahead, stop_or, feed_outcome, frames_after, rest_after, GoesOn}
+use Rattle.njh_bisync.specs.ByteSteps.{RestStep, rest_step, Fed, ahead, stop_or, feed_outcome, frames_after, rest_after}
+use Rattle.njh_bisync.specs.ByteSteps.{GoesOn}
 use Rattle.njh_bisync.proofs.UnitReader.{run, runs_as, run-split}
 
 cons_option-append : (frame : Option Received) (front back : List Received)

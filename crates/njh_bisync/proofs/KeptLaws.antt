@@ -1,6 +1,6 @@
 -- What one more inner unit makes of the data of a text.
-use Rattle.std.proofs.Common.{◌≡◌, ℕ, ◌≤◌, List, [], ◌∷◌, ◌++◌, length, Bool, true, false, if◌then◌else◌, refl, ap, ◌∙◌, arith, inl, inr}
-use Rattle.std.proofs.Common.{length-append, append-nil}
+use Rattle.std.proofs.Common.{◌≡◌, ℕ, ◌≤◌, List, [], ◌∷◌, ◌++◌, length, Bool, true, false, if◌then◌else◌, refl, ap, ◌∙◌}
+use Rattle.std.proofs.Common.{arith, inl, inr, length-append, append-nil}
 use Rattle.std.specs.Prelude.{◌||◌, nat_lt, flat_map, Option, Some, None}
 use Rattle.std.specs.List.{list_any}
 use Rattle.std.proofs.lemmas.Bool.{cases_lt, lt-ltb, le-ltb}

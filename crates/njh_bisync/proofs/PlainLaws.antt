@@ -1,6 +1,6 @@
 -- Bytes other than 10, taken together.
-use Rattle.std.proofs.Common.{◌≡◌, ◌≢◌, ℕ, suc, ◌+◌, ◌<◌, ◌≤◌, ◌==◌, List, [], ◌∷◌, ◌++◌, length, get_or, take, drop, false}
-use Rattle.std.proofs.Common.{refl, ap, sym, ◌∙◌, arith, inl, inr, append_assoc, length-append, zero-add}
+use Rattle.std.proofs.Common.{◌≡◌, ◌≢◌, ℕ, suc, ◌+◌, ◌<◌, ◌≤◌, ◌==◌, List, [], ◌∷◌, ◌++◌, length, get_or, take, drop}
+use Rattle.std.proofs.Common.{false, refl, ap, sym, ◌∙◌, arith, inl, inr, append_assoc, length-append, zero-add}
 use Rattle.std.specs.Prelude.{not, flat_map, All, Option, Some, None}
 use Rattle.std.specs.List.{AllWithin}
 use Rattle.std.proofs.lemmas.Bool.{cases_lt, lt-ltb, le-ltb, ne_eqb, eqb-false, eqb-true}

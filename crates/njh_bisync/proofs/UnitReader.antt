@@ -1,14 +1,15 @@
 -- A reader of units, one byte after another: what it has read is the one splitting of the bytes.
-use Rattle.std.proofs.Common.{◌≡◌, ◌≢◌, ℕ, ◌==◌, List, [], ◌∷◌, ◌++◌, Bool, true, false, if◌then◌else◌, refl, ap, sym, ◌∙◌, append_assoc}
-use Rattle.std.proofs.Common.{append-nil}
+use Rattle.std.proofs.Common.{◌≡◌, ◌≢◌, ℕ, ◌==◌, List, [], ◌∷◌, ◌++◌, Bool, true, false, if◌then◌else◌, refl, ap, sym}
+use Rattle.std.proofs.Common.{◌∙◌, append_assoc, append-nil}
 use Rattle.std.specs.Prelude.{flat_map, Option, Some, None}
 use Rattle.std.specs.List.{AllByRecursion, cons_option}
 use Rattle.std.specs.Option.{option_to_list, option_and_then}
 use Rattle.std.proofs.lemmas.Bool.{eqb-true, eqb-false, ne_eqb}
 use Rattle.std.proofs.lemmas.List.Concat.{flat_map-append}
-use Rattle.njh_bisync.specs.Frames.{Inner, plain, doubled, fill, stray, bytes_of_inner, IsInner, End, etb, etx, enq, bytes_of_end, LineUnit}
-use Rattle.njh_bisync.specs.Frames.{enquiry, ack0, nak, eot, text, after_soh, after_dle, single, bytes_of_unit, IsUnit, data_so_far, frame_of}
-use Rattle.njh_bisync.specs.Frames.{frames_of, Received, Partial, nothing, soh, dle, unended, bytes_of_partial, IsPartial}
+use Rattle.njh_bisync.specs.Frames.{Inner, plain, doubled, fill, stray, bytes_of_inner, IsInner, End, etb, etx, enq}
+use Rattle.njh_bisync.specs.Frames.{bytes_of_end, LineUnit, enquiry, ack0, nak, eot, text, after_soh, after_dle, single}
+use Rattle.njh_bisync.specs.Frames.{bytes_of_unit, IsUnit, data_so_far, frame_of, frames_of, Received, Partial, nothing}
+use Rattle.njh_bisync.specs.Frames.{soh, dle, unended, bytes_of_partial, IsPartial}
 use Rattle.njh_bisync.specs.Reading.{InText, rest_of}
 use Rattle.njh_bisync.specs.ByteSteps.{RestStep, on_to, ends, rest_step, frames_after, rest_after}
 use Rattle.njh_bisync.proofs.KeptLaws.{kept-none, kept-plain, kept-doubled, kept-fill, kept-stray}

@@ -11,13 +11,15 @@ pub data Call : Type 0 where
 -- the bytes that they take: each call of `feed` up to the end of its piece's first frame, or the whole piece
 abbrev pub taken_by : Rest → List Call → List ℕ
 taken_by rest [] = []
-taken_by rest (Feed piece ∷ calls) = take (feed_outcome rest piece).taken piece ++ taken_by (feed_outcome rest piece).rest calls
+taken_by rest (Feed piece ∷ calls) =
+    take (feed_outcome rest piece).taken piece ++ taken_by (feed_outcome rest piece).rest calls
 taken_by rest (Reset ∷ calls) = taken_by Nothing calls
 
 -- the frames that they give
 abbrev pub given_by : Rest → List Call → List Received
 given_by rest [] = []
-given_by rest (Feed piece ∷ calls) = frame_list (feed_outcome rest piece).frame ++ given_by (feed_outcome rest piece).rest calls
+given_by rest (Feed piece ∷ calls) =
+    frame_list (feed_outcome rest piece).frame ++ given_by (feed_outcome rest piece).rest calls
 given_by rest (Reset ∷ calls) = given_by Nothing calls
 
 -- the rest that they leave

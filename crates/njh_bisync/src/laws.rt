@@ -43,7 +43,8 @@ pub fn frames_of_both()
 /// What is taken of a piece, and of two that come one after the other.
 pub fn fed_in_parts()
     ensures goes_on { (rest : Rest) (piece : List ℕ)
-        → GoesOn rest piece (feed_outcome rest piece).taken (feed_outcome rest piece).frame (feed_outcome rest piece).rest }
+        → GoesOn rest piece (feed_outcome rest piece).taken (feed_outcome rest piece).frame
+        (feed_outcome rest piece).rest }
     ensures all { (rest : Rest) (piece : List ℕ) → (feed_outcome rest piece).frame ≡ None
         → ((feed_outcome rest piece).taken ≡ length piece) × ((feed_outcome rest piece).rest ≡ rest_after rest piece)
         × (frames_after rest piece ≡ []) }

@@ -167,7 +167,8 @@ impl Scanner {
         ensures count { result ≡ plain_len bytes.now }
         ensures within { result ≤ length bytes.now }
         ensures rest { rest_in self.new
-            ≡ InText (kept_all (good_data self.old.spoiled self.old.held.items) (take (plain_len bytes.now) bytes.now)) false }
+            ≡ InText (kept_all (good_data self.old.spoiled self.old.held.items)
+            (take (plain_len bytes.now) bytes.now)) false }
     {
         let count = plain_len(bytes);
         self.keep_all(&bytes[..count]);

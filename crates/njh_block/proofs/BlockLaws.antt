@@ -1,6 +1,6 @@
 -- What a text is read as, by the grammar.
-use Rattle.std.proofs.Common.{◌≡◌, ℕ, Bool, true, false, cond, List, [], ◌∷◌, ◌++◌, Result, Ok, Err, refl, sym, ◌∙◌, ap, subst, arith}
-use Rattle.std.proofs.Common.{IsTrue}
+use Rattle.std.proofs.Common.{◌≡◌, ℕ, Bool, true, false, cond, List, [], ◌∷◌, ◌++◌, Result, Ok, Err, refl, sym, ◌∙◌, ap}
+use Rattle.std.proofs.Common.{subst, arith, IsTrue}
 use Rattle.std.proofs.lemmas.List.{append-nil}
 use Rattle.njh_record.specs.Bytes.{AreBytes}
 use Rattle.njh_record.specs.Spelling.{Spelling}
@@ -9,10 +9,11 @@ use Rattle.njh_record.specs.declared.End.{End}
 use Rattle.njh_block.specs.declared.fault.BlockFault.{BlockFault}
 use Rattle.njh_block.specs.declared.fault.BlockFault.TheVariants.{TooShort, BadBcb, BadFcs, BadRcb, BadRecord}
 use Rattle.njh_block.specs.Blocks.{Item, Block, items_in, is_bcb, is_fcs, block_with, read_block}
-use Rattle.njh_block.specs.Grammar.{TextRecord, covered_bytes, items_of, Front, IsBlock, IsBadRcb, IsBadRecord, StopsAt, IsFault}
+use Rattle.njh_block.specs.Grammar.{TextRecord, covered_bytes, items_of, Front, IsBlock, IsBadRcb, IsBadRecord, StopsAt}
+use Rattle.njh_block.specs.Grammar.{IsFault}
 use Rattle.njh_block.proofs.FirstLaws.{AreBytes-drop}
-use Rattle.njh_block.proofs.GrammarLaws.{Split, Reads, with_items, with_items-Ok, with_items-Err, items_in-reads, items_in-parts}
-use Rattle.njh_block.proofs.GrammarLaws.{items_in-end, items_in-bad_rcb, items_in-bad_record}
+use Rattle.njh_block.proofs.GrammarLaws.{Split, Reads, with_items, with_items-Ok, with_items-Err, items_in-reads}
+use Rattle.njh_block.proofs.GrammarLaws.{items_in-parts, items_in-end, items_in-bad_rcb, items_in-bad_record}
 
 -- a block, where its block control byte and its function control sequence are good
 abbrev pub where_good : Bool → Bool → Result Block BlockFault → Result Block BlockFault

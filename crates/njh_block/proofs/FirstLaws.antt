@@ -1,7 +1,8 @@
 -- The record at the front of some bytes, by the grammar.
-use Rattle.std.proofs.Common.{◌≡◌, ℕ, suc, ◌<◌, ◌≤◌, eqb, leb, List, [], ◌∷◌, ◌++◌, length, Option, Some, None, Result, Ok, Err, refl}
-use Rattle.std.proofs.Common.{sym, ◌∙◌, ap, arith, inl, inr}
-use Rattle.std.proofs.lemmas.Bool.{cond_both, cond-true, cond-false, eqb-true, eqb-false, ne_eqb, leb-true, leb-false, le-leb, lt-leb}
+use Rattle.std.proofs.Common.{◌≡◌, ℕ, suc, ◌<◌, ◌≤◌, eqb, leb, List, [], ◌∷◌, ◌++◌, length, Option, Some, None, Result}
+use Rattle.std.proofs.Common.{Ok, Err, refl, sym, ◌∙◌, ap, arith, inl, inr}
+use Rattle.std.proofs.lemmas.Bool.{cond_both, cond-true, cond-false, eqb-true, eqb-false, ne_eqb, leb-true, leb-false}
+use Rattle.std.proofs.lemmas.Bool.{le-leb, lt-leb}
 use Rattle.std.proofs.lemmas.List.{append-nil}
 use Rattle.njh_record.specs.Bytes.{AreBytes}
 use Rattle.njh_record.specs.Spelling.{Spelling}
@@ -13,8 +14,9 @@ use Rattle.njh_block.specs.declared.fault.BlockFault.TheVariants.{TooShort, BadB
 use Rattle.njh_block.specs.declared.rcb.ControlRcb.{ControlRcb}
 use Rattle.njh_block.specs.declared.rcb.Form.{Form}
 use Rattle.njh_block.specs.declared.rcb.Form.TheVariants as form
-use Rattle.njh_block.specs.Blocks.{Item, Data, Aborted, Long, Control, General, First, control_byte, form_of, after_control, item_of}
-use Rattle.njh_block.specs.Blocks.{record_of_spelling, record_of_one_byte, record_of_form, first_record}
+use Rattle.njh_block.specs.Blocks.{Item, Data, Aborted, Long, Control, General, First, control_byte, form_of}
+use Rattle.njh_block.specs.Blocks.{after_control, item_of, record_of_spelling, record_of_one_byte, record_of_form}
+use Rattle.njh_block.specs.Blocks.{first_record}
 use Rattle.njh_block.specs.Grammar.{IsSpelled, BeginsZeroAndMore, Covers, IsEnd, IsBadRcb}
 use Rattle.njh_block.proofs.Forms.{FormFact, form_fact, form_of-control, high_control}
 

@@ -1,8 +1,10 @@
 -- What a byte in the place of an RCB is.
 use Rattle.std.proofs.Common.{◌≡◌, ℕ, ◌<◌, ◌≤◌, eqb, ltb, refl, ◌∙◌, arith}
-use Rattle.std.proofs.lemmas.Bool.{cond_both, cond-true, cond-false, eqb-true, eqb-false, ne_eqb, ltb-true, ltb-false, lt-ltb}
+use Rattle.std.proofs.lemmas.Bool.{cond_both, cond-true, cond-false, eqb-true, eqb-false, ne_eqb, ltb-true, ltb-false}
+use Rattle.std.proofs.lemmas.Bool.{lt-ltb}
 use Rattle.njh_block.specs.declared.rcb.ControlRcb.{ControlRcb}
-use Rattle.njh_block.specs.declared.rcb.ControlRcb.TheVariants.{Request, Permission, Refusal, Completion, Ready, SequenceError}
+use Rattle.njh_block.specs.declared.rcb.ControlRcb.TheVariants.{Request, Permission, Refusal, Completion, Ready}
+use Rattle.njh_block.specs.declared.rcb.ControlRcb.TheVariants.{SequenceError}
 use Rattle.njh_block.specs.declared.rcb.Form.{Form}
 use Rattle.njh_block.specs.declared.rcb.Form.TheVariants as form
 use Rattle.njh_block.specs.Blocks.{control_byte, control_or_spelled, form_of}

@@ -7,8 +7,9 @@ use Rattle.njh_record.specs.declared.End.TheVariants.{Record, Abort}
 use Rattle.njh_block.specs.declared.fault.BlockFault.{BlockFault}
 use Rattle.njh_block.specs.declared.rcb.Form.{Form}
 use Rattle.njh_block.specs.declared.rcb.Form.TheVariants as form
-use Rattle.njh_block.specs.Blocks.{Item, Data, Aborted, Long, Control, General, form_of, after_control, item_of, record_of_spelling}
-use Rattle.njh_block.specs.Blocks.{record_of_one_byte, record_of_form, with_item, items_in, general_first}
+use Rattle.njh_block.specs.Blocks.{Item, Data, Aborted, Long, Control, General, form_of, after_control, item_of}
+use Rattle.njh_block.specs.Blocks.{record_of_spelling, record_of_one_byte, record_of_form, with_item, items_in}
+use Rattle.njh_block.specs.Blocks.{general_first}
 use Rattle.njh_block.proofs.ReadingLaws.{items_from, items_in_step, items_or_none}
 use Rattle.njh_block.specs.ItemViews.{general_at}
 use Rattle.njh_block.proofs.Forms.{FormFact, form_fact}

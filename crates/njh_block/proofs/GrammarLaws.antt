@@ -1,6 +1,6 @@
 -- All the records of some bytes, by the grammar.
-use Rattle.std.proofs.Common.{◌≡◌, ℕ, zero, suc, ◌<◌, ◌≤◌, List, [], ◌∷◌, ◌++◌, length, Option, Some, None, Result, Ok, Err, refl, sym}
-use Rattle.std.proofs.Common.{◌∙◌, ap, subst, append_assoc, arith}
+use Rattle.std.proofs.Common.{◌≡◌, ℕ, zero, suc, ◌<◌, ◌≤◌, List, [], ◌∷◌, ◌++◌, length, Option, Some, None, Result, Ok}
+use Rattle.std.proofs.Common.{Err, refl, sym, ◌∙◌, ap, subst, append_assoc, arith}
 use Rattle.njh_record.specs.Bytes.{AreBytes}
 use Rattle.njh_record.specs.Spelling.{Spelling}
 use Rattle.njh_record.specs.Unspelled.{record_at_front, ReadsAs}
@@ -8,8 +8,10 @@ use Rattle.njh_record.specs.declared.End.{End}
 use Rattle.njh_block.specs.declared.fault.BlockFault.{BlockFault}
 use Rattle.njh_block.specs.declared.fault.BlockFault.TheVariants.{TooShort, BadBcb, BadFcs, BadRcb, BadRecord}
 use Rattle.njh_block.specs.declared.rcb.Form.{Form}
-use Rattle.njh_block.specs.Blocks.{Item, First, record_of_one_byte, record_of_form, first_record, with_item, read_items, items_in}
-use Rattle.njh_block.specs.Grammar.{Covers, TextRecord, covered_bytes, items_of, EachCovers, IsEnd, IsBadRcb, IsBadRecord}
+use Rattle.njh_block.specs.Blocks.{Item, First, record_of_one_byte, record_of_form, first_record, with_item, read_items}
+use Rattle.njh_block.specs.Blocks.{items_in}
+use Rattle.njh_block.specs.Grammar.{Covers, TextRecord, covered_bytes, items_of, EachCovers, IsEnd, IsBadRcb}
+use Rattle.njh_block.specs.Grammar.{IsBadRecord}
 use Rattle.njh_block.proofs.ReadingLaws.{items_from, Shorter, first_record-shorter, items_in_step}
 use Rattle.njh_block.proofs.Forms.{form_of-bad}
 use Rattle.njh_block.proofs.FirstLaws.{AreBytes-drop, Stands, first_record-stands, Covers-first}

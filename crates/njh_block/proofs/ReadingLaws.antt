@@ -1,14 +1,14 @@
 -- The items of some bytes, a record at a time.
-use Rattle.std.proofs.Common.{◌≡◌, ℕ, zero, suc, ◌<◌, ◌≤◌, Bool, true, false, cond, eqb, List, [], ◌∷◌, length, Option, Some, None}
-use Rattle.std.proofs.Common.{Result, Ok, Err, refl, sym, ◌∙◌, ap, arith}
+use Rattle.std.proofs.Common.{◌≡◌, ℕ, zero, suc, ◌<◌, ◌≤◌, Bool, true, false, cond, eqb, List, [], ◌∷◌, length, Option}
+use Rattle.std.proofs.Common.{Some, None, Result, Ok, Err, refl, sym, ◌∙◌, ap, arith}
 use Rattle.std.proofs.lemmas.Bool.{false≢true}
 use Rattle.std.specs.Result.{result_unwrap_or, IsOk}
 use Rattle.njh_record.specs.Unspelled.{Unspelled, record_at_front, Fault}
 use Rattle.njh_block.specs.declared.fault.BlockFault.{BlockFault}
 use Rattle.njh_block.specs.declared.rcb.Form.{Form}
 use Rattle.njh_block.specs.declared.rcb.Form.TheVariants as form
-use Rattle.njh_block.specs.Blocks.{Item, First, form_of, after_control, record_of_spelling, record_of_one_byte, record_of_form}
-use Rattle.njh_block.specs.Blocks.{first_record, with_item, read_items, items_in}
+use Rattle.njh_block.specs.Blocks.{Item, First, form_of, after_control, record_of_spelling, record_of_one_byte}
+use Rattle.njh_block.specs.Blocks.{record_of_form, first_record, with_item, read_items, items_in}
 use Rattle.njh_block.proofs.Unspelling.{RestWithin, unspelled-within}
 
 -- the items where the first record is this, and onward reads what follows it

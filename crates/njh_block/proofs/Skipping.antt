@@ -6,7 +6,8 @@ use Rattle.njh_block.specs.declared.fault.BlockFault.{BlockFault}
 use Rattle.njh_block.specs.declared.fault.BlockFault.TheVariants.{BadRecord}
 use Rattle.njh_block.specs.Blocks.{First, record_of_spelling, first_record, items_in}
 use Rattle.njh_block.specs.code.Skipped.{rest_behind}
-use Rattle.njh_block.proofs.ReadingLaws.{items_from, items_in_step, Shorter, first_record-shorter, fault_in, fault_in-with_item}
+use Rattle.njh_block.proofs.ReadingLaws.{items_from, items_in_step, Shorter, first_record-shorter, fault_in}
+use Rattle.njh_block.proofs.ReadingLaws.{fault_in-with_item}
 
 -- ---- a spelling
 

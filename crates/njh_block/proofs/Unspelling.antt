@@ -1,6 +1,7 @@
 -- What an unspelling leaves of the bytes, and what an answer of the reader of records says.
-use Rattle.std.proofs.Common.{◌≡◌, ℕ, zero, suc, ◌-◌, ◌≤◌, Bool, true, false, eqb, leb, ltb, List, [], ◌∷◌, ◌++◌, length, take, drop}
-use Rattle.std.proofs.Common.{cond, Option, Some, Result, Ok, Err, refl, sym, ◌∙◌, ap, length-drop, arith}
+use Rattle.std.proofs.Common.{◌≡◌, ℕ, zero, suc, ◌-◌, ◌≤◌, Bool, true, false, eqb, leb, ltb, List, [], ◌∷◌, ◌++◌}
+use Rattle.std.proofs.Common.{length, take, drop, cond, Option, Some, Result, Ok, Err, refl, sym, ◌∙◌, ap, length-drop}
+use Rattle.std.proofs.Common.{arith}
 use Rattle.std.proofs.lemmas.Bool.{le-leb, lt-leb}
 use Rattle.std.proofs.lemmas.List.{take-append-drop}
 use Rattle.njh_record.specs.declared.End.{End}
@@ -9,8 +10,8 @@ use Rattle.njh_record.specs.declared.RecordFault.{RecordFault}
 use Rattle.njh_record.specs.declared.RecordFault.TheVariants as faults
 use Rattle.njh_record.specs.Spelling.{Spelling, blanks, literal, added_bytes}
 use Rattle.njh_record.specs.Reading.{Begins, Unspells}
-use Rattle.njh_record.specs.Unspelled.{Front, OfItem, OfEnd, Bad, Cut, repeat_front, literal_front, front_of, Unspelled, record_at_front}
-use Rattle.njh_record.specs.Unspelled.{unspelled_within, Fault, BadScb, Truncated, with_front, ReadsAs}
+use Rattle.njh_record.specs.Unspelled.{Front, OfItem, OfEnd, Bad, Cut, repeat_front, literal_front, front_of, Unspelled}
+use Rattle.njh_record.specs.Unspelled.{record_at_front, unspelled_within, Fault, BadScb, Truncated, with_front, ReadsAs}
 use Rattle.njh_block.specs.declared.fault.BlockFault.{BlockFault}
 use Rattle.njh_block.specs.declared.fault.BlockFault.TheVariants.{BadRecord}
 use Rattle.njh_block.specs.Blocks.{First, Data, Aborted, Long, record_of_spelling}

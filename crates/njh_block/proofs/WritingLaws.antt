@@ -1,6 +1,6 @@
 -- What is written is read back.
-use Rattle.std.proofs.Common.{◌≡◌, ℕ, ◌≤◌, Bool, true, false, leb, List, [], ◌∷◌, ◌++◌, ◌-◌, length, drop, Some, Result, Ok, refl, sym}
-use Rattle.std.proofs.Common.{◌∙◌, ap, subst, append_assoc, length-append, arith, IsTrue}
+use Rattle.std.proofs.Common.{◌≡◌, ℕ, ◌≤◌, Bool, true, false, leb, List, [], ◌∷◌, ◌++◌, ◌-◌, length, drop, Some, Result}
+use Rattle.std.proofs.Common.{Ok, refl, sym, ◌∙◌, ap, subst, append_assoc, length-append, arith, IsTrue}
 use Rattle.std.specs.Prelude.{not, ◌||◌, nat_le}
 use Rattle.std.specs.List.{list_any, flat_map}
 use Rattle.std.specs.Result.{result_unwrap_or}
@@ -13,13 +13,14 @@ use Rattle.njh_record.specs.declared.End.TheVariants.{Record}
 use Rattle.njh_block.specs.declared.fault.BlockFault.{BlockFault}
 use Rattle.njh_block.specs.declared.rcb.ControlRcb.{ControlRcb}
 use Rattle.njh_block.specs.declared.rcb.Form.TheVariants as form
-use Rattle.njh_block.specs.Blocks.{Item, Data, Aborted, Long, Control, General, control_byte, form_of, record_of_spelling, first_record}
-use Rattle.njh_block.specs.Blocks.{with_item, items_in, is_bcb, is_fcs, block_with, read_block, written_bytes, text_of}
+use Rattle.njh_block.specs.Blocks.{Item, Data, Aborted, Long, Control, General, control_byte, form_of}
+use Rattle.njh_block.specs.Blocks.{record_of_spelling, first_record, with_item, items_in, is_bcb, is_fcs, block_with}
+use Rattle.njh_block.specs.Blocks.{read_block, written_bytes, text_of}
 use Rattle.njh_block.specs.declared.out.Out.{Out}
 use Rattle.njh_block.specs.declared.out.Out.TheVariants as out
 use Rattle.njh_block.specs.ItemViews.{outgoing_item, IsWritable}
-use Rattle.njh_block.specs.Writing.{Writing, IsWritten, is_general, AreWritten, has_room, with_last, read_back, without_end, writing_of}
-use Rattle.njh_block.specs.Writing.{IsWriting}
+use Rattle.njh_block.specs.Writing.{Writing, IsWritten, is_general, AreWritten, has_room, with_last, read_back}
+use Rattle.njh_block.specs.Writing.{without_end, writing_of, IsWriting}
 use Rattle.njh_block.proofs.Forms.{form_of-control}
 use Rattle.njh_block.proofs.FirstLaws.{record_of_form-first}
 use Rattle.njh_block.proofs.GrammarLaws.{items_in-first}

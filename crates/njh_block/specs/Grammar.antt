@@ -33,7 +33,8 @@ IsTwoBytes rcb srcb bytes after =
 -- The bytes are those of the item, where these follow them in the text.
 abbrev pub Covers : Item → List ℕ → List ℕ → Type 0
 Covers (Data rcb srcb contents) bytes after = IsSpelled rcb srcb contents Record bytes × (length contents ≤ 256)
-Covers (Long rcb srcb) bytes after = (contents : List ℕ) × IsSpelled rcb srcb contents Record bytes × (256 < length contents)
+Covers (Long rcb srcb) bytes after =
+    (contents : List ℕ) × IsSpelled rcb srcb contents Record bytes × (256 < length contents)
 Covers (Aborted rcb srcb) bytes after = (contents : List ℕ) × IsSpelled rcb srcb contents Abort bytes
 Covers (Control rcb srcb) bytes after = (c : ControlRcb) × (rcb ≡ control_byte c) × IsTwoBytes rcb srcb bytes after
 Covers (General srcb rest) bytes after = (bytes ≡ 0xf0 ∷ srcb ∷ rest) × (after ≡ [])
@@ -83,7 +84,8 @@ IsBadRcb (rcb ∷ rest) = (0 < rcb) × (rcb < 0x80)
 -- an RCB at which no record stands
 abbrev pub IsBadRecord : List ℕ → Type 0
 IsBadRecord [] = ⊥
-IsBadRecord (rcb ∷ rest) = (0x80 ≤ rcb) × ((item : Item) (bytes after : List ℕ) → rcb ∷ rest ≡ bytes ++ after → ¬ Covers item bytes after)
+IsBadRecord (rcb ∷ rest) =
+    (0x80 ≤ rcb) × ((item : Item) (bytes after : List ℕ) → rcb ∷ rest ≡ bytes ++ after → ¬ Covers item bytes after)
 
 -- behind a good front stands something bad
 pub record StopsAt (IsBad : List ℕ → Type 0) (text : List ℕ) : Type 0 where
@@ -98,6 +100,7 @@ pub record StopsAt (IsBad : List ℕ → Type 0) (text : List ℕ) : Type 0 wher
 abbrev pub IsFault : List ℕ → BlockFault → Type 0
 IsFault text TooShort = length text < 3
 IsFault text BadBcb = (2 < length text) × (is_bcb (slice_index text 0) ≡ false)
-IsFault text BadFcs = (2 < length text) × IsTrue (is_bcb (slice_index text 0)) × (is_fcs (slice_index text 1, slice_index text 2) ≡ false)
+IsFault text BadFcs =
+    (2 < length text) × IsTrue (is_bcb (slice_index text 0)) × (is_fcs (slice_index text 1, slice_index text 2) ≡ false)
 IsFault text BadRcb = StopsAt IsBadRcb text
 IsFault text BadRecord = StopsAt IsBadRecord text

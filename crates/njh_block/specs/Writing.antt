@@ -1,7 +1,6 @@
 -- A block that is being written (IBM SC23-0070, multileaving).
 use Rattle.std.specs.Prelude.{◌≡◌, ℕ, ◌≤◌, Bool, true, false, List, [], ◌∷◌, ◌++◌, ◌-◌, length, take, drop, slice_index}
-use Rattle.std.specs.Prelude.{not, ◌&&◌}
-use Rattle.std.specs.Prelude.{nat_le, IsTrue}
+use Rattle.std.specs.Prelude.{not, ◌&&◌, nat_le, IsTrue}
 use Rattle.std.specs.List.{list_any}
 use Rattle.std.specs.Result.{result_unwrap_or}
 use Rattle.njh_block.specs.declared.rcb.ControlRcb.{ControlRcb}
@@ -65,7 +64,12 @@ items_so_far text = result_unwrap_or (items_in (drop 3 (without_end text))) []
 
 abbrev pub writing_of : ℕ → List ℕ → Writing
 writing_of limit text =
-    record { limit = limit; bcb = slice_index text 0; fcs = (slice_index text 1, slice_index text 2); items = items_so_far text }
+    record {
+      limit = limit;
+      bcb = slice_index text 0;
+      fcs = (slice_index text 1, slice_index text 2);
+      items = items_so_far text;
+    }
 
 -- The text is that of the block, and it is told whether a general record ended it.
 pub record IsWriting (w : Writing) (text : List ℕ) (ended : Bool) : Type 0 where

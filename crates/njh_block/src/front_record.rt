@@ -32,8 +32,10 @@ fn read_spelled<'a>(
     bytes: &'a [u8],
     contents: &mut Record,
 ) -> Result<Option<First<'a>>, BlockFault>
-    ensures first { first_shown result contents.new.items ≡ record_of_spelling rcb.byte srcb (record_at_front bytes.now) }
-    ensures contents { contents.new.items ≡ contents_after (record_of_spelling rcb.byte srcb (record_at_front bytes.now)) }
+    ensures first { first_shown result contents.new.items
+        ≡ record_of_spelling rcb.byte srcb (record_at_front bytes.now) }
+    ensures contents { contents.new.items
+        ≡ contents_after (record_of_spelling rcb.byte srcb (record_at_front bytes.now)) }
 {
     one_reading();
     reads_spellings();
@@ -154,7 +156,8 @@ fn skip_formed(rcb: Rcb, rest: &[u8]) -> Result<Option<&[u8]>, BlockFault>
 
 /// What follows the spelling at the front of the bytes.
 fn skip_spelled(bytes: &[u8]) -> Result<Option<&[u8]>, BlockFault>
-    ensures { (rcb srcb : ℕ) → rest_shown result ≡ rest_behind (record_of_spelling rcb srcb (record_at_front bytes.now)) }
+    ensures { (rcb srcb : ℕ)
+        → rest_shown result ≡ rest_behind (record_of_spelling rcb srcb (record_at_front bytes.now)) }
 {
     match skip(bytes) {
         Some(after) => Ok(Some(after)),

@@ -1,6 +1,6 @@
 -- The file at a place is found, changed and removed by its number, which no other file has.
-use Rattle.std.proofs.Common.{◌≡◌, ◌<◌, ◌≤◌, ℕ, zero, suc, true, List, [], ◌∷◌, length, count_by, get_or, Some, IsSomeAnd, slice_get}
-use Rattle.std.proofs.Common.{◌==◌, sym, ap, arith, eq-eqb}
+use Rattle.std.proofs.Common.{◌≡◌, ◌<◌, ◌≤◌, ℕ, zero, suc, true, List, [], ◌∷◌, length, count_by, get_or, Some}
+use Rattle.std.proofs.Common.{IsSomeAnd, slice_get, ◌==◌, sym, ap, arith, eq-eqb}
 use Rattle.njh_spool.specs.Spools.{IsSound}
 use Rattle.njh_spool.specs.CustomerSpool.{CustomerSpool, WholeFile, whole_numbered, on_file, without_whole}
 use Rattle.njh_command.specs.Files.{file_at, no_file, with_file, without_at}

@@ -1,7 +1,7 @@
 -- Lists in which a test passes one element at most, which stands at a known index.
-use Rattle.std.proofs.Common.{◌≡◌, ◌<◌, ◌≤◌, ℕ, zero, suc, ◌+◌, Bool, true, false, cond, not, filter, List, [], ◌∷◌, ◌++◌, length}
-use Rattle.std.proofs.Common.{take, drop, map, set, get_or, find, count_by, Some, refl, sym, ap, ap₂, ◌∙◌, not-suc-le-zero}
-use Rattle.std.proofs.Common.{le_of_suc-le-suc, arith}
+use Rattle.std.proofs.Common.{◌≡◌, ◌<◌, ◌≤◌, ℕ, zero, suc, ◌+◌, Bool, true, false, cond, not, filter, List, [], ◌∷◌}
+use Rattle.std.proofs.Common.{◌++◌, length, take, drop, map, set, get_or, find, count_by, Some, refl, sym, ap, ap₂, ◌∙◌}
+use Rattle.std.proofs.Common.{not-suc-le-zero, le_of_suc-le-suc, arith}
 use Rattle.std.proofs.lemmas.List.Sums.{sum_by-cons}
 
 module _ {X : Type 0} (p : X → Bool) where

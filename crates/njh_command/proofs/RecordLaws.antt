@@ -1,6 +1,6 @@
 -- A file's records, one by one to another node.
-use Rattle.std.proofs.Common.{◌≡◌, ◌<◌, ℕ, zero, suc, List, [], ◌∷◌, ◌++◌, length, take, drop, set, Option, Some, None, slice_get}
-use Rattle.std.proofs.Common.{refl, sym, ap, ◌∙◌, not-suc-le-zero, le_of_suc-le-suc}
+use Rattle.std.proofs.Common.{◌≡◌, ◌<◌, ℕ, zero, suc, List, [], ◌∷◌, ◌++◌, length, take, drop, set, Option, Some, None}
+use Rattle.std.proofs.Common.{slice_get, refl, sym, ap, ◌∙◌, not-suc-le-zero, le_of_suc-le-suc}
 use Rattle.std.proofs.lemmas.List.{set-get_or}
 use Rattle.njh_record.specs.Stored.{Stored}
 use Rattle.njh_record.specs.declared.Kind.{Kind}

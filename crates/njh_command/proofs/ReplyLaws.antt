@@ -1,6 +1,6 @@
 -- The first 64 replies.
-use Rattle.std.proofs.Common.{◌≡◌, ◌+◌, ◌<◌, ◌≤◌, min, length-take, ℕ, zero, suc, List, [], ◌∷◌, ◌++◌, length, map, slice_set, take, refl, sym, ap, ◌∙◌, arith, not-suc-le-zero}
-use Rattle.std.proofs.Common.{le_of_suc-le-suc}
+use Rattle.std.proofs.Common.{◌≡◌, ◌+◌, ◌<◌, ◌≤◌, min, length-take, ℕ, zero, suc, List, [], ◌∷◌, ◌++◌, length, map}
+use Rattle.std.proofs.Common.{slice_set, take, refl, sym, ap, ◌∙◌, arith, not-suc-le-zero, le_of_suc-le-suc}
 use Rattle.std.proofs.lemmas.List.{map-append, length-append, length-map, take_all, take_more_set}
 
 -- where there is no room, one more changes nothing

@@ -1,7 +1,7 @@
 -- Splitting at blanks and at full stops, which folding leaves as they are.
-use Rattle.std.proofs.Common.{◌≡◌, ◌<◌, ◌≤◌, ◌+◌, ℕ, zero, suc, Bool, true, false, cond, not, ◌==◌, ◌||◌, ltb, leb, List, [], ◌∷◌, length}
-use Rattle.std.proofs.Common.{map, filter, take, drop, Some, None, position}
-use Rattle.std.proofs.Common.{refl, sym, ap, ap₂, subst, ◌∙◌, arith, ne_eqb, inl, inr}
+use Rattle.std.proofs.Common.{◌≡◌, ◌<◌, ◌≤◌, ◌+◌, ℕ, zero, suc, Bool, true, false, cond, not, ◌==◌, ◌||◌, ltb, leb}
+use Rattle.std.proofs.Common.{List, [], ◌∷◌, length, map, filter, take, drop, Some, None, position, refl, sym, ap, ap₂}
+use Rattle.std.proofs.Common.{subst, ◌∙◌, arith, ne_eqb, inl, inr}
 use Rattle.std.specs.List.{slice_split, onto_first, position_or_len}
 use Rattle.std.proofs.lemmas.Bool.{cases_lt, lt-ltb}
 use Rattle.std.proofs.lemmas.Bool.Decides.{leb_tells}

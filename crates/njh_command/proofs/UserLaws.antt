@@ -1,5 +1,6 @@
 -- What is said of a user's field that isn't blank.
-use Rattle.std.proofs.Common.{◌≡◌, ℕ, ◌==◌, Bool, true, false, cond, not, ◌&&◌, List, [], ◌∷◌, length, replicate, bytes_eq, refl, sym, ap, ◌∙◌}
+use Rattle.std.proofs.Common.{◌≡◌, ℕ, ◌==◌, Bool, true, false, cond, not, ◌&&◌, List, [], ◌∷◌, length, replicate}
+use Rattle.std.proofs.Common.{bytes_eq, refl, sym, ap, ◌∙◌}
 use Rattle.std.proofs.lemmas.Bool.{both_ways}
 use Rattle.njh_ebcdic.specs.Names.{is_empty, without_end_blanks}
 use Rattle.njh_command.specs.Replies.{user_text}

@@ -1,8 +1,7 @@
 -- What a command does to the sender's files, and what it is answered: filters and maps over the files in order of
 -- arrival.
 use Rattle.std.specs.Prelude.{ℕ, ◌+◌, Bool, true, false, List, [], ◌∷◌, ◌++◌, length, take, map, filter, Option, Some}
-use Rattle.std.specs.Prelude.{None, ◌==◌, cond}
-use Rattle.std.specs.Prelude.{not, ◌&&◌, bytes_eq}
+use Rattle.std.specs.Prelude.{None, ◌==◌, cond, not, ◌&&◌, bytes_eq}
 use Rattle.njh_spool.specs.declared.State.{State}
 use Rattle.njh_spool.specs.declared.State.TheVariants.{Ready, Held, Refused, Sending}
 use Rattle.njh_spool.specs.CustomerSpool.{CustomerSpool, WholeFile}
@@ -16,8 +15,8 @@ use Rattle.njh_stream.specs.Sending.{file_in, after_abort}
 use Rattle.njh_command.specs.declared.command.Command.{Command}
 use Rattle.njh_command.specs.declared.command.Command.TheVariants as commands
 use Rattle.njh_command.specs.Words.{command_of}
-use Rattle.njh_command.specs.Replies.{file_line, files_line, held_text, released_text, cancelled_text, rerouted_to, not_found}
-use Rattle.njh_command.specs.Replies.{bad_command, being_sent_text}
+use Rattle.njh_command.specs.Replies.{file_line, files_line, held_text, released_text, cancelled_text, rerouted_to}
+use Rattle.njh_command.specs.Replies.{not_found, bad_command, being_sent_text}
 
 -- What is answered, what is left in the spool, and the numbers of the files that were removed while they were being
 -- sent, in order of arrival.
@@ -83,7 +82,8 @@ abbrev pub if_some : ℕ → List ℕ → List (List ℕ)
 if_some n text = cond (n == 0) [] (text ∷ [])
 
 abbrev pub change_replies : (ℕ → List ℕ) → List ℕ × ℕ → ℕ → ℕ → List (List ℕ)
-change_replies text name idle busy = where_found (idle + busy) name (if_some idle (text idle) ++ if_some busy (being_sent_text name))
+change_replies text name idle busy =
+    where_found (idle + busy) name (if_some idle (text idle) ++ if_some busy (being_sent_text name))
 
 abbrev pub changed_file : (WholeFile → Bool) → (WholeFile → WholeFile) → WholeFile → WholeFile
 changed_file p change f = cond (may_change p f) (change f) f
@@ -92,7 +92,8 @@ abbrev pub with_changes : (WholeFile → Bool) → (WholeFile → WholeFile) →
 with_changes p change s = record s { whole = map (changed_file p change) s.whole }
 
 -- the files that aren't being sent change, and the others are left
-abbrev pub changing : (ℕ → List ℕ) → (WholeFile → WholeFile) → (WholeFile → Bool) → List ℕ × ℕ → CustomerSpool → CommandOutcome
+abbrev pub changing : (ℕ → List ℕ) → (WholeFile → WholeFile) → (WholeFile → Bool) → List ℕ × ℕ → CustomerSpool
+    → CommandOutcome
 changing text change p name s =
     answers (change_replies text name (count (may_change p) s) (count (is_busy p) s)) (with_changes p change s)
 
@@ -106,7 +107,8 @@ state_after_reroute Held = Held
 state_after_reroute Sending = Sending
 
 abbrev pub with_new_destination : List ℕ → WholeFile → WholeFile
-with_new_destination node f = record f { records = with_destination f.kind node f.records; state = state_after_reroute f.state }
+with_new_destination node f =
+    record f { records = with_destination f.kind node f.records; state = state_after_reroute f.state }
 
 -- by where the new node is
 abbrev pub rerouting : Route → CustomerEntry → List ℕ → (WholeFile → Bool) → List ℕ × ℕ → CustomerSpool → CommandOutcome
@@ -131,8 +133,10 @@ cancelling p name s = record {
 -- What a command of a user does.
 abbrev pub command_outcome : CustomerEntry → List ℕ × List ℕ → Command → CustomerSpool → CommandOutcome
 command_outcome entry who commands.List s = answers (first_replies (listing who s)) s
-command_outcome entry who (commands.Hold name) s = changing (held_text name) (file_in_state Held) (is_of_name who name) name s
-command_outcome entry who (commands.Release name) s = changing (released_text name) (file_in_state Ready) (is_of_name who name) name s
+command_outcome entry who (commands.Hold name) s =
+    changing (held_text name) (file_in_state Held) (is_of_name who name) name s
+command_outcome entry who (commands.Release name) s =
+    changing (released_text name) (file_in_state Ready) (is_of_name who name) name s
 command_outcome entry who (commands.Cancel name) s = cancelling (is_of_name who name) name s
 command_outcome entry who (commands.Reroute name node) s = rerouted_by entry node who name s
 

@@ -36,4 +36,5 @@ stored_at n records = slice_index_or records n no_record
 -- the n-th record with another destination node, where it names one, by the SRCB of the record before it
 abbrev pub with_redirected : Kind → Option ℕ → List ℕ → ℕ → List Stored → List Stored
 with_redirected kind before node n records =
-    slice_set records n (redirected_record node (destination_place kind before (stored_at n records)) (stored_at n records))
+    slice_set records n (redirected_record node (destination_place kind before (stored_at n records))
+    (stored_at n records))

@@ -49,7 +49,8 @@ file_text name destination kind records state =
 
 -- NJH001 LYON.42 TO METZ PAUL OUT 4 RECORDS READY
 abbrev pub listing_line : Option (List ℕ × ℕ) → Option (List ℕ × List ℕ) → Kind → ℕ → State → List ℕ
-listing_line name destination kind records state = ebcdic (codes "NJH001 ") ++ file_text name destination kind records state
+listing_line name destination kind records state =
+    ebcdic (codes "NJH001 ") ++ file_text name destination kind records state
 
 abbrev pub file_line : WholeFile → List ℕ
 file_line f = listing_line (name_of f.records) (destination_of f.kind f.records) f.kind (length f.records) f.state
@@ -73,7 +74,8 @@ cancelled_text name n = ebcdic (codes "NJH005 ") ++ file_name name ++ ebcdic (co
 -- NJH006 LYON.42 REROUTED TO METZ 1
 abbrev pub rerouted_to : List ℕ × ℕ → List ℕ → ℕ → List ℕ
 rerouted_to name node n =
-    ebcdic (codes "NJH006 ") ++ file_name name ++ ebcdic (codes " REROUTED TO ") ++ without_end_blanks node ++ ebcdic (codes " ") ++ digits n
+    ebcdic (codes "NJH006 ") ++ file_name name ++ ebcdic (codes " REROUTED TO ") ++ without_end_blanks node
+    ++ ebcdic (codes " ") ++ digits n
 
 -- NJH010 LYON.42 NOT FOUND
 abbrev pub not_found : List ℕ × ℕ → List ℕ

@@ -1,7 +1,6 @@
 -- What a message of a user commands: its words, and the command that they are.
 use Rattle.std.specs.Prelude.{ℕ, Bool, List, [], ◌∷◌, length, map, filter, Option, Some, None, ◌==◌, nat_le, cond, not}
-use Rattle.std.specs.Prelude.{◌&&◌, bytes_eq}
-use Rattle.std.specs.Prelude.{codes}
+use Rattle.std.specs.Prelude.{◌&&◌, bytes_eq, codes}
 use Rattle.std.specs.List.{list_all, slice_split}
 use Rattle.std.specs.Option.{option_map, option_and_then}
 use Rattle.std.specs.Result.{result_ok}
@@ -66,7 +65,8 @@ abbrev pub command_in : List (List ℕ) → Option Command
 command_in [] = None
 command_in (verb ∷ []) = cond (says (codes "LIST") verb) (Some commands.List) None
 command_in (verb ∷ name ∷ []) = option_and_then (file_command verb) (name_in name)
-command_in (verb ∷ name ∷ node ∷ []) = option_and_then (λ n. option_and_then (reroute_command verb n) (node_in node)) (name_in name)
+command_in (verb ∷ name ∷ node ∷ []) =
+    option_and_then (λ n. option_and_then (reroute_command verb n) (node_in node)) (name_in name)
 command_in (verb ∷ name ∷ node ∷ more ∷ others) = None
 
 -- The command that a message is.

@@ -23,11 +23,14 @@ pub(crate) fn cancel_files<S: Senders>(
     replies: &mut Replies,
 )
     requires { customer < length spool.old }
-    ensures replies { replies.new ≡ (cancelling (is_of_name choice.now.who choice.now.name) choice.now.name (spool_at customer spool.old)).replies }
+    ensures replies { replies.new
+        ≡ (cancelling (is_of_name choice.now.who choice.now.name) choice.now.name
+        (spool_at customer spool.old)).replies }
     ensures spool { spool.new ≡ slice_set spool.old customer
         (cancelling (is_of_name choice.now.who choice.now.name) choice.now.name (spool_at customer spool.old)).spool }
     ensures senders { senders.new ≡ fold (λ x n. S.each x (without_file n)) senders.old
-        (cancelling (is_of_name choice.now.who choice.now.name) choice.now.name (spool_at customer spool.old)).cancelled }
+        (cancelling (is_of_name choice.now.who choice.now.name) choice.now.name
+        (spool_at customer spool.old)).cancelled }
 {
     match cancel_each(choice, spool, customer, senders) {
         0 => replies.put_one(not_found(choice.name)),
@@ -47,7 +50,8 @@ fn cancel_each<S: Senders>(
     ensures spool { spool.new ≡ slice_set spool.old customer
         (cancelling (is_of_name choice.now.who choice.now.name) choice.now.name (spool_at customer spool.old)).spool }
     ensures senders { senders.new ≡ fold (λ x n. S.each x (without_file n)) senders.old
-        (cancelling (is_of_name choice.now.who choice.now.name) choice.now.name (spool_at customer spool.old)).cancelled }
+        (cancelling (is_of_name choice.now.who choice.now.name) choice.now.name
+        (spool_at customer spool.old)).cancelled }
 {
     // A file that is removed leaves its place to the one behind it.
     let mut index = 0;
@@ -74,9 +78,11 @@ fn cancel_at<S: Senders>(
     requires within { index < length (spool_at customer spool.old).whole }
     ensures removed { result ≡ is_of_name choice.now.who choice.now.name (file_at index (spool_at customer spool.old)) }
     ensures spool { spool.new ≡ slice_set spool.old customer
-        (without_where (is_of_name choice.now.who choice.now.name (file_at index (spool_at customer spool.old))) index (spool_at customer spool.old)) }
+        (without_where (is_of_name choice.now.who choice.now.name (file_at index (spool_at customer spool.old))) index
+        (spool_at customer spool.old)) }
     ensures senders { senders.new ≡ fold (λ x n. S.each x (without_file n)) senders.old
-        (numbers_where (is_busy (is_of_name choice.now.who choice.now.name) (file_at index (spool_at customer spool.old)))
+        (numbers_where (is_busy (is_of_name choice.now.who choice.now.name)
+        (file_at index (spool_at customer spool.old)))
         (file_at index (spool_at customer spool.old))) }
 {
     match judge(choice, spool, customer, index) {

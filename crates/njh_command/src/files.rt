@@ -20,10 +20,12 @@ pub fn number_of(spool: &Spool, customer: u16, index: u32) -> FileId
     requires range { customer < length spool.now }
     requires within { index < length (spool_at customer spool.now).whole }
     ensures number { result ≡ (file_at index (spool_at customer spool.now)).number }
-    ensures found { whole_numbered result (spool_at customer spool.now) ≡ Some (file_at index (spool_at customer spool.now)) }
+    ensures found { whole_numbered result (spool_at customer spool.now)
+        ≡ Some (file_at index (spool_at customer spool.now)) }
     ensures alone { (f : WholeFile → WholeFile) → on_file result f (spool_at customer spool.now)
         ≡ with_file index (f (file_at index (spool_at customer spool.now))) (spool_at customer spool.now) }
-    ensures removed { without_whole result (spool_at customer spool.now) ≡ without_at index (spool_at customer spool.now) }
+    ensures removed { without_whole result (spool_at customer spool.now)
+        ≡ without_at index (spool_at customer spool.now) }
 {
     spool.quota_holds(customer);
     spool.file_at(customer, index)
@@ -97,7 +99,8 @@ pub(crate) fn rewrite_record(
 )
     requires range { customer < length spool.old }
     requires within { index < length (spool_at customer spool.old).whole }
-    requires field { IsSomeAnd (slice_get (file_at index (spool_at customer spool.old)).records n) (λ r. place + 8 ≤ length r.bytes) }
+    requires field { IsSomeAnd (slice_get (file_at index (spool_at customer spool.old)).records n)
+        (λ r. place + 8 ≤ length r.bytes) }
     ensures { spool.new ≡ slice_set spool.old customer (with_file index
         (with_records (at_index n (rewritten_record place bytes) (file_at index (spool_at customer spool.old)).records)
         (file_at index (spool_at customer spool.old))) (spool_at customer spool.old)) }
@@ -110,7 +113,8 @@ pub(crate) fn set_state(spool: &mut Spool, customer: u16, index: u32, state: Sta
     requires range { customer < length spool.old }
     requires within { index < length (spool_at customer spool.old).whole }
     ensures { spool.new ≡ slice_set spool.old customer
-        (with_file index (commands.file_in_state state (file_at index (spool_at customer spool.old))) (spool_at customer spool.old)) }
+        (with_file index (commands.file_in_state state (file_at index (spool_at customer spool.old)))
+        (spool_at customer spool.old)) }
 {
     let file = number_of(spool, customer, index);
     spool.set_state(customer, file, state).ok();

@@ -81,7 +81,8 @@ impl Replies {
 
     /// One reply more, that tells of a file, where there is room. Its text is written in its place.
     pub(crate) fn add_file(&mut self, file: &FileSummary)
-        ensures { self.new ≡ first_replies (self.old ++ listing_line file.now.headers.name file.now.headers.destination file.now.kind
+        ensures { self.new
+            ≡ first_replies (self.old ++ listing_line file.now.headers.name file.now.headers.destination file.now.kind
             file.now.records file.now.state ∷ []) }
     {
         if self.count < MOST_REPLIES {
@@ -120,7 +121,8 @@ fn put_file_at(texts: &mut ArrayVec<MessageText, MOST_REPLIES>, count: usize, fi
     requires within { count ≤ length texts.old.items }
     requires room { count < 64 }
     ensures front { map (λ t. t.items) (take (count + 1) texts.new.items)
-        ≡ map (λ t. t.items) (take count texts.old.items) ++ listing_line file.now.headers.name file.now.headers.destination file.now.kind
+        ≡ map (λ t. t.items) (take count texts.old.items)
+        ++ listing_line file.now.headers.name file.now.headers.destination file.now.kind
         file.now.records file.now.state ∷ [] }
     ensures more { count + 1 ≤ length texts.new.items }
     ensures most { length texts.new.items ≤ 64 }

@@ -17,7 +17,8 @@ pub(crate) fn reroute(node: Name, spool: &mut Spool, customer: u16, index: u32)
     requires range { customer < length spool.old }
     requires within { index < length (spool_at customer spool.old).whole }
     ensures { spool.new ≡ slice_set spool.old customer
-        (with_file index (with_new_destination node (file_at index (spool_at customer spool.old))) (spool_at customer spool.old)) }
+        (with_file index (with_new_destination node (file_at index (spool_at customer spool.old)))
+        (spool_at customer spool.old)) }
 {
     redirect(node, spool, customer, index);
     redirected_by_records();
@@ -71,7 +72,8 @@ fn try_again(spool: &mut Spool, customer: u16, index: u32)
     requires range { customer < length spool.old }
     requires within { index < length (spool_at customer spool.old).whole }
     ensures { spool.new ≡ slice_set spool.old customer (with_file index
-        (file_in_state (state_after_reroute (file_at index (spool_at customer spool.old)).state) (file_at index (spool_at customer spool.old)))
+        (file_in_state (state_after_reroute (file_at index (spool_at customer spool.old)).state)
+        (file_at index (spool_at customer spool.old)))
         (spool_at customer spool.old)) }
 {
     match state_of(spool, customer, index) {

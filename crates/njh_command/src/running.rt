@@ -3,7 +3,8 @@
 ghost use Rattle.std.specs.Prelude.{◌≡◌, ◌<◌, ◌∷◌, [], fold, length, slice_set};
 ghost use Rattle.njh_spool.specs.Spools.{spool_at};
 ghost use Rattle.njh_table.specs.TableFile.{customer_at, entry_of};
-ghost use Rattle.njh_command.specs.Commands.{is_of_name, message_outcome, count, command_outcome, rerouted_by, where_found, without_file};
+ghost use Rattle.njh_command.specs.Commands.{is_of_name, message_outcome, count, command_outcome, rerouted_by};
+ghost use Rattle.njh_command.specs.Commands.{where_found, without_file};
 
 use crate::cancelling::cancel_files;
 use crate::changing::{Change, change_files};
@@ -33,11 +34,14 @@ pub fn obey<S: Senders>(
     requires known { customer < length tables.now.customers }
     requires range { customer < length spool.old }
     ensures replies { replies.new
-        ≡ (message_outcome (entry_of (customer_at tables.now customer)) (from, user) message.now (spool_at customer spool.old)).replies }
+        ≡ (message_outcome (entry_of (customer_at tables.now customer)) (from, user) message.now
+        (spool_at customer spool.old)).replies }
     ensures spool { spool.new ≡ slice_set spool.old customer
-        (message_outcome (entry_of (customer_at tables.now customer)) (from, user) message.now (spool_at customer spool.old)).spool }
+        (message_outcome (entry_of (customer_at tables.now customer)) (from, user) message.now
+        (spool_at customer spool.old)).spool }
     ensures senders { senders.new ≡ fold (λ x n. S.each x (without_file n)) senders.old
-        (message_outcome (entry_of (customer_at tables.now customer)) (from, user) message.now (spool_at customer spool.old)).cancelled }
+        (message_outcome (entry_of (customer_at tables.now customer)) (from, user) message.now
+        (spool_at customer spool.old)).cancelled }
 {
     match Command::read(message) {
         Ok(command) => run(
@@ -63,11 +67,14 @@ pub fn run<S: Senders>(
     requires known { customer < length tables.now.customers }
     requires range { customer < length spool.old }
     ensures replies { replies.new
-        ≡ (command_outcome (entry_of (customer_at tables.now customer)) (from, user) command (spool_at customer spool.old)).replies }
+        ≡ (command_outcome (entry_of (customer_at tables.now customer)) (from, user) command
+        (spool_at customer spool.old)).replies }
     ensures spool { spool.new ≡ slice_set spool.old customer
-        (command_outcome (entry_of (customer_at tables.now customer)) (from, user) command (spool_at customer spool.old)).spool }
+        (command_outcome (entry_of (customer_at tables.now customer)) (from, user) command
+        (spool_at customer spool.old)).spool }
     ensures senders { senders.new ≡ fold (λ x n. S.each x (without_file n)) senders.old
-        (command_outcome (entry_of (customer_at tables.now customer)) (from, user) command (spool_at customer spool.old)).cancelled }
+        (command_outcome (entry_of (customer_at tables.now customer)) (from, user) command
+        (spool_at customer spool.old)).cancelled }
 {
     let who = User { node: from, user };
     match command {
@@ -118,9 +125,11 @@ fn reroute_files(
     requires known { customer < length tables.now.customers }
     requires range { customer < length spool.old }
     ensures replies { replies.new
-        ≡ (rerouted_by (entry_of (customer_at tables.now customer)) node choice.now.who choice.now.name (spool_at customer spool.old)).replies }
+        ≡ (rerouted_by (entry_of (customer_at tables.now customer)) node choice.now.who choice.now.name
+        (spool_at customer spool.old)).replies }
     ensures spool { spool.new ≡ slice_set spool.old customer
-        (rerouted_by (entry_of (customer_at tables.now customer)) node choice.now.who choice.now.name (spool_at customer spool.old)).spool }
+        (rerouted_by (entry_of (customer_at tables.now customer)) node choice.now.who choice.now.name
+        (spool_at customer spool.old)).spool }
 {
     match tables.route(customer, node) {
         Route::Here => {
@@ -135,7 +144,8 @@ fn reroute_files(
 /// Why the files don't go there, or that there are none.
 fn refused(choice: &Choice, text: MessageText, spool: &Spool, customer: u16, replies: &mut Replies)
     requires { customer < length spool.now }
-    ensures { replies.new ≡ where_found (count (is_of_name choice.now.who choice.now.name) (spool_at customer spool.now))
+    ensures { replies.new
+        ≡ where_found (count (is_of_name choice.now.who choice.now.name) (spool_at customer spool.now))
         choice.now.name (text.items ∷ []) }
 {
     match count_files(choice, spool, customer) {

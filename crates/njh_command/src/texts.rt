@@ -106,7 +106,8 @@ pub(crate) fn being_sent(name: FileName) -> MessageText
 
 /// NJH001: a file by its name, destination, kind, number of records and state, in the place of what was there.
 pub(crate) fn put_file_line(text: &mut MessageText, file: &FileSummary)
-    ensures { text.new.items ≡ replies.listing_line file.now.headers.name file.now.headers.destination file.now.kind file.now.records
+    ensures { text.new.items
+        ≡ replies.listing_line file.now.headers.name file.now.headers.destination file.now.kind file.now.records
         file.now.state }
 {
     *text = MessageText::new();

@@ -55,7 +55,8 @@ fn after_blanks(bytes: &[u8]) -> &[u8]
 
 /// The first word of a message, as it stands there, and what stands behind it.
 pub(crate) fn next_word(message: &[u8]) -> Option<(&[u8], &[u8])>
-    ensures { MatchOption result (words message.now ≡ []) (λ found. words message.now ≡ map upper found.0.now ∷ words found.1.now) }
+    ensures { MatchOption result (words message.now ≡ [])
+        (λ found. words message.now ≡ map upper found.0.now ∷ words found.1.now) }
 {
     let rest = after_blanks(message);
     let end = count_before(rest, BLANK);

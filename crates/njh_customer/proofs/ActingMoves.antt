@@ -1,6 +1,6 @@
 -- What a record that comes does to a customer's whole files and to its streams from the hub.
-use Rattle.std.proofs.Common.{◌≡◌, ℕ, Bool, true, false, cond, ◌==◌, ◌&&◌, ◌⊎◌, inl, inr, List, [], ◌∷◌, ◌++◌, fold, Option, Some, None}
-use Rattle.std.proofs.Common.{Result, Ok, Err, refl, sym, ap, subst, ◌∙◌}
+use Rattle.std.proofs.Common.{◌≡◌, ℕ, Bool, true, false, cond, ◌==◌, ◌&&◌, ◌⊎◌, inl, inr, List, [], ◌∷◌, ◌++◌, fold}
+use Rattle.std.proofs.Common.{Option, Some, None, Result, Ok, Err, refl, sym, ap, subst, ◌∙◌}
 use Rattle.std.specs.Option.{option_map}
 use Rattle.std.proofs.lemmas.Bool.{eqb-true}
 use Rattle.njh_block.specs.Blocks.{Item, Data, Aborted, Long, Control, General, stream_number, stream_of}
@@ -10,7 +10,8 @@ use Rattle.njh_nmr.specs.declared.fault.NmrFault.{NmrFault}
 use Rattle.njh_nmr.specs.Nodal.{Nodal, nodal_of, is_user_command, cut_after_message}
 use Rattle.njh_record.specs.Stored.{Stored}
 use Rattle.njh_record.specs.declared.Kind.{Kind}
-use Rattle.njh_spool.specs.CustomerSpool.{CustomerSpool, PartialFile, WholeFile, without_partial, as_whole, partial_numbered, partial_records, has_file_room, has_block, has_room_for}
+use Rattle.njh_spool.specs.CustomerSpool.{CustomerSpool, PartialFile, WholeFile, without_partial, as_whole}
+use Rattle.njh_spool.specs.CustomerSpool.{partial_numbered, partial_records, has_file_room, has_block, has_room_for}
 use Rattle.njh_spool.specs.declared.State.TheVariants.{Ready}
 use Rattle.njh_table.specs.Entries.{CustomerEntry, route_of}
 use Rattle.njh_table.specs.declared.Route.{Route}
@@ -21,22 +22,27 @@ use Rattle.njh_stream.specs.declared.sender.Sender.{Sender}
 use Rattle.njh_stream.specs.declared.sender.Sender.TheVariants as sender
 use Rattle.njh_stream.specs.Arrivals.{answer_on}
 use Rattle.njh_stream.specs.Receiving as receiving
-use Rattle.njh_stream.specs.Receiving.{Arrival, received_arrival, received_request, requested_where, closed_by, stored_by}
+use Rattle.njh_stream.specs.Receiving.{Arrival, received_arrival, received_request, requested_where, closed_by}
+use Rattle.njh_stream.specs.Receiving.{stored_by}
 use Rattle.njh_stream.specs.Sending.{file_in, after_grant, after_refusal, after_completion}
 use Rattle.njh_stream.specs.Transmissions.{Verdict, Taken, Cancelled, Fitting, is_whole, judged_coming}
 use Rattle.njh_command.specs.declared.command.Command.{Command}
 use Rattle.njh_command.specs.declared.command.Command.TheVariants as commands
 use Rattle.njh_command.specs.Words.{command_of}
 use Rattle.njh_command.specs.Commands.{CommandOutcome, is_of_name, command_outcome, obeyed_where, rerouting}
-use Rattle.njh_customer.specs.Customer.{Customer, CustomerLine, line_at, on_line, with_notice, receiver_at, with_receiver, sender_at}
+use Rattle.njh_customer.specs.Customer.{Customer, CustomerLine, line_at, on_line, with_notice, receiver_at}
+use Rattle.njh_customer.specs.Customer.{with_receiver, sender_at}
 use Rattle.njh_customer.specs.Waiting.{with_answer_on, with_waiting, with_message_to, with_notice_to}
-use Rattle.njh_customer.specs.Acting.{after_stream_arrival, after_stream_record, with_sender_outcome, after_permission, after_peer_answer, refusal_of, after_stream_request, peer_answered, without_sending}
-use Rattle.njh_customer.specs.Acting.{with_outcome, after_user_command, after_unknown_node, message_routed, message_read, after_message, after_record}
+use Rattle.njh_customer.specs.Acting.{after_stream_arrival, after_stream_record, with_sender_outcome, after_permission}
+use Rattle.njh_customer.specs.Acting.{after_peer_answer, refusal_of, after_stream_request, peer_answered}
+use Rattle.njh_customer.specs.Acting.{without_sending, with_outcome, after_user_command, after_unknown_node}
+use Rattle.njh_customer.specs.Acting.{message_routed, message_read, after_message, after_record}
 use Rattle.njh_customer.specs.OutgoingFiles.{outgoing, streams_from_hub, sender_on}
 use Rattle.njh_customer.specs.Moves as moves
 use Rattle.njh_customer.specs.Moves.{Acts, Commands, Tells, busy_numbers}
-use Rattle.njh_customer.proofs.OutgoingLaws.{of_parts, on_line_senders, answered_senders, waits_senders, said_senders, all_said_senders, notified_senders}
-use Rattle.njh_customer.proofs.OutgoingLaws.{stream_is, sent_is, same_stream, all_given_up}
+use Rattle.njh_customer.proofs.OutgoingLaws.{of_parts, on_line_senders, answered_senders, waits_senders, said_senders}
+use Rattle.njh_customer.proofs.OutgoingLaws.{all_said_senders, notified_senders, stream_is, sent_is, same_stream}
+use Rattle.njh_customer.proofs.OutgoingLaws.{all_given_up}
 
 pub record Acted (l : ℕ) (i : Item) (c d : Customer) : Type 0 where
   pub entry : d.entry ≡ c.entry

@@ -1,6 +1,7 @@
 -- What a block carries of each stream's file, wherever the stream stands.
-use Rattle.std.proofs.Common.{◌≡◌, ◌<◌, ◌≤◌, ℕ, ◌-◌, Bool, true, false, cond, ◌==◌, ◌⊎◌, inl, inr, List, [], ◌∷◌, ◌++◌, length, map, take, drop, get_or, find}
-use Rattle.std.proofs.Common.{Option, Some, None, slice_get, nat_le, refl, sym, ap, subst, ◌∙◌, arith, eq-eqb}
+use Rattle.std.proofs.Common.{◌≡◌, ◌<◌, ◌≤◌, ℕ, ◌-◌, Bool, true, false, cond, ◌==◌, ◌⊎◌, inl, inr, List, [], ◌∷◌, ◌++◌}
+use Rattle.std.proofs.Common.{length, map, take, drop, get_or, find, Option, Some, None, slice_get, nat_le, refl, sym}
+use Rattle.std.proofs.Common.{ap, subst, ◌∙◌, arith, eq-eqb}
 use Rattle.std.proofs.lemmas.Bool.{leb-true, leb-false}
 use Rattle.std.proofs.lemmas.List.{drop_all, length-drop, length-take-le}
 use Rattle.std.proofs.lemmas.List.Elements.{filter-append}
@@ -13,7 +14,8 @@ use Rattle.njh_record.specs.Stored.{Stored}
 use Rattle.njh_stream.specs.declared.sender.Sender.{Sender}
 use Rattle.njh_stream.specs.declared.sender.Sender.TheVariants.{Idle, Requested, Sending, EofSent, Aborting}
 use Rattle.njh_stream.specs.Sending.{goes_by, next_at, next_of, record_at}
-use Rattle.njh_sched.specs.NextBlock.{Filling, Source, after_source, after_sources, data_item, filled_block, sends_file, sender_at, sources}
+use Rattle.njh_sched.specs.NextBlock.{Filling, Source, after_source, after_sources, data_item, filled_block, sends_file}
+use Rattle.njh_sched.specs.NextBlock.{sender_at, sources}
 use Rattle.njh_sched.specs.Laws.{Does, EachDoes, left, gives_up, asks, sends, is_under, records_under}
 use Rattle.njh_sched.specs.Carrying.{end_of_file, file_records, record_item, records_of}
 use Rattle.njh_sched.specs.Carrying as carrying

@@ -1,6 +1,6 @@
 -- A customer stays coherent, whatever comes.
-use Rattle.std.proofs.Common.{◌≡◌, ℕ, ◌<◌, Bool, true, false, ◌&&◌, List, [], ◌∷◌, ◌++◌, length, set, get_or, Option, Some, None}
-use Rattle.std.proofs.Common.{refl, sym, ap, subst, ◌∙◌, arith}
+use Rattle.std.proofs.Common.{◌≡◌, ℕ, ◌<◌, Bool, true, false, ◌&&◌, List, [], ◌∷◌, ◌++◌, length, set, get_or, Option}
+use Rattle.std.proofs.Common.{Some, None, refl, sym, ap, subst, ◌∙◌, arith}
 use Rattle.std.specs.Option.{option_map}
 use Rattle.std.proofs.Math.ListN.{get_or-map}
 use Rattle.std.proofs.lemmas.List.{map-set, length-map, length-set}
@@ -11,21 +11,21 @@ use Rattle.njh_record.specs.declared.Kind.{Kind}
 use Rattle.njh_stream.specs.declared.receiver.Receiver.{Receiver}
 use Rattle.njh_stream.specs.declared.receiver.Receiver.TheVariants.{Idle, Open, Draining}
 use Rattle.njh_stream.specs.Arrivals.{answer_on}
-use Rattle.njh_stream.specs.Receiving.{Arrival, Request, Data, Long, Abort, Received, received_arrival, without_all_open}
-use Rattle.njh_stream.specs.code.Agreement.{Agrees}
-use Rattle.njh_stream.specs.Receiving.{received_request, requested_where, closed_by, stored_by}
+use Rattle.njh_stream.specs.Receiving.{Arrival, Request, Data, Long, Abort, Received, received_arrival}
+use Rattle.njh_stream.specs.Receiving.{without_all_open, received_request, requested_where, closed_by, stored_by}
+use Rattle.njh_stream.specs.code.Agreement.{Agrees, AreTied}
 use Rattle.njh_stream.specs.Transmissions.{Verdict, Taken, Cancelled, Fitting, is_whole, judged_coming}
 use Rattle.njh_stream.specs.Streams.{streams_at, stream_at, with_stream, without_streams}
-use Rattle.njh_stream.specs.code.Agreement.{AreTied}
-use Rattle.njh_spool.specs.CustomerSpool.{CustomerSpool, PartialFile, has_file_room, has_block, has_room_for, partial_numbered, partial_records}
-use Rattle.njh_spool.specs.CustomerSpool.{without_partial, as_whole}
+use Rattle.njh_spool.specs.CustomerSpool.{CustomerSpool, PartialFile, has_file_room, has_block, has_room_for}
+use Rattle.njh_spool.specs.CustomerSpool.{partial_numbered, partial_records, without_partial, as_whole}
 use Rattle.njh_table.specs.Entries.{CustomerEntry}
-use Rattle.njh_customer.specs.Customer.{Customer, CustomerLine, no_customer_line, line_at, on_line, with_notice, receiver_at}
-use Rattle.njh_customer.specs.Customer.{with_receiver}
+use Rattle.njh_customer.specs.Customer.{Customer, CustomerLine, no_customer_line, line_at, on_line, with_notice}
+use Rattle.njh_customer.specs.Customer.{receiver_at, with_receiver}
 use Rattle.njh_customer.specs.code.Coherence.{streams_to_hub, HasStreams, IsCoherent}
 use Rattle.njh_customer.specs.Waiting.{with_answer_on, with_notice_to}
 use Rattle.njh_customer.specs.Acting.{after_arrival, after_stream_arrival}
-use Rattle.njh_customer.proofs.ShapeLaws.{shapes, same_streams, streamed_still, on_line_shapes, answered_shapes, notified_shapes}
+use Rattle.njh_customer.proofs.ShapeLaws.{shapes, same_streams, streamed_still, on_line_shapes, answered_shapes}
+use Rattle.njh_customer.proofs.ShapeLaws.{notified_shapes}
 
 -- what the streams of a customer owe to each other, as the crate of streams says it
 abbrev pub ArrivalsTie : Type 0

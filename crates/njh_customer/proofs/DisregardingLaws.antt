@@ -1,5 +1,6 @@
 -- What a line disregards changes nothing but its session, or ends it.
-use Rattle.std.proofs.Common.{◌≡◌, ℕ, ◌+◌, ◌<◌, Bool, true, false, cond, ◌==◌, List, length, set, get_or, nat_lt, refl, sym, ap, subst, ◌∙◌, arith}
+use Rattle.std.proofs.Common.{◌≡◌, ℕ, ◌+◌, ◌<◌, Bool, true, false, cond, ◌==◌, List, length, set, get_or, nat_lt, refl}
+use Rattle.std.proofs.Common.{sym, ap, subst, ◌∙◌, arith}
 use Rattle.std.proofs.lemmas.Bool.{eqb-true, eqb-false, ltb-true, ltb-false}
 use Rattle.std.proofs.lemmas.List.{get_or-set_same, set-get_or, set-set}
 use Rattle.njh_bisync.specs.declared.frame.Control.TheVariants as control
@@ -16,8 +17,10 @@ use Rattle.njh_line.specs.declared.session.Session.{Session}
 use Rattle.njh_line.specs.declared.verdict.Reply.TheVariants as reply
 use Rattle.njh_line.specs.declared.verdict.Verdict.{Verdict}
 use Rattle.njh_customer.specs.Customer.{Customer, CustomerLine, no_customer_line, line_at, on_line, in_state}
-use Rattle.njh_customer.specs.Alone.{Step, goes_up, with_raised_line, silent, session_over, session_ended, carried_out, after_line_input, text_read, after_frame, after_signal}
-use Rattle.njh_customer.specs.Disregarding.{session_on, IsButSession, IsDisregarded, SpoiledIsDisregarded, BadBlocksAreDisregarded, GarbledIsDisregarded}
+use Rattle.njh_customer.specs.Alone.{Step, goes_up, with_raised_line, silent, session_over, session_ended, carried_out}
+use Rattle.njh_customer.specs.Alone.{after_line_input, text_read, after_frame, after_signal}
+use Rattle.njh_customer.specs.Disregarding.{session_on, IsButSession, IsDisregarded, SpoiledIsDisregarded}
+use Rattle.njh_customer.specs.Disregarding.{BadBlocksAreDisregarded, GarbledIsDisregarded}
 
 -- by what the line table says, where the line goes up or doesn't
 abbrev by_mark : Bool → ℕ → Session → Verdict → Customer → Step

@@ -1,6 +1,6 @@
 -- What a frame or a signal on a line does to a customer's whole files and to its streams from the hub.
-use Rattle.std.proofs.Common.{◌≡◌, ℕ, ◌<◌, ◌||◌, Bool, true, false, cond, List, [], ◌∷◌, length, set, get_or, Result, Ok, Err, nat_lt}
-use Rattle.std.proofs.Common.{refl, sym, ap, subst, ◌∙◌, arith}
+use Rattle.std.proofs.Common.{◌≡◌, ℕ, ◌<◌, ◌||◌, Bool, true, false, cond, List, [], ◌∷◌, length, set, get_or, Result}
+use Rattle.std.proofs.Common.{Ok, Err, nat_lt, refl, sym, ap, subst, ◌∙◌, arith}
 use Rattle.std.proofs.Math.ListN.{get_or-map}
 use Rattle.std.proofs.Math.Seq.{map-set_same}
 use Rattle.std.proofs.lemmas.Bool.{ltb-true}
@@ -29,13 +29,18 @@ use Rattle.njh_line.specs.declared.verdict.Verdict.{Verdict}
 use Rattle.njh_customer.specs.declared.signal.Signal.{Signal}
 use Rattle.njh_customer.specs.Customer.{Customer, CustomerLine, no_customer_line, line_at, on_line, in_state}
 use Rattle.njh_customer.specs.Acting.{acted_where}
-use Rattle.njh_customer.specs.Sending.{LineSent, Sending, sending_of_control, sending_of_no_block, sending_of_empty, sending_of_block, next_block, outlet_of, own_block, sending_of_reply, with_outlet}
-use Rattle.njh_customer.specs.Alone.{Step, silent, quiet, with_raised_line, goes_up_by, after_reply, replied_to, session_over, session_over_where, session_ended, carried_out, verdict_on}
-use Rattle.njh_customer.specs.Alone.{accepted_on, after_line_input, block_input, behind_records, after_block, text_read, after_text, after_received, signal_input, after_frame, after_signal}
+use Rattle.njh_customer.specs.Sending.{LineSent, Sending, sending_of_control, sending_of_no_block, sending_of_empty}
+use Rattle.njh_customer.specs.Sending.{sending_of_block, next_block, outlet_of, own_block, sending_of_reply}
+use Rattle.njh_customer.specs.Sending.{with_outlet}
+use Rattle.njh_customer.specs.Alone.{Step, silent, quiet, with_raised_line, goes_up_by, after_reply, replied_to}
+use Rattle.njh_customer.specs.Alone.{session_over, session_over_where, session_ended, carried_out, verdict_on}
+use Rattle.njh_customer.specs.Alone.{accepted_on, after_line_input, block_input, behind_records, after_block, text_read}
+use Rattle.njh_customer.specs.Alone.{after_text, after_received, signal_input, after_frame, after_signal}
 use Rattle.njh_customer.specs.OutgoingFiles.{Outgoing, outgoing, streams_from_hub, streams_of}
 use Rattle.njh_customer.specs.Moves.{LeadsByMoves, nowhere, OneActs, Sends}
-use Rattle.njh_customer.specs.FrameEffects.{Carries, Ends, still_on, over_now, GoesOut, no_block, new_block, Does, block_records, records_of_frame}
-use Rattle.njh_customer.specs.FrameEffects.{IsNoNewBlock, nothing_sent, control, again, sign_on, count, without_records}
+use Rattle.njh_customer.specs.FrameEffects.{Carries, Ends, still_on, over_now, GoesOut, no_block, new_block, Does}
+use Rattle.njh_customer.specs.FrameEffects.{block_records, records_of_frame, IsNoNewBlock, nothing_sent, control, again}
+use Rattle.njh_customer.specs.FrameEffects.{sign_on, count, without_records}
 use Rattle.njh_customer.proofs.OutgoingLaws.{of_parts, on_line_senders}
 use Rattle.njh_customer.proofs.SendingMoves.{out_of, filled_leads, filled_with_none}
 use Rattle.njh_customer.proofs.EndingMoves.{over_so}

@@ -1,5 +1,6 @@
 -- All moves of a step, and of an event.
-use Rattle.std.proofs.Common.{◌≡◌, ℕ, Bool, true, false, List, [], ◌∷◌, ◌++◌, Option, Some, None, length, set, take, refl, sym, ap, subst, ◌∙◌, arith}
+use Rattle.std.proofs.Common.{◌≡◌, ℕ, Bool, true, false, List, [], ◌∷◌, ◌++◌, Option, Some, None, length, set, take}
+use Rattle.std.proofs.Common.{refl, sym, ap, subst, ◌∙◌, arith}
 use Rattle.std.proofs.lemmas.List.Elements.{Contains-append_left, Contains-append_right}
 use Rattle.std.specs.Prelude.{flat_map}
 use Rattle.std.specs.List.{Contains, cons_option}
@@ -15,8 +16,10 @@ use Rattle.njh_customer.specs.Feeding.{acted_on, bytes_run}
 use Rattle.njh_customer.specs.Part.{part_after_bytes, rest_on}
 use Rattle.njh_customer.specs.Runs.{OwnBytes, OwnSignal, OwnRoutes, Run, event_run}
 use Rattle.njh_customer.specs.OutgoingFiles.{Outgoing, outgoing}
-use Rattle.njh_customer.specs.Moves.{LeadsByMoves, nowhere, onward, Moves, MovesBy, Records, by_record, by_sending, by_end, OneActs, Sends}
-use Rattle.njh_customer.specs.FrameEffects.{Does, Ends, still_on, over_now, GoesOut, no_block, new_block, records_of_frame}
+use Rattle.njh_customer.specs.Moves.{LeadsByMoves, nowhere, onward, Moves, MovesBy, Records, by_record, by_sending}
+use Rattle.njh_customer.specs.Moves.{by_end, OneActs, Sends}
+use Rattle.njh_customer.specs.FrameEffects.{Does, Ends, still_on, over_now, GoesOut, no_block, new_block}
+use Rattle.njh_customer.specs.FrameEffects.{records_of_frame}
 use Rattle.njh_customer.specs.MovingLaws.{EventsMoveSo, FramesDoSo, SignalsDoSo, TakesMoveSo, coming}
 use Rattle.njh_customer.specs.Laws.{followed_by}
 use Rattle.njh_customer.proofs.PieceLaws.{no_bytes_do_nothing, steps_follow_bytes}

@@ -8,9 +8,11 @@ use Rattle.njh_spool.specs.CustomerSpool.{CustomerSpool, WholeFile}
 use Rattle.njh_stream.specs.declared.sender.Sender.{Sender}
 use Rattle.njh_stream.specs.declared.sender.Sender.TheVariants as sender
 use Rattle.njh_stream.specs.Sending.{next_of}
-use Rattle.njh_sched.specs.NextBlock.{Outlet, Candidate, Filling, Source, WaitingAnswer, StreamAbort, StreamRequest, WaitingMessage, StreamTurn, answering}
-use Rattle.njh_sched.specs.NextBlock.{abort_where, sender_at, asking, may_ask, oldest, request_of, telling, serving, next_served, candidate}
-use Rattle.njh_sched.specs.NextBlock.{added_where, after_candidate, after_source_where, after_source, after_sources, filled_where, filled_block, sources}
+use Rattle.njh_sched.specs.NextBlock.{Outlet, Candidate, Filling, Source, WaitingAnswer, StreamAbort, StreamRequest}
+use Rattle.njh_sched.specs.NextBlock.{WaitingMessage, StreamTurn, answering, abort_where, sender_at, asking, may_ask}
+use Rattle.njh_sched.specs.NextBlock.{oldest, request_of, telling, serving, next_served, candidate, added_where}
+use Rattle.njh_sched.specs.NextBlock.{after_candidate, after_source_where, after_source, after_sources, filled_where}
+use Rattle.njh_sched.specs.NextBlock.{filled_block, sources}
 
 pub record Kept (y x : Filling) : Type 0 where
   pub fcs : y.block.fcs ≡ x.block.fcs

@@ -1,5 +1,6 @@
 -- What no record changes of a line: how it is set up, the last transmission, and how far it is.
-use Rattle.std.proofs.Common.{◌≡◌, ℕ, Bool, true, false, cond, ◌==◌, List, [], ◌∷◌, map, fold, Option, Some, None, Result, Ok, Err, refl, ap, ◌∙◌}
+use Rattle.std.proofs.Common.{◌≡◌, ℕ, Bool, true, false, cond, ◌==◌, List, [], ◌∷◌, map, fold, Option, Some, None}
+use Rattle.std.proofs.Common.{Result, Ok, Err, refl, ap, ◌∙◌}
 use Rattle.std.specs.Option.{option_map}
 use Rattle.std.proofs.Math.Seq.{map-set_same}
 use Rattle.njh_block.specs.Blocks.{Item, Data, Aborted, Long, Control, General, stream_number, stream_of}
@@ -19,10 +20,13 @@ use Rattle.njh_command.specs.Commands.{CommandOutcome, message_outcome}
 use Rattle.njh_line.specs.declared.Phase.{Phase}
 use Rattle.njh_line.specs.declared.config.Config.{Config}
 use Rattle.njh_line.specs.Lines.{with_answer, with_message}
-use Rattle.njh_customer.specs.Customer.{Customer, CustomerLine, no_customer_line, line_at, on_line, in_state, with_notice, receiver_at, with_receiver, sender_at, with_sender}
+use Rattle.njh_customer.specs.Customer.{Customer, CustomerLine, no_customer_line, line_at, on_line, in_state}
+use Rattle.njh_customer.specs.Customer.{with_notice, receiver_at, with_receiver, sender_at, with_sender}
 use Rattle.njh_customer.specs.Waiting.{with_answer_on, with_waiting, goes, with_message_to, all_said, with_notice_to}
-use Rattle.njh_customer.specs.Acting.{after_stream_arrival, after_stream_record, with_sender_outcome, after_permission, refusal_of, after_stream_request, peer_answered, without_sending}
-use Rattle.njh_customer.specs.Acting.{with_outcome, after_user_command, after_unknown_node, message_routed, message_read, after_message, after_record}
+use Rattle.njh_customer.specs.Acting.{after_stream_arrival, after_stream_record, with_sender_outcome, after_permission}
+use Rattle.njh_customer.specs.Acting.{refusal_of, after_stream_request, peer_answered, without_sending, with_outcome}
+use Rattle.njh_customer.specs.Acting.{after_user_command, after_unknown_node, message_routed, message_read}
+use Rattle.njh_customer.specs.Acting.{after_message, after_record}
 
 abbrev pub kept : CustomerLine → Config × List ℕ × Phase
 kept x = (x.state.config, x.state.last, x.state.session.phase)

@@ -1,5 +1,6 @@
 -- How a file leaves a customer's spool.
-use Rattle.std.proofs.Common.{◌≡◌, ℕ, Bool, true, false, ◌==◌, ◌||◌, List, [], ◌∷◌, ◌++◌, filter, not, refl, sym, ap, ◌∙◌}
+use Rattle.std.proofs.Common.{◌≡◌, ℕ, Bool, true, false, ◌==◌, ◌||◌, List, [], ◌∷◌, ◌++◌, filter, not, refl, sym, ap}
+use Rattle.std.proofs.Common.{◌∙◌}
 use Rattle.std.proofs.lemmas.Bool.{eqb-true}
 use Rattle.std.proofs.lemmas.List.Folds.{list_any-append}
 use Rattle.std.specs.List.{Contains}
@@ -14,10 +15,12 @@ use Rattle.njh_customer.specs.Customer.{with_marks}
 use Rattle.njh_customer.specs.NewRoutes.{entry_with}
 use Rattle.njh_customer.specs.OutgoingFiles.{Outgoing, each_stream, has_file, with_files}
 use Rattle.njh_customer.specs.Moves as moves
-use Rattle.njh_customer.specs.Moves.{Acts, Records, Routes, LeadsByMoves, nowhere, onward, Moves, MovesBy, by_record, by_sending, by_end, Sends, without_files}
+use Rattle.njh_customer.specs.Moves.{Acts, Records, Routes, LeadsByMoves, nowhere, onward, Moves, MovesBy, by_record}
+use Rattle.njh_customer.specs.Moves.{by_sending, by_end, Sends, without_files}
 use Rattle.njh_customer.specs.MovingLaws as laws
 use Rattle.njh_customer.specs.MovingLaws.{Leaves, LeavesBy, FilesLeaveSo, FilesLeaveSoBetween}
-use Rattle.njh_customer.proofs.FileListLaws.{any_numbered, one_gone, numbers, same_numbered, but_states, marked_numbers, changed_numbers}
+use Rattle.njh_customer.proofs.FileListLaws.{any_numbered, one_gone, numbers, same_numbered, but_states, marked_numbers}
+use Rattle.njh_customer.proofs.FileListLaws.{changed_numbers}
 use Rattle.njh_customer.proofs.RoutesMoves.{held_numbers}
 
 -- the streams give files up, and no file changes

@@ -1,6 +1,6 @@
 -- The lines that are marked as up are those that are up.
-use Rattle.std.proofs.Common.{◌≡◌, ℕ, Bool, true, false, ◌&&◌, ◌||◌, not, cond, List, [], ◌∷◌, map, length, set, get_or, Option, Some, None}
-use Rattle.std.proofs.Common.{Result, Ok, Err, nat_lt, refl, sym, ap, ◌∙◌}
+use Rattle.std.proofs.Common.{◌≡◌, ℕ, Bool, true, false, ◌&&◌, ◌||◌, not, cond, List, [], ◌∷◌, map, length, set, get_or}
+use Rattle.std.proofs.Common.{Option, Some, None, Result, Ok, Err, nat_lt, refl, sym, ap, ◌∙◌}
 use Rattle.std.proofs.Math.ListN.{get_or-map}
 use Rattle.std.proofs.Math.Seq.{map-set_same}
 use Rattle.std.proofs.lemmas.List.{map-set, set-get_or, set-set}
@@ -29,12 +29,15 @@ use Rattle.njh_line.specs.LineTable.{Input}
 use Rattle.njh_line.specs.Lines.{LineState, after_end, after_input}
 use Rattle.njh_line.specs.Up.{InputsKeepUp, KeepsUp}
 use Rattle.njh_customer.specs.declared.signal.Signal.{Signal}
-use Rattle.njh_customer.specs.Customer.{Customer, CustomerLine, IsMarked, no_customer_line, line_at, on_line, in_state, config_of, fresh_customer, quiet_line}
+use Rattle.njh_customer.specs.Customer.{Customer, CustomerLine, IsMarked, no_customer_line, line_at, on_line, in_state}
+use Rattle.njh_customer.specs.Customer.{config_of, fresh_customer, quiet_line}
 use Rattle.njh_customer.specs.Acting.{Acted, acted_where}
-use Rattle.njh_customer.specs.Sending.{Sending, sending_of_block, sending_of_control, sending_of_empty, next_block, sending_of_no_block, sending_of_reply, with_outlet, sending_of_written}
-use Rattle.njh_customer.specs.Alone.{Step, quiet, with_raised_line, goes_up, silent, replied_to, session_over_where, session_ended, carried_out}
-use Rattle.njh_customer.specs.Alone.{verdict_on, accepted_on, after_line_input, block_input, behind_records, after_block, text_read, after_text, after_received}
-use Rattle.njh_customer.specs.Alone.{signal_input, after_frame, after_signal}
+use Rattle.njh_customer.specs.Sending.{Sending, sending_of_block, sending_of_control, sending_of_empty, next_block}
+use Rattle.njh_customer.specs.Sending.{sending_of_no_block, sending_of_reply, with_outlet, sending_of_written}
+use Rattle.njh_customer.specs.Alone.{Step, quiet, with_raised_line, goes_up, silent, replied_to, session_over_where}
+use Rattle.njh_customer.specs.Alone.{session_ended, carried_out, verdict_on, accepted_on, after_line_input, block_input}
+use Rattle.njh_customer.specs.Alone.{behind_records, after_block, text_read, after_text, after_received, signal_input}
+use Rattle.njh_customer.specs.Alone.{after_frame, after_signal}
 use Rattle.njh_customer.specs.Feeding.{acted_on, byte_step, bytes_run, or_later, take_step, Taking}
 use Rattle.njh_customer.specs.NewRoutes.{taken_where, routes_given}
 use Rattle.njh_customer.specs.Part.{Part, rest_on}

@@ -7,9 +7,8 @@ use Rattle.njh_stream.specs.Sending.{destination_goes_by, is_line}
 use Rattle.njh_table.specs.Entries.{route_of}
 use Rattle.njh_table.specs.declared.Route.{Route}
 use Rattle.njh_table.specs.declared.Route.TheVariants.{Here, Line, Unknown}
-use Rattle.njh_customer.specs.code.Coherence.{streams_to_hub}
+use Rattle.njh_customer.specs.code.Coherence.{streams_to_hub, RoutesKeepCoherent}
 use Rattle.njh_customer.specs.NewRoutes.{UnroutedFilesStay, customer_with_routes}
-use Rattle.njh_customer.specs.code.Coherence.{RoutesKeepCoherent}
 use Rattle.njh_customer.proofs.CoherenceLaws.{NothingUnties}
 
 pub coherent_given : NothingUnties → RoutesKeepCoherent

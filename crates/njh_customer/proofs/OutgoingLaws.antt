@@ -14,10 +14,12 @@ use Rattle.njh_table.specs.declared.Route.{Route}
 use Rattle.njh_table.specs.declared.Route.TheVariants.{Here, Line, Unknown}
 use Rattle.njh_command.specs.Commands.{without_file}
 use Rattle.njh_line.specs.Lines.{with_answer, with_message}
-use Rattle.njh_customer.specs.Customer.{Customer, CustomerLine, no_customer_line, line_at, on_line, in_state, sender_at, with_sender}
+use Rattle.njh_customer.specs.Customer.{Customer, CustomerLine, no_customer_line, line_at, on_line, in_state, sender_at}
+use Rattle.njh_customer.specs.Customer.{with_sender}
 use Rattle.njh_customer.specs.Waiting.{with_answer_on, with_waiting, goes, with_message_to, all_said, with_notice_to}
 use Rattle.njh_customer.specs.Acting.{without_sending}
-use Rattle.njh_customer.specs.OutgoingFiles.{Outgoing, outgoing, streams_from_hub, sender_on, with_sender_on, with_files}
+use Rattle.njh_customer.specs.OutgoingFiles.{Outgoing, outgoing, streams_from_hub, sender_on, with_sender_on}
+use Rattle.njh_customer.specs.OutgoingFiles.{with_files}
 use Rattle.njh_customer.specs.Moves.{without_files}
 
 abbrev pub of_parts : List WholeFile → List (List Sender) → Outgoing

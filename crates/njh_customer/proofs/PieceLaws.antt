@@ -1,5 +1,6 @@
 -- A piece worked off step by step is the run over its bytes.
-use Rattle.std.proofs.Common.{◌≡◌, ℕ, suc, ◌+◌, ◌<◌, List, [], ◌∷◌, ◌++◌, length, take, set, refl, ap, sym, ◌∙◌, arith, append_assoc}
+use Rattle.std.proofs.Common.{◌≡◌, ℕ, suc, ◌+◌, ◌<◌, List, [], ◌∷◌, ◌++◌, length, take, set, refl, ap, sym, ◌∙◌, arith}
+use Rattle.std.proofs.Common.{append_assoc}
 use Rattle.std.proofs.lemmas.List.{get_or-set_same, length-set, set-set, set-get_or}
 use Rattle.njh_bisync.specs.Reading.{Rest, Nothing}
 use Rattle.njh_customer.specs.Customer.{Customer}

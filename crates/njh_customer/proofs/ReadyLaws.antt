@@ -1,6 +1,6 @@
 -- A line is ready for what comes next.
-use Rattle.std.proofs.Common.{◌≡◌, ℕ, ◌<◌, Bool, true, false, cond, ◌&&◌, not, List, [], ◌∷◌, length, drop, slice_get, slice_set, nat_lt, Some}
-use Rattle.std.proofs.Common.{refl, sym, ap, ap₂, subst, ◌∙◌, arith}
+use Rattle.std.proofs.Common.{◌≡◌, ℕ, ◌<◌, Bool, true, false, cond, ◌&&◌, not, List, [], ◌∷◌, length, drop, slice_get}
+use Rattle.std.proofs.Common.{slice_set, nat_lt, Some, refl, sym, ap, ap₂, subst, ◌∙◌, arith}
 use Rattle.std.proofs.lemmas.Bool.{ltb-false}
 use Rattle.std.proofs.lemmas.List.{length-map, length-set, set-set, set-get_or, get_or-set_same}
 use Rattle.njh_spool.specs.CustomerSpool.{CustomerSpool}
@@ -11,12 +11,13 @@ use Rattle.njh_table.specs.TableFile.{NamedCustomer, TableFile, HasLine, custome
 use Rattle.njh_line.specs.Laws.{is_up}
 use Rattle.njh_line.specs.LineTable.{Input}
 use Rattle.njh_line.specs.Lines.{after_input}
-use Rattle.njh_customer.specs.Customer.{Customer, CustomerLine, customer_with, in_state, line_at, no_customer_line, on_line}
+use Rattle.njh_customer.specs.Customer.{Customer, CustomerLine, customer_with, in_state, line_at, no_customer_line}
+use Rattle.njh_customer.specs.Customer.{on_line}
 use Rattle.njh_customer.specs.code.Coherence.{IsCoherent}
 use Rattle.njh_block.specs.Blocks.{Block, Item}
 use Rattle.njh_line.specs.declared.verdict.Verdict.{Verdict}
-use Rattle.njh_customer.specs.Alone.{Step, accepted_on, behind_records, after_block, block_input, carried_out, goes_up_by, after_line_input, with_raised_line, silent}
-use Rattle.njh_customer.specs.Alone.{verdict_on, where_there}
+use Rattle.njh_customer.specs.Alone.{Step, accepted_on, behind_records, after_block, block_input, carried_out}
+use Rattle.njh_customer.specs.Alone.{goes_up_by, after_line_input, with_raised_line, silent, verdict_on, where_there}
 use Rattle.njh_customer.specs.Acting.{after_record, acted_where, all_acted, ended_or, ends_session}
 use Rattle.njh_customer.specs.CustomerSteps.{Brings, Leads, IsReady, KeepsOtherEntries, customer_of, with_customer}
 use Rattle.njh_customer.proofs.StepLaws.{Stays}

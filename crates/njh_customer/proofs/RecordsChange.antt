@@ -1,6 +1,7 @@
 -- What becomes of the records of whole files.
-use Rattle.std.proofs.Common.{◌≡◌, ℕ, ◌+◌, ◌-◌, ◌≤◌, Bool, true, false, cond, not, ◌&&◌, ◌==◌, ◌⊎◌, inl, inr, List, [], ◌∷◌, ◌++◌, length, map, filter, replicate}
-use Rattle.std.proofs.Common.{Option, Some, None, Result, Ok, Err, nat_lt, refl, sym, ap, subst, ◌∙◌, arith}
+use Rattle.std.proofs.Common.{◌≡◌, ℕ, ◌+◌, ◌-◌, ◌≤◌, Bool, true, false, cond, not, ◌&&◌, ◌==◌, ◌⊎◌, inl, inr, List, []}
+use Rattle.std.proofs.Common.{◌∷◌, ◌++◌, length, map, filter, replicate, Option, Some, None, Result, Ok, Err, nat_lt}
+use Rattle.std.proofs.Common.{refl, sym, ap, subst, ◌∙◌, arith}
 use Rattle.std.proofs.lemmas.Bool.{ltb-false}
 use Rattle.std.proofs.lemmas.List.{length-append, length-replicate}
 use Rattle.std.proofs.lemmas.List.Elements.{Contains-push_cases}
@@ -25,7 +26,8 @@ use Rattle.njh_stream.specs.Sending.{ready}
 use Rattle.njh_stream.specs.Transmissions.{is_whole}
 use Rattle.njh_command.specs.declared.command.Command.TheVariants as commands
 use Rattle.njh_command.specs.Words.{command_in, file_command, name_in, node_in, reroute_command, says, words}
-use Rattle.njh_command.specs.Commands.{changed_file, is_of_name, may_change, is_sending, with_new_destination, file_in_state}
+use Rattle.njh_command.specs.Commands.{changed_file, is_of_name, may_change, is_sending, with_new_destination}
+use Rattle.njh_command.specs.Commands.{file_in_state}
 use Rattle.njh_command.specs.Files.{no_file}
 use Rattle.njh_customer.specs.Customer.{with_marks}
 use Rattle.njh_customer.specs.NewRoutes.{entry_with}

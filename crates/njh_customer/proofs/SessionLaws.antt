@@ -1,6 +1,6 @@
 -- What a line sends, the end of its session, and all that comes on it leave a customer coherent.
-use Rattle.std.proofs.Common.{◌≡◌, ℕ, ◌<◌, Bool, true, false, List, [], ◌∷◌, length, set, replicate, Option, Some, None, Result, Ok, Err}
-use Rattle.std.proofs.Common.{refl, sym, subst, ◌∙◌, arith, nat_lt, cond}
+use Rattle.std.proofs.Common.{◌≡◌, ℕ, ◌<◌, Bool, true, false, List, [], ◌∷◌, length, set, replicate, Option, Some, None}
+use Rattle.std.proofs.Common.{Result, Ok, Err, refl, sym, subst, ◌∙◌, arith, nat_lt, cond}
 use Rattle.std.proofs.Math.ListN.{get_or-map}
 use Rattle.std.proofs.Math.Seq.{map-set_same}
 use Rattle.std.proofs.lemmas.List.{map-set, length-map, length-set, length-replicate}
@@ -31,8 +31,10 @@ use Rattle.njh_customer.specs.Customer.{Customer, no_customer_line, line_at, on_
 use Rattle.njh_customer.specs.code.Coherence.{streams_to_hub, HasStreams, IsCoherent}
 use Rattle.njh_customer.specs.Sending.{LineSent, outlet_of, own_block, sending_of_reply}
 use Rattle.njh_customer.specs.Acting.{acted_where}
-use Rattle.njh_customer.specs.Alone.{Step, silent, after_reply, replied_to, quiet, session_over, session_over_where, session_ended, carried_out, verdict_on}
-use Rattle.njh_customer.specs.Alone.{accepted_on, after_line_input, block_input, behind_records, after_block, text_read, after_text, after_received, signal_input, after_frame, after_signal}
+use Rattle.njh_customer.specs.Alone.{Step, silent, after_reply, replied_to, quiet, session_over, session_over_where}
+use Rattle.njh_customer.specs.Alone.{session_ended, carried_out, verdict_on, accepted_on, after_line_input, block_input}
+use Rattle.njh_customer.specs.Alone.{behind_records, after_block, text_read, after_text, after_received, signal_input}
+use Rattle.njh_customer.specs.Alone.{after_frame, after_signal}
 use Rattle.njh_customer.specs.Feeding.{acted_on}
 use Rattle.njh_customer.proofs.ShapeLaws.{shape, on_line_shapes}
 use Rattle.njh_customer.proofs.CoherenceLaws.{ArrivalsTie, NothingUnties, EndsTie}

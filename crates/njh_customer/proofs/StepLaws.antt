@@ -1,6 +1,6 @@
 -- What the steps of a customer leave: it stays coherent, and has as many lines.
-use Rattle.std.proofs.Common.{◌≡◌, ℕ, ◌+◌, ◌%◌, ◌<◌, ◌≤◌, Bool, true, false, cond, ◌==◌, List, [], ◌∷◌, length, fold, Option, Some, None}
-use Rattle.std.proofs.Common.{Result, Ok, Err, refl, ◌∙◌, arith, nat_lt}
+use Rattle.std.proofs.Common.{◌≡◌, ℕ, ◌+◌, ◌%◌, ◌<◌, ◌≤◌, Bool, true, false, cond, ◌==◌, List, [], ◌∷◌, length, fold}
+use Rattle.std.proofs.Common.{Option, Some, None, Result, Ok, Err, refl, ◌∙◌, arith, nat_lt}
 use Rattle.std.specs.Option.{option_map}
 use Rattle.std.proofs.lemmas.List.{length-set}
 use Rattle.std.proofs.lemmas.Bool.{ltb-true}
@@ -30,11 +30,15 @@ use Rattle.njh_customer.specs.Customer.{Customer, CustomerLine, no_customer_line
 use Rattle.njh_customer.specs.Customer.{with_sender, with_notice, with_receiver, receiver_at}
 use Rattle.njh_customer.specs.code.Coherence.{IsCoherent}
 use Rattle.njh_customer.specs.Waiting.{with_answer_on, with_waiting, with_message_to, with_notice_to}
-use Rattle.njh_customer.specs.Acting.{after_stream_arrival, after_stream_record, with_sender_outcome, after_permission, after_peer_answer, refusal_of, after_stream_request, peer_answered}
-use Rattle.njh_customer.specs.Acting.{without_sending, with_outcome, after_user_command, after_unknown_node, message_routed, message_read, after_message, after_record, ends_session}
-use Rattle.njh_customer.specs.Acting.{ended_or, all_acted, acted_where}
-use Rattle.njh_customer.proofs.ShapeLaws.{shapes, on_line_shapes, answered_shapes, waits_shapes, said_shapes, all_said_shapes, notified_shapes, all_given_up_shapes}
-use Rattle.njh_customer.proofs.CoherenceLaws.{as_many, ArrivalsTie, NothingUnties, IsLike, coherent_still, keeps_arrived}
+use Rattle.njh_customer.specs.Acting.{after_stream_arrival, after_stream_record, with_sender_outcome, after_permission}
+use Rattle.njh_customer.specs.Acting.{after_peer_answer, refusal_of, after_stream_request, peer_answered}
+use Rattle.njh_customer.specs.Acting.{without_sending, with_outcome, after_user_command, after_unknown_node}
+use Rattle.njh_customer.specs.Acting.{message_routed, message_read, after_message, after_record, ends_session, ended_or}
+use Rattle.njh_customer.specs.Acting.{all_acted, acted_where}
+use Rattle.njh_customer.proofs.ShapeLaws.{shapes, on_line_shapes, answered_shapes, waits_shapes, said_shapes}
+use Rattle.njh_customer.proofs.ShapeLaws.{all_said_shapes, notified_shapes, all_given_up_shapes}
+use Rattle.njh_customer.proofs.CoherenceLaws.{as_many, ArrivalsTie, NothingUnties, IsLike, coherent_still}
+use Rattle.njh_customer.proofs.CoherenceLaws.{keeps_arrived}
 
 pub record Stays (d c : Customer) : Type 0 where
   pub coherent : IsCoherent d

@@ -1,6 +1,6 @@
 -- How a stream from the hub moves.
-use Rattle.std.proofs.Common.{◌≡◌, ℕ, zero, suc, ◌+◌, Bool, true, false, ◌⊎◌, inl, inr, List, [], ◌∷◌, length, map, set, get_or, replicate, filter, find, not}
-use Rattle.std.proofs.Common.{Some, None, refl, sym, ap, subst, ◌∙◌}
+use Rattle.std.proofs.Common.{◌≡◌, ℕ, zero, suc, ◌+◌, Bool, true, false, ◌⊎◌, inl, inr, List, [], ◌∷◌, length, map, set}
+use Rattle.std.proofs.Common.{get_or, replicate, filter, find, not, Some, None, refl, sym, ap, subst, ◌∙◌}
 use Rattle.std.proofs.Math.ListN.{get_or-map}
 use Rattle.std.specs.List.{Contains}
 use Rattle.njh_block.specs.Blocks.{Item}
@@ -13,10 +13,12 @@ use Rattle.njh_stream.specs.declared.sender.Sender.TheVariants.{Idle, Requested,
 use Rattle.njh_stream.specs.Sending.{file_in, goes_by}
 use Rattle.njh_sched.specs.NextBlock.{may_go}
 use Rattle.njh_command.specs.Commands.{aborted_where, is_of_name, is_about, without_file}
-use Rattle.njh_customer.specs.OutgoingFiles.{Outgoing, each_stream, with_file_state, sender_on, streams_of, with_files, with_sender_on, without_numbered}
+use Rattle.njh_customer.specs.OutgoingFiles.{Outgoing, each_stream, with_file_state, sender_on, streams_of, with_files}
+use Rattle.njh_customer.specs.OutgoingFiles.{with_sender_on, without_numbered}
 use Rattle.njh_customer.specs.Customer.{with_marks}
 use Rattle.njh_customer.specs.Moves as moves
-use Rattle.njh_customer.specs.Moves.{Acts, Records, Routes, Moves, by_record, by_sending, by_end, Sends, Tells, without_files}
+use Rattle.njh_customer.specs.Moves.{Acts, Records, Routes, Moves, by_record, by_sending, by_end, Sends, Tells}
+use Rattle.njh_customer.specs.Moves.{without_files}
 use Rattle.njh_customer.specs.MovingLaws as laws
 use Rattle.njh_customer.specs.MovingLaws.{StreamMoves, StreamsMoveSo, IdleStreamsTakeFiles}
 

@@ -18,8 +18,8 @@ use Rattle.njh_stream.specs.Receiving as receiving
 use Rattle.njh_stream.specs.Receiving.{Arrival, Received, received_arrival}
 use Rattle.njh_stream.specs.Sending.{SenderOutcome, after_grant, after_refusal, after_completion}
 use Rattle.njh_command.specs.Commands.{message_outcome, without_file, CommandOutcome}
-use Rattle.njh_customer.specs.Customer.{Customer, CustomerLine, line_at, on_line, with_notice, receiver_at, with_receiver}
-use Rattle.njh_customer.specs.Customer.{sender_at, with_sender}
+use Rattle.njh_customer.specs.Customer.{Customer, CustomerLine, line_at, on_line, with_notice, receiver_at}
+use Rattle.njh_customer.specs.Customer.{with_receiver, sender_at, with_sender}
 use Rattle.njh_customer.specs.Waiting.{with_answer_on, with_waiting, with_message_to, all_said, with_notice_to}
 
 -- ---- streams to the hub
@@ -30,11 +30,13 @@ after_arrival l k done c = record c {
   spool = done.spool;
   lines =
       on_line l (with_notice k done.receiver done.notice)
-      (with_notice_to c.entry done.notice (with_answer_on l (option_map (answer_on k) done.answer) (on_line l (with_receiver k done.receiver) c.lines)));
+      (with_notice_to c.entry done.notice (with_answer_on l (option_map (answer_on k) done.answer)
+      (on_line l (with_receiver k done.receiver) c.lines)));
 }
 
 abbrev pub after_stream_arrival : ℕ → ℕ → Arrival → Customer → Customer
-after_stream_arrival l k a c = after_arrival l k (received_arrival c.entry l (kind_of k) (receiver_at k (line_at l c.lines)) a c.spool) c
+after_stream_arrival l k a c =
+    after_arrival l k (received_arrival c.entry l (kind_of k) (receiver_at k (line_at l c.lines)) a c.spool) c
 
 -- by an RCB, which may name no stream of the line
 abbrev pub after_stream_record : ℕ → Option ℕ → Arrival → Customer → Customer
@@ -47,7 +49,8 @@ abbrev pub with_sender_outcome : ℕ → ℕ → SenderOutcome → Customer → 
 with_sender_outcome l k sent c = record c { spool = sent.spool; lines = on_line l (with_sender k sent.sender) c.lines }
 
 abbrev pub after_permission : ℕ → ℕ → Customer → Customer
-after_permission l k c = record c { lines = on_line l (with_sender k (after_grant (sender_at k (line_at l c.lines)))) c.lines }
+after_permission l k c =
+    record c { lines = on_line l (with_sender k (after_grant (sender_at k (line_at l c.lines)))) c.lines }
 
 -- A0, B0 and C0 of the peer
 abbrev pub after_peer_answer : ℕ → ℕ → ℕ → Customer → Customer
@@ -64,7 +67,8 @@ refusal_of srcb None = None
 refusal_of srcb (Some n) = Some (record { rcb = Refusal; stream = record { byte = srcb } })
 
 abbrev pub after_stream_request : ℕ → ℕ → Option ℕ → Customer → Customer
-after_stream_request l srcb None c = record c { lines = with_answer_on l (refusal_of srcb (stream_number srcb)) c.lines }
+after_stream_request l srcb None c =
+    record c { lines = with_answer_on l (refusal_of srcb (stream_number srcb)) c.lines }
 after_stream_request l srcb (Some k) c = after_stream_arrival l k receiving.Request c
 
 abbrev pub peer_answered : ℕ → ℕ → Option ℕ → Customer → Customer
@@ -103,7 +107,8 @@ after_unknown_node n c = record c { lines = with_message_to c.entry (n.origin, n
 -- not back, and of a node that nobody has the user hears who commanded something.
 abbrev pub message_routed : ℕ → Nodal → List ℕ → Route → Customer → Customer
 message_routed l n bytes Here c = cond (is_user_command n) (after_user_command n c) c
-message_routed l n bytes (Line k) c = cond (k == l) c (record c { lines = with_waiting k (cut_after_message bytes) c.lines })
+message_routed l n bytes (Line k) c =
+    cond (k == l) c (record c { lines = with_waiting k (cut_after_message bytes) c.lines })
 message_routed l n bytes Unknown c = cond (is_user_command n) (after_unknown_node n c) c
 
 -- what is no nodal message is ignored
@@ -119,12 +124,14 @@ after_message l bytes c = message_read l bytes (nodal_of bytes) c
 -- a record with bytes: a nodal message, or one of a stream
 abbrev pub after_data : ℕ → ℕ → ℕ → List ℕ → Customer → Customer
 after_data l rcb srcb bytes c =
-    cond (rcb == 0x9a) (after_message l bytes c) (after_stream_record l (stream_of (line_at l c.lines).streams rcb) (receiving.Data srcb bytes) c)
+    cond (rcb == 0x9a) (after_message l bytes c)
+    (after_stream_record l (stream_of (line_at l c.lines).streams rcb) (receiving.Data srcb bytes) c)
 
 -- what a record does that ends no session
 abbrev pub after_record : ℕ → Item → Customer → Customer
 after_record l (Data rcb srcb bytes) c = after_data l rcb srcb bytes c
-after_record l (Aborted rcb srcb) c = after_stream_record l (stream_of (line_at l c.lines).streams rcb) receiving.Abort c
+after_record l (Aborted rcb srcb) c =
+    after_stream_record l (stream_of (line_at l c.lines).streams rcb) receiving.Abort c
 after_record l (Long rcb srcb) c = after_stream_record l (stream_of (line_at l c.lines).streams rcb) receiving.Long c
 after_record l (Control rcb srcb) c = after_control_record l rcb srcb c
 after_record l (General srcb rest) c = c

@@ -35,7 +35,8 @@ silent c = record { after = c; frame = [] }
 
 -- a line sends what a verdict asks for
 abbrev pub after_reply : ℕ → LineSent → Customer → Step
-after_reply l sent c = record { after = record c { spool = sent.spool; lines = slice_set c.lines l sent.line }; frame = sent.frame }
+after_reply l sent c =
+    record { after = record c { spool = sent.spool; lines = slice_set c.lines l sent.line }; frame = sent.frame }
 
 abbrev pub replied_to : ℕ → Reply → Customer → Step
 replied_to l reply c = after_reply l (sending_of_reply c.entry l reply c.spool (line_at l c.lines)) c
@@ -58,7 +59,8 @@ spool_over entry l x s = without_all_open x.receivers (tried_again entry l (all_
 
 -- they are judged by the marks as these were just before
 abbrev pub session_closed : ℕ → Customer → Customer
-session_closed l c = record c { spool = spool_over c.entry l (line_at l c.lines) c.spool; lines = on_line l quiet c.lines }
+session_closed l c =
+    record c { spool = spool_over c.entry l (line_at l c.lines) c.spool; lines = on_line l quiet c.lines }
 
 -- and then the line counts as not up
 abbrev pub session_over : ℕ → Customer → Customer
@@ -76,7 +78,8 @@ session_ended l c = session_over l (record c { lines = on_line l (in_state after
 
 -- what a verdict asks for is sent, and then the session ends where it says so
 abbrev pub carried_out : ℕ → Verdict → Customer → Step
-carried_out l v c = let s = replied_to l v.reply c in record { after = session_over_where v.ended l s.after; frame = s.frame }
+carried_out l v c =
+    let s = replied_to l v.reply c in record { after = session_over_where v.ended l s.after; frame = s.frame }
 
 -- the line table's verdict on what comes
 abbrev pub verdict_on : ℕ → Input → Customer → Verdict
@@ -97,7 +100,10 @@ goes_up_by l came c = let x = (line_at l c.lines).state in goes_up x.session.pha
 
 -- the line table judges what comes, and a line that goes up counts as up from then on
 abbrev pub accepted_on : ℕ → Input → Customer → Customer
-accepted_on l came c = record c { entry = with_raised_line (goes_up_by l came c) l c.entry; lines = on_line l (in_state (after_input came)) c.lines }
+accepted_on l came c = record c {
+  entry = with_raised_line (goes_up_by l came c) l c.entry;
+  lines = on_line l (in_state (after_input came)) c.lines;
+}
 
 -- what comes to a line but a good block
 abbrev pub after_line_input : ℕ → Input → Customer → Step

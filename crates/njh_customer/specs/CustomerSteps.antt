@@ -20,18 +20,21 @@ abbrev pub KeepsOtherEntries : ℕ → TableFile → TableFile → Type 0
 KeepsOtherEntries c old new = new ≡ with_customer c (customer_at new c) old
 
 -- It is led to what it is after, and the others' files stay. The tables stay too.
-pub record Leads (tables : TableFile) (c : ℕ) (old new : List CustomerSpool) (lines : List CustomerLine) (after : Customer) : Type 0 where
+pub record Leads (tables : TableFile) (c : ℕ) (old new : List CustomerSpool) (lines : List CustomerLine)
+    (after : Customer) : Type 0 where
   pub customer : customer_of tables c new lines ≡ after
   pub others : new ≡ slice_set old c (spool_at c new)
 
 -- It is brought to what it is after, its marks among it, and the others' entries and files stay.
-pub record Brings (tables retold : TableFile) (c : ℕ) (old new : List CustomerSpool) (lines : List CustomerLine) (after : Customer) : Type 0 where
+pub record Brings (tables retold : TableFile) (c : ℕ) (old new : List CustomerSpool) (lines : List CustomerLine)
+    (after : Customer) : Type 0 where
   pub customer : customer_of retold c new lines ≡ after
   pub others : new ≡ slice_set old c (spool_at c new)
   pub entries : KeepsOtherEntries c tables retold
 
 -- A line of a customer that is there, and whose customer is coherent.
-pub record IsReady (tables : TableFile) (id : LineId) (spools : List CustomerSpool) (lines : List CustomerLine) : Type 0 where
+pub record IsReady (tables : TableFile) (id : LineId) (spools : List CustomerSpool)
+    (lines : List CustomerLine) : Type 0 where
   pub known : id.customer < length tables.customers
   pub spooled : id.customer < length spools
   pub there : id.number < length lines

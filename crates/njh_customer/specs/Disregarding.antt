@@ -24,14 +24,16 @@ pub record IsButSession (l : ℕ) (c d : Customer) : Type 0 where
 pub record IsDisregarded (l : ℕ) (c : Customer) (s : Step) : Type 0 where
   pub down : in_session (session_on l c).phase ≡ false → s ≡ silent c
   pub goes_on : (session_on l c).tries ≢ 5 → IsButSession l c s.after
-  pub over : l < length c.lines → in_session (session_on l c).phase ≡ true → (session_on l c).tries ≡ 5 → s ≡ silent (session_ended l c)
+  pub over : l < length c.lines → in_session (session_on l c).phase ≡ true → (session_on l c).tries ≡ 5
+      → s ≡ silent (session_ended l c)
 
 abbrev pub SpoiledIsDisregarded : Type 0
 SpoiledIsDisregarded = (l : ℕ) (c : Customer) → IsDisregarded l c (after_frame l Spoiled c)
 
 abbrev pub BadBlocksAreDisregarded : Type 0
 BadBlocksAreDisregarded =
-    (l : ℕ) (text : List ℕ) (fault : BlockFault) (c : Customer) → read_block text ≡ Err fault → IsDisregarded l c (after_frame l (Text text) c)
+    (l : ℕ) (text : List ℕ) (fault : BlockFault) (c : Customer) → read_block text ≡ Err fault
+    → IsDisregarded l c (after_frame l (Text text) c)
 
 abbrev pub GarbledIsDisregarded : Type 0
 GarbledIsDisregarded = (l : ℕ) (c : Customer) → IsDisregarded l c (after_signal l Garbled c)

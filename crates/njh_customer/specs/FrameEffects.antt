@@ -42,7 +42,8 @@ records_of_frame frame.Spoiled = []
 pub data Carries (l k : ℕ) (items : List Item) (x y : Outgoing) : Type 0 where
   nothing : sends_file (sender_on l k x) ≡ false → records_under (rcb_of k) items ≡ [] → Carries l k items x y
   on_its_way :
-      (n place more : ℕ) → sender_on l k x ≡ Sending n place → length (take more (drop place (records_numbered n x))) ≡ more
+      (n place more : ℕ) → sender_on l k x ≡ Sending n place
+      → length (take more (drop place (records_numbered n x))) ≡ more
       → sender_on l k y ≡ Sending n (place + more)
       → records_under (rcb_of k) items ≡ map (record_item k) (take more (drop place (records_numbered n x)))
       → Carries l k items x y
@@ -58,7 +59,8 @@ pub data IsNoNewBlock (line : LineState) (sent : List ℕ) : Type 0 where
   control : (which : frame_control.Control) → sent ≡ control_bytes which → IsNoNewBlock line sent
   again : sent ≡ line.last → IsNoNewBlock line sent
   sign_on : (kind : Opening) → sent ≡ text_bytes (opening kind line.config) → IsNoNewBlock line sent
-  count : (bcb : ℕ) (fcs : ℕ × ℕ) (expected : ℕ) → sent ≡ text_bytes (text_of bcb fcs (Control 0xe0 expected ∷ [])) → IsNoNewBlock line sent
+  count : (bcb : ℕ) (fcs : ℕ × ℕ) (expected : ℕ) → sent ≡ text_bytes (text_of bcb fcs (Control 0xe0 expected ∷ []))
+      → IsNoNewBlock line sent
   without_records : (bcb : ℕ) (fcs : ℕ × ℕ) → sent ≡ text_bytes (text_of bcb fcs []) → IsNoNewBlock line sent
 
 -- What goes out on a line that stood so: what is no new block, and moves nothing; or a new block, by whose records the
@@ -66,7 +68,8 @@ pub data IsNoNewBlock (line : LineState) (sent : List ℕ) : Type 0 where
 pub data GoesOut (entry : CustomerEntry) (l : ℕ) (line : LineState) (x y : Outgoing) (sent : List ℕ) : Type 0 where
   no_block : y ≡ x → IsNoNewBlock line sent → GoesOut entry l line x y sent
   new_block :
-      (bcb : ℕ) (fcs : ℕ × ℕ) (items : List Item) → sent ≡ text_bytes (text_of bcb fcs items) → LeadsByMoves (Sends entry l) x y
+      (bcb : ℕ) (fcs : ℕ × ℕ) (items : List Item) → sent ≡ text_bytes (text_of bcb fcs items)
+      → LeadsByMoves (Sends entry l) x y
       → ((k : ℕ) → k < 8 → k < length (streams_of l x) → Carries l k items x y) → GoesOut entry l line x y sent
 
 -- How a step ends that was judged by an entry: the line's session goes on, or it is over, and then the line counts as

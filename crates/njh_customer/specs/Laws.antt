@@ -19,7 +19,8 @@ NoBytesDoNothing = (p : Part) (l : ℕ) → event_run p (OwnBytes l []) ≡ reco
 
 -- a step by bytes that come after others: the part is the step's, and its frame comes last
 abbrev pub followed_by : Run → ℕ → List ℕ → Run
-followed_by r l left = let t = part_after_bytes r.after l left in record { after = t.after; sent = r.sent ++ sent_on l t.frame }
+followed_by r l left =
+    let t = part_after_bytes r.after l left in record { after = t.after; sent = r.sent ++ sent_on l t.frame }
 
 -- Bytes, and then a step by what is left, are those bytes and the step's.
 abbrev pub StepsFollowBytes : Type 0
@@ -32,7 +33,8 @@ StepsFollowBytes =
 abbrev pub FirstBytesSendFirst : Type 0
 FirstBytesSendFirst =
     (p : Part) (l : ℕ) (front back : List ℕ) →
-    (more : List (ℕ × List ℕ)) × ((event_run p (OwnBytes l front)).sent ++ more ≡ (event_run p (OwnBytes l (front ++ back))).sent)
+    (more : List (ℕ × List ℕ))
+    × ((event_run p (OwnBytes l front)).sent ++ more ≡ (event_run p (OwnBytes l (front ++ back))).sent)
 
 -- ---- what no event changes
 
@@ -56,7 +58,8 @@ EventsKeepFaults =
 
 -- The customer has as many lines.
 abbrev pub EventsKeepLines : Type 0
-EventsKeepLines = (p : Part) (event : OwnEvent) → length (event_run p event).after.customer.lines ≡ length p.customer.lines
+EventsKeepLines =
+    (p : Part) (event : OwnEvent) → length (event_run p event).after.customer.lines ≡ length p.customer.lines
 
 -- ---- the marks of the lines
 
@@ -65,4 +68,5 @@ EventsKeepLines = (p : Part) (event : OwnEvent) → length (event_run p event).a
 pub record MarksAreRight : Type 0 where
   pub fresh : (entry : CustomerEntry) → IsMarked (fresh_customer entry)
   pub events : (p : Part) (event : OwnEvent) → IsMarked p.customer → IsMarked (event_run p event).after.customer
-  pub takes : (p : Part) (l : ℕ) (piece : List ℕ) → IsMarked p.customer → IsMarked (part_after_bytes p l piece).after.customer
+  pub takes : (p : Part) (l : ℕ) (piece : List ℕ) → IsMarked p.customer
+      → IsMarked (part_after_bytes p l piece).after.customer

@@ -21,11 +21,12 @@ use Rattle.njh_sched.specs.NextBlock.{may_go}
 use Rattle.njh_command.specs.declared.command.Command.{Command}
 use Rattle.njh_command.specs.declared.command.Command.TheVariants.{Hold, Release, Cancel, Reroute}
 use Rattle.njh_command.specs.Words.{command_of}
-use Rattle.njh_command.specs.Commands.{changed_file, is_of_name, is_busy, with_new_destination, file_in_state, without_file}
+use Rattle.njh_command.specs.Commands.{changed_file, is_of_name, is_busy, with_new_destination, file_in_state}
+use Rattle.njh_command.specs.Commands.{without_file}
 use Rattle.njh_customer.specs.Customer.{with_marks}
 use Rattle.njh_customer.specs.NewRoutes.{entry_with}
-use Rattle.njh_customer.specs.OutgoingFiles.{Outgoing, each_stream, with_file_state, record_numbered, sender_on, streams_of}
-use Rattle.njh_customer.specs.OutgoingFiles.{with_files, with_sender_on, with_streams, without_numbered}
+use Rattle.njh_customer.specs.OutgoingFiles.{Outgoing, each_stream, with_file_state, record_numbered, sender_on}
+use Rattle.njh_customer.specs.OutgoingFiles.{streams_of, with_files, with_sender_on, with_streams, without_numbered}
 
 -- ---- by a record that comes
 
@@ -70,11 +71,13 @@ pub data Acts (entry : CustomerEntry) (l : ℕ) (i : Item) (x y : Outgoing) : Ty
       → y ≡ with_files (x.files ++ f ∷ []) x → Acts entry l i x y
   -- A0 to a stream that asked: it sends the file, from its first record on
   permitted :
-      (streams k n : ℕ) → Tells 0xa0 streams k i → sender_on l k x ≡ Requested n → y ≡ with_sender_on l k (Sending n 0) x
+      (streams k n : ℕ) → Tells 0xa0 streams k i → sender_on l k x ≡ Requested n
+      → y ≡ with_sender_on l k (Sending n 0) x
       → Acts entry l i x y
   -- B0: the file is refused, and the stream has none
   refused :
-      (streams k n : ℕ) (after : Sender) → Tells 0xb0 streams k i → file_in (sender_on l k x) ≡ Some n → file_in after ≡ None
+      (streams k n : ℕ) (after : Sender) → Tells 0xb0 streams k i → file_in (sender_on l k x) ≡ Some n
+      → file_in after ≡ None
       → y ≡ with_sender_on l k after (with_files (with_file_state n state.Refused x.files) x) → Acts entry l i x y
   -- C0 to a stream that sent its end of file: the peer has the file, and it is gone
   completed :
@@ -89,9 +92,11 @@ pub data Acts (entry : CustomerEntry) (l : ℕ) (i : Item) (x y : Outgoing) : Ty
       → y ≡ with_changed (is_of_name who name) (file_in_state state.Ready) x → Acts entry l i x y
   reroutes :
       (who : List ℕ × List ℕ) (name : List ℕ × ℕ) (node : List ℕ) (line : ℕ) → Commands entry who (Reroute name node) i
-      → route_of entry node ≡ Line line → y ≡ with_changed (is_of_name who name) (with_new_destination node) x → Acts entry l i x y
+      → route_of entry node ≡ Line line → y ≡ with_changed (is_of_name who name) (with_new_destination node) x
+      → Acts entry l i x y
   cancels :
-      (who : List ℕ × List ℕ) (name : List ℕ × ℕ) → Commands entry who (Cancel name) i → y ≡ without_cancelled (is_of_name who name) x
+      (who : List ℕ × List ℕ) (name : List ℕ × ℕ) → Commands entry who (Cancel name) i
+      → y ≡ without_cancelled (is_of_name who name) x
       → Acts entry l i x y
 
 -- ---- by a record that goes out in a new block
@@ -102,14 +107,16 @@ pub data Sends (entry : CustomerEntry) (l : ℕ) (x y : Outgoing) : Type 0 where
   -- a request: an idle stream asks for the oldest file that may go
   asks :
       (k : ℕ) (f : WholeFile) → sender_on l k x ≡ Idle → find (may_go (goes_by entry l) (kind_of k)) x.files ≡ Some f
-      → y ≡ with_sender_on l k (Requested f.number) (with_files (with_file_state f.number state.Sending x.files) x) → Sends entry l x y
+      → y ≡ with_sender_on l k (Requested f.number) (with_files (with_file_state f.number state.Sending x.files) x)
+      → Sends entry l x y
   -- the file's record at the stream's place
   goes_on :
       (k n place : ℕ) (r : Stored) → sender_on l k x ≡ Sending n place → record_numbered n place x ≡ Some r
       → y ≡ with_sender_on l k (Sending n (place + 1)) x → Sends entry l x y
   -- the end of file, where there is no record at the stream's place
   ends :
-      (k n place : ℕ) → sender_on l k x ≡ Sending n place → record_numbered n place x ≡ None → y ≡ with_sender_on l k (EofSent n) x
+      (k n place : ℕ) → sender_on l k x ≡ Sending n place → record_numbered n place x ≡ None
+      → y ≡ with_sender_on l k (EofSent n) x
       → Sends entry l x y
 
 -- ---- by the end of the line's session

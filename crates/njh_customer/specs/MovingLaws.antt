@@ -34,7 +34,8 @@ use Rattle.njh_customer.specs.FrameEffects.{Does, records_of_frame}
 
 -- What each frame and each signal on a line does.
 abbrev pub FramesDoSo : Type 0
-FramesDoSo = (l : ℕ) (received : Received) (c : Customer) → Does l (records_of_frame received) c (after_frame l received c)
+FramesDoSo =
+    (l : ℕ) (received : Received) (c : Customer) → Does l (records_of_frame received) c (after_frame l received c)
 
 abbrev pub SignalsDoSo : Type 0
 SignalsDoSo = (l : ℕ) (signal : Signal) (c : Customer) → Does l [] c (after_signal l signal c)
@@ -46,7 +47,8 @@ pub record RoutesDo (p : Part) (routes : List NewRoute) (r : Run) : Type 0 where
   pub rests : r.after.rests ≡ p.rests
   pub lines : r.after.customer.lines ≡ p.customer.lines
   pub partial : r.after.customer.spool.partial ≡ p.customer.spool.partial
-  pub faultless : routes_checked p.customer.entry routes ≡ Ok tt → r.after.customer.entry.routes ≡ entries_of_routes routes
+  pub faultless : routes_checked p.customer.entry routes ≡ Ok tt
+      → r.after.customer.entry.routes ≡ entries_of_routes routes
   pub faulty : (fault : TableFault) → routes_checked p.customer.entry routes ≡ Err fault → r.after ≡ p
 
 abbrev pub RoutesDoSo : Type 0
@@ -62,13 +64,15 @@ coming p (OwnRoutes routes) = Routes routes
 abbrev pub EventsMoveSo : Type 0
 EventsMoveSo =
     (p : Part) (event : OwnEvent)
-    → LeadsByMoves (MovesBy p.customer.entry (coming p event)) (outgoing p.customer) (outgoing (event_run p event).after.customer)
+    → LeadsByMoves (MovesBy p.customer.entry (coming p event)) (outgoing p.customer)
+    (outgoing (event_run p event).after.customer)
 
 -- So does a step by bytes of a line, by the records of the bytes that it takes.
 abbrev pub TakesMoveSo : Type 0
 TakesMoveSo =
     (p : Part) (l : ℕ) (piece : List ℕ) → l < length p.rests → let t = part_after_bytes p l piece in
-    LeadsByMoves (MovesBy p.customer.entry (coming p (OwnBytes l (take t.taken piece)))) (outgoing p.customer) (outgoing t.after.customer)
+    LeadsByMoves (MovesBy p.customer.entry (coming p (OwnBytes l (take t.taken piece)))) (outgoing p.customer)
+    (outgoing t.after.customer)
 
 -- ---- how a file leaves
 
@@ -76,10 +80,12 @@ TakesMoveSo =
 -- file.
 pub data Leaves (entry : CustomerEntry) (l : ℕ) (items : List Item) (n : ℕ) (x : Outgoing) : Type 0 where
   cancelled :
-      (i : Item) (who : List ℕ × List ℕ) (name : List ℕ × ℕ) (f : WholeFile) → Contains items i → Commands entry who (Cancel name) i
+      (i : Item) (who : List ℕ × List ℕ) (name : List ℕ × ℕ) (f : WholeFile) → Contains items i
+      → Commands entry who (Cancel name) i
       → Contains x.files f → f.number ≡ n → is_of_name who name f ≡ true → Leaves entry l items n x
   completed :
-      (i : Item) (streams k : ℕ) → Contains items i → Tells 0xc0 streams k i → sender_on l k x ≡ EofSent n → Leaves entry l items n x
+      (i : Item) (streams k : ℕ) → Contains items i → Tells 0xc0 streams k i → sender_on l k x ≡ EofSent n
+      → Leaves entry l items n x
 
 -- by new routes none leaves
 abbrev pub LeavesBy : CustomerEntry → Coming → ℕ → Outgoing → Type 0
@@ -88,14 +94,18 @@ LeavesBy entry (Routes routes) n x = ⊥
 
 abbrev pub FilesLeaveSo : Type 0
 FilesLeaveSo =
-    (entry : CustomerEntry) (came : Coming) (x y : Outgoing) (n : ℕ) → MovesBy entry came x y → has_file n x ≡ true → has_file n y ≡ false
+    (entry : CustomerEntry) (came : Coming) (x y : Outgoing) (n : ℕ) → MovesBy entry came x y → has_file n x ≡ true
+    → has_file n y ≡ false
     → LeavesBy entry came n x
 
 -- and so in all that moves lead to, at some moment between
 abbrev pub FilesLeaveSoBetween : Type 0
 FilesLeaveSoBetween =
-    (entry : CustomerEntry) (came : Coming) (x y : Outgoing) (n : ℕ) → LeadsByMoves (MovesBy entry came) x y → has_file n x ≡ true
-    → has_file n y ≡ false → (z : Outgoing) × LeadsByMoves (MovesBy entry came) x z × LeavesBy entry came n z × LeadsByMoves (MovesBy entry came) z y
+    (entry : CustomerEntry) (came : Coming) (x y : Outgoing) (n : ℕ) → LeadsByMoves (MovesBy entry came) x y
+    → has_file n x ≡ true
+    → has_file n y ≡ false
+    → (z : Outgoing) × LeadsByMoves (MovesBy entry came) x z × LeavesBy entry came n z
+    × LeadsByMoves (MovesBy entry came) z y
 
 -- ---- how a stream moves
 
@@ -106,7 +116,8 @@ pub data StreamMoves (entry : CustomerEntry) (l : ℕ) (items : List Item) (j k 
   has_none : file_in (sender_on j k y) ≡ None → StreamMoves entry l items j k x y
   -- an idle one asks for the oldest file that may go
   asks :
-      (f : WholeFile) → Sends entry l x y → sender_on j k x ≡ Idle → find (may_go (goes_by entry l) (kind_of k)) x.files ≡ Some f
+      (f : WholeFile) → Sends entry l x y → sender_on j k x ≡ Idle
+      → find (may_go (goes_by entry l) (kind_of k)) x.files ≡ Some f
       → sender_on j k y ≡ Requested f.number → StreamMoves entry l items j k x y
   -- A0 to one that asked: its place is 0
   permitted :
@@ -114,7 +125,8 @@ pub data StreamMoves (entry : CustomerEntry) (l : ℕ) (items : List Item) (j k 
       → sender_on j k y ≡ Sending n 0 → StreamMoves entry l items j k x y
   -- the record at its place goes out, and the next is behind it
   goes_on :
-      (n place : ℕ) (r : Stored) → Sends entry l x y → sender_on j k x ≡ Sending n place → record_numbered n place x ≡ Some r
+      (n place : ℕ) (r : Stored) → Sends entry l x y → sender_on j k x ≡ Sending n place
+      → record_numbered n place x ≡ Some r
       → sender_on j k y ≡ Sending n (place + 1) → StreamMoves entry l items j k x y
   -- there is none at its place: the end of file goes out
   ends :
@@ -128,7 +140,8 @@ StreamMovesBy entry (Routes routes) j k x y = sender_on j k y ≡ sender_on j k 
 
 abbrev pub StreamsMoveSo : Type 0
 StreamsMoveSo =
-    (entry : CustomerEntry) (came : Coming) (x y : Outgoing) (j k : ℕ) → MovesBy entry came x y → StreamMovesBy entry came j k x y
+    (entry : CustomerEntry) (came : Coming) (x y : Outgoing) (j k : ℕ) → MovesBy entry came x y
+    → StreamMovesBy entry came j k x y
 
 -- A stream takes a file only when it is idle.
 abbrev pub IdleStreamsTakeFiles : Type 0
@@ -143,20 +156,23 @@ IdleStreamsTakeFiles =
 -- records is what it was, or has the eight bytes of the node in the place of the destination's.
 pub data FileMoves (entry : CustomerEntry) (items : List Item) (x : Outgoing) (g : WholeFile) : Type 0 where
   stays :
-      (f : WholeFile) → Contains x.files f → g.number ≡ f.number → g.kind ≡ f.kind → g.records ≡ f.records → FileMoves entry items x g
+      (f : WholeFile) → Contains x.files f → g.number ≡ f.number → g.kind ≡ f.kind → g.records ≡ f.records
+      → FileMoves entry items x g
   comes :
       (i : Item) (rcb srcb : ℕ) → Contains items i → i ≡ Data rcb srcb [] → is_whole g.records ≡ true → g.state ≡ Ready
       → FileMoves entry items x g
   rerouted :
       (i : Item) (who : List ℕ × List ℕ) (name : List ℕ × ℕ) (node : List ℕ) (f : WholeFile) → Contains items i
-      → Commands entry who (Reroute name node) i → Contains x.files f → is_of_name who name f ≡ true → is_sending f.state ≡ false
+      → Commands entry who (Reroute name node) i → Contains x.files f → is_of_name who name f ≡ true
+      → is_sending f.state ≡ false
       → g.number ≡ f.number → g.kind ≡ f.kind → length node ≡ 8 → g.records ≡ records_to_node f.kind node None f.records
       → FileMoves entry items x g
 
 -- By new routes a file is what it was; or it was Ready or Refused, its node has no route now, and it is Held.
 pub data RoutesMoveFile (entry : CustomerEntry) (x : Outgoing) (g : WholeFile) : Type 0 where
   is_as_before : Contains x.files g → has_lost_route entry g ≡ false → RoutesMoveFile entry x g
-  is_held : (f : WholeFile) → Contains x.files f → has_lost_route entry f ≡ true → g ≡ held_file f → RoutesMoveFile entry x g
+  is_held : (f : WholeFile) → Contains x.files f → has_lost_route entry f ≡ true → g ≡ held_file f
+      → RoutesMoveFile entry x g
 
 abbrev pub FileMovesBy : CustomerEntry → Coming → Outgoing → WholeFile → Type 0
 FileMovesBy entry (Records l items) x g = (up : List Bool) × FileMoves (with_marks up entry) items x g
@@ -164,5 +180,6 @@ FileMovesBy entry (Routes routes) x g = RoutesMoveFile (entry_with (entries_of_r
 
 abbrev pub RecordsChangeSo : Type 0
 RecordsChangeSo =
-    (entry : CustomerEntry) (came : Coming) (x y : Outgoing) (g : WholeFile) → MovesBy entry came x y → Contains y.files g
+    (entry : CustomerEntry) (came : Coming) (x y : Outgoing) (g : WholeFile) → MovesBy entry came x y
+    → Contains y.files g
     → FileMovesBy entry came x g

@@ -37,5 +37,6 @@ routes_given routes p = taken_where (routes_checked p.customer.entry routes) rou
 -- A file whose node has no route goes by no line, so none asks for it, whatever state it is in.
 abbrev pub UnroutedFilesStay : Type 0
 UnroutedFilesStay =
-    (entry : CustomerEntry) (l : ℕ) (f : WholeFile) → destination_unrouted entry (destination_of f.kind f.records) ≡ true
+    (entry : CustomerEntry) (l : ℕ) (f : WholeFile)
+    → destination_unrouted entry (destination_of f.kind f.records) ≡ true
     → goes_by entry l f ≡ false

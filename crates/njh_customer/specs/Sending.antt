@@ -89,11 +89,16 @@ outlet_of x = record {
 -- the line once some of it was sent
 abbrev pub with_outlet : Outlet → CustomerLine → CustomerLine
 with_outlet o x =
-    record x { state = record x.state { answers = o.answers; messages = o.messages }; senders = o.senders; served = o.served }
+    record x {
+      state = record x.state { answers = o.answers; messages = o.messages };
+      senders = o.senders;
+      served = o.served;
+    }
 
 -- what is left of a line without what it has to send
 abbrev pub without_queues : CustomerLine → CustomerLine
-without_queues x = with_outlet (record { streams = 0; peer = (0, 0); answers = []; messages = []; senders = []; served = 0 }) x
+without_queues x =
+    with_outlet (record { streams = 0; peer = (0, 0); answers = []; messages = []; senders = []; served = 0 }) x
 
 -- the next block of a line, under its customer's function control sequence
 abbrev pub next_block : CustomerEntry → ℕ → CustomerSpool → CustomerLine → Filling
@@ -108,7 +113,8 @@ pub record LineSent : Type 0 where
   pub frame : List ℕ
 
 abbrev pub sending_of_line : (LineState → Sending) → CustomerSpool → CustomerLine → LineSent
-sending_of_line f s x = let sent = f x.state in record { line = with_line_state sent.line x; spool = s; frame = sent.frame }
+sending_of_line f s x =
+    let sent = f x.state in record { line = with_line_state sent.line x; spool = s; frame = sent.frame }
 
 abbrev pub sending_of_next : CustomerEntry → ℕ → Bool → CustomerSpool → CustomerLine → LineSent
 sending_of_next entry l or_ack0 s x =

@@ -37,7 +37,8 @@ fn arrive(
     requires ready { IsReady tables.now id spool.old lines.old }
     requires short { IsShort (arrival_of arrival) }
     ensures { Leads tables.now id.customer spool.old spool.new lines.new
-        (acting.after_stream_arrival id.number stream (arrival_of arrival.entry) (customer_of tables.now id.customer spool.old lines.old)) }
+        (acting.after_stream_arrival id.number stream (arrival_of arrival.entry)
+        (customer_of tables.now id.customer spool.old lines.old)) }
 {
     let mut receiver = lines.line(id.number).receiver(stream);
     let step = receiver.step(arrival, stream, id, tables, spool);
@@ -59,7 +60,8 @@ fn arrive_where(
     requires ready { IsReady tables.now id spool.old lines.old }
     requires short { IsShort (arrival_of arrival) }
     ensures { Leads tables.now id.customer spool.old spool.new lines.new
-        (acting.after_stream_record id.number stream (arrival_of arrival.entry) (customer_of tables.now id.customer spool.old lines.old)) }
+        (acting.after_stream_record id.number stream (arrival_of arrival.entry)
+        (customer_of tables.now id.customer spool.old lines.old)) }
 {
     if let Some(stream) = stream {
         arrive(id, stream, arrival, tables, spool, lines);
@@ -85,7 +87,8 @@ fn take_answer(
 )
     requires ready { IsReady tables.now id spool.old lines.old }
     ensures { Leads tables.now id.customer spool.old spool.new lines.new
-        (acting.after_peer_answer id.number (control_byte rcb) stream (customer_of tables.now id.customer spool.old lines.old)) }
+        (acting.after_peer_answer id.number (control_byte rcb) stream
+        (customer_of tables.now id.customer spool.old lines.old)) }
 {
     let mut sender = lines.line(id.number).sender(stream);
     match rcb {
@@ -116,7 +119,8 @@ fn take_control(
 )
     requires ready { IsReady tables.now id spool.old lines.old }
     ensures { Leads tables.now id.customer spool.old spool.new lines.new
-        (acting.after_control_record id.number (control_byte rcb) named.byte (customer_of tables.now id.customer spool.old lines.old)) }
+        (acting.after_control_record id.number (control_byte rcb) named.byte
+        (customer_of tables.now id.customer spool.old lines.old)) }
 {
     let stream = stream_at(id.number, named, lines);
     match rcb {
@@ -144,7 +148,8 @@ fn take_request(
 )
     requires ready { IsReady tables.now id spool.old lines.old }
     ensures { Leads tables.now id.customer spool.old spool.new lines.new
-        (acting.after_stream_request id.number named.byte stream (customer_of tables.now id.customer spool.old lines.old)) }
+        (acting.after_stream_request id.number named.byte stream
+        (customer_of tables.now id.customer spool.old lines.old)) }
 {
     match stream {
         Some(stream) => arrive(id, stream, Arrival::Request, tables, spool, lines),
@@ -200,7 +205,8 @@ fn route_message(
     requires ready { IsReady tables.now id spool.old lines.old }
     ensures { (bytes : List ℕ) → record_of message.now ≡ cut_after_message bytes →
         Leads tables.now id.customer spool.old spool.new lines.new
-        (acting.message_routed id.number message.now bytes route (customer_of tables.now id.customer spool.old lines.old)) }
+        (acting.message_routed id.number message.now bytes route
+        (customer_of tables.now id.customer spool.old lines.old)) }
 {
     match route {
         Route::Here => {
@@ -233,7 +239,8 @@ fn pass_on(other: u16, message: &Nmr, lines: &mut CustomerLines)
 /// The sender of a command is told that nobody has its node.
 fn tell_unknown(customer: &Customer, message: &Nmr, lines: &mut CustomerLines)
     ensures { lines.new
-        ≡ with_message_to (entry_of customer.now) (message.now.origin, message.now.user) (node_unknown message.now.to) lines.old }
+        ≡ with_message_to (entry_of customer.now) (message.now.origin, message.now.user)
+        (node_unknown message.now.to) lines.old }
 {
     let text = node_unknown(message.to());
     lines.say(customer, message.origin(), message.user(), &text);
@@ -281,7 +288,8 @@ fn act(
     requires ready { IsReady tables.now id spool.old lines.old }
     requires short { length bytes.now ≤ 256 }
     ensures { Leads tables.now id.customer spool.old spool.new lines.new
-        (acting.after_record id.number (given_item bytes.now item.entry) (customer_of tables.now id.customer spool.old lines.old)) }
+        (acting.after_record id.number (given_item bytes.now item.entry)
+        (customer_of tables.now id.customer spool.old lines.old)) }
 {
     match item {
         Item::Data { rcb, srcb } => {
@@ -339,7 +347,8 @@ fn act_one(
     requires ready { IsReady tables.now id spool.old lines.old }
     requires short { length bytes.now ≤ 256 }
     ensures after { Leads tables.now id.customer spool.old spool.new lines.new
-        (acting.after_record id.number (given_item bytes.now item.entry) (customer_of tables.now id.customer spool.old lines.old)) }
+        (acting.after_record id.number (given_item bytes.now item.entry)
+        (customer_of tables.now id.customer spool.old lines.old)) }
     ensures ready { IsReady tables.now id spool.new lines.new }
 {
     streams_stay_tied();
@@ -357,9 +366,11 @@ pub(crate) fn all_act(
 ) -> bool
     requires ready { IsReady tables.now id spool.old lines.old }
     ensures ended { result
-        ≡ (acting.all_acted id.number block.entry.items (customer_of tables.now id.customer spool.old lines.old)).ended }
+        ≡ (acting.all_acted id.number block.entry.items
+        (customer_of tables.now id.customer spool.old lines.old)).ended }
     ensures after { Leads tables.now id.customer spool.old spool.new lines.new
-        (acting.all_acted id.number block.entry.items (customer_of tables.now id.customer spool.old lines.old)).customer }
+        (acting.all_acted id.number block.entry.items
+        (customer_of tables.now id.customer spool.old lines.old)).customer }
     ensures ready { IsReady tables.now id spool.new lines.new }
 {
     let mut block = block;

@@ -36,9 +36,11 @@ pub(crate) fn take_frame(
 )
     requires ready { IsReady tables.old id spool.old lines.old }
     ensures after { Brings tables.old tables.new id.customer spool.old spool.new lines.new
-        (acted_on id.number (option_map received_of frame.entry) (customer_of tables.old id.customer spool.old lines.old)).after }
+        (acted_on id.number (option_map received_of frame.entry)
+        (customer_of tables.old id.customer spool.old lines.old)).after }
     ensures frame { out.new
-        ≡ (acted_on id.number (option_map received_of frame.entry) (customer_of tables.old id.customer spool.old lines.old)).frame }
+        ≡ (acted_on id.number (option_map received_of frame.entry)
+        (customer_of tables.old id.customer spool.old lines.old)).frame }
     ensures ready { IsReady tables.new id spool.new lines.new }
     ensures count { length lines.new ≡ length lines.old }
 {
@@ -82,9 +84,11 @@ fn frame_came(
 )
     requires ready { IsReady tables.old id spool.old lines.old }
     ensures after { Brings tables.old tables.new id.customer spool.old spool.new lines.new
-        (acted_on id.number (option_map received_of frame.entry) (customer_of tables.old id.customer spool.old lines.old)).after }
+        (acted_on id.number (option_map received_of frame.entry)
+        (customer_of tables.old id.customer spool.old lines.old)).after }
     ensures frame { out.new
-        ≡ (acted_on id.number (option_map received_of frame.entry) (customer_of tables.old id.customer spool.old lines.old)).frame }
+        ≡ (acted_on id.number (option_map received_of frame.entry)
+        (customer_of tables.old id.customer spool.old lines.old)).frame }
 {
     match frame {
         None => out.clear(),
@@ -131,9 +135,11 @@ fn accept_signal(
 ) -> Verdict
     requires ready { IsReady tables.old id spool.now lines.old }
     ensures verdict { result
-        ≡ alone.verdict_on id.number (alone.signal_input signal) (customer_of tables.old id.customer spool.now lines.old) }
+        ≡ alone.verdict_on id.number (alone.signal_input signal)
+        (customer_of tables.old id.customer spool.now lines.old) }
     ensures after { customer_of tables.new id.customer spool.now lines.new
-        ≡ alone.accepted_on id.number (alone.signal_input signal) (customer_of tables.old id.customer spool.now lines.old) }
+        ≡ alone.accepted_on id.number (alone.signal_input signal)
+        (customer_of tables.old id.customer spool.now lines.old) }
     ensures entries { KeepsOtherEntries id.customer tables.old tables.new }
     ensures ready { IsReady tables.new id spool.now lines.new }
 {
@@ -157,9 +163,11 @@ fn input_came(
 )
     requires ready { IsReady tables.old id spool.old lines.old }
     ensures after { Brings tables.old tables.new id.customer spool.old spool.new lines.new
-        (alone.after_line_input id.number (input_value input.now) (customer_of tables.old id.customer spool.old lines.old)).after }
+        (alone.after_line_input id.number (input_value input.now)
+        (customer_of tables.old id.customer spool.old lines.old)).after }
     ensures frame { out.new
-        ≡ (alone.after_line_input id.number (input_value input.now) (customer_of tables.old id.customer spool.old lines.old)).frame }
+        ≡ (alone.after_line_input id.number (input_value input.now)
+        (customer_of tables.old id.customer spool.old lines.old)).frame }
 {
     let verdict = accept(id, input, tables, spool, lines);
     carry_out(id, verdict, tables, spool, lines, block, out);
@@ -174,7 +182,8 @@ fn accept(
     lines: &mut CustomerLines,
 ) -> Verdict
     requires ready { IsReady tables.old id spool.now lines.old }
-    ensures verdict { result ≡ alone.verdict_on id.number (input_value input.now) (customer_of tables.old id.customer spool.now lines.old) }
+    ensures verdict { result ≡ alone.verdict_on id.number (input_value input.now)
+        (customer_of tables.old id.customer spool.now lines.old) }
     ensures after { customer_of tables.new id.customer spool.now lines.new
         ≡ alone.accepted_on id.number (input_value input.now) (customer_of tables.old id.customer spool.now lines.old) }
     ensures entries { KeepsOtherEntries id.customer tables.old tables.new }
@@ -254,7 +263,8 @@ fn act_where(
     ensures ended { result
         ≡ (acted_where acts id.number read.entry.items (customer_of tables.now id.customer spool.old lines.old)).ended }
     ensures after { Leads tables.now id.customer spool.old spool.new lines.new
-        (acted_where acts id.number read.entry.items (customer_of tables.now id.customer spool.old lines.old)).customer }
+        (acted_where acts id.number read.entry.items
+        (customer_of tables.now id.customer spool.old lines.old)).customer }
     ensures ready { IsReady tables.now id spool.new lines.new }
 {
     if acts && !read.is_empty() {

@@ -178,7 +178,8 @@ impl CustomerLine {
 
     /// Decides by the line table what an input does.
     pub(crate) fn accept(&mut self, input: &Input<'_>) -> Verdict
-        ensures verdict { result ≡ (table_outcome self.old.state.config (input_value input.now) self.old.state.session).verdict }
+        ensures verdict { result ≡ (table_outcome self.old.state.config
+            (input_value input.now) self.old.state.session).verdict }
         ensures line { self.new ≡ in_state (lines.after_input (input_value input.now)) self.old }
     {
         self.line.accept(input)
@@ -218,11 +219,15 @@ impl CustomerLine {
         requires known { id.customer < length tables.now.customers }
         requires spooled { id.customer < length spool.old }
         requires quota { (customer_at tables.now id.customer).quota ≡ (spool_at id.customer spool.old).quota }
-        ensures line { self.new ≡ (sending_of_reply (entry_of (customer_at tables.now id.customer)) id.number reply (spool_at id.customer spool.old) self.old).line }
+        ensures line { self.new
+            ≡ (sending_of_reply (entry_of (customer_at tables.now id.customer)) id.number reply
+            (spool_at id.customer spool.old) self.old).line }
         ensures spool { spool.new ≡ slice_set spool.old id.customer
-            (sending_of_reply (entry_of (customer_at tables.now id.customer)) id.number reply (spool_at id.customer spool.old) self.old).spool }
+            (sending_of_reply (entry_of (customer_at tables.now id.customer)) id.number reply
+            (spool_at id.customer spool.old) self.old).spool }
         ensures frame { out.new
-            ≡ (sending_of_reply (entry_of (customer_at tables.now id.customer)) id.number reply (spool_at id.customer spool.old) self.old).frame }
+            ≡ (sending_of_reply (entry_of (customer_at tables.now id.customer)) id.number reply
+            (spool_at id.customer spool.old) self.old).frame }
     {
         match reply {
             Reply::Nothing => out.clear(),
@@ -254,11 +259,15 @@ impl CustomerLine {
         requires known { id.customer < length tables.now.customers }
         requires spooled { id.customer < length spool.old }
         requires own { fcs ≡ own_fcs (spool_at id.customer spool.old) }
-        ensures line { self.new ≡ (sending_of_next (entry_of (customer_at tables.now id.customer)) id.number or_ack0 (spool_at id.customer spool.old) self.old).line }
+        ensures line { self.new
+            ≡ (sending_of_next (entry_of (customer_at tables.now id.customer)) id.number or_ack0
+            (spool_at id.customer spool.old) self.old).line }
         ensures spool { spool.new ≡ slice_set spool.old id.customer
-            (sending_of_next (entry_of (customer_at tables.now id.customer)) id.number or_ack0 (spool_at id.customer spool.old) self.old).spool }
+            (sending_of_next (entry_of (customer_at tables.now id.customer)) id.number or_ack0
+            (spool_at id.customer spool.old) self.old).spool }
         ensures frame { out.new
-            ≡ (sending_of_next (entry_of (customer_at tables.now id.customer)) id.number or_ack0 (spool_at id.customer spool.old) self.old).frame }
+            ≡ (sending_of_next (entry_of (customer_at tables.now id.customer)) id.number or_ack0
+            (spool_at id.customer spool.old) self.old).frame }
     {
         begin_block(&self.line, fcs, block);
         fill(self, id, spool, tables, block);
@@ -272,15 +281,11 @@ impl CustomerLine {
         requires spooled { id.customer < length spool.old }
         ensures line { self.new ≡ quiet self.old }
         ensures spool { spool.new ≡ slice_set spool.old id.customer
-            (spool_over (entry_of (customer_at tables.now id.customer)) id.number self.old (spool_at id.customer spool.old)) }
+            (spool_over (entry_of (customer_at tables.now id.customer)) id.number self.old
+            (spool_at id.customer spool.old)) }
     {
         end_senders(&mut self.senders, id.customer, spool);
-        retry_refused(
-            tables.customer(id.customer),
-            id.number,
-            id.customer,
-            spool,
-        );
+        retry_refused(tables.customer(id.customer), id.number, id.customer, spool);
         end_receivers(&mut self.receivers, id.customer, spool);
         self.line.clear_answers();
         self.served = Stream::at(7);

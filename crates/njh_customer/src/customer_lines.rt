@@ -12,9 +12,10 @@ ghost use Rattle.njh_line.specs.LineTable.{table_outcome, input_value};
 ghost use Rattle.njh_line.specs.Laws.{is_up};
 ghost use Rattle.njh_line.specs.Lines.{after_end, after_input};
 ghost use Rattle.njh_customer.specs.CustomerSteps.{IsReady, Leads, customer_of};
-ghost use Rattle.njh_customer.specs.Customer.{in_state, line_at, with_notice, on_line, receiver_at, with_receiver, sender_at};
-ghost use Rattle.njh_customer.specs.Customer.{with_sender};
-ghost use Rattle.njh_customer.specs.Waiting.{all_said, with_answer_on, goes, with_notice_to, with_message_to, with_waiting};
+ghost use Rattle.njh_customer.specs.Customer.{in_state, line_at, with_notice, on_line, receiver_at, with_receiver};
+ghost use Rattle.njh_customer.specs.Customer.{sender_at, with_sender};
+ghost use Rattle.njh_customer.specs.Waiting.{all_said, with_answer_on, goes, with_notice_to, with_message_to};
+ghost use Rattle.njh_customer.specs.Waiting.{with_waiting};
 
 use crate::customer_line::CustomerLine;
 use crate::frame_buffer::FrameBuffer;
@@ -106,7 +107,8 @@ impl CustomerLines {
     /// Decides by the line table what an input does.
     pub(crate) fn accept(&mut self, line: u16, input: &Input<'_>) -> Verdict
         requires { line < length self.old }
-        ensures verdict { result ≡ (table_outcome (line_at line self.old).state.config (input_value input.now) (line_at line self.old).state.session).verdict }
+        ensures verdict { result ≡ (table_outcome (line_at line self.old).state.config (input_value input.now)
+            (line_at line self.old).state.session).verdict }
         ensures lines { self.new ≡ on_line line (in_state (after_input (input_value input.now))) self.old }
     {
         self.lines[usize::from(line)].accept(input)
@@ -116,7 +118,8 @@ impl CustomerLines {
     pub(crate) fn accept_signal(&mut self, line: u16, signal: Signal) -> Verdict
         requires { line < length self.old }
         ensures verdict { result
-            ≡ (table_outcome (line_at line self.old).state.config (signal_input signal) (line_at line self.old).state.session).verdict }
+            ≡ (table_outcome (line_at line self.old).state.config (signal_input signal)
+            (line_at line self.old).state.session).verdict }
         ensures lines { self.new ≡ on_line line (in_state (after_input (signal_input signal))) self.old }
     {
         accept_signal(&mut self.lines, line, signal)
@@ -143,7 +146,8 @@ impl CustomerLines {
         requires ready { IsReady tables.now id spool.old self.old }
         ensures after { Leads tables.now id.customer spool.old spool.new self.new
             (replied_to id.number reply (customer_of tables.now id.customer spool.old self.old)).after }
-        ensures frame { out.new ≡ (replied_to id.number reply (customer_of tables.now id.customer spool.old self.old)).frame }
+        ensures frame { out.new ≡ (replied_to id.number reply
+            (customer_of tables.now id.customer spool.old self.old)).frame }
     {
         self.lines[usize::from(id.number)].send_reply(id, reply, tables, spool, block, out);
     }
@@ -266,7 +270,8 @@ impl Senders for CustomerLines {
 fn accept_signal(lines: &mut [CustomerLine], line: u16, signal: Signal) -> Verdict
     requires { line < length lines.old }
     ensures verdict { result
-        ≡ (table_outcome (line_at line lines.old).state.config (signal_input signal) (line_at line lines.old).state.session).verdict }
+        ≡ (table_outcome (line_at line lines.old).state.config (signal_input signal)
+        (line_at line lines.old).state.session).verdict }
     ensures lines { lines.new ≡ on_line line (in_state (after_input (signal_input signal))) lines.old }
 {
     lines[usize::from(line)].accept(&signal_input(signal))

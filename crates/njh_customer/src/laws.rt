@@ -9,8 +9,8 @@ ghost use Rattle.njh_customer.specs.Laws.{CutsAreLike, FirstBytesSendFirst, NoBy
 ghost use Rattle.njh_customer.specs.Laws.{EventsKeepEntries, EventsKeepFaults, EventsKeepLines, MarksAreRight};
 ghost use Rattle.njh_customer.specs.Laws.{TakesKeepEntries};
 ghost use Rattle.njh_customer.specs.MovingLaws.{EventsMoveSo, FilesLeaveSo, FilesLeaveSoBetween, FramesDoSo};
-ghost use Rattle.njh_customer.specs.MovingLaws.{IdleStreamsTakeFiles};
-ghost use Rattle.njh_customer.specs.MovingLaws.{RecordsChangeSo, RoutesDoSo, SignalsDoSo, StreamsMoveSo, TakesMoveSo};
+ghost use Rattle.njh_customer.specs.MovingLaws.{IdleStreamsTakeFiles, RecordsChangeSo, RoutesDoSo, SignalsDoSo};
+ghost use Rattle.njh_customer.specs.MovingLaws.{StreamsMoveSo, TakesMoveSo};
 
 use njh_header::redirected_by_records;
 use njh_line::inputs_keep_up;

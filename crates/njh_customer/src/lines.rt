@@ -124,17 +124,21 @@ impl Lines {
     ) -> usize
         requires ready { IsReady tables.old id spool.old self.old.lines }
         ensures taken { result
-            ≡ (part_after_bytes (part_with (entry_of (customer_at tables.old id.customer)) (spool_at id.customer spool.old) self.old) id.number piece.now).taken }
+            ≡ (part_after_bytes (part_with (entry_of (customer_at tables.old id.customer))
+            (spool_at id.customer spool.old) self.old) id.number piece.now).taken }
         ensures progress { 0 < length piece.now → 0 < result }
         ensures few { result ≤ length piece.now }
-        ensures part { part_with (entry_of (customer_at tables.new id.customer)) (spool_at id.customer spool.new) self.new
-            ≡ (part_after_bytes (part_with (entry_of (customer_at tables.old id.customer)) (spool_at id.customer spool.old) self.old) id.number piece.now).after }
+        ensures part { part_with (entry_of (customer_at tables.new id.customer))
+            (spool_at id.customer spool.new) self.new
+            ≡ (part_after_bytes (part_with (entry_of (customer_at tables.old id.customer))
+            (spool_at id.customer spool.old) self.old) id.number piece.now).after }
         ensures others { spool.new ≡ slice_set spool.old id.customer (spool_at id.customer spool.new) }
         ensures entries { KeepsOtherEntries id.customer tables.old tables.new }
         ensures ready { IsReady tables.new id spool.new self.new.lines }
         ensures count { length self.new.lines ≡ length self.old.lines }
         ensures frame { out.new
-            ≡ (part_after_bytes (part_with (entry_of (customer_at tables.old id.customer)) (spool_at id.customer spool.old) self.old) id.number piece.now).frame }
+            ≡ (part_after_bytes (part_with (entry_of (customer_at tables.old id.customer))
+            (spool_at id.customer spool.old) self.old) id.number piece.now).frame }
     {
         out.clear();
         let mut left = piece;
@@ -163,7 +167,8 @@ impl Lines {
         ensures taken { result ≡ (feed_outcome (rest_at id.number self.old.rests) piece.now).taken }
         ensures within { result ≤ length piece.now }
         ensures progress { 0 < length piece.now → 0 < result }
-        ensures rest { rest_at id.number self.new.rests ≡ (feed_outcome (rest_at id.number self.old.rests) piece.now).rest }
+        ensures rest { rest_at id.number self.new.rests
+            ≡ (feed_outcome (rest_at id.number self.old.rests) piece.now).rest }
         ensures rests { self.new.rests ≡ slice_set self.old.rests id.number (rest_at id.number self.new.rests) }
         ensures after { Brings tables.old tables.new id.customer spool.old spool.new self.new.lines
             (acted_on id.number (feed_outcome (rest_at id.number self.old.rests) piece.now).frame
@@ -200,14 +205,17 @@ impl Lines {
         out: &mut FrameBuffer,
     )
         requires ready { IsReady tables.old id spool.old self.old.lines }
-        ensures part { part_with (entry_of (customer_at tables.new id.customer)) (spool_at id.customer spool.new) self.new
-            ≡ (part_after_signal (part_with (entry_of (customer_at tables.old id.customer)) (spool_at id.customer spool.old) self.old) id.number signal).after }
+        ensures part { part_with (entry_of (customer_at tables.new id.customer))
+            (spool_at id.customer spool.new) self.new
+            ≡ (part_after_signal (part_with (entry_of (customer_at tables.old id.customer))
+            (spool_at id.customer spool.old) self.old) id.number signal).after }
         ensures others { spool.new ≡ slice_set spool.old id.customer (spool_at id.customer spool.new) }
         ensures entries { KeepsOtherEntries id.customer tables.old tables.new }
         ensures ready { IsReady tables.new id spool.new self.new.lines }
         ensures count { length self.new.lines ≡ length self.old.lines }
         ensures frame { out.new
-            ≡ (part_after_signal (part_with (entry_of (customer_at tables.old id.customer)) (spool_at id.customer spool.old) self.old) id.number signal).frame }
+            ≡ (part_after_signal (part_with (entry_of (customer_at tables.old id.customer))
+            (spool_at id.customer spool.old) self.old) id.number signal).frame }
     {
         self.deframers[usize::from(id.number)].reset();
         take_signal(

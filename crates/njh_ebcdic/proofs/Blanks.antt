@@ -1,6 +1,6 @@
 -- What trimming leaves, by the last byte.
-use Rattle.std.proofs.Common.{◌≡◌, ◌≢◌, ℕ, zero, suc, drop, not, ◌-◌, ◌<◌, ◌≤◌, arith, length, replicate, Bool, true, false, cond, eqb}
-use Rattle.std.proofs.Common.{List, [], ◌∷◌, ◌++◌, refl, sym, ap, ◌∙◌}
+use Rattle.std.proofs.Common.{◌≡◌, ◌≢◌, ℕ, zero, suc, drop, not, ◌-◌, ◌<◌, ◌≤◌, arith, length, replicate, Bool, true}
+use Rattle.std.proofs.Common.{false, cond, eqb, List, [], ◌∷◌, ◌++◌, refl, sym, ap, ◌∙◌}
 use Rattle.std.specs.List.{list_all}
 use Rattle.std.proofs.Math.Seq.{append_snoc}
 use Rattle.std.proofs.lemmas.Bool.{ne_eqb, false≢true, and_parts, and_from, eq-eqb, eqb-true, not-true}

@@ -1,12 +1,13 @@
 -- The table read in both directions, and folding by the table.
-use Rattle.std.proofs.Common.{◌≡◌, ℕ, ◌-◌, ◌<◌, Bool, true, false, eqb, not, Option, Some, None, List, [], ◌∷◌, ◌||◌, refl, sym, ap, ◌∙◌}
-use Rattle.std.proofs.Common.{⊎_elim, find, arith}
+use Rattle.std.proofs.Common.{◌≡◌, ℕ, ◌-◌, ◌<◌, Bool, true, false, eqb, not, Option, Some, None, List, [], ◌∷◌, ◌||◌}
+use Rattle.std.proofs.Common.{refl, sym, ap, ◌∙◌, ⊎_elim, find, arith}
 use Rattle.std.specs.List.{list_all}
 use Rattle.std.specs.Option.{option_map}
 use Rattle.std.proofs.lemmas.Bool.{cases_Bool, eqb-true, and_parts, cond-true, cond-false, agree_below_at, false≢true}
 use Rattle.std.proofs.lemmas.Bool.Decides.{nat_tests}
 use Rattle.njh_ebcdic.specs.Names.{within, upper, ebcdic_byte, is_name_byte}
-use Rattle.njh_ebcdic.specs.Characters.{table, character_of, byte_of_character, byte_or_blank, printed_character, is_plain}
+use Rattle.njh_ebcdic.specs.Characters.{table, character_of, byte_of_character, byte_or_blank, printed_character}
+use Rattle.njh_ebcdic.specs.Characters.{is_plain}
 
 -- whether a value is there and is this one
 abbrev is_just : ℕ → Option ℕ → Bool

@@ -1,5 +1,6 @@
 -- The first data set header of a file, from a record on.
-use Rattle.std.proofs.Common.{◌≡◌, ◌≢◌, ℕ, ◌+◌, Bool, true, false, List, ◌∷◌, drop, slice_get, ◌==◌, cond, Option, Some, None, ◌∙◌, ap}
+use Rattle.std.proofs.Common.{◌≡◌, ◌≢◌, ℕ, ◌+◌, Bool, true, false, List, ◌∷◌, drop, slice_get, ◌==◌, cond, Option, Some}
+use Rattle.std.proofs.Common.{None, ◌∙◌, ap}
 use Rattle.std.specs.Result.{result_ok}
 use Rattle.std.proofs.lemmas.Bool.{eq-eqb, ne_eqb}
 use Rattle.std.proofs.lemmas.List.{drop_more}

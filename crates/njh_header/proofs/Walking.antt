@@ -1,6 +1,6 @@
 -- The walk over a header's sections.
-use Rattle.std.proofs.Common.{◌≡◌, ◌≢◌, ℕ, zero, suc, ◌+◌, ◌-◌, ◌<◌, ◌≤◌, List, [], ◌∷◌, length, drop, nat_lt, Result, Ok, Err, refl}
-use Rattle.std.proofs.Common.{sym, ◌∙◌, ap, arith, length-drop, inl, inr, ◌⊎◌}
+use Rattle.std.proofs.Common.{◌≡◌, ◌≢◌, ℕ, zero, suc, ◌+◌, ◌-◌, ◌<◌, ◌≤◌, List, [], ◌∷◌, length, drop, nat_lt, Result}
+use Rattle.std.proofs.Common.{Ok, Err, refl, sym, ◌∙◌, ap, arith, length-drop, inl, inr, ◌⊎◌}
 use Rattle.std.proofs.lemmas.Bool.{le-ltb, cond-false}
 use Rattle.std.proofs.lemmas.Bool.Decides.{nat_tests}
 use Rattle.njh_record.specs.Bytes.{number_at}

@@ -19,7 +19,8 @@ abbrev pub destination_place : Kind → Option ℕ → Stored → Option ℕ
 destination_place In None r = option_map (λ h. h.place) (result_ok (job_header r.bytes))
 destination_place In (Some before) r = None
 destination_place Out before r =
-    cond (has_srcb 0xe0 r && not (is_after_header before)) (option_map (λ h. h.place) (result_ok (data_set_header r.bytes))) None
+    cond (has_srcb 0xe0 r && not (is_after_header before))
+    (option_map (λ h. h.place) (result_ok (data_set_header r.bytes))) None
 
 abbrev pub redirected_record : List ℕ → Option ℕ → Stored → Stored
 redirected_record node None r = r
@@ -28,4 +29,5 @@ redirected_record node (Some place) r = with_node_at place node r
 -- the records behind one with this SRCB, or all of a file's, with another destination node
 abbrev pub records_to_node : Kind → List ℕ → Option ℕ → List Stored → List Stored
 records_to_node kind node before [] = []
-records_to_node kind node before (r ∷ rs) = redirected_record node (destination_place kind before r) r ∷ records_to_node kind node (Some r.srcb) rs
+records_to_node kind node before (r ∷ rs) =
+    redirected_record node (destination_place kind before r) r ∷ records_to_node kind node (Some r.srcb) rs

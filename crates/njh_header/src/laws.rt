@@ -6,8 +6,8 @@ ghost use Rattle.njh_record.specs.declared.Kind.{Kind};
 ghost use Rattle.njh_record.specs.Stored.{Stored};
 ghost use Rattle.njh_header.specs.Decimals.{IsDecimal};
 ghost use Rattle.njh_header.specs.FileHeaders.{with_destination};
-ghost use Rattle.njh_header.specs.Headers.{DataSetHeader, IsDataSetFault, IsDataSetHeader, data_set_header};
-ghost use Rattle.njh_header.specs.Headers.{IsJobFault, IsJobHeader, JobHeader, job_header};
+ghost use Rattle.njh_header.specs.Headers.{DataSetHeader, IsDataSetFault, IsDataSetHeader, data_set_header, IsJobFault};
+ghost use Rattle.njh_header.specs.Headers.{IsJobHeader, JobHeader, job_header};
 ghost use Rattle.njh_header.specs.Redirecting.{records_to_node};
 ghost use Rattle.njh_header.specs.Sections.{HasGeneral, LacksGeneral};
 ghost use Rattle.njh_header.specs.Walk.{general_section};
@@ -16,7 +16,8 @@ use crate::fault::HeaderFault;
 
 /// The walk over a header's sections gives where the general one begins, or why there is none, and nothing else.
 pub fn one_general_section()
-    ensures found { (size : ℕ) (header : List ℕ) (place : ℕ) → (general_section size header ≡ Ok place) ↔ HasGeneral size header place }
+    ensures found { (size : ℕ) (header : List ℕ) (place : ℕ)
+        → (general_section size header ≡ Ok place) ↔ HasGeneral size header place }
     ensures lacks { (size : ℕ) (header : List ℕ) (fault : HeaderFault) →
         (general_section size header ≡ Err fault) ↔ LacksGeneral size header fault }
 {}
@@ -29,8 +30,10 @@ pub fn one_job_header()
 
 /// A record is read as the data set header that it is, or as why it is none, and as nothing else.
 pub fn one_data_set_header()
-    ensures header { (bytes : List ℕ) (header : DataSetHeader) → (data_set_header bytes ≡ Ok header) ↔ IsDataSetHeader bytes header }
-    ensures fault { (bytes : List ℕ) (fault : HeaderFault) → (data_set_header bytes ≡ Err fault) ↔ IsDataSetFault bytes fault }
+    ensures header { (bytes : List ℕ) (header : DataSetHeader)
+        → (data_set_header bytes ≡ Ok header) ↔ IsDataSetHeader bytes header }
+    ensures fault { (bytes : List ℕ) (fault : HeaderFault)
+        → (data_set_header bytes ≡ Err fault) ↔ IsDataSetFault bytes fault }
 {}
 
 /// The digits of a number say it, and begin with no zero but where it is the only one.

@@ -1,6 +1,6 @@
 -- The frames of the events that happened, up to where a run stopped, begin those of all.
-use Rattle.std.proofs.Common.{ℕ, zero, suc, List, [], ◌∷◌, ◌++◌, take, drop, Some, refl, sym, ap, ◌∙◌, subst, append_assoc, append-nil}
-use Rattle.std.proofs.Common.{take-append-drop}
+use Rattle.std.proofs.Common.{ℕ, zero, suc, List, [], ◌∷◌, ◌++◌, take, drop, Some, refl, sym, ap, ◌∙◌, subst}
+use Rattle.std.proofs.Common.{append_assoc, append-nil, take-append-drop}
 use Rattle.njh_table.specs.declared.LineId.{LineId}
 use Rattle.njh_customer.specs.Laws.{FirstBytesSendFirst}
 use Rattle.njh_customer.specs.Runs.{OwnBytes, event_run}

@@ -7,7 +7,8 @@ use Rattle.njh_hub.specs.declared.event.Event.{Event}
 use Rattle.njh_hub.specs.declared.event.Event.TheVariants.{Bytes, Tick, Garbled, Lost, Routes}
 use Rattle.njh_hub.specs.OwnEvents.{customer_of_event, line_of_event, own, events_of}
 use Rattle.njh_hub.specs.Wires.{Heard, Came, Quiet, Pending, Closed, Absent, Failed, cut_to, loss_of, heard_events}
-use Rattle.njh_hub.specs.Turns.{Turn, wire_event, told_where, turn_events, quiet_after, round_events, quiets_after, all_events, no_quiets}
+use Rattle.njh_hub.specs.Turns.{Turn, wire_event, told_where, turn_events, quiet_after, round_events, quiets_after}
+use Rattle.njh_hub.specs.Turns.{all_events, no_quiets}
 use Rattle.njh_hub.specs.WireLaws.{own_wires, OwnWiresDecide}
 use Rattle.njh_hub.proofs.RoundLaws.{round_events-none, quiets_after-none}
 

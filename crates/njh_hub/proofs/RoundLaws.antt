@@ -1,12 +1,12 @@
 -- Rounds of turns: one turn more, and one round more.
-use Rattle.std.proofs.Common.{◌≡◌, ℕ, ◌<◌, ◌≤◌, List, [], ◌∷◌, ◌++◌, length, set, get_or, refl}
-use Rattle.std.proofs.Common.{ap, sym, subst, ◌∙◌, ⊎_elim, arith, append_assoc, append-nil}
+use Rattle.std.proofs.Common.{◌≡◌, ℕ, ◌<◌, ◌≤◌, List, [], ◌∷◌, ◌++◌, length, set, get_or, refl, ap, sym, subst, ◌∙◌}
+use Rattle.std.proofs.Common.{⊎_elim, arith, append_assoc, append-nil}
 use Rattle.std.specs.Prelude.{All, ◌⊎◌, None, IsSome}
 use Rattle.std.specs.List.{flat_map}
 use Rattle.std.proofs.lemmas.Bool.{cases_lt}
 use Rattle.std.proofs.lemmas.Grind.{flat_map-append}
-use Rattle.std.proofs.lemmas.List.{take-append-le, length-append, get_or-set_same, get_or-set_other, get_or_append_left, get_or_read}
-use Rattle.std.proofs.lemmas.List.{get_or_default, set-get_or}
+use Rattle.std.proofs.lemmas.List.{take-append-le, length-append, get_or-set_same, get_or-set_other, get_or_append_left}
+use Rattle.std.proofs.lemmas.List.{get_or_read, get_or_default, set-get_or}
 use Rattle.std.proofs.lemmas.List.Elements.{All-push}
 use Rattle.std.proofs.Math.Seq.{get_or-append_seam, take-append_seam}
 use Rattle.njh_table.specs.declared.LineId.{LineId}
@@ -14,8 +14,9 @@ use Rattle.njh_hub.specs.declared.event.Event.{Event}
 use Rattle.njh_hub.specs.Sent.{IsCounted}
 use Rattle.njh_hub.specs.WholeHub.{Part, HubRun, hub_run}
 use Rattle.njh_hub.specs.Wires.{Pending, Failed, WireAct}
-use Rattle.njh_hub.specs.Turns.{Turn, IsTurn, Placed, HadTurn, HadTurns, HasFault, IsRound, no_line_id, no_turn, quiet_after, turn_events}
-use Rattle.njh_hub.specs.Turns.{round_events, quiets_after, turn_at, placed_acts, placed_stop, all_events, all_quiets, turns_of}
+use Rattle.njh_hub.specs.Turns.{Turn, IsTurn, Placed, HadTurn, HadTurns, HasFault, IsRound, no_line_id, no_turn}
+use Rattle.njh_hub.specs.Turns.{quiet_after, turn_events, round_events, quiets_after, turn_at, placed_acts, placed_stop}
+use Rattle.njh_hub.specs.Turns.{all_events, all_quiets, turns_of}
 use Rattle.njh_hub.proofs.RunningLaws.{counted_from, hub_run-append}
 use Rattle.njh_hub.proofs.TurnLaws.{counted_on}
 

@@ -1,6 +1,6 @@
 -- A service that goes on: wires at rest, new routes, one round more.
-use Rattle.std.proofs.Common.{◌≡◌, ℕ, ◌<◌, ◌≤◌, List, [], ◌∷◌, ◌++◌, length, set, get_or, refl, Option, Some, None, Result, Ok, Err}
-use Rattle.std.proofs.Common.{ap, sym, subst, ◌∙◌, arith, append_assoc, append-nil}
+use Rattle.std.proofs.Common.{◌≡◌, ℕ, ◌<◌, ◌≤◌, List, [], ◌∷◌, ◌++◌, length, set, get_or, refl, Option, Some, None}
+use Rattle.std.proofs.Common.{Result, Ok, Err, ap, sym, subst, ◌∙◌, arith, append_assoc, append-nil}
 use Rattle.std.specs.Prelude.{All, OnOk, OnErr}
 use Rattle.std.proofs.lemmas.Grind.{flat_map-append}
 use Rattle.std.proofs.lemmas.List.Elements.{All-push}
@@ -10,10 +10,12 @@ use Rattle.njh_table.specs.NewRoutes.{new_routes_of, routes_checked, entries_of_
 use Rattle.njh_customer.specs.NewRoutes.{part_after_routes}
 use Rattle.njh_hub.specs.declared.event.Event.{Event}
 use Rattle.njh_hub.specs.declared.event.Event.TheVariants.{Routes}
-use Rattle.njh_hub.specs.Service.{Happening, Round, NewRoutes, happening_events, happening_quiets, happening_rounds, happening_turns}
-use Rattle.njh_hub.specs.Service.{IsPossible, ArePossible, service_events, service_quiets, service_rounds, service_turns, AreStill, IsGiven}
+use Rattle.njh_hub.specs.Service.{Happening, Round, NewRoutes, happening_events, happening_quiets, happening_rounds}
+use Rattle.njh_hub.specs.Service.{happening_turns, IsPossible, ArePossible, service_events, service_quiets}
+use Rattle.njh_hub.specs.Service.{service_rounds, service_turns, AreStill, IsGiven}
 use Rattle.std.specs.List.{flat_map}
-use Rattle.njh_hub.specs.Turns.{Turn, Placed, HadTurn, HadTurns, IsRound, turn_at, placed_acts, quiets_after, round_events}
+use Rattle.njh_hub.specs.Turns.{Turn, Placed, HadTurn, HadTurns, IsRound, turn_at, placed_acts, quiets_after}
+use Rattle.njh_hub.specs.Turns.{round_events}
 use Rattle.njh_hub.specs.WholeHub.{Part, HubRun, part, hub_run}
 use Rattle.njh_hub.specs.Wires.{WireAct}
 use Rattle.njh_hub.proofs.RoundLaws.{had_more}

@@ -1,15 +1,13 @@
 -- The parts of a hub whose tables have new routes for one customer.
-use Rattle.std.proofs.Common.{◌≡◌, ℕ, ◌<◌, List, length, set, slice_set}
-use Rattle.std.proofs.Common.{ap, sym, subst, ◌∙◌}
+use Rattle.std.proofs.Common.{◌≡◌, ℕ, ◌<◌, List, length, set, slice_set, ap, sym, subst, ◌∙◌}
 use Rattle.std.proofs.lemmas.List.{get_or-set_same}
 use Rattle.njh_spool.specs.CustomerSpool.{CustomerSpool}
 use Rattle.njh_spool.specs.Spools as spools
 use Rattle.njh_table.specs.Entries.{RouteEntry}
 use Rattle.njh_table.specs.TableFile.{TableFile, customer_at, entry_of, no_customer}
 use Rattle.njh_customer.specs.Customer.{IsMarked}
-use Rattle.njh_customer.specs.code.Coherence.{IsCoherent}
+use Rattle.njh_customer.specs.code.Coherence.{IsCoherent, RoutesKeepCoherent}
 use Rattle.njh_customer.specs.NewRoutes.{part_after_routes}
-use Rattle.njh_customer.specs.code.Coherence.{RoutesKeepCoherent}
 use Rattle.njh_customer.specs.Part.{Part, Lines, part_with}
 use Rattle.njh_hub.specs.WholeHub.{part}
 use Rattle.njh_hub.specs.Parts.{lines_at, no_lines, part_held, parts_of}

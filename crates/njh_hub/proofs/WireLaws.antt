@@ -18,7 +18,8 @@ use Rattle.njh_hub.specs.OwnEvents.{line_of_event, event_by}
 use Rattle.njh_hub.specs.WholeHub.{Part, no_part, part, HubRun, sent_by, hub_run}
 use Rattle.njh_hub.specs.Wires.{WireAct, Unsent, sent_act, frame_acts, last_unsent, run_until, cut_to, loss_of, SendsAt}
 use Rattle.njh_hub.proofs.PieceLaws.{after_bytes}
-use Rattle.njh_hub.proofs.RunningLaws.{GoesOn, step_done, whole_done, known-there, sent_pair, signal_done, line-event_by}
+use Rattle.njh_hub.proofs.RunningLaws.{GoesOn, step_done, whole_done, known-there, sent_pair, signal_done}
+use Rattle.njh_hub.proofs.RunningLaws.{line-event_by}
 
 -- ---- the last byte of a step
 

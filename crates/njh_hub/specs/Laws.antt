@@ -34,7 +34,8 @@ TwoListsAreLike =
 abbrev pub CustomersNeverMeet : Type 0
 CustomersNeverMeet =
     (c d : ℕ) (entries others : List CustomerEntry) (events more : List Event) →
-    c < length entries → d < length others → entry_at c entries ≡ entry_at d others → events_of c events ≡ events_of d more →
+    c < length entries → d < length others → entry_at c entries ≡ entry_at d others
+    → events_of c events ≡ events_of d more →
     (outcome_of c entries events ≡ outcome_of d others more)
     × (outcome_of c entries events ≡ alone (entry_at c entries) (events_of c events))
 
@@ -42,14 +43,16 @@ CustomersNeverMeet =
 
 -- A step on another customer's line, or new routes of another customer, leave a customer's part as it is.
 abbrev pub OthersStay : Type 0
-OthersStay = (c : ℕ) (parts : List Part) (event : Event) → c ≢ customer_of_event event → part c (hub_event parts event).parts ≡ part c parts
+OthersStay = (c : ℕ) (parts : List Part) (event : Event) → c ≢ customer_of_event event
+    → part c (hub_event parts event).parts ≡ part c parts
 
 -- A step on a customer's own line, or new routes of its own, do what they do on a hub of its own, whatever the others
 -- hold.
 abbrev pub OwnStepIsOwn : Type 0
 OwnStepIsOwn =
     (parts : List Part) (event : Event) → customer_of_event event < length parts →
-    part (customer_of_event event) (hub_event parts event).parts ≡ (event_run (part (customer_of_event event) parts) (own event)).after
+    part (customer_of_event event) (hub_event parts event).parts
+    ≡ (event_run (part (customer_of_event event) parts) (own event)).after
 
 -- a list begins another
 abbrev pub Begins : {X : Type 0} → List X → List X → Type 0

@@ -15,7 +15,8 @@ pub record Outcome : Type 0 where
 
 -- of the customer alone on a hub of its own, over its own events
 abbrev pub alone : CustomerEntry → List OwnEvent → Outcome
-alone entry events = let r = alone_run (part_at_open entry) events in record { sent = r.sent; files = files_of r.after.customer.spool }
+alone entry events =
+    let r = alone_run (part_at_open entry) events in record { sent = r.sent; files = files_of r.after.customer.spool }
 
 -- of customer c of a hub of many, over the events of all
 abbrev pub outcome_of : ℕ → List CustomerEntry → List Event → Outcome
@@ -27,7 +28,8 @@ abbrev pub entry_at : ℕ → List CustomerEntry → CustomerEntry
 entry_at c entries = slice_index_or entries c no_entry
 
 -- Frames that a sink took, and files that the hub answered, are this outcome of customer c.
-pub record IsOutcome {S : Type 0} (took : S → S → List (LineId × List ℕ) → Type 0) (c : ℕ) (before after : S) (shown : List FileView)
+pub record IsOutcome {S : Type 0} (took : S → S → List (LineId × List ℕ) → Type 0) (c : ℕ) (before after : S)
+    (shown : List FileView)
     (outcome : Outcome) : Type 0 where
   pub pairs : List (LineId × List ℕ)
   pub handed : took before after pairs
@@ -35,7 +37,8 @@ pub record IsOutcome {S : Type 0} (took : S → S → List (LineId × List ℕ) 
   pub files : shown ≡ outcome.files
 
 -- Two sinks took the same frames on a customer's lines, and two hubs answered equal files of it.
-pub record AreEqual {S Z : Type 0} (took : S → S → List (LineId × List ℕ) → Type 0) (took_too : Z → Z → List (LineId × List ℕ) → Type 0)
+pub record AreEqual {S Z : Type 0} (took : S → S → List (LineId × List ℕ) → Type 0)
+    (took_too : Z → Z → List (LineId × List ℕ) → Type 0)
     (c d : ℕ) (before after : S) (before_too after_too : Z) (shown shown_too : List FileView) : Type 0 where
   pub pairs : List (LineId × List ℕ)
   pub pairs_too : List (LineId × List ℕ)

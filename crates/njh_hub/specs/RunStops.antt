@@ -1,7 +1,6 @@
 -- How far a run came, and why it stopped.
 use Rattle.std.specs.Prelude.{◌≡◌, ℕ, ◌<◌, ◌≤◌, ◌⊎◌, List, [], ◌∷◌, ◌++◌, length, Result, Ok, Err, OnOk, IfErr, Vec}
-use Rattle.std.specs.Prelude.{vec_capacity, ⊤}
-use Rattle.std.specs.Prelude.{IsSome, IsSomeAnd}
+use Rattle.std.specs.Prelude.{vec_capacity, ⊤, IsSome, IsSomeAnd}
 use Rattle.njh_bisync.specs.declared.frame.TheConstants.{LONGEST_FRAME}
 use Rattle.njh_table.specs.declared.LineId.{LineId}
 use Rattle.njh_table.specs.NewRoutes.{new_routes_of, routes_checked}
@@ -39,7 +38,8 @@ abbrev pub IsRoutes : Event → Type 0
 IsRoutes event = IsSome (routes_of event)
 
 -- A sink took all of these frames but the last, and refused that one.
-pub record RefusedLast {S : Type 0} (took : S → S → List (LineId × List ℕ) → Type 0) (refused : S → S → LineId × List ℕ → Type 0)
+pub record RefusedLast {S : Type 0} (took : S → S → List (LineId × List ℕ) → Type 0)
+    (refused : S → S → LineId × List ℕ → Type 0)
     (before after : S) (sent : List (LineId × List ℕ)) : Type 0 where
   pub front : List (LineId × List ℕ)
   pub last : LineId × List ℕ
@@ -49,7 +49,8 @@ pub record RefusedLast {S : Type 0} (took : S → S → List (LineId × List ℕ
   pub refused_last : refused between after last
 
 -- What a sink took where a run was stopped: the frames that were sent, or all but the last, which it then refused.
-abbrev pub HandedUntil : {S : Type 0} → (S → S → List (LineId × List ℕ) → Type 0) → (S → S → LineId × List ℕ → Type 0) → Cause → S →
+abbrev pub HandedUntil : {S : Type 0} → (S → S → List (LineId × List ℕ) → Type 0) → (S → S → LineId × List ℕ → Type 0)
+    → Cause → S →
     S → List (LineId × List ℕ) → Type 0
 HandedUntil took refused (Hub fault) before after sent = took before after sent
 HandedUntil took refused Sink before after sent = RefusedLast took refused before after sent
@@ -67,13 +68,15 @@ IsWithinOne event fault = (0 < fault.bytes → (fault.events ≡ 0) × (fault.by
 
 -- One event of a run. A fault speaks of it as of the only one.
 pub record IsEventRun {S A Z : Type 0} (took : S → S → List (LineId × List ℕ) → Type 0)
-    (refused : S → S → LineId × List ℕ → Type 0) (count : S → ℕ) (parts : List Part) (event : Event) (out : Vec ℕ Z) (sink : S)
+    (refused : S → S → LineId × List ℕ → Type 0) (count : S → ℕ) (parts : List Part) (event : Event) (out : Vec ℕ Z)
+    (sink : S)
     (result : Result A RunFault) (new : List Part) (new_out : Vec ℕ Z) (new_sink : S) : Type 0 where
   pub leads : new ≡ (hub_run parts (done (event ∷ []) result)).parts
   pub handed : Handed took refused result sink new_sink (hub_run parts (done (event ∷ []) result)).sent
   pub known : OnOk result (IsNamed parts event)
   pub lines : SameLines parts new
-  pub room : OnOk result (IsSome (line_of_event event) ⊎ (LONGEST_FRAME ≤ vec_capacity out) → LONGEST_FRAME ≤ vec_capacity new_out)
+  pub room : OnOk result (IsSome (line_of_event event) ⊎ (LONGEST_FRAME ≤ vec_capacity out)
+      → LONGEST_FRAME ≤ vec_capacity new_out)
   pub one : IfErr result (IsWithinOne event)
   pub behind : IfErr result (λ fault. fault.events ≡ 1 → IsNamed parts event)
   pub causes : IfErr result (λ fault. IfHub fault.cause (λ why. (fault.events ≡ 0) × IsRefused parts event why))

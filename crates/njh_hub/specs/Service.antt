@@ -62,18 +62,22 @@ service_rounds story = flat_map happening_rounds story
 abbrev pub service_turns : List Part → List LineId → List ℕ → ℕ → List Happening → List Placed
 service_turns parts lines quiets i [] = []
 service_turns parts lines quiets i (happening ∷ story) = happening_turns parts lines quiets i happening
-    ++ service_turns (hub_run parts (happening_events lines quiets happening)).parts lines (happening_quiets quiets happening) i story
+    ++ service_turns (hub_run parts (happening_events lines quiets happening)).parts lines
+    (happening_quiets quiets happening) i story
 
 -- all new routes of a story could be given when they were
 abbrev pub ArePossible : List Part → List LineId → List ℕ → List Happening → Type 0
 ArePossible parts lines quiets [] = ⊤
 ArePossible parts lines quiets (happening ∷ story) = IsPossible parts happening
-    × ArePossible (hub_run parts (happening_events lines quiets happening)).parts lines (happening_quiets quiets happening) story
+    × ArePossible (hub_run parts (happening_events lines quiets happening)).parts lines
+    (happening_quiets quiets happening) story
 
 -- A service of so many rounds: each wire had one turn in each, in their order, and nothing else passed on it; the hub
 -- was told of these turns, of new routes that it could give, and of nothing else.
-pub record IsAttended {S : Type 0} (passed : S → S → List WireAct → Type 0) (count : S → ℕ) (lines : List LineId) (turns : ℕ)
-    (parts : List Part) (quiets : List ℕ) (wires : List S) (new : List Part) (new_quiets : List ℕ) (new_wires : List S) : Type 0 where
+pub record IsAttended {S : Type 0} (passed : S → S → List WireAct → Type 0) (count : S → ℕ) (lines : List LineId)
+    (turns : ℕ)
+    (parts : List Part) (quiets : List ℕ) (wires : List S) (new : List Part) (new_quiets : List ℕ)
+    (new_wires : List S) : Type 0 where
   pub story : List Happening
   pub many : length (service_rounds story) ≡ turns
   pub each : All (λ round. length round ≡ length lines) (service_rounds story)
@@ -81,19 +85,24 @@ pub record IsAttended {S : Type 0} (passed : S → S → List WireAct → Type 0
   pub hub : new ≡ (hub_run parts (service_events lines quiets story)).parts
   pub calm : new_quiets ≡ service_quiets quiets story
   pub had : (i : ℕ) (d : S) → i < length lines →
-      HadTurns passed count (service_turns parts lines quiets i story) (slice_index_or wires i d) (slice_index_or new_wires i d)
+      HadTurns passed count (service_turns parts lines quiets i story) (slice_index_or wires i d)
+      (slice_index_or new_wires i d)
 
 -- ---- between rounds
 
 -- Nothing passed on any wire.
-pub record AreStill {S : Type 0} (passed : S → S → List WireAct → Type 0) (count : S → ℕ) (wires new_wires : List S) : Type 0 where
-  pub passed_none : (i : ℕ) (d : S) → i < length wires → passed (slice_index_or wires i d) (slice_index_or new_wires i d) []
-  pub counts : (i : ℕ) (d : S) → i < length wires → count (slice_index_or wires i d) ≤ count (slice_index_or new_wires i d)
+pub record AreStill {S : Type 0} (passed : S → S → List WireAct → Type 0) (count : S → ℕ)
+    (wires new_wires : List S) : Type 0 where
+  pub passed_none : (i : ℕ) (d : S) → i < length wires
+      → passed (slice_index_or wires i d) (slice_index_or new_wires i d) []
+  pub counts : (i : ℕ) (d : S) → i < length wires
+      → count (slice_index_or wires i d) ≤ count (slice_index_or new_wires i d)
 
 -- A customer was given these routes, if any, which it may have.
 abbrev pub IsGiven : List Part → Option (ℕ × List GivenRoute) → List Part → Type 0
 IsGiven parts None new = new ≡ parts
-IsGiven parts (Some given) new = IsNamed parts (Routes given.0 given.1) × (new ≡ (hub_run parts (Routes given.0 given.1 ∷ [])).parts)
+IsGiven parts (Some given) new =
+    IsNamed parts (Routes given.0 given.1) × (new ≡ (hub_run parts (Routes given.0 given.1 ∷ [])).parts)
 
 -- ---- a law
 

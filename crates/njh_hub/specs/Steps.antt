@@ -18,5 +18,6 @@ pub record IsStep {A Z : Type 0} (parts : List Part) (id : LineId) (after : Part
   pub room : OnOk result (LONGEST_FRAME ≤ vec_capacity new_out)
   pub known : OnOk result (HasLine parts id)
   pub unknown : (HasLine parts id → ⊥) → result ≡ Err UnknownLine
-  pub memory : HasLine parts id → OnErr result ((result ≡ Err Memory) × (vec_capacity out < vec_len out + LONGEST_FRAME))
+  pub memory : HasLine parts id
+      → OnErr result ((result ≡ Err Memory) × (vec_capacity out < vec_len out + LONGEST_FRAME))
   pub err : OnErr result ((new ≡ parts) × (new_out.items ≡ out.items) × (vec_capacity new_out ≡ vec_capacity out))

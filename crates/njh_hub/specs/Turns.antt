@@ -1,7 +1,6 @@
 -- Turns of wires: one of one wire, and turn after turn of many, wire by wire in their order.
 use Rattle.std.specs.Prelude.{◌≡◌, ℕ, ◌+◌, ◌<◌, ◌≤◌, ◌==◌, ◌⊎◌, cond, List, [], ◌∷◌, ◌++◌, length, replicate, take}
-use Rattle.std.specs.Prelude.{Option, Some, None}
-use Rattle.std.specs.Prelude.{IsSome, slice_index_or, All}
+use Rattle.std.specs.Prelude.{Option, Some, None, IsSome, slice_index_or, All}
 use Rattle.std.specs.List.{flat_map}
 use Rattle.njh_table.specs.declared.LineId.{LineId}
 use Rattle.njh_hub.specs.declared.event.Event.{Event}
@@ -50,7 +49,8 @@ IsStopWhere parts cut None = cut ≡ None
 IsStopWhere parts cut (Some event) = IsStop parts cut event
 
 -- What came of an answer, as `IsDone` says it of an event.
-pub record IsHeard {S : Type 0} (passed : S → S → List WireAct → Type 0) (count : S → ℕ) (parts : List Part) (event : Option Event)
+pub record IsHeard {S : Type 0} (passed : S → S → List WireAct → Type 0) (count : S → ℕ) (parts : List Part)
+    (event : Option Event)
     (cut : Option ℕ) (wire : S) (new : List Part) (new_wire : S) : Type 0 where
   pub hub : new ≡ (hub_run parts (told_where cut event)).parts
   pub acts : passed wire new_wire (written_where parts cut event)
@@ -72,7 +72,8 @@ abbrev pub HasFault : Turn → Type 0
 HasFault turn = (turn.heard ≡ Failed) ⊎ IsSome turn.cut
 
 -- A turn of a wire: from a hub and a wire to what it leaves.
-pub record IsTurn {S : Type 0} (passed : S → S → List WireAct → Type 0) (count : S → ℕ) (parts : List Part) (id : LineId)
+pub record IsTurn {S : Type 0} (passed : S → S → List WireAct → Type 0) (count : S → ℕ) (parts : List Part)
+    (id : LineId)
     (quiet : ℕ) (turn : Turn) (wire : S) (new : List Part) (new_wire : S) : Type 0 where
   pub hub : new ≡ (hub_run parts (turn_events id quiet turn)).parts
   pub acts : passed wire new_wire (turn_acts parts id quiet turn)
@@ -87,7 +88,8 @@ abbrev pub round_events : List LineId → List ℕ → List Turn → List Event
 round_events [] quiets turns = []
 round_events (line ∷ lines) [] turns = []
 round_events (line ∷ lines) (quiet ∷ quiets) [] = []
-round_events (line ∷ lines) (quiet ∷ quiets) (turn ∷ turns) = turn_events line quiet turn ++ round_events lines quiets turns
+round_events (line ∷ lines) (quiet ∷ quiets) (turn ∷ turns) =
+    turn_events line quiet turn ++ round_events lines quiets turns
 
 -- the quiets in a row on each wire; on those without a turn they stay
 abbrev pub quiets_after : List ℕ → List Turn → List ℕ
@@ -124,19 +126,23 @@ abbrev pub placed_stop : Placed → Type 0
 placed_stop p = IsStopWhere p.parts p.turn.cut (wire_event p.line p.quiet p.turn.heard)
 
 -- a wire had this turn
-pub record HadTurn {S : Type 0} (passed : S → S → List WireAct → Type 0) (count : S → ℕ) (p : Placed) (wire new_wire : S) : Type 0 where
+pub record HadTurn {S : Type 0} (passed : S → S → List WireAct → Type 0) (count : S → ℕ) (p : Placed)
+    (wire new_wire : S) : Type 0 where
   pub acts : passed wire new_wire (placed_acts p)
   pub stop : placed_stop p
   pub counts : count wire ≤ count new_wire
   pub counted : HasFault p.turn → IsCounted (count wire) (count new_wire)
 
 -- The first wires had these turns of a round, and the others none yet.
-pub record IsRound {S : Type 0} (passed : S → S → List WireAct → Type 0) (count : S → ℕ) (lines : List LineId) (parts : List Part)
-    (quiets : List ℕ) (wires : List S) (turns : List Turn) (new : List Part) (new_quiets : List ℕ) (new_wires : List S) : Type 0 where
+pub record IsRound {S : Type 0} (passed : S → S → List WireAct → Type 0) (count : S → ℕ) (lines : List LineId)
+    (parts : List Part)
+    (quiets : List ℕ) (wires : List S) (turns : List Turn) (new : List Part) (new_quiets : List ℕ)
+    (new_wires : List S) : Type 0 where
   pub hub : new ≡ (hub_run parts (round_events lines quiets turns)).parts
   pub calm : new_quiets ≡ quiets_after quiets turns
   pub had : (i : ℕ) (d : S) → i < length turns →
-      HadTurn passed count (turn_at parts lines quiets i turns) (slice_index_or wires i d) (slice_index_or new_wires i d)
+      HadTurn passed count (turn_at parts lines quiets i turns) (slice_index_or wires i d)
+      (slice_index_or new_wires i d)
   pub rest : (i : ℕ) (d : S) → length turns ≤ i → slice_index_or new_wires i d ≡ slice_index_or wires i d
 
 -- ---- round after round
@@ -148,7 +154,8 @@ pub record LineQuiets : Type 0 where
 
 abbrev pub all_events : List LineId → List ℕ → List (List Turn) → List Event
 all_events lines quiets [] = []
-all_events lines quiets (round ∷ rounds) = round_events lines quiets round ++ all_events lines (quiets_after quiets round) rounds
+all_events lines quiets (round ∷ rounds) =
+    round_events lines quiets round ++ all_events lines (quiets_after quiets round) rounds
 
 -- the quiets in a row after these rounds
 abbrev pub all_quiets : List ℕ → List (List Turn) → List ℕ
@@ -162,7 +169,8 @@ turns_of parts lines quiets i (round ∷ rounds) = turn_at parts lines quiets i 
     ∷ turns_of (hub_run parts (round_events lines quiets round)).parts lines (quiets_after quiets round) i rounds
 
 -- A wire had these turns, and nothing else passed on it.
-pub record HadTurns {S : Type 0} (passed : S → S → List WireAct → Type 0) (count : S → ℕ) (turns : List Placed) (wire new_wire : S) :
+pub record HadTurns {S : Type 0} (passed : S → S → List WireAct → Type 0) (count : S → ℕ) (turns : List Placed)
+    (wire new_wire : S) :
     Type 0 where
   pub acts : passed wire new_wire (flat_map placed_acts turns)
   pub stops : All placed_stop turns
@@ -175,11 +183,13 @@ no_quiets lines = replicate (length lines) 0
 
 -- So many rounds: each wire had one turn in each, in their order, and the hub was told of these turns and of nothing
 -- else.
-pub record IsServed {S : Type 0} (passed : S → S → List WireAct → Type 0) (count : S → ℕ) (lines : List LineId) (turns : ℕ)
+pub record IsServed {S : Type 0} (passed : S → S → List WireAct → Type 0) (count : S → ℕ) (lines : List LineId)
+    (turns : ℕ)
     (parts : List Part) (wires : List S) (new : List Part) (new_wires : List S) : Type 0 where
   pub rounds : List (List Turn)
   pub many : length rounds ≡ turns
   pub each : All (λ round. length round ≡ length lines) rounds
   pub hub : new ≡ (hub_run parts (all_events lines (no_quiets lines) rounds)).parts
   pub had : (i : ℕ) (d : S) → i < length lines →
-      HadTurns passed count (turns_of parts lines (no_quiets lines) i rounds) (slice_index_or wires i d) (slice_index_or new_wires i d)
+      HadTurns passed count (turns_of parts lines (no_quiets lines) i rounds) (slice_index_or wires i d)
+      (slice_index_or new_wires i d)

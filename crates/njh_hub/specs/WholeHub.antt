@@ -30,7 +30,8 @@ IsNamed parts (Bytes id piece) = HasLine parts id
 IsNamed parts (Tick id) = HasLine parts id
 IsNamed parts (Garbled id) = HasLine parts id
 IsNamed parts (Lost id) = HasLine parts id
-IsNamed parts (Routes c routes) = (c < length parts) × (routes_checked (part c parts).customer.entry (new_routes_of c routes) ≡ Ok tt)
+IsNamed parts (Routes c routes) =
+    (c < length parts) × (routes_checked (part c parts).customer.entry (new_routes_of c routes) ≡ Ok tt)
 
 -- each customer has as many lines in both
 abbrev pub SameLines : List Part → List Part → Type 0

@@ -1,6 +1,6 @@
 -- One turn of a wire: what its read answered, what the hub hears of that, and what passes on the wire.
-use Rattle.std.specs.Prelude.{◌≡◌, ℕ, ◌-◌, ◌<◌, ◌≤◌, List, [], ◌∷◌, length, map, take, Option, Some, None}
-use Rattle.std.specs.Prelude.{Result, Ok, Err, IsSome, ⊤, Vec, vec_capacity, slice_set}
+use Rattle.std.specs.Prelude.{◌≡◌, ℕ, ◌-◌, ◌<◌, ◌≤◌, List, [], ◌∷◌, length, map, take, Option, Some, None, Result, Ok}
+use Rattle.std.specs.Prelude.{Err, IsSome, ⊤, Vec, vec_capacity, slice_set}
 use Rattle.njh_bisync.specs.declared.frame.TheConstants.{LONGEST_FRAME}
 use Rattle.njh_table.specs.declared.LineId.{LineId}
 use Rattle.njh_hub.specs.declared.event.Event.{Event}
@@ -115,7 +115,8 @@ pub record IsTaken {Z : Type 0} (parts : List Part) (id : LineId) (after : Part)
   pub room : LONGEST_FRAME ≤ vec_capacity new_out
 
 -- What came of an event of a wire. `cut` says whether a write failed, and how many bytes of the event were used then.
-pub record IsDone {S : Type 0} (passed : S → S → List WireAct → Type 0) (count : S → ℕ) (parts : List Part) (event : Event)
+pub record IsDone {S : Type 0} (passed : S → S → List WireAct → Type 0) (count : S → ℕ) (parts : List Part)
+    (event : Event)
     (cut : Option ℕ) (wire : S) (new : List Part) (new_wire : S) : Type 0 where
   pub hub : new ≡ (hub_run parts (heard_events cut event)).parts
   pub acts : passed wire new_wire (write_acts parts cut event)

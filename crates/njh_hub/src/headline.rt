@@ -57,7 +57,8 @@ pub fn two_runs<S: Sink, Z: Sink>(
 ) -> Result<(Vec<FileView>, Vec<FileView>), Cause>
     ensures { entry_at customer (entries_of tables) ≡ entry_at other (entries_of others) →
         events_of customer events.now ≡ events_of other more.now →
-        IfOk result (λ files. AreEqual S.took Z.took customer other sink.old sink.new other_sink.old other_sink.new files.0.items files.1.items) }
+        IfOk result (λ files. AreEqual S.took Z.took customer other sink.old sink.new other_sink.old other_sink.new
+        files.0.items files.1.items) }
 {
     let files = outcome(alloc, tables, customer, events, sink)?;
     let other_files = outcome(alloc, others, other, more, other_sink)?;

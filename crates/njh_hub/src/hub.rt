@@ -137,7 +137,8 @@ impl Hub {
     /// `UnknownLine` comes where the hub has no such line, `Memory` where `out` found no room for a frame past what it
     /// held.
     pub fn take(&mut self, id: LineId, piece: &[u8], out: &mut Vec<u8>) -> Result<usize, HubFault>
-        ensures taken { IfOk result (λ taken. taken ≡ (part_after_bytes (part id.customer self.old) id.number piece.now).taken) }
+        ensures taken { IfOk result (λ taken. taken
+            ≡ (part_after_bytes (part id.customer self.old) id.number piece.now).taken) }
         ensures progress { IfOk result (λ taken. (0 < length piece.now → 0 < taken) × (taken ≤ length piece.now)) }
         ensures step { let t = part_after_bytes (part id.customer self.old) id.number piece.now in
             IsStep self.old id t.after t.frame out.old result self.new out.new }

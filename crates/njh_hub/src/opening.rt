@@ -62,7 +62,8 @@ fn quota_of(customer: &Customer) -> Quota
 pub(crate) fn open_lines(alloc: Global, tables: &Tables) -> Result<Vec<Lines>, AllocError>
     ensures count { IfOk result (λ lines. length lines.items ≡ length tables.now.customers) }
     ensures opened { IfOk result (λ lines. (c : ℕ) → c < length tables.now.customers →
-        part_with (entry_unmarked (entry_of (customer_at tables.now c))) (empty_files (customer_at tables.now c)) (lines_at c lines.items)
+        part_with (entry_unmarked (entry_of (customer_at tables.now c))) (empty_files (customer_at tables.now c))
+        (lines_at c lines.items)
         ≡ part_at_open (entry_of (customer_at tables.now c))) }
     ensures accepted { IsAccepted tables.now }
 {

@@ -29,11 +29,14 @@ impl Hub {
         ensures parts { (c : ℕ) → c < length self.old →
             part c self.new ≡ (alone_run (part c self.old) (events_of c (done events.now result))).after }
         ensures sent { OnOk result ((pairs : List (LineId × List ℕ)) × S.took sink.old sink.new pairs ×
-            ((c : ℕ) → c < length self.old → sent_to c pairs ≡ (alone_run (part c self.old) (events_of c events.now)).sent)) }
+            ((c : ℕ) → c < length self.old
+            → sent_to c pairs ≡ (alone_run (part c self.old) (events_of c events.now)).sent)) }
 
         // The sink took the frames of what was done; with cause Sink all but the last.
-        ensures handed { Handed S.took S.refused result sink.old sink.new (hub_run self.old (done events.now result)).sent }
-        ensures refused { IfErr result (λ fault. fault.cause ≡ Cause.Sink → 0 < length (hub_run self.old (done events.now result)).sent) }
+        ensures handed { Handed S.took S.refused result sink.old sink.new
+            (hub_run self.old (done events.now result)).sent }
+        ensures refused { IfErr result (λ fault. fault.cause ≡ Cause.Sink
+            → 0 < length (hub_run self.old (done events.now result)).sent) }
 
         // The customers and their lines stay.
         ensures customers { length self.new ≡ length self.old }
@@ -50,7 +53,8 @@ impl Hub {
             IsSomeAnd (slice_get events.now fault.events) (λ event. IsRefused self.old event why))) }
         ensures memory { IfErr result (λ fault. fault.cause ≡ Cause.Hub HubFault.Memory → (fault.bytes ≡ 0) ×
             (IsSomeAnd (slice_get events.now fault.events) IsRoutes ⊎ All IsRoutes (take fault.events events.now))) }
-        ensures counted { IfErr result (λ fault. fault.cause ≡ Cause.Sink → IsCounted (S.count sink.old) (S.count sink.new)) }
+        ensures counted { IfErr result (λ fault. fault.cause ≡ Cause.Sink
+            → IsCounted (S.count sink.old) (S.count sink.new)) }
     {
         events_keep_entries();
         let mut out = Vec::new(self.allocator());
@@ -70,7 +74,8 @@ impl Hub {
         out: &mut Vec<u8>,
         sink: &mut S,
     ) -> Result<(), RunFault>
-        ensures { IsEventRun S.took S.refused S.count self.old event.now out.old sink.old result self.new out.new sink.new }
+        ensures { IsEventRun S.took S.refused S.count self.old event.now out.old sink.old result self.new out.new
+            sink.new }
     {
         match event {
             Event::Bytes(line, piece) => self.run_bytes(*line, piece.bytes(), out, sink),
@@ -96,7 +101,8 @@ impl Hub {
         out: &mut Vec<u8>,
         sink: &mut S,
     ) -> Result<(), RunFault>
-        ensures { IsEventRun S.took S.refused S.count self.old (event_by signal id) out.old sink.old result self.new out.new sink.new }
+        ensures { IsEventRun S.took S.refused S.count self.old
+            (event_by signal id) out.old sink.old result self.new out.new sink.new }
     {
         out.clear();
         match self.signal(id, signal, out) {
@@ -125,7 +131,8 @@ impl Hub {
         out: &mut Vec<u8>,
         sink: &mut S,
     ) -> Result<(), RunFault>
-        ensures { IsEventRun S.took S.refused S.count self.old (Bytes id piece.now) out.old sink.old result self.new out.new sink.new }
+        ensures { IsEventRun S.took S.refused S.count self.old
+            (Bytes id piece.now) out.old sink.old result self.new out.new sink.new }
     {
         no_bytes_do_nothing();
         steps_follow_bytes();

@@ -74,7 +74,8 @@ pub fn wire_turn<W: Wire>(
 ) -> u8
     requires known { HasLine hub.old id }
     requires few { quiet < 10 }
-    ensures turn { (turn : Turn) × IsTurn W.passed W.count hub.old id quiet turn wire.old hub.new wire.new × (result ≡ quiet_after quiet turn.heard) }
+    ensures turn { (turn : Turn) × IsTurn W.passed W.count hub.old id quiet turn wire.old hub.new wire.new
+        × (result ≡ quiet_after quiet turn.heard) }
     ensures few { result < 10 }
     ensures lines { SameLines hub.old hub.new }
 {
@@ -98,7 +99,8 @@ fn act_on<W: Wire>(
     requires few { quiet < 10 }
     requires room { LONGEST_FRAME ≤ vec_capacity out.old }
     ensures heard { (cut : Option ℕ) ×
-        IsHeard W.passed W.count hub.old (wire_event id quiet (heard_of answer buffer.now)) cut wire.old hub.new wire.new }
+        IsHeard W.passed W.count hub.old (wire_event id quiet
+        (heard_of answer buffer.now)) cut wire.old hub.new wire.new }
     ensures quiets { result ≡ quiet_after quiet (heard_of answer buffer.now) }
     ensures few { result < 10 }
     ensures lines { SameLines hub.old hub.new }
@@ -133,7 +135,8 @@ fn act_on<W: Wire>(
 fn pass_bytes<W: Wire>(hub: &mut Hub, id: LineId, piece: &[u8], wire: &mut W, out: &mut Vec<u8>)
     requires known { HasLine hub.old id }
     requires room { LONGEST_FRAME ≤ vec_capacity out.old }
-    ensures done { (cut : Option ℕ) × IsDone W.passed W.count hub.old (Bytes id piece.now) cut wire.old hub.new wire.new }
+    ensures done { (cut : Option ℕ)
+        × IsDone W.passed W.count hub.old (Bytes id piece.now) cut wire.old hub.new wire.new }
     ensures lines { SameLines hub.old hub.new }
     ensures room { LONGEST_FRAME ≤ vec_capacity out.new }
 {
@@ -155,16 +158,11 @@ fn pass_bytes<W: Wire>(hub: &mut Hub, id: LineId, piece: &[u8], wire: &mut W, ou
 }
 
 /// Hands the hub a signal on a line and writes the frame that it sends. Where the write fails the line is lost.
-fn pass_signal<W: Wire>(
-    hub: &mut Hub,
-    id: LineId,
-    signal: Signal,
-    wire: &mut W,
-    out: &mut Vec<u8>,
-)
+fn pass_signal<W: Wire>(hub: &mut Hub, id: LineId, signal: Signal, wire: &mut W, out: &mut Vec<u8>)
     requires known { HasLine hub.old id }
     requires room { LONGEST_FRAME ≤ vec_capacity out.old }
-    ensures done { (cut : Option ℕ) × IsDone W.passed W.count hub.old (event_by signal id) cut wire.old hub.new wire.new }
+    ensures done { (cut : Option ℕ)
+        × IsDone W.passed W.count hub.old (event_by signal id) cut wire.old hub.new wire.new }
     ensures lines { SameLines hub.old hub.new }
     ensures room { LONGEST_FRAME ≤ vec_capacity out.new }
 {

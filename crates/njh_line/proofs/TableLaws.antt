@@ -1,5 +1,6 @@
 -- Laws of the line table, row by row.
-use Rattle.std.proofs.Common.{◌≡◌, ◌≤◌, ◌<◌, ℕ, ◌+◌, Bool, true, false, Option, Some, None, cond, ◌==◌, refl, sym, subst, arith, eq-eqb}
+use Rattle.std.proofs.Common.{◌≡◌, ◌≤◌, ◌<◌, ℕ, ◌+◌, Bool, true, false, Option, Some, None, cond, ◌==◌, refl, sym}
+use Rattle.std.proofs.Common.{subst, arith, eq-eqb}
 use Rattle.std.proofs.lemmas.Bool.{ne_eqb}
 use Rattle.njh_bisync.specs.declared.frame.Control.TheVariants as control
 use Rattle.njh_header.specs.SignOns.{SignOn}
@@ -15,10 +16,11 @@ use Rattle.njh_line.specs.declared.table.Outcome.{Outcome}
 use Rattle.njh_line.specs.declared.verdict.Reply.{Reply}
 use Rattle.njh_line.specs.declared.verdict.Reply.TheVariants.{Again, Control, Next, Sequence}
 use Rattle.njh_line.specs.Counts.{after_acting, count_verdict, expected_count}
-use Rattle.njh_line.specs.Laws.{MovesTriesAlone, is_acting, is_disregarded, is_up, last_bcb_after, last_bcb_by, sets_tries}
+use Rattle.njh_line.specs.Laws.{MovesTriesAlone, is_acting, is_disregarded, is_up, last_bcb_after, last_bcb_by}
+use Rattle.njh_line.specs.Laws.{sets_tries}
 use Rattle.njh_line.specs.LineTable.{Input, Enquiry, Ack0, Nak, Eot, Lost, Tick, Garbled, Spoiled, Bad, Block}
-use Rattle.njh_line.specs.LineTable.{table_outcome, act, by_count, call, cell, contact, end, end_with, i_sign_on, j_sign_on, none}
-use Rattle.njh_line.specs.LineTable.{signed_on, try_again, try_with, with_reply}
+use Rattle.njh_line.specs.LineTable.{table_outcome, act, by_count, call, cell, contact, end, end_with, i_sign_on}
+use Rattle.njh_line.specs.LineTable.{j_sign_on, none, signed_on, try_again, try_with, with_reply}
 use Rattle.njh_line.specs.Openings.{First}
 use Rattle.njh_line.specs.Sessions.{down_session, in_session}
 use Rattle.njh_line.proofs.CountLaws.{clash}

@@ -17,8 +17,9 @@ use Rattle.njh_line.specs.declared.verdict.Reply.TheVariants as reply
 use Rattle.njh_line.specs.Counts.{count_verdict, expected_count, after_acting}
 use Rattle.njh_line.specs.Laws.{is_up}
 use Rattle.njh_line.specs.LineTable as input
-use Rattle.njh_line.specs.LineTable.{Input, table_outcome, cell, none, enquiry, ack0, hang_up, end, end_with, end_and_contact, try_with, try_again, try_nak}
-use Rattle.njh_line.specs.LineTable.{with_reply, contact, call, i_block, next_or_turn, next_in_turn, by_count, signed_on, i_sign_on, j_sign_on, act}
+use Rattle.njh_line.specs.LineTable.{Input, table_outcome, cell, none, enquiry, ack0, hang_up, end, end_with}
+use Rattle.njh_line.specs.LineTable.{end_and_contact, try_with, try_again, try_nak, with_reply, contact, call, i_block}
+use Rattle.njh_line.specs.LineTable.{next_or_turn, next_in_turn, by_count, signed_on, i_sign_on, j_sign_on, act}
 use Rattle.njh_line.specs.Openings.{fitting}
 use Rattle.njh_line.specs.Up.{InputsKeepUp}
 

@@ -23,7 +23,8 @@ expected_count (Some last) = cond (bcb_type last == 2) (bcb_count last) (count_a
 -- whether a count is one of those taken
 abbrev pub is_taken : Option ℕ → ℕ → Bool
 is_taken None k = (k == 0) || (k == 1)
-is_taken (Some last) k = cond (bcb_type last == 2) ((k == bcb_count last) || (k == count_after last)) (k == count_after last)
+is_taken (Some last) k =
+    cond (bcb_type last == 2) ((k == bcb_count last) || (k == count_after last)) (k == count_after last)
 
 -- whether a block is the last one again
 abbrev pub is_repeat : Option ℕ → ℕ → Bool
@@ -40,4 +41,5 @@ count_verdict last bcb =
 
 -- a session once a block is acted on
 abbrev pub after_acting : ℕ → ℕ × ℕ → Session → Session
-after_acting bcb fcs s = record s { tries = 0; last_bcb = cond (bcb_type bcb == 1) s.last_bcb (Some bcb); peer_fcs = fcs }
+after_acting bcb fcs s =
+    record s { tries = 0; last_bcb = cond (bcb_type bcb == 1) s.last_bcb (Some bcb); peer_fcs = fcs }

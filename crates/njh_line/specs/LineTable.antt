@@ -160,7 +160,8 @@ table_outcome line Nak s = row none none try_again try_again try_again s
 table_outcome line Eot s = row none hang_up hang_up hang_up end s
 table_outcome line Lost s = row none hang_up hang_up hang_up end s
 table_outcome line (Block bcb fcs first) s =
-    row none none (by_count bcb fcs (i_sign_on line first)) (by_count bcb fcs (j_sign_on line first)) (by_count bcb fcs act) s
+    row none none (by_count bcb fcs (i_sign_on line first)) (by_count bcb fcs (j_sign_on line first))
+    (by_count bcb fcs act) s
 table_outcome line Spoiled s = row none none try_nak try_nak try_nak s
 table_outcome line Bad s = row none none try_nak try_nak try_nak s
 table_outcome line Garbled s = row none none try_nak try_nak try_nak s

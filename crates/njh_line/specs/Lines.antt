@@ -75,11 +75,13 @@ after_end line = with_session (down_session line.session) line
 
 -- an answer waits, where there is room for it
 abbrev pub with_answer : Answer → LineState → LineState
-with_answer a line = record line { answers = cond (nat_lt (length line.answers) ANSWERS) (line.answers ++ a ∷ []) line.answers }
+with_answer a line =
+    record line { answers = cond (nat_lt (length line.answers) ANSWERS) (line.answers ++ a ∷ []) line.answers }
 
 -- a nodal message waits, where there is room for it
 abbrev pub with_message : List ℕ → LineState → LineState
-with_message m line = record line { messages = cond (nat_lt (length line.messages) MESSAGES) (line.messages ++ m ∷ []) line.messages }
+with_message m line =
+    record line { messages = cond (nat_lt (length line.messages) MESSAGES) (line.messages ++ m ∷ []) line.messages }
 
 abbrev pub without_answer : LineState → LineState
 without_answer line = record line { answers = drop 1 line.answers }

@@ -19,7 +19,8 @@ pub fn disregarded_changes_nothing()
     ensures rest { (line : LineState) (input : Input) → KeepsRest line (after_input input line) }
     ensures stays { (line : Config) (s : Session) (input : Input) → is_disregarded input ≡ true → s.tries < 5
         → MovesTriesAlone s (table_outcome line input s) }
-    ensures over { (line : Config) (s : Session) (input : Input) → is_disregarded input ≡ true → in_session s.phase ≡ true → s.tries ≡ 5
+    ensures over { (line : Config) (s : Session) (input : Input) → is_disregarded input ≡ true
+        → in_session s.phase ≡ true → s.tries ≡ 5
         → table_outcome line input s ≡ end s }
 {}
 
@@ -29,21 +30,24 @@ pub fn repeats_are_tries()
     ensures tries { (line : Config) (s : Session) (bcb : ℕ) (fcs : ℕ × ℕ) (first : First) → in_session s.phase ≡ true
         → count_verdict s.last_bcb bcb ≡ Repeats → table_outcome line (Block bcb fcs first) s ≡ try_again s }
     ensures stays { (line : Config) (s : Session) (bcb : ℕ) (fcs : ℕ × ℕ) (first : First) → in_session s.phase ≡ true
-        → count_verdict s.last_bcb bcb ≡ Repeats → s.tries < 5 → MovesTriesAlone s (table_outcome line (Block bcb fcs first) s) }
+        → count_verdict s.last_bcb bcb ≡ Repeats → s.tries < 5
+        → MovesTriesAlone s (table_outcome line (Block bcb fcs first) s) }
     ensures same { (last : Option ℕ) (bcb : ℕ) → count_verdict last bcb ≡ Repeats → last ≡ Some bcb }
     ensures always { (bcb : ℕ) → (bcb_type bcb == 1) ≡ false → count_verdict (Some bcb) bcb ≡ Repeats }
 {}
 
 /// Within a session the tries never fall but by a block that is acted on and by ACK0 where the line is up.
 pub fn tries_stay()
-    ensures { (line : Config) (s : Session) (input : Input) → in_session s.phase ≡ true → (table_outcome line input s).verdict.ended ≡ false
+    ensures { (line : Config) (s : Session) (input : Input) → in_session s.phase ≡ true
+        → (table_outcome line input s).verdict.ended ≡ false
         → sets_tries input s ≡ false → s.tries ≤ (table_outcome line input s).session.tries }
 {}
 
 /// Within a session the counts taken are those of the BCB of the last block acted on whose count isn't unchecked, and
 /// of nothing else.
 pub fn counts_are_of_the_last_block()
-    ensures kept { (line : Config) (s : Session) (input : Input) → in_session s.phase ≡ true → (table_outcome line input s).verdict.ended ≡ false
+    ensures kept { (line : Config) (s : Session) (input : Input) → in_session s.phase ≡ true
+        → (table_outcome line input s).verdict.ended ≡ false
         → (table_outcome line input s).session.last_bcb ≡ last_bcb_after input s }
     ensures at_first { (k : ℕ) → is_taken None k ≡ ((k == 0) || (k == 1)) }
     ensures set { (bcb k : ℕ) → bcb_type bcb ≡ 2

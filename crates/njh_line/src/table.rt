@@ -3,8 +3,7 @@
 ghost use Rattle.std.specs.Prelude.{◌≡◌, ◌≤◌, true, IfSome};
 ghost use Rattle.njh_line.specs.Sessions.{IsSession, IsConfig, in_session};
 ghost use Rattle.njh_line.specs.LineTable.{Block as CameBlock, table_outcome, acting, call, contact, end_and_contact};
-ghost use Rattle.njh_line.specs.LineTable.{end_with};
-ghost use Rattle.njh_line.specs.LineTable.{next_in_turn, none, input_value, signed_on, try_with, with_reply};
+ghost use Rattle.njh_line.specs.LineTable.{end_with, next_in_turn, none, input_value, signed_on, try_with, with_reply};
 ghost use Rattle.njh_line.specs.Openings.{shown_first};
 
 use crate::Phase::{Answered, Calling, Down, SentI, Up};

@@ -1,6 +1,6 @@
 -- A record whose nodes are not both names.
-use Rattle.std.proofs.Common.{◌≡◌, ℕ, ◌-◌, ◌≤◌, Bool, true, false, cond, inl, inr, ◌&&◌, ◌||◌, ◌⊎◌, ltb, Ok, Err, Result, List, length}
-use Rattle.std.proofs.Common.{slice_index, sym, ◌∙◌}
+use Rattle.std.proofs.Common.{◌≡◌, ℕ, ◌-◌, ◌≤◌, Bool, true, false, cond, inl, inr, ◌&&◌, ◌||◌, ◌⊎◌, ltb, Ok, Err}
+use Rattle.std.proofs.Common.{Result, List, length, slice_index, sym, ◌∙◌}
 use Rattle.std.proofs.lemmas.Bool.{cond-false, le-ltb, or_from}
 use Rattle.njh_record.specs.Bytes.{field}
 use Rattle.njh_ebcdic.specs.Names.{is_name}

@@ -81,8 +81,8 @@ impl Model for Nmr {
 }
 
 impl Nmr {
-    ghost use Rattle.njh_nmr.specs.Nodal.{nodal_of, record_of, cut_after_message, IsMessage};
-    ghost use Rattle.njh_nmr.specs.Nodal.{is_user_command, notice_to, notice_record};
+    ghost use Rattle.njh_nmr.specs.Nodal.{nodal_of, record_of, cut_after_message, IsMessage, is_user_command};
+    ghost use Rattle.njh_nmr.specs.Nodal.{notice_to, notice_record};
 
     /// The message that a record holds; what stands behind it in the record is not read.
     pub fn read(bytes: &[u8]) -> Result<Nmr, NmrFault>

@@ -1,6 +1,6 @@
 -- What the arguments name, from the matches of a parse.
-use Rattle.std.proofs.Common.{◌≡◌, Result, Ok, Err, OnOk, IfOk, IfErr, Bool, true, false, cond, List, [], ◌∷◌, map, Option}
-use Rattle.std.proofs.Common.{Some, None, option_and_then, refl, sym, ap, subst, ◌∙◌, ◌↔◌, IsTrue}
+use Rattle.std.proofs.Common.{◌≡◌, Result, Ok, Err, OnOk, IfOk, IfErr, Bool, true, false, cond, List, [], ◌∷◌, map}
+use Rattle.std.proofs.Common.{Option, Some, None, option_and_then, refl, sym, ap, subst, ◌∙◌, ◌↔◌, IsTrue}
 use Rattle.std.specs.Prelude.{codes, find, option_map, slice_get, bytes_eq}
 use Rattle.std.proofs.lemmas.Option.{slice_get-map}
 use Rattle.std.proofs.lemmas.Slice.Eq.{bytes_eq-Decides}
@@ -18,8 +18,8 @@ use Rattle.njh_program.specs.declared.arguments.Request.{Request}
 use Rattle.njh_program.specs.declared.arguments.Request.TheVariants.{Replay, Serve}
 use Rattle.njh_program.specs.declared.serve_options.Unasked.{Unasked}
 use Rattle.njh_program.specs.declared.serve_options.Unasked.TheVariants.{Missing, NoAddress}
-use Rattle.njh_program.specs.Arguments.{HasNoAddress, HasOptions, IsUnasked, IsUnaskedBy, ServesBy, choice_in, choice_of, choice_of_rows}
-use Rattle.njh_program.specs.Arguments.{program_app}
+use Rattle.njh_program.specs.Arguments.{HasNoAddress, HasOptions, IsUnasked, IsUnaskedBy, ServesBy, choice_in}
+use Rattle.njh_program.specs.Arguments.{choice_of, choice_of_rows, program_app}
 
 cond-map : {X Y : Type 0} (f : X → Y) (b : Bool) (x : X) (o : Option Y) (later : Option X) → o ≡ option_map f later
     → cond b (Some (f x)) o ≡ option_map f (cond b (Some x) later)

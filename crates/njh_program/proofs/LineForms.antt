@@ -1,6 +1,6 @@
 -- How a line falls into words, and the event of each form of line.
-use Rattle.std.proofs.Common.{◌≡◌, ℕ, ◌<◌, ◌≤◌, eqb, Bool, true, false, cond, codes, List, ◌∷◌, length, get_or}
-use Rattle.std.proofs.Common.{Option, Some, None, option_and_then, Result, Ok, Err, ◌⊎◌, inl, inr, refl, sym, ap, subst, ◌∙◌}
+use Rattle.std.proofs.Common.{◌≡◌, ℕ, ◌<◌, ◌≤◌, eqb, Bool, true, false, cond, codes, List, ◌∷◌, length, get_or, Option}
+use Rattle.std.proofs.Common.{Some, None, option_and_then, Result, Ok, Err, ◌⊎◌, inl, inr, refl, sym, ap, subst, ◌∙◌}
 use Rattle.std.proofs.Common.{lit<, Bor}
 use Rattle.std.proofs.lemmas.Bool.{cases_lt, eqb-true}
 use Rattle.std.proofs.lemmas.List.Splits.{slice_split_first}

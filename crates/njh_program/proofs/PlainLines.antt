@@ -14,7 +14,8 @@ use Rattle.njh_table.specs.declared.LineId.{LineId}
 use Rattle.njh_table.specs.TableFile.{TableFile, line_named}
 use Rattle.njh_hub.specs.declared.event.Event.TheVariants.{Bytes}
 use Rattle.njh_program.specs.code.LineStarts.{IsStart}
-use Rattle.njh_program.specs.Script.{words_of, script_event, event_of_words, event_on_line, bytes_on, piece_of, some_bytes}
+use Rattle.njh_program.specs.Script.{words_of, script_event, event_of_words, event_on_line, bytes_on, piece_of}
+use Rattle.njh_program.specs.Script.{some_bytes}
 use Rattle.njh_program.proofs.LineForms.{is_blank, digits_event}
 
 -- digits that spell bytes are ASCII

@@ -6,8 +6,7 @@ use Rattle.std.specs.declared.net.ip_addr.IpAddr.{IpAddr}
 use Rattle.std.specs.Str.Parse.{IsNumeral, digits_value, without_leading_plus}
 use Rattle.clap.specs.declared.builder.value_parser.ValueParser.TheVariants.{Signed}
 use Rattle.clap.specs.Words.{App, HasKind, Row, Rule, Text, fault_of, first_of, kind_of, new_app, new_rule}
-use Rattle.clap.specs.Words.{subcommand_of}
-use Rattle.clap.specs.Words.{subcommand_rows_of, with_rule, with_subcommand}
+use Rattle.clap.specs.Words.{subcommand_of, subcommand_rows_of, with_rule, with_subcommand}
 use Rattle.clap.specs.declared.builder.ArgAction.TheVariants.{Set, SetTrue}
 use Rattle.clap.specs.declared.error.Error.{Error}
 use Rattle.clap.specs.declared.error.kind.ErrorKind.TheVariants.{MissingSubcommand, ValueValidation}
@@ -111,7 +110,8 @@ ServesBy rows (Serve tables turns listen quiet) = (first_of (codes "tables") row
 -- a request has the options of the subcommand that was named
 abbrev pub HasOptions : Option (Text × List Row) → Request → Type 0
 HasOptions named (Replay tables) = ⊤
-HasOptions named (Serve tables turns listen quiet) = IsSomeAnd named (λ p. ServesBy p.1 (Serve tables turns listen quiet))
+HasOptions named (Serve tables turns listen quiet) =
+    IsSomeAnd named (λ p. ServesBy p.1 (Serve tables turns listen quiet))
 
 -- the text of `--listen` is no address
 abbrev pub NamesNoAddress : List Row → Type 0

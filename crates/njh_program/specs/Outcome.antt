@@ -18,7 +18,8 @@ use Rattle.njh_program.specs.TableBytes.{AreGiven, AreRefused}
 
 -- the arguments ask for a replay by these tables, or name some that are refused so
 abbrev pub Chooses : List Text → TableFile → Type 0
-Chooses arguments tables = (file : Option Text) × (choice_by arguments ≡ Some (codes "replay", file)) × AreGiven file tables
+Chooses arguments tables =
+    (file : Option Text) × (choice_by arguments ≡ Some (codes "replay", file)) × AreGiven file tables
 
 abbrev pub ChoosesRefused : List Text → Failure → Type 0
 ChoosesRefused arguments failure =

@@ -41,13 +41,17 @@ abbrev pub AppendsBeginning : (old new : Option (List ℕ)) (whole : List ℕ) �
 AppendsBeginning old new whole = (text : List ℕ) × (rest : List ℕ) × (text ++ rest ≡ whole) × Appends old new text
 
 -- A text with the files of customers came after what had been written, but for the files from some customer on.
-abbrev pub IsPrintedUpTo : (customers : List (List ℕ)) (old new : Option (List ℕ)) (text : List (List ℕ) → List ℕ) → Type 0
-IsPrintedUpTo customers old new text = (count : ℕ) × (count < length customers) × Appends old new (text (take count customers))
+abbrev pub IsPrintedUpTo : (customers : List (List ℕ)) (old new : Option (List ℕ)) (text : List (List ℕ) → List ℕ)
+    → Type 0
+IsPrintedUpTo customers old new text =
+    (count : ℕ) × (count < length customers) × Appends old new (text (take count customers))
 
 -- The text of these frames came after what had been written; the names of the lines stayed.
-abbrev pub IsPrinted : (names later : List (List (List ℕ))) (old new : Option (List ℕ)) (pairs : List (LineId × List ℕ)) → Type 0
+abbrev pub IsPrinted : (names later : List (List (List ℕ))) (old new : Option (List ℕ)) (pairs : List (LineId × List ℕ))
+    → Type 0
 IsPrinted names later old new pairs = (later ≡ names) × Appends old new (frames_text names pairs)
 
 -- The same of a frame that may be printed in part.
-abbrev pub IsPrintedInPart : (names later : List (List (List ℕ))) (old new : Option (List ℕ)) (pair : LineId × List ℕ) → Type 0
+abbrev pub IsPrintedInPart : (names later : List (List (List ℕ))) (old new : Option (List ℕ)) (pair : LineId × List ℕ)
+    → Type 0
 IsPrintedInPart names later old new pair = (later ≡ names) × AppendsBeginning old new (pair_text names pair)

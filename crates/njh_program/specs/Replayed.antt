@@ -60,7 +60,8 @@ IsBegun tables left old new = (events : List Event) × HasScript tables left eve
     × AppendsBeginning old new (text_of_run tables events)
 
 -- The frames of the events before one that gives routes came after what had been written.
-abbrev pub IsSentUpTo : (names : List (List (List ℕ))) (parts : List Part) (events : List Event) (old new : Option (List ℕ)) → Type 0
+abbrev pub IsSentUpTo : (names : List (List (List ℕ))) (parts : List Part) (events : List Event)
+    (old new : Option (List ℕ)) → Type 0
 IsSentUpTo names parts events old new = (count : ℕ) × IsSomeAnd (slice_get events count) IsRoutes
     × Appends old new (frames_text names (hub_run parts (take count events)).sent)
 

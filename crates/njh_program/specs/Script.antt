@@ -58,7 +58,8 @@ event_on_line names words = None
 abbrev pub event_of_words : TableFile → List (List ℕ) → Option Event
 event_of_words tables [] = None
 event_of_words tables (word ∷ words) =
-    if bytes_eq word (codes "ROUTES") then event_of_routes tables words else event_on_line (line_named tables) (word ∷ words)
+    if bytes_eq word (codes "ROUTES") then event_of_routes tables words else event_on_line (line_named tables)
+    (word ∷ words)
 
 -- the event of a line, which is UTF-8
 unfoldable pub script_event : TableFile → List ℕ → Option Event

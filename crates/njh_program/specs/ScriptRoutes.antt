@@ -14,7 +14,8 @@ use Rattle.njh_hub.specs.declared.event.Event.TheVariants.{Bytes, Tick, Garbled,
 
 -- the number of the customer that a word names
 abbrev pub customer_named : TableFile → List ℕ → Option ℕ
-customer_named tables word = option_and_then (λ name. position (λ c. bytes_eq name c.name) tables.customers) (result_ok (name_of_text word))
+customer_named tables word =
+    option_and_then (λ name. position (λ c. bytes_eq name c.name) tables.customers) (result_ok (name_of_text word))
 
 -- what a word's colons part
 abbrev pub parts_of_pair : List ℕ → List (List ℕ)
@@ -29,7 +30,8 @@ second_by tables (Some name) = option_map (λ l. Some l) (line_named tables name
 abbrev pub route_by : TableFile → List ℕ → List ℕ → Option (List ℕ) → Option GivenRoute
 route_by tables node line second =
     option_and_then
-    (λ n. option_and_then (λ l. option_map (λ s. record { node = n; line = l; second = s }) (second_by tables second)) (line_named tables line))
+    (λ n. option_and_then (λ l. option_map (λ s. record { node = n; line = l; second = s }) (second_by tables second))
+    (line_named tables line))
     (result_ok (name_of_text node))
 
 -- the route of a node and of one part or two: the names of its lines
@@ -50,7 +52,8 @@ route_of_pair tables pair = route_of_parts tables (parts_of_pair pair)
 -- the routes of pairs, where each is one
 abbrev pub routes_of_pairs : TableFile → List (List ℕ) → Option (List GivenRoute)
 routes_of_pairs tables [] = Some []
-routes_of_pairs tables (pair ∷ pairs) = option_and_then (λ route. option_map (λ routes. route ∷ routes) (routes_of_pairs tables pairs)) (route_of_pair tables pair)
+routes_of_pairs tables (pair ∷ pairs) = option_and_then
+    (λ route. option_map (λ routes. route ∷ routes) (routes_of_pairs tables pairs)) (route_of_pair tables pair)
 
 -- whether a customer may have routes, by its own entry
 abbrev pub may_have : TableFile → ℕ → List GivenRoute → Bool
@@ -63,7 +66,8 @@ routes_for tables c routes = if may_have tables c routes then Some (Routes c rou
 -- the event of the words behind `ROUTES`: a customer's name, and pairs
 abbrev pub event_of_routes : TableFile → List (List ℕ) → Option Event
 event_of_routes tables [] = None
-event_of_routes tables (name ∷ pairs) = option_and_then (λ c. option_and_then (routes_for tables c) (routes_of_pairs tables pairs)) (customer_named tables name)
+event_of_routes tables (name ∷ pairs) = option_and_then
+    (λ c. option_and_then (routes_for tables c) (routes_of_pairs tables pairs)) (customer_named tables name)
 
 -- An event names what the tables have: its line, or its customer, which may have these routes.
 abbrev pub IsNamedIn : TableFile → Event → Type 0

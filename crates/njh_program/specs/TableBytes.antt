@@ -35,4 +35,5 @@ IsUnread why = (why ≡ failure.Device) ⊎ (why ≡ failure.Memory) ⊎ (why �
 abbrev pub AreRefused : {Path : Type 0} → Option Path → Failure → Type 0
 AreRefused None failure = failure ≡ Tables Memory
 AreRefused (Some path) failure = IsUnread failure
-    ⊎ ((fault : TableFault) × (bytes : List ℕ) × (failure ≡ Tables fault) × (fault ≢ Memory → tables_in bytes ≡ Err fault))
+    ⊎ ((fault : TableFault) × (bytes : List ℕ) × (failure ≡ Tables fault)
+    × (fault ≢ Memory → tables_in bytes ≡ Err fault))

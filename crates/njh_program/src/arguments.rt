@@ -5,8 +5,7 @@ ghost use Rattle.clap.specs.Words.{app_of, fault_of, kind_of, new_app, rule_of, 
 ghost use Rattle.clap.specs.Words.{HasKind};
 ghost use Rattle.clap.specs.declared.builder.command.Command.TheViews.{out-Command};
 ghost use Rattle.njh_program.specs.Arguments.{AreRefusedBy, HasOptions, IsRefusalOf, IsUnaskedBy, choice_by, choice_in};
-ghost use Rattle.njh_program.specs.Arguments.{choice_of};
-ghost use Rattle.njh_program.specs.Arguments.{bare_app, program_app, replay_app, replaying_app, tables_rule};
+ghost use Rattle.njh_program.specs.Arguments.{choice_of, bare_app, program_app, replay_app, replaying_app, tables_rule};
 
 use crate::serve_options::{Unasked, serve_command, served_in};
 use clap::error::ErrorKind;
@@ -67,7 +66,8 @@ fn matches_of<'a, S: AsStr>(
 ) -> Result<ArgMatches<'a>, Error>
     requires { app_of program.old ≡ program_app }
     ensures asked { IfOk result (λ found. choice_in found ≡ choice_by (map S.text arguments.entry.now)) }
-    ensures rows { IfOk result (λ found. subcommand_rows_of found ≡ subcommand_of program_app (map S.text arguments.entry.now)) }
+    ensures rows { IfOk result (λ found. subcommand_rows_of found
+        ≡ subcommand_of program_app (map S.text arguments.entry.now)) }
     ensures taken { OnOk result (fault_of program_app (map S.text arguments.entry.now) ≡ []) }
     ensures refused { IfErr result (HasKind (fault_of program_app (map S.text arguments.entry.now))) }
 {

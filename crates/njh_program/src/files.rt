@@ -39,8 +39,10 @@ pub fn customer_names(alloc: Global, tables: &Tables) -> Result<Vec<Name>, Alloc
 pub fn print_files<W: Write>(hub: &Hub, customers: &[Name], out: &mut W) -> Result<(), ReplayFault>
     requires all { length customers.now ≡ length hub.now }
     requires few { length customers.now ≤ 64 }
-    ensures printed { OnOk result (Appends (W.contents out.old) (W.contents out.new) (files_from 0 customers.now hub.now)) }
-    ensures begun { OnErr result (AppendsBeginning (W.contents out.old) (W.contents out.new) (files_from 0 customers.now hub.now)) }
+    ensures printed { OnOk result (Appends (W.contents out.old) (W.contents out.new)
+        (files_from 0 customers.now hub.now)) }
+    ensures begun { OnErr result (AppendsBeginning (W.contents out.old) (W.contents out.new)
+        (files_from 0 customers.now hub.now)) }
     ensures memory { result ≡ Err (ReplayFault.Hub HubFault.Memory) →
         IsPrintedUpTo customers.now (W.contents out.old) (W.contents out.new) (λ before. files_from 0 before hub.now) }
     ensures faults { IfErr result MayEnd }
@@ -60,7 +62,8 @@ fn print_customer<W: Write>(
     out: &mut W,
 ) -> Result<(), ReplayFault>
     requires { customer < length hub.now }
-    ensures printed { OnOk result (Appends (W.contents out.old) (W.contents out.new) (files_text name (files_at customer hub.now))) }
+    ensures printed { OnOk result (Appends (W.contents out.old) (W.contents out.new)
+        (files_text name (files_at customer hub.now))) }
     ensures begun { OnErr result (AppendsBeginning (W.contents out.old) (W.contents out.new)
         (files_text name (files_at customer hub.now))) }
     ensures memory { result ≡ Err (ReplayFault.Hub HubFault.Memory) → Keeps (W.contents out.old) (W.contents out.new) }
@@ -77,7 +80,8 @@ fn print_customer<W: Write>(
 /// Prints files of a customer of this name. After a fault a beginning of them was printed.
 fn print_each<W: Write>(files: &[FileView], name: Name, out: &mut W) -> Result<(), WriteFault>
     ensures ok { OnOk result (Appends (W.contents out.old) (W.contents out.new) (files_text name files.now)) }
-    ensures err { OnErr result (AppendsBeginning (W.contents out.old) (W.contents out.new) (files_text name files.now)) }
+    ensures err { OnErr result (AppendsBeginning (W.contents out.old) (W.contents out.new)
+        (files_text name files.now)) }
 {
     for file in files {
         write_bytes(out, &line_of(name, file))?;

@@ -43,7 +43,8 @@ fn add_piece(text: &mut Vec<u8>, limit: usize, piece: &[u8]) -> Result<(), Repla
     ensures ok { OnOk result (text.new.items ≡ text.old.items ++ piece.now) }
     ensures within { OnOk result (vec_len text.new ≤ limit) }
     ensures long { (result ≡ Err ReplayFault.TooLong) ↔ (limit < vec_len text.old + length piece.now) }
-    ensures refused { IfErr result (λ fault. (fault ≡ ReplayFault.TooLong) ⊎ (fault ≡ ReplayFault.Hub HubFault.Memory)) }
+    ensures refused { IfErr result (λ fault. (fault ≡ ReplayFault.TooLong)
+        ⊎ (fault ≡ ReplayFault.Hub HubFault.Memory)) }
 {
     if limit - text.len() < piece.len() {
         return Err(ReplayFault::TooLong);

@@ -91,15 +91,12 @@ fn event_on_line(
     word: &str,
     rest: &str,
 ) -> Result<Option<Event>, AllocError>
-    ensures event { IfOk result (λ event. event ≡ event_on_line (line_named tables.now) (word.now ∷ words_of rest.now)) }
+    ensures event { IfOk result (λ event. event
+        ≡ event_on_line (line_named tables.now) (word.now ∷ words_of rest.now)) }
     ensures named { IfOk result (λ event. IfSome event (IsNamedIn tables.now)) }
 {
     match rest.split_once(' ') {
-        None => Ok(
-            tables
-                .line_owner(rest)
-                .and_then(|id| signal_of(word, id)),
-        ),
+        None => Ok(tables.line_owner(rest).and_then(|id| signal_of(word, id))),
         Some((name, digits)) => match tables.line_owner(name) {
             None => Ok(None),
             Some(id) => bytes_on(alloc, word, digits, id),

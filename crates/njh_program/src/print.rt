@@ -44,7 +44,8 @@ pub fn print_frame<W: Write>(
     room: &mut FrameRoom,
 ) -> Result<(), WriteFault>
     ensures ok { OnOk result (Appends (W.contents out.old) (W.contents out.new) (frame_text name.now frame.now)) }
-    ensures err { OnErr result (AppendsBeginning (W.contents out.old) (W.contents out.new) (frame_text name.now frame.now)) }
+    ensures err { OnErr result (AppendsBeginning (W.contents out.old) (W.contents out.new)
+        (frame_text name.now frame.now)) }
 {
     if name.len() <= NAME && frame.len() <= PIECE {
         let len = name.len() + 1 + 2 * frame.len() + 1;
@@ -77,7 +78,8 @@ fn print_parts<W: Write>(
     digits: &mut [u8; LINE],
 ) -> Result<(), WriteFault>
     ensures ok { OnOk result (Appends (W.contents out.old) (W.contents out.new) (frame_text name.now frame.now)) }
-    ensures err { OnErr result (AppendsBeginning (W.contents out.old) (W.contents out.new) (frame_text name.now frame.now)) }
+    ensures err { OnErr result (AppendsBeginning (W.contents out.old) (W.contents out.new)
+        (frame_text name.now frame.now)) }
 {
     write_bytes(out, name.as_bytes())?;
     write_bytes(out, b" ")?;

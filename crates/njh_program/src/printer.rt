@@ -51,7 +51,8 @@ impl<W: Write> Sink for Printer<'_, W> {
 
     // A frame that was refused may be printed in part.
     ghost refused = { λ before after pair. (after.out.ghost_name ≡ before.out.ghost_name)
-        × IsPrintedInPart before.names.now after.names.now (W.contents before.out.now) (W.contents after.out.now) pair };
+        × IsPrintedInPart before.names.now after.names.now (W.contents before.out.now)
+        (W.contents after.out.now) pair };
 
     ghost count = { λ printer. printer.failures };
 
@@ -59,7 +60,8 @@ impl<W: Write> Sink for Printer<'_, W> {
 
     ghost more = { λ a b c xs ys front back. let held = W.contents in (
       same_then front.0 back.0,
-      IsPrinted-more a.names.now b.names.now c.names.now (held a.out.now) (held b.out.now) (held c.out.now) xs ys front.1 back.1,
+      IsPrinted-more a.names.now b.names.now c.names.now (held a.out.now) (held b.out.now)
+          (held c.out.now) xs ys front.1 back.1,
     ) };
 
     fn failures(&self) -> u64 {

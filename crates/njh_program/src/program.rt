@@ -81,7 +81,8 @@ pub fn carry_out<
     W: Write,
     L: Write + Drop,
 >(rt: &F, arguments: &[S], script: &mut R, out: &mut W, log: L) -> Result<(), Failure>
-    ensures done { OnOk result (IsRunDone (map S.text arguments.now) (R.remaining script.old) (W.contents out.old) (W.contents out.new)) }
+    ensures done { OnOk result (IsRunDone (map S.text arguments.now) (R.remaining script.old) (W.contents out.old)
+        (W.contents out.new)) }
     ensures failed { IfErr result (IsFailed (map S.text arguments.now) (R.remaining script.old)) }
     ensures begun { OnErr result (Keeps (W.contents out.old) (W.contents out.new)
         ⊎ IsBegunFor (map S.text arguments.now) (R.remaining script.old) (W.contents out.old) (W.contents out.new)) }

@@ -5,9 +5,8 @@ ghost use Rattle.std.specs.Io.KnownBytes.{Appends, Keeps};
 ghost use Rattle.njh_program.specs.LineNames.{customers_of, names_of};
 ghost use Rattle.njh_program.specs.Printed.{frames_text, AppendsBeginning, IsPrintedUpTo};
 ghost use Rattle.njh_program.specs.Replayed.{fault_after, text_by, text_of_run, text_with, HasScript, HasTooLong};
-ghost use Rattle.njh_program.specs.Replayed.{HasBadLine};
-ghost use Rattle.njh_program.specs.Replayed.{IsBegun, IsReplayed, IsReplayedToRoutes, IsReplayedUpTo, IsRefusal};
-ghost use Rattle.njh_program.specs.Replayed.{IsSentUpTo, MayEnd, SameParts};
+ghost use Rattle.njh_program.specs.Replayed.{HasBadLine, IsBegun, IsReplayed, IsReplayedToRoutes, IsReplayedUpTo};
+ghost use Rattle.njh_program.specs.Replayed.{IsRefusal, IsSentUpTo, MayEnd, SameParts};
 ghost use Rattle.njh_program.specs.ScriptRoutes.{IsNamedIn};
 ghost use Rattle.njh_hub.specs.Parts.{entries_of};
 ghost use Rattle.njh_hub.specs.WholeHub.{hub_run, part_at_open, IsNamed};
@@ -35,7 +34,8 @@ pub fn replay<R: Read, W: Write>(
 ) -> Result<(), ReplayFault>
     // What is written is the text of the frames that a hub of these tables sends over the events of the script, which
     // is good from its first line to its last, and then of the files that each customer has.
-    ensures replayed { OnOk result (IsReplayed tables (R.remaining script.old) (W.contents out.old) (W.contents out.new)) }
+    ensures replayed { OnOk result (IsReplayed tables (R.remaining script.old) (W.contents out.old)
+        (W.contents out.new)) }
 
     // It is refused where it is too long, or else at its first bad line, and then nothing is written.
     ensures long { result ≡ Err ReplayFault.TooLong → HasTooLong (R.remaining script.old) }
@@ -66,9 +66,11 @@ fn print_events<W: Write>(
 ) -> Result<(), ReplayFault>
     requires { All (IsNamedIn tables) events.now }
     ensures printed { OnOk result (Appends (W.contents out.old) (W.contents out.new) (text_of_run tables events.now)) }
-    ensures begun { OnErr result (AppendsBeginning (W.contents out.old) (W.contents out.new) (text_of_run tables events.now)) }
+    ensures begun { OnErr result (AppendsBeginning (W.contents out.old) (W.contents out.new)
+        (text_of_run tables events.now)) }
     ensures memory { result ≡ Err (ReplayFault.Hub HubFault.Memory) → Keeps (W.contents out.old) (W.contents out.new)
-        ⊎ IsSentUpTo (names_of tables) (map part_at_open (entries_of tables)) events.now (W.contents out.old) (W.contents out.new)
+        ⊎ IsSentUpTo (names_of tables) (map part_at_open (entries_of tables)) events.now (W.contents out.old)
+        (W.contents out.new)
         ⊎ IsPrintedUpTo (customers_of tables) (W.contents out.old) (W.contents out.new) (text_with tables events.now) }
     ensures faults { IfErr result MayEnd }
     ensures refuses_no_script { IfErr result (λ fault. ¬ IsRefusal fault) }

@@ -59,7 +59,8 @@ fn add_event(
     ensures stands { IfOk result (λ stands. stands ≡ can_stand tables.now line.now) }
     ensures added { OnOk result (events.new.items
         ≡ events.old.items ++ cons_option (event_in tables.now line.now) []) }
-    ensures named { All (IsNamedIn tables.now) events.old.items → OnOk result (All (IsNamedIn tables.now) events.new.items) }
+    ensures named { All (IsNamedIn tables.now) events.old.items
+        → OnOk result (All (IsNamedIn tables.now) events.new.items) }
 {
     if is_skipped(line) {
         return Ok(true);

@@ -5,12 +5,12 @@ ghost use Rattle.std.specs.List.{slice_split};
 ghost use Rattle.njh_program.specs.code.FirstLines.{parts_behind};
 ghost use Rattle.njh_program.specs.Script.{words_of};
 ghost use Rattle.njh_program.specs.ScriptRoutes.{customer_named, parts_of_pair, routes_for, route_of_pair, route_by};
-ghost use Rattle.njh_program.specs.ScriptRoutes.{route_by_lines};
-ghost use Rattle.njh_program.specs.ScriptRoutes.{event_of_routes, routes_of_pairs, second_by, IsNamedIn};
+ghost use Rattle.njh_program.specs.ScriptRoutes.{route_by_lines, event_of_routes, routes_of_pairs, second_by};
+ghost use Rattle.njh_program.specs.ScriptRoutes.{IsNamedIn};
 
 use njh_ebcdic::Name;
 use njh_hub::{Event, GivenRoutes};
-use njh_table::{Customer, LineId, GivenRoute, Tables};
+use njh_table::{Customer, GivenRoute, LineId, Tables};
 use std::alloc::{AllocError, Global};
 
 /// The event of the words behind `ROUTES`, if they have one: a customer's name and then a pair for each route, which
@@ -82,7 +82,8 @@ fn routes_of_pairs(
     tables: &Tables,
     pairs: Option<&str>,
 ) -> Result<Option<Vec<GivenRoute>>, AllocError>
-    ensures { IfOk result (λ routes. option_map (λ r. r.items) routes ≡ routes_of_pairs tables.now (parts_behind 32 pairs.entry)) }
+    ensures { IfOk result (λ routes. option_map (λ r. r.items) routes
+        ≡ routes_of_pairs tables.now (parts_behind 32 pairs.entry)) }
 {
     let mut routes = Vec::new(alloc);
     let mut left = pairs;
@@ -127,7 +128,11 @@ fn route_by(tables: &Tables, node: &str, line: &str, second: Option<&str>) -> Op
     let node = Name::of_text(node).ok()?;
     let id = tables.line_owner(line)?;
     let second = second_by(tables, second)?;
-    Some(GivenRoute { node, line: id, second })
+    Some(GivenRoute {
+        node,
+        line: id,
+        second,
+    })
 }
 
 /// The second line of a route by its name, whoever's it is; none where no name is given.

@@ -3,8 +3,8 @@
 ghost use Rattle.std.specs.Prelude.{◌≡◌, ◌↔◌, codes, false, true, IfOk, IfErr, IsTrue, Some};
 ghost use Rattle.clap.specs.Words.{app_of, first_of, found_of, new_app, rows_of, rule_of};
 ghost use Rattle.clap.specs.declared.builder.command.Command.TheViews.{out-Command};
-ghost use Rattle.njh_program.specs.Arguments.{CountsTurns, IsUnasked, ListensAt, ServesBy};
-ghost use Rattle.njh_program.specs.Arguments.{bounded_serve_app, listen_rule, quiet_rule, serve_app, turns_rule};
+ghost use Rattle.njh_program.specs.Arguments.{CountsTurns, IsUnasked, ListensAt, ServesBy, bounded_serve_app};
+ghost use Rattle.njh_program.specs.Arguments.{listen_rule, quiet_rule, serve_app, turns_rule};
 
 use crate::arguments::{Request, tables_option};
 use clap::builder::ValueParser;
@@ -55,7 +55,8 @@ fn turns_in<'a>(options: &ArgMatches<'a>) -> Result<Option<u32>, Unasked<'a>>
 
 /// Where lines are to listen.
 fn address_in<'a>(options: &ArgMatches<'a>) -> Result<IpAddr, Unasked<'a>>
-    ensures asked { IfOk result (λ listen. ListensAt (first_of (codes "listen") (rows_of (found_of options.now))) listen) }
+    ensures asked { IfOk result (λ listen. ListensAt
+        (first_of (codes "listen") (rows_of (found_of options.now))) listen) }
     ensures refused { IfErr result (IsUnasked (rows_of (found_of options.now))) }
 {
     match options.get_str("listen") {

@@ -1,12 +1,13 @@
 -- Bytes that equal the next, as a mask of 16 of them tells.
-use Rattle.std.proofs.Common.{◌≡◌, ◌≢◌, ℕ, ◌+◌, ◌%◌, ◌^◌, ◌<◌, ◌≤◌, Bool, not, cond, eqb, false, List, [], ◌∷◌, length, take, drop, map, get_or}
-use Rattle.std.proofs.Common.{refl, sym, ap, ◌∙◌, arith, w8, length-take}
+use Rattle.std.proofs.Common.{◌≡◌, ◌≢◌, ℕ, ◌+◌, ◌%◌, ◌^◌, ◌<◌, ◌≤◌, Bool, not, cond, eqb, false, List, [], ◌∷◌, length}
+use Rattle.std.proofs.Common.{take, drop, map, get_or, refl, sym, ap, ◌∙◌, arith, w8, length-take}
 use Rattle.std.specs.List.{prefix_len}
 use Rattle.std.specs.Simd.Lanes.{mask_l, top, zip2}
 use Rattle.std.proofs.lemmas.Bool.{eqb-false, not-true}
 use Rattle.std.proofs.lemmas.List.{get_or-drop, get_or-take, length-drop}
 use Rattle.std.proofs.lemmas.List.Sums.{prefix_len-le-length, prefix_len_passes}
-use Rattle.std.proofs.lemmas.Simd.{get_or-zip2, leading_from_mask_l, length-zip2, mask_l-mod, tops_compared, trailing_mask_l}
+use Rattle.std.proofs.lemmas.Simd.{get_or-zip2, leading_from_mask_l, length-zip2, mask_l-mod, tops_compared}
+use Rattle.std.proofs.lemmas.Simd.{trailing_mask_l}
 use Rattle.std.specs.Int.Count.{count_trailing_zeros}
 use Rattle.njh_record.specs.code.Written.{AreApart}
 

@@ -1,14 +1,14 @@
 -- What the reading function gives stands in the bytes.
-use Rattle.std.proofs.Common.{◌≡◌, ℕ, zero, suc, ◌<◌, ◌≤◌, List, [], ◌∷◌, ◌++◌, length, get_or, Result, Ok, Err}
-use Rattle.std.proofs.Common.{refl, ◌∙◌, ap, subst, append_assoc, arith, length-append}
+use Rattle.std.proofs.Common.{◌≡◌, ℕ, zero, suc, ◌<◌, ◌≤◌, List, [], ◌∷◌, ◌++◌, length, get_or, Result, Ok, Err, refl}
+use Rattle.std.proofs.Common.{◌∙◌, ap, subst, append_assoc, arith, length-append}
 use Rattle.std.proofs.lemmas.List.{get_or_append_left}
 use Rattle.njh_record.specs.Bytes.{AreBytes}
 use Rattle.njh_record.specs.declared.End.{End}
 use Rattle.njh_record.specs.declared.End.TheVariants.{Record}
 use Rattle.njh_record.specs.Spelling.{Item, blanks, IsItem, item_bytes, added_bytes, end_byte, ItemsThen, Spelling}
 use Rattle.njh_record.specs.Reading.{HasBadScb, IsTruncated}
-use Rattle.njh_record.specs.Unspelled.{Front, OfItem, OfEnd, Bad, Cut, front_of, Fault, BadScb, Truncated, Unspelled, with_front}
-use Rattle.njh_record.specs.Unspelled.{unspelled_within, record_at_front, ReadsAs}
+use Rattle.njh_record.specs.Unspelled.{Front, OfItem, OfEnd, Bad, Cut, front_of, Fault, BadScb, Truncated, Unspelled}
+use Rattle.njh_record.specs.Unspelled.{with_front, unspelled_within, record_at_front, ReadsAs}
 use Rattle.njh_record.specs.code.Parts.{IsCutItem, StandsFirst}
 use Rattle.njh_record.proofs.Fronts.{front-stands, front_only, some_item, front_leaves_less, IsItem-counted}
 

@@ -1,8 +1,11 @@
 -- Runs at the front of bytes, and the bytes before them.
-use Rattle.std.proofs.Common.{◌≡◌, ◌≢◌, ℕ, zero, suc, ◌+◌, ◌<◌, ◌≤◌, min, Bool, true, false, eqb, leb, List, [], ◌∷◌, ◌++◌, length, take, drop, replicate}
-use Rattle.std.proofs.Common.{get_or, refl, sym, ◌∙◌, ap, append_assoc, one-add, add-one, arith, ◌⊎◌, inl, inr, length-take}
-use Rattle.std.proofs.lemmas.Bool.{cases_lt, cases_Bool, cond_both, cond-true, cond-false, eqb-true, leb-true, false_from_ne_true}
-use Rattle.std.proofs.lemmas.List.{take-take, take_all, append-nil, take_more, drop_more, drop_all, take-append-le, take-append-drop, drop-take, drop-drop, get_or-take, get_or-drop}
+use Rattle.std.proofs.Common.{◌≡◌, ◌≢◌, ℕ, zero, suc, ◌+◌, ◌<◌, ◌≤◌, min, Bool, true, false, eqb, leb, List, [], ◌∷◌}
+use Rattle.std.proofs.Common.{◌++◌, length, take, drop, replicate, get_or, refl, sym, ◌∙◌, ap, append_assoc, one-add}
+use Rattle.std.proofs.Common.{add-one, arith, ◌⊎◌, inl, inr, length-take}
+use Rattle.std.proofs.lemmas.Bool.{cases_lt, cases_Bool, cond_both, cond-true, cond-false, eqb-true, leb-true}
+use Rattle.std.proofs.lemmas.Bool.{false_from_ne_true}
+use Rattle.std.proofs.lemmas.List.{take-take, take_all, append-nil, take_more, drop_more, drop_all, take-append-le}
+use Rattle.std.proofs.lemmas.List.{take-append-drop, drop-take, drop-drop, get_or-take, get_or-drop}
 use Rattle.std.proofs.lemmas.List.Sums.{prefix_len-le-length, prefix_len_passes}
 use Rattle.std.specs.List.{prefix_len}
 use Rattle.njh_record.specs.Writing.{first_byte_of, run_of, is_run, begins_run, before_run}

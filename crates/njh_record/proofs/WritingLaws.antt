@@ -1,13 +1,14 @@
 -- The one spelling is a spelling, and how long it is.
-use Rattle.std.proofs.Common.{◌≡◌, ℕ, zero, suc, ◌+◌, ◌-◌, ◌*◌, ◌<◌, ◌≤◌, ◌⊎◌, inl, inr, min, true, false, eqb, List, [], ◌∷◌, ◌++◌, length}
-use Rattle.std.proofs.Common.{take, drop, replicate, refl, sym, ◌∙◌, ap, subst, append_assoc, arith, length-append, length-take}
+use Rattle.std.proofs.Common.{◌≡◌, ℕ, zero, suc, ◌+◌, ◌-◌, ◌*◌, ◌<◌, ◌≤◌, ◌⊎◌, inl, inr, min, true, false, eqb, List}
+use Rattle.std.proofs.Common.{[], ◌∷◌, ◌++◌, length, take, drop, replicate, refl, sym, ◌∙◌, ap, subst, append_assoc}
+use Rattle.std.proofs.Common.{arith, length-append, length-take}
 use Rattle.std.proofs.lemmas.Bool.{cases_lt, cases_Bool, cond_both, cond-true, cond-false, both_ways, eqb-true}
 use Rattle.std.proofs.lemmas.List.{take_min, take-take, take_all, length-replicate, take-append-drop}
 use Rattle.std.specs.List.{flat_map}
 use Rattle.njh_record.specs.declared.End.TheVariants.{Record}
 use Rattle.njh_record.specs.Spelling.{Item, blanks, repeat, literal, IsItem, item_bytes, added_bytes, Spelling}
-use Rattle.njh_record.specs.Writing.{first_byte_of, run_of, is_run, begins_run, before_run, run_item, first_item, after_first, items_past}
-use Rattle.njh_record.specs.Writing.{spelling_of}
+use Rattle.njh_record.specs.Writing.{first_byte_of, run_of, is_run, begins_run, before_run, run_item, first_item}
+use Rattle.njh_record.specs.Writing.{after_first, items_past, spelling_of}
 use Rattle.njh_record.specs.code.Written.{SpellsFront}
 use Rattle.njh_record.proofs.ReadingLaws.{Spelling-item, Spelling-end}
 use Rattle.njh_record.proofs.Runs.{is_run-two, is_run-three, run_of-short, run_of-within, take-run_of, before_run-past}

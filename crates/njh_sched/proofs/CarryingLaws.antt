@@ -1,6 +1,7 @@
 -- The records that a block carries of a stream's file.
-use Rattle.std.proofs.Common.{◌≡◌, ◌<◌, ◌≤◌, ℕ, ◌+◌, Bool, true, false, cond, ◌⊎◌, inl, inr, List, [], ◌∷◌, ◌++◌, length, map, take, drop, get_or}
-use Rattle.std.proofs.Common.{find, Option, Some, None, option_map, slice_get, ◌==◌, refl, sym, ap, subst, ◌∙◌, arith, eq-eqb, append_assoc}
+use Rattle.std.proofs.Common.{◌≡◌, ◌<◌, ◌≤◌, ℕ, ◌+◌, Bool, true, false, cond, ◌⊎◌, inl, inr, List, [], ◌∷◌, ◌++◌}
+use Rattle.std.proofs.Common.{length, map, take, drop, get_or, find, Option, Some, None, option_map, slice_get, ◌==◌}
+use Rattle.std.proofs.Common.{refl, sym, ap, subst, ◌∙◌, arith, eq-eqb, append_assoc}
 use Rattle.std.proofs.lemmas.List.{append-nil, get_or-drop, length-drop, map-append, take_all, take_more}
 use Rattle.std.proofs.lemmas.List.Elements.{filter-append}
 use Rattle.std.proofs.lemmas.Option.{slice_get_cases}
@@ -13,11 +14,14 @@ use Rattle.njh_spool.specs.CustomerSpool.{CustomerSpool, WholeFile, whole_number
 use Rattle.njh_stream.specs.Sending.{next_at, next_of, record_at}
 use Rattle.njh_stream.specs.declared.sender.Sender.{Sender}
 use Rattle.njh_stream.specs.declared.sender.Sender.TheVariants.{Idle, Requested, Sending, EofSent, Aborting}
-use Rattle.njh_sched.specs.NextBlock.{Outlet, Candidate, Filling, Source, WaitingAnswer, StreamAbort, StreamRequest, WaitingMessage, StreamTurn}
-use Rattle.njh_sched.specs.NextBlock.{abort_where, answering, asking, candidate, data_item, sends_file, may_ask, next_served, oldest, sender_at, telling}
-use Rattle.njh_sched.specs.NextBlock.{added_where, after_candidate, after_source_where, after_source, after_sources, filled_block, filled_where, sources}
+use Rattle.njh_sched.specs.NextBlock.{Outlet, Candidate, Filling, Source, WaitingAnswer, StreamAbort, StreamRequest}
+use Rattle.njh_sched.specs.NextBlock.{WaitingMessage, StreamTurn, abort_where, answering, asking, candidate, data_item}
+use Rattle.njh_sched.specs.NextBlock.{sends_file, may_ask, next_served, oldest, sender_at, telling, added_where}
+use Rattle.njh_sched.specs.NextBlock.{after_candidate, after_source_where, after_source, after_sources, filled_block}
+use Rattle.njh_sched.specs.NextBlock.{filled_where, sources}
 use Rattle.njh_sched.specs.Laws.{records_under, is_under, Does, left, gives_up, asks, sends, EachDoes}
-use Rattle.njh_sched.specs.Carrying.{Carries, on_its_way, at_its_end, end_of_file, file_records, record_item, records_of}
+use Rattle.njh_sched.specs.Carrying.{Carries, on_its_way, at_its_end, end_of_file, file_records, record_item}
+use Rattle.njh_sched.specs.Carrying.{records_of}
 use Rattle.njh_sched.proofs.EachLaws.{each_does}
 use Rattle.njh_sched.proofs.TurnLaws.{served_by}
 

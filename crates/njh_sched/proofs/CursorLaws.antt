@@ -16,9 +16,8 @@ use Rattle.njh_stream.specs.Sending.{holds_of}
 use Rattle.njh_table.specs.TableFile.{NamedCustomer}
 use Rattle.njh_table.specs.declared.LineId.{LineId}
 use Rattle.njh_sched.specs.NextBlock.{is_ready, may_go, oldest, same_kind}
-use Rattle.njh_sched.specs.code.FileCursor.{FileCursor, GoesOn, HasPassed, IsOver}
-use Rattle.njh_sched.specs.code.FileCursor.{files_of, first_file, goes_of, index_of, is_known_to_go}
-use Rattle.njh_sched.specs.code.FileCursor.{cursor_at, other, passed_where}
+use Rattle.njh_sched.specs.code.FileCursor.{FileCursor, GoesOn, HasPassed, IsOver, files_of, first_file, goes_of}
+use Rattle.njh_sched.specs.code.FileCursor.{index_of, is_known_to_go, cursor_at, other, passed_where}
 use Rattle.njh_sched.proofs.FileLists.{by_summary, found_here, found_nowhere, none_changed, one_more}
 use Rattle.njh_sched.proofs.SpoolLaws.{as_long}
 

@@ -1,6 +1,6 @@
 -- Sources one after the other, as a stream is moved by them.
-use Rattle.std.proofs.Common.{◌≡◌, ◌<◌, ℕ, Bool, true, false, List, [], ◌∷◌}
-use Rattle.std.proofs.Common.{length, Option, Some, None, option_map, slice_get, refl, sym, subst}
+use Rattle.std.proofs.Common.{◌≡◌, ◌<◌, ℕ, Bool, true, false, List, [], ◌∷◌, length, Option, Some, None, option_map}
+use Rattle.std.proofs.Common.{slice_get, refl, sym, subst}
 use Rattle.std.proofs.Math.ListN.{length-set}
 use Rattle.njh_block.specs.declared.answer.Answer.{Answer}
 use Rattle.njh_block.specs.Codes.{kind_of}
@@ -8,10 +8,10 @@ use Rattle.njh_block.specs.Writing.{has_room}
 use Rattle.njh_spool.specs.CustomerSpool.{CustomerSpool, WholeFile}
 use Rattle.njh_stream.specs.declared.sender.Sender.{Sender}
 use Rattle.njh_stream.specs.declared.sender.Sender.TheVariants.{Idle, Requested, Sending, EofSent, Aborting}
-use Rattle.njh_sched.specs.NextBlock.{Outlet, Candidate, Filling, Source}
-use Rattle.njh_sched.specs.NextBlock.{WaitingAnswer, StreamAbort, StreamRequest, WaitingMessage, StreamTurn}
-use Rattle.njh_sched.specs.NextBlock.{answering, telling, abort_where, asking, may_ask, oldest, next_served, sender_at}
-use Rattle.njh_sched.specs.NextBlock.{added_where, after_candidate, after_source, after_source_where, candidate}
+use Rattle.njh_sched.specs.NextBlock.{Outlet, Candidate, Filling, Source, WaitingAnswer, StreamAbort, StreamRequest}
+use Rattle.njh_sched.specs.NextBlock.{WaitingMessage, StreamTurn, answering, telling, abort_where, asking, may_ask}
+use Rattle.njh_sched.specs.NextBlock.{oldest, next_served, sender_at, added_where, after_candidate, after_source}
+use Rattle.njh_sched.specs.NextBlock.{after_source_where, candidate}
 use Rattle.njh_sched.specs.Laws.{EachDoes}
 use Rattle.njh_sched.proofs.StreamLaws.{does}
 use Rattle.njh_sched.proofs.TurnLaws.{served_by}

@@ -1,7 +1,7 @@
 -- Lists of files that are looked at one after the other.
-use Rattle.std.proofs.Common.{◌≡◌, ◌≤◌, ℕ, zero, suc, ◌+◌, Bool, true, false, cond, ◌||◌, List, [], ◌∷◌, length, take, map}
-use Rattle.std.proofs.Common.{find, count_by, get_or, ◌<◌, Option, Some, None, ◌==◌, slice_get, refl}
-use Rattle.std.proofs.Common.{sym, ap, ◌∙◌, arith, add-one, eq-eqb, not-suc-le-zero, le_of_suc-le-suc, IsSomeAnd}
+use Rattle.std.proofs.Common.{◌≡◌, ◌≤◌, ℕ, zero, suc, ◌+◌, Bool, true, false, cond, ◌||◌, List, [], ◌∷◌, length, take}
+use Rattle.std.proofs.Common.{map, find, count_by, get_or, ◌<◌, Option, Some, None, ◌==◌, slice_get, refl, sym, ap, ◌∙◌}
+use Rattle.std.proofs.Common.{arith, add-one, eq-eqb, not-suc-le-zero, le_of_suc-le-suc, IsSomeAnd}
 use Rattle.std.specs.List.{list_any}
 use Rattle.std.proofs.lemmas.List.Sums.{sum_by-cons}
 use Rattle.njh_spool.specs.CustomerSpool.{CustomerSpool, WholeFile, whole_numbered}

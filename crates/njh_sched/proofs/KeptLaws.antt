@@ -1,18 +1,16 @@
 -- What sources leave alone: the block's limit, and all but one kind the nodal messages that wait.
-use Rattle.std.proofs.Common.{◌≡◌, ℕ, zero, suc, Bool, true, false, ◌&&◌, List, [], ◌∷◌, ◌++◌, replicate, Option, Some, None}
-use Rattle.std.proofs.Common.{option_map, refl, sym, ap, ◌∙◌}
+use Rattle.std.proofs.Common.{◌≡◌, ℕ, zero, suc, Bool, true, false, ◌&&◌, List, [], ◌∷◌, ◌++◌, replicate, Option, Some}
+use Rattle.std.proofs.Common.{None, option_map, refl, sym, ap, ◌∙◌}
 use Rattle.std.specs.List.{list_all}
 use Rattle.njh_block.specs.declared.answer.Answer.{Answer}
 use Rattle.njh_block.specs.Writing.{Writing, has_room}
 use Rattle.njh_spool.specs.CustomerSpool.{CustomerSpool, WholeFile}
 use Rattle.njh_stream.specs.declared.sender.Sender.{Sender}
 use Rattle.njh_stream.specs.declared.sender.Sender.TheVariants.{Idle, Requested, Sending, EofSent, Aborting}
-use Rattle.njh_sched.specs.NextBlock.{Outlet, Candidate, Filling, Source}
-use Rattle.njh_sched.specs.NextBlock.{WaitingAnswer, StreamAbort, StreamRequest, WaitingMessage, StreamTurn}
-use Rattle.njh_sched.specs.NextBlock.{answering, abort_where, asking, added_where}
-use Rattle.njh_sched.specs.NextBlock.{after_candidate, after_source, after_source_where, after_sources}
-use Rattle.njh_sched.specs.NextBlock.{candidate, filling, may_ask, sender_at, waiting_messages, aborts, requests}
-use Rattle.njh_sched.specs.NextBlock.{streams}
+use Rattle.njh_sched.specs.NextBlock.{Outlet, Candidate, Filling, Source, WaitingAnswer, StreamAbort, StreamRequest}
+use Rattle.njh_sched.specs.NextBlock.{WaitingMessage, StreamTurn, answering, abort_where, asking, added_where}
+use Rattle.njh_sched.specs.NextBlock.{after_candidate, after_source, after_source_where, after_sources, candidate}
+use Rattle.njh_sched.specs.NextBlock.{filling, may_ask, sender_at, waiting_messages, aborts, requests, streams}
 use Rattle.njh_sched.specs.code.Filling.{filling_where}
 use Rattle.njh_sched.proofs.SourceLists.{one_behind_others, full_stays}
 

@@ -9,8 +9,8 @@ use Rattle.njh_spool.specs.Spools.{spool_at}
 use Rattle.njh_stream.specs.Sending.{goes_by}
 use Rattle.njh_table.specs.TableFile.{NamedCustomer, entry_of}
 use Rattle.njh_table.specs.declared.LineId.{LineId}
-use Rattle.njh_sched.specs.NextBlock.{Outlet, Source, StreamRequest, may_go, may_ask, oldest, asking}
-use Rattle.njh_sched.specs.NextBlock.{after_source, after_sources, after_candidate, filling}
+use Rattle.njh_sched.specs.NextBlock.{Outlet, Source, StreamRequest, may_go, may_ask, oldest, asking, after_source}
+use Rattle.njh_sched.specs.NextBlock.{after_sources, after_candidate, filling}
 use Rattle.njh_sched.specs.code.Filling.{filling_where}
 use Rattle.njh_sched.specs.code.FileCursor.{FileCursor, files_of, first_file, goes_of}
 use Rattle.njh_sched.proofs.SourceLists.{nothing_left}

@@ -1,12 +1,11 @@
 -- Sources one after the other.
-use Rattle.std.proofs.Common.{◌≡◌, ◌<◌, ℕ, zero, suc, ◌+◌, Bool, true, false, List, [], ◌∷◌}
-use Rattle.std.proofs.Common.{◌++◌, length, drop, map, replicate, Some, None}
-use Rattle.std.proofs.Common.{slice_get, find, cond, refl, sym, ap, ◌∙◌, not-suc-le-zero, le_of_suc-le-suc, add-one}
+use Rattle.std.proofs.Common.{◌≡◌, ◌<◌, ℕ, zero, suc, ◌+◌, Bool, true, false, List, [], ◌∷◌, ◌++◌, length, drop, map}
+use Rattle.std.proofs.Common.{replicate, Some, None, slice_get, find, cond, refl, sym, ap, ◌∙◌, not-suc-le-zero}
+use Rattle.std.proofs.Common.{le_of_suc-le-suc, add-one}
 use Rattle.njh_block.specs.Writing.{Writing}
 use Rattle.njh_spool.specs.CustomerSpool.{CustomerSpool, WholeFile}
-use Rattle.njh_sched.specs.NextBlock.{Outlet, Source, Filling, filling}
+use Rattle.njh_sched.specs.NextBlock.{Outlet, Source, Filling, filling, after_source, after_sources, streams}
 use Rattle.njh_sched.specs.code.Filling.{filling_where}
-use Rattle.njh_sched.specs.NextBlock.{after_source, after_sources, streams}
 
 pub stream_at : (place : ℕ) → place < 8 → slice_get streams place ≡ Some place
 unfolding streams

@@ -1,7 +1,7 @@
 -- What one source does to a stream.
-use Rattle.std.proofs.Common.{◌≡◌, ◌<◌, ℕ, zero, suc, ◌+◌, ◌%◌, Bool, true, false, ◌&&◌, List, [], ◌∷◌, ◌++◌, length, map, find, cond}
-use Rattle.std.proofs.Common.{Option, Some, None, option_map, slice_get, set, get_or, ◌==◌}
-use Rattle.std.proofs.Common.{refl, sym, ap, subst, ◌∙◌, not-suc-le-zero, le_of_suc-le-suc, lit<}
+use Rattle.std.proofs.Common.{◌≡◌, ◌<◌, ℕ, zero, suc, ◌+◌, ◌%◌, Bool, true, false, ◌&&◌, List, [], ◌∷◌, ◌++◌, length}
+use Rattle.std.proofs.Common.{map, find, cond, Option, Some, None, option_map, slice_get, set, get_or, ◌==◌, refl, sym}
+use Rattle.std.proofs.Common.{ap, subst, ◌∙◌, not-suc-le-zero, le_of_suc-le-suc, lit<}
 use Rattle.std.proofs.Math.Nat.{mod-lt}
 use Rattle.std.proofs.lemmas.List.{get_or-set_same, get_or-set_other}
 use Rattle.std.proofs.lemmas.Bool.{eqb-true, eqb-false}
@@ -14,12 +14,11 @@ use Rattle.njh_spool.specs.CustomerSpool.{WholeFile}
 use Rattle.njh_stream.specs.Sending.{next_of}
 use Rattle.njh_stream.specs.declared.sender.Sender.{Sender}
 use Rattle.njh_stream.specs.declared.sender.Sender.TheVariants.{Idle, Requested, Sending, EofSent, Aborting}
-use Rattle.njh_sched.specs.NextBlock.{Outlet, Candidate, Filling, Source}
-use Rattle.njh_sched.specs.NextBlock.{WaitingAnswer, StreamAbort, StreamRequest, WaitingMessage, StreamTurn}
-use Rattle.njh_sched.specs.NextBlock.{answering, telling, giving_up, abort_where, asking}
-use Rattle.njh_sched.specs.NextBlock.{is_idle, sends_file, may_ask, may_send, oldest, next_served}
-use Rattle.njh_sched.specs.NextBlock.{data_item, sender_at, streams, candidate}
-use Rattle.njh_sched.specs.NextBlock.{added_where, after_candidate, after_source, after_source_where}
+use Rattle.njh_sched.specs.NextBlock.{Outlet, Candidate, Filling, Source, WaitingAnswer, StreamAbort, StreamRequest}
+use Rattle.njh_sched.specs.NextBlock.{WaitingMessage, StreamTurn, answering, telling, giving_up, abort_where, asking}
+use Rattle.njh_sched.specs.NextBlock.{is_idle, sends_file, may_ask, may_send, oldest, next_served, data_item, sender_at}
+use Rattle.njh_sched.specs.NextBlock.{streams, candidate, added_where, after_candidate, after_source}
+use Rattle.njh_sched.specs.NextBlock.{after_source_where}
 use Rattle.njh_sched.specs.Laws.{is_under, records_under, Does, left, gives_up, asks, sends}
 use Rattle.njh_sched.proofs.TurnLaws.{served_by}
 

@@ -1,7 +1,7 @@
 -- The streams in turn: how often more than there is room for doesn't matter.
-use Rattle.std.proofs.Common.{[], ◌∷◌, ◌++◌, length, not, ◌&&◌, nat_le, ◌≡◌, ◌<◌, ◌≤◌}
-use Rattle.std.proofs.Common.{ℕ, zero, suc, ◌+◌, Bool, true, false, Option, Some, None}
-use Rattle.std.proofs.Common.{option_map, refl, sym, ap, ◌∙◌, arith, not-suc-le-zero, add-one}
+use Rattle.std.proofs.Common.{[], ◌∷◌, ◌++◌, length, not, ◌&&◌, nat_le, ◌≡◌, ◌<◌, ◌≤◌, ℕ, zero, suc, ◌+◌, Bool, true}
+use Rattle.std.proofs.Common.{false, Option, Some, None, option_map, refl, sym, ap, ◌∙◌, arith, not-suc-le-zero}
+use Rattle.std.proofs.Common.{add-one}
 use Rattle.std.specs.List.{list_any}
 use Rattle.std.proofs.lemmas.Grind.{common_steps}
 use Rattle.std.proofs.lemmas.Bool.{leb-true}
@@ -11,9 +11,8 @@ use Rattle.njh_record.specs.Stored.{Stored}
 use Rattle.njh_spool.specs.CustomerSpool.{CustomerSpool, WholeFile}
 use Rattle.njh_stream.specs.Sending.{next_of}
 use Rattle.njh_sched.specs.NextBlock.{Outlet, StreamTurn, Candidate, turns, next_served, sender_at, serving, data_item}
-use Rattle.njh_sched.specs.code.Filling.{room_of}
 use Rattle.njh_sched.specs.NextBlock.{after_source, after_sources, after_candidate, added_where, filling}
-use Rattle.njh_sched.specs.code.Filling.{filling_where}
+use Rattle.njh_sched.specs.code.Filling.{room_of, filling_where}
 use Rattle.njh_sched.proofs.SourceLists.{one_more, full_stays, nothing_left}
 
 -- what a stream in turn sends

@@ -54,4 +54,5 @@ pub data Does (goes : WholeFile → Bool) (k : ℕ) (x y : Filling) : Type 0 whe
 -- each of some sources does so, one after the other
 abbrev pub EachDoes : (WholeFile → Bool) → ℕ → List Source → Filling → Type 0
 EachDoes goes k [] x = Unit {0}
-EachDoes goes k (source ∷ more) x = Does goes k x (after_source goes source x) × EachDoes goes k more (after_source goes source x)
+EachDoes goes k (source ∷ more) x =
+    Does goes k x (after_source goes source x) × EachDoes goes k more (after_source goes source x)

@@ -1,10 +1,10 @@
 -- What the hub's next block holds (IBM SC23-0070, multileaving): what may come stands in one order, each is judged in
 -- the state that those before it leave, and the block takes the longest front that has room.
-use Rattle.std.specs.Prelude.{ℕ, ◌+◌, ◌-◌, ◌%◌, Bool, true, false, List}
-use Rattle.std.specs.Prelude.{[], ◌∷◌, ◌++◌, length, drop, set, map, replicate, find, slice_get}
-use Rattle.std.specs.Prelude.{slice_index_or, option_map, Option, Some, None, nat_lt, not, ◌&&◌}
-use Rattle.njh_block.specs.Blocks.{Item, Data, Aborted, Control, control_byte, rcb_of}
-use Rattle.njh_block.specs.Blocks.{is_on, all_suspended, messages_on}
+use Rattle.std.specs.Prelude.{ℕ, ◌+◌, ◌-◌, ◌%◌, Bool, true, false, List, [], ◌∷◌, ◌++◌, length, drop, set, map}
+use Rattle.std.specs.Prelude.{replicate, find, slice_get, slice_index_or, option_map, Option, Some, None, nat_lt, not}
+use Rattle.std.specs.Prelude.{◌&&◌}
+use Rattle.njh_block.specs.Blocks.{Item, Data, Aborted, Control, control_byte, rcb_of, is_on, all_suspended}
+use Rattle.njh_block.specs.Blocks.{messages_on}
 use Rattle.njh_block.specs.Codes.{kind_of}
 use Rattle.njh_block.specs.Writing.{Writing, has_room, with_last}
 use Rattle.njh_block.specs.declared.answer.Answer.{Answer}

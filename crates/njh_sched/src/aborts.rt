@@ -36,7 +36,8 @@ fn add_abort<L: Outgoing>(stream: Stream, line: &mut L, writer: &mut BlockWriter
 
 /// Adds the streams' aborts, until one has no room, and says whether all had.
 pub fn add_aborts<L: Outgoing>(line: &mut L, writer: &mut BlockWriter) -> bool
-    ensures source { (goes : WholeFile → Bool) (s : CustomerSpool) → after_sources goes aborts (filling writer.old (L.outlet line.old) s)
+    ensures source { (goes : WholeFile → Bool) (s : CustomerSpool)
+        → after_sources goes aborts (filling writer.old (L.outlet line.old) s)
         ≡ filling_where result writer.new (L.outlet line.new) s }
     ensures rest { L.rest line.new ≡ L.rest line.old }
 {

@@ -1,7 +1,7 @@
 //! What is looked at of a customer's files.
 
-ghost use Rattle.std.specs.Prelude.{◌≡◌, ◌<◌, ◌-◌, ◌^◌, ◌==◌, ◌&&◌, ℕ, Bool, false, List, length, slice_get};
-ghost use Rattle.std.specs.Prelude.{IsSomeAnd, IsTrue};
+ghost use Rattle.std.specs.Prelude.{◌≡◌, ◌<◌, ◌-◌, ◌^◌, ◌==◌, ◌&&◌, ℕ, Bool, false, List, length, slice_get, IsSomeAnd};
+ghost use Rattle.std.specs.Prelude.{IsTrue};
 ghost use Rattle.std.specs.List.{list_any};
 ghost use Rattle.njh_spool.specs.CustomerSpool.{whole_numbered};
 ghost use Rattle.njh_spool.specs.Spools.{spool_at};
@@ -20,7 +20,8 @@ use njh_table::Customer;
 pub fn file_at(customer: u16, index: u32, spool: &Spool) -> FileId
     requires range { customer < length spool.now }
     requires index_range { index < length (spool_at customer spool.now).whole }
-    ensures file { whole_numbered result (spool_at customer spool.now) ≡ slice_get (spool_at customer spool.now).whole index }
+    ensures file { whole_numbered result (spool_at customer spool.now)
+        ≡ slice_get (spool_at customer spool.now).whole index }
     ensures number { IsSomeAnd (slice_get (spool_at customer spool.now).whole index) (λ f. result ≡ f.number) }
 {
     spool.quota_holds(customer);

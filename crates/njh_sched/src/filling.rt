@@ -32,7 +32,8 @@ fn add_all<L: Outgoing>(
     writer: &mut BlockWriter,
 ) -> bool
     requires { id.customer < length spool.old }
-    ensures source { after_sources (goes_by (entry_of entry.now) id.number) (sources writer.old.limit (L.outlet line.old))
+    ensures source { after_sources (goes_by (entry_of entry.now) id.number)
+        (sources writer.old.limit (L.outlet line.old))
         (filling writer.old (L.outlet line.old) (spool_at id.customer spool.old))
         ≡ filling_where result writer.new (L.outlet line.new) (spool_at id.customer spool.new) }
     ensures spool { spool.new ≡ slice_set spool.old id.customer (spool_at id.customer spool.new) }
@@ -69,7 +70,8 @@ pub fn fill<L: Outgoing>(
     requires known { id.customer < length tables.now.customers }
     ensures block { writer.new ≡ (filled_block (goes_by (entry_of (customer_at tables.now id.customer)) id.number)
         (filling writer.old (L.outlet line.old) (spool_at id.customer spool.old))).block }
-    ensures outlet { L.outlet line.new ≡ (filled_block (goes_by (entry_of (customer_at tables.now id.customer)) id.number)
+    ensures outlet { L.outlet line.new
+        ≡ (filled_block (goes_by (entry_of (customer_at tables.now id.customer)) id.number)
         (filling writer.old (L.outlet line.old) (spool_at id.customer spool.old))).outlet }
     ensures spool { spool.new ≡ slice_set spool.old id.customer
         (filled_block (goes_by (entry_of (customer_at tables.now id.customer)) id.number)

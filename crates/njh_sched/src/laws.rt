@@ -21,9 +21,11 @@ pub fn nothing_where_all_is_suspended()
 /// moves by that; where there is no such record it has the end of file. A stream asks for a file only where it was
 /// idle. Nothing else moves a stream.
 pub fn sources_move_streams_so()
-    ensures one { (goes : WholeFile → Bool) (k : ℕ) (source : Source) (x : Filling) → k < 8 → k < length x.outlet.senders
+    ensures one { (goes : WholeFile → Bool) (k : ℕ) (source : Source) (x : Filling) → k < 8
+        → k < length x.outlet.senders
         → Does goes k x (after_source goes source x) }
-    ensures each { (goes : WholeFile → Bool) (k : ℕ) (sources : List Source) (x : Filling) → k < 8 → k < length x.outlet.senders
+    ensures each { (goes : WholeFile → Bool) (k : ℕ) (sources : List Source) (x : Filling) → k < 8
+        → k < length x.outlet.senders
         → EachDoes goes k sources x }
 {}
 

@@ -3,10 +3,8 @@
 ghost use Rattle.std.specs.Prelude.{◌≡◌, ◌≤◌, IsTrue, length, slice_get, Some, Bool, true};
 ghost use Rattle.njh_spool.specs.CustomerSpool.{CustomerSpool, WholeFile};
 ghost use Rattle.njh_sched.specs.NextBlock.{Outlet, WaitingAnswer, WaitingMessage, waiting_answers, messages_where};
-ghost use Rattle.njh_sched.specs.NextBlock.{waiting_messages};
-ghost use Rattle.njh_sched.specs.NextBlock.{without_answer, after_source, after_sources, filling};
-ghost use Rattle.njh_sched.specs.code.Filling.{message_gone_where};
-ghost use Rattle.njh_sched.specs.code.Filling.{filling_where};
+ghost use Rattle.njh_sched.specs.NextBlock.{waiting_messages, without_answer, after_source, after_sources, filling};
+ghost use Rattle.njh_sched.specs.code.Filling.{message_gone_where, filling_where};
 
 use crate::outgoing::Outgoing;
 use crate::record_room::{PLAIN, add_where_room};
@@ -49,7 +47,8 @@ pub fn add_answers<L: Outgoing>(line: &mut L, writer: &mut BlockWriter) -> bool
 fn add_message(message: &[u8], writer: &mut BlockWriter) -> bool
     requires { length message.now ≤ 256 }
     ensures { (goes : WholeFile → Bool) (o : Outlet) (s : CustomerSpool) → slice_get o.messages 0 ≡ Some message.now
-        → after_source goes WaitingMessage (filling writer.old o s) ≡ filling_where result writer.new (message_gone_where result o) s }
+        → after_source goes WaitingMessage (filling writer.old o s)
+        ≡ filling_where result writer.new (message_gone_where result o) s }
 {
     let out = Out::Data {
         rcb: Rcb::MESSAGE,
@@ -62,7 +61,8 @@ fn add_message(message: &[u8], writer: &mut BlockWriter) -> bool
 /// Adds the nodal messages that wait, until one has no room, and says whether all had.
 fn add_all_messages<L: Outgoing>(line: &mut L, writer: &mut BlockWriter) -> bool
     ensures source { (goes : WholeFile → Bool) (s : CustomerSpool)
-        → after_sources goes (messages_where true (L.outlet line.old).messages) (filling writer.old (L.outlet line.old) s)
+        → after_sources goes (messages_where true (L.outlet line.old).messages)
+        (filling writer.old (L.outlet line.old) s)
         ≡ filling_where result writer.new (L.outlet line.new) s }
     ensures rest { L.rest line.new ≡ L.rest line.old }
 {

@@ -14,7 +14,8 @@ pub const PLAIN: u8 = 0x80;
 pub fn add_where_room(out: Out<'_>, writer: &mut BlockWriter) -> bool
     requires { IsWritable out }
     ensures room { result ≡ has_room writer.old (outgoing_item out.entry) }
-    ensures block { writer.new ≡ with_last_where (has_room writer.old (outgoing_item out.entry)) (outgoing_item out.entry) writer.old }
+    ensures block { writer.new
+        ≡ with_last_where (has_room writer.old (outgoing_item out.entry)) (outgoing_item out.entry) writer.old }
 {
     let has_room = writer.fits(&out);
     if has_room {

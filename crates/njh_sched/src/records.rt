@@ -4,10 +4,9 @@ ghost use Rattle.std.specs.Prelude.{◌≡◌, ◌<◌, Bool, IsTrue, length, So
 ghost use Rattle.njh_spool.specs.CustomerSpool.{WholeFile};
 ghost use Rattle.njh_spool.specs.Spools.{spool_at};
 ghost use Rattle.njh_stream.specs.Sending.{next_of};
-ghost use Rattle.njh_sched.specs.NextBlock.{turns, may_send, next_served, sender_at, serving};
-ghost use Rattle.njh_sched.specs.code.Filling.{room_of};
-ghost use Rattle.njh_sched.specs.NextBlock.{after_candidate, after_sources, filling};
-ghost use Rattle.njh_sched.specs.code.Filling.{filling_where};
+ghost use Rattle.njh_sched.specs.NextBlock.{turns, may_send, next_served, sender_at, serving, after_candidate};
+ghost use Rattle.njh_sched.specs.NextBlock.{after_sources, filling};
+ghost use Rattle.njh_sched.specs.code.Filling.{room_of, filling_where};
 
 use crate::outgoing::Outgoing;
 use crate::record_room::{PLAIN, add_where_room};

@@ -39,7 +39,8 @@ fn ask<L: Outgoing>(
         (filling writer.old (L.outlet line.old) (spool_at customer spool.old))
         ≡ filling_where result writer.new (L.outlet line.new) (spool_at customer spool.new) }
     ensures spool { spool.new ≡ slice_set spool.old customer (spool_at customer spool.new) }
-    ensures state { IsTrue result → spool_at customer spool.new ≡ with_state file State.Sending (spool_at customer spool.old) }
+    ensures state { IsTrue result
+        → spool_at customer spool.new ≡ with_state file State.Sending (spool_at customer spool.old) }
     ensures rest { L.rest line.new ≡ L.rest line.old }
 {
     let out = Out::Control {

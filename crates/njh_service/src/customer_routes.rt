@@ -6,7 +6,7 @@ ghost use Rattle.njh_service.specs.Revisions.{given_route, given_routes};
 
 use njh_ebcdic::Name;
 use njh_hub::GivenRoutes;
-use njh_table::{Customer, LineId, GivenRoute, RouteLines, Tables};
+use njh_table::{Customer, GivenRoute, LineId, RouteLines, Tables};
 use std::alloc::{AllocError, Global};
 
 /// The routes of a customer, all of them and in their order, each by the customer's own lines. Out of memory is the

@@ -8,7 +8,7 @@ use crate::customer_routes::{have_other_routes, routes_of};
 use crate::difference::{Difference, difference_of};
 use crate::table_source::{NoSource, TableSource};
 use njh_ebcdic::Name;
-use njh_hub::{HubFault, NewRoutes, GivenRoutes};
+use njh_hub::{GivenRoutes, HubFault, NewRoutes};
 use njh_table::Tables;
 use std::alloc::{AllocError, Global};
 use std::fmt;

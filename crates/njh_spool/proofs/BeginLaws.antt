@@ -1,6 +1,7 @@
 -- What a new file makes of its customer's spool.
-use Rattle.std.proofs.Common.{◌≡◌, ℕ, ◌+◌, ◌<◌, ◌≤◌, Bool, true, false, cond, not, eqb, ◌||◌, List, [], ◌∷◌, ◌++◌, length, map}
-use Rattle.std.proofs.Common.{count_by, Some, None, refl, sym, ap, subst, ◌∙◌, inl, inr, arith, eq-eqb, ne_eqb}
+use Rattle.std.proofs.Common.{◌≡◌, ℕ, ◌+◌, ◌<◌, ◌≤◌, Bool, true, false, cond, not, eqb, ◌||◌, List, [], ◌∷◌, ◌++◌}
+use Rattle.std.proofs.Common.{length, map, count_by, Some, None, refl, sym, ap, subst, ◌∙◌, inl, inr, arith, eq-eqb}
+use Rattle.std.proofs.Common.{ne_eqb}
 use Rattle.std.specs.List.{list_any}
 use Rattle.std.specs.Option.{option_or}
 use Rattle.std.proofs.lemmas.Bool.{cases_Bool, cases_eq, cases_order, both_ways, lt-ltb, le-ltb}
@@ -11,10 +12,11 @@ use Rattle.njh_spool.specs.declared.SpoolFault.TheVariants.{QuotaFull, TooManyFi
 use Rattle.njh_spool.specs.declared.file_slot.Stage.{Stage}
 use Rattle.njh_spool.specs.declared.file_slot.Stage.TheVariants.{Free, Partial, Whole}
 use Rattle.njh_spool.specs.declared.customer_files.CustomerFiles.{CustomerFiles}
-use Rattle.njh_spool.specs.CustomerSpool.{CustomerSpool, WholeFile, PartialFile, used_blocks, has_file_room, has_block, is_number, next_number}
-use Rattle.njh_spool.specs.CustomerSpool.{with_new_partial}
+use Rattle.njh_spool.specs.CustomerSpool.{CustomerSpool, WholeFile, PartialFile, used_blocks, has_file_room, has_block}
+use Rattle.njh_spool.specs.CustomerSpool.{is_number, next_number, with_new_partial}
 use Rattle.njh_spool.specs.Spools.{begin_fault, fault_unless}
-use Rattle.njh_spool.specs.code.Slots.{Content, is_partial, is_whole_stage, is_free, whole_file, partial_file, spool_of, IsOwn}
+use Rattle.njh_spool.specs.code.Slots.{Content, is_partial, is_whole_stage, is_free, whole_file, partial_file, spool_of}
+use Rattle.njh_spool.specs.code.Slots.{IsOwn}
 use Rattle.njh_spool.proofs.OnlyOne.{list_any-from_count, count_by_none}
 use Rattle.njh_spool.proofs.NumberLaws.{least_from_is, next_number-below, next_number-free}
 use Rattle.njh_spool.proofs.BegunLaws.{used-begun, sound_begun}

@@ -5,7 +5,8 @@ use Rattle.std.proofs.lemmas.Bool.{cases_eq, or_parts, ne_eqb}
 use Rattle.std.proofs.lemmas.List.{length_push}
 use Rattle.std.proofs.lemmas.List.Sums.{sum_by_push}
 use Rattle.njh_record.specs.declared.Kind.{Kind}
-use Rattle.njh_spool.specs.CustomerSpool.{CustomerSpool, PartialFile, cost, used_blocks, is_number, next_number, with_new_partial}
+use Rattle.njh_spool.specs.CustomerSpool.{CustomerSpool, PartialFile, cost, used_blocks, is_number, next_number}
+use Rattle.njh_spool.specs.CustomerSpool.{with_new_partial}
 use Rattle.njh_spool.specs.Spools.{IsSound, files_numbered}
 use Rattle.njh_spool.proofs.OnlyOne.{count_by_none}
 use Rattle.njh_spool.proofs.NumberLaws.{next_number-below, next_number-free}

@@ -19,7 +19,8 @@ use Rattle.njh_spool.proofs.CostLaws.{cost_push}
 use Rattle.njh_spool.proofs.IndexLaws.{at_is, small_used}
 use Rattle.njh_spool.proofs.KeptLaws.{own_of, HasOwn, has_own, stays, used_all}
 use Rattle.njh_spool.proofs.FileLaws.{size_is}
-use Rattle.njh_spool.proofs.ReadLaws.{has_file, has_no_file, partial_stage as stage_of, whole_not_partial as not_partial_of}
+use Rattle.njh_spool.proofs.ReadLaws.{has_file, has_no_file, partial_stage as stage_of}
+use Rattle.njh_spool.proofs.ReadLaws.{whole_not_partial as not_partial_of}
 use Rattle.njh_spool.proofs.PackingLaws.{length-packed_record, length-unpacked}
 use Rattle.njh_spool.proofs.PartialLaws as partial
 use Rattle.njh_spool.proofs.WholeLaws as whole

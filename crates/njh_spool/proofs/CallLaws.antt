@@ -15,13 +15,14 @@ use Rattle.njh_spool.specs.declared.file_slot.FileSlot.{FileSlot}
 use Rattle.njh_spool.specs.declared.file_slot.KeptPlaces.{KeptPlaces}
 use Rattle.njh_spool.specs.declared.customer_files.CustomerFiles.{CustomerFiles}
 use Rattle.njh_spool.specs.code.Chains.{Chain, StoreValue, empty_chain, with_chain, blocks_of}
-use Rattle.njh_spool.specs.CustomerSpool.{CustomerSpool, cost, stored_size, next_number}
-use Rattle.njh_spool.specs.CustomerSpool.{with_new_partial, with_appended, without_partial, with_finished, without_whole, with_state, with_rewritten_bytes}
-use Rattle.njh_spool.specs.CustomerSpool.{at_index, rewritten_record}
+use Rattle.njh_spool.specs.CustomerSpool.{CustomerSpool, cost, stored_size, next_number, with_new_partial}
+use Rattle.njh_spool.specs.CustomerSpool.{with_appended, without_partial, with_finished, without_whole, with_state}
+use Rattle.njh_spool.specs.CustomerSpool.{with_rewritten_bytes, at_index, rewritten_record}
 use Rattle.njh_spool.specs.Spools.{spool_at}
 use Rattle.njh_spool.specs.code.Packing.{packed_record, packed_bytes, unpacked_records, IsShort}
-use Rattle.njh_spool.specs.code.Slots.{Content, content, contents, slot_of, chain_of, free_slot, no_files, is_free, is_partial, is_whole_stage}
-use Rattle.njh_spool.specs.code.Slots.{whole_file, spool_of, spools_of, first_places, ArePlaces, IsOwn, IsFile, KeepsHeaders, IsKept}
+use Rattle.njh_spool.specs.code.Slots.{Content, content, contents, slot_of, chain_of, free_slot, no_files, is_free}
+use Rattle.njh_spool.specs.code.Slots.{is_partial, is_whole_stage, whole_file, spool_of, spools_of, first_places}
+use Rattle.njh_spool.specs.code.Slots.{ArePlaces, IsOwn, IsFile, KeepsHeaders, IsKept}
 use Rattle.njh_spool.specs.Headers.{header_count, kept_headers}
 use Rattle.njh_spool.specs.declared.file_headers.KeptHeaders.{KeptHeaders}
 use Rattle.njh_spool.proofs.HeaderLaws.{kept_headers-behind}

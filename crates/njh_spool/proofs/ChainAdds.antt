@@ -1,6 +1,7 @@
 -- A block is added at the end of a chain.
-use Rattle.std.proofs.Common.{◌≡◌, ◌≢◌, ℕ, zero, suc, ◌+◌, ◌-◌, ◌*◌, ◌<◌, ◌≤◌, List, [], ◌∷◌, ◌++◌, length, get_or, take, replicate}
-use Rattle.std.proofs.Common.{cond, eqb, Option, Some, None, refl, sym, ap, ◌∙◌, inl, inr, arith, length-append}
+use Rattle.std.proofs.Common.{◌≡◌, ◌≢◌, ℕ, zero, suc, ◌+◌, ◌-◌, ◌*◌, ◌<◌, ◌≤◌, List, [], ◌∷◌, ◌++◌, length, get_or}
+use Rattle.std.proofs.Common.{take, replicate, cond, eqb, Option, Some, None, refl, sym, ap, ◌∙◌, inl, inr, arith}
+use Rattle.std.proofs.Common.{length-append}
 use Rattle.std.proofs.lemmas.Bool.{cases_eq}
 use Rattle.std.proofs.lemmas.List.{append-nil, take_at, take_all, get_or_push, length-replicate}
 use Rattle.std.proofs.lemmas.List.Concat.{flat_map-append, flat_map-cons}
@@ -10,12 +11,14 @@ use Rattle.slab.proofs.SlabLemmas.{Updates-with_value}
 use Rattle.njh_spool.specs.declared.store.block.Block.{Block}
 use Rattle.njh_spool.specs.declared.store.slot.Slot.{Slot}
 use Rattle.njh_spool.specs.code.Chains.{blocks_for}
-use Rattle.njh_spool.specs.code.ChainedBlocks.{link_in, data_in, blocks_in, data_at, blocks_at, keys_from, keys_of, data_of, chain_of}
-use Rattle.njh_spool.specs.code.ChainedBlocks.{times_in, IsChained}
+use Rattle.njh_spool.specs.code.ChainedBlocks.{link_in, data_in, blocks_in, data_at, blocks_at, keys_from, keys_of}
+use Rattle.njh_spool.specs.code.ChainedBlocks.{data_of, chain_of, times_in, IsChained}
 use Rattle.njh_spool.proofs.ChainLists.{take-right}
-use Rattle.njh_spool.proofs.ChainKeys.{times-cons, one_itself, one_other, keys_from-linked, data_of-same, length-keys_from}
+use Rattle.njh_spool.proofs.ChainKeys.{times-cons, one_itself, one_other, keys_from-linked, data_of-same}
+use Rattle.njh_spool.proofs.ChainKeys.{length-keys_from}
 use Rattle.njh_spool.proofs.ChainMoves.{Moves}
-use Rattle.njh_spool.proofs.ChainLaws.{has_block, blocks_for_is, once_here, block_here, last_here, last_lies, length_data}
+use Rattle.njh_spool.proofs.ChainLaws.{has_block, blocks_for_is, once_here, block_here, last_here, last_lies}
+use Rattle.njh_spool.proofs.ChainLaws.{length_data}
 use Rattle.njh_spool.proofs.ChainPuts.{slab_len-with_value}
 
 -- a new block's data

@@ -1,6 +1,7 @@
 -- What the invariant says of one slot's chain.
-use Rattle.std.proofs.Common.{◌≡◌, ℕ, zero, suc, ◌+◌, ◌-◌, ◌*◌, ◌<◌, ◌≤◌, List, [], ◌∷◌, length, get_or, take, map, replicate, sum_by}
-use Rattle.std.proofs.Common.{count_by, eqb, Option, Some, None, IsSome, refl, sym, ap, subst, ◌∙◌, inl, inr, arith, rules, length-take}
+use Rattle.std.proofs.Common.{◌≡◌, ℕ, zero, suc, ◌+◌, ◌-◌, ◌*◌, ◌<◌, ◌≤◌, List, [], ◌∷◌, length, get_or, take, map}
+use Rattle.std.proofs.Common.{replicate, sum_by, count_by, eqb, Option, Some, None, IsSome, refl, sym, ap, subst, ◌∙◌}
+use Rattle.std.proofs.Common.{inl, inr, arith, rules, length-take}
 use Rattle.std.specs.List.{All}
 use Rattle.std.proofs.lemmas.Bool.{cases_lt}
 use Rattle.std.proofs.lemmas.List.{get_or-map, length-map, get_or_default}
@@ -9,8 +10,8 @@ use Rattle.slab.specs.Slab.{Slab, get, slab_len, ContainsKey}
 use Rattle.njh_spool.specs.declared.store.block.Block.{Block}
 use Rattle.njh_spool.specs.declared.store.slot.Slot.{Slot}
 use Rattle.njh_spool.specs.code.Chains.{Chain, StoreValue, empty_chain, chain_at, blocks_for, blocks_of, blocks_used}
-use Rattle.njh_spool.specs.code.ChainedBlocks.{blocks_in, data_at, blocks_at, keys_from, keys_of, data_of, chain_of, chains_of, times_in}
-use Rattle.njh_spool.specs.code.ChainedBlocks.{no_slot, KnowsLast, LiesInOne, IsChained}
+use Rattle.njh_spool.specs.code.ChainedBlocks.{blocks_in, data_at, blocks_at, keys_from, keys_of, data_of, chain_of}
+use Rattle.njh_spool.specs.code.ChainedBlocks.{chains_of, times_in, no_slot, KnowsLast, LiesInOne, IsChained}
 use Rattle.njh_spool.proofs.ChainLists.{sum_by-same, sum_by-two}
 use Rattle.njh_spool.proofs.ChainKeys.{length-keys_from, length-data_of, times_at}
 

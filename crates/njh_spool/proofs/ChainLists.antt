@@ -1,6 +1,6 @@
 -- Lists of which one element is replaced, and fields of lists that are put together.
-use Rattle.std.proofs.Common.{◌≡◌, ◌≢◌, ℕ, zero, suc, ◌+◌, ◌<◌, ◌≤◌, List, [], ◌∷◌, ◌++◌, length, get_or, set, take, drop, map, sum_by}
-use Rattle.std.proofs.Common.{refl, sym, ap, ◌∙◌, arith, rules, append_assoc, length-drop}
+use Rattle.std.proofs.Common.{◌≡◌, ◌≢◌, ℕ, zero, suc, ◌+◌, ◌<◌, ◌≤◌, List, [], ◌∷◌, ◌++◌, length, get_or, set, take}
+use Rattle.std.proofs.Common.{drop, map, sum_by, refl, sym, ap, ◌∙◌, arith, rules, append_assoc, length-drop}
 use Rattle.std.proofs.lemmas.List.{same_lists, places, take-append-le, drop-append-le, drop_at, drop-drop}
 use Rattle.std.proofs.lemmas.List.Sums.{sum_by-cons, get_or-le-sum_by}
 use Rattle.njh_record.specs.Bytes.{field, with_field}

@@ -1,6 +1,6 @@
 -- One slot's chain changes, and every other chain is as it was.
-use Rattle.std.proofs.Common.{◌≡◌, ◌≢◌, ℕ, ◌+◌, ◌-◌, ◌*◌, ◌<◌, ◌≤◌, List, ◌++◌, length, get_or, set, take, sym, ap, subst, ◌∙◌, inl}
-use Rattle.std.proofs.Common.{inr, arith}
+use Rattle.std.proofs.Common.{◌≡◌, ◌≢◌, ℕ, ◌+◌, ◌-◌, ◌*◌, ◌<◌, ◌≤◌, List, ◌++◌, length, get_or, set, take, sym, ap}
+use Rattle.std.proofs.Common.{subst, ◌∙◌, inl, inr, arith}
 use Rattle.std.specs.List.{All}
 use Rattle.std.proofs.lemmas.Bool.{cases_eq}
 use Rattle.std.proofs.lemmas.List.{get_or-set_same, get_or-set_other, length-set, get_or_default}
@@ -9,8 +9,8 @@ use Rattle.slab.specs.Slab.{Slab, get, slab_len}
 use Rattle.njh_spool.specs.declared.store.block.Block.{Block}
 use Rattle.njh_spool.specs.declared.store.slot.Slot.{Slot}
 use Rattle.njh_spool.specs.code.Chains.{Chain, StoreValue, Grows, empty_chain, chain_at, blocks_for, with_chain}
-use Rattle.njh_spool.specs.code.ChainedBlocks.{link_in, data_in, data_at, blocks_at, keys_of, data_of, chain_of, chains_of, times_in}
-use Rattle.njh_spool.specs.code.ChainedBlocks.{KnowsLast, IsChained}
+use Rattle.njh_spool.specs.code.ChainedBlocks.{link_in, data_in, data_at, blocks_at, keys_of, data_of, chain_of}
+use Rattle.njh_spool.specs.code.ChainedBlocks.{chains_of, times_in, KnowsLast, IsChained}
 use Rattle.njh_spool.proofs.ChainLists.{sum_by-two, sum_by-but, map-but}
 use Rattle.njh_spool.proofs.ChainKeys.{keys_from-same, data_of-same}
 

@@ -1,5 +1,6 @@
 -- Marks: where the blocks of a chain lie.
-use Rattle.std.proofs.Common.{◌≡◌, ℕ, zero, suc, ◌+◌, ◌*◌, ◌<◌, ◌≤◌, List, length, get_or, Option, Some, refl, sym, ap, ◌∙◌, arith}
+use Rattle.std.proofs.Common.{◌≡◌, ℕ, zero, suc, ◌+◌, ◌*◌, ◌<◌, ◌≤◌, List, length, get_or, Option, Some, refl, sym, ap}
+use Rattle.std.proofs.Common.{◌∙◌, arith}
 use Rattle.std.specs.Prelude.{slice_get}
 use Rattle.std.proofs.lemmas.Option.{slice_get-get_or, get_or_from_slice_get}
 use Rattle.slab.specs.Slab.{Slab, get, ContainsKey}
@@ -7,7 +8,8 @@ use Rattle.njh_record.specs.Bytes.{field}
 use Rattle.njh_spool.specs.declared.store.block.Block.{Block}
 use Rattle.njh_spool.specs.declared.store.slot.Slot.{Slot}
 use Rattle.njh_spool.specs.code.Chains.{StoreValue, chain_at, blocks_for}
-use Rattle.njh_spool.specs.code.ChainedBlocks.{link_in, data_in, next_at, keys_from, keys_of, data_of, chains_of, IsChained}
+use Rattle.njh_spool.specs.code.ChainedBlocks.{link_in, data_in, next_at, keys_from, keys_of, data_of, chains_of}
+use Rattle.njh_spool.specs.code.ChainedBlocks.{IsChained}
 use Rattle.njh_spool.proofs.ChainLists.{field-take}
 use Rattle.njh_spool.proofs.ChainKeys.{length-keys_from, field-data_of}
 use Rattle.njh_spool.proofs.ChainLaws.{len_is, keys_is, bytes_is, head_here, has_here, full_here, key_lies}

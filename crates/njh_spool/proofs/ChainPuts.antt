@@ -1,7 +1,7 @@
 -- Bytes are written in one block of a chain.
-use Rattle.std.proofs.Common.{◌≡◌, ◌≢◌, ℕ, ◌+◌, ◌-◌, ◌*◌, ◌%◌, ◌<◌, ◌≤◌, List, ◌++◌, length, get_or, take, drop, cond, Option, Some}
-use Rattle.std.proofs.Common.{None, is_some, IsSome, refl, sym, ap, ◌∙◌, inl, inr, arith, rules, length-append, length-take}
-use Rattle.std.proofs.Common.{length-drop}
+use Rattle.std.proofs.Common.{◌≡◌, ◌≢◌, ℕ, ◌+◌, ◌-◌, ◌*◌, ◌%◌, ◌<◌, ◌≤◌, List, ◌++◌, length, get_or, take, drop, cond}
+use Rattle.std.proofs.Common.{Option, Some, None, is_some, IsSome, refl, sym, ap, ◌∙◌, inl, inr, arith, rules}
+use Rattle.std.proofs.Common.{length-append, length-take, length-drop}
 use Rattle.std.proofs.lemmas.Bool.{cases_eq}
 use Rattle.std.proofs.lemmas.List.{same_lists, places, take_at}
 use Rattle.std.proofs.lemmas.List.Sums.{sum_by-set}
@@ -11,12 +11,12 @@ use Rattle.njh_record.specs.Bytes.{with_field}
 use Rattle.njh_spool.specs.declared.store.block.Block.{Block}
 use Rattle.njh_spool.specs.declared.store.slot.Slot.{Slot}
 use Rattle.njh_spool.specs.code.Chains.{blocks_for}
-use Rattle.njh_spool.specs.code.ChainedBlocks.{link_in, data_in, blocks_in, next_at, data_at, blocks_at, keys_of, keys_from, data_of}
-use Rattle.njh_spool.specs.code.ChainedBlocks.{chain_of, times_in, IsChained}
+use Rattle.njh_spool.specs.code.ChainedBlocks.{link_in, data_in, blocks_in, next_at, data_at, blocks_at, keys_of}
+use Rattle.njh_spool.specs.code.ChainedBlocks.{keys_from, data_of, chain_of, times_in, IsChained}
 use Rattle.njh_spool.proofs.ChainKeys.{keys_from-same, data_of-put, length-keys_from}
 use Rattle.njh_spool.proofs.ChainMoves.{Moves}
-use Rattle.njh_spool.proofs.ChainLaws.{once_here, block_here, has_here, full_here, last_here, key_lies, length_data, blocks_for_is}
-use Rattle.njh_spool.proofs.ChainLaws.{blocks_for-bounds}
+use Rattle.njh_spool.proofs.ChainLaws.{once_here, block_here, has_here, full_here, last_here, key_lies, length_data}
+use Rattle.njh_spool.proofs.ChainLaws.{blocks_for_is, blocks_for-bounds}
 
 counts_one : (o : Option Block) → IsSome o → cond {A = ℕ} (is_some o) 1 0 ≡ 1
 counts_one (Some block) has = refl

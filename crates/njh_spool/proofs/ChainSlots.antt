@@ -1,10 +1,11 @@
 -- The store's value with another chain in a slot.
-use Rattle.std.proofs.Common.{◌≡◌, ℕ, ◌+◌, ◌*◌, ◌<◌, ◌≤◌, List, ◌++◌, length, take, sym, ap, ◌∙◌, arith, rules, append_assoc}
-use Rattle.std.proofs.Common.{length-append, length-take}
+use Rattle.std.proofs.Common.{◌≡◌, ℕ, ◌+◌, ◌*◌, ◌<◌, ◌≤◌, List, ◌++◌, length, take, sym, ap, ◌∙◌, arith, rules}
+use Rattle.std.proofs.Common.{append_assoc, length-append, length-take}
 use Rattle.std.proofs.lemmas.List.{same_lists, places, get_or-set_same, set-set, set-get_or, length-set, take-take}
 use Rattle.std.proofs.lemmas.List.Sums.{sum_by-set}
 use Rattle.njh_record.specs.Bytes.{with_field}
-use Rattle.njh_spool.specs.code.Chains.{Chain, StoreValue, Grows, empty_chain, chain_at, with_chain, with_bytes, blocks_of, blocks_used}
+use Rattle.njh_spool.specs.code.Chains.{Chain, StoreValue, Grows, empty_chain, chain_at, with_chain, with_bytes}
+use Rattle.njh_spool.specs.code.Chains.{blocks_of, blocks_used}
 
 pub chain_at-with_chain : (slot : ℕ) (chain : Chain) (store : StoreValue) → slot < length store.chains →
     chain_at slot (with_chain slot chain store) ≡ chain

@@ -1,18 +1,20 @@
 -- What the store is after bytes were written in a block, or a block was added.
-use Rattle.std.proofs.Common.{◌≡◌, ℕ, ◌+◌, ◌-◌, ◌*◌, ◌%◌, ◌^◌, ◌<◌, ◌≤◌, List, ◌∷◌, [], ◌++◌, length, get_or, set, take, Some, None}
-use Rattle.std.proofs.Common.{refl, sym, ap, subst, ◌∙◌, arith}
+use Rattle.std.proofs.Common.{◌≡◌, ℕ, ◌+◌, ◌-◌, ◌*◌, ◌%◌, ◌^◌, ◌<◌, ◌≤◌, List, ◌∷◌, [], ◌++◌, length, get_or, set, take}
+use Rattle.std.proofs.Common.{Some, None, refl, sym, ap, subst, ◌∙◌, arith}
 use Rattle.std.specs.Prelude.{slice_get}
 use Rattle.std.proofs.lemmas.List.{set-get_or, take_at, nil_from_length}
 use Rattle.slab.specs.Slab.{Slab, get, slab_len, ContainsKey, with_value, Updates}
 use Rattle.njh_record.specs.Bytes.{with_field}
 use Rattle.njh_spool.specs.declared.store.block.Block.{Block}
 use Rattle.njh_spool.specs.declared.store.slot.Slot.{Slot}
-use Rattle.njh_spool.specs.code.Chains.{Chain, StoreValue, Grows, chain_at, with_chain, with_bytes, blocks_for, blocks_of}
+use Rattle.njh_spool.specs.code.Chains.{Chain, StoreValue, Grows, chain_at, with_chain, with_bytes, blocks_for}
+use Rattle.njh_spool.specs.code.Chains.{blocks_of}
 use Rattle.njh_spool.specs.code.ChainedBlocks.{next_at, data_at, keys_of, chain_of, chains_of, IsChained}
 use Rattle.njh_spool.proofs.ChainKeys.{length-keys_from}
 use Rattle.njh_spool.proofs.ChainMoves.{chained_moved, view_moved, grows_from}
 use Rattle.njh_spool.proofs.ChainLaws.{len_is, keys_is, chain_is, count_within, last_here}
-use Rattle.njh_spool.proofs.ChainPuts.{end_in_last, has_key, moves_put, chain_extended, chain_overwritten, slab_len-with_value}
+use Rattle.njh_spool.proofs.ChainPuts.{end_in_last, has_key, moves_put, chain_extended, chain_overwritten}
+use Rattle.njh_spool.proofs.ChainPuts.{slab_len-with_value}
 use Rattle.njh_spool.proofs.ChainAdds.{block_with, moves_first, chain_first, has_last, moves_next, chain_next}
 use Rattle.njh_spool.proofs.ChainPlaces.{few, key_at}
 

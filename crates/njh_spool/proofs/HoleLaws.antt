@@ -1,10 +1,12 @@
 -- What a number less or more makes of the index of some entries.
-use Rattle.std.proofs.Common.{◌≡◌, ◌≢◌, ℕ, zero, suc, ◌+◌, ◌-◌, ◌*◌, ◌/◌, ◌<◌, ◌≤◌, true, false, not, eqb, List, [], ◌∷◌, ◌++◌}
-use Rattle.std.proofs.Common.{length, take, filter, set, get_or, replicate, refl, sym, ap, ◌∙◌, inl, inr, arith, length-append, length-take}
+use Rattle.std.proofs.Common.{◌≡◌, ◌≢◌, ℕ, zero, suc, ◌+◌, ◌-◌, ◌*◌, ◌/◌, ◌<◌, ◌≤◌, true, false, not, eqb, List, []}
+use Rattle.std.proofs.Common.{◌∷◌, ◌++◌, length, take, filter, set, get_or, replicate, refl, sym, ap, ◌∙◌, inl, inr}
+use Rattle.std.proofs.Common.{arith, length-append, length-take}
 use Rattle.std.specs.List.{list_any, refill}
 use Rattle.std.proofs.lemmas.Bool.{or_parts, cases_lt, lt-ltb}
 use Rattle.std.proofs.lemmas.List.{take_all, drop_all, append-nil, length-set, length-replicate, get_or-replicate}
-use Rattle.std.proofs.lemmas.List.{get_or-set_same, get_or-set_other, get_or-take, get_or_append_left, get_or-append-add}
+use Rattle.std.proofs.lemmas.List.{get_or-set_same, get_or-set_other, get_or-take, get_or_append_left}
+use Rattle.std.proofs.lemmas.List.{get_or-append-add}
 use Rattle.njh_spool.specs.code.NumberEntries.{is_file_entry, numbers_in, before, IsIndex}
 use Rattle.njh_spool.proofs.EntryLaws.{passed_all, few_passed, few_pass, passed_grows, passed_hole, passed_before_hole}
 use Rattle.njh_spool.proofs.EntryLaws.{absent, filter_hole, filter_push, passed_push, passed_before_push, is_same}

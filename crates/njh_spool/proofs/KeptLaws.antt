@@ -10,9 +10,10 @@ use Rattle.njh_spool.specs.declared.customer_files.CustomerFiles.{CustomerFiles}
 use Rattle.njh_spool.specs.code.Chains.{Chain, StoreValue, empty_chain, with_chain, blocks_of, blocks_used}
 use Rattle.njh_spool.specs.CustomerSpool.{CustomerSpool, used_blocks}
 use Rattle.njh_spool.specs.Spools.{no_spool, spool_at}
-use Rattle.njh_spool.specs.code.Slots.{Content, content, contents, slot_of, chain_of, no_files, spool_of, spools_from, spools_of, IsOwn}
-use Rattle.njh_spool.specs.code.Slots.{IsFile, KeepsHeaders, IsKept}
-use Rattle.njh_spool.proofs.IndexLaws.{put, at_is, slot-same, chain-same, slot-other, chain-other, contents-same, contents-other}
+use Rattle.njh_spool.specs.code.Slots.{Content, content, contents, slot_of, chain_of, no_files, spool_of, spools_from}
+use Rattle.njh_spool.specs.code.Slots.{spools_of, IsOwn, IsFile, KeepsHeaders, IsKept}
+use Rattle.njh_spool.proofs.IndexLaws.{put, at_is, slot-same, chain-same, slot-other, chain-other, contents-same}
+use Rattle.njh_spool.proofs.IndexLaws.{contents-other}
 
 abbrev pub own_of : List CustomerFiles → ℕ → CustomerFiles
 own_of customers c = get_or customers c no_files

@@ -11,15 +11,16 @@ use Rattle.njh_spool.specs.declared.State.TheVariants.{Ready}
 use Rattle.njh_spool.specs.declared.SpoolFault.TheVariants.{QuotaFull, NoSuchFile}
 use Rattle.njh_spool.specs.declared.file_slot.Stage.TheVariants.{Free, Partial, Whole}
 use Rattle.njh_spool.specs.declared.customer_files.CustomerFiles.{CustomerFiles}
-use Rattle.njh_spool.specs.CustomerSpool.{CustomerSpool, WholeFile, PartialFile, cost, used_blocks, partial_numbered, whole_numbered}
-use Rattle.njh_spool.specs.CustomerSpool.{without_partial, with_appended, with_finished, as_whole, has_room_for}
+use Rattle.njh_spool.specs.CustomerSpool.{CustomerSpool, WholeFile, PartialFile, cost, used_blocks, partial_numbered}
+use Rattle.njh_spool.specs.CustomerSpool.{whole_numbered, without_partial, with_appended, with_finished, as_whole}
+use Rattle.njh_spool.specs.CustomerSpool.{has_room_for}
 use Rattle.njh_spool.specs.Spools.{IsSound, append_fault, fault_unless}
 use Rattle.njh_spool.specs.code.Slots.{Content, is_partial, is_whole_stage, whole_file, partial_file, spool_of, IsOwn}
 use Rattle.njh_spool.proofs.OnlyOne.{list_any-from_count, filter_none, find_none}
 use Rattle.njh_spool.proofs.SpoolLaws as laws
 use Rattle.njh_spool.proofs.IndexLaws.{put, put_same}
-use Rattle.njh_spool.proofs.SlotLaws.{is_at, IsSplit, split_at, whole-put, partial-put, whole-any, partial-any, counted-put, once_some}
-use Rattle.njh_spool.proofs.SlotLaws.{once_none, whole_from, partial_from, gone, count-gone}
+use Rattle.njh_spool.proofs.SlotLaws.{is_at, IsSplit, split_at, whole-put, partial-put, whole-any, partial-any}
+use Rattle.njh_spool.proofs.SlotLaws.{counted-put, once_some, once_none, whole_from, partial_from, gone, count-gone}
 
 abbrev spool_with : CustomerFiles → List WholeFile → List PartialFile → CustomerSpool
 spool_with own whole partial = record { quota = own.quota; limit = own.limit; whole = whole; partial = partial }

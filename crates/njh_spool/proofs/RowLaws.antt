@@ -1,12 +1,11 @@
 -- The slots of a customer's files, and of all customers', as they lie in rows.
-use Rattle.std.proofs.Common.{◌≡◌, ℕ, zero, suc, ◌+◌, ◌-◌, ◌*◌, ◌<◌, ◌≤◌, cond, ltb, List, [], ◌∷◌, ◌++◌, length, get_or, set, replicate}
-use Rattle.std.proofs.Common.{refl, sym, ap, ◌∙◌, inl, inr, arith, length-set}
+use Rattle.std.proofs.Common.{◌≡◌, ℕ, zero, suc, ◌+◌, ◌-◌, ◌*◌, ◌<◌, ◌≤◌, cond, ltb, List, [], ◌∷◌, ◌++◌, length}
+use Rattle.std.proofs.Common.{get_or, set, replicate, refl, sym, ap, ◌∙◌, inl, inr, arith, length-set}
 use Rattle.std.specs.Prelude.{All}
-use Rattle.std.proofs.lemmas.Bool.{cases_lt, lt-ltb, le-ltb}
-use Rattle.std.proofs.lemmas.List.{get_or_append_left, get_or-append_right, get_or-append-add, get_or_past, set-append_left, set-append_right}
-use Rattle.std.proofs.lemmas.List.{length-append, length-replicate, append_assoc, replicate-append-replicate}
-use Rattle.std.proofs.lemmas.List.{get_or-set_same, get_or-set_other}
-use Rattle.std.proofs.lemmas.Bool.{cases_eq}
+use Rattle.std.proofs.lemmas.Bool.{cases_lt, lt-ltb, le-ltb, cases_eq}
+use Rattle.std.proofs.lemmas.List.{get_or_append_left, get_or-append_right, get_or-append-add, get_or_past}
+use Rattle.std.proofs.lemmas.List.{set-append_left, set-append_right, length-append, length-replicate, append_assoc}
+use Rattle.std.proofs.lemmas.List.{replicate-append-replicate, get_or-set_same, get_or-set_other}
 use Rattle.std.proofs.Math.Nat.{mul-suc}
 use Rattle.njh_spool.specs.declared.file_slot.FileSlot.{FileSlot}
 use Rattle.njh_spool.specs.code.Slots.{free_slot}

@@ -1,7 +1,6 @@
 -- What a customer's spool is by its lists of numbers and its files.
-use Rattle.std.proofs.Common.{◌≡◌, ℕ, ◌+◌, ◌≤◌, Bool, true, false, cond, not, eqb, List, [], ◌∷◌, ◌++◌}
-use Rattle.std.proofs.Common.{map, filter, count_by, refl, ap, ◌∙◌, inl, inr}
-use Rattle.std.proofs.Common.{arith, eq-eqb, ne_eqb}
+use Rattle.std.proofs.Common.{◌≡◌, ℕ, ◌+◌, ◌≤◌, Bool, true, false, cond, not, eqb, List, [], ◌∷◌, ◌++◌, map, filter}
+use Rattle.std.proofs.Common.{count_by, refl, ap, ◌∙◌, inl, inr, arith, eq-eqb, ne_eqb}
 use Rattle.std.specs.List.{list_any}
 use Rattle.std.proofs.lemmas.Bool.{cases_Bool, cases_eq, or_parts, or_from, eqb-true}
 use Rattle.std.proofs.lemmas.List.Sums.{sum_by-cons}

@@ -1,11 +1,12 @@
 -- What the calls make of a sound spool of one customer, where the file that they name stands between others.
-use Rattle.std.proofs.Common.{◌≡◌, ℕ, ◌+◌, ◌≤◌, Bool, false, cond, eqb, List, [], ◌∷◌, ◌++◌, length, sum_by, Some, refl, ap, arith}
-use Rattle.std.proofs.Common.{length-append, eq-eqb}
+use Rattle.std.proofs.Common.{◌≡◌, ℕ, ◌+◌, ◌≤◌, Bool, false, cond, eqb, List, [], ◌∷◌, ◌++◌, length, sum_by, Some, refl}
+use Rattle.std.proofs.Common.{ap, arith, length-append, eq-eqb}
 use Rattle.std.specs.List.{list_any}
 use Rattle.std.proofs.lemmas.List.Sums.{sum_by-cons, sum_by-append}
 use Rattle.njh_record.specs.Stored.{Stored}
-use Rattle.njh_spool.specs.CustomerSpool.{CustomerSpool, WholeFile, PartialFile, cost, used_blocks, partial_numbered, whole_numbered, with_appended}
-use Rattle.njh_spool.specs.CustomerSpool.{without_partial, with_finished, as_whole, without_whole, on_file}
+use Rattle.njh_spool.specs.CustomerSpool.{CustomerSpool, WholeFile, PartialFile, cost, used_blocks, partial_numbered}
+use Rattle.njh_spool.specs.CustomerSpool.{whole_numbered, with_appended, without_partial, with_finished, as_whole}
+use Rattle.njh_spool.specs.CustomerSpool.{without_whole, on_file}
 use Rattle.njh_spool.specs.Spools.{IsSound, files_numbered}
 use Rattle.njh_spool.proofs.OnlyOne.{list_any-from_count, count_by_one, filter_one, map_one, find_one}
 

@@ -1,6 +1,6 @@
 -- What the slot of a whole file tells of it.
-use Rattle.std.proofs.Common.{◌≡◌, ℕ, zero, suc, ◌<◌, ◌≤◌, true, false, Bool, cond, eqb, List, [], ◌∷◌, length, map, count_by, Some}
-use Rattle.std.proofs.Common.{refl, sym, ap, ◌∙◌, arith, eq-eqb}
+use Rattle.std.proofs.Common.{◌≡◌, ℕ, zero, suc, ◌<◌, ◌≤◌, true, false, Bool, cond, eqb, List, [], ◌∷◌, length, map}
+use Rattle.std.proofs.Common.{count_by, Some, refl, sym, ap, ◌∙◌, arith, eq-eqb}
 use Rattle.std.specs.Prelude.{slice_get, IsSomeAnd}
 use Rattle.std.specs.Option.{option_map}
 use Rattle.std.proofs.lemmas.List.Sums.{sum_by-cons}
@@ -13,7 +13,8 @@ use Rattle.njh_spool.specs.code.Chains.{StoreValue}
 use Rattle.njh_spool.specs.CustomerSpool.{CustomerSpool}
 use Rattle.njh_spool.specs.Spools.{spool_at}
 use Rattle.njh_spool.specs.Headers.{headers_of, summary}
-use Rattle.njh_spool.specs.code.Slots.{Content, contents, slot_of, chain_of, is_whole_stage, state_of, whole_file, spools_of, IsKept}
+use Rattle.njh_spool.specs.code.Slots.{Content, contents, slot_of, chain_of, is_whole_stage, state_of, whole_file}
+use Rattle.njh_spool.specs.code.Slots.{spools_of, IsKept}
 use Rattle.njh_spool.proofs.KeptLaws.{has_own, own_of}
 use Rattle.njh_spool.proofs.PackingLaws.{length-unpacked}
 

@@ -1,19 +1,20 @@
 -- What the calls on a whole file make of its customer's spool.
-use Rattle.std.proofs.Common.{◌≡◌, ℕ, ◌-◌, ◌≤◌, true, false, cond, not, eqb, List, ◌∷◌, ◌++◌, map}
-use Rattle.std.proofs.Common.{filter, count_by, Some, None, refl, sym, ap, subst, ◌∙◌, inl, inr, arith, eq-eqb, ne_eqb}
+use Rattle.std.proofs.Common.{◌≡◌, ℕ, ◌-◌, ◌≤◌, true, false, cond, not, eqb, List, ◌∷◌, ◌++◌, map, filter, count_by}
+use Rattle.std.proofs.Common.{Some, None, refl, sym, ap, subst, ◌∙◌, inl, inr, arith, eq-eqb, ne_eqb}
 use Rattle.std.specs.List.{list_any}
 use Rattle.std.proofs.lemmas.Bool.{cases_eq}
 use Rattle.std.proofs.lemmas.List.{map-append}
 use Rattle.njh_spool.specs.declared.file_slot.Stage.TheVariants.{Free}
 use Rattle.njh_spool.specs.declared.customer_files.CustomerFiles.{CustomerFiles}
-use Rattle.njh_spool.specs.CustomerSpool.{CustomerSpool, WholeFile, PartialFile, cost, used_blocks, whole_numbered, without_whole, on_file}
+use Rattle.njh_spool.specs.CustomerSpool.{CustomerSpool, WholeFile, PartialFile, cost, used_blocks, whole_numbered}
+use Rattle.njh_spool.specs.CustomerSpool.{without_whole, on_file}
 use Rattle.njh_spool.specs.Spools.{IsSound}
 use Rattle.njh_spool.specs.code.Slots.{Content, is_partial, is_whole_stage, whole_file, partial_file, spool_of, IsOwn}
 use Rattle.njh_spool.proofs.OnlyOne.{list_any-from_count, filter_none, map_none, find_none}
 use Rattle.njh_spool.proofs.SpoolLaws as laws
 use Rattle.njh_spool.proofs.IndexLaws.{put, put_same}
-use Rattle.njh_spool.proofs.SlotLaws.{is_at, IsSplit, split_at, whole-put, partial-put, whole-any, counted-put, once_some, once_none}
-use Rattle.njh_spool.proofs.SlotLaws.{whole_from, gone, count-gone}
+use Rattle.njh_spool.proofs.SlotLaws.{is_at, IsSplit, split_at, whole-put, partial-put, whole-any, counted-put}
+use Rattle.njh_spool.proofs.SlotLaws.{once_some, once_none, whole_from, gone, count-gone}
 
 abbrev spool_with : CustomerFiles → List PartialFile → List WholeFile → CustomerSpool
 spool_with own partial whole = record { quota = own.quota; limit = own.limit; whole = whole; partial = partial }

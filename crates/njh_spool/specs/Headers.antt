@@ -12,7 +12,8 @@ use Rattle.njh_spool.specs.declared.file_headers.FileSummary.{FileSummary}
 use Rattle.njh_spool.specs.CustomerSpool.{WholeFile}
 
 abbrev pub headers_of : Kind → List Stored → FileHeaders
-headers_of kind records = record { name = name_of records; owner = file_owner records; destination = destination_of kind records }
+headers_of kind records =
+    record { name = name_of records; owner = file_owner records; destination = destination_of kind records }
 
 -- the records up to the first that is no job header or continuation of one, that one too
 abbrev pub reach_of : List Stored → ℕ
@@ -43,4 +44,10 @@ no_headers = record { said = record { name = None; owner = None; destination = N
 
 -- what is known of a whole file without its records
 abbrev pub summary : WholeFile → FileSummary
-summary f = record { id = f.number; kind = f.kind; state = f.state; records = length f.records; headers = headers_of f.kind f.records }
+summary f = record {
+  id = f.number;
+  kind = f.kind;
+  state = f.state;
+  records = length f.records;
+  headers = headers_of f.kind f.records;
+}

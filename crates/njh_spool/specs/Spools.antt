@@ -1,16 +1,14 @@
 -- The spool as the list of its customers' spools: what its calls answer, and what holds of each after every call.
 use Rattle.std.specs.Prelude.{◌≡◌, ℕ, ◌+◌, ◌≤◌, Bool, true, false, List, length, count_by, slice_get, slice_index_or}
-use Rattle.std.specs.Prelude.{Option, Some}
-use Rattle.std.specs.Prelude.{None, Result, ◌==◌}
+use Rattle.std.specs.Prelude.{Option, Some, None, Result, ◌==◌}
 use Rattle.std.specs.Option.{option_map, option_or, option_and_then, ok_or, is_some}
 use Rattle.njh_record.specs.Stored.{Stored}
 use Rattle.njh_record.specs.declared.Kind.{Kind}
 use Rattle.njh_spool.specs.declared.SpoolFault.{SpoolFault}
 use Rattle.njh_spool.specs.declared.SpoolFault.TheVariants.{QuotaFull, TooManyFiles, NoSuchFile}
 use Rattle.njh_table.specs.declared.limits.TheConstants.{MAX_QUOTA, MAX_FILES}
-use Rattle.njh_spool.specs.CustomerSpool.{CustomerSpool, empty_spool, used_blocks, has_file_room, has_block, partial_numbered}
-use Rattle.njh_spool.specs.CustomerSpool.{whole_numbered}
-use Rattle.njh_spool.specs.CustomerSpool.{has_room_for}
+use Rattle.njh_spool.specs.CustomerSpool.{CustomerSpool, empty_spool, used_blocks, has_file_room, has_block}
+use Rattle.njh_spool.specs.CustomerSpool.{partial_numbered, whole_numbered, has_room_for}
 
 -- a customer that the spool does not have
 abbrev pub no_spool : CustomerSpool
@@ -44,7 +42,8 @@ begin_fault s = option_or (fault_unless (has_file_room s) TooManyFiles) (fault_u
 
 -- why a record can't be appended to the file of a number
 abbrev pub append_fault : ℕ → Stored → CustomerSpool → Option SpoolFault
-append_fault n r s = option_or (fault_unless (is_some (partial_numbered n s)) NoSuchFile) (fault_unless (has_room_for n r s) QuotaFull)
+append_fault n r s =
+    option_or (fault_unless (is_some (partial_numbered n s)) NoSuchFile) (fault_unless (has_room_for n r s) QuotaFull)
 
 -- what a call answers of a file that may not be there
 abbrev pub or_no_file : {A : Type 0} → Option A → Result A SpoolFault
@@ -52,10 +51,12 @@ or_no_file answer = ok_or answer NoSuchFile
 
 -- of the file of a number, whole or partial
 abbrev pub kind_numbered : ℕ → CustomerSpool → Option Kind
-kind_numbered n s = option_or (option_map (λ f. f.kind) (whole_numbered n s)) (option_map (λ f. f.kind) (partial_numbered n s))
+kind_numbered n s =
+    option_or (option_map (λ f. f.kind) (whole_numbered n s)) (option_map (λ f. f.kind) (partial_numbered n s))
 
 abbrev pub records_numbered : ℕ → CustomerSpool → Option (List Stored)
-records_numbered n s = option_or (option_map (λ f. f.records) (whole_numbered n s)) (option_map (λ f. f.records) (partial_numbered n s))
+records_numbered n s =
+    option_or (option_map (λ f. f.records) (whole_numbered n s)) (option_map (λ f. f.records) (partial_numbered n s))
 
 -- its record at an index
 abbrev pub record_numbered : ℕ → ℕ → CustomerSpool → Option Stored

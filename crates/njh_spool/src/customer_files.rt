@@ -20,7 +20,8 @@ pub struct CustomerFiles {
 
 impl CustomerFiles {
     pub fn open(alloc: Global, quota: &Quota) -> Result<Self, AllocError>
-        ensures { IfOk result (λ files. files ≡ record { quota = quota.now.blocks; limit = quota.now.files; used = 0; whole = []; partial = [] }) }
+        ensures { IfOk result (λ files. files
+            ≡ record { quota = quota.now.blocks; limit = quota.now.files; used = 0; whole = []; partial = [] }) }
     {
         Ok(CustomerFiles {
             quota: quota.blocks,

@@ -23,5 +23,6 @@ pub fn next_number_is_least()
 pub fn quotas_leave_room()
     ensures { (spools : List CustomerSpool) (capacity c blocks : ℕ) → All (λ s. used_blocks s ≤ s.quota) spools
         → sum_by (λ s. s.quota) spools ≤ capacity → c < length spools
-        → used_blocks (spool_at c spools) + blocks ≤ (spool_at c spools).quota → sum_by used_blocks spools + blocks ≤ capacity }
+        → used_blocks (spool_at c spools) + blocks ≤ (spool_at c spools).quota
+        → sum_by used_blocks spools + blocks ≤ capacity }
 {}

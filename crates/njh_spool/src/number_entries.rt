@@ -1,7 +1,7 @@
 //! The numbers of some files in order, with holes where files were.
 
-ghost use Rattle.std.specs.Prelude.{◌≡◌, ℕ, ◌+◌, ◌*◌, ◌==◌, ◌<◌, ◌≤◌, [], ◌∷◌, ◌++◌, not, filter, length};
-ghost use Rattle.std.specs.Prelude.{slice_index, slice_index_or, false, IfOk, MatchOption};
+ghost use Rattle.std.specs.Prelude.{◌≡◌, ℕ, ◌+◌, ◌*◌, ◌==◌, ◌<◌, ◌≤◌, [], ◌∷◌, ◌++◌, not, filter, length, slice_index};
+ghost use Rattle.std.specs.Prelude.{slice_index_or, false, IfOk, MatchOption};
 ghost use Rattle.std.specs.Vec.{vec_capacity};
 ghost use Rattle.std.specs.List.{list_any};
 ghost use Rattle.njh_spool.specs.code.NumberEntries.{is_file_entry, numbers_in, before, IsIndexed};
@@ -119,7 +119,8 @@ impl Entries {
     fn place_of(&self, number: u16) -> Option<usize>
         requires { IsIndexed self.now }
         ensures { MatchOption result
-            ((p : ℕ) → p < length self.now.entries.items → slice_index_or self.now.entries.items p 0 ≡ number → MAX_FILES ≤ number)
+            ((p : ℕ) → p < length self.now.entries.items → slice_index_or self.now.entries.items p 0 ≡ number
+            → MAX_FILES ≤ number)
             (λ place. (place < length self.now.entries.items) × (slice_index_or self.now.entries.items place 0 ≡ number)
             × (number < MAX_FILES)) }
     {
@@ -140,7 +141,8 @@ impl Entries {
         requires number { slice_index_or self.old.entries.items place 0 < MAX_FILES }
         ensures index { IsIndexed self.new }
         ensures others { numbers_in self.new.entries.items
-            ≡ filter (λ m. not (m == slice_index_or self.old.entries.items place 0)) (numbers_in self.old.entries.items) }
+            ≡ filter (λ m. not (m == slice_index_or self.old.entries.items place 0))
+            (numbers_in self.old.entries.items) }
     {
         self.entries[place] = HOLE;
         self.counts[place / GROUP] -= 1;
@@ -151,7 +153,8 @@ impl Entries {
     pub fn remove(&mut self, number: u16)
         requires { IsIndexed self.old }
         ensures index { IsIndexed self.new }
-        ensures others { numbers_in self.new.entries.items ≡ filter (λ m. not (m == number)) (numbers_in self.old.entries.items) }
+        ensures others { numbers_in self.new.entries.items
+            ≡ filter (λ m. not (m == number)) (numbers_in self.old.entries.items) }
     {
         if let Some(place) = self.place_of(number) {
             self.clear(place);

@@ -16,9 +16,6 @@ impl Quota {
     pub fn is_within_limits(&self) -> bool
         ensures { IsTrue result ↔ IsWithinLimits self.now }
     {
-        1 <= self.blocks
-            && self.blocks <= MAX_QUOTA
-            && 1 <= self.files
-            && self.files <= MAX_FILES
+        1 <= self.blocks && self.blocks <= MAX_QUOTA && 1 <= self.files && self.files <= MAX_FILES
     }
 }

@@ -26,9 +26,11 @@ pub struct Head {
 fn read_head(store: &Store, at: u32, slot: &FileSlot, from: RecordPlace, into: &mut Record) -> Head
     requires range { at < length store.now.chains }
     requires file { IsFile slot.now (chain_at at store.now) }
-    requires place { IsPlace (unpacked_records slot.now.count (chain_at at store.now).bytes) (chain_at at store.now).keys from }
+    requires place { IsPlace (unpacked_records slot.now.count (chain_at at store.now).bytes)
+        (chain_at at store.now).keys from }
     requires more { from.record_index < slot.now.count }
-    ensures head { IsSomeAnd (slice_get (unpacked_records slot.now.count (chain_at at store.now).bytes) from.record_index)
+    ensures head { IsSomeAnd (slice_get (unpacked_records slot.now.count
+        (chain_at at store.now).bytes) from.record_index)
         (λ r. (r.srcb ≡ result.srcb) × (length r.bytes ≡ result.length)) }
     ensures mark { IsMark (chain_at at store.now).keys result.mark }
 {
@@ -50,9 +52,11 @@ fn place_behind(
 ) -> RecordPlace
     requires range { at < length store.now.chains }
     requires file { IsFile slot.now (chain_at at store.now) }
-    requires place { IsPlace (unpacked_records slot.now.count (chain_at at store.now).bytes) (chain_at at store.now).keys from }
+    requires place { IsPlace (unpacked_records slot.now.count (chain_at at store.now).bytes)
+        (chain_at at store.now).keys from }
     requires more { from.record_index < slot.now.count }
-    ensures place { IsPlace (unpacked_records slot.now.count (chain_at at store.now).bytes) (chain_at at store.now).keys result }
+    ensures place { IsPlace (unpacked_records slot.now.count (chain_at at store.now).bytes)
+        (chain_at at store.now).keys result }
     ensures next { result.record_index ≡ from.record_index + 1 }
 {
     let head = read_head(store, at, slot, from, room);
@@ -68,7 +72,8 @@ pub fn place_of_record(store: &Store, at: u32, slot: &FileSlot, n: u32) -> Recor
     requires range { at < length store.now.chains }
     requires file { IsFile slot.now (chain_at at store.now) }
     requires within { n < slot.now.count }
-    ensures place { IsPlace (unpacked_records slot.now.count (chain_at at store.now).bytes) (chain_at at store.now).keys result }
+    ensures place { IsPlace (unpacked_records slot.now.count (chain_at at store.now).bytes)
+        (chain_at at store.now).keys result }
     ensures index { result.record_index ≡ n }
 {
     let KeptPlaces { last, next } = slot.places;
@@ -98,11 +103,13 @@ pub fn read_record(
 ) -> (u8, RecordPlace)
     requires range { at < length store.now.chains }
     requires file { IsFile slot.now (chain_at at store.now) }
-    requires place { IsPlace (unpacked_records slot.now.count (chain_at at store.now).bytes) (chain_at at store.now).keys from }
+    requires place { IsPlace (unpacked_records slot.now.count (chain_at at store.now).bytes)
+        (chain_at at store.now).keys from }
     requires more { from.record_index < slot.now.count }
     ensures record { slice_get (unpacked_records slot.now.count (chain_at at store.now).bytes) from.record_index
         ≡ Some (record { srcb = result.0; bytes = into.new.items }) }
-    ensures place { IsPlace (unpacked_records slot.now.count (chain_at at store.now).bytes) (chain_at at store.now).keys result.1 }
+    ensures place { IsPlace (unpacked_records slot.now.count (chain_at at store.now).bytes)
+        (chain_at at store.now).keys result.1 }
     ensures next { result.1.record_index ≡ from.record_index + 1 }
 {
     let head = read_head(store, at, slot, from, into);

@@ -53,7 +53,8 @@ impl<'a> RecordReader<'a> {
 
     /// Puts the next record's bytes into `into` and gives its SRCB. Where none is left it gives none, and `into` stays.
     pub fn next(&mut self, into: &mut Record) -> Option<u8>
-        ensures first { option_map (λ srcb. record { srcb = srcb; bytes = into.new.items }) result ≡ slice_get self.old 0 }
+        ensures first { option_map (λ srcb. record { srcb = srcb; bytes = into.new.items }) result
+            ≡ slice_get self.old 0 }
         ensures rest { self.new ≡ drop 1 self.old }
         ensures none { result ≡ None → into.new ≡ into.old }
     {

@@ -12,8 +12,7 @@ mod string_places;
 ghost use Rattle.std.specs.Prelude.{◌≡◌, ℕ, ◌+◌, ◌<◌, ◌≤◌, ◌==◌, ◌++◌, length, replicate, count_by, sum_by, IfOk, All};
 ghost use Rattle.njh_record.specs.Bytes.{field, with_field};
 ghost use Rattle.njh_spool.specs.code.Chains.{empty_chain, chain_at, with_chain, with_bytes, blocks_for, blocks_of};
-ghost use Rattle.njh_spool.specs.code.Chains.{blocks_used};
-ghost use Rattle.njh_spool.specs.code.Chains.{Grows, IsMark, IsNear};
+ghost use Rattle.njh_spool.specs.code.Chains.{blocks_used, Grows, IsMark, IsNear};
 
 use block::{BLOCK_DATA, Block};
 use block_mark::Mark;
@@ -82,7 +81,8 @@ impl Store {
     /// Appends to a slot's string.
     pub fn append(&mut self, slot: u32, bytes: &[u8])
         requires slot { slot < length self.old.chains }
-        requires room { blocks_used (with_bytes slot ((chain_at slot self.old).bytes ++ bytes.now) self.old) ≤ self.old.capacity }
+        requires room { blocks_used (with_bytes slot
+            ((chain_at slot self.old).bytes ++ bytes.now) self.old) ≤ self.old.capacity }
         ensures { Grows slot bytes.now self.old self.new }
     {
         let room = self.room_in_last(slot);
@@ -98,7 +98,8 @@ impl Store {
     /// Appends two runs of bytes to a slot's string, one after the other.
     pub fn append_both(&mut self, slot: u32, first: &[u8], second: &[u8])
         requires slot { slot < length self.old.chains }
-        requires room { blocks_used (with_bytes slot ((chain_at slot self.old).bytes ++ (first.now ++ second.now)) self.old) ≤ self.old.capacity }
+        requires room { blocks_used (with_bytes slot
+            ((chain_at slot self.old).bytes ++ (first.now ++ second.now)) self.old) ≤ self.old.capacity }
         ensures { Grows slot (first.now ++ second.now) self.old self.new }
     {
         self.append(slot, first);

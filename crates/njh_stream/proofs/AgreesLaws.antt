@@ -1,13 +1,14 @@
 -- What a stream keeps agrees with its file after each arrival.
-use Rattle.std.proofs.Common.{◌≡◌, ℕ, Bool, true, false, cond, ◌&&◌, ◌||◌, List, [], ◌∷◌, ◌++◌, length, map}
-use Rattle.std.proofs.Common.{find, slice_set, Option, Some, None, ◌==◌, ◌<◌, refl, sym, ap, subst, ◌∙◌, true≢false, eq-eqb}
+use Rattle.std.proofs.Common.{◌≡◌, ℕ, Bool, true, false, cond, ◌&&◌, ◌||◌, List, [], ◌∷◌, ◌++◌, length, map, find}
+use Rattle.std.proofs.Common.{slice_set, Option, Some, None, ◌==◌, ◌<◌, refl, sym, ap, subst, ◌∙◌, true≢false, eq-eqb}
 use Rattle.std.specs.List.{list_any}
 use Rattle.njh_record.specs.Stored.{Stored}
 use Rattle.njh_record.specs.declared.Kind.{Kind}
 use Rattle.njh_record.specs.declared.Kind.TheVariants.{In, Out}
 use Rattle.njh_table.specs.Entries.{CustomerEntry}
-use Rattle.njh_spool.specs.CustomerSpool.{CustomerSpool, PartialFile, partial_numbered, partial_records, with_appended, with_new_partial}
-use Rattle.njh_spool.specs.CustomerSpool.{next_number, has_file_room, has_block, is_number, without_partial, has_room_for}
+use Rattle.njh_spool.specs.CustomerSpool.{CustomerSpool, PartialFile, partial_numbered, partial_records, with_appended}
+use Rattle.njh_spool.specs.CustomerSpool.{with_new_partial, next_number, has_file_room, has_block, is_number}
+use Rattle.njh_spool.specs.CustomerSpool.{without_partial, has_room_for}
 use Rattle.njh_spool.specs.Spools.{spool_at, no_spool}
 use Rattle.std.specs.Option.{option_map}
 use Rattle.std.proofs.lemmas.List.{get_or-set_same}
@@ -16,9 +17,9 @@ use Rattle.njh_stream.specs.declared.receiver.Progress.TheVariants.{Beginning}
 use Rattle.njh_stream.specs.declared.receiver.Receiver.{Receiver}
 use Rattle.njh_stream.specs.declared.receiver.Receiver.TheVariants.{Idle, Open, Draining}
 use Rattle.njh_stream.specs.Transmissions.{Verdict, Taken, Cancelled, is_whole, judged_coming, Fitting}
-use Rattle.njh_stream.specs.Receiving.{Arrival, Request, Data, Long}
+use Rattle.njh_stream.specs.Receiving.{Arrival, Request, Data, Long, Abort, progress_of, received_request}
+use Rattle.njh_stream.specs.Receiving.{requested_where, closed_by, stored_by, received_arrival}
 use Rattle.njh_stream.specs.code.Agreement.{Agrees, AgreesWith}
-use Rattle.njh_stream.specs.Receiving.{Abort, progress_of, received_request, requested_where, closed_by, stored_by, received_arrival}
 
 -- the next number is no file's, where there may be one file more
 abbrev pub IsFree : CustomerSpool → Type 0

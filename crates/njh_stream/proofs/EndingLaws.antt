@@ -1,6 +1,6 @@
 -- What the end of a session leaves, stream by stream.
-use Rattle.std.proofs.Common.{◌≡◌, ◌<◌, ℕ, zero, suc, List, [], ◌∷◌, ◌++◌, length, take}
-use Rattle.std.proofs.Common.{drop, set, get_or, replicate, slice_set, refl, ap, ap₂, ◌∙◌, not-suc-le-zero, le_of_suc-le-suc, take-suc}
+use Rattle.std.proofs.Common.{◌≡◌, ◌<◌, ℕ, zero, suc, List, [], ◌∷◌, ◌++◌, length, take, drop, set, get_or, replicate}
+use Rattle.std.proofs.Common.{slice_set, refl, ap, ap₂, ◌∙◌, not-suc-le-zero, le_of_suc-le-suc, take-suc}
 use Rattle.std.proofs.lemmas.List.{set-set, get_or-set_same}
 use Rattle.njh_spool.specs.Spools.{spool_at, no_spool}
 use Rattle.njh_spool.specs.CustomerSpool.{CustomerSpool}

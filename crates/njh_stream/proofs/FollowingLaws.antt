@@ -1,23 +1,26 @@
 -- A stream that is followed through all its moments ends as the list of its records becomes.
-use Rattle.std.proofs.Common.{◌≡◌, ℕ, true, false, ◌&&◌, List, [], ◌∷◌, ◌++◌, map, Option, Some, None, refl, sym, ap, subst, ◌∙◌, ◌⊎◌, inl, inr, ◌==◌, eq-eqb}
+use Rattle.std.proofs.Common.{◌≡◌, ℕ, true, false, ◌&&◌, List, [], ◌∷◌, ◌++◌, map, Option, Some, None, refl, sym, ap}
+use Rattle.std.proofs.Common.{subst, ◌∙◌, ◌⊎◌, inl, inr, ◌==◌, eq-eqb}
 use Rattle.std.specs.List.{list_any}
 use Rattle.njh_record.specs.Stored.{Stored}
 use Rattle.njh_record.specs.declared.Kind.{Kind}
 use Rattle.njh_block.specs.declared.rcb.ControlRcb.TheVariants.{Refusal, Completion}
 use Rattle.njh_header.specs.FileHeaders.{file_owner}
 use Rattle.njh_table.specs.Entries.{CustomerEntry}
-use Rattle.njh_spool.specs.CustomerSpool.{CustomerSpool, PartialFile, partial_numbered, partial_records, with_appended, with_new_partial, without_partial}
-use Rattle.njh_spool.specs.CustomerSpool.{next_number, has_file_room, has_block, has_room_for, as_whole}
+use Rattle.njh_spool.specs.CustomerSpool.{CustomerSpool, PartialFile, partial_numbered, partial_records, with_appended}
+use Rattle.njh_spool.specs.CustomerSpool.{with_new_partial, without_partial, next_number, has_file_room, has_block}
+use Rattle.njh_spool.specs.CustomerSpool.{has_room_for, as_whole}
 use Rattle.njh_stream.specs.declared.receiver.Progress.{Progress}
 use Rattle.njh_stream.specs.declared.receiver.Progress.TheVariants.{Beginning}
 use Rattle.njh_stream.specs.declared.receiver.Receiver.{Receiver}
 use Rattle.njh_stream.specs.declared.receiver.Receiver.TheVariants.{Idle, Open, Draining}
 use Rattle.njh_stream.specs.Transmissions.{Verdict, Taken, Cancelled, Fitting, judged_coming, is_whole}
-use Rattle.njh_stream.specs.Outcomes.{AreTaken, IsCancelled, Becomes, records_of}
-use Rattle.njh_stream.specs.Outcomes.{Ending, EndOfFile, GivenUp, CutOff, TransmissionOutcome, AFile, NotWhole, CancelledBy, Dropped}
-use Rattle.njh_stream.specs.Receiving.{Notice, Received, received_request, requested_where, stored_by, closed_by, received_cancelling, notice_of, progress_of}
-use Rattle.njh_stream.specs.Following.{Moment, Came, CameLong, coming_at, ended_by, Followed, some_list, alone_outcome, before, outcome_of_moments}
-use Rattle.njh_stream.specs.Following.{IsUntouched, following_from}
+use Rattle.njh_stream.specs.Outcomes.{AreTaken, IsCancelled, Becomes, records_of, Ending, EndOfFile, GivenUp, CutOff}
+use Rattle.njh_stream.specs.Outcomes.{TransmissionOutcome, AFile, NotWhole, CancelledBy, Dropped}
+use Rattle.njh_stream.specs.Receiving.{Notice, Received, received_request, requested_where, stored_by, closed_by}
+use Rattle.njh_stream.specs.Receiving.{received_cancelling, notice_of, progress_of}
+use Rattle.njh_stream.specs.Following.{Moment, Came, CameLong, coming_at, ended_by, Followed, some_list, alone_outcome}
+use Rattle.njh_stream.specs.Following.{before, outcome_of_moments, IsUntouched, following_from}
 use Rattle.njh_stream.proofs.AgreesLaws.{IsFree, found_with_record, found_last, or_right, and_left, records_or_none}
 
 -- a file of a number, with these records

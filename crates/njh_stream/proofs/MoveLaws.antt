@@ -1,6 +1,6 @@
 -- What one stream does to the partial files of its customer.
-use Rattle.std.proofs.Common.{◌≡◌, ℕ, Bool, true, false, cond, ◌&&◌, ◌||◌, ◌⊎◌, inl, inr, List, [], ◌∷◌, ◌++◌, Option, Some, None, ◌==◌}
-use Rattle.std.proofs.Common.{refl, sym, ap, subst, ◌∙◌}
+use Rattle.std.proofs.Common.{◌≡◌, ℕ, Bool, true, false, cond, ◌&&◌, ◌||◌, ◌⊎◌, inl, inr, List, [], ◌∷◌, ◌++◌, Option}
+use Rattle.std.proofs.Common.{Some, None, ◌==◌, refl, sym, ap, subst, ◌∙◌}
 use Rattle.std.specs.Option.{option_or}
 use Rattle.std.specs.List.{list_any}
 use Rattle.std.proofs.lemmas.Bool.{ne_eqb}
@@ -9,13 +9,14 @@ use Rattle.std.proofs.lemmas.List.Folds.{find-append}
 use Rattle.njh_record.specs.Stored.{Stored}
 use Rattle.njh_record.specs.declared.Kind.{Kind}
 use Rattle.njh_table.specs.Entries.{CustomerEntry}
-use Rattle.njh_spool.specs.CustomerSpool.{CustomerSpool, PartialFile, partial_numbered, partial_records, with_appended, with_new_partial, without_partial, with_finished}
-use Rattle.njh_spool.specs.CustomerSpool.{next_number, has_file_room, has_block, has_room_for, as_whole}
+use Rattle.njh_spool.specs.CustomerSpool.{CustomerSpool, PartialFile, partial_numbered, partial_records, with_appended}
+use Rattle.njh_spool.specs.CustomerSpool.{with_new_partial, without_partial, with_finished, next_number, has_file_room}
+use Rattle.njh_spool.specs.CustomerSpool.{has_block, has_room_for, as_whole}
 use Rattle.njh_stream.specs.declared.receiver.Receiver.{Receiver}
 use Rattle.njh_stream.specs.declared.receiver.Receiver.TheVariants.{Idle, Open, Draining}
 use Rattle.njh_stream.specs.Transmissions.{Verdict, Taken, Cancelled, is_whole, judged_coming, Fitting}
-use Rattle.njh_stream.specs.Receiving.{Arrival, Request, Data, Long, Abort, received_request, requested_where, closed_by, stored_by}
-use Rattle.njh_stream.specs.Receiving.{received_arrival, without_open}
+use Rattle.njh_stream.specs.Receiving.{Arrival, Request, Data, Long, Abort, received_request, requested_where}
+use Rattle.njh_stream.specs.Receiving.{closed_by, stored_by, received_arrival, without_open}
 use Rattle.njh_stream.specs.Streams.{coming_file}
 use Rattle.njh_stream.proofs.AgreesLaws.{IsFree, or_right, and_left}
 use Rattle.njh_stream.proofs.PartialLaws.{numbered, others_kept, others_stay, gone}

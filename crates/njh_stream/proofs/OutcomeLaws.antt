@@ -1,11 +1,12 @@
 -- What a list of records becomes: something, and one thing only.
-use Rattle.std.proofs.Common.{◌≡◌, ℕ, Bool, true, false, List, [], ◌∷◌, ◌++◌, Option, None, refl, sym, ap, ◌∙◌, ◌⊎◌, inl, inr, true≢false}
+use Rattle.std.proofs.Common.{◌≡◌, ℕ, Bool, true, false, List, [], ◌∷◌, ◌++◌, Option, None, refl, sym, ap, ◌∙◌, ◌⊎◌}
+use Rattle.std.proofs.Common.{inl, inr, true≢false}
 use Rattle.njh_record.specs.Stored.{Stored}
 use Rattle.njh_record.specs.declared.Kind.{Kind}
 use Rattle.njh_table.specs.Entries.{CustomerEntry}
 use Rattle.njh_stream.specs.Transmissions.{Verdict, ComingRecord, Taken, Cancelled, judged_coming, is_whole}
-use Rattle.njh_stream.specs.Outcomes.{AreTaken, IsCancelled, Becomes, records_of}
-use Rattle.njh_stream.specs.Outcomes.{Ending, EndOfFile, GivenUp, CutOff, TransmissionOutcome, AFile, NotWhole, CancelledBy, Dropped}
+use Rattle.njh_stream.specs.Outcomes.{AreTaken, IsCancelled, Becomes, records_of, Ending, EndOfFile, GivenUp, CutOff}
+use Rattle.njh_stream.specs.Outcomes.{TransmissionOutcome, AFile, NotWhole, CancelledBy, Dropped}
 
 abbrev pub text_in : Verdict → Option (List ℕ)
 text_in Taken = None

@@ -1,6 +1,6 @@
 -- Which partial files are found after one was begun, appended to or abandoned.
-use Rattle.std.proofs.Common.{◌≡◌, ℕ, Bool, true, false, cond, not, List, [], ◌∷◌, map, filter, find, Option, Some, None, ◌==◌}
-use Rattle.std.proofs.Common.{refl, sym, ap, ◌∙◌, true≢false}
+use Rattle.std.proofs.Common.{◌≡◌, ℕ, Bool, true, false, cond, not, List, [], ◌∷◌, map, filter, find, Option, Some}
+use Rattle.std.proofs.Common.{None, ◌==◌, refl, sym, ap, ◌∙◌, true≢false}
 use Rattle.std.proofs.lemmas.Bool.{eqb-true}
 use Rattle.njh_record.specs.Stored.{Stored}
 use Rattle.njh_spool.specs.CustomerSpool.{PartialFile}

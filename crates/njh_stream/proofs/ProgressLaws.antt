@@ -1,6 +1,6 @@
 -- What a stream keeps of a file that comes in says what the records so far say, and one record more moves it.
-use Rattle.std.proofs.Common.{◌≡◌, ℕ, Bool, true, false, List, [], ◌∷◌, ◌++◌, Option, Some, None, Result, Ok}
-use Rattle.std.proofs.Common.{Err, ◌==◌, not, ◌&&◌, cond, refl, sym, ap, ap₂, subst, ◌∙◌, ◌⊎◌, inl, inr, true≢false}
+use Rattle.std.proofs.Common.{◌≡◌, ℕ, Bool, true, false, List, [], ◌∷◌, ◌++◌, Option, Some, None, Result, Ok, Err, ◌==◌}
+use Rattle.std.proofs.Common.{not, ◌&&◌, cond, refl, sym, ap, ap₂, subst, ◌∙◌, ◌⊎◌, inl, inr, true≢false}
 use Rattle.std.specs.List.{list_all}
 use Rattle.std.specs.Option.{option_map}
 use Rattle.std.specs.Result.{result_ok}
@@ -17,7 +17,8 @@ use Rattle.njh_header.specs.declared.fault.HeaderFault.{HeaderFault}
 use Rattle.njh_stream.specs.declared.judging as declared_judging
 use Rattle.njh_stream.specs.declared.judging.Verdict.TheVariants as declared
 use Rattle.njh_stream.specs.code.Verdicts.{judged_placed, IsTakenAt, IsProgress, IsHeaderPlaced}
-use Rattle.njh_stream.specs.Transmissions.{Verdict, Taken, ends_in, verdict_of, judged_against, judged_later, judged_data_set}
+use Rattle.njh_stream.specs.Transmissions.{Verdict, Taken, ends_in, verdict_of, judged_against, judged_later}
+use Rattle.njh_stream.specs.Transmissions.{judged_data_set}
 use Rattle.njh_stream.specs.Receiving.{progress_of, placement, last_srcb}
 
 -- ---- the last record

@@ -1,13 +1,15 @@
 -- What a stream that is open keeps agrees with its file.
-use Rattle.std.proofs.Common.{◌≡◌, ◌≢◌, length, ℕ, Bool, true, false, List, [], ◌∷◌, Option, Some, None, ◌==◌}
-use Rattle.std.proofs.Common.{◌&&◌, ◌≤◌, ◌<◌, slice_set, ap₂, cond, find, count_by, refl, sym, ap, ◌∙◌, true≢false, eqb-true, arith}
+use Rattle.std.proofs.Common.{◌≡◌, ◌≢◌, length, ℕ, Bool, true, false, List, [], ◌∷◌, Option, Some, None, ◌==◌, ◌&&◌}
+use Rattle.std.proofs.Common.{◌≤◌, ◌<◌, slice_set, ap₂, cond, find, count_by, refl, sym, ap, ◌∙◌, true≢false, eqb-true}
+use Rattle.std.proofs.Common.{arith}
 use Rattle.std.specs.Option.{option_map, option_or}
 use Rattle.std.proofs.lemmas.List.Sums.{sum_by-cons}
 use Rattle.njh_record.specs.Stored.{Stored}
 use Rattle.njh_record.specs.declared.Kind.{Kind}
 use Rattle.njh_record.specs.declared.Kind.TheVariants.{In, Out}
 use Rattle.njh_table.specs.Entries.{CustomerEntry}
-use Rattle.njh_spool.specs.CustomerSpool.{CustomerSpool, WholeFile, PartialFile, whole_numbered, partial_numbered, partial_records}
+use Rattle.njh_spool.specs.CustomerSpool.{CustomerSpool, WholeFile, PartialFile, whole_numbered, partial_numbered}
+use Rattle.njh_spool.specs.CustomerSpool.{partial_records}
 use Rattle.njh_stream.specs.declared.receiver.Progress.{Progress}
 use Rattle.njh_stream.specs.declared.receiver.Progress.TheVariants.{JobHeader}
 use Rattle.njh_spool.specs.Spools.{IsSound, spool_at, no_spool}
@@ -16,9 +18,9 @@ use Rattle.njh_stream.specs.declared.receiver.After.{After}
 use Rattle.njh_stream.specs.code.Verdicts.{IsAfter}
 use Rattle.njh_stream.specs.SpoolFiles.{records_in}
 use Rattle.njh_stream.specs.Transmissions.{is_whole}
-use Rattle.njh_stream.specs.Receiving.{progress_of, placement, last_srcb}
+use Rattle.njh_stream.specs.Receiving.{progress_of, placement, last_srcb, received_end, closed_by, received_record}
+use Rattle.njh_stream.specs.Receiving.{received_open, received_request, Data}
 use Rattle.njh_stream.specs.code.Agreement.{AgreesWith, ends_whole}
-use Rattle.njh_stream.specs.Receiving.{received_end, closed_by, received_record, received_open, received_request, Data}
 use Rattle.njh_stream.proofs.ProgressLaws.{ends_by_last, all_job_headers}
 
 -- ---- the end of file

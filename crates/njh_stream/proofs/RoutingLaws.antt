@@ -1,6 +1,7 @@
 -- Files that pass a test get a state, one after the other.
-use Rattle.std.proofs.Common.{◌≡◌, ◌<◌, ◌≤◌, ℕ, zero, suc, Bool, true, false, cond, List, [], ◌∷◌, ◌++◌, length, take, drop, map}
-use Rattle.std.proofs.Common.{set, get_or, count_by, Option, Some, None, ◌==◌, slice_get, refl, sym, ap, subst, ◌∙◌, arith, IsSomeAnd, zero-lt-suc, suc-le-suc, eq-eqb}
+use Rattle.std.proofs.Common.{◌≡◌, ◌<◌, ◌≤◌, ℕ, zero, suc, Bool, true, false, cond, List, [], ◌∷◌, ◌++◌, length, take}
+use Rattle.std.proofs.Common.{drop, map, set, get_or, count_by, Option, Some, None, ◌==◌, slice_get, refl, sym, ap}
+use Rattle.std.proofs.Common.{subst, ◌∙◌, arith, IsSomeAnd, zero-lt-suc, suc-le-suc, eq-eqb}
 use Rattle.std.proofs.lemmas.List.{set-get_or}
 use Rattle.njh_spool.specs.Spools.{IsSound}
 use Rattle.njh_spool.specs.declared.State.{State}

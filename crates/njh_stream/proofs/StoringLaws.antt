@@ -1,5 +1,6 @@
 -- A record for an open file, by the verdict on it.
-use Rattle.std.proofs.Common.{◌≡◌, ℕ, Bool, true, false, List, [], ◌∷◌, ◌++◌, Option, Result, Ok, Err, MatchOption, refl, sym, ap, ◌∙◌}
+use Rattle.std.proofs.Common.{◌≡◌, ℕ, Bool, true, false, List, [], ◌∷◌, ◌++◌, Option, Result, Ok, Err, MatchOption}
+use Rattle.std.proofs.Common.{refl, sym, ap, ◌∙◌}
 use Rattle.std.specs.Prelude.{IsOk}
 use Rattle.std.specs.Option.{option_map, option_or}
 use Rattle.njh_record.specs.Stored.{Stored}

@@ -1,10 +1,10 @@
 -- A customer's streams and files stay tied.
-use Rattle.std.proofs.Common.{◌≡◌, ◌<◌, ◌≤◌, ℕ, zero, suc, true, false, ◌⊎◌, inl, inr, List, [], ◌++◌, length, take, drop, set, get_or}
-use Rattle.std.proofs.Common.{replicate, Option, Some, None, ◌==◌, refl, sym, ap, subst, ◌∙◌, arith}
+use Rattle.std.proofs.Common.{◌≡◌, ◌<◌, ◌≤◌, ℕ, zero, suc, true, false, ◌⊎◌, inl, inr, List, [], ◌++◌, length, take}
+use Rattle.std.proofs.Common.{drop, set, get_or, replicate, Option, Some, None, ◌==◌, refl, sym, ap, subst, ◌∙◌, arith}
 use Rattle.std.proofs.Math.Seq.{take-length, drop-length}
 use Rattle.std.proofs.lemmas.Bool.Decides.{eqb_tells}
-use Rattle.std.proofs.lemmas.List.{get_or-set_same, get_or-set_other, set-set, set-get_or, length-set, length-append, length-replicate, length-drop}
-use Rattle.std.proofs.lemmas.List.{append-nil}
+use Rattle.std.proofs.lemmas.List.{get_or-set_same, get_or-set_other, set-set, set-get_or, length-set, length-append}
+use Rattle.std.proofs.lemmas.List.{length-replicate, length-drop, append-nil}
 use Rattle.njh_block.specs.Codes.{kind_of}
 use Rattle.njh_record.specs.declared.Kind.{Kind}
 use Rattle.njh_spool.specs.CustomerSpool.{CustomerSpool, PartialFile, partial_numbered}
@@ -12,9 +12,8 @@ use Rattle.njh_stream.specs.declared.receiver.Receiver.{Receiver}
 use Rattle.njh_stream.specs.declared.receiver.Receiver.TheVariants.{Idle, Open, Draining}
 use Rattle.njh_table.specs.Entries.{CustomerEntry}
 use Rattle.njh_stream.specs.Receiving.{Arrival, received_arrival, without_open, without_all_open}
-use Rattle.njh_stream.specs.code.Agreement.{Agrees, AgreesWith}
+use Rattle.njh_stream.specs.code.Agreement.{Agrees, AgreesWith, Comes, AreTied}
 use Rattle.njh_stream.specs.Streams.{streams_at, stream_at, with_stream, without_streams, coming_file}
-use Rattle.njh_stream.specs.code.Agreement.{Comes, AreTied}
 use Rattle.njh_stream.proofs.AgreesLaws.{IsFree, received_agrees}
 use Rattle.njh_stream.proofs.EndingLaws.{become, next_is, open_so_far}
 use Rattle.njh_stream.proofs.MoveLaws.{Moves, Has, arrivals, ends}

@@ -30,7 +30,8 @@ IsShort Abort = Unit {0}
 -- what an arrival on a stream of a line does, by the tables and the customers' spools
 abbrev pub received_on : TableFile → List CustomerSpool → LineId → ℕ → Receiver → Arrival → Received
 received_on tables spools id stream receiver arrival =
-    received_arrival (entry_of (customer_at tables id.customer)) id.number (kind_of stream) receiver arrival (spool_at id.customer spools)
+    received_arrival (entry_of (customer_at tables id.customer)) id.number (kind_of stream) receiver arrival
+    (spool_at id.customer spools)
 
 -- an answer carries the RCB of its stream
 abbrev pub answer_on : ℕ → ControlRcb → Answer

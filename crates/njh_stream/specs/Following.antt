@@ -12,10 +12,10 @@ use Rattle.njh_spool.specs.CustomerSpool.{CustomerSpool, partial_numbered, has_r
 use Rattle.njh_stream.specs.declared.receiver.Receiver.{Receiver}
 use Rattle.njh_stream.specs.declared.receiver.Receiver.TheVariants.{Idle, Open, Draining}
 use Rattle.njh_stream.specs.Transmissions.{ComingRecord, Fitting, TooLong}
-use Rattle.njh_stream.specs.Outcomes.{Ending, EndOfFile, GivenUp, CutOff, TransmissionOutcome, AFile, NotWhole, CancelledBy}
-use Rattle.njh_stream.specs.Outcomes.{Dropped}
-use Rattle.njh_stream.specs.Receiving.{Arrival, Data, Long, Abort, Notice, Received, received_arrival, received_nothing, without_open}
-use Rattle.njh_stream.specs.Receiving.{notice_of}
+use Rattle.njh_stream.specs.Outcomes.{Ending, EndOfFile, GivenUp, CutOff, TransmissionOutcome, AFile, NotWhole}
+use Rattle.njh_stream.specs.Outcomes.{CancelledBy, Dropped}
+use Rattle.njh_stream.specs.Receiving.{Arrival, Data, Long, Abort, Notice, Received, received_arrival, received_nothing}
+use Rattle.njh_stream.specs.Receiving.{without_open, notice_of}
 
 -- A record of a byte or more came, or one of more than 256 bytes, and found the customer's spool so.
 pub data Moment : Type 0 where
@@ -54,14 +54,22 @@ some_list None = []
 some_list (Some x) = x ∷ []
 
 abbrev pub alone_outcome : Received → Followed
-alone_outcome done = record { receiver = done.receiver; spool = done.spool; answers = some_list done.answer; notices = some_list done.notice }
+alone_outcome done = record {
+  receiver = done.receiver;
+  spool = done.spool;
+  answers = some_list done.answer;
+  notices = some_list done.notice;
+}
 
 abbrev pub before : Received → Followed → Followed
-before done rest = record rest { answers = some_list done.answer ++ rest.answers; notices = some_list done.notice ++ rest.notices }
+before done rest =
+    record rest { answers = some_list done.answer ++ rest.answers; notices = some_list done.notice ++ rest.notices }
 
 -- through all moments, and then the end, which finds the spool so
-abbrev pub outcome_of_moments : CustomerEntry → ℕ → Kind → Ending → ℕ → CustomerSpool → Receiver → List Moment → Followed
-outcome_of_moments entry l kind ending srcb last receiver [] = alone_outcome (ended_by entry l kind ending srcb receiver last)
+abbrev pub outcome_of_moments : CustomerEntry → ℕ → Kind → Ending → ℕ → CustomerSpool → Receiver → List Moment
+    → Followed
+outcome_of_moments entry l kind ending srcb last receiver [] =
+    alone_outcome (ended_by entry l kind ending srcb receiver last)
 outcome_of_moments entry l kind ending srcb last receiver (m ∷ ms) =
     let done = received_arrival entry l kind receiver (arrival_at m) (found_at m) in
     before done (outcome_of_moments entry l kind ending srcb last done.receiver ms)
@@ -82,7 +90,10 @@ IsUntouched entry l kind last receiver left (m ∷ ms) =
 -- the spool with the partial file of a number as its last whole one, of these records
 abbrev pub with_file : ℕ → Kind → List Stored → CustomerSpool → CustomerSpool
 with_file n kind records s =
-    record (without_partial n s) { whole = s.whole ++ record { number = n; kind = kind; records = records; state = Ready } ∷ [] }
+    record (without_partial n s) {
+      whole = s.whole
+          ++ record { number = n; kind = kind; records = records; state = Ready } ∷ [];
+    }
 
 -- What a transmission that became this answers, tells and leaves. One that is cancelled abandons its file at once.
 abbrev pub following_from : TransmissionOutcome → ℕ → Kind → List Stored → CustomerSpool → Followed
@@ -91,6 +102,11 @@ following_from (AFile records) n kind came last =
 following_from NotWhole n kind came last =
     record { receiver = Idle; spool = without_partial n last; answers = Refusal ∷ []; notices = [] }
 following_from (CancelledBy text) n kind came last =
-    record { receiver = Idle; spool = last; answers = Refusal ∷ []; notices = some_list (notice_of (file_owner came) text) }
+    record {
+      receiver = Idle;
+      spool = last;
+      answers = Refusal ∷ [];
+      notices = some_list (notice_of (file_owner came) text);
+    }
 following_from Dropped n kind came last =
     record { receiver = Idle; spool = without_partial n last; answers = []; notices = [] }

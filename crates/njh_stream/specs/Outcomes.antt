@@ -37,11 +37,13 @@ abbrev pub IsCancelled : CustomerEntry → ℕ → Kind → List Stored → List
 IsCancelled entry l kind earlier [] text = ⊥
 IsCancelled entry l kind earlier (c ∷ cs) text =
     (judged_coming entry l kind earlier c ≡ Cancelled text)
-    ⊎ ((judged_coming entry l kind earlier c ≡ Taken) × IsCancelled entry l kind (earlier ++ records_of (c ∷ [])) cs text)
+    ⊎ ((judged_coming entry l kind earlier c ≡ Taken)
+    × IsCancelled entry l kind (earlier ++ records_of (c ∷ [])) cs text)
 
 -- A transmission of what came becomes a file at its end of file where all was taken and is a whole file.
 abbrev pub Becomes : CustomerEntry → ℕ → Kind → List ComingRecord → Ending → TransmissionOutcome → Type 0
-Becomes entry l kind cs EndOfFile (AFile records) = AreTaken entry l kind [] cs × (records ≡ records_of cs) × (is_whole records ≡ true)
+Becomes entry l kind cs EndOfFile (AFile records) =
+    AreTaken entry l kind [] cs × (records ≡ records_of cs) × (is_whole records ≡ true)
 Becomes entry l kind cs GivenUp (AFile records) = ⊥
 Becomes entry l kind cs CutOff (AFile records) = ⊥
 Becomes entry l kind cs EndOfFile NotWhole = AreTaken entry l kind [] cs × (is_whole (records_of cs) ≡ false)

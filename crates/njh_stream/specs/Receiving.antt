@@ -10,8 +10,7 @@ use Rattle.njh_block.specs.declared.rcb.ControlRcb.TheVariants.{Permission, Refu
 use Rattle.njh_header.specs.FileHeaders.{file_owner, destination_of}
 use Rattle.njh_table.specs.Entries.{CustomerEntry}
 use Rattle.njh_spool.specs.CustomerSpool.{CustomerSpool, has_file_room, has_block, next_number, with_new_partial}
-use Rattle.njh_spool.specs.CustomerSpool.{partial_records, with_appended, has_room_for, without_partial}
-use Rattle.njh_spool.specs.CustomerSpool.{with_finished}
+use Rattle.njh_spool.specs.CustomerSpool.{partial_records, with_appended, has_room_for, without_partial, with_finished}
 use Rattle.njh_stream.specs.declared.receiver.Progress.{Progress}
 use Rattle.njh_stream.specs.declared.receiver.Progress.TheVariants.{Beginning, JobHeader, Placed}
 use Rattle.njh_stream.specs.declared.receiver.Receiver.{Receiver}
@@ -33,7 +32,8 @@ placement kind records =
 abbrev pub progress_of : Kind → List Stored → Progress
 progress_of kind [] = Beginning
 progress_of In (r ∷ rs) = placement In (r ∷ rs)
-progress_of Out (r ∷ rs) = elim (list_all (has_srcb 0xc0) (r ∷ rs)) [ true ↦ JobHeader | false ↦ placement Out (r ∷ rs) ]
+progress_of Out (r ∷ rs) =
+    elim (list_all (has_srcb 0xc0) (r ∷ rs)) [ true ↦ JobHeader | false ↦ placement Out (r ∷ rs) ]
 
 -- ---- one arrival
 
@@ -65,7 +65,12 @@ without_open Draining s = s
 -- a file is asked for, and the quota has room for one or not
 abbrev pub requested_where : Bool → Kind → CustomerSpool → Received
 requested_where true kind s =
-    record { receiver = Open (next_number s) Beginning; spool = with_new_partial kind s; answer = Some Permission; notice = None }
+    record {
+      receiver = Open (next_number s) Beginning;
+      spool = with_new_partial kind s;
+      answer = Some Permission;
+      notice = None;
+    }
 requested_where false kind s = record { receiver = Idle; spool = s; answer = Some Refusal; notice = None }
 
 abbrev pub received_request : Kind → CustomerSpool → Received
@@ -79,7 +84,8 @@ notice_of (Some whom) (Some text) = Some (record { whom = whom; text = text })
 
 -- the file is cancelled
 abbrev pub received_cancelling : ℕ → Option Notice → CustomerSpool → Received
-received_cancelling n notice s = record { receiver = Draining; spool = without_partial n s; answer = Some Refusal; notice = notice }
+received_cancelling n notice s =
+    record { receiver = Draining; spool = without_partial n s; answer = Some Refusal; notice = notice }
 
 -- a record for an open file, with which its records are these, by the verdict on it
 abbrev pub stored_by : Verdict → Kind → ℕ → Stored → List Stored → CustomerSpool → Received
@@ -106,7 +112,8 @@ received_nothing receiver s = record { receiver = receiver; spool = s; answer = 
 abbrev pub received_open : CustomerEntry → ℕ → Kind → ℕ → Arrival → CustomerSpool → Received
 received_open entry l kind n Request s = received_request kind (without_partial n s)
 received_open entry l kind n (Data srcb []) s = received_end n s
-received_open entry l kind n (Data srcb (b ∷ bytes)) s = received_record entry l kind n (record { srcb = srcb; bytes = b ∷ bytes }) s
+received_open entry l kind n (Data srcb (b ∷ bytes)) s =
+    received_record entry l kind n (record { srcb = srcb; bytes = b ∷ bytes }) s
 received_open entry l kind n Long s = received_cancelling n None s
 received_open entry l kind n Abort s = received_nothing Idle (without_partial n s)
 

@@ -92,7 +92,8 @@ abbrev pub judged_output : CustomerEntry → ℕ → List Stored → Stored → 
 judged_output entry l earlier r =
     elim (list_all (has_srcb 0xc0) earlier) [
       | true ↦ elim (has_srcb 0xc0 r) [ true ↦ Taken | false ↦ judged_data_set entry l earlier r ]
-      | false ↦ elim (has_srcb 0xe0 r && not (is_continuation earlier)) [ true ↦ judged_later earlier r | false ↦ Taken ]
+      | false ↦ elim (has_srcb 0xe0 r && not (is_continuation earlier))
+          [ true ↦ judged_later earlier r | false ↦ Taken ]
     ]
 
 -- a record that comes after earlier ones

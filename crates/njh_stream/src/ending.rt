@@ -13,7 +13,8 @@ use njh_spool::Spool;
 pub fn end_receivers(receivers: &mut [Receiver], customer: u16, spool: &mut Spool)
     requires { customer < length spool.old }
     ensures receivers { receivers.new ≡ replicate (length receivers.old) Receiver.Idle }
-    ensures spool { spool.new ≡ slice_set spool.old customer (without_all_open receivers.old (spool_at customer spool.old)) }
+    ensures spool { spool.new
+        ≡ slice_set spool.old customer (without_all_open receivers.old (spool_at customer spool.old)) }
 {
     for place in 0..receivers.len() {
         let mut receiver = receivers[place];

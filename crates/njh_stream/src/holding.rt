@@ -17,7 +17,8 @@ use njh_table::{Customer, Route};
 /// as they are.
 pub fn hold_unrouted(entry: &Customer, customer: u16, spool: &mut Spool)
     requires { customer < length spool.old }
-    ensures { spool.new ≡ slice_set spool.old customer (holding.unrouted_held (entry_of entry.now) (spool_at customer spool.old)) }
+    ensures { spool.new
+        ≡ slice_set spool.old customer (holding.unrouted_held (entry_of entry.now) (spool_at customer spool.old)) }
 {
     for index in 0..spool.files(customer) {
         spool.quota_holds(customer);
@@ -29,7 +30,8 @@ pub fn hold_unrouted(entry: &Customer, customer: u16, spool: &mut Spool)
 /// A file that waits and whose node has no route is Held.
 fn hold_file(entry: &Customer, customer: u16, file: FileId, spool: &mut Spool)
     requires { customer < length spool.old }
-    ensures { spool.new ≡ slice_set spool.old customer (holding.held_numbered (entry_of entry.now) file (spool_at customer spool.old)) }
+    ensures { spool.new
+        ≡ slice_set spool.old customer (holding.held_numbered (entry_of entry.now) file (spool_at customer spool.old)) }
 {
     if has_lost_route(entry, customer, file, spool) {
         spool.set_state(customer, file, State::Held).ok();
@@ -39,7 +41,8 @@ fn hold_file(entry: &Customer, customer: u16, file: FileId, spool: &mut Spool)
 /// Whether a whole file is Ready or Refused, and its node has no route.
 fn has_lost_route(entry: &Customer, customer: u16, file: FileId, spool: &Spool) -> bool
     requires { customer < length spool.now }
-    ensures { result ≡ holds_of (holding.has_lost_route (entry_of entry.now)) (whole_numbered file (spool_at customer spool.now)) }
+    ensures { result ≡ holds_of (holding.has_lost_route (entry_of entry.now))
+        (whole_numbered file (spool_at customer spool.now)) }
 {
     match spool.state(customer, file) {
         Ok(State::Ready) => is_unrouted(entry, customer, file, spool),

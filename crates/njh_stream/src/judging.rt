@@ -4,7 +4,8 @@ ghost use Rattle.std.specs.Prelude.{◌≡◌, ◌++◌, ◌∷◌, []};
 ghost use Rattle.njh_header.specs.Headers.{data_set_header};
 ghost use Rattle.njh_table.specs.TableFile.{entry_of};
 ghost use Rattle.njh_stream.specs.Receiving.{progress_of};
-ghost use Rattle.njh_stream.specs.code.Verdicts.{verdict_value, judged_placed, IsHeaderPlaced, IsPlaced, IsProgress, IsTakenAt};
+ghost use Rattle.njh_stream.specs.code.Verdicts.{verdict_value, judged_placed, IsHeaderPlaced, IsPlaced, IsProgress};
+ghost use Rattle.njh_stream.specs.code.Verdicts.{IsTakenAt};
 ghost use Rattle.njh_stream.specs.Transmissions as transmissions;
 
 use crate::receiver::Progress;
@@ -35,7 +36,8 @@ pub(crate) fn judge(
 ) -> Verdict
     requires { progress ≡ progress_of kind file.now }
     ensures verdict { verdict_value result
-        ≡ transmissions.verdict_of (entry_of customer.now) line kind file.now (record { srcb = srcb; bytes = bytes.now }) }
+        ≡ transmissions.verdict_of (entry_of customer.now) line kind file.now
+        (record { srcb = srcb; bytes = bytes.now }) }
     ensures progress { IsProgress result kind (file.now ++ record { srcb = srcb; bytes = bytes.now } ∷ []) }
 {
     match progress {
@@ -118,7 +120,8 @@ fn judge_data_set(
     bytes: &[u8],
 ) -> Verdict
     ensures verdict { verdict_value result
-        ≡ transmissions.judged_data_set (entry_of customer.now) line file.now (record { srcb = srcb; bytes = bytes.now }) }
+        ≡ transmissions.judged_data_set (entry_of customer.now) line file.now
+        (record { srcb = srcb; bytes = bytes.now }) }
     ensures progress { IsHeaderPlaced result (data_set_header bytes.now) srcb }
 {
     if srcb != srcb::DATA_SET_HEADER {

@@ -7,7 +7,8 @@ ghost use Rattle.njh_table.specs.Entries.{CustomerEntry};
 ghost use Rattle.njh_spool.specs.CustomerSpool.{CustomerSpool, without_partial, has_block, has_file_room, next_number};
 ghost use Rattle.njh_stream.specs.Following.{Moment, coming_at, outcome_of_moments, following_from, IsUntouched};
 ghost use Rattle.njh_stream.specs.Outcomes.{Becomes, Ending, TransmissionOutcome, records_of};
-ghost use Rattle.njh_stream.specs.Receiving.{Arrival, Request, received_arrival, received_request, without_all_open, without_open};
+ghost use Rattle.njh_stream.specs.Receiving.{Arrival, Request, received_arrival, received_request, without_all_open};
+ghost use Rattle.njh_stream.specs.Receiving.{without_open};
 ghost use Rattle.njh_stream.specs.Streams.{stream_at, streams_at, with_stream, without_streams};
 ghost use Rattle.njh_stream.specs.code.Agreement.{AreTied};
 ghost use Rattle.njh_stream.specs.Transmissions.{ComingRecord};
@@ -19,7 +20,8 @@ use njh_spool::next_number_is_least;
 pub fn one_outcome()
     ensures some { (entry : CustomerEntry) (l : ℕ) (kind : Kind) (cs : List ComingRecord) (ending : Ending)
         → (outcome : TransmissionOutcome) × Becomes entry l kind cs ending outcome }
-    ensures one { (entry : CustomerEntry) (l : ℕ) (kind : Kind) (cs : List ComingRecord) (ending : Ending) (a b : TransmissionOutcome)
+    ensures one { (entry : CustomerEntry) (l : ℕ) (kind : Kind) (cs : List ComingRecord) (ending : Ending)
+        (a b : TransmissionOutcome)
         → Becomes entry l kind cs ending a → Becomes entry l kind cs ending b → a ≡ b }
 {}
 
@@ -27,13 +29,15 @@ pub fn one_outcome()
 /// list of its records becomes, however they are spread over blocks and whatever the customer's other streams do
 /// between.
 pub fn streams_end_so()
-    ensures ends { (entry : CustomerEntry) (l : ℕ) (kind : Kind) (s last : CustomerSpool) (ms : List Moment) (ending : Ending) (srcb : ℕ)
+    ensures ends { (entry : CustomerEntry) (l : ℕ) (kind : Kind) (s last : CustomerSpool) (ms : List Moment)
+        (ending : Ending) (srcb : ℕ)
         (outcome : TransmissionOutcome) → (has_file_room s && has_block s) ≡ true
         → IsUntouched entry l kind last (received_request kind s).receiver (received_request kind s).spool ms
         → Becomes entry l kind (map (coming_at (next_number s)) ms) ending outcome
         → outcome_of_moments entry l kind ending srcb last (received_request kind s).receiver ms
         ≡ following_from outcome (next_number s) kind (records_of (map (coming_at (next_number s)) ms)) last }
-    ensures dropped { (entry : CustomerEntry) (l : ℕ) (kind : Kind) (n : ℕ) (progress : Progress) (a : Arrival) (s : CustomerSpool)
+    ensures dropped { (entry : CustomerEntry) (l : ℕ) (kind : Kind) (n : ℕ) (progress : Progress) (a : Arrival)
+        (s : CustomerSpool)
         → (received_arrival entry l kind (Receiver.Open n progress) a s).receiver ≡ Receiver.Draining
         → (received_arrival entry l kind (Receiver.Open n progress) a s).spool ≡ without_partial n s }
     ensures cut { (entry : CustomerEntry) (l : ℕ) (kind : Kind) (receiver : Receiver) (s : CustomerSpool)
@@ -46,7 +50,8 @@ pub fn streams_end_so()
 /// same file, and none is without a stream. So it is where nothing comes, and so it stays through every arrival on any
 /// stream, the end of any line's session, and all that touches no partial file.
 pub fn streams_stay_tied()
-    ensures at_rest { (lines : List (List Receiver)) (s : CustomerSpool) → ((l k : ℕ) → stream_at l k lines ≡ Receiver.Idle)
+    ensures at_rest { (lines : List (List Receiver)) (s : CustomerSpool)
+        → ((l k : ℕ) → stream_at l k lines ≡ Receiver.Idle)
         → s.partial ≡ [] → AreTied lines s }
     ensures arrival { (entry : CustomerEntry) (l k : ℕ) (a : Arrival) (lines : List (List Receiver)) (s : CustomerSpool)
         → l < length lines → k < length (streams_at l lines) → AreTied lines s
@@ -54,7 +59,8 @@ pub fn streams_stay_tied()
         (received_arrival entry l (kind_of k) (stream_at l k lines) a s).spool }
     ensures ended { (l : ℕ) (lines : List (List Receiver)) (s : CustomerSpool) → l < length lines → AreTied lines s
         → AreTied (without_streams l lines) (without_all_open (streams_at l lines) s) }
-    ensures untouched { (lines : List (List Receiver)) (s t : CustomerSpool) → t.partial ≡ s.partial → AreTied lines s → AreTied lines t }
+    ensures untouched { (lines : List (List Receiver)) (s t : CustomerSpool) → t.partial ≡ s.partial → AreTied lines s
+        → AreTied lines t }
 {
     next_number_is_least();
 }

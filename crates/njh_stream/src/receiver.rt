@@ -11,10 +11,9 @@ ghost use Rattle.njh_table.specs.Entries.{CustomerEntry};
 ghost use Rattle.njh_table.specs.TableFile.{customer_at, entry_of};
 ghost use Rattle.njh_stream.specs.Arrivals.{answer_on, arrival_of, received_on, IsShort};
 ghost use Rattle.njh_stream.specs.code.Verdicts.{IsAfter};
-ghost use Rattle.njh_stream.specs.Receiving.{received_end, received_arrival};
+ghost use Rattle.njh_stream.specs.Receiving.{received_end, received_arrival, received_draining, received_idle};
+ghost use Rattle.njh_stream.specs.Receiving.{received_open, received_request, without_open, Data};
 ghost use Rattle.njh_stream.specs.code.Agreement.{Agrees, AgreesWith, ends_whole};
-ghost use Rattle.njh_stream.specs.Receiving.{received_draining, received_idle, received_open, received_request, without_open};
-ghost use Rattle.njh_stream.specs.Receiving.{Data};
 
 use crate::arrival::Arrival;
 use crate::notice::Notice;
@@ -130,10 +129,13 @@ impl Receiver {
         requires spooled { id.customer < length spool.old }
         requires short { IsShort (arrival_of arrival) }
         requires agrees { Agrees (kind_of stream) self.old (spool_at id.customer spool.old) }
-        ensures receiver { self.new ≡ (received_on tables.now spool.old id stream self.old (arrival_of arrival.entry)).receiver }
+        ensures receiver { self.new
+            ≡ (received_on tables.now spool.old id stream self.old (arrival_of arrival.entry)).receiver }
         ensures answer { result.answer
-            ≡ option_map (answer_on stream) (received_on tables.now spool.old id stream self.old (arrival_of arrival.entry)).answer }
-        ensures notice { result.notice ≡ (received_on tables.now spool.old id stream self.old (arrival_of arrival.entry)).notice }
+            ≡ option_map (answer_on stream) (received_on tables.now spool.old id stream self.old
+            (arrival_of arrival.entry)).answer }
+        ensures notice { result.notice
+            ≡ (received_on tables.now spool.old id stream self.old (arrival_of arrival.entry)).notice }
         ensures spool { spool.new ≡ slice_set spool.old id.customer
             (received_on tables.now spool.old id stream self.old (arrival_of arrival.entry)).spool }
         ensures agrees { Agrees (kind_of stream) self.new (spool_at id.customer spool.new) }
@@ -162,10 +164,13 @@ impl Receiver {
         requires spooled { id.customer < length spool.old }
         requires short { length bytes.now ≤ 256 }
         requires agrees { Agrees (kind_of stream) self.old (spool_at id.customer spool.old) }
-        ensures receiver { self.new ≡ (received_on tables.now spool.old id stream self.old (Data srcb bytes.now)).receiver }
+        ensures receiver { self.new
+            ≡ (received_on tables.now spool.old id stream self.old (Data srcb bytes.now)).receiver }
         ensures answer { result.answer
-            ≡ option_map (answer_on stream) (received_on tables.now spool.old id stream self.old (Data srcb bytes.now)).answer }
-        ensures notice { result.notice ≡ (received_on tables.now spool.old id stream self.old (Data srcb bytes.now)).notice }
+            ≡ option_map (answer_on stream) (received_on tables.now spool.old id stream self.old
+            (Data srcb bytes.now)).answer }
+        ensures notice { result.notice
+            ≡ (received_on tables.now spool.old id stream self.old (Data srcb bytes.now)).notice }
         ensures spool { spool.new ≡ slice_set spool.old id.customer
             (received_on tables.now spool.old id stream self.old (Data srcb bytes.now)).spool }
         ensures agrees { Agrees (kind_of stream) self.new (spool_at id.customer spool.new) }
@@ -197,10 +202,13 @@ impl Receiver {
         requires spooled { id.customer < length spool.old }
         requires short { IsShort (arrival_of arrival) }
         requires agrees { Agrees (kind_of stream) self.old (spool_at id.customer spool.old) }
-        ensures receiver { self.new ≡ (received_on tables.now spool.old id stream self.old (arrival_of arrival.entry)).receiver }
+        ensures receiver { self.new
+            ≡ (received_on tables.now spool.old id stream self.old (arrival_of arrival.entry)).receiver }
         ensures answer { result.answer
-            ≡ option_map (answer_on stream) (received_on tables.now spool.old id stream self.old (arrival_of arrival.entry)).answer }
-        ensures notice { result.notice ≡ (received_on tables.now spool.old id stream self.old (arrival_of arrival.entry)).notice }
+            ≡ option_map (answer_on stream) (received_on tables.now spool.old id stream self.old
+            (arrival_of arrival.entry)).answer }
+        ensures notice { result.notice
+            ≡ (received_on tables.now spool.old id stream self.old (arrival_of arrival.entry)).notice }
         ensures spool { spool.new ≡ slice_set spool.old id.customer
             (received_on tables.now spool.old id stream self.old (arrival_of arrival.entry)).spool }
         ensures agrees { Agrees (kind_of stream) self.new (spool_at id.customer spool.new) }
@@ -299,7 +307,8 @@ fn receive(
     requires short { IsShort (arrival_of arrival) }
     requires agrees { Agrees kind receiver (spool_at id.customer spool.old) }
     ensures { IsAfter result spool.new spool.old id.customer
-        (received_arrival (entry_of entry.now) id.number kind receiver (arrival_of arrival.entry) (spool_at id.customer spool.old)) }
+        (received_arrival (entry_of entry.now) id.number kind receiver (arrival_of arrival.entry)
+        (spool_at id.customer spool.old)) }
 {
     match receiver {
         Receiver::Idle => receive_idle(arrival, kind, id.customer, spool),
@@ -370,7 +379,8 @@ fn receive_record(
     requires short { length bytes.now ≤ 256 }
     requires agrees { AgreesWith kind progress (partial_numbered file (spool_at id.customer spool.old)) }
     ensures { IsAfter result spool.new spool.old id.customer
-        (received_open (entry_of entry.now) id.number kind file (Data srcb bytes.now) (spool_at id.customer spool.old)) }
+        (received_open (entry_of entry.now) id.number kind file (Data srcb bytes.now)
+        (spool_at id.customer spool.old)) }
 {
     if bytes.is_empty() {
         close(id.customer, kind, file, progress, spool)

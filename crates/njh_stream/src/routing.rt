@@ -56,7 +56,8 @@ fn is_line(route: Route, line: u16) -> bool
 /// Whether a whole file was refused and goes by a line.
 fn may_go_again(entry: &Customer, line: u16, customer: u16, file: FileId, spool: &Spool) -> bool
     requires { customer < length spool.now }
-    ensures { result ≡ sending.holds_of (sending.may_go_again (entry_of entry.now) line) (whole_numbered file (spool_at customer spool.now)) }
+    ensures { result ≡ sending.holds_of (sending.may_go_again (entry_of entry.now) line)
+        (whole_numbered file (spool_at customer spool.now)) }
 {
     match spool.state(customer, file) {
         Ok(State::Refused) => goes_by(entry, line, customer, file, spool),
@@ -67,7 +68,8 @@ fn may_go_again(entry: &Customer, line: u16, customer: u16, file: FileId, spool:
 /// The files that were refused and go by a line are Ready again.
 pub fn retry_refused(entry: &Customer, line: u16, customer: u16, spool: &mut Spool)
     requires { customer < length spool.old }
-    ensures { spool.new ≡ slice_set spool.old customer (sending.tried_again (entry_of entry.now) line (spool_at customer spool.old)) }
+    ensures { spool.new
+        ≡ slice_set spool.old customer (sending.tried_again (entry_of entry.now) line (spool_at customer spool.old)) }
 {
     for index in 0..spool.files(customer) {
         spool.quota_holds(customer);
@@ -79,7 +81,8 @@ pub fn retry_refused(entry: &Customer, line: u16, customer: u16, spool: &mut Spo
 /// A file that was refused and goes by a line is Ready again.
 fn retry_file(entry: &Customer, line: u16, customer: u16, file: FileId, spool: &mut Spool)
     requires { customer < length spool.old }
-    ensures { spool.new ≡ slice_set spool.old customer (with_retry (entry_of entry.now) line file (spool_at customer spool.old)) }
+    ensures { spool.new
+        ≡ slice_set spool.old customer (with_retry (entry_of entry.now) line file (spool_at customer spool.old)) }
 {
     if may_go_again(entry, line, customer, file, spool) {
         spool.set_state(customer, file, State::Ready).ok();

@@ -40,7 +40,8 @@ impl Sender {
     pub fn refused(&mut self, customer: u16, spool: &mut Spool)
         requires { customer < length spool.old }
         ensures sender { self.new ≡ (sending.after_refusal self.old (spool_at customer spool.old)).sender }
-        ensures spool { spool.new ≡ slice_set spool.old customer (sending.after_refusal self.old (spool_at customer spool.old)).spool }
+        ensures spool { spool.new
+            ≡ slice_set spool.old customer (sending.after_refusal self.old (spool_at customer spool.old)).spool }
     {
         let was = *self;
         match was {
@@ -60,7 +61,8 @@ impl Sender {
     pub fn completed(&mut self, customer: u16, spool: &mut Spool)
         requires { customer < length spool.old }
         ensures sender { self.new ≡ (sending.after_completion self.old (spool_at customer spool.old)).sender }
-        ensures spool { spool.new ≡ slice_set spool.old customer (sending.after_completion self.old (spool_at customer spool.old)).spool }
+        ensures spool { spool.new
+            ≡ slice_set spool.old customer (sending.after_completion self.old (spool_at customer spool.old)).spool }
     {
         let was = *self;
         match was {
@@ -76,7 +78,8 @@ impl Sender {
     pub fn ended(&mut self, customer: u16, spool: &mut Spool)
         requires { customer < length spool.old }
         ensures sender { self.new ≡ Sender.Idle }
-        ensures spool { spool.new ≡ slice_set spool.old customer (sending.spool_after_session self.old (spool_at customer spool.old)) }
+        ensures spool { spool.new
+            ≡ slice_set spool.old customer (sending.spool_after_session self.old (spool_at customer spool.old)) }
     {
         if let Some(file) = self.file() {
             spool.set_state(customer, file, State::Ready).ok();

@@ -41,7 +41,8 @@ pub(crate) fn store(
     requires short { length bytes.now ≤ 256 }
     requires agrees { AgreesWith kind progress (partial_numbered file (spool_at customer spool.old)) }
     ensures { IsAfter result spool.new spool.old customer
-        (received_record (entry_of entry.now) line kind file (record { srcb = srcb; bytes = bytes.now }) (spool_at customer spool.old)) }
+        (received_record (entry_of entry.now) line kind file (record { srcb = srcb; bytes = bytes.now })
+        (spool_at customer spool.old)) }
 {
     spool.quota_holds(customer);
     let records = SpoolFile::of(spool, customer, file);
@@ -88,7 +89,11 @@ pub(crate) fn store_unread(
     requires short { length bytes.now ≤ 256 }
     requires agrees { AgreesWith kind progress (partial_numbered file (spool_at customer spool.old)) }
     ensures { MatchOption result (spool.new ≡ spool.old) (λ after. (entry : CustomerEntry) (l : ℕ)
-        → IsAfter (record { receiver = Receiver.Open file after; answer = None; notice = None }) spool.new spool.old customer
+        → IsAfter (record {
+          receiver = Receiver.Open file after;
+          answer = None;
+          notice = None;
+        }) spool.new spool.old customer
         (received_record entry l kind file (record { srcb = srcb; bytes = bytes.now }) (spool_at customer spool.old))) }
 {
     match progress {
@@ -119,7 +124,8 @@ fn append(
     requires there { IsSome (partial_numbered file (spool_at customer spool.old)) }
     ensures { let r : Stored = record { srcb = srcb; bytes = bytes.now } in IsAfter result spool.new spool.old customer
         (appended_where (has_room_for file r (spool_at customer spool.old)) file progress
-        (headers.job_header_of (records_in file (spool_at customer spool.old) ++ r ∷ [])) r (spool_at customer spool.old)) }
+        (headers.job_header_of (records_in file (spool_at customer spool.old) ++ r ∷ [])) r
+        (spool_at customer spool.old)) }
 {
     match spool.append(customer, file, srcb, bytes) {
         Ok(()) => After {
@@ -138,7 +144,8 @@ fn append(
 
 /// NJH021 for a file with this job header.
 fn full_text(header: &Option<JobHeader>) -> Option<MessageText>
-    ensures { option_map (λ t. t.items) result ≡ transmissions.full_text (option_map (λ h. (h.origin.0, h.number)) header.now) }
+    ensures { option_map (λ t. t.items) result
+        ≡ transmissions.full_text (option_map (λ h. (h.origin.0, h.number)) header.now) }
 {
     match header {
         Some(header) => Some(spool_full(header.file_name())),
@@ -170,7 +177,8 @@ pub(crate) fn cancel(
 ) -> After
     requires { customer < length spool.old }
     ensures { IsAfter result spool.new spool.old customer
-        (received_cancelling file (notice_of (option_map (λ h. h.origin) header) (option_map (λ t. t.items) text)) (spool_at customer spool.old)) }
+        (received_cancelling file (notice_of (option_map (λ h. h.origin) header) (option_map (λ t. t.items) text))
+        (spool_at customer spool.old)) }
 {
     spool.abandon(customer, file).ok();
     After {

@@ -4,13 +4,14 @@ use Rattle.std.specs.Str.{chars}
 use Rattle.toml.proofs.OnLiterals.{toml_on_literals}
 use Rattle.njh_ebcdic.specs.Characters.{byte_of_character}
 use Rattle.njh_table.specs.declared.fault.TableFault.{TableFault}
-use Rattle.njh_table.specs.declared.fault.TableFault.TheVariants.{BadToml, MissingKey, BadValue, DoubleLine}
-use Rattle.njh_table.specs.declared.fault.TableFault.TheVariants.{DoubleNode, UnknownLine, QuotaOver, TooMany, Memory}
+use Rattle.njh_table.specs.declared.fault.TableFault.TheVariants.{BadToml, MissingKey, BadValue, DoubleLine, DoubleNode}
+use Rattle.njh_table.specs.declared.fault.TableFault.TheVariants.{UnknownLine, QuotaOver, TooMany, Memory}
 use Rattle.njh_table.specs.declared.read.TheConstants.{BASE}
 use Rattle.njh_table.specs.Base.{base_tables}
 use Rattle.njh_table.specs.TableFile.{TableFile}
 use Rattle.njh_table.specs.Keys.{Walked}
-use Rattle.njh_table.specs.Walk.{tables_of, walked_line, next_line, route_by, next_route, customer_keys, next_customer, tables_in}
+use Rattle.njh_table.specs.Walk.{tables_of, walked_line, next_line, route_by, next_route, customer_keys, next_customer}
+use Rattle.njh_table.specs.Walk.{tables_in}
 
 pub base_read : tables_of BASE.now ≡ Ok base_tables
 unfolding chars toml_on_literals byte_of_character walked_line next_line route_by next_route customer_keys next_customer tables_in

@@ -1,6 +1,6 @@
 -- What a part of the walk gives: a value of which something holds, or a fault that is the walk's own.
-use Rattle.std.proofs.Common.{◌≡◌, ℕ, ℤ, pos, negsuc, Bool, true, false, cond, nat_le, List, Option, Some, None, IfSome, option_and_then}
-use Rattle.std.proofs.Common.{◌≢◌, ◌==◌, option_map, ok_or, Ok, Err, MatchResult, refl, subst}
+use Rattle.std.proofs.Common.{◌≡◌, ℕ, ℤ, pos, negsuc, Bool, true, false, cond, nat_le, List, Option, Some, None, IfSome}
+use Rattle.std.proofs.Common.{option_and_then, ◌≢◌, ◌==◌, option_map, ok_or, Ok, Err, MatchResult, refl, subst}
 use Rattle.std.specs.Prelude.{⊤}
 use Rattle.std.proofs.lemmas.Bool.{and_parts, leb-true, eqb-true, eqb-false}
 use Rattle.std.specs.declared.net.socket_addr.SocketAddr.{SocketAddr}
@@ -10,8 +10,8 @@ use Rattle.njh_ebcdic.specs.Names.{within}
 use Rattle.njh_table.specs.declared.fault.TableFault.{TableFault}
 use Rattle.njh_table.specs.declared.fault.TableFault.TheVariants.{BadToml, MissingKey, BadValue, Memory}
 use Rattle.njh_table.specs.Accepted.{IsBetween}
-use Rattle.njh_table.specs.Keys.{Walked, ◌>>=◌, ◌>>◌, fault_where, keys_in, at_key, value_or, at_key_or}
-use Rattle.njh_table.specs.Keys.{number_between, number, is_line_name, line_name_of, line_name, peer_address, peer_of, peer}
+use Rattle.njh_table.specs.Keys.{Walked, ◌>>=◌, ◌>>◌, fault_where, keys_in, at_key, value_or, at_key_or, number_between}
+use Rattle.njh_table.specs.Keys.{number, is_line_name, line_name_of, line_name, peer_address, peer_of, peer}
 use Rattle.njh_table.specs.Addresses.{address_of}
 
 -- the text's own fault and want of memory are none of the walk's

@@ -1,6 +1,6 @@
 -- The steps of the walk: one element more, one step more, and the exit at the first fault.
-use Rattle.std.proofs.Common.{◌≡◌, ◌≢◌, ℕ, ◌+◌, ◌<◌, Bool, true, false, List, [], ◌∷◌, length, get_or, drop, Result, Ok, Err, IsErrAnd}
-use Rattle.std.proofs.Common.{refl, ap, sym, ◌∙◌, ◌==◌, arith}
+use Rattle.std.proofs.Common.{◌≡◌, ◌≢◌, ℕ, ◌+◌, ◌<◌, Bool, true, false, List, [], ◌∷◌, length, get_or, drop, Result, Ok}
+use Rattle.std.proofs.Common.{Err, IsErrAnd, refl, ap, sym, ◌∙◌, ◌==◌, arith}
 use Rattle.std.specs.Result.{result_map_both}
 use Rattle.std.proofs.lemmas.Bool.{ne_eqb}
 use Rattle.toml.specs.Data.{item}

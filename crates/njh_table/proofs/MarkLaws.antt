@@ -1,15 +1,19 @@
 -- The marks of lines: the tables with others are accepted as before, and of an entry the marks alone are changed.
-use Rattle.std.proofs.Common.{◌≡◌, ◌≢◌, ℕ, ◌<◌, ◌≤◌, Bool, false, length, map, get_or, set, All, ap, refl, subst, sym, ◌∙◌, ⊎_elim, arith}
+use Rattle.std.proofs.Common.{◌≡◌, ◌≢◌, ℕ, ◌<◌, ◌≤◌, Bool, false, length, map, get_or, set, All, ap, refl, subst, sym}
+use Rattle.std.proofs.Common.{◌∙◌, ⊎_elim, arith}
 use Rattle.std.proofs.lemmas.Bool.{cases_lt}
-use Rattle.std.proofs.lemmas.List.{get_or_past, get_or-map, get_or-set_other, get_or-set_same, length-map, length-set, map-set}
+use Rattle.std.proofs.lemmas.List.{get_or_past, get_or-map, get_or-set_other, get_or-set_same, length-map, length-set}
+use Rattle.std.proofs.lemmas.List.{map-set}
 use Rattle.std.proofs.lemmas.List.Elements.{All-get_or, All-map, All-set, All-weaker}
 use Rattle.std.proofs.lemmas.List.Folds.{flat_map-map}
 use Rattle.std.proofs.lemmas.Simd.{map-map}
 use Rattle.std.specs.List.{flat_map}
 use Rattle.njh_table.specs.declared.LineId.{LineId}
 use Rattle.njh_table.specs.Accepted.{IsLine, IsRoute, IsCustomer, IsAccepted}
-use Rattle.njh_table.specs.Marks.{line_marked, customer_marked, with_mark, customer_unmarked, without_marks, entry_marked, entry_unmarked}
-use Rattle.njh_table.specs.TableFile.{NamedLine, NamedCustomer, TableFile, customer_at, entry_of, no_customer, no_line, owners_from, HasLine}
+use Rattle.njh_table.specs.Marks.{line_marked, customer_marked, with_mark, customer_unmarked, without_marks}
+use Rattle.njh_table.specs.Marks.{entry_marked, entry_unmarked}
+use Rattle.njh_table.specs.TableFile.{NamedLine, NamedCustomer, TableFile, customer_at, entry_of, no_customer, no_line}
+use Rattle.njh_table.specs.TableFile.{owners_from, HasLine}
 use Rattle.njh_table.proofs.Replaced.{accepted_again, reads_alike, same_line_names, same_owners, same_owners_of_all}
 
 -- ---- one mark

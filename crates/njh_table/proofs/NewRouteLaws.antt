@@ -1,6 +1,7 @@
 -- New routes that are checked: their nodes differ, their lines are the customer's, and the tables stay accepted.
-use Rattle.std.proofs.Common.{◌≡◌, ◌≢◌, ℕ, suc, ◌<◌, ◌≤◌, Bool, true, false, cond, not, ◌||◌, ◌==◌, nat_lt, List, [], ◌∷◌, ◌++◌, length, map, take, get_or, set}
-use Rattle.std.proofs.Common.{bytes_eq, All, IfSome, Option, Some, None, option_map, Ok, Err, refl, sym, ap, subst, ◌∙◌, arith, append_assoc}
+use Rattle.std.proofs.Common.{◌≡◌, ◌≢◌, ℕ, suc, ◌<◌, ◌≤◌, Bool, true, false, cond, not, ◌||◌, ◌==◌, nat_lt, List, []}
+use Rattle.std.proofs.Common.{◌∷◌, ◌++◌, length, map, take, get_or, set, bytes_eq, All, IfSome, Option, Some, None}
+use Rattle.std.proofs.Common.{option_map, Ok, Err, refl, sym, ap, subst, ◌∙◌, arith, append_assoc}
 use Rattle.std.specs.List.{list_any}
 use Rattle.std.proofs.lemmas.Bool.{and_from, both_ways, eq-eqb, eqb-true, ltb-true, ltb-false}
 use Rattle.std.proofs.lemmas.List.{length-map, length-take-le, append-nil, get_or-map, get_or-take}
@@ -15,8 +16,9 @@ use Rattle.njh_table.specs.declared.limits.TheConstants.{MAX_ROUTES}
 use Rattle.njh_table.specs.Accepted.{AreDistinct, IsRoute, IsCustomer, IsAccepted}
 use Rattle.njh_table.specs.Entries.{RouteEntry, lines_to}
 use Rattle.njh_table.specs.Keys.{Walked, ◌>>◌, fault_where}
-use Rattle.njh_table.specs.NewRoutes.{NewRoute, Again, own_number, own_or_foreign, other_second, own_second, own_route, new_routes_of, repeats, is_again, is_own}
-use Rattle.njh_table.specs.NewRoutes.{may_be_second, route_checked, checked_from, routes_checked, given_lines, number_or, taken_second, taken_route}
+use Rattle.njh_table.specs.NewRoutes.{NewRoute, Again, own_number, own_or_foreign, other_second, own_second, own_route}
+use Rattle.njh_table.specs.NewRoutes.{new_routes_of, repeats, is_again, is_own, may_be_second, route_checked}
+use Rattle.njh_table.specs.NewRoutes.{checked_from, routes_checked, given_lines, number_or, taken_second, taken_route}
 use Rattle.njh_table.specs.NewRoutes.{entries_of_routes, with_routes}
 use Rattle.njh_table.specs.TableFile.{NamedCustomer, TableFile, customer_at, entry_of, no_customer, route_entry}
 use Rattle.njh_table.proofs.Distinct.{distinct_push}

@@ -10,7 +10,8 @@ use Rattle.std.specs.List.{list_any, position_from}
 use Rattle.std.specs.Map.{lookup}
 use Rattle.std.specs.Option.{option_or}
 use Rattle.njh_table.specs.declared.LineId.{LineId}
-use Rattle.njh_table.specs.TableFile.{NamedLine, NamedCustomer, Owners, names_in, line_owners, owners_from, line_names, own_line}
+use Rattle.njh_table.specs.TableFile.{NamedLine, NamedCustomer, Owners, names_in, line_owners, owners_from, line_names}
+use Rattle.njh_table.specs.TableFile.{own_line}
 use Rattle.njh_table.specs.Walk.{line_number}
 use Rattle.njh_table.proofs.MapLaws.{is_some-lookup}
 

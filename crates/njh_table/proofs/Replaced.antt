@@ -1,11 +1,13 @@
 -- Customers in the place of others, with their names, their quotas and the names of their lines: the tables stay accepted, and each line
 -- of the hub is found as before.
-use Rattle.std.proofs.Common.{◌≡◌, ℕ, zero, suc, ◌+◌, ◌≤◌, sum, List, [], ◌∷◌, ◌++◌, length, map, get_or, set, All, ap, ap₂, refl, subst, sym, ◌∙◌}
+use Rattle.std.proofs.Common.{◌≡◌, ℕ, zero, suc, ◌+◌, ◌≤◌, sum, List, [], ◌∷◌, ◌++◌, length, map, get_or, set, All, ap}
+use Rattle.std.proofs.Common.{ap₂, refl, subst, sym, ◌∙◌}
 use Rattle.std.proofs.lemmas.List.{length-map, map-set, set-get_or}
 use Rattle.std.proofs.lemmas.List.Sums.{sum-map}
 use Rattle.njh_table.specs.declared.limits.TheConstants.{MAX_CUSTOMERS, MAX_LINES}
 use Rattle.njh_table.specs.Accepted.{IsBetween, AreDistinct, IsCustomer, IsAccepted}
-use Rattle.njh_table.specs.TableFile.{NamedLine, NamedCustomer, Owners, TableFile, line_names, line_owners, no_customer, owners_from}
+use Rattle.njh_table.specs.TableFile.{NamedLine, NamedCustomer, Owners, TableFile, line_names, line_owners, no_customer}
+use Rattle.njh_table.specs.TableFile.{owners_from}
 
 pub accepted_again : (t : TableFile) (customers : List NamedCustomer) → map (λ c. c.name) customers ≡ map (λ c. c.name) t.customers
     → map (λ c. c.quota) customers ≡ map (λ c. c.quota) t.customers → line_names customers ≡ line_names t.customers

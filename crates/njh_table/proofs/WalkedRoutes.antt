@@ -1,7 +1,7 @@
 -- What the walk over a customer's routes gives.
 use Rattle.std.proofs.Common.{◌≡◌, ◌≢◌, ℕ, ◌+◌, ◌<◌, ◌≤◌, Bool, true, false, cond, ◌||◌, nat_le, List, [], ◌∷◌, ◌++◌}
-use Rattle.std.proofs.Common.{length, map, codes, bytes_eq, All}
-use Rattle.std.proofs.Common.{Option, Some, None, IfSome, is_some, option_and_then, ok_or, refl, sym, ap, subst, ◌∙◌, arith}
+use Rattle.std.proofs.Common.{length, map, codes, bytes_eq, All, Option, Some, None, IfSome, is_some, option_and_then}
+use Rattle.std.proofs.Common.{ok_or, refl, sym, ap, subst, ◌∙◌, arith}
 use Rattle.std.specs.List.{list_any, position_from}
 use Rattle.std.specs.Cmp.Lexicographic.{nat_list_eq_equiv}
 use Rattle.std.proofs.lemmas.Bool.{both_ways, leb-false, or_parts, or_from}

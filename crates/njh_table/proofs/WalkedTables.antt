@@ -1,7 +1,7 @@
 -- What the walk accepts is within the limits, and its faults are its own.
 use Rattle.std.proofs.Common.{◌≡◌, ◌≢◌, ℕ, ◌<◌, ◌≤◌, false, nat_le, nat_lt, sum_by, List, [], ◌∷◌, ◌++◌, length, map}
-use Rattle.std.proofs.Common.{codes, bytes_eq, All}
-use Rattle.std.proofs.Common.{Option, Some, None, IfErr, ok_or, Result, Ok, Err, ◌↔◌, refl, sym, ap, subst, ◌∙◌, arith}
+use Rattle.std.proofs.Common.{codes, bytes_eq, All, Option, Some, None, IfErr, ok_or, Result, Ok, Err, ◌↔◌, refl, sym}
+use Rattle.std.proofs.Common.{ap, subst, ◌∙◌, arith}
 use Rattle.std.specs.List.{list_any}
 use Rattle.std.specs.Cmp.Lexicographic.{nat_list_eq_equiv}
 use Rattle.std.proofs.lemmas.Bool.{leb-false, ltb-false, or_parts, or_from, false≢true}
@@ -12,14 +12,16 @@ use Rattle.std.proofs.lemmas.Result.{MatchResult-at_err}
 use Rattle.toml.specs.Data.{Data, Items, no_items, item, Members, as_array}
 use Rattle.toml.specs.Parse.{parse_document}
 use Rattle.njh_table.specs.declared.fault.TableFault.{TableFault}
-use Rattle.njh_table.specs.declared.fault.TableFault.TheVariants.{TooMany, MissingKey, BadToml, BadValue, QuotaOver, Memory}
+use Rattle.njh_table.specs.declared.fault.TableFault.TheVariants.{TooMany, MissingKey, BadToml, BadValue, QuotaOver}
+use Rattle.njh_table.specs.declared.fault.TableFault.TheVariants.{Memory}
 use Rattle.njh_table.specs.declared.limits.TheConstants.{MAX_CUSTOMERS, MAX_LINES, MAX_CAPACITY, MAX_QUOTA, MAX_FILES}
 use Rattle.njh_table.specs.Accepted.{IsBetween, AreDistinct, IsLine, IsRoute, IsCustomer, IsAccepted}
 use Rattle.njh_table.specs.TableFile.{NamedCustomer, TableFile, line_names}
 use Rattle.njh_table.specs.Keys.{◌>>=◌, number, node_name}
-use Rattle.njh_table.specs.Walk.{Walks, lines_onto, line_number, routes_onto, CustomerKeys, customer_keys, next_customer, customers_onto}
-use Rattle.njh_table.specs.Walk.{is_empty, tables_in, tables_of}
-use Rattle.njh_table.proofs.Gives.{Gives, IsOfWalk, given, and_then, past, with_keys, with_value, with_any, with_any_or, number-is}
+use Rattle.njh_table.specs.Walk.{Walks, lines_onto, line_number, routes_onto, CustomerKeys, customer_keys}
+use Rattle.njh_table.specs.Walk.{next_customer, customers_onto, is_empty, tables_in, tables_of}
+use Rattle.njh_table.proofs.Gives.{Gives, IsOfWalk, given, and_then, past, with_keys, with_value, with_any, with_any_or}
+use Rattle.njh_table.proofs.Gives.{number-is}
 use Rattle.njh_table.proofs.Distinct.{distinct_push}
 use Rattle.njh_table.proofs.WalkedLines.{AreLines, lines_onto-gives}
 use Rattle.njh_table.proofs.WalkedRoutes.{AreRoutes, routes_onto-gives, line_number-finds}

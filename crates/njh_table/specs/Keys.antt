@@ -1,7 +1,7 @@
 -- The keys of a table file, which is written in TOML: what a key's value must be, and the fault where it isn't.
 use Rattle.std.specs.Prelude.{ℕ, ℤ, pos, negsuc, Bool, true, false, ◌&&◌, ◌||◌, ◌==◌, if◌then◌else◌, List, [], ◌∷◌}
-use Rattle.std.specs.Prelude.{length, codes, bytes_eq}
-use Rattle.std.specs.Prelude.{Option, Some, None, option_and_then, option_map, ok_or, Result, Ok, Err}
+use Rattle.std.specs.Prelude.{length, codes, bytes_eq, Option, Some, None, option_and_then, option_map, ok_or, Result}
+use Rattle.std.specs.Prelude.{Ok, Err}
 use Rattle.std.specs.List.{list_all}
 use Rattle.std.specs.Result.{result_ok}
 use Rattle.std.specs.declared.net.socket_addr.SocketAddr.{SocketAddr}

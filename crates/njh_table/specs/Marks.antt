@@ -8,12 +8,16 @@ abbrev pub line_marked : Bool → NamedLine → NamedLine
 line_marked up l = record l { up = up }
 
 abbrev pub customer_marked : ℕ → Bool → NamedCustomer → NamedCustomer
-customer_marked line up c = record c { lines = slice_set c.lines line (line_marked up (slice_index_or c.lines line no_line)) }
+customer_marked line up c =
+    record c { lines = slice_set c.lines line (line_marked up (slice_index_or c.lines line no_line)) }
 
 -- one line has this mark, and nothing else is changed
 abbrev pub with_mark : LineId → Bool → TableFile → TableFile
 with_mark id up t =
-    record t { customers = slice_set t.customers id.customer (customer_marked id.number up (customer_at t id.customer)) }
+    record t {
+      customers = slice_set t.customers id.customer
+          (customer_marked id.number up (customer_at t id.customer));
+    }
 
 -- all marks are off
 abbrev pub customer_unmarked : NamedCustomer → NamedCustomer

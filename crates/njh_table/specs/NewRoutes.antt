@@ -1,7 +1,6 @@
 -- New routes for a customer in place of its own: the first fault in them, or the entry with them.
 use Rattle.std.specs.Prelude.{ℕ, Bool, true, false, ◌==◌, ◌&&◌, not, nat_lt, cond, bytes_eq, List, [], ◌∷◌, ◌++◌}
-use Rattle.std.specs.Prelude.{length, map, slice_set}
-use Rattle.std.specs.Prelude.{Option, Some, None, option_map, Ok}
+use Rattle.std.specs.Prelude.{length, map, slice_set, Option, Some, None, option_map, Ok}
 use Rattle.std.specs.List.{list_any}
 use Rattle.njh_table.specs.declared.LineId.{LineId}
 use Rattle.njh_table.specs.declared.fault.TableFault.TheVariants.{BadValue, DoubleNode, UnknownLine, TooMany}

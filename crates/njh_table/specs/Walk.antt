@@ -2,14 +2,14 @@
 -- those before it: a list past its limit is refused before the element's keys, and keys that aren't named here are
 -- ignored.
 use Rattle.std.specs.Prelude.{◌≡◌, ◌≢◌, ℕ, Bool, true, false, ◌||◌, List, [], ◌∷◌, ◌++◌, length, map, codes, nat_le}
-use Rattle.std.specs.Prelude.{nat_lt, sum_by, bytes_eq}
-use Rattle.std.specs.Prelude.{Option, Some, None, ok_or, is_some, Result, Ok, Err, MatchResult}
+use Rattle.std.specs.Prelude.{nat_lt, sum_by, bytes_eq, Option, Some, None, ok_or, is_some, Result, Ok, Err}
+use Rattle.std.specs.Prelude.{MatchResult}
 use Rattle.std.specs.List.{list_any, position_from}
 use Rattle.toml.specs.Data.{Data, Items, no_items, item, Members, as_str, as_array}
 use Rattle.toml.specs.Parse.{parse_document}
 use Rattle.njh_table.specs.declared.fault.TableFault.{TableFault}
-use Rattle.njh_table.specs.declared.fault.TableFault.TheVariants.{BadToml, MissingKey, BadValue, DoubleLine}
-use Rattle.njh_table.specs.declared.fault.TableFault.TheVariants.{DoubleNode, UnknownLine, QuotaOver, TooMany, Memory}
+use Rattle.njh_table.specs.declared.fault.TableFault.TheVariants.{BadToml, MissingKey, BadValue, DoubleLine, DoubleNode}
+use Rattle.njh_table.specs.declared.fault.TableFault.TheVariants.{UnknownLine, QuotaOver, TooMany, Memory}
 use Rattle.njh_table.specs.declared.limits.TheConstants.{MAX_CUSTOMERS, MAX_LINES, MAX_ROUTES, MAX_CAPACITY, MAX_QUOTA}
 use Rattle.njh_table.specs.declared.limits.TheConstants.{MAX_FILES, MIN_BLOCK, MAX_BLOCK, MAX_STREAMS, MAX_PORT}
 use Rattle.njh_table.specs.Entries.{RouteEntry, lines_to}
@@ -71,7 +71,8 @@ number_of_second line_number (Some name) = do
 
 -- a customer's route for a node by the line of a name and perhaps a second, with its hub's name and what gives the
 -- number of a line of its own by name: the hub's own name has no route, and another node one at most
-unfoldable pub route_by : List ℕ → (List ℕ → Option ℕ) → List RouteEntry → List ℕ → List ℕ → Option (List ℕ) → Walked RouteEntry
+unfoldable pub route_by : List ℕ → (List ℕ → Option ℕ) → List RouteEntry → List ℕ → List ℕ → Option (List ℕ)
+    → Walked RouteEntry
 route_by hub line_number done node line second = do
   fault_where (is_routed hub done node) DoubleNode
   number ← ok_or (line_number line) UnknownLine
@@ -128,7 +129,8 @@ next_customer done value = do
 -- the customers, after those done
 abbrev pub customers_onto : List NamedCustomer → Items → Walked (List NamedCustomer)
 customers_onto done no_items = Ok done
-customers_onto done (item value more) = next_customer done value >>= (λ customer. customers_onto (done ++ customer ∷ []) more)
+customers_onto done (item value more) =
+    next_customer done value >>= (λ customer. customers_onto (done ++ customer ∷ []) more)
 
 -- ---- the file
 

@@ -7,8 +7,8 @@ ghost use Rattle.std.specs.Result.{result_map_both};
 ghost use Rattle.toml.specs.Data.{get_member, as_str, as_array, as_table, no_items};
 ghost use Rattle.toml.specs.View.{view, table_view, items_view};
 ghost use Rattle.njh_table.specs.Addresses.{address_of};
-ghost use Rattle.njh_table.specs.Keys.{keys_in, at_key, at_key_or, number, node_name, role, password, peer};
-ghost use Rattle.njh_table.specs.Keys.{line_name, second_line, is_line_name, is_letter_or_digit};
+ghost use Rattle.njh_table.specs.Keys.{keys_in, at_key, at_key_or, number, node_name, role, password, peer, line_name};
+ghost use Rattle.njh_table.specs.Keys.{second_line, is_line_name, is_letter_or_digit};
 ghost use Rattle.njh_table.specs.TableFile.{password_bytes};
 
 use crate::Role;
@@ -211,7 +211,8 @@ pub fn list_at<'a>(keys: &'a Table, key: &str) -> Result<&'a [Value], TableFault
 
 /// The elements of a list, which may be missing.
 pub fn list_or_empty_at<'a>(keys: &'a Table, key: &str) -> Result<&'a [Value], TableFault>
-    ensures { result_map_both (λ v. items_view v.now) (λ f. f) result ≡ at_key_or as_array no_items key.now (table_view keys.now) }
+    ensures { result_map_both (λ v. items_view v.now) (λ f. f) result
+        ≡ at_key_or as_array no_items key.now (table_view keys.now) }
 {
     match find(keys, key) {
         None => Ok(&[]),

@@ -42,7 +42,8 @@ pub fn same_entries_route_alike()
 /// The mark of a line is a part of its customer's entry, and of no other's; all else of that entry stays.
 pub fn marks_change_one_entry()
     ensures own { (t : TableFile) (id : LineId) (up : Bool) → id.customer < length t.customers
-        → entry_of (customer_at (with_mark id up t) id.customer) ≡ entry_marked id.number up (entry_of (customer_at t id.customer)) }
+        → entry_of (customer_at (with_mark id up t) id.customer)
+        ≡ entry_marked id.number up (entry_of (customer_at t id.customer)) }
     ensures others { (t : TableFile) (id : LineId) (up : Bool) (c : ℕ) → c ≢ id.customer
         → customer_at (with_mark id up t) c ≡ customer_at t c }
     ensures all { (t : TableFile) (c : ℕ) → c < length t.customers

@@ -5,8 +5,7 @@ ghost use Rattle.std.specs.Prelude.{Err, IfOk, OnErr};
 ghost use Rattle.std.specs.List.{list_any};
 ghost use Rattle.njh_table.specs.Accepted.{AreDistinct};
 ghost use Rattle.njh_table.specs.NewRoutes.{checked_from, given_lines, is_own, may_be_second, other_second, own_number};
-ghost use Rattle.njh_table.specs.NewRoutes.{own_route};
-ghost use Rattle.njh_table.specs.NewRoutes.{new_routes_of, repeats, route_checked};
+ghost use Rattle.njh_table.specs.NewRoutes.{own_route, new_routes_of, repeats, route_checked};
 ghost use Rattle.njh_table.specs.TableFile.{no_customer, route_entry};
 
 use crate::LineId;
@@ -39,7 +38,8 @@ impl Tables {
     /// where its second line, isn't the customer's. Takes no memory.
     pub fn check_routes(&self, customer: u16, routes: &[GivenRoute]) -> Result<(), TableFault>
         requires { customer < length self.now.customers }
-        ensures { result ≡ routes_checked (entry_of (customer_at self.now customer)) (new_routes_of customer routes.now) }
+        ensures { result ≡ routes_checked (entry_of (customer_at self.now customer))
+            (new_routes_of customer routes.now) }
     {
         if routes.len() > MAX_ROUTES {
             return Err(TableFault::TooMany);
@@ -51,7 +51,8 @@ impl Tables {
     /// changed.
     pub fn set_routes(&mut self, customer: u16, routes: &[GivenRoute]) -> Result<(), TableFault>
         requires known { customer < length self.old.customers }
-        requires checked { routes_checked (entry_of (customer_at self.old customer)) (new_routes_of customer routes.now) ≡ Ok tt }
+        requires checked { routes_checked (entry_of (customer_at self.old customer)) (new_routes_of customer routes.now)
+            ≡ Ok tt }
         ensures routes { OnOk result (self.new ≡ with_routes customer (new_routes_of customer routes.now) self.old) }
         ensures memory { OnErr result ((result ≡ Err TableFault.Memory) × (self.new ≡ self.old)) }
     {
@@ -90,7 +91,8 @@ fn given_lines(route: &GivenRoute) -> RouteLines
 fn give_routes(customers: &mut Vec<Customer>, customer: u16, routes: Routes)
     requires { customer < vec_len customers.old }
     ensures { customers.new.items
-        ≡ slice_set customers.old.items customer (record (slice_index_or customers.old.items customer no_customer) { routes = routes }) }
+        ≡ slice_set customers.old.items customer
+        (record (slice_index_or customers.old.items customer no_customer) { routes = routes }) }
 {
     customers[usize::from(customer)].set_routes(routes);
 }
@@ -105,7 +107,8 @@ impl Customer {
 
 /// The first fault of a customer's new routes, from the left.
 fn check_each(number: u16, customer: &Customer, routes: &[GivenRoute]) -> Result<(), TableFault>
-    ensures { result ≡ checked_from (length customer.now.lines) (customer.now.hub ∷ []) (new_routes_of number routes.now) }
+    ensures { result ≡ checked_from (length customer.now.lines) (customer.now.hub ∷ [])
+        (new_routes_of number routes.now) }
 {
     for index in 0..routes.len() {
         check_one(number, customer, &routes[..index], routes[index])?;
@@ -122,7 +125,8 @@ fn check_one(
     route: GivenRoute,
 ) -> Result<(), TableFault>
     ensures { result
-        ≡ route_checked (length customer.now.lines) (customer.now.hub ∷ map (λ r. r.node) before.now) (own_route number route) }
+        ≡ route_checked (length customer.now.lines) (customer.now.hub ∷ map (λ r. r.node) before.now)
+        (own_route number route) }
 {
     if repeats(route.line, route.second) {
         return Err(TableFault::BadValue);

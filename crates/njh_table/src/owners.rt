@@ -63,12 +63,7 @@ impl Owners {
     }
 
     /// Adds a line whose name is new.
-    pub(crate) fn insert(
-        &mut self,
-        alloc: Global,
-        name: &str,
-        id: LineId,
-    ) -> Result<(), AllocError>
+    pub(crate) fn insert(&mut self, alloc: Global, name: &str, id: LineId) -> Result<(), AllocError>
         requires { list_any (bytes_eq name.now) (names_in self.old) ≡ false }
         ensures { OnOk result (self.new ≡ self.old ++ (name.now, id) ∷ []) }
     {

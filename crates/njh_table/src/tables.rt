@@ -80,7 +80,8 @@ impl Tables {
     pub fn line_owner(&self, name: &str) -> Option<LineId>
         ensures owner { result ≡ line_named self.now name.now }
         ensures found { IfSome result (λ line. HasLine self.now line × ((table_line self.now line).name ≡ name.now)) }
-        ensures only { (id : LineId) → HasLine self.now id → (table_line self.now id).name ≡ name.now → result ≡ Some id }
+        ensures only { (id : LineId) → HasLine self.now id → (table_line self.now id).name ≡ name.now
+            → result ≡ Some id }
     {
         self.owners.get(name)
     }

@@ -8,7 +8,8 @@ use Rattle.njh_wire.specs.declared.end.End.TheVariants as ends
 use Rattle.njh_wire.specs.declared.end.Parting.TheVariants.{Closed, Failed}
 use Rattle.njh_wire.specs.declared.end.Stop.{Stop}
 use Rattle.njh_wire.specs.declared.end.Stop.TheVariants as why
-use Rattle.njh_wire.specs.Standing.{Standing, later, with_connection, without_connection, with_failure, given_up, keeping, after_stop, hearing}
+use Rattle.njh_wire.specs.Standing.{Standing, later, with_connection, without_connection, with_failure, given_up}
+use Rattle.njh_wire.specs.Standing.{keeping, after_stop, hearing}
 
 -- Nothing came. That is a quiet only when it is due, and then the next is due 100 milliseconds later.
 abbrev pub IsSilence : {C : Type 0} → Standing C → Reading → Standing C → Type 0

@@ -1,6 +1,6 @@
 -- How a wire of a line stands, and what leads it from one standing to the next.
-use Rattle.std.specs.Prelude.{ℕ, ◌+◌, min, ◌==◌, if◌then◌else◌, ◌++◌, length}
-use Rattle.std.specs.Prelude.{Bool, true, false, List, [], Option, Some, None}
+use Rattle.std.specs.Prelude.{ℕ, ◌+◌, min, ◌==◌, if◌then◌else◌, ◌++◌, length, Bool, true, false, List, [], Option, Some}
+use Rattle.std.specs.Prelude.{None}
 use Rattle.njh_wire.specs.declared.end.End.{End}
 use Rattle.njh_wire.specs.declared.end.End.TheVariants as ends
 use Rattle.njh_wire.specs.declared.end.Parting.{Parting}

@@ -1,11 +1,12 @@
 //! The wire of a line, over connections that never wait.
 
-ghost use Rattle.std.specs.Prelude.{◌≡◌, ◌+◌, ◌-◌, ◌<◌, ◌≤◌, [], length, min, IsTrue, ◌↔◌, ◌⊎◌, ⊤};
-ghost use Rattle.std.specs.Prelude.{true, None, IsSome, IsOk, OnOk, OnErr, IfOk};
+ghost use Rattle.std.specs.Prelude.{◌≡◌, ◌+◌, ◌-◌, ◌<◌, ◌≤◌, [], length, min, IsTrue, ◌↔◌, ◌⊎◌, ⊤, true, None, IsSome};
+ghost use Rattle.std.specs.Prelude.{IsOk, OnOk, OnErr, IfOk};
 ghost use Rattle.njh_hub.specs.Sent.{IsCounted};
 ghost use Rattle.njh_hub.specs.Wires.{IsReading};
 ghost use Rattle.njh_wire.specs.declared.end.End.TheVariants.{Failed};
-ghost use Rattle.njh_wire.specs.Standing.{first_standing, with_connection, without_connection, with_failure, given_up, after_displacement, after_admission, after_close};
+ghost use Rattle.njh_wire.specs.Standing.{first_standing, with_connection, without_connection, with_failure, given_up};
+ghost use Rattle.njh_wire.specs.Standing.{after_displacement, after_admission, after_close};
 ghost use Rattle.std.specs.Option.{option_map};
 ghost use Rattle.njh_wire.specs.Places.{IsAt, IsOwn};
 ghost use Rattle.njh_wire.specs.Answers.{IsOpen, IsWait, IsRead, IsWritten, IsFlushed, before_answer};
@@ -295,7 +296,8 @@ impl<C: Connection + Drop> Wire for LineWire<C> {
         requires { 0 < length into.old }
         ensures answered { self.old.place ≡ self.new.place }
         ensures waits { 0 < length self.old.waiting → IsWait (before_answer self.old) result self.new }
-        ensures reads { self.old.waiting ≡ [] → IsRead C.moved C.stops (before_answer self.old) result into.new self.new }
+        ensures reads { self.old.waiting ≡ []
+            → IsRead C.moved C.stops (before_answer self.old) result into.new self.new }
         ensures within { IfOk result (IsReading (length into.new)) }
         ensures counts { self.old.failures ≤ self.new.failures }
         ensures counted { OnErr result (IsCounted self.old.failures self.new.failures) }

@@ -2,7 +2,8 @@
 use Rattle.std.proofs.Common.{◌≡◌, ◌<◌, ℕ, List, [], ◌∷◌, ◌++◌, length, slice_set, Option, Some, None, refl, ap, ◌∙◌}
 use Rattle.std.proofs.Math.ListN.{length-set}
 use Rattle.std.proofs.lemmas.List.{get_or-set_same}
-use Rattle.njh_spool.specs.CustomerSpool.{CustomerSpool, PartialFile, partial_numbered, with_finished, without_partial, as_whole}
+use Rattle.njh_spool.specs.CustomerSpool.{CustomerSpool, PartialFile, partial_numbered, with_finished, without_partial}
+use Rattle.njh_spool.specs.CustomerSpool.{as_whole}
 use Rattle.njh_spool.specs.Spools.{spool_at, no_spool}
 use Rattle.tests_customer.specs.Kept.{IsKept}
 

@@ -104,7 +104,10 @@ impl Desk {
         if usize::from(line) >= self.lines.len() {
             return 0;
         }
-        let id = LineId { customer: 0, number: line };
+        let id = LineId {
+            customer: 0,
+            number: line,
+        };
         self.lines.take_bytes(
             id,
             piece,
@@ -118,7 +121,10 @@ impl Desk {
     /// A signal comes on a line.
     pub fn signal(&mut self, line: u16, signal: Signal) {
         if usize::from(line) < self.lines.len() {
-            let id = LineId { customer: 0, number: line };
+            let id = LineId {
+                customer: 0,
+                number: line,
+            };
             self.lines.take_signal(
                 id,
                 signal,

@@ -34,7 +34,8 @@ two_files_of_a_name_are_cancelled = refl
 -- spool.
 abbrev long_headed : String → List ℕ
 long_headed node =
-    job_header 0x99 42 "ANNA" ++ hex "99 c0 9f9f9f9f 87 00" ++ data_set_header 0x99 node "PAUL" ++ trailer 0x99 ++ file_end 0x99
+    job_header 0x99 42 "ANNA" ++ hex "99 c0 9f9f9f9f 87 00" ++ data_set_header 0x99 node "PAUL" ++ trailer 0x99
+    ++ file_end 0x99
 
 -- It is asked for at once on the line to its new node, and goes out with these eight bytes changed and no others.
 file_is_rerouted :

@@ -37,6 +37,7 @@ routes given = record { event = OwnRoutes given; sent = [] }
 -- A customer of this entry that was just opened sends these frames over these events, and no others.
 unfoldable pub Plays : CustomerEntry → List Turn → Type 0
 unfolding
-    character_of byte_of_character rest_step data_so_far text_bytes before_run first_item items_past spelling_of streams after_source after_sources filled_block file_text table_outcome after_frame
+    character_of byte_of_character rest_step data_so_far text_bytes before_run first_item items_past spelling_of streams
+    after_source after_sources filled_block file_text table_outcome after_frame
     after_signal route_checked
 Plays entry turns = (alone_run (part_at_open entry) (map (λ t. t.event) turns)).sent ≡ flat_map (λ t. t.sent) turns

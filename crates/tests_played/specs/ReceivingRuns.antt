@@ -62,7 +62,8 @@ small = customer_of_quota 2
 -- with the 103 of the job header, the 27 of the data set header, and 259 of a record of 256 bytes
 abbrev large_front : List ℕ
 large_front =
-    job_header 0x99 42 "ANNA" ++ data_set_header 0x99 "METZ" "PAUL" ++ hex "99 80 bfc1 bfc1 bfc1 bfc1 bfc1 bfc1 bfc1 bfc1 a8c1 00"
+    job_header 0x99 42 "ANNA" ++ data_set_header 0x99 "METZ" "PAUL"
+    ++ hex "99 80 bfc1 bfc1 bfc1 bfc1 bfc1 bfc1 bfc1 bfc1 a8c1 00"
 
 -- and 108 and 7
 abbrev full_file : List ℕ
@@ -73,7 +74,8 @@ overfull_file = large_front ++ hex "99 80 bfc2 bfc2 bfc2 adc2 00" ++ trailer 0x9
 
 file_fills_the_quota :
     Plays small
-    (lyon_is_up ++ on a1 (block 0x80 request) (block 0x80 permission) ∷ on a1 (block 0x81 full_file) (block 0x81 completion) ∷ [])
+    (lyon_is_up ++ on a1 (block 0x80 request) (block 0x80 permission)
+    ∷ on a1 (block 0x81 full_file) (block 0x81 completion) ∷ [])
 unfolding Plays
 file_fills_the_quota = refl
 

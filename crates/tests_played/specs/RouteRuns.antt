@@ -58,7 +58,8 @@ file_that_is_sent_goes_on :
     ++ on a2 ack0 (block 0x80 request)
     ∷ on a1 (block 0x82 (nodal_message 0x20 "METZ" "PAUL" "LYON" (ebcdic "HI"))) ack0
     ∷ routes (to "LYON" a1 ∷ [])
-    ∷ on a2 (block 0x80 permission) (block 0x81 (nodal_message 0x20 "METZ" "PAUL" "LYON" (ebcdic "HI") ++ file 42 "ANNA"))
+    ∷ on a2 (block 0x80 permission) (block 0x81
+    (nodal_message 0x20 "METZ" "PAUL" "LYON" (ebcdic "HI") ++ file 42 "ANNA"))
     ∷ signal Lost a2 []
     ∷ on a1 (block 0x83 (says "ANNA" "LIST")) (block 0x82 (one_file "NJH001 LYON.42 TO METZ PAUL OUT 4 RECORDS READY"))
     ∷ metz_is_up
@@ -82,7 +83,8 @@ refused_is_held_and_partial_comes :
     ∷ on a1 (block 0x84 (hello 0x99 ++ trailer 0x99 ++ file_end 0x99)) (block 0x83 completion)
     ∷ on a1 (block 0x85 (says "ANNA" "LIST"))
     (block 0x84
-    (hears "ANNA" "NJH001 LYON.42 TO METZ PAUL OUT 4 RECORDS HELD" ++ hears "ANNA" "NJH001 LYON.43 TO METZ PAUL OUT 4 RECORDS READY"
+    (hears "ANNA" "NJH001 LYON.42 TO METZ PAUL OUT 4 RECORDS HELD"
+    ++ hears "ANNA" "NJH001 LYON.43 TO METZ PAUL OUT 4 RECORDS READY"
     ++ hears "ANNA" "NJH002 2 FILES"))
     ∷ on a2 ack0 []
     ∷ [])

@@ -85,12 +85,14 @@ completion = hex "c0 99 00"
 
 -- a job of a user at LYON, whose output goes to PAUL at METZ
 abbrev pub file : ℕ → String → List ℕ
-file number user = job_header 0x99 number user ++ data_set_header 0x99 "METZ" "PAUL" ++ hello 0x99 ++ trailer 0x99 ++ file_end 0x99
+file number user =
+    job_header 0x99 number user ++ data_set_header 0x99 "METZ" "PAUL" ++ hello 0x99 ++ trailer 0x99 ++ file_end 0x99
 
 -- it comes on a1, in the two blocks from this one on
 abbrev pub file_comes : ℕ → ℕ → String → List Turn
 file_comes bcb number user =
-    on a1 (block bcb request) (block bcb permission) ∷ on a1 (block (bcb + 1) (file number user)) (block (bcb + 1) completion) ∷ []
+    on a1 (block bcb request) (block bcb permission)
+    ∷ on a1 (block (bcb + 1) (file number user)) (block (bcb + 1) completion) ∷ []
 
 -- LYON.42 of ANNA is in the spool, and a2 is up
 abbrev pub file_is_ready : List Turn
@@ -100,7 +102,8 @@ file_is_ready = lyon_is_up ++ file_comes 0x80 42 "ANNA" ++ metz_is_up
 
 sign_on_in_bytes :
     lyon_signs_on
-    ≡ hex "1002 a08fcff0c929d3e8d6d540404040010000000000000400" ++ hex "40404040404040404040404040404040 000000000000 1026"
+    ≡ hex "1002 a08fcff0c929d3e8d6d540404040010000000000000400"
+    ++ hex "40404040404040404040404040404040 000000000000 1026"
 sign_on_in_bytes = refl
 
 list_in_bytes :

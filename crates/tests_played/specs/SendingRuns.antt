@@ -73,12 +73,14 @@ message_goes_on = refl
 -- With 15 blocks left and a file that goes out, all streams to the hub are suspended.
 little_room_suspends_the_streams :
     Plays (customer_of_quota 16)
-    (file_is_ready ++ on a2 ack0 (block 0x80 request) ∷ lyon_is_up ++ on a1 (block 0x80 []) (text (hex "80 80c0 00")) ∷ [])
+    (file_is_ready ++ on a2 ack0 (block 0x80 request) ∷ lyon_is_up ++ on a1 (block 0x80 []) (text (hex "80 80c0 00"))
+    ∷ [])
 unfolding Plays
 little_room_suspends_the_streams = refl
 
 room_enough_suspends_nothing :
-    Plays (customer_of_quota 17) (file_is_ready ++ on a2 ack0 (block 0x80 request) ∷ lyon_is_up ++ on a1 (block 0x80 []) ack0 ∷ [])
+    Plays (customer_of_quota 17) (file_is_ready ++ on a2 ack0 (block 0x80 request) ∷ lyon_is_up
+    ++ on a1 (block 0x80 []) ack0 ∷ [])
 unfolding Plays
 room_enough_suspends_nothing = refl
 
@@ -100,7 +102,8 @@ headers rcb = job_header rcb rcb "ANNA" ++ data_set_header rcb "METZ" "PAUL"
 -- 69 bytes, in a record of 74
 abbrev verse : ℕ → List ℕ
 verse rcb =
-    rcb ∷ hex "80 ff" ++ ebcdic "THE QUICK BROWN FOX JUMPS OVER THE LAZY DOG. THE DOG SLEEPS ON." ++ hex "c6" ++ ebcdic " MORE " ++ hex "00"
+    rcb ∷ hex "80 ff" ++ ebcdic "THE QUICK BROWN FOX JUMPS OVER THE LAZY DOG. THE DOG SLEEPS ON." ++ hex "c6"
+    ++ ebcdic " MORE " ++ hex "00"
 
 -- METZ takes texts of 300 bytes. The first block has 296 with all headers, the second 300 with all data; so the
 -- trailers are left.
@@ -108,7 +111,8 @@ abbrev trailers_are_left : List Turn
 trailers_are_left =
     lyon_is_up
     ++ on a1 (block 0x80 (on_each (control 0x90))) (block 0x80 (on_each (control 0xa0)))
-    ∷ on a1 (block 0x81 (on_each (λ rcb. headers rcb ++ verse rcb ++ trailer rcb ++ file_end rcb))) (block 0x81 (on_each (control 0xc0)))
+    ∷ on a1 (block 0x81 (on_each (λ rcb. headers rcb ++ verse rcb ++ trailer rcb ++ file_end rcb)))
+    (block 0x81 (on_each (control 0xc0)))
     ∷ with_small_texts a2 "METZ"
     ++ on a2 ack0 (block 0x80 (on_each (control 0x90)))
     ∷ on a2 (block 0x80 (on_each (control 0xa0)))
@@ -119,7 +123,8 @@ trailers_are_left =
 
 -- the first is suspended
 three_streams_end_in_turn :
-    Plays acme (trailers_are_left ++ on a2 (text (hex "82 8fc7 00")) (block 0x83 (on_last_three trailer ++ on_last_three file_end)) ∷ [])
+    Plays acme (trailers_are_left ++ on a2 (text (hex "82 8fc7 00"))
+    (block 0x83 (on_last_three trailer ++ on_last_three file_end)) ∷ [])
 unfolding Plays
 three_streams_end_in_turn = refl
 

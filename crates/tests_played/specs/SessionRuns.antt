@@ -16,7 +16,8 @@ contact_and_sign_on = refl
 
 list_without_files :
     Plays acme
-    (with_small_texts a1 "LYON" ++ on a1 (block 0x80 (says "ANNA" "LIST")) (block 0x80 (hears "ANNA" "NJH002 0 FILES")) ∷ [])
+    (with_small_texts a1 "LYON" ++ on a1 (block 0x80 (says "ANNA" "LIST")) (block 0x80 (hears "ANNA" "NJH002 0 FILES"))
+    ∷ [])
 unfolding Plays
 list_without_files = refl
 
@@ -64,7 +65,8 @@ five_tries :
 unfolding Plays
 five_tries = refl
 
-garbled_then_lost : Plays acme (lyon_is_up ++ signal Garbled a1 nak ∷ on a1 [] [] ∷ signal Lost a1 [] ∷ on a1 nak [] ∷ [])
+garbled_then_lost : Plays acme (lyon_is_up ++ signal Garbled a1 nak ∷ on a1 [] [] ∷ signal Lost a1 [] ∷ on a1 nak []
+    ∷ [])
 unfolding Plays
 garbled_then_lost = refl
 

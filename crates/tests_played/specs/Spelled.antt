@@ -56,7 +56,8 @@ job_header rcb number user =
 -- under SRCB E0 the data set header of a file to a user at a node
 abbrev pub data_set_header : ℕ → String → String → List ℕ
 data_set_header rcb node user =
-    rcb ∷ hex "e0 c2 0018 a3 00" ++ literal 3 node ∷ hex "14 0000" ++ named node ++ literal 0 user ∷ named user ++ hex "00"
+    rcb ∷ hex "e0 c2 0018 a3 00" ++ literal 3 node ∷ hex "14 0000" ++ named node ++ literal 0 user ∷ named user
+    ++ hex "00"
 
 -- HELLO with its length before it
 abbrev pub hello : ℕ → List ℕ

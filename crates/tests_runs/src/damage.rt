@@ -139,12 +139,7 @@ fn take_event(
 }
 
 /// A step by bytes, of which one frame at most is answered.
-fn take_bytes(
-    hub: &mut Hub,
-    id: LineId,
-    piece: &[u8],
-    out: &mut Vec<u8>,
-) -> Result<(), HubFault> {
+fn take_bytes(hub: &mut Hub, id: LineId, piece: &[u8], out: &mut Vec<u8>) -> Result<(), HubFault> {
     match hub.take(id, piece, out) {
         Ok(_) => Ok(()),
         Err(fault) => Err(fault),

@@ -4,7 +4,7 @@ use crate::steps::{of_hub, open};
 use njh_ebcdic::Name;
 use njh_hub::{Hub, HubFault};
 use njh_program::Failure;
-use njh_table::{LineId, GivenRoute, Tables};
+use njh_table::{GivenRoute, LineId, Tables};
 use std::fs;
 use std::rt::Files;
 
@@ -26,7 +26,11 @@ const B1: LineId = LineId {
 /// A route to a node by a line, and by a second one if there is one.
 pub fn route_by(node: &str, id: LineId, second: Option<LineId>) -> Result<GivenRoute, Failure> {
     match Name::of_text(node) {
-        Ok(node) => Ok(GivenRoute { node, line: id, second }),
+        Ok(node) => Ok(GivenRoute {
+            node,
+            line: id,
+            second,
+        }),
         Err(_) => Err(of_hub(HubFault::UnknownCustomer)),
     }
 }

@@ -6,7 +6,7 @@ use crate::peers::{Numbers, Peer, bytes_at};
 use crate::steps::bytes_of;
 use njh_hub::{Event, GivenRoutes};
 use njh_program::Failure;
-use njh_table::{LineId, GivenRoute};
+use njh_table::{GivenRoute, LineId};
 use std::alloc::{AllocError, Global};
 use std::fs;
 use std::rt::Files;
@@ -86,10 +86,20 @@ fn route_of(
     second: Option<u16>,
 ) -> Result<GivenRoute, Failure> {
     let second = match second {
-        Some(line) => Some(LineId { customer, number: line }),
+        Some(line) => Some(LineId {
+            customer,
+            number: line,
+        }),
         None => None,
     };
-    route_by(node, LineId { customer, number: line }, second)
+    route_by(
+        node,
+        LineId {
+            customer,
+            number: line,
+        },
+        second,
+    )
 }
 
 /// The peers of a customer's lines.

@@ -6,7 +6,7 @@ use crate::random_runs::{PAIRS, nothing_kept, of_cause};
 use crate::steps::{of_hub, open};
 use njh_hub::{Event, Hub};
 use njh_program::Failure;
-use njh_table::{LineId, GivenRoute, Tables};
+use njh_table::{GivenRoute, LineId, Tables};
 use std::alloc::Global;
 
 /// How a file's line ends while it is being sent: SENDING.

@@ -24,4 +24,5 @@ pub record IsCoherent (c : Customer) : Type 0 where
 
 -- Routes that are given keep it coherent.
 abbrev pub RoutesKeepCoherent : Type 0
-RoutesKeepCoherent = (routes : List RouteEntry) (c : Customer) → IsCoherent c → IsCoherent (customer_with_routes routes c)
+RoutesKeepCoherent =
+    (routes : List RouteEntry) (c : Customer) → IsCoherent c → IsCoherent (customer_with_routes routes c)

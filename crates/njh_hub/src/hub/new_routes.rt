@@ -21,11 +21,13 @@ impl Hub {
     /// own entry alone; then `Memory` where there was none for them. After each nothing has changed.
     pub fn set_routes(&mut self, customer: u16, routes: &[GivenRoute]) -> Result<(), HubFault>
         ensures hub { OnOk result (self.new
-            ≡ slice_set self.old customer (part_after_routes (entries_of_routes (new_routes_of customer routes.now)) (part customer self.old))) }
+            ≡ slice_set self.old customer (part_after_routes (entries_of_routes (new_routes_of customer routes.now))
+            (part customer self.old))) }
         ensures others { (c : ℕ) → c ≢ customer → part c self.new ≡ part c self.old }
         ensures lines { SameLines self.old self.new }
         ensures known { OnOk result (customer < length self.old) }
-        ensures checked { OnOk result (routes_checked (part customer self.old).customer.entry (new_routes_of customer routes.now) ≡ Ok tt) }
+        ensures checked { OnOk result (routes_checked (part customer self.old).customer.entry
+            (new_routes_of customer routes.now) ≡ Ok tt) }
         ensures unknown { ¬ (customer < length self.old) → result ≡ Err HubFault.UnknownCustomer }
         ensures refused { customer < length self.old → (cause : TableFault) →
             routes_checked (part customer self.old).customer.entry (new_routes_of customer routes.now) ≡ Err cause →
@@ -53,11 +55,13 @@ impl Hub {
 fn set_in_tables(tables: &mut Tables, customer: u16, routes: &[GivenRoute]) -> Result<(), HubFault>
     requires { customer < length tables.old.customers }
     ensures routes { OnOk result (tables.new ≡ with_routes customer (new_routes_of customer routes.now) tables.old) }
-    ensures checked { OnOk result (routes_checked (entry_of (customer_at tables.old customer)) (new_routes_of customer routes.now) ≡ Ok tt) }
+    ensures checked { OnOk result (routes_checked (entry_of (customer_at tables.old customer))
+        (new_routes_of customer routes.now) ≡ Ok tt) }
     ensures refused { (cause : TableFault) →
         routes_checked (entry_of (customer_at tables.old customer)) (new_routes_of customer routes.now) ≡ Err cause →
         result ≡ Err (HubFault.BadRoutes cause) }
-    ensures memory { routes_checked (entry_of (customer_at tables.old customer)) (new_routes_of customer routes.now) ≡ Ok tt →
+    ensures memory { routes_checked (entry_of (customer_at tables.old customer)) (new_routes_of customer routes.now)
+        ≡ Ok tt →
         OnErr result (result ≡ Err HubFault.Memory) }
     ensures err { OnErr result (tables.new ≡ tables.old) }
 {

@@ -16,11 +16,15 @@ text_of-append names (x ∷ xs) ys =
 pub IsPrinted-none : (names : List (List (List ℕ))) (known : Option (List ℕ)) → IsPrinted names names known known []
 IsPrinted-none names known = (refl, Appends-nil known)
 
-pub IsPrinted-more : (names then last : List (List (List ℕ))) (a b c : Option (List ℕ)) (xs ys : List (LineId × List ℕ)) →
+pub IsPrinted-more : (names then last : List (List (List ℕ))) (a b c : Option (List ℕ))
+    (xs ys : List (LineId × List ℕ)) →
     IsPrinted names then a b xs → IsPrinted then last b c ys → IsPrinted names last a c (xs ++ ys)
 IsPrinted-more names then last a b c xs ys front back =
-    let more : Appends b c (frames_text names ys) = rw front.0 at back.1 in
-    (back.0 ∙ front.0, rw (text_of-append names xs ys) (Appends-trans a b c (frames_text names xs) (frames_text names ys) front.1 more))
+    let more : Appends b c (frames_text names ys) = rw front.0 at back.1 in (
+      back.0 ∙ front.0,
+      rw (text_of-append names xs ys)
+          (Appends-trans a b c (frames_text names xs) (frames_text names ys) front.1 more),
+    )
 
 -- a printer keeps its place
 pub same_then : {first then last : ℕ} → then ≡ first → last ≡ then → last ≡ first

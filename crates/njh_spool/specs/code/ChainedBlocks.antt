@@ -1,7 +1,6 @@
 -- How byte strings lie in the blocks of one slab, each block linked to the next of its chain.
 use Rattle.std.specs.Prelude.{◌≡◌, ◌≢◌, ℕ, zero, suc, ◌-◌, ◌*◌, ◌<◌, ◌≤◌, ◌^◌, ◌==◌, List, [], ◌∷◌, length, map, take}
-use Rattle.std.specs.Prelude.{count_by, sum_by}
-use Rattle.std.specs.Prelude.{slice_index, slice_index_or, Option, Some, None}
+use Rattle.std.specs.Prelude.{count_by, sum_by, slice_index, slice_index_or, Option, Some, None}
 use Rattle.std.specs.List.{flat_map, All}
 use Rattle.slab.specs.Slab.{Slab, get, slab_len}
 use Rattle.njh_spool.specs.declared.store.block.Block.{Block}
@@ -53,7 +52,8 @@ keys_of blocks slot = keys_from blocks (blocks_for slot.len) slot.head
 
 -- the chain of a slot
 abbrev pub chain_of : Slab Block → Slot → Chain
-chain_of blocks slot = record { keys = keys_of blocks slot; bytes = take slot.len (data_of blocks (keys_of blocks slot)) }
+chain_of blocks slot =
+    record { keys = keys_of blocks slot; bytes = take slot.len (data_of blocks (keys_of blocks slot)) }
 
 abbrev pub chains_of : Slab Block → List Slot → List Chain
 chains_of blocks slots = map (chain_of blocks) slots

@@ -1,7 +1,6 @@
 -- What a store of byte strings is to its callers: a string and the keys of its blocks for each slot.
 use Rattle.std.specs.Prelude.{◌≡◌, ℕ, ◌+◌, ◌*◌, ◌/◌, ◌<◌, ◌≤◌, List, [], ◌++◌, length, take, sum_by, slice_get}
-use Rattle.std.specs.Prelude.{slice_set}
-use Rattle.std.specs.Prelude.{slice_index_or, Some}
+use Rattle.std.specs.Prelude.{slice_set, slice_index_or, Some}
 use Rattle.njh_spool.specs.declared.store.block_mark.Mark.{Mark}
 
 -- a string, and the keys of the blocks that it lies in, in order
@@ -42,7 +41,8 @@ blocks_used store = sum_by (λ chain. blocks_of chain.bytes) store.chains
 -- a string has grown at its end: its blocks are the old ones, and then others, and every other slot's chain is as it
 -- was
 pub record Grows (slot : ℕ) (bytes : List ℕ) (old new : StoreValue) : Type 0 where
-  pub after : new ≡ with_chain slot (record { keys = (chain_at slot new).keys; bytes = (chain_at slot old).bytes ++ bytes }) old
+  pub after : new
+      ≡ with_chain slot (record { keys = (chain_at slot new).keys; bytes = (chain_at slot old).bytes ++ bytes }) old
   pub keys : take (length (chain_at slot old).keys) (chain_at slot new).keys ≡ (chain_at slot old).keys
 
 -- a mark tells the key of a chain's block; the first block's key is known without

@@ -23,7 +23,8 @@ pub record IsIndex (entries places counts : List ℕ) (count : ℕ) : Type 0 whe
   pub counted : count ≡ length (numbers_in entries)
   pub placed : (p : ℕ) → p < length entries → slice_index_or entries p 0 < MAX_FILES
       → slice_index_or places (slice_index_or entries p 0) 0 ≡ p
-  pub reached : (p : ℕ) → p < length entries → slice_index_or entries p 0 < MAX_FILES → slice_index_or entries p 0 < length places
+  pub reached : (p : ℕ) → p < length entries → slice_index_or entries p 0 < MAX_FILES
+      → slice_index_or entries p 0 < length places
   pub grouped : (g : ℕ) → g < 32 → slice_index_or counts g 0 + before (32 * g) entries ≡ before (32 * g + 32) entries
 
 -- what always holds of some entries: they are indexed, and there is room for as many as a customer may have files

@@ -1,7 +1,6 @@
 -- What the slots of the files and the chains of the store are to each customer, and what always holds of them.
 use Rattle.std.specs.Prelude.{◌≡◌, ℕ, ◌+◌, ◌*◌, ◌<◌, ◌≤◌, Bool, true, false, List, [], ◌∷◌, length, take, map, cond}
-use Rattle.std.specs.Prelude.{nat_lt}
-use Rattle.std.specs.Prelude.{sum_by, count_by, slice_index_or, ◌==◌}
+use Rattle.std.specs.Prelude.{nat_lt, sum_by, count_by, slice_index_or, ◌==◌}
 use Rattle.std.specs.List.{All}
 use Rattle.njh_record.specs.Stored.{Stored}
 use Rattle.njh_record.specs.declared.Kind.{Kind}
@@ -82,7 +81,8 @@ state_of Partial = Ready
 state_of (Whole state) = state
 
 abbrev pub whole_file : (ℕ → Content) → ℕ → WholeFile
-whole_file files n = record { number = n; kind = (files n).kind; records = (files n).records; state = state_of (files n).stage }
+whole_file files n =
+    record { number = n; kind = (files n).kind; records = (files n).records; state = state_of (files n).stage }
 
 abbrev pub partial_file : (ℕ → Content) → ℕ → PartialFile
 partial_file files n = record { number = n; kind = (files n).kind; records = (files n).records }
@@ -132,7 +132,8 @@ pub record IsFile (slot : FileSlot) (chain : Chain) : Type 0 where
 
 -- a whole file's slot keeps what the headers of its records say
 abbrev pub KeepsHeaders : FileSlot → Chain → Type 0
-KeepsHeaders slot chain = is_whole_stage slot.stage ≡ true → slot.headers ≡ kept_headers slot.kind (unpacked_records slot.count chain.bytes)
+KeepsHeaders slot chain =
+    is_whole_stage slot.stage ≡ true → slot.headers ≡ kept_headers slot.kind (unpacked_records slot.count chain.bytes)
 
 -- what always holds of the spool
 pub record IsKept (store : StoreValue) (slots : List FileSlot) (customers : List CustomerFiles) : Type 0 where

@@ -2,7 +2,8 @@
 
 ghost use Rattle.std.specs.Prelude.{◌≡◌, ◌<◌, ◌≤◌, ◌^◌, length, MatchOption, IfOk, OnOk, OnErr, IsOk, slice_set};
 ghost use Rattle.std.specs.Option.{option_map};
-ghost use Rattle.njh_spool.specs.CustomerSpool.{next_number, with_new_partial, with_appended, with_finished, without_partial, partial_numbered};
+ghost use Rattle.njh_spool.specs.CustomerSpool.{next_number, with_new_partial, with_appended, with_finished};
+ghost use Rattle.njh_spool.specs.CustomerSpool.{without_partial, partial_numbered};
 ghost use Rattle.njh_spool.specs.code.Chains.{blocks_for};
 ghost use Rattle.njh_spool.specs.Spools.{spool_at, begin_fault, append_fault, or_no_file};
 
@@ -35,7 +36,8 @@ impl Spool {
         ensures fault { MatchOption (begin_fault (spool_at customer self.old))
             (IsOk result) (λ fault. result ≡ Err fault) }
         ensures number { IfOk result (λ id. id ≡ next_number (spool_at customer self.old)) }
-        ensures ok { OnOk result (self.new ≡ slice_set self.old customer (with_new_partial kind (spool_at customer self.old))) }
+        ensures ok { OnOk result (self.new
+            ≡ slice_set self.old customer (with_new_partial kind (spool_at customer self.old))) }
         ensures err { OnErr result (self.new ≡ self.old) }
     {
         let own = &mut self.customers[usize::from(customer)];
@@ -66,10 +68,12 @@ impl Spool {
     ) -> Result<(), SpoolFault>
         requires range { customer < length self.old }
         requires short { length bytes.now ≤ 256 }
-        ensures fault { MatchOption (append_fault id (record { srcb = srcb; bytes = bytes.now }) (spool_at customer self.old))
+        ensures fault { MatchOption (append_fault id (record { srcb = srcb; bytes = bytes.now })
+            (spool_at customer self.old))
             (IsOk result) (λ fault. result ≡ Err fault) }
         ensures ok { OnOk result (self.new
-            ≡ slice_set self.old customer (with_appended id (record { srcb = srcb; bytes = bytes.now }) (spool_at customer self.old))) }
+            ≡ slice_set self.old customer (with_appended id (record { srcb = srcb; bytes = bytes.now })
+            (spool_at customer self.old))) }
         ensures err { OnErr result (self.new ≡ self.old) }
     {
         let mut slot = slot_at(&self.slots, customer, id);

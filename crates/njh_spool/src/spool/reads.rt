@@ -29,7 +29,8 @@ impl Spool {
     /// How many records a file has. S3 where the number is no file's.
     pub fn records(&self, customer: u16, id: FileId) -> Result<u32, SpoolFault>
         requires { customer < length self.now }
-        ensures { result ≡ or_no_file (option_map (λ records. length records) (records_numbered id (spool_at customer self.now))) }
+        ensures { result ≡ or_no_file (option_map (λ records. length records)
+            (records_numbered id (spool_at customer self.now))) }
     {
         let slot = slot_at(&self.slots, customer, id);
         if slot.is_free() {

@@ -49,7 +49,8 @@ impl Spool {
     /// file's.
     pub fn headers(&self, customer: u16, id: FileId) -> Result<FileHeaders, SpoolFault>
         requires { customer < length self.now }
-        ensures { result ≡ or_no_file (option_map (λ f. headers_of f.kind f.records) (whole_numbered id (spool_at customer self.now))) }
+        ensures { result ≡ or_no_file (option_map (λ f. headers_of f.kind f.records)
+            (whole_numbered id (spool_at customer self.now))) }
     {
         let slot = slot_at(&self.slots, customer, id);
         if !slot.is_whole() {
@@ -73,7 +74,8 @@ impl Spool {
     /// How many blocks a whole file takes, without a look at its records. S3 where the number is no whole file's.
     pub fn blocks(&self, customer: u16, id: FileId) -> Result<u32, SpoolFault>
         requires { customer < length self.now }
-        ensures { result ≡ or_no_file (option_map (λ f. cost f.records) (whole_numbered id (spool_at customer self.now))) }
+        ensures { result ≡ or_no_file (option_map (λ f. cost f.records)
+            (whole_numbered id (spool_at customer self.now))) }
     {
         if !slot_at(&self.slots, customer, id).is_whole() {
             return Err(SpoolFault::NoSuchFile);
@@ -118,7 +120,8 @@ impl Spool {
         requires within { ForSome (whole_numbered id (spool_at customer self.old))
             (λ f. IsSomeAnd (slice_get f.records n) (λ r. place + 8 ≤ length r.bytes)) }
         ensures answer { result ≡ or_no_file (option_map (λ _. tt) (whole_numbered id (spool_at customer self.old))) }
-        ensures after { self.new ≡ slice_set self.old customer (with_rewritten_bytes id n place bytes (spool_at customer self.old)) }
+        ensures after { self.new
+            ≡ slice_set self.old customer (with_rewritten_bytes id n place bytes (spool_at customer self.old)) }
         ensures err { OnErr result (self.new ≡ self.old) }
     {
         let mut slot = slot_at(&self.slots, customer, id);

@@ -20,7 +20,8 @@ impl Store {
     /// Appends what the last block has room for.
     pub(super) fn fill_last(&mut self, slot: u32, bytes: &[u8])
         requires slot { slot < length self.old.chains }
-        requires room { length (chain_at slot self.old).bytes + length bytes.now ≤ 252 * blocks_of (chain_at slot self.old).bytes }
+        requires room { length (chain_at slot self.old).bytes + length bytes.now ≤ 252 * blocks_of
+            (chain_at slot self.old).bytes }
         ensures { self.new ≡ with_bytes slot ((chain_at slot self.old).bytes ++ bytes.now) self.old }
     {
         if !bytes.is_empty() {
@@ -32,7 +33,8 @@ impl Store {
     pub(super) fn extend_last(&mut self, slot: u32, bytes: &[u8])
         requires slot { slot < length self.old.chains }
         requires some { 0 < length bytes.now }
-        requires room { length (chain_at slot self.old).bytes + length bytes.now ≤ 252 * blocks_of (chain_at slot self.old).bytes }
+        requires room { length (chain_at slot self.old).bytes + length bytes.now ≤ 252 * blocks_of
+            (chain_at slot self.old).bytes }
         ensures { self.new ≡ with_bytes slot ((chain_at slot self.old).bytes ++ bytes.now) self.old }
     {
         let old = self.slots[slot as usize];

@@ -37,5 +37,6 @@ pub record Comes (n : ℕ) (lines : List (List Receiver)) : Type 0 where
 -- partial file is without a stream.
 pub record AreTied (lines : List (List Receiver)) (s : CustomerSpool) : Type 0 where
   pub agree : (l k : ℕ) → Agrees (kind_of k) (stream_at l k lines) s
-  pub apart : (l k m j n : ℕ) → coming_file (stream_at l k lines) ≡ Some n → coming_file (stream_at m j lines) ≡ Some n → (l ≡ m) × (k ≡ j)
+  pub apart : (l k m j n : ℕ) → coming_file (stream_at l k lines) ≡ Some n → coming_file (stream_at m j lines) ≡ Some n
+      → (l ≡ m) × (k ≡ j)
   pub come : (n : ℕ) (f : PartialFile) → partial_numbered n s ≡ Some f → Comes n lines

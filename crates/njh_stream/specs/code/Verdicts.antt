@@ -25,7 +25,8 @@ verdict_value (Cancelled text) = transmissions.Cancelled (option_map (λ t. t.it
 abbrev pub judged_placed : Kind → List ℕ → ℕ → ℕ → List ℕ → transmissions.Verdict
 judged_placed In node last srcb bytes = transmissions.Taken
 judged_placed Out node last srcb bytes =
-    elim ((srcb == 0xe0) && not (last == 0xe0)) [ true ↦ transmissions.judged_against node bytes | false ↦ transmissions.Taken ]
+    elim ((srcb == 0xe0) && not (last == 0xe0))
+    [ true ↦ transmissions.judged_against node bytes | false ↦ transmissions.Taken ]
 
 -- where the record is taken, the file has come so far
 abbrev pub IsTakenAt : Verdict → Progress → Type 0
@@ -51,7 +52,8 @@ abbrev pub appended_where : Bool → ℕ → Progress → Option JobHeader → S
 appended_where true n progress header r s =
     record { receiver = Open n progress; spool = with_appended n r s; answer = None; notice = None }
 appended_where false n progress header r s =
-    received_cancelling n (notice_of (option_map (λ h. h.origin) header) (transmissions.full_text (option_map (λ h. (h.origin.0, h.number)) header))) s
+    received_cancelling n (notice_of (option_map (λ h. h.origin) header)
+    (transmissions.full_text (option_map (λ h. (h.origin.0, h.number)) header))) s
 
 -- a step's outcome is as said: the stream, the answer, the notice, and the spool of customer c
 pub record IsAfter (after : After) (new old : List CustomerSpool) (c : ℕ) (done : Received) : Type 0 where

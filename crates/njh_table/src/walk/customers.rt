@@ -41,7 +41,8 @@ fn has_customer(customers: &[Customer], name: Name) -> bool
 
 #[tactic(auto, unfolding(crate::specs::Walk::customer_keys))]
 fn customer_keys(keys: &Table, earlier: &[Customer]) -> Result<CustomerKeys, TableFault>
-    ensures { result_map_both (λ c. record { name = c.name; hub = c.hub; quota = c.quota; files = c.files }) (λ f. f) result
+    ensures { result_map_both (λ c. record { name = c.name; hub = c.hub; quota = c.quota; files = c.files })
+        (λ f. f) result
         ≡ customer_keys earlier.now (table_view keys.now) }
 {
     let name = name_at(keys, "name")?;

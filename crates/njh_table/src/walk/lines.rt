@@ -53,7 +53,8 @@ fn next_line(
 ) -> Result<Line, TableFault>
     requires { number ≤ length (names_in owners.old) }
     ensures walk { Walks (λ l. l) result (next_line (names_in owners.old) (view value.now)) }
-    ensures owners { IfOk result (λ l. owners.new ≡ owners.old ++ (l.name, record { customer = customer; number = number }) ∷ []) }
+    ensures owners { IfOk result (λ l. owners.new
+        ≡ owners.old ++ (l.name, record { customer = customer; number = number }) ∷ []) }
 {
     if owners.len() >= MAX_LINES {
         return Err(TableFault::TooMany);

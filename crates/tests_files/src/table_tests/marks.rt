@@ -40,7 +40,14 @@ fn step(tables: &mut Tables, what: &str) -> Result<(), Fail> {
     }
     let customer = number_of(words.next())?;
     let line = number_of(words.next())?;
-    set(tables, LineId { customer, number: line }, word == "up")
+    set(
+        tables,
+        LineId {
+            customer,
+            number: line,
+        },
+        word == "up",
+    )
 }
 
 fn push_marks(alloc: Global, text: &mut String, customer: &Customer) -> Result<(), AllocError> {

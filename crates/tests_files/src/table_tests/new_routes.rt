@@ -2,7 +2,7 @@
 
 use super::*;
 use crate::same::is_same;
-use njh_table::{Customer, LineId, GivenRoute};
+use njh_table::{Customer, GivenRoute, LineId};
 use std::process::Abort;
 use std::test::Fail;
 
@@ -53,13 +53,20 @@ fn route_of(text: &str) -> Result<GivenRoute, Fail> {
         Some(customer) => Some(line_of(Some(customer), words.next())?),
         None => None,
     };
-    Ok(GivenRoute { node, line: id, second })
+    Ok(GivenRoute {
+        node,
+        line: id,
+        second,
+    })
 }
 
 fn line_of(customer: Option<&str>, line: Option<&str>) -> Result<LineId, Fail> {
     let customer = number_of(customer)?;
     let line = number_of(line)?;
-    Ok(LineId { customer, number: line })
+    Ok(LineId {
+        customer,
+        number: line,
+    })
 }
 
 fn routes_of(alloc: Global, text: &str) -> Result<Vec<GivenRoute>, Fail> {
@@ -82,7 +89,11 @@ fn many(alloc: Global, count: u32) -> Result<Vec<GivenRoute>, Fail> {
             number: 0,
         };
         let second = None;
-        routes.push(GivenRoute { node, line: id, second })?;
+        routes.push(GivenRoute {
+            node,
+            line: id,
+            second,
+        })?;
     }
     Ok(routes)
 }

@@ -262,7 +262,12 @@ impl Peer {
     ) -> Result<(), AllocError> {
         for _ in 0..numbers.below(4) {
             if numbers.one_in(4) {
-                put_record(data, 0x9a, DATA, &message(alloc, self.line.number, numbers)?)?;
+                put_record(
+                    data,
+                    0x9a,
+                    DATA,
+                    &message(alloc, self.line.number, numbers)?,
+                )?;
             } else {
                 let stream = numbers.place(8);
                 self.put_stream(alloc, stream, numbers, data)?;

@@ -19,7 +19,14 @@ fn peers_of(alloc: Global, tables: &Tables, seed: u64) -> Result<Vec<Peer>, Allo
     let mut peers = Vec::new(alloc);
     for (customer, entry) in (0..64).zip(tables.customers()) {
         for (line, _) in (0..256).zip(entry.lines()) {
-            peers.push(Peer::new(alloc, LineId { customer, number: line }, wear))?;
+            peers.push(Peer::new(
+                alloc,
+                LineId {
+                    customer,
+                    number: line,
+                },
+                wear,
+            ))?;
         }
     }
     Ok(peers)

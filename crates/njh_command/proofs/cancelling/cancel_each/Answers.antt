@@ -1,14 +1,14 @@
 -- One file more was looked at, or all were.
-use Rattle.std.proofs.Common.{◌≡◌, ◌<◌, ◌≤◌, ◌+◌, ℕ, true, false, filter, fold, length, map, take, sym, ap, ap₂, subst, ◌∙◌, arith}
-use Rattle.std.proofs.Common.{slice_set}
+use Rattle.std.proofs.Common.{◌≡◌, ◌<◌, ◌≤◌, ◌+◌, ℕ, true, false, filter, fold, length, map, take, sym, ap, ap₂, subst}
+use Rattle.std.proofs.Common.{◌∙◌, arith, slice_set}
 use Rattle.njh_spool.specs.CustomerSpool.{CustomerSpool, WholeFile}
 use Rattle.njh_spool.specs.Spools.{spool_at}
 use Rattle.njh_command.specs.code.Changes.{numbers_where, without_where}
 use Rattle.njh_command.specs.Commands.{is_of_name, is_busy, without_file}
 use Rattle.njh_command.specs.Files.{file_at}
 use Rattle.njh_command.proofs.UpTo.{removed_up_to}
-use Rattle.njh_command.proofs.WalkLaws.{part_of, moved_twice, counted_more, index_more, removed_not_yet, removed_one_more, numbers_more}
-use Rattle.njh_command.proofs.WalkLaws.{fold_more, all_looked_at}
+use Rattle.njh_command.proofs.WalkLaws.{part_of, moved_twice, counted_more, index_more, removed_not_yet}
+use Rattle.njh_command.proofs.WalkLaws.{removed_one_more, numbers_more, fold_more, all_looked_at}
 use Rattle.njh_command.proofs.cancelling.cancel_each.Goals.{then-cancel_at, else-cancel_at}
 use Rattle.njh_command.proofs.cancelling.cancel_each.Goals as goal
 

@@ -6,7 +6,8 @@ use Rattle.njh_command.specs.code.Changes.{change_by, standing_of}
 use Rattle.njh_command.specs.Commands.{changed_file, is_of_name, is_busy, may_change, is_sending}
 use Rattle.njh_command.specs.Files.{file_at, with_file}
 use Rattle.njh_command.proofs.UpTo.{changed_up_to}
-use Rattle.njh_command.proofs.WalkLaws.{part_of, moved_twice, counted_more, changed_not_yet, changed_one_more, as_other, as_busy, as_idle}
+use Rattle.njh_command.proofs.WalkLaws.{part_of, moved_twice, counted_more, changed_not_yet, changed_one_more, as_other}
+use Rattle.njh_command.proofs.WalkLaws.{as_busy, as_idle}
 use Rattle.njh_command.proofs.changing.change_each.Goals.{in-Other, in-Busy, in-Idle}
 use Rattle.njh_command.proofs.changing.change_each.Goals as goal
 

@@ -1,5 +1,6 @@
 -- One file more was looked at, or all were.
-use Rattle.std.proofs.Common.{◌<◌, ◌≤◌, ◌++◌, ◌∷◌, [], ℕ, List, true, false, filter, length, map, take, sym, ap, ap₂, subst, ◌∙◌, arith}
+use Rattle.std.proofs.Common.{◌<◌, ◌≤◌, ◌++◌, ◌∷◌, [], ℕ, List, true, false, filter, length, map, take, sym, ap, ap₂}
+use Rattle.std.proofs.Common.{subst, ◌∙◌, arith}
 use Rattle.njh_spool.specs.Spools.{spool_at}
 use Rattle.njh_command.specs.Commands.{count, first_replies, is_owned}
 use Rattle.njh_command.specs.Replies.{file_line, files_line}

@@ -1,5 +1,6 @@
 -- One record more of the file.
-use Rattle.std.proofs.Common.{◌≡◌, ◌<◌, ◌+◌, ℕ, List, Option, None, Some, length, slice_set, sym, ap, ap₂, subst, ◌∙◌, add-one}
+use Rattle.std.proofs.Common.{◌≡◌, ◌<◌, ◌+◌, ℕ, List, Option, None, Some, length, slice_set, sym, ap, ap₂, subst, ◌∙◌}
+use Rattle.std.proofs.Common.{add-one}
 use Rattle.njh_record.specs.Stored.{Stored}
 use Rattle.njh_record.specs.declared.Kind.{Kind}
 use Rattle.njh_spool.specs.CustomerSpool.{CustomerSpool, WholeFile}

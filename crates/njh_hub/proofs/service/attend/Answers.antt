@@ -5,7 +5,8 @@ use Rattle.njh_table.specs.declared.LineId.{LineId}
 use Rattle.njh_hub.specs.Service.{Round, service_rounds}
 use Rattle.njh_hub.specs.Turns.{Turn, IsRound}
 use Rattle.njh_hub.specs.WholeHub.{HasLine}
-use Rattle.njh_hub.proofs.ServiceLaws.{at_first, at_still, at_given, at_round, rounds-with_given, rounds-with_round, with_given}
+use Rattle.njh_hub.proofs.ServiceLaws.{at_first, at_still, at_given, at_round, rounds-with_given, rounds-with_round}
+use Rattle.njh_hub.proofs.ServiceLaws.{with_given}
 use Rattle.njh_hub.proofs.service.attend.Goals as goal
 
 pub loop-turn-init : goal.loop-turn-init

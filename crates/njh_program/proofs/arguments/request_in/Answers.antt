@@ -3,7 +3,8 @@ use Rattle.clap.specs.Matches.{found_of, subcommand_name_of}
 use Rattle.clap.specs.Simple.{subcommand_rows_of}
 use Rattle.clap.specs.Walk.{Row, Text, first_of, rows_of}
 use Rattle.njh_program.specs.Arguments.{choice_of_rows}
-use Rattle.njh_program.proofs.ArgumentLaws.{first_value-rows, serves_asked, serves_options, serves_refused, subcommand_is}
+use Rattle.njh_program.proofs.ArgumentLaws.{first_value-rows, serves_asked, serves_options, serves_refused}
+use Rattle.njh_program.proofs.ArgumentLaws.{subcommand_is}
 use Rattle.njh_program.proofs.arguments.request_in.Goals as goal
 
 pub returns-in-Some-replay-default-clause-asked : goal.returns-in-Some-replay-default-clause-asked

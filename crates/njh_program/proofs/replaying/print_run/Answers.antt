@@ -7,7 +7,8 @@ use Rattle.njh_program.specs.declared.fault.ReplayFault.TheVariants.{Hub}
 use Rattle.njh_program.specs.Replayed.{fault_after}
 use Rattle.njh_program.specs.Printed.{frames_text, AppendsBeginning}
 use Rattle.njh_program.proofs.PrintedParts.{beginning-kept, beginning-part}
-use Rattle.njh_program.proofs.ReplayLaws.{MayEnd-stopped, printed_begins, stopped_begun, stopped_whole, stopped_at_routes}
+use Rattle.njh_program.proofs.ReplayLaws.{MayEnd-stopped, printed_begins, stopped_begun, stopped_whole}
+use Rattle.njh_program.proofs.ReplayLaws.{stopped_at_routes}
 use Rattle.njh_program.proofs.replaying.print_run.Goals as goal
 
 pub returns-in-Err-clause-faults : goal.returns-in-Err-clause-faults

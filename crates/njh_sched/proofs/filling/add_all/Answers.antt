@@ -5,7 +5,8 @@ use Rattle.njh_table.specs.TableFile.{entry_of}
 use Rattle.njh_sched.specs.NextBlock.{after_sources, aborts, requests, turns, waiting_answers, waiting_messages}
 use Rattle.njh_sched.specs.NextBlock.{filling}
 use Rattle.njh_sched.specs.code.Filling.{filling_where}
-use Rattle.njh_sched.proofs.KeptLaws.{goes_on, stops, limit_is, messages_behind_answers, messages_behind_aborts, messages_behind_requests}
+use Rattle.njh_sched.proofs.KeptLaws.{goes_on, stops, limit_is, messages_behind_answers, messages_behind_aborts}
+use Rattle.njh_sched.proofs.KeptLaws.{messages_behind_requests}
 use Rattle.njh_sched.proofs.filling.add_all.Goals as goal
 
 pub returns-then-not-add_answers-clause-source : goal.returns-then-not-add_answers-clause-source

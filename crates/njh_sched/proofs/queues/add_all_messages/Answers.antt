@@ -1,4 +1,5 @@
-use Rattle.std.proofs.Common.{◌≡◌, ◌∙◌, sym, ap, false, true, length, drop, replicate, slice_get, Some, None, rules, arith}
+use Rattle.std.proofs.Common.{◌≡◌, ◌∙◌, sym, ap, false, true, length, drop, replicate, slice_get, Some, None, rules}
+use Rattle.std.proofs.Common.{arith}
 use Rattle.njh_sched.specs.NextBlock.{WaitingMessage, after_sources, filling, without_message}
 use Rattle.njh_sched.specs.code.Filling.{filling_where, message_gone_where}
 use Rattle.njh_sched.proofs.SourceLists.{first_of_queue, empty_queue, full_stays}

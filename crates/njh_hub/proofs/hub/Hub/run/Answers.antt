@@ -1,5 +1,5 @@
-use Rattle.std.proofs.Common.{◌≡◌, ℕ, ◌+◌, ◌<◌, List, [], ◌∷◌, ◌++◌, length, take, Option, Some, ap, sym, subst, ◌∙◌, arith}
-use Rattle.std.proofs.Common.{◌≤◌, ⊎_elim, inl, inr}
+use Rattle.std.proofs.Common.{◌≡◌, ℕ, ◌+◌, ◌<◌, List, [], ◌∷◌, ◌++◌, length, take, Option, Some, ap, sym, subst, ◌∙◌}
+use Rattle.std.proofs.Common.{arith, ◌≤◌, ⊎_elim, inl, inr}
 use Rattle.std.specs.Prelude.{IsSomeAnd, slice_get, All, IsSome}
 use Rattle.std.specs.Vec.{vec_capacity}
 use Rattle.njh_bisync.specs.declared.frame.TheConstants.{LONGEST_FRAME}
@@ -12,7 +12,8 @@ use Rattle.njh_hub.specs.RunStops.{HandedUntil, IfHub, IsRefused, IsRoutes}
 use Rattle.njh_hub.specs.WholeHub.{Part, part, HubRun, IsNamed, hub_run}
 use Rattle.njh_hub.proofs.RunLaws.{each_is_alone}
 use Rattle.njh_hub.proofs.RunningLaws.{stopped_in, went_on, HandedUntil-after, HandedUntil-some}
-use Rattle.njh_hub.proofs.NamedLaws.{All-more, LedOn, behind-known, either_event, found_at, hub_run-length, led_on, named-before, refused_at}
+use Rattle.njh_hub.proofs.NamedLaws.{All-more, LedOn, behind-known, either_event, found_at, hub_run-length, led_on}
+use Rattle.njh_hub.proofs.NamedLaws.{named-before, refused_at}
 use Rattle.njh_hub.proofs.hub.Hub.run.Goals as goal
 
 pub returns-in-Err-clause-parts : goal.returns-in-Err-clause-parts

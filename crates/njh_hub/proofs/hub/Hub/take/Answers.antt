@@ -3,7 +3,8 @@ use Rattle.njh_customer.specs.Part.{part_after_bytes, part_with}
 use Rattle.njh_hub.specs.Parts.{parts_of}
 use Rattle.njh_hub.specs.code.HubInvariant.{IsHub}
 use Rattle.njh_hub.specs.WholeHub.{Part, HasLine, part}
-use Rattle.njh_hub.proofs.PartsLaws.{Found, Stepped, found, hub-moved, line-there, others-stay, step-leads, step-lines, stepped}
+use Rattle.njh_hub.proofs.PartsLaws.{Found, Stepped, found, hub-moved, line-there, others-stay, step-leads, step-lines}
+use Rattle.njh_hub.proofs.PartsLaws.{stepped}
 use Rattle.njh_spool.specs.Spools as spools
 use Rattle.njh_table.specs.TableFile.{customer_at, entry_of}
 use Rattle.njh_customer.specs.Customer.{IsMarked}

@@ -1,8 +1,8 @@
 use Rattle.std.proofs.Common.{◌≡◌, ℕ, ◌<◌, ◌≤◌, List, length, take, get_or, refl, sym, ap, subst, ◌∙◌, arith}
 use Rattle.njh_spool.specs.code.NumberEntries.{is_file_entry, IsIndex}
 use Rattle.njh_spool.proofs.EntryLaws.{any_default}
-use Rattle.njh_spool.proofs.ClosingLaws.{closing_begins, kept_within, hole_passes, number_moves}
-use Rattle.njh_spool.proofs.ClosingLaws.{closed_entries, closed_index}
+use Rattle.njh_spool.proofs.ClosingLaws.{closing_begins, kept_within, hole_passes, number_moves, closed_entries}
+use Rattle.njh_spool.proofs.ClosingLaws.{closed_index}
 use Rattle.njh_spool.proofs.number_entries.Entries.close_up.Goals as goal
 use Rattle.njh_spool.proofs.number_entries.Entries.close_up.Goals.{then-is_number, else-is_number, After-is_number}
 

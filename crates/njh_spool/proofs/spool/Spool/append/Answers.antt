@@ -1,21 +1,19 @@
-use Rattle.std.proofs.Common.{◌≡◌, ℕ, ◌+◌, ◌-◌, ◌*◌, ◌≤◌, true, List, ◌++◌, length, set}
-use Rattle.std.proofs.Common.{refl, sym, ap, subst, ◌∙◌, arith}
+use Rattle.std.proofs.Common.{◌≡◌, ℕ, ◌+◌, ◌-◌, ◌*◌, ◌≤◌, true, List, ◌++◌, length, set, refl, sym, ap, subst, ◌∙◌}
+use Rattle.std.proofs.Common.{arith, ◌/◌, take, length-append}
 use Rattle.njh_spool.specs.declared.file_slot.FileSlot.{FileSlot}
 use Rattle.njh_spool.specs.declared.customer_files.CustomerFiles.{CustomerFiles}
-use Rattle.njh_spool.specs.code.Chains.{Chain, chain_at}
+use Rattle.njh_spool.specs.code.Chains.{Chain, chain_at, with_chain, blocks_of}
 use Rattle.njh_spool.specs.CustomerSpool.{CustomerSpool, with_appended}
 use Rattle.njh_spool.specs.Spools.{spool_at}
 use Rattle.njh_spool.specs.code.Slots.{contents, slot_of, chain_of, is_partial, spools_of}
-use Rattle.njh_spool.proofs.KeptLaws.{own_of, own_is, Moves}
+use Rattle.njh_spool.proofs.KeptLaws.{own_of, own_is, Moves, within_all, quotas_fit}
 use Rattle.njh_spool.proofs.CallFinds as finds
 use Rattle.njh_spool.proofs.CallLaws as call
-use Rattle.std.proofs.Common.{◌/◌, take, length-append}
-use Rattle.njh_spool.specs.code.Chains.{with_chain, blocks_of}
 use Rattle.njh_spool.specs.code.Packing.{packed_record}
 use Rattle.njh_spool.proofs.PackingLaws.{length-packed_record}
-use Rattle.njh_spool.proofs.KeptLaws.{within_all, quotas_fit}
 use Rattle.njh_spool.proofs.spool.Spool.append.Goals as goal
-use Rattle.njh_spool.proofs.spool.Spool.append.Goals.{After-is_partial, After-blocks_for, After-blocks_for-2, After-append_both}
+use Rattle.njh_spool.proofs.spool.Spool.append.Goals.{After-is_partial, After-blocks_for, After-blocks_for-2}
+use Rattle.njh_spool.proofs.spool.Spool.append.Goals.{After-append_both}
 
 pub slot_at-slot-requires : goal.slot_at-slot-requires
 slot_at-slot-requires c =

@@ -1,16 +1,14 @@
-use Rattle.std.proofs.Common.{◌≡◌, ℕ, ◌+◌, ◌*◌, ◌<◌, ◌≤◌, List, [], ◌∷◌, ◌++◌, length, set}
-use Rattle.std.proofs.Common.{refl, sym, ap, ◌∙◌, arith, Bool, true, cond, eqb, count_by}
+use Rattle.std.proofs.Common.{◌≡◌, ℕ, ◌+◌, ◌*◌, ◌<◌, ◌≤◌, List, [], ◌∷◌, ◌++◌, length, set, refl, sym, ap, ◌∙◌, arith}
+use Rattle.std.proofs.Common.{Bool, true, cond, eqb, count_by}
 use Rattle.njh_spool.specs.declared.customer_files.CustomerFiles.{CustomerFiles}
-use Rattle.njh_spool.specs.CustomerSpool.{CustomerSpool, with_new_partial}
+use Rattle.njh_spool.specs.CustomerSpool.{CustomerSpool, with_new_partial, next_number}
 use Rattle.njh_spool.specs.Spools.{spool_at}
-use Rattle.njh_spool.specs.code.Slots.{contents, slot_of, is_free, spools_of}
+use Rattle.njh_spool.specs.code.Slots.{contents, slot_of, is_free, spools_of, whole_file, partial_file, spool_of}
 use Rattle.njh_spool.proofs.ReadLaws.{not_partial_free}
 use Rattle.njh_spool.proofs.KeptLaws.{own_of, own_is, Moves}
 use Rattle.njh_spool.proofs.CallFinds as finds
 use Rattle.njh_spool.proofs.CallLaws as call
 use Rattle.std.proofs.lemmas.List.{length-map}
-use Rattle.njh_spool.specs.CustomerSpool.{next_number}
-use Rattle.njh_spool.specs.code.Slots.{whole_file, partial_file, spool_of}
 use Rattle.njh_spool.proofs.BeginLaws.{begin_fault-many, begin_fault-full, begin_fault-none, some_free, number_is-next}
 use Rattle.njh_spool.proofs.spool.Spool.begin.Goals as goal
 use Rattle.njh_spool.proofs.spool.Spool.begin.Goals.{After-index_mut-own, After-free_number-number, After-set}

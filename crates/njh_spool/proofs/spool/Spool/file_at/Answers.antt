@@ -1,12 +1,10 @@
-use Rattle.std.proofs.Common.{◌<◌, length, get_or}
-use Rattle.std.proofs.Common.{sym, ap, ◌∙◌, arith}
+use Rattle.std.proofs.Common.{◌<◌, length, get_or, sym, ap, ◌∙◌, arith}
 use Rattle.njh_spool.specs.declared.customer_files.CustomerFiles.{CustomerFiles}
 use Rattle.njh_spool.specs.CustomerSpool.{CustomerSpool}
 use Rattle.njh_spool.specs.Spools.{spool_at}
-use Rattle.njh_spool.specs.code.Slots.{contents}
+use Rattle.njh_spool.specs.code.Slots.{contents, whole_file}
 use Rattle.njh_spool.proofs.KeptLaws.{has_own, own_of, own_is}
 use Rattle.std.proofs.lemmas.List.{length-map}
-use Rattle.njh_spool.specs.code.Slots.{whole_file}
 use Rattle.njh_spool.proofs.PlaceLaws.{slice_get-map}
 use Rattle.njh_spool.proofs.spool.Spool.file_at.Goals as goal
 

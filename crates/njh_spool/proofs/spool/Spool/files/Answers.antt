@@ -1,10 +1,8 @@
-use Rattle.std.proofs.Common.{length}
-use Rattle.std.proofs.Common.{sym, ap, ◌∙◌, arith}
+use Rattle.std.proofs.Common.{length, sym, ap, ◌∙◌, arith}
 use Rattle.njh_spool.specs.declared.customer_files.CustomerFiles.{CustomerFiles}
-use Rattle.njh_spool.specs.code.Slots.{contents}
+use Rattle.njh_spool.specs.code.Slots.{contents, whole_file}
 use Rattle.njh_spool.proofs.KeptLaws.{has_own, own_of, own_is}
 use Rattle.std.proofs.lemmas.List.{length-map}
-use Rattle.njh_spool.specs.code.Slots.{whole_file}
 use Rattle.njh_spool.proofs.spool.Spool.files.Goals as goal
 
 pub index-requires : goal.index-requires

@@ -1,24 +1,23 @@
-use Rattle.std.proofs.Common.{◌≡◌, ℕ, ◌+◌, ◌*◌, true, not, eqb, List, [], ◌∷◌, ◌++◌, length, set}
-use Rattle.std.proofs.Common.{filter, refl, sym, ap, subst, ◌∙◌, arith}
+use Rattle.std.proofs.Common.{◌≡◌, ℕ, ◌+◌, ◌*◌, true, not, eqb, List, [], ◌∷◌, ◌++◌, length, set, filter, refl, sym, ap}
+use Rattle.std.proofs.Common.{subst, ◌∙◌, arith, count_by, cond}
 use Rattle.njh_spool.specs.declared.file_slot.FileSlot.{FileSlot}
 use Rattle.njh_spool.specs.declared.file_slot.Stage.TheVariants.{Whole}
 use Rattle.njh_spool.specs.declared.customer_files.CustomerFiles.{CustomerFiles}
 use Rattle.njh_spool.specs.CustomerSpool.{CustomerSpool, with_finished}
 use Rattle.njh_spool.specs.Spools.{spool_at}
-use Rattle.njh_spool.specs.code.Slots.{contents, slot_of, is_partial, is_whole_stage, spools_of, IsFile}
+use Rattle.njh_spool.specs.code.Slots.{contents, slot_of, is_partial, is_whole_stage, spools_of, IsFile, whole_file}
+use Rattle.njh_spool.specs.code.Slots.{partial_file}
 use Rattle.njh_spool.specs.code.Chains.{Chain, chain_at}
 use Rattle.njh_spool.specs.Headers.{kept_headers}
 use Rattle.njh_spool.specs.code.Packing.{unpacked_records}
 use Rattle.njh_spool.proofs.KeptLaws.{own_of, own_is, Moves}
 use Rattle.njh_spool.proofs.CallFinds as finds
 use Rattle.njh_spool.proofs.CallLaws as call
-use Rattle.std.proofs.Common.{count_by, cond}
 use Rattle.njh_spool.specs.declared.file_slot.Stage.{Stage}
 use Rattle.njh_spool.proofs.ReadLaws.{partial_stage}
 use Rattle.std.proofs.lemmas.List.{length-map}
 use Rattle.std.proofs.lemmas.List.Sums.{count_by-le-length}
 use Rattle.njh_spool.specs.declared.State.TheVariants.{Ready}
-use Rattle.njh_spool.specs.code.Slots.{whole_file, partial_file}
 use Rattle.njh_spool.proofs.SlotLaws.{once_some}
 use Rattle.njh_spool.proofs.spool.Spool.finish.Goals as goal
 use Rattle.njh_spool.proofs.spool.Spool.finish.Goals.{After-set, After-is_partial, After-index_mut-own, After-place-at}

@@ -1,10 +1,9 @@
-use Rattle.std.proofs.Common.{◌≡◌, ℕ, ◌+◌, ◌*◌, false, List, set}
-use Rattle.std.proofs.Common.{Some, refl, sym, ap, subst, ◌∙◌, arith}
+use Rattle.std.proofs.Common.{◌≡◌, ℕ, ◌+◌, ◌*◌, false, List, set, Some, refl, sym, ap, subst, ◌∙◌, arith}
 use Rattle.njh_spool.specs.declared.file_slot.FileSlot.{FileSlot}
 use Rattle.njh_spool.specs.declared.file_slot.KeptPlaces.{KeptPlaces}
 use Rattle.njh_spool.specs.code.Chains.{Chain, chain_at}
 use Rattle.njh_spool.specs.CustomerSpool.{CustomerSpool}
-use Rattle.njh_spool.specs.Spools.{spool_at, records_numbered}
+use Rattle.njh_spool.specs.Spools.{spool_at, records_numbered, no_spool}
 use Rattle.njh_spool.specs.code.Slots.{contents, slot_of, chain_of, is_free, spools_of, ArePlaces}
 use Rattle.njh_spool.proofs.IndexLaws.{small_used}
 use Rattle.njh_spool.proofs.KeptLaws.{Moves}
@@ -16,7 +15,6 @@ use Rattle.std.specs.Prelude.{slice_get}
 use Rattle.std.specs.Option.{option_and_then}
 use Rattle.njh_record.specs.Stored.{Stored}
 use Rattle.std.proofs.lemmas.List.{set-get_or}
-use Rattle.njh_spool.specs.Spools.{no_spool}
 use Rattle.njh_spool.specs.code.Packing.{unpacked_records}
 use Rattle.njh_spool.proofs.PackingLaws.{length-unpacked}
 

@@ -1,5 +1,4 @@
-use Rattle.std.proofs.Common.{◌≡◌, ℕ, false, List}
-use Rattle.std.proofs.Common.{Some, refl, sym, ap, ◌∙◌, arith}
+use Rattle.std.proofs.Common.{◌≡◌, ℕ, false, List, Some, refl, sym, ap, ◌∙◌, arith}
 use Rattle.njh_spool.specs.declared.file_slot.FileSlot.{FileSlot}
 use Rattle.njh_spool.specs.code.Chains.{Chain, chain_at}
 use Rattle.njh_spool.specs.CustomerSpool.{CustomerSpool}
@@ -8,7 +7,8 @@ use Rattle.njh_spool.specs.code.Slots.{slot_of, chain_of, is_free}
 use Rattle.njh_spool.proofs.IndexLaws.{small_used}
 use Rattle.njh_spool.proofs.CallFinds as finds
 use Rattle.njh_spool.proofs.spool.Spool.record_at.Goals as goal
-use Rattle.njh_spool.proofs.spool.Spool.record_at.Goals.{After-is_free, After-place_of_record-begins, After-read_record-srcb}
+use Rattle.njh_spool.proofs.spool.Spool.record_at.Goals.{After-is_free, After-place_of_record-begins}
+use Rattle.njh_spool.proofs.spool.Spool.record_at.Goals.{After-read_record-srcb}
 use Rattle.std.specs.Prelude.{slice_get}
 use Rattle.std.specs.Option.{option_and_then}
 use Rattle.njh_record.specs.Stored.{Stored}

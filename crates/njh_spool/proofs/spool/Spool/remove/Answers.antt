@@ -1,16 +1,14 @@
-use Rattle.std.proofs.Common.{◌≡◌, ℕ, ◌+◌, ◌-◌, ◌*◌, not, eqb, List, length, set}
-use Rattle.std.proofs.Common.{filter, refl, sym, ap, ◌∙◌, arith}
+use Rattle.std.proofs.Common.{◌≡◌, ℕ, ◌+◌, ◌-◌, ◌*◌, not, eqb, List, length, set, filter, refl, sym, ap, ◌∙◌, arith}
+use Rattle.std.proofs.Common.{◌/◌}
 use Rattle.njh_spool.specs.declared.file_slot.FileSlot.{FileSlot}
 use Rattle.njh_spool.specs.declared.customer_files.CustomerFiles.{CustomerFiles}
-use Rattle.njh_spool.specs.code.Chains.{Chain, chain_at, empty_chain}
+use Rattle.njh_spool.specs.code.Chains.{Chain, chain_at, empty_chain, with_chain, blocks_of}
 use Rattle.njh_spool.specs.CustomerSpool.{CustomerSpool, without_whole}
 use Rattle.njh_spool.specs.Spools.{spool_at}
 use Rattle.njh_spool.specs.code.Slots.{contents, slot_of, chain_of, is_whole_stage, spools_of}
 use Rattle.njh_spool.proofs.KeptLaws.{own_of, own_is, Moves}
 use Rattle.njh_spool.proofs.CallFinds as finds
 use Rattle.njh_spool.proofs.CallLaws as call
-use Rattle.std.proofs.Common.{◌/◌}
-use Rattle.njh_spool.specs.code.Chains.{with_chain, blocks_of}
 use Rattle.njh_spool.proofs.spool.Spool.remove.Goals as goal
 use Rattle.njh_spool.proofs.spool.Spool.remove.Goals.{After-set, After-is_whole, After-index_mut-own}
 

@@ -1,29 +1,25 @@
-use Rattle.std.proofs.Common.{◌≡◌, ℕ, ◌+◌, ◌*◌, ◌<◌, ◌≤◌, List, length, set}
-use Rattle.std.proofs.Common.{Some, refl, sym, ap, subst, ◌∙◌, arith}
+use Rattle.std.proofs.Common.{◌≡◌, ℕ, ◌+◌, ◌*◌, ◌<◌, ◌≤◌, List, length, set, Some, refl, sym, ap, subst, ◌∙◌, arith}
+use Rattle.std.proofs.Common.{length-set, true, take}
 use Rattle.njh_spool.specs.declared.file_slot.FileSlot.{FileSlot}
-use Rattle.njh_spool.specs.code.Chains.{Chain, StoreValue, chain_at, empty_chain}
+use Rattle.njh_spool.specs.code.Chains.{Chain, StoreValue, chain_at, empty_chain, with_chain}
 use Rattle.njh_spool.specs.Headers.{kept_headers}
 use Rattle.std.proofs.lemmas.List.{get_or-set_same}
-use Rattle.std.proofs.Common.{length-set, true}
-use Rattle.njh_spool.specs.CustomerSpool.{CustomerSpool}
-use Rattle.njh_spool.specs.CustomerSpool.{with_rewritten_bytes}
+use Rattle.njh_spool.specs.CustomerSpool.{CustomerSpool, with_rewritten_bytes, stored_size, whole_numbered, at_index}
+use Rattle.njh_spool.specs.CustomerSpool.{rewritten_record}
 use Rattle.njh_spool.specs.Spools.{spool_at}
-use Rattle.njh_spool.specs.code.Slots.{contents, slot_of, chain_of, is_whole_stage, spools_of, IsPlace}
+use Rattle.njh_spool.specs.code.Slots.{contents, slot_of, chain_of, is_whole_stage, spools_of, IsPlace, whole_file}
 use Rattle.njh_spool.proofs.KeptLaws.{Moves}
 use Rattle.njh_spool.proofs.CallFinds as finds
 use Rattle.njh_spool.proofs.CallLaws as call
-use Rattle.std.proofs.Common.{take}
 use Rattle.std.specs.Prelude.{slice_get, IsSomeAnd}
-use Rattle.njh_spool.specs.code.Chains.{with_chain}
-use Rattle.njh_spool.specs.CustomerSpool.{stored_size, whole_numbered, at_index, rewritten_record}
 use Rattle.njh_record.specs.Bytes.{with_field}
 use Rattle.njh_spool.specs.code.Packing.{unpacked_records}
-use Rattle.njh_spool.specs.code.Slots.{whole_file}
 use Rattle.njh_spool.proofs.PackingLaws.{length-unpacked}
 use Rattle.njh_spool.proofs.PlaceLaws.{within_some}
 use Rattle.njh_spool.proofs.RecordLaws.{in_file}
 use Rattle.njh_spool.proofs.spool.Spool.rewrite.Goals as goal
-use Rattle.njh_spool.proofs.spool.Spool.rewrite.Goals.{After-is_whole, After-place_of_record-begins, After-overwrite, After-set}
+use Rattle.njh_spool.proofs.spool.Spool.rewrite.Goals.{After-is_whole, After-place_of_record-begins, After-overwrite}
+use Rattle.njh_spool.proofs.spool.Spool.rewrite.Goals.{After-set}
 
 pub slot_at-slot-requires : goal.slot_at-slot-requires
 slot_at-slot-requires c =
