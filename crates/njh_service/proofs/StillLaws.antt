@@ -34,3 +34,12 @@ still_more {S} place count first now i was new there read same rises still = rec
       omega (arith, same, before))
       (cases_eq k i);
 }
+
+-- one after the other
+pub still_after : {S : Type 0} (place count : S → ℕ) (first now next : List S) → length first ≡ length now →
+    AreStill (λ a b acts. place a ≡ place b) count first now → AreStill (λ a b acts. place a ≡ place b) count now next →
+    AreStill (λ a b acts. place a ≡ place b) count first next
+still_after {S} place count first now next many still more = record {
+  passed_none = λ k d w. still.passed_none k d w ∙ more.passed_none k d (omega (arith, w, many));
+  counts = λ k d w. omega (arith, still.counts k d w, more.counts k d (omega (arith, w, many)));
+}

@@ -24,6 +24,9 @@ const LONGEST: u64 = 100;
 /// Moments fall on multiples of so many milliseconds, so that those of several lines fall together.
 const GRID: u64 = 5;
 
+/// So many lines in a row are watched together: a group in which nothing is ready or due costs a round one look.
+const GROUP: usize = 16;
+
 /// Nothing is ready.
 const NOTHING: Readiness = Readiness {
     listener: false,
@@ -39,13 +42,15 @@ pub struct Exchange<N: Network + Drop, L: Write + Drop, S: TableSource + Drop> {
     posts: Vec<Post<N::Listener, N::Connection>>,
     ready: Vec<Readiness>,
     watches: Vec<Watch>,
+    /// When a line of each group wants to be looked at first.
+    groups: Vec<Watch>,
     /// When the first line wants to be looked at next.
     next: u64,
     /// The tables, and where new ones come from.
     pub(crate) revision: Revision<S>,
 }
 
-/// When a line is looked at.
+/// When a line is looked at, or the first of a group.
 #[derive(Clone, Copy, Drop)]
 struct Watch {
     /// When it wants to be looked at next, on the service's clock.
@@ -54,7 +59,7 @@ struct Watch {
     is_due: bool,
 }
 
-/// A line that wants to be looked at at once.
+/// What wants to be looked at at once.
 const AT_ONCE: Watch = Watch {
     moment: 0,
     is_due: true,
@@ -85,6 +90,7 @@ impl<N: Network + Drop, L: Write + Drop, S: TableSource + Drop> Exchange<N, L, S
             posts: Vec::new(alloc),
             ready: Vec::new(alloc),
             watches: Vec::new(alloc),
+            groups: Vec::new(alloc),
             next: 0,
             revision,
         }
@@ -106,6 +112,9 @@ impl<N: Network + Drop, L: Write + Drop, S: TableSource + Drop> Exchange<N, L, S
         ensures err { OnErr result (self.new ≡ self.old) }
     {
         let label = Label::of(names);
+        if self.posts.len() % GROUP == 0 {
+            self.groups.push(AT_ONCE)?;
+        }
         self.ready.push(NOTHING)?;
         self.watches.push(AT_ONCE)?;
         self.posts.push(Post::new(id, label, way))?;
@@ -121,8 +130,8 @@ impl<N: Network + Drop, L: Write + Drop, S: TableSource + Drop> Exchange<N, L, S
         let wait = self.wait();
         let _waited = self.desk.network.wait(wait, &mut self.ready).is_ok();
         self.desk.now = self.desk.network.now();
-        for place in 0..wires.len() {
-            self.begin(place, &mut wires[place]);
+        for group in 0..self.groups.len() {
+            self.begin_group(group, wires);
         }
     }
 
@@ -134,6 +143,45 @@ impl<N: Network + Drop, L: Write + Drop, S: TableSource + Drop> Exchange<N, L, S
         }
         let left = (self.next - now).min(LONGEST);
         left.saturating_add(GRID - 1 - now.saturating_add(left - 1) % GRID)
+    }
+
+    /// Whether something of a group's lines is ready, or the moment of one came.
+    fn wakes(&mut self, group: usize) -> bool
+        ensures lines { self.new ≡ self.old }
+    {
+        let is_ready = self.is_ready(group);
+        let Some(watch) = self.groups.get_mut(group) else {
+            return true;
+        };
+        watch.is_due = is_ready || watch.moment <= self.desk.now;
+        watch.is_due
+    }
+
+    /// Whether something of a group's lines is ready.
+    fn is_ready(&self, group: usize) -> bool {
+        let first = group.saturating_mul(GROUP);
+        let last = first.saturating_add(GROUP).min(self.ready.len());
+        let mut is_ready = false;
+        for place in first..last {
+            let mark = self.ready[place];
+            is_ready = is_ready | mark.listener | mark.reads | mark.writes;
+        }
+        is_ready
+    }
+
+    /// Looks at the lines of a group, where something of one is ready or the moment of one came.
+    fn begin_group(&mut self, group: usize, wires: &mut [LineWire<N::Connection>])
+        ensures still { AreStill (λ a b acts. a.place ≡ b.place) (λ wire. wire.failures) wires.old wires.new }
+        ensures lines { self.new ≡ self.old }
+    {
+        if !self.wakes(group) {
+            return;
+        }
+        let first = group.saturating_mul(GROUP);
+        let last = first.saturating_add(GROUP).min(wires.len());
+        for place in first..last {
+            self.begin(place, &mut wires[place]);
+        }
     }
 
     /// Looks at a line where something of it is ready or its moment came, and sets its wire's clock then.
@@ -177,11 +225,51 @@ impl<N: Network + Drop, L: Write + Drop, S: TableSource + Drop> Exchange<N, L, S
         ensures lines { self.new ≡ self.old }
     {
         let mut next = u64::MAX;
-        for place in 0..wires.len() {
-            let moment = self.end(place, hub, &mut wires[place]);
+        for group in 0..self.groups.len() {
+            let moment = self.end_group(group, hub, wires);
             next = next.min(moment);
         }
         self.next = next;
+    }
+
+    /// Ends the round of a group's lines, where one was looked at. Answers when one wants to be looked at next.
+    fn end_group(&mut self, group: usize, hub: &Hub, wires: &mut [LineWire<N::Connection>]) -> u64
+        ensures still { AreStill (λ a b acts. a.place ≡ b.place) (λ wire. wire.failures) wires.old wires.new }
+        ensures lines { self.new ≡ self.old }
+    {
+        let watch = self.watch_of(group);
+        if !watch.is_due {
+            return watch.moment;
+        }
+        let first = group.saturating_mul(GROUP);
+        let last = first.saturating_add(GROUP).min(wires.len());
+        let mut next = u64::MAX;
+        for place in first..last {
+            let moment = self.end(place, hub, &mut wires[place]);
+            next = next.min(moment);
+        }
+        self.watch(group, next);
+        next
+    }
+
+    /// When a group is looked at.
+    fn watch_of(&self, group: usize) -> Watch {
+        match self.groups.get(group) {
+            Some(watch) => *watch,
+            None => AT_ONCE,
+        }
+    }
+
+    /// A group is looked at next at this moment.
+    fn watch(&mut self, group: usize, moment: u64)
+        ensures lines { self.new ≡ self.old }
+    {
+        if let Some(watch) = self.groups.get_mut(group) {
+            *watch = Watch {
+                moment,
+                is_due: false,
+            };
+        }
     }
 
     /// Sends what waits on a line that was looked at, and settles it. Answers when a line wants to be looked at next.
@@ -199,7 +287,10 @@ impl<N: Network + Drop, L: Write + Drop, S: TableSource + Drop> Exchange<N, L, S
         }
         let moment = self.settle(place, hub, wire);
         if let Some(watch) = self.watches.get_mut(place) {
-            watch.moment = moment;
+            *watch = Watch {
+                moment,
+                is_due: false,
+            };
         }
         moment
     }

@@ -1,15 +1,12 @@
-use Rattle.std.proofs.Common.{get_or, ap, ◌∙◌, sym, arith}
+use Rattle.std.proofs.Common.{◌∙◌, sym}
 use Rattle.njh_wire.specs.declared.line_wire.LineWire.{LineWire}
-use Rattle.njh_service.proofs.StillLaws.{still_more}
+use Rattle.njh_service.proofs.StillLaws.{still_after}
 use Rattle.njh_service.proofs.exchange.Exchange.begin_round.Goals as goal
 
-pub loop-place-preserved : goal.loop-place-preserved
-loop-place-preserved g c = record {
-  still = still_more (λ (wire : LineWire g.row.N-Connection.Denot). wire.place)
-      (λ (wire : LineWire g.row.N-Connection.Denot). wire.failures) c.args.wires.now c.loop-place.wires
-      c.loop-place.place (get_or c.loop-place.wires c.loop-place.place c.index-wires-place.result) c.begin.new.wire
-      (omega (arith, c.loop-place-test.true, c.loop-place.auto.wires))
-      (ap (get_or c.loop-place.wires c.loop-place.place) c.index-wires-place.is)
-      (sym c.begin.ensures.place) c.begin.ensures.counts c.loop-place.invariant.still;
-  lines = c.begin.ensures.lines ∙ c.loop-place.invariant.lines;
+pub loop-group-preserved : goal.loop-group-preserved
+loop-group-preserved g c = record {
+  still = still_after (λ (wire : LineWire g.row.N-Connection.Denot). wire.place)
+      (λ (wire : LineWire g.row.N-Connection.Denot). wire.failures) c.args.wires.now c.loop-group.wires
+      c.begin_group.new.wires (sym c.loop-group.auto.wires) c.loop-group.invariant.still c.begin_group.ensures.still;
+  lines = c.begin_group.ensures.lines ∙ c.loop-group.invariant.lines;
 }
