@@ -58,7 +58,7 @@ impl Model for Line {
 }
 
 impl Line {
-    ghost use Rattle.std.specs.Prelude.{◌≡◌, ◌+◌, ◌≤◌, IfOk, length, nat_lt, option_map, slice_get};
+    ghost use Rattle.std.specs.Prelude.{◌≡◌, ◌+◌, ◌≤◌, IfOk, length, option_map, slice_get};
     ghost use Rattle.njh_line.specs.Sessions.{IsConfig, IsSession};
     ghost use Rattle.njh_line.specs.LineTable.{table_outcome, input_value};
     ghost use Rattle.njh_line.specs.Lines.{IsShort, after_end, after_input, after_sending, fresh_line, sent_value};
@@ -144,11 +144,10 @@ impl Line {
     }
 
     /// Lets an answer wait behind the others, where fewer than 32 wait. Otherwise it is dropped.
-    pub fn push_answer(&mut self, answer: Answer) -> bool
-        ensures room { result ≡ nat_lt (length self.old.answers) ANSWERS }
-        ensures line { self.new ≡ with_answer answer self.old }
+    pub fn push_answer(&mut self, answer: Answer)
+        ensures { self.new ≡ with_answer answer self.old }
     {
-        self.answers.try_push_back(answer).is_ok()
+        let _has_room = self.answers.try_push_back(answer).is_ok();
     }
 
     /// The answer that waits longest.
@@ -174,11 +173,10 @@ impl Line {
     }
 
     /// Lets a nodal message wait behind the others, where fewer than 64 wait. Otherwise it is dropped.
-    pub fn push_message(&mut self, message: Record) -> bool
-        ensures room { result ≡ nat_lt (length self.old.messages) MESSAGES }
-        ensures line { self.new ≡ with_message message.items self.old }
+    pub fn push_message(&mut self, message: Record)
+        ensures { self.new ≡ with_message message.items self.old }
     {
-        self.messages.try_push_back(message).is_ok()
+        let _has_room = self.messages.try_push_back(message).is_ok();
     }
 
     /// The message that waits longest.

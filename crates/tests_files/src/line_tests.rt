@@ -127,14 +127,21 @@ fn keeps_what_waits(rt: HostRuntime) -> Result<(), Fail> {
         rcb: ControlRcb::Permission,
         stream: Rcb { byte: 0x99 },
     };
+    for _ in 0..33 {
+        line.push_answer(permission);
+    }
     for answers in 0..=32 {
-        assert!(rt; line.push_answer(permission) == (answers < 32), "{answers}");
+        assert!(rt; line.pop_answer().is_some() == (answers < 32), "{answers}");
+    }
+    for _ in 0..65 {
+        line.push_message(Record::new());
     }
     for messages in 0..=64 {
         assert!(rt;
-            line.push_message(Record::new()) == (messages < 64),
+            line.front_message().is_some() == (messages < 64),
             "{messages}"
         );
+        line.drop_message();
     }
     Ok(())
 }
