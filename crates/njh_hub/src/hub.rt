@@ -117,9 +117,9 @@ impl Hub {
         Ok(self.spool.used(customer))
     }
 
-    /// Which of a customer's lines count as up where a route has a second line: those whose sessions are up, and no
+    /// Law: which of a customer's lines count as up where a route has a second line: those whose sessions are up, and no
     /// others.
-    pub fn marks_hold(&self, customer: u16)
+    pub(crate) fn marks_hold(&self, customer: u16)
         requires { customer < length self.now }
         ensures { IsMarked (part customer self.now).customer }
     {

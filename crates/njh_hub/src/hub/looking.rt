@@ -2,6 +2,7 @@
 
 ghost use Rattle.std.specs.Prelude.{◌≡◌, ◌<◌, ◌↔◌, length, IsTrue, IfOk, IsOk, OnErr, Err};
 ghost use Rattle.std.specs.Option.{option_map};
+ghost use Rattle.njh_customer.specs.Customer.{IsMarked};
 ghost use Rattle.njh_hub.specs.Views.{HasGivenUp, whole_file_on, file_summary, hub_line, session_view};
 ghost use Rattle.njh_hub.specs.WholeHub.{part, HasLine};
 
@@ -31,13 +32,16 @@ impl Hub {
         Ok(&self.lines[usize::from(id.customer)])
     }
 
-    /// A line's session, as far as it is shown. `UnknownLine` comes where the hub has no such line.
+    /// A line's session, as far as it is shown; the lines of its customer that count as up where a route has a second
+    /// line are those whose sessions are up. `UnknownLine` comes where the hub has no such line.
     pub fn session(&self, id: LineId) -> Result<SessionView, HubFault>
         ensures session { IfOk result (λ s. s ≡ session_view (hub_line id self.now).state.session) }
+        ensures marked { IsOk result → IsMarked (part id.customer self.now).customer }
         ensures known { IsOk result ↔ HasLine self.now id }
         ensures unknown { OnErr result (result ≡ Err HubFault.UnknownLine) }
     {
         let lines = self.lines_of(id)?;
+        self.marks_hold(id.customer);
         Ok(SessionView::of(lines.session(id.number)))
     }
 
