@@ -3,6 +3,7 @@
 ghost use Rattle.std.specs.Prelude.{◌≡◌, [], ◌∷◌, IfOk};
 ghost use Rattle.njh_spool.specs.CustomerSpool.{empty_spool};
 
+use crate::samples::TABLES;
 use njh_bisync::LONGEST_FRAME;
 use njh_customer::{FrameBuffer, Lines, Room, Signal, opened_is_coherent};
 use njh_spool::{Quota, Spool, SpoolFault};
@@ -12,42 +13,8 @@ use std::marker::Model;
 use std::process::Abort;
 use std::test::Fail;
 
-/// Line 0 leads to LYON, line 1 to METZ, and so does line 2 while line 1 isn't up.
-const TABLES: &str = r#"
-capacity = 100
-[[customer]]
-name = "ACME"
-hub = "BUREAU"
-quota = 100
-files = 8
-[[customer.line]]
-name = "a1"
-node = "LYON"
-role = "answer"
-block = 1024
-streams = 4
-[[customer.line]]
-name = "a2"
-node = "METZ"
-role = "answer"
-block = 1024
-streams = 4
-[[customer.line]]
-name = "a3"
-node = "METZ"
-role = "answer"
-block = 1024
-streams = 4
-[[customer.route]]
-node = "LYON"
-line = "a1"
-[[customer.route]]
-node = "METZ"
-line = "a2"
-second = "a3"
-"#;
-
-/// The customer of these tables, and the frame that it sent last.
+/// The first customer of the sample tables, of whose nodes METZ has line 2 for its second, and the frame that it sent
+/// last.
 #[derive(Drop)]
 pub struct Desk {
     tables: Tables,
@@ -85,7 +52,8 @@ fn open_spool<R: Abort>(rt: &R, alloc: Global, customer: &Customer) -> Result<Sp
 impl Desk {
     pub fn open<R: Abort>(rt: &R, alloc: Global) -> Result<Self, Fail> {
         opened_is_coherent();
-        let tables = Tables::read(alloc, TABLES)?;
+        let text = TABLES.replacen(alloc, "line = \"a2\"", "line = \"a2\"\nsecond = \"a3\"", 1)?;
+        let tables = Tables::read(alloc, text.as_str())?;
         assert!(rt; !tables.customers().is_empty());
         let spool = open_spool(rt, alloc, tables.customer(0))?;
         let lines = Lines::open(alloc, tables.customer(0))?;

@@ -3,5 +3,4 @@
 mod calls;
 mod memory;
 mod playing;
-mod samples;
 mod sched_tests;

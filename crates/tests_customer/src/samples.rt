@@ -2,14 +2,15 @@
 
 use njh_ebcdic::FIELD;
 
-/// Both customers' hub is BUREAU; ACME has the nodes LYON and METZ, and BOLT has LYON and PARIS.
+/// Both customers' hub is BUREAU. ACME has the nodes LYON and METZ: line 0 leads to LYON, line 1 to METZ, and line 2
+/// nowhere. BOLT has LYON and PARIS.
 pub const TABLES: &str = r#"
-capacity = 800
+capacity = 2000
 [[customer]]
 name = "ACME"
 hub = "BUREAU"
-quota = 400
-files = 100
+quota = 1100
+files = 1024
 [[customer.line]]
 name = "a1"
 node = "LYON"
@@ -18,6 +19,12 @@ block = 1024
 streams = 4
 [[customer.line]]
 name = "a2"
+node = "METZ"
+role = "answer"
+block = 1024
+streams = 4
+[[customer.line]]
+name = "a3"
 node = "METZ"
 role = "answer"
 block = 1024

@@ -10,7 +10,7 @@ use std::process::Abort;
 use std::test::Fail;
 
 /// Two customers with two lines each: the first to LYON, the second to METZ and to PARIS.
-const TABLES: &str = r#"
+pub const TABLES: &str = r#"
 capacity = 200
 [[customer]]
 name = "ACME"

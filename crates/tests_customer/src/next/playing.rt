@@ -2,8 +2,7 @@
 
 use super::calls;
 use super::memory::Memory;
-use super::samples::TABLES;
-use crate::samples::record_of;
+use crate::samples::{TABLES, record_of};
 use crate::words::{id_in, sender_in, state_in};
 use njh_block::Fcs;
 use njh_record::Kind;

@@ -5,7 +5,7 @@ ghost use Rattle.tests_customer.specs.Kept.{IsKept};
 
 use super::calls;
 use super::playing::play;
-use super::samples::TABLES;
+use crate::samples::TABLES;
 use njh_block::Fcs;
 use njh_record::Kind;
 use njh_sched::own_fcs;

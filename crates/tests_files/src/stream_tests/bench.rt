@@ -11,48 +11,6 @@ use std::alloc::Global;
 use std::marker::Model;
 use std::process::Abort;
 
-/// Line a1 leads to LYON and a2 to METZ, and nobody has a node PARIS.
-pub const TABLES: &str = r#"
-capacity = 200
-[[customer]]
-name = "ACME"
-hub = "BUREAU"
-quota = 100
-files = 2
-[[customer.line]]
-name = "a1"
-node = "LYON"
-role = "answer"
-block = 1024
-streams = 4
-[[customer.line]]
-name = "a2"
-node = "METZ"
-role = "answer"
-block = 1024
-streams = 4
-[[customer.route]]
-node = "LYON"
-line = "a1"
-[[customer.route]]
-node = "METZ"
-line = "a2"
-[[customer]]
-name = "BOLT"
-hub = "BUREAU"
-quota = 100
-files = 2
-[[customer.line]]
-name = "b1"
-node = "PARIS"
-role = "answer"
-block = 1024
-streams = 4
-[[customer.route]]
-node = "PARIS"
-line = "b1"
-"#;
-
 /// A stream of line a1 to the hub, and ACME's files.
 #[derive(Drop)]
 pub struct Bench {

@@ -1,7 +1,7 @@
 //! Cases of streams.
 
-use super::bench::TABLES;
 use super::{receiving, sending};
+use crate::serving::TABLES;
 use njh_table::Tables;
 use std::alloc::Global;
 use std::process::Abort;
