@@ -117,8 +117,8 @@ impl Hub {
         Ok(self.spool.used(customer))
     }
 
-    /// Law: which of a customer's lines count as up where a route has a second line: those whose sessions are up, and no
-    /// others.
+    /// Law: which of a customer's lines count as up where a route has a second line: those whose sessions are up, and
+    /// no others.
     pub(crate) fn marks_hold(&self, customer: u16)
         requires { customer < length self.now }
         ensures { IsMarked (part customer self.now).customer }

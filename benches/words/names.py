@@ -1,0 +1,58 @@
+#!/usr/bin/env python3
+"""Whether the documents name what there is. Prints each name in backquotes of README.md and docs/*.md that stands in no
+source file, each wrong body that docs/PROMISES.md leaves out, and each clause, as in `Hub::take`: `taken`, `step`, that
+no function of that name has. Nothing printed: all are right. The status is 1 where something is printed."""
+
+import pathlib
+import re
+import sys
+
+ROOT = pathlib.Path(__file__).resolve().parents[2]
+KINDS = {".rt", ".antt", ".edit", ".toml", ".py", ".sh", ".c", ".txt"}
+WORD = re.compile(r"[A-Za-z_][\w-]*")
+CLAUSES = re.compile(r"`([\w:]+)`: ((?:`\w+`(?:, | and )?)+)")
+CONTRACT = re.compile(r"\bfn (\w+)(.*?)(?=\bfn \w+|\Z)", re.S)
+
+# what documents name of elsewhere: the toolchain's words, the system's, an emulator's settings
+ELSEWHERE = {"RT_JOBS", "version", "logic", "memcpy", "memmove", "memset", "rattle_dealloc", "ETO", "RTO"}
+
+
+def sources():
+    for path in sorted(ROOT.rglob("*")):
+        if path.suffix in KINDS and "out" not in path.parts and ".git" not in path.parts:
+            yield path, path.read_text(encoding="utf-8")
+
+
+def named(text):
+    """The names in backquotes, outside blocks of code, with their lines. Bytes, times and places of fields are none."""
+    for number, line in enumerate(re.sub(r"```.*?```", lambda m: "\n" * m[0].count("\n"), text, flags=re.S).split("\n"), 1):
+        for quoted in re.findall(r"`([^`]+)`", line):
+            if not re.search(r"[0-9a-f]{6}|\d{4}-\d\d|[A-Z]{4}\b(?!_)|\\x", quoted):
+                yield from ((number, word) for word in WORD.findall(quoted) if len(word) > 2)
+
+
+def main():
+    words, clauses, bodies, wrong = set(ELSEWHERE), {}, set(), []
+    for path, text in sources():
+        words.update(WORD.findall(text))
+        words.update(part.split(".")[0] for part in path.relative_to(ROOT).parts)
+        if path.suffix == ".edit":
+            bodies.add(path.stem)
+        if path.suffix == ".rt":
+            for name, contract in CONTRACT.findall(text):
+                clauses.setdefault(name, set()).update(re.findall(r"ensures\*? +(\w+) +\{", contract))
+    for path in [ROOT / "README.md", *sorted((ROOT / "docs").glob("*.md"))]:
+        text = path.read_text(encoding="utf-8")
+        wrong += [f"{path.name}:{number}: {word}" for number, word in named(text) if word not in words]
+        for call, names in CLAUSES.findall(re.sub(r"\s+", " ", text)):
+            has = clauses.get(call.split("::")[-1])
+            missing = [] if has is None else [name for name in re.findall(r"\w+", names.replace(" and ", " ")) if name not in has]
+            wrong += [f"{path.name}: `{call}`: {name}" for name in missing]
+    told = (ROOT / "docs/PROMISES.md").read_text(encoding="utf-8")
+    wrong += [f"PROMISES.md: {body}" for body in sorted(bodies) if f"`{body}`" not in told]
+    print("\n".join(wrong), end="\n" if wrong else "")
+    return 1 if wrong else 0
+
+
+if __name__ == "__main__":
+    sys.exit(main())
