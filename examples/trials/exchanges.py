@@ -1,18 +1,20 @@
 """Shows how many exchanges a second a busy line has, alone and beside silent lines, next to a bare epoll server.
 
-    python3 examples/trials/exchanges.py PROGRAM [--old] [--silent 0 1 15 255] [--slices 10] [--core N]
+    python3 examples/trials/exchanges.py PROGRAM [--old] [--silent 0 1 15 255] [--slices 15] [--core N]
 
 One client sends as soon as it has the answer to what it sent before, over a socket that waits: first 01 2D and then,
 signed on, blocks without records. The silent lines are of the same hub, signed on, and each answers its tick and says
-nothing else, from a process of its own. The bare server, bare_server.c beside this script, answers 10 70 to anything;
-cc builds it. The same client measures both with the same bytes, in turn, so many slices of half a second of each, so
-that neither is silent for a second and asked by the hub, and the median is taken; the bare server has so many silent
-connections too. Where the system puts the processes moves the figures by a third; with --core all are on one core, and
-then only what they do counts, since one waits while the other works.
+nothing else, from a process of its own. Beside it run a hub with the busy line alone and the bare server, bare_server.c
+beside this script, which answers 10 70 to anything (cc builds it). The same client measures all three with the same
+bytes, in turn, so many slices of a third of a second of each, so that no line is silent for a second and asked by its
+hub, and the median is taken; the bare server has so many silent connections too. Where the system puts the processes
+moves the figures by a third; with --core the client and the three servers are on one core, and then only what they do
+counts, since one waits while the other works; the silent lines' ends are on the other cores, as on machines of their
+own.
 
-The table has a row for each number of silent lines: exchanges a second of the hub and of the bare server, with 01 2D
-and with blocks, and the hub's share of the bare server's in percent. What is wanted: 80 alone, and nine tenths of the
-hub's own figure alone beside the others.
+The table has a row for each number of silent lines: exchanges a second of the hub beside them, of the hub without any
+and of the bare server, with 01 2D and with blocks, and the first's share of the other two's in percent. What is wanted:
+80 of the bare server's alone, and 90 of the hub's without silent lines beside them.
 """
 
 import os
@@ -26,7 +28,7 @@ from frames import ACK0, CONTACT, framed, sign_on
 from hub import Hub, connected, free_ports, one_beside, options_of, places_of, row, table_of
 from peers import Crowd, Peer
 
-WIDTHS = (6, 11, 11, 6, 11, 11, 6)
+WIDTHS = (6, 11, 7, 7, 9, 8, 9, 7, 7, 9, 8)
 
 BLOCKS = [framed(bytes([0x80 + count]) + b"\x8f\xcf\x00") for count in range(16)]
 
@@ -37,9 +39,9 @@ def exchange(peer, sent):
 
 
 def rate(peer, frames):
-    """Exchanges a second, in a slice of half a second, of what is sent in turn and each answered by ACK0."""
+    """Exchanges a second, in a slice of a third of a second, of what is sent in turn and each answered by ACK0."""
     count, begin = 0, time.monotonic()
-    while time.monotonic() < begin + 0.5:
+    while time.monotonic() < begin + 0.33:
         for sent in frames:
             got = exchange(peer, sent)
             if got != ACK0:
@@ -55,24 +57,38 @@ def rates(peers, frames, slices):
 
 
 def measured(ports, node, slices):
-    """Of contacts and of blocks in a session, the hub's rate and the bare server's."""
-    with connected(ports[0]) as hub, connected(ports[1]) as bare:
-        contacts = rates([hub, bare], [CONTACT] * 16, slices)
-        for peer in (hub, bare):
-            exchange(peer, sign_on(0xC9, node))
-        return contacts, rates([hub, bare], BLOCKS, slices)
+    """Of contacts and of blocks in a session, the rates of those that listen on the ports."""
+    peers = [connected(port) for port in ports]
+    contacts = rates(peers, [CONTACT] * 16, slices)
+    for peer in peers:
+        exchange(peer, sign_on(0xC9, node))
+    blocks = rates(peers, BLOCKS, slices)
+    for peer in peers:
+        peer.close()
+    return contacts, blocks
+
+
+def crowd_of(places, core):
+    """The silent lines' ends, on the other cores where one is given."""
+
+    def made(loop):
+        if core is not None:
+            os.sched_setaffinity(0, set(range(os.cpu_count())) - {core})
+        return [Peer(loop, place.port, place.node) for place in places]
+
+    return Crowd(made)
 
 
 def trial(options, bare, silent):
     if options.core is not None:
         os.sched_setaffinity(0, [options.core])
-    places, (port,) = places_of(one_beside(silent)), free_ports(1)
+    places, (alone,), (port,) = places_of(one_beside(silent)), places_of([1]), free_ports(1)
     process = subprocess.Popen([bare, str(port), "1", str(8 * options.slices + 60)])
     try:
-        with Hub(options, table_of(places, 16)):
-            with Crowd(lambda loop: [Peer(loop, place.port, place.node) for place in places[1:]]) as crowd:
+        with Hub(options, table_of(places, 16)), Hub(options, table_of([alone], 16)):
+            with crowd_of(places[1:], options.core) as crowd:
                 others = [connected(port) for _ in range(silent)]
-                found = measured((places[0].port, port), places[0].node, options.slices)
+                found = measured((places[0].port, alone.port, port), places[0].node, options.slices)
                 up = sum(peer[0] for peer in crowd.look("stop")[0])
                 if up < silent:
                     print(f"of {silent} silent lines {up} are up")
@@ -81,21 +97,25 @@ def trial(options, bare, silent):
     finally:
         process.kill()
         process.wait()
-    cells = [(f"{own:.0f}", f"{bare:.0f}", f"{100 * own / bare:.1f}") for own, bare in found]
-    row(WIDTHS, silent, *(cell for three in cells for cell in three))
+    cells = [
+        (f"{own:.0f}", f"{alone:.0f}", f"{bare:.0f}", f"{100 * own / alone:.1f}", f"{100 * own / bare:.1f}")
+        for own, alone, bare in found
+    ]
+    row(WIDTHS, silent, *(cell for five in cells for cell in five))
 
 
 def main():
     options = options_of(
         __doc__,
         (("--silent",), {"type": int, "nargs": "*", "default": [0, 1, 15, 255], "help": "how many silent lines"}),
-        (("--slices",), {"type": int, "default": 10, "help": "how many half seconds each figure is measured"}),
+        (("--slices",), {"type": int, "default": 15, "help": "how many thirds of a second each figure is measured"}),
         (("--core",), {"type": int, "help": "run the client and both servers on this core"}),
     )
     with tempfile.TemporaryDirectory() as folder:
         bare = folder + "/bare_server"
         subprocess.run(["cc", "-O2", "-o", bare, pathlib.Path(__file__).with_name("bare_server.c")], check=True)
-        row(WIDTHS, "silent", "contacts/s", "bare", "%", "blocks/s", "bare", "%")
+        head = ("alone", "bare", "% alone", "% bare")
+        row(WIDTHS, "silent", "contacts/s", *head, "blocks/s", *head)
         for silent in options.silent:
             trial(options, bare, silent)
 
