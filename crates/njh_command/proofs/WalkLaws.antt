@@ -7,6 +7,7 @@ use Rattle.std.proofs.lemmas.List.{set-set, get_or-set_same, set-get_or, get_or_
 use Rattle.std.proofs.lemmas.List.{append-nil}
 use Rattle.std.proofs.lemmas.List.Elements.{filter_more}
 use Rattle.std.proofs.lemmas.List.Filters.{length-filter_more}
+use Rattle.njh_ebcdic.specs.Users.{User}
 use Rattle.njh_spool.specs.Spools.{spool_at, no_spool}
 use Rattle.njh_spool.specs.CustomerSpool.{CustomerSpool, WholeFile}
 use Rattle.njh_command.specs.declared.changing.Standing.TheVariants.{Other, Busy, Idle}
@@ -148,7 +149,7 @@ unchanged p g f e = sym (ap (λ b. cond b (g f) f) e)
 
 -- ---- a line of LIST more
 
-pub one_listed : (who : List ℕ × List ℕ) (i : ℕ) (s : CustomerSpool) (replies more : List (List ℕ)) → i < length s.whole
+pub one_listed : (who : User) (i : ℕ) (s : CustomerSpool) (replies more : List (List ℕ)) → i < length s.whole
     → replies ≡ first_replies (map file_line (filter (is_owned who) (take i s.whole)))
     → more ≡ cond (is_owned who (file_at i s)) (first_replies (replies ++ file_line (file_at i s) ∷ [])) replies
     → more ≡ first_replies (map file_line (filter (is_owned who) (take (i + 1) s.whole)))

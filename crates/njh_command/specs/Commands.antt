@@ -2,6 +2,8 @@
 -- arrival.
 use Rattle.std.specs.Prelude.{ℕ, ◌+◌, Bool, true, false, List, [], ◌∷◌, ◌++◌, length, take, map, filter, Option, Some}
 use Rattle.std.specs.Prelude.{None, ◌==◌, cond, not, ◌&&◌, bytes_eq}
+use Rattle.njh_ebcdic.specs.Users.{User}
+use Rattle.njh_header.specs.FileNames.{FileName}
 use Rattle.njh_spool.specs.declared.State.{State}
 use Rattle.njh_spool.specs.declared.State.TheVariants.{Ready, Held, Refused, Sending}
 use Rattle.njh_spool.specs.CustomerSpool.{CustomerSpool, WholeFile}
@@ -30,20 +32,20 @@ answers replies s = record { replies = replies; spool = s; cancelled = [] }
 
 -- ---- which files
 
-abbrev pub is_owner : List ℕ × List ℕ → Option (List ℕ × List ℕ) → Bool
+abbrev pub is_owner : User → Option User → Bool
 is_owner who None = false
-is_owner who (Some owner) = bytes_eq who.0 owner.0 && bytes_eq who.1 owner.1
+is_owner who (Some owner) = bytes_eq who.node owner.node && bytes_eq who.user owner.user
 
-abbrev pub is_called : List ℕ × ℕ → Option (List ℕ × ℕ) → Bool
+abbrev pub is_called : FileName → Option FileName → Bool
 is_called name None = false
-is_called name (Some other) = bytes_eq name.0 other.0 && (name.1 == other.1)
+is_called name (Some other) = bytes_eq name.node other.node && (name.number == other.number)
 
 -- a file of the sender's own
-abbrev pub is_owned : List ℕ × List ℕ → WholeFile → Bool
+abbrev pub is_owned : User → WholeFile → Bool
 is_owned who f = is_owner who (file_owner f.records)
 
 -- one of this name
-abbrev pub is_of_name : List ℕ × List ℕ → List ℕ × ℕ → WholeFile → Bool
+abbrev pub is_of_name : User → FileName → WholeFile → Bool
 is_of_name who name f = is_owned who f && is_called name (name_of f.records)
 
 abbrev pub is_sending : State → Bool
@@ -68,20 +70,20 @@ count p s = length (filter p s.whole)
 abbrev pub first_replies : List (List ℕ) → List (List ℕ)
 first_replies replies = take 64 replies
 
-abbrev pub listing : List ℕ × List ℕ → CustomerSpool → List (List ℕ)
+abbrev pub listing : User → CustomerSpool → List (List ℕ)
 listing who s = map file_line (filter (is_owned who) s.whole) ++ files_line (count (is_owned who) s) ∷ []
 
 -- ---- HOLD, RELEASE and REROUTE
 
 -- where there is no file of the name, that is all that is said
-abbrev pub where_found : ℕ → List ℕ × ℕ → List (List ℕ) → List (List ℕ)
+abbrev pub where_found : ℕ → FileName → List (List ℕ) → List (List ℕ)
 where_found n name replies = cond (n == 0) (not_found name ∷ []) replies
 
 -- so many files, where there are some
 abbrev pub if_some : ℕ → List ℕ → List (List ℕ)
 if_some n text = cond (n == 0) [] (text ∷ [])
 
-abbrev pub change_replies : (ℕ → List ℕ) → List ℕ × ℕ → ℕ → ℕ → List (List ℕ)
+abbrev pub change_replies : (ℕ → List ℕ) → FileName → ℕ → ℕ → List (List ℕ)
 change_replies text name idle busy =
     where_found (idle + busy) name (if_some idle (text idle) ++ if_some busy (being_sent_text name))
 
@@ -92,7 +94,7 @@ abbrev pub with_changes : (WholeFile → Bool) → (WholeFile → WholeFile) →
 with_changes p change s = record s { whole = map (changed_file p change) s.whole }
 
 -- the files that aren't being sent change, and the others are left
-abbrev pub changing : (ℕ → List ℕ) → (WholeFile → WholeFile) → (WholeFile → Bool) → List ℕ × ℕ → CustomerSpool
+abbrev pub changing : (ℕ → List ℕ) → (WholeFile → WholeFile) → (WholeFile → Bool) → FileName → CustomerSpool
     → CommandOutcome
 changing text change p name s =
     answers (change_replies text name (count (may_change p) s) (count (is_busy p) s)) (with_changes p change s)
@@ -111,17 +113,17 @@ with_new_destination node f =
     record f { records = with_destination f.kind node f.records; state = state_after_reroute f.state }
 
 -- by where the new node is
-abbrev pub rerouting : Route → CustomerEntry → List ℕ → (WholeFile → Bool) → List ℕ × ℕ → CustomerSpool → CommandOutcome
+abbrev pub rerouting : Route → CustomerEntry → List ℕ → (WholeFile → Bool) → FileName → CustomerSpool → CommandOutcome
 rerouting Here entry node p name s = answers (where_found (count p s) name (no_files_for entry.hub ∷ [])) s
 rerouting (Line l) entry node p name s = changing (rerouted_to name node) (with_new_destination node) p name s
 rerouting Unknown entry node p name s = answers (where_found (count p s) name (node_unknown node ∷ [])) s
 
-abbrev pub rerouted_by : CustomerEntry → List ℕ → List ℕ × List ℕ → List ℕ × ℕ → CustomerSpool → CommandOutcome
+abbrev pub rerouted_by : CustomerEntry → List ℕ → User → FileName → CustomerSpool → CommandOutcome
 rerouted_by entry node who name s = rerouting (route_of entry node) entry node (is_of_name who name) name s
 
 -- ---- CANCEL
 
-abbrev pub cancelling : (WholeFile → Bool) → List ℕ × ℕ → CustomerSpool → CommandOutcome
+abbrev pub cancelling : (WholeFile → Bool) → FileName → CustomerSpool → CommandOutcome
 cancelling p name s = record {
   replies = where_found (count p s) name (cancelled_text name (count p s) ∷ []);
   spool = record s { whole = filter (λ f. not (p f)) s.whole };
@@ -131,7 +133,7 @@ cancelling p name s = record {
 -- ---- all
 
 -- What a command of a user does.
-abbrev pub command_outcome : CustomerEntry → List ℕ × List ℕ → Command → CustomerSpool → CommandOutcome
+abbrev pub command_outcome : CustomerEntry → User → Command → CustomerSpool → CommandOutcome
 command_outcome entry who commands.List s = answers (first_replies (listing who s)) s
 command_outcome entry who (commands.Hold name) s =
     changing (held_text name) (file_in_state Held) (is_of_name who name) name s
@@ -140,12 +142,12 @@ command_outcome entry who (commands.Release name) s =
 command_outcome entry who (commands.Cancel name) s = cancelling (is_of_name who name) name s
 command_outcome entry who (commands.Reroute name node) s = rerouted_by entry node who name s
 
-abbrev pub obeyed_where : Option Command → CustomerEntry → List ℕ × List ℕ → CustomerSpool → CommandOutcome
+abbrev pub obeyed_where : Option Command → CustomerEntry → User → CustomerSpool → CommandOutcome
 obeyed_where None entry who s = answers (bad_command ∷ []) s
 obeyed_where (Some command) entry who s = command_outcome entry who command s
 
 -- What a message of a user to the hub does.
-abbrev pub message_outcome : CustomerEntry → List ℕ × List ℕ → List ℕ → CustomerSpool → CommandOutcome
+abbrev pub message_outcome : CustomerEntry → User → List ℕ → CustomerSpool → CommandOutcome
 message_outcome entry who message s = obeyed_where (command_of message) entry who s
 
 -- ---- the streams

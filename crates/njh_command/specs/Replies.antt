@@ -1,6 +1,8 @@
 -- What the hub replies to a command, a definition a reply. NJH020 and NJH022 stand in njh_header, since notices say
 -- them too.
 use Rattle.std.specs.Prelude.{ℕ, List, [], ◌∷◌, ◌++◌, length, Option, Some, None, codes}
+use Rattle.njh_ebcdic.specs.Users.{User}
+use Rattle.njh_header.specs.FileNames.{FileName}
 use Rattle.njh_ebcdic.specs.Names.{digits, ebcdic, without_end_blanks}
 use Rattle.njh_record.specs.declared.Kind.{Kind}
 use Rattle.njh_record.specs.declared.Kind.TheVariants.{In, Out}
@@ -12,7 +14,7 @@ use Rattle.njh_header.specs.Texts.{file_name}
 
 -- ---- what they are made of
 
-abbrev pub name_text : Option (List ℕ × ℕ) → List ℕ
+abbrev pub name_text : Option FileName → List ℕ
 name_text None = []
 name_text (Some name) = file_name name
 
@@ -22,9 +24,9 @@ user_text [] = []
 user_text (b ∷ bytes) = 0x40 ∷ b ∷ bytes
 
 -- METZ PAUL
-abbrev pub destination_text : Option (List ℕ × List ℕ) → List ℕ
+abbrev pub destination_text : Option User → List ℕ
 destination_text None = []
-destination_text (Some place) = without_end_blanks place.0 ++ user_text (without_end_blanks place.1)
+destination_text (Some place) = without_end_blanks place.node ++ user_text (without_end_blanks place.user)
 
 abbrev pub kind_text : Kind → List ℕ
 kind_text In = ebcdic (codes "IN")
@@ -39,7 +41,7 @@ state_text Sending = ebcdic (codes "SENDING")
 -- ---- the replies
 
 -- what is said of a file: LYON.42 TO METZ PAUL OUT 4 RECORDS READY
-unfoldable pub file_text : Option (List ℕ × ℕ) → Option (List ℕ × List ℕ) → Kind → ℕ → State → List ℕ
+unfoldable pub file_text : Option FileName → Option User → Kind → ℕ → State → List ℕ
 file_text name destination kind records state =
     name_text name
     ++ ebcdic (codes " TO ") ++ destination_text destination
@@ -48,7 +50,7 @@ file_text name destination kind records state =
     ++ ebcdic (codes " RECORDS ") ++ state_text state
 
 -- NJH001 LYON.42 TO METZ PAUL OUT 4 RECORDS READY
-abbrev pub listing_line : Option (List ℕ × ℕ) → Option (List ℕ × List ℕ) → Kind → ℕ → State → List ℕ
+abbrev pub listing_line : Option FileName → Option User → Kind → ℕ → State → List ℕ
 listing_line name destination kind records state =
     ebcdic (codes "NJH001 ") ++ file_text name destination kind records state
 
@@ -60,25 +62,25 @@ abbrev pub files_line : ℕ → List ℕ
 files_line n = ebcdic (codes "NJH002 ") ++ digits n ++ ebcdic (codes " FILES")
 
 -- NJH003 LYON.42 HELD 1
-abbrev pub held_text : List ℕ × ℕ → ℕ → List ℕ
+abbrev pub held_text : FileName → ℕ → List ℕ
 held_text name n = ebcdic (codes "NJH003 ") ++ file_name name ++ ebcdic (codes " HELD ") ++ digits n
 
 -- NJH004 LYON.42 RELEASED 1
-abbrev pub released_text : List ℕ × ℕ → ℕ → List ℕ
+abbrev pub released_text : FileName → ℕ → List ℕ
 released_text name n = ebcdic (codes "NJH004 ") ++ file_name name ++ ebcdic (codes " RELEASED ") ++ digits n
 
 -- NJH005 LYON.42 CANCELLED 1
-abbrev pub cancelled_text : List ℕ × ℕ → ℕ → List ℕ
+abbrev pub cancelled_text : FileName → ℕ → List ℕ
 cancelled_text name n = ebcdic (codes "NJH005 ") ++ file_name name ++ ebcdic (codes " CANCELLED ") ++ digits n
 
 -- NJH006 LYON.42 REROUTED TO METZ 1
-abbrev pub rerouted_to : List ℕ × ℕ → List ℕ → ℕ → List ℕ
+abbrev pub rerouted_to : FileName → List ℕ → ℕ → List ℕ
 rerouted_to name node n =
     ebcdic (codes "NJH006 ") ++ file_name name ++ ebcdic (codes " REROUTED TO ") ++ without_end_blanks node
     ++ ebcdic (codes " ") ++ digits n
 
 -- NJH010 LYON.42 NOT FOUND
-abbrev pub not_found : List ℕ × ℕ → List ℕ
+abbrev pub not_found : FileName → List ℕ
 not_found name = ebcdic (codes "NJH010 ") ++ file_name name ++ ebcdic (codes " NOT FOUND")
 
 -- NJH011 BAD COMMAND
@@ -86,5 +88,5 @@ abbrev pub bad_command : List ℕ
 bad_command = ebcdic (codes "NJH011 BAD COMMAND")
 
 -- NJH012 LYON.42 IS BEING SENT
-abbrev pub being_sent_text : List ℕ × ℕ → List ℕ
+abbrev pub being_sent_text : FileName → List ℕ
 being_sent_text name = ebcdic (codes "NJH012 ") ++ file_name name ++ ebcdic (codes " IS BEING SENT")

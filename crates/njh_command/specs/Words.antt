@@ -4,6 +4,7 @@ use Rattle.std.specs.Prelude.{◌&&◌, bytes_eq, codes}
 use Rattle.std.specs.List.{list_all, slice_split}
 use Rattle.std.specs.Option.{option_map, option_and_then}
 use Rattle.std.specs.Result.{result_ok}
+use Rattle.njh_header.specs.FileNames.{FileName}
 use Rattle.njh_ebcdic.specs.Names.{ebcdic, is_empty, upper, within}
 use Rattle.njh_ebcdic.specs.Reading.{name_of_word}
 use Rattle.njh_header.specs.Decimals.{decimal_value}
@@ -36,13 +37,14 @@ abbrev pub node_in : List ℕ → Option (List ℕ)
 node_in word = result_ok (name_of_word word)
 
 -- a file's name: a node, a full stop and a number
-abbrev pub name_of_parts : List (List ℕ) → Option (List ℕ × ℕ)
+abbrev pub name_of_parts : List (List ℕ) → Option FileName
 name_of_parts [] = None
 name_of_parts (node ∷ []) = None
-name_of_parts (node ∷ number ∷ []) = option_and_then (λ n. option_map (λ k. (n, k)) (number_in number)) (node_in node)
+name_of_parts (node ∷ number ∷ []) =
+    option_and_then (λ n. option_map (λ k. record { node = n; number = k }) (number_in number)) (node_in node)
 name_of_parts (node ∷ number ∷ more ∷ others) = None
 
-abbrev pub name_in : List ℕ → Option (List ℕ × ℕ)
+abbrev pub name_in : List ℕ → Option FileName
 name_in word = name_of_parts (slice_split is_full_stop word)
 
 -- whether a word is one of the hub's
@@ -50,14 +52,14 @@ abbrev pub says : List ℕ → List ℕ → Bool
 says text word = bytes_eq word (ebcdic text)
 
 -- the verbs with a file's name
-abbrev pub file_command : List ℕ → List ℕ × ℕ → Option Command
+abbrev pub file_command : List ℕ → FileName → Option Command
 file_command verb name =
     cond (says (codes "HOLD") verb) (Some (commands.Hold name))
     (cond (says (codes "RELEASE") verb) (Some (commands.Release name))
     (cond (says (codes "CANCEL") verb) (Some (commands.Cancel name)) None))
 
 -- the verb with a file's name and a node
-abbrev pub reroute_command : List ℕ → List ℕ × ℕ → List ℕ → Option Command
+abbrev pub reroute_command : List ℕ → FileName → List ℕ → Option Command
 reroute_command verb name node = cond (says (codes "REROUTE") verb) (Some (commands.Reroute name node)) None
 
 -- LIST; HOLD name; RELEASE name; CANCEL name; REROUTE name node

@@ -34,13 +34,14 @@ pub fn obey<S: Senders>(
     requires known { customer < length tables.now.customers }
     requires range { customer < length spool.old }
     ensures replies { replies.new
-        ≡ (message_outcome (entry_of (customer_at tables.now customer)) (from, user) message.now
+        ≡ (message_outcome (entry_of (customer_at tables.now customer))
+            (record { node = from; user = user }) message.now
         (spool_at customer spool.old)).replies }
     ensures spool { spool.new ≡ slice_set spool.old customer
-        (message_outcome (entry_of (customer_at tables.now customer)) (from, user) message.now
+        (message_outcome (entry_of (customer_at tables.now customer)) (record { node = from; user = user }) message.now
         (spool_at customer spool.old)).spool }
     ensures senders { senders.new ≡ fold (λ x n. S.each x (without_file n)) senders.old
-        (message_outcome (entry_of (customer_at tables.now customer)) (from, user) message.now
+        (message_outcome (entry_of (customer_at tables.now customer)) (record { node = from; user = user }) message.now
         (spool_at customer spool.old)).cancelled }
 {
     match Command::read(message) {
@@ -67,13 +68,13 @@ pub fn run<S: Senders>(
     requires known { customer < length tables.now.customers }
     requires range { customer < length spool.old }
     ensures replies { replies.new
-        ≡ (command_outcome (entry_of (customer_at tables.now customer)) (from, user) command
+        ≡ (command_outcome (entry_of (customer_at tables.now customer)) (record { node = from; user = user }) command
         (spool_at customer spool.old)).replies }
     ensures spool { spool.new ≡ slice_set spool.old customer
-        (command_outcome (entry_of (customer_at tables.now customer)) (from, user) command
+        (command_outcome (entry_of (customer_at tables.now customer)) (record { node = from; user = user }) command
         (spool_at customer spool.old)).spool }
     ensures senders { senders.new ≡ fold (λ x n. S.each x (without_file n)) senders.old
-        (command_outcome (entry_of (customer_at tables.now customer)) (from, user) command
+        (command_outcome (entry_of (customer_at tables.now customer)) (record { node = from; user = user }) command
         (spool_at customer spool.old)).cancelled }
 {
     let who = User { node: from, user };

@@ -3,11 +3,12 @@ use Rattle.std.proofs.Common.{◌≡◌, ℕ, Bool, true, false, cond, ◌==◌,
 use Rattle.std.proofs.Common.{Option, Some, None, Result, Ok, Err, refl, sym, ap, subst, ◌∙◌}
 use Rattle.std.specs.Option.{option_map}
 use Rattle.std.proofs.lemmas.Bool.{eqb-true}
+use Rattle.njh_ebcdic.specs.Users.{User}
 use Rattle.njh_block.specs.Blocks.{Item, Data, Aborted, Long, Control, General, stream_number, stream_of}
 use Rattle.njh_block.specs.Codes.{kind_of}
 use Rattle.njh_header.specs.Texts.{node_unknown}
 use Rattle.njh_nmr.specs.declared.fault.NmrFault.{NmrFault}
-use Rattle.njh_nmr.specs.Nodal.{Nodal, nodal_of, is_user_command, cut_after_message}
+use Rattle.njh_nmr.specs.Nodal.{Nodal, nodal_of, is_user_command, cut_after_message, sender_of}
 use Rattle.njh_record.specs.Stored.{Stored}
 use Rattle.njh_record.specs.declared.Kind.{Kind}
 use Rattle.njh_spool.specs.CustomerSpool.{CustomerSpool, PartialFile, WholeFile, without_partial, as_whole}
@@ -253,42 +254,42 @@ module _ (l : ℕ) (i : Item) (c : Customer) (n : Nodal) where
   -- a command that cancels no file that is being sent
   changes : (done : CommandOutcome) → done.cancelled ≡ [] → streams_from_hub (with_outcome n done c).lines ≡ streams_from_hub c.lines
   changes done e =
-      all_said_senders c.entry (n.origin, n.user) done.replies (fold without_sending c.lines done.cancelled)
+      all_said_senders c.entry (sender_of n) done.replies (fold without_sending c.lines done.cancelled)
       ∙ ap (λ numbers. streams_from_hub (fold without_sending c.lines numbers)) e
 
-  obeyed_acts : (command : Command) → Commands c.entry (n.origin, n.user) command i → Acted l i c (with_outcome n (command_outcome c.entry (n.origin, n.user) command c.spool) c)
+  obeyed_acts : (command : Command) → Commands c.entry (sender_of n) command i → Acted l i c (with_outcome n (command_outcome c.entry (sender_of n) command c.spool) c)
   obeyed_acts commands.List given =
-      record { entry = refl; moves = inl (ap (of_parts c.spool.whole) (changes (command_outcome c.entry (n.origin, n.user) commands.List c.spool) refl)) }
+      record { entry = refl; moves = inl (ap (of_parts c.spool.whole) (changes (command_outcome c.entry (sender_of n) commands.List c.spool) refl)) }
   obeyed_acts (commands.Hold name) given =
-      let done = command_outcome c.entry (n.origin, n.user) (commands.Hold name) c.spool in
-      record { entry = refl; moves = inr (moves.holds (n.origin, n.user) name given (ap (of_parts done.spool.whole) (changes done refl))) }
+      let done = command_outcome c.entry (sender_of n) (commands.Hold name) c.spool in
+      record { entry = refl; moves = inr (moves.holds (sender_of n) name given (ap (of_parts done.spool.whole) (changes done refl))) }
   obeyed_acts (commands.Release name) given =
-      let done = command_outcome c.entry (n.origin, n.user) (commands.Release name) c.spool in
-      record { entry = refl; moves = inr (moves.releases (n.origin, n.user) name given (ap (of_parts done.spool.whole) (changes done refl))) }
+      let done = command_outcome c.entry (sender_of n) (commands.Release name) c.spool in
+      record { entry = refl; moves = inr (moves.releases (sender_of n) name given (ap (of_parts done.spool.whole) (changes done refl))) }
   obeyed_acts (commands.Cancel name) given =
-      let done = command_outcome c.entry (n.origin, n.user) (commands.Cancel name) c.spool in
+      let done = command_outcome c.entry (sender_of n) (commands.Cancel name) c.spool in
       record {
         entry = refl;
-        moves = inr (moves.cancels (n.origin, n.user) name given
-            (ap (of_parts done.spool.whole) (all_said_senders c.entry (n.origin, n.user) done.replies (fold without_sending c.lines done.cancelled))
-            ∙ sym (all_given_up (busy_numbers (is_of_name (n.origin, n.user) name) c.spool.whole) done.spool.whole c.lines)));
+        moves = inr (moves.cancels (sender_of n) name given
+            (ap (of_parts done.spool.whole) (all_said_senders c.entry (sender_of n) done.replies (fold without_sending c.lines done.cancelled))
+            ∙ sym (all_given_up (busy_numbers (is_of_name (sender_of n) name) c.spool.whole) done.spool.whole c.lines)));
       }
   obeyed_acts (commands.Reroute name node) given = at_route (route_of c.entry node) refl
     where
       at_route : (r : Route) → route_of c.entry node ≡ r
-          → Acted l i c (with_outcome n (rerouting r c.entry node (is_of_name (n.origin, n.user) name) name c.spool) c)
+          → Acted l i c (with_outcome n (rerouting r c.entry node (is_of_name (sender_of n) name) name c.spool) c)
       at_route Here e =
           record {
             entry = refl;
-            moves = inl (ap (of_parts c.spool.whole) (changes (rerouting Here c.entry node (is_of_name (n.origin, n.user) name) name c.spool) refl));
+            moves = inl (ap (of_parts c.spool.whole) (changes (rerouting Here c.entry node (is_of_name (sender_of n) name) name c.spool) refl));
           }
       at_route (Line line) e =
-          let done = rerouting (Line line) c.entry node (is_of_name (n.origin, n.user) name) name c.spool in
-          record { entry = refl; moves = inr (moves.reroutes (n.origin, n.user) name node line given e (ap (of_parts done.spool.whole) (changes done refl))) }
+          let done = rerouting (Line line) c.entry node (is_of_name (sender_of n) name) name c.spool in
+          record { entry = refl; moves = inr (moves.reroutes (sender_of n) name node line given e (ap (of_parts done.spool.whole) (changes done refl))) }
       at_route Unknown e =
           record {
             entry = refl;
-            moves = inl (ap (of_parts c.spool.whole) (changes (rerouting Unknown c.entry node (is_of_name (n.origin, n.user) name) name c.spool) refl));
+            moves = inl (ap (of_parts c.spool.whole) (changes (rerouting Unknown c.entry node (is_of_name (sender_of n) name) name c.spool) refl));
           }
 
   command_acts :
@@ -296,9 +297,9 @@ module _ (l : ℕ) (i : Item) (c : Customer) (n : Nodal) where
       → Acted l i c (after_user_command n c)
   command_acts srcb bytes is reads here user = at_command (command_of n.message) refl
     where
-      at_command : (o : Option Command) → command_of n.message ≡ o → Acted l i c (with_outcome n (obeyed_where o c.entry (n.origin, n.user) c.spool) c)
+      at_command : (o : Option Command) → command_of n.message ≡ o → Acted l i c (with_outcome n (obeyed_where o c.entry (sender_of n) c.spool) c)
       at_command None e =
-          record { entry = refl; moves = inl (ap (of_parts c.spool.whole) (changes (obeyed_where None c.entry (n.origin, n.user) c.spool) refl)) }
+          record { entry = refl; moves = inl (ap (of_parts c.spool.whole) (changes (obeyed_where None c.entry (sender_of n) c.spool) refl)) }
       at_command (Some command) e =
           obeyed_acts command (record {
             srcb = srcb;
@@ -325,7 +326,7 @@ module _ (l : ℕ) (i : Item) (c : Customer) (n : Nodal) where
       acted_either (k == l) l i c (record c { lines = with_waiting k m c.lines }) c (unmoved l i c)
       (lines_alone l i (with_waiting k m c.lines) c (waits_senders k m c.lines))
   routed_acts srcb bytes is reads Unknown e =
-      let whom : List ℕ × List ℕ = (n.origin, n.user) in
+      let whom : User = sender_of n in
       acted_either (is_user_command n) l i (after_unknown_node n c) c c
       (lines_alone l i (with_message_to c.entry whom (node_unknown n.to) c.lines) c (said_senders c.entry whom (node_unknown n.to) c.lines)) (unmoved l i c)
 

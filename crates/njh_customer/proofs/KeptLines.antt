@@ -3,12 +3,13 @@ use Rattle.std.proofs.Common.{◌≡◌, ℕ, Bool, true, false, cond, ◌==◌,
 use Rattle.std.proofs.Common.{Result, Ok, Err, refl, ap, ◌∙◌}
 use Rattle.std.specs.Option.{option_map}
 use Rattle.std.proofs.Math.Seq.{map-set_same}
+use Rattle.njh_ebcdic.specs.Users.{User}
 use Rattle.njh_block.specs.Blocks.{Item, Data, Aborted, Long, Control, General, stream_number, stream_of}
 use Rattle.njh_block.specs.Codes.{kind_of}
 use Rattle.njh_block.specs.declared.answer.Answer.{Answer}
 use Rattle.njh_header.specs.Texts.{node_unknown}
 use Rattle.njh_nmr.specs.declared.fault.NmrFault.{NmrFault}
-use Rattle.njh_nmr.specs.Nodal.{Nodal, nodal_of, is_user_command, cut_after_message, notice_record}
+use Rattle.njh_nmr.specs.Nodal.{Nodal, nodal_of, is_user_command, cut_after_message, notice_record, sender_of}
 use Rattle.njh_table.specs.Entries.{CustomerEntry, route_of}
 use Rattle.njh_table.specs.declared.Route.{Route}
 use Rattle.njh_table.specs.declared.Route.TheVariants.{Here, Line, Unknown}
@@ -51,11 +52,11 @@ goes_kepts (Line k) m lines = waits_kepts k m lines
 goes_kepts Unknown m lines = refl
 
 said_kepts :
-    (entry : CustomerEntry) (whom : List ℕ × List ℕ) (text : List ℕ) (lines : List CustomerLine) → kepts (with_message_to entry whom text lines) ≡ kepts lines
-said_kepts entry whom text lines = goes_kepts (route_of entry whom.0) (notice_record entry.hub whom text) lines
+    (entry : CustomerEntry) (whom : User) (text : List ℕ) (lines : List CustomerLine) → kepts (with_message_to entry whom text lines) ≡ kepts lines
+said_kepts entry whom text lines = goes_kepts (route_of entry whom.node) (notice_record entry.hub whom text) lines
 
 all_said_kepts :
-    (entry : CustomerEntry) (whom : List ℕ × List ℕ) (texts : List (List ℕ)) (lines : List CustomerLine)
+    (entry : CustomerEntry) (whom : User) (texts : List (List ℕ)) (lines : List CustomerLine)
     → kepts (all_said entry whom texts lines) ≡ kepts lines
 all_said_kepts entry whom [] lines = refl
 all_said_kepts entry whom (t ∷ ts) lines = all_said_kepts entry whom ts (with_message_to entry whom t lines) ∙ said_kepts entry whom t lines
@@ -115,16 +116,16 @@ peer_keeps l rcb (Some k) c =
 
 outcome_keeps : (n : Nodal) (done : CommandOutcome) (c : Customer) → Keeps c (with_outcome n done c)
 outcome_keeps n done c =
-    all_said_kepts c.entry (n.origin, n.user) done.replies (fold without_sending c.lines done.cancelled) ∙ all_given_up_kepts done.cancelled c.lines
+    all_said_kepts c.entry (sender_of n) done.replies (fold without_sending c.lines done.cancelled) ∙ all_given_up_kepts done.cancelled c.lines
 
 routed_keeps : (l : ℕ) (n : Nodal) (bytes : List ℕ) (r : Route) (c : Customer) → Keeps c (message_routed l n bytes r c)
 routed_keeps l n bytes Here c =
-    either (is_user_command n) (after_user_command n c) c c (outcome_keeps n (message_outcome c.entry (n.origin, n.user) n.message c.spool) c) refl
+    either (is_user_command n) (after_user_command n c) c c (outcome_keeps n (message_outcome c.entry (sender_of n) n.message c.spool) c) refl
 routed_keeps l n bytes (Line k) c =
     let m = cut_after_message bytes in
     either (k == l) c (record c { lines = with_waiting k m c.lines }) c refl (waits_kepts k m c.lines)
 routed_keeps l n bytes Unknown c =
-    let whom : List ℕ × List ℕ = (n.origin, n.user) in
+    let whom : User = sender_of n in
     either (is_user_command n) (after_unknown_node n c) c c (said_kepts c.entry whom (node_unknown n.to) c.lines) refl
 
 message_keeps : (l : ℕ) (bytes : List ℕ) (c : Customer) → Keeps c (after_message l bytes c)

@@ -1,5 +1,6 @@
 -- A customer that is given new routes.
 use Rattle.std.proofs.Common.{◌≡◌, ℕ, Bool, true, false, not, ◌&&◌, ◌||◌, List, Option, Some, None, refl}
+use Rattle.njh_ebcdic.specs.Users.{User}
 use Rattle.njh_ebcdic.specs.Names.{is_name}
 use Rattle.njh_header.specs.FileHeaders.{destination_of}
 use Rattle.njh_stream.specs.Holding.{destination_unrouted, is_unknown}
@@ -28,6 +29,6 @@ no_line true Unknown l e = refl
 pub unrouted_stay : UnroutedFilesStay
 unrouted_stay entry l f = at_destination (destination_of f.kind f.records)
   where
-    at_destination : (o : Option (List ℕ × List ℕ)) → destination_unrouted entry o ≡ true → destination_goes_by entry l o ≡ false
+    at_destination : (o : Option User) → destination_unrouted entry o ≡ true → destination_goes_by entry l o ≡ false
     at_destination None e = refl
-    at_destination (Some d) e = no_line (is_name d.0) (route_of entry d.0) l e
+    at_destination (Some d) e = no_line (is_name d.node) (route_of entry d.node) l e

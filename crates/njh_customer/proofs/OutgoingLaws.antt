@@ -3,6 +3,7 @@ use Rattle.std.proofs.Common.{◌≡◌, ℕ, List, [], ◌∷◌, map, set, get
 use Rattle.std.proofs.Math.ListN.{get_or-map}
 use Rattle.std.proofs.Math.Seq.{map-set_same}
 use Rattle.std.proofs.lemmas.List.{map-set, set-get_or}
+use Rattle.njh_ebcdic.specs.Users.{User}
 use Rattle.njh_block.specs.declared.answer.Answer.{Answer}
 use Rattle.njh_nmr.specs.Nodal.{notice_record}
 use Rattle.njh_spool.specs.CustomerSpool.{CustomerSpool, WholeFile}
@@ -45,12 +46,12 @@ goes_senders (Line k) m lines = waits_senders k m lines
 goes_senders Unknown m lines = refl
 
 pub said_senders :
-    (entry : CustomerEntry) (whom : List ℕ × List ℕ) (text : List ℕ) (lines : List CustomerLine)
+    (entry : CustomerEntry) (whom : User) (text : List ℕ) (lines : List CustomerLine)
     → streams_from_hub (with_message_to entry whom text lines) ≡ streams_from_hub lines
-said_senders entry whom text lines = goes_senders (route_of entry whom.0) (notice_record entry.hub whom text) lines
+said_senders entry whom text lines = goes_senders (route_of entry whom.node) (notice_record entry.hub whom text) lines
 
 pub all_said_senders :
-    (entry : CustomerEntry) (whom : List ℕ × List ℕ) (texts : List (List ℕ)) (lines : List CustomerLine)
+    (entry : CustomerEntry) (whom : User) (texts : List (List ℕ)) (lines : List CustomerLine)
     → streams_from_hub (all_said entry whom texts lines) ≡ streams_from_hub lines
 all_said_senders entry whom [] lines = refl
 all_said_senders entry whom (t ∷ ts) lines =

@@ -9,6 +9,8 @@ use Rattle.std.specs.List.{Contains, list_all}
 use Rattle.std.specs.Option.{option_and_then}
 use Rattle.std.specs.Prelude.{codes}
 use Rattle.std.specs.Result.{result_ok}
+use Rattle.njh_ebcdic.specs.Users.{User}
+use Rattle.njh_header.specs.FileNames.{FileName}
 use Rattle.njh_block.specs.Blocks.{Item, Data}
 use Rattle.njh_ebcdic.specs.Names.{is_empty, is_name_byte, padded_field}
 use Rattle.njh_ebcdic.specs.declared.name.NameFault.{NameFault}
@@ -63,7 +65,7 @@ node_eight word node e = at_tests (is_empty word) (nat_lt 8 (length word)) (list
         let short : length word ≤ 8 = omega (arith, ltb-false 8 (length word) h) in
         ap length (sym same) ∙ padded_eight word short
 
-no_reroute : (verb node : List ℕ) (name other : List ℕ × ℕ) → file_command verb other ≡ Some (commands.Reroute name node) → length node ≡ 8
+no_reroute : (verb node : List ℕ) (name other : FileName) → file_command verb other ≡ Some (commands.Reroute name node) → length node ≡ 8
 no_reroute verb node name other e = at_verbs (says (codes "HOLD") verb) (says (codes "RELEASE") verb) (says (codes "CANCEL") verb) e
   where
     at_verbs :
@@ -75,7 +77,7 @@ no_reroute verb node name other e = at_verbs (says (codes "HOLD") verb) (says (c
     at_verbs false false true e = absurd (cc e)
     at_verbs false false false e = absurd (cc e)
 
-rerouted_eight : (ws : List (List ℕ)) (name : List ℕ × ℕ) (node : List ℕ) → command_in ws ≡ Some (commands.Reroute name node) → length node ≡ 8
+rerouted_eight : (ws : List (List ℕ)) (name : FileName) (node : List ℕ) → command_in ws ≡ Some (commands.Reroute name node) → length node ≡ 8
 rerouted_eight [] name node e = absurd (cc e)
 rerouted_eight (verb ∷ []) name node e = at_verb (says (codes "LIST") verb) e
   where
@@ -84,25 +86,25 @@ rerouted_eight (verb ∷ []) name node e = at_verb (says (codes "LIST") verb) e
     at_verb false e = absurd (cc e)
 rerouted_eight (verb ∷ word ∷ []) name node e = at_name (name_in word) e
   where
-    at_name : (o : Option (List ℕ × ℕ)) → option_and_then (file_command verb) o ≡ Some (commands.Reroute name node) → length node ≡ 8
+    at_name : (o : Option FileName) → option_and_then (file_command verb) o ≡ Some (commands.Reroute name node) → length node ≡ 8
     at_name None e = absurd (cc e)
     at_name (Some other) e = no_reroute verb node name other e
 rerouted_eight (verb ∷ word ∷ to ∷ []) name node e = at_name (name_in word) e
   where
     at_verb :
-        (b : Bool) (other : List ℕ × ℕ) (found : List ℕ) → node_in to ≡ Some found → cond b (Some (commands.Reroute other found)) None ≡ Some (commands.Reroute name node)
+        (b : Bool) (other : FileName) (found : List ℕ) → node_in to ≡ Some found → cond b (Some (commands.Reroute other found)) None ≡ Some (commands.Reroute name node)
         → length node ≡ 8
     at_verb true other found at e = let same : found ≡ node = cc e in ap length (sym same) ∙ node_eight to found at
     at_verb false other found at e = absurd (cc e)
 
     at_node :
-        (o : Option (List ℕ)) (other : List ℕ × ℕ) → node_in to ≡ o → option_and_then (reroute_command verb other) o ≡ Some (commands.Reroute name node)
+        (o : Option (List ℕ)) (other : FileName) → node_in to ≡ o → option_and_then (reroute_command verb other) o ≡ Some (commands.Reroute name node)
         → length node ≡ 8
     at_node None other at e = absurd (cc e)
     at_node (Some found) other at e = at_verb (says (codes "REROUTE") verb) other found at e
 
     at_name :
-        (o : Option (List ℕ × ℕ)) → option_and_then (λ n. option_and_then (reroute_command verb n) (node_in to)) o ≡ Some (commands.Reroute name node)
+        (o : Option FileName) → option_and_then (λ n. option_and_then (reroute_command verb n) (node_in to)) o ≡ Some (commands.Reroute name node)
         → length node ≡ 8
     at_name None e = absurd (cc e)
     at_name (Some other) e = at_node (node_in to) other refl e
@@ -159,7 +161,7 @@ module _ (by_records : (kind : Kind) (node : List ℕ) (records : List Stored) �
     among files e at = subst (λ fs. Contains fs g) e at
 
     rerouted_one :
-        (i : Item) (who : List ℕ × List ℕ) (name : List ℕ × ℕ) (node : List ℕ) → Contains items i → Commands entry who (commands.Reroute name node) i
+        (i : Item) (who : User) (name : FileName) (node : List ℕ) → Contains items i → Commands entry who (commands.Reroute name node) i
         → Contains (map (changed_file (is_of_name who name) (with_new_destination node)) x.files) g → FileMoves entry items x g
     rerouted_one i who name node at given there = at_change (from_map (changed_file (is_of_name who name) (with_new_destination node)) x.files no_file g there)
       where

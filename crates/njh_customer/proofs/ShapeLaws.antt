@@ -5,6 +5,7 @@ use Rattle.std.proofs.Math.ListN.{get_or-map}
 use Rattle.std.proofs.Math.Seq.{map-set_same}
 use Rattle.std.proofs.lemmas.List.{length-map}
 use Rattle.std.specs.List.{All}
+use Rattle.njh_ebcdic.specs.Users.{User}
 use Rattle.njh_block.specs.declared.answer.Answer.{Answer}
 use Rattle.njh_stream.specs.declared.receiver.Receiver.{Receiver}
 use Rattle.njh_stream.specs.Receiving.{Notice}
@@ -60,12 +61,12 @@ goes_shapes (Line k) m lines = waits_shapes k m lines
 goes_shapes Unknown m lines = refl
 
 pub said_shapes :
-    (entry : CustomerEntry) (whom : List ℕ × List ℕ) (text : List ℕ) (lines : List CustomerLine)
+    (entry : CustomerEntry) (whom : User) (text : List ℕ) (lines : List CustomerLine)
     → shapes (with_message_to entry whom text lines) ≡ shapes lines
-said_shapes entry whom text lines = goes_shapes (route_of entry whom.0) (notice_record entry.hub whom text) lines
+said_shapes entry whom text lines = goes_shapes (route_of entry whom.node) (notice_record entry.hub whom text) lines
 
 pub all_said_shapes :
-    (entry : CustomerEntry) (whom : List ℕ × List ℕ) (texts : List (List ℕ)) (lines : List CustomerLine)
+    (entry : CustomerEntry) (whom : User) (texts : List (List ℕ)) (lines : List CustomerLine)
     → shapes (all_said entry whom texts lines) ≡ shapes lines
 all_said_shapes entry whom [] lines = refl
 all_said_shapes entry whom (t ∷ ts) lines =

@@ -4,10 +4,11 @@ use Rattle.std.proofs.Common.{Option, Some, None, Result, Ok, Err, refl, ◌∙�
 use Rattle.std.specs.Option.{option_map}
 use Rattle.std.proofs.lemmas.List.{length-set}
 use Rattle.std.proofs.lemmas.Bool.{ltb-true}
+use Rattle.njh_ebcdic.specs.Users.{User}
 use Rattle.njh_block.specs.Blocks.{Item, Data, Aborted, Long, Control, General, stream_number, stream_of}
 use Rattle.njh_block.specs.Codes.{kind_of}
 use Rattle.njh_nmr.specs.declared.fault.NmrFault.{NmrFault}
-use Rattle.njh_nmr.specs.Nodal.{Nodal, nodal_of, is_user_command, cut_after_message}
+use Rattle.njh_nmr.specs.Nodal.{Nodal, nodal_of, is_user_command, cut_after_message, sender_of}
 use Rattle.njh_header.specs.Texts.{node_unknown}
 use Rattle.njh_spool.specs.CustomerSpool.{CustomerSpool}
 use Rattle.njh_table.specs.Entries.{CustomerEntry, route_of}
@@ -116,7 +117,7 @@ module _ (untied : NothingUnties) where
 
   -- ---- messages
 
-  obeyed_partial : (entry : CustomerEntry) (who : List ℕ × List ℕ) (command : Command) (s : CustomerSpool) → (command_outcome entry who command s).spool.partial ≡ s.partial
+  obeyed_partial : (entry : CustomerEntry) (who : User) (command : Command) (s : CustomerSpool) → (command_outcome entry who command s).spool.partial ≡ s.partial
   obeyed_partial entry who commands.List s = refl
   obeyed_partial entry who (commands.Hold name) s = refl
   obeyed_partial entry who (commands.Release name) s = refl
@@ -128,7 +129,7 @@ module _ (untied : NothingUnties) where
       at_route (Line l) = refl
       at_route Unknown = refl
 
-  obeyed_quota : (entry : CustomerEntry) (who : List ℕ × List ℕ) (command : Command) (s : CustomerSpool) → (command_outcome entry who command s).spool.quota ≡ s.quota
+  obeyed_quota : (entry : CustomerEntry) (who : User) (command : Command) (s : CustomerSpool) → (command_outcome entry who command s).spool.quota ≡ s.quota
   obeyed_quota entry who commands.List s = refl
   obeyed_quota entry who (commands.Hold name) s = refl
   obeyed_quota entry who (commands.Release name) s = refl
@@ -145,7 +146,7 @@ module _ (untied : NothingUnties) where
       stays_like (with_outcome n done c) c
       (record {
         entry = refl;
-        lines = all_said_shapes c.entry (n.origin, n.user) done.replies (fold without_sending c.lines done.cancelled) ∙ all_given_up_shapes done.cancelled c.lines;
+        lines = all_said_shapes c.entry (sender_of n) done.replies (fold without_sending c.lines done.cancelled) ∙ all_given_up_shapes done.cancelled c.lines;
         partial = partial;
         quota = quota;
       })
@@ -154,11 +155,11 @@ module _ (untied : NothingUnties) where
   command_stays : (n : Nodal) (c : Customer) → IsCoherent c → Stays (after_user_command n c) c
   command_stays n c coherent = at_command (command_of n.message)
     where
-      at_command : (o : Option Command) → Stays (with_outcome n (obeyed_where o c.entry (n.origin, n.user) c.spool) c) c
-      at_command None = outcome_stays n (obeyed_where None c.entry (n.origin, n.user) c.spool) c refl refl coherent
+      at_command : (o : Option Command) → Stays (with_outcome n (obeyed_where o c.entry (sender_of n) c.spool) c) c
+      at_command None = outcome_stays n (obeyed_where None c.entry (sender_of n) c.spool) c refl refl coherent
       at_command (Some x) =
-          outcome_stays n (command_outcome c.entry (n.origin, n.user) x c.spool) c (obeyed_partial c.entry (n.origin, n.user) x c.spool)
-          (obeyed_quota c.entry (n.origin, n.user) x c.spool) coherent
+          outcome_stays n (command_outcome c.entry (sender_of n) x c.spool) c (obeyed_partial c.entry (sender_of n) x c.spool)
+          (obeyed_quota c.entry (sender_of n) x c.spool) coherent
 
   routed_stays : (l : ℕ) (n : Nodal) (bytes : List ℕ) (r : Route) (c : Customer) → IsCoherent c → Stays (message_routed l n bytes r c) c
   routed_stays l n bytes Here c coherent = stays_where (is_user_command n) (after_user_command n c) c c (command_stays n c coherent) (stays c coherent)
@@ -167,7 +168,7 @@ module _ (untied : NothingUnties) where
       stays_where (k == l) c (record c { lines = with_waiting k m c.lines }) c (stays c coherent)
       (stays_lines (with_waiting k m c.lines) c (waits_shapes k m c.lines) coherent)
   routed_stays l n bytes Unknown c coherent =
-      let whom : List ℕ × List ℕ = (n.origin, n.user) in
+      let whom : User = sender_of n in
       stays_where (is_user_command n) (after_unknown_node n c) c c
       (stays_lines (with_message_to c.entry whom (node_unknown n.to) c.lines) c (said_shapes c.entry whom (node_unknown n.to) c.lines) coherent) (stays c coherent)
 

@@ -8,7 +8,7 @@ use Rattle.njh_block.specs.declared.answer.Answer.{Answer}
 use Rattle.njh_block.specs.declared.rcb.ControlRcb.TheVariants.{Refusal}
 use Rattle.njh_header.specs.Texts.{node_unknown}
 use Rattle.njh_nmr.specs.declared.fault.NmrFault.{NmrFault}
-use Rattle.njh_nmr.specs.Nodal.{Nodal, nodal_of, is_user_command, cut_after_message}
+use Rattle.njh_nmr.specs.Nodal.{Nodal, nodal_of, is_user_command, cut_after_message, sender_of}
 use Rattle.njh_table.specs.Entries.{route_of}
 use Rattle.njh_table.specs.declared.Route.{Route}
 use Rattle.njh_table.specs.declared.Route.TheVariants.{Here, Line, Unknown}
@@ -92,16 +92,16 @@ without_sending lines n = map (with_senders_by (without_file n)) lines
 abbrev pub with_outcome : Nodal → CommandOutcome → Customer → Customer
 with_outcome n done c = record c {
   spool = done.spool;
-  lines = all_said c.entry (n.origin, n.user) done.replies (fold without_sending c.lines done.cancelled);
+  lines = all_said c.entry (sender_of n) done.replies (fold without_sending c.lines done.cancelled);
 }
 
 -- a command of a user to the hub
 abbrev pub after_user_command : Nodal → Customer → Customer
-after_user_command n c = with_outcome n (message_outcome c.entry (n.origin, n.user) n.message c.spool) c
+after_user_command n c = with_outcome n (message_outcome c.entry (sender_of n) n.message c.spool) c
 
 -- the sender of a command is told that nobody has the node
 abbrev pub after_unknown_node : Nodal → Customer → Customer
-after_unknown_node n c = record c { lines = with_message_to c.entry (n.origin, n.user) (node_unknown n.to) c.lines }
+after_unknown_node n c = record c { lines = with_message_to c.entry (sender_of n) (node_unknown n.to) c.lines }
 
 -- A message that came on a line, by the route of its node: the hub's own are commands of users, others are sent on, but
 -- not back, and of a node that nobody has the user hears who commanded something.

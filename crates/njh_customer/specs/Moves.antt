@@ -3,9 +3,11 @@
 use Rattle.std.specs.Prelude.{◌≡◌, ℕ, ◌+◌, Bool, true, List, [], ◌∷◌, ◌++◌, length, map, filter, find, replicate, Some}
 use Rattle.std.specs.Prelude.{None, Ok, fold, cond, not}
 use Rattle.std.specs.List.{Contains}
+use Rattle.njh_ebcdic.specs.Users.{User}
+use Rattle.njh_header.specs.FileNames.{FileName}
 use Rattle.njh_block.specs.Blocks.{Item, Data, Control, stream_of}
 use Rattle.njh_block.specs.Codes.{kind_of}
-use Rattle.njh_nmr.specs.Nodal.{Nodal, nodal_of, is_user_command}
+use Rattle.njh_nmr.specs.Nodal.{Nodal, nodal_of, is_user_command, sender_of}
 use Rattle.njh_record.specs.Stored.{Stored}
 use Rattle.njh_spool.specs.CustomerSpool.{WholeFile}
 use Rattle.njh_spool.specs.declared.State.TheVariants as state
@@ -37,7 +39,7 @@ pub record Tells (answer streams k : ℕ) (i : Item) : Type 0 where
   pub names : stream_of streams srcb ≡ Some k
 
 -- A record is a nodal message in which a user, by node and name, commands the hub.
-pub record Commands (entry : CustomerEntry) (who : List ℕ × List ℕ) (command : Command) (i : Item) : Type 0 where
+pub record Commands (entry : CustomerEntry) (who : User) (command : Command) (i : Item) : Type 0 where
   pub srcb : ℕ
   pub bytes : List ℕ
   pub is_message : i ≡ Data 0x9a srcb bytes
@@ -45,7 +47,7 @@ pub record Commands (entry : CustomerEntry) (who : List ℕ × List ℕ) (comman
   pub reads : nodal_of bytes ≡ Ok nodal
   pub to_hub : route_of entry nodal.to ≡ Here
   pub is_command : is_user_command nodal ≡ true
-  pub sender : who ≡ (nodal.origin, nodal.user)
+  pub sender : who ≡ sender_of nodal
   pub says : command_of nodal.message ≡ Some command
 
 -- The numbers of the files that pass a test and are being sent.
@@ -85,17 +87,17 @@ pub data Acts (entry : CustomerEntry) (l : ℕ) (i : Item) (x y : Outgoing) : Ty
       → y ≡ with_sender_on l k Idle (with_files (without_numbered n x.files) x) → Acts entry l i x y
   -- commands of the files' owner
   holds :
-      (who : List ℕ × List ℕ) (name : List ℕ × ℕ) → Commands entry who (Hold name) i
+      (who : User) (name : FileName) → Commands entry who (Hold name) i
       → y ≡ with_changed (is_of_name who name) (file_in_state state.Held) x → Acts entry l i x y
   releases :
-      (who : List ℕ × List ℕ) (name : List ℕ × ℕ) → Commands entry who (Release name) i
+      (who : User) (name : FileName) → Commands entry who (Release name) i
       → y ≡ with_changed (is_of_name who name) (file_in_state state.Ready) x → Acts entry l i x y
   reroutes :
-      (who : List ℕ × List ℕ) (name : List ℕ × ℕ) (node : List ℕ) (line : ℕ) → Commands entry who (Reroute name node) i
+      (who : User) (name : FileName) (node : List ℕ) (line : ℕ) → Commands entry who (Reroute name node) i
       → route_of entry node ≡ Line line → y ≡ with_changed (is_of_name who name) (with_new_destination node) x
       → Acts entry l i x y
   cancels :
-      (who : List ℕ × List ℕ) (name : List ℕ × ℕ) → Commands entry who (Cancel name) i
+      (who : User) (name : FileName) → Commands entry who (Cancel name) i
       → y ≡ without_cancelled (is_of_name who name) x
       → Acts entry l i x y
 

@@ -2,6 +2,8 @@
 use Rattle.std.specs.Prelude.{◌≡◌, ℕ, ◌+◌, ◌<◌, ◌⊎◌, Bool, true, false, List, [], find, flat_map, length, take, Some}
 use Rattle.std.specs.Prelude.{None, Ok, Err}
 use Rattle.std.specs.List.{Contains}
+use Rattle.njh_ebcdic.specs.Users.{User}
+use Rattle.njh_header.specs.FileNames.{FileName}
 use Rattle.njh_bisync.specs.ByteSteps.{frames_after}
 use Rattle.njh_bisync.specs.Frames.{Received}
 use Rattle.njh_block.specs.Blocks.{Item, Data}
@@ -80,7 +82,7 @@ TakesMoveSo =
 -- file.
 pub data Leaves (entry : CustomerEntry) (l : ℕ) (items : List Item) (n : ℕ) (x : Outgoing) : Type 0 where
   cancelled :
-      (i : Item) (who : List ℕ × List ℕ) (name : List ℕ × ℕ) (f : WholeFile) → Contains items i
+      (i : Item) (who : User) (name : FileName) (f : WholeFile) → Contains items i
       → Commands entry who (Cancel name) i
       → Contains x.files f → f.number ≡ n → is_of_name who name f ≡ true → Leaves entry l items n x
   completed :
@@ -162,7 +164,7 @@ pub data FileMoves (entry : CustomerEntry) (items : List Item) (x : Outgoing) (g
       (i : Item) (rcb srcb : ℕ) → Contains items i → i ≡ Data rcb srcb [] → is_whole g.records ≡ true → g.state ≡ Ready
       → FileMoves entry items x g
   rerouted :
-      (i : Item) (who : List ℕ × List ℕ) (name : List ℕ × ℕ) (node : List ℕ) (f : WholeFile) → Contains items i
+      (i : Item) (who : User) (name : FileName) (node : List ℕ) (f : WholeFile) → Contains items i
       → Commands entry who (Reroute name node) i → Contains x.files f → is_of_name who name f ≡ true
       → is_sending f.state ≡ false
       → g.number ≡ f.number → g.kind ≡ f.kind → length node ≡ 8 → g.records ≡ records_to_node f.kind node None f.records

@@ -1,5 +1,6 @@
 -- What waits on a customer's lines: answers to the peers, and nodal messages, which go by the routes of their nodes.
 use Rattle.std.specs.Prelude.{ℕ, List, [], ◌∷◌, Option, Some, None}
+use Rattle.njh_ebcdic.specs.Users.{User}
 use Rattle.njh_block.specs.declared.answer.Answer.{Answer}
 use Rattle.njh_nmr.specs.Nodal.{notice_record}
 use Rattle.njh_table.specs.Entries.{CustomerEntry, route_of}
@@ -25,10 +26,10 @@ goes (Line k) m lines = with_waiting k m lines
 goes Unknown m lines = lines
 
 -- what the hub says to a user at a node
-abbrev pub with_message_to : CustomerEntry → List ℕ × List ℕ → List ℕ → List CustomerLine → List CustomerLine
-with_message_to entry whom text lines = goes (route_of entry whom.0) (notice_record entry.hub whom text) lines
+abbrev pub with_message_to : CustomerEntry → User → List ℕ → List CustomerLine → List CustomerLine
+with_message_to entry whom text lines = goes (route_of entry whom.node) (notice_record entry.hub whom text) lines
 
-abbrev pub all_said : CustomerEntry → List ℕ × List ℕ → List (List ℕ) → List CustomerLine → List CustomerLine
+abbrev pub all_said : CustomerEntry → User → List (List ℕ) → List CustomerLine → List CustomerLine
 all_said entry whom [] lines = lines
 all_said entry whom (t ∷ ts) lines = all_said entry whom ts (with_message_to entry whom t lines)
 

@@ -3,7 +3,7 @@
 ghost use Rattle.std.specs.Prelude.{◌≡◌, ◌<◌, ◌≤◌, ℕ, List, length, slice_set, Some};
 ghost use Rattle.njh_block.specs.Blocks.{control_byte, stream_number, stream_of};
 ghost use Rattle.njh_header.specs.Texts.{node_unknown};
-ghost use Rattle.njh_nmr.specs.Nodal.{cut_after_message, record_of};
+ghost use Rattle.njh_nmr.specs.Nodal.{cut_after_message, record_of, sender_of};
 ghost use Rattle.njh_block.specs.ItemViews.{given_item};
 ghost use Rattle.njh_spool.specs.Spools.{spool_at};
 ghost use Rattle.njh_stream.specs.Arrivals.{IsShort, arrival_of};
@@ -239,7 +239,7 @@ fn pass_on(other: u16, message: &Nmr, lines: &mut CustomerLines)
 /// The sender of a command is told that nobody has its node.
 fn tell_unknown(customer: &Customer, message: &Nmr, lines: &mut CustomerLines)
     ensures { lines.new
-        ≡ with_message_to (entry_of customer.now) (message.now.origin, message.now.user)
+        ≡ with_message_to (entry_of customer.now) (sender_of message.now)
         (node_unknown message.now.to) lines.old }
 {
     let text = node_unknown(message.to());

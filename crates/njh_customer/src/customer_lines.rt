@@ -196,7 +196,8 @@ impl CustomerLines {
     /// The hub says something to a user at a node.
     pub(crate) fn say(&mut self, customer: &Customer, node: Name, user: [u8; FIELD], text: &[u8])
         requires { length text.now ≤ LONGEST_MESSAGE }
-        ensures { self.new ≡ with_message_to (entry_of customer.now) (node, user) text.now self.old }
+        ensures { self.new ≡ with_message_to (entry_of customer.now)
+            (record { node = node; user = user }) text.now self.old }
     {
         self.say_by(customer.route(node), customer.hub(), node, user, text);
     }
@@ -204,7 +205,7 @@ impl CustomerLines {
     /// The hub says something to a user at a node, by the node's route.
     fn say_by(&mut self, route: Route, hub: Name, node: Name, user: [u8; FIELD], text: &[u8])
         requires { length text.now ≤ LONGEST_MESSAGE }
-        ensures { self.new ≡ goes route (notice_record hub (node, user) text.now) self.old }
+        ensures { self.new ≡ goes route (notice_record hub (record { node = node; user = user }) text.now) self.old }
     {
         let mut record = Record::new();
         Nmr::write_notice(hub, node, user, text, &mut record);
@@ -219,7 +220,8 @@ impl CustomerLines {
         user: [u8; FIELD],
         replies: &Replies,
     )
-        ensures { self.new ≡ all_said (entry_of customer.now) (node, user) replies.now self.old }
+        ensures { self.new ≡ all_said (entry_of customer.now)
+            (record { node = node; user = user }) replies.now self.old }
     {
         let route = customer.route(node);
         let hub = customer.hub();

@@ -63,14 +63,14 @@ impl DataSetHeader {
 
     /// The node that the data set goes to.
     pub fn destination_node(&self) -> Name
-        ensures { result ≡ self.now.destination.0 }
+        ensures { result ≡ self.now.destination.node }
     {
         self.destination.node
     }
 
     /// The field of the user there.
     pub fn destination_user(&self) -> [u8; 8]
-        ensures { result ≡ self.now.destination.1 }
+        ensures { result ≡ self.now.destination.user }
     {
         self.destination.user
     }

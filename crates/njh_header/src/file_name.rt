@@ -13,11 +13,11 @@ pub struct FileName {
 }
 
 impl Model for FileName {
-    ghost use Rattle.std.specs.Prelude.{ℕ, List};
+    ghost use Rattle.njh_header.specs.FileNames as names;
 
-    ghost Value = { List ℕ × ℕ };
+    ghost Value = { names.FileName };
 
-    ghost view = { λ name. (name.node, name.number) };
+    ghost view = { λ name. record { node = name.node; number = name.number } };
 
-    ghost inverse = { λ pair. record { node = pair.0; number = pair.1 } };
+    ghost inverse = { λ name. record { node = name.node; number = name.number } };
 }

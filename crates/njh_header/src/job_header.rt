@@ -49,7 +49,7 @@ impl Model for JobHeader {
 impl JobHeader {
     ghost use Rattle.std.specs.Prelude.{◌≡◌, ◌+◌, ◌≤◌, ◌↔◌, length, IfOk};
     ghost use Rattle.njh_record.specs.Bytes.{with_field};
-    ghost use Rattle.njh_header.specs.Headers.{JobHeader as Seen, IsJobHeader, IsJobFault, job_header};
+    ghost use Rattle.njh_header.specs.Headers.{JobHeader as Seen, IsJobHeader, IsJobFault, job_header, job_name};
 
     /// The job header that a record is.
     pub fn read(bytes: &[u8]) -> Result<JobHeader, HeaderFault>
@@ -110,35 +110,35 @@ impl JobHeader {
 
     /// The node that the job comes from.
     pub fn origin_node(&self) -> Name
-        ensures { result ≡ self.now.origin.0 }
+        ensures { result ≡ self.now.origin.node }
     {
         self.owner().node
     }
 
     /// The field of the user there.
     pub fn origin_user(&self) -> [u8; 8]
-        ensures { result ≡ self.now.origin.1 }
+        ensures { result ≡ self.now.origin.user }
     {
         self.owner().user
     }
 
     /// The field of the execution node, which needn't be a name.
     pub fn execution_node(&self) -> [u8; 8]
-        ensures { result ≡ self.now.execution.0 }
+        ensures { result ≡ self.now.execution.node }
     {
         self.destination().node
     }
 
     /// The field of the user at the execution node.
     pub fn execution_user(&self) -> [u8; 8]
-        ensures { result ≡ self.now.execution.1 }
+        ensures { result ≡ self.now.execution.user }
     {
         self.destination().user
     }
 
     /// The name of the job's files: origin node and job number.
     pub fn file_name(&self) -> FileName
-        ensures { result ≡ (self.now.origin.0, self.now.number) }
+        ensures { result ≡ job_name self.now }
     {
         FileName {
             node: self.owner().node,

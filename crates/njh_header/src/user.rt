@@ -13,13 +13,13 @@ pub struct User {
 }
 
 impl Model for User {
-    ghost use Rattle.std.specs.Prelude.{ℕ, List};
+    ghost use Rattle.njh_ebcdic.specs.Users as users;
 
-    ghost Value = { List ℕ × List ℕ };
+    ghost Value = { users.User };
 
-    ghost view = { λ u. (u.node, u.user) };
+    ghost view = { λ u. record { node = u.node; user = u.user } };
 
-    ghost inverse = { λ pair. record { node = pair.0; user = pair.1 } };
+    ghost inverse = { λ u. record { node = u.node; user = u.user } };
 }
 
 /// Where a file goes.
@@ -32,11 +32,11 @@ pub struct Destination {
 }
 
 impl Model for Destination {
-    ghost use Rattle.std.specs.Prelude.{ℕ, List};
+    ghost use Rattle.njh_ebcdic.specs.Users as users;
 
-    ghost Value = { List ℕ × List ℕ };
+    ghost Value = { users.User };
 
-    ghost view = { λ destination. (destination.node, destination.user) };
+    ghost view = { λ u. record { node = u.node; user = u.user } };
 
-    ghost inverse = { λ pair. record { node = pair.0; user = pair.1 } };
+    ghost inverse = { λ u. record { node = u.node; user = u.user } };
 }

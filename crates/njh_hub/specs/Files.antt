@@ -1,5 +1,7 @@
 -- A customer's whole files, as it is shown them.
 use Rattle.std.specs.Prelude.{ℕ, List, length, map, Option}
+use Rattle.njh_ebcdic.specs.Users.{User}
+use Rattle.njh_header.specs.FileNames.{FileName}
 use Rattle.njh_record.specs.Stored.{Stored}
 use Rattle.njh_record.specs.declared.Kind.{Kind}
 use Rattle.njh_header.specs.FileHeaders.{name_of, file_owner, destination_of}
@@ -10,10 +12,10 @@ use Rattle.njh_hub.specs.WholeHub.{Part, part}
 
 -- What its headers don't say, since one of them doesn't read, is None; the hub stores no such file.
 pub record FileView : Type 0 where
-  pub name : Option (List ℕ × ℕ)  -- origin node and job number
-  pub owner : Option (List ℕ × List ℕ)  -- origin node and user
+  pub name : Option FileName  -- origin node and job number
+  pub owner : Option User  -- origin node and user
   pub kind : Kind
-  pub destination : Option (List ℕ × List ℕ)  -- node and user
+  pub destination : Option User  -- node and user
   pub state : State
   pub records : List Stored
 

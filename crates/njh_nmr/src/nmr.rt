@@ -131,8 +131,8 @@ impl Nmr {
     /// first.
     pub fn write_notice(hub: Name, node: Name, user: [u8; FIELD], text: &[u8], out: &mut Record)
         requires { length text.now ≤ LONGEST_MESSAGE }
-        ensures bytes { out.new.items ≡ notice_record hub (node, user) text.now }
-        ensures said { out.new.items ≡ record_of (notice_to (node, user) hub text.now) }
+        ensures bytes { out.new.items ≡ notice_record hub (record { node = node; user = user }) text.now }
+        ensures said { out.new.items ≡ record_of (notice_to (record { node = node; user = user }) hub text.now) }
     {
         let length = text.len() as u8;
         set_bytes(out, &[OF_USER, HUB_LEVEL, HUB_KIND, length]);

@@ -24,7 +24,8 @@ pub struct NoticeLine {
 impl NoticeLine {
     /// A copy of a notice.
     pub fn of(notice: &Notice) -> NoticeLine
-        ensures whom { (result.node, result.user) ≡ notice.now.whom }
+        ensures node { result.node ≡ notice.now.whom.node }
+        ensures user { result.user ≡ notice.now.whom.user }
         ensures text { take result.length result.text ≡ notice.now.text }
     {
         let mut text = [0; LONGEST_MESSAGE];

@@ -3,6 +3,7 @@ use Rattle.std.proofs.Common.{◌≡◌, ℕ, zero, suc, ◌≤◌, Bool, true, 
 use Rattle.std.proofs.Common.{ap, ◌∙◌, arith}
 use Rattle.std.specs.Option.{option_map}
 use Rattle.std.specs.Result.{result_ok}
+use Rattle.njh_ebcdic.specs.Users.{User}
 use Rattle.njh_record.specs.Stored.{Stored}
 use Rattle.njh_record.specs.declared.Kind.{Kind}
 use Rattle.njh_record.specs.declared.Kind.TheVariants.{In, Out}
@@ -45,7 +46,7 @@ data_set_header-behind (suc k) f (r ∷ rs) far = at_test (r.srcb == 0xc0) far (
     at_test false few rest = (refl, refl)
 
 -- what a slot keeps, by the headers
-abbrev kept_by : Option JobHeader → Option (List ℕ × List ℕ) → ℕ → KeptHeaders
+abbrev kept_by : Option JobHeader → Option User → ℕ → KeptHeaders
 kept_by job destination count = record { said = by_headers job destination; count = count }
 
 pub kept_headers-behind : (kind : Kind) (k : ℕ) (f : Stored → Stored) (records : List Stored) → header_count kind records ≤ k →

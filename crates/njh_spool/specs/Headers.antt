@@ -1,10 +1,11 @@
 -- What the headers of a file say of it, and how far into the file they reach.
 use Rattle.std.specs.Prelude.{ℕ, suc, true, false, List, [], ◌∷◌, length, Option, None, ◌==◌}
 use Rattle.std.specs.Option.{option_map}
+use Rattle.njh_ebcdic.specs.Users.{User}
 use Rattle.njh_record.specs.Stored.{Stored}
 use Rattle.njh_record.specs.declared.Kind.{Kind}
 use Rattle.njh_record.specs.declared.Kind.TheVariants.{In, Out}
-use Rattle.njh_header.specs.Headers.{JobHeader}
+use Rattle.njh_header.specs.Headers.{JobHeader, job_name}
 use Rattle.njh_header.specs.FileHeaders.{name_of, file_owner, destination_of}
 use Rattle.njh_spool.specs.declared.file_headers.FileHeaders.{FileHeaders}
 use Rattle.njh_spool.specs.declared.file_headers.KeptHeaders.{KeptHeaders}
@@ -30,10 +31,10 @@ abbrev pub kept_headers : Kind → List Stored → KeptHeaders
 kept_headers kind records = record { said = headers_of kind records; count = header_count kind records }
 
 -- by the job header, and where the file goes
-abbrev pub by_headers : Option JobHeader → Option (List ℕ × List ℕ) → FileHeaders
+abbrev pub by_headers : Option JobHeader → Option User → FileHeaders
 by_headers job destination =
     record {
-      name = option_map (λ h. (h.origin.0, h.number)) job;
+      name = option_map job_name job;
       owner = option_map (λ h. h.origin) job;
       destination = destination;
     }

@@ -2,6 +2,7 @@
 
 ghost use Rattle.std.specs.Prelude.{◌≡◌, ◌<◌, ◌≤◌, length};
 ghost use Rattle.std.specs.Option.{option_map};
+ghost use Rattle.njh_header.specs.Headers.{job_name};
 ghost use Rattle.njh_header.specs.FileHeaders.{job_header_of, data_set_header_of};
 ghost use Rattle.njh_spool.specs.code.Chains.{chain_at};
 ghost use Rattle.njh_spool.specs.Headers.{by_headers, kept_headers, reach_of};
@@ -92,7 +93,7 @@ fn read_data_set_header(records: &mut RecordReader<'_>, count: u32) -> (Option<D
 }
 
 fn name_by(job: &Option<JobHeader>) -> Option<FileName>
-    ensures { result ≡ option_map (λ h. (h.origin.0, h.number)) job.now }
+    ensures { result ≡ option_map job_name job.now }
 {
     match job {
         Some(header) => Some(header.file_name()),

@@ -2,6 +2,7 @@
 use Rattle.std.proofs.Common.{◌≡◌, ℕ, true, false, ◌&&◌, List, [], ◌∷◌, ◌++◌, map, Option, Some, None, refl, sym, ap}
 use Rattle.std.proofs.Common.{subst, ◌∙◌, ◌⊎◌, inl, inr, ◌==◌, eq-eqb}
 use Rattle.std.specs.List.{list_any}
+use Rattle.njh_ebcdic.specs.Users.{User}
 use Rattle.njh_record.specs.Stored.{Stored}
 use Rattle.njh_record.specs.declared.Kind.{Kind}
 use Rattle.njh_block.specs.declared.rcb.ControlRcb.TheVariants.{Refusal, Completion}
@@ -36,7 +37,7 @@ pub owner_stays : (earlier : List Stored) (r : Stored) (rest : List Stored) → 
 owner_stays [] r rest = refl
 owner_stays (x ∷ xs) r rest = refl
 
-pub nothing_said : (whom : Option (List ℕ × List ℕ)) → None ≡ notice_of whom None
+pub nothing_said : (whom : Option User) → None ≡ notice_of whom None
 nothing_said None = refl
 nothing_said (Some whom) = refl
 

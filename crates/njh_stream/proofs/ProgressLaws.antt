@@ -128,10 +128,10 @@ where_placed Out (x ∷ xs) node last h = at_all (all_job_headers (x ∷ xs)) re
 -- after the job header of an output file comes its data set header
 pub header_placed :
     (kind : Kind) (file : List Stored) (r : Stored) (h : DataSetHeader) → IsJobFile kind file
-    → r.srcb ≡ 0xe0 → data_set_header r.bytes ≡ Ok h → progress_of kind (file ++ r ∷ []) ≡ Placed h.destination.0 r.srcb
+    → r.srcb ≡ 0xe0 → data_set_header r.bytes ≡ Ok h → progress_of kind (file ++ r ∷ []) ≡ Placed h.destination.node r.srcb
 header_placed kind file r h job srcb_is header_is =
-    subst (λ k. progress_of k (file ++ r ∷ []) ≡ Placed h.destination.0 r.srcb) (sym job.kind_is)
-    (subst (λ f. progress_of Out (f ++ r ∷ []) ≡ Placed h.destination.0 r.srcb) (sym job.file_is) placed_more)
+    subst (λ k. progress_of k (file ++ r ∷ []) ≡ Placed h.destination.node r.srcb) (sym job.kind_is)
+    (subst (λ f. progress_of Out (f ++ r ∷ []) ≡ Placed h.destination.node r.srcb) (sym job.file_is) placed_more)
   where
     -- the record is no job header
     not_all : all_job_headers ((job.first ∷ job.rest) ++ r ∷ []) ≡ false
@@ -146,10 +146,10 @@ header_placed kind file r h job srcb_is header_is =
         ∙ ap (λ n. first_header (n == 0xc0) (record r { srcb = n }) None) srcb_is
         ∙ ap result_ok header_is
 
-    node_found : node_in (placement Out ((job.first ∷ job.rest) ++ r ∷ [])) ≡ h.destination.0
-    node_found = ap (λ o. elim (option_map (λ x. x.destination) o) [ Some d ↦ d.0 | None ↦ [] ]) found
+    node_found : node_in (placement Out ((job.first ∷ job.rest) ++ r ∷ [])) ≡ h.destination.node
+    node_found = ap (λ o. elim (option_map (λ x. x.destination) o) [ Some d ↦ d.node | None ↦ [] ]) found
 
-    placed_more : progress_of Out ((job.first ∷ job.rest) ++ r ∷ []) ≡ Placed h.destination.0 r.srcb
+    placed_more : progress_of Out ((job.first ∷ job.rest) ++ r ∷ []) ≡ Placed h.destination.node r.srcb
     placed_more =
         output_placed job.first (job.rest ++ r ∷ []) not_all
         ∙ ap₂ Placed node_found (last_of_more (job.first ∷ job.rest) r)
@@ -169,7 +169,7 @@ placed_stays Out (x ∷ xs) r node last h = at_all (all_job_headers (x ∷ xs)) 
     at_all true e h = absurd (cc h)
     at_all false e h =
         ap₂ Placed
-        (ap node_in h ∙ ap (λ o. elim (option_map (λ d. d.destination) o) [ Some d ↦ d.0 | None ↦ [] ]) (sym (header_stays (x ∷ xs) r e)))
+        (ap node_in h ∙ ap (λ o. elim (option_map (λ d. d.destination) o) [ Some d ↦ d.node | None ↦ [] ]) (sym (header_stays (x ∷ xs) r e)))
         (sym (last_of_more (x ∷ xs) r))
         ∙ sym (output_placed x (xs ++ r ∷ [])
         (list_all-append (has_srcb 0xc0) (x ∷ xs) (r ∷ []) ∙ ap (λ a. a && (has_srcb 0xc0 r && true)) e))
@@ -177,10 +177,10 @@ placed_stays Out (x ∷ xs) r node last h = at_all (all_job_headers (x ∷ xs)) 
 -- ---- the verdict on a record of a placed file
 
 abbrev pub node_of_header : Option DataSetHeader → List ℕ
-node_of_header o = elim o [ Some d ↦ d.destination.0 | None ↦ [] ]
+node_of_header o = elim o [ Some d ↦ d.destination.node | None ↦ [] ]
 
 abbrev pub node_of_destination : Option DataSetHeader → List ℕ
-node_of_destination o = elim (option_map (λ d. d.destination) o) [ Some d ↦ d.0 | None ↦ [] ]
+node_of_destination o = elim (option_map (λ d. d.destination) o) [ Some d ↦ d.node | None ↦ [] ]
 
 pub node_found : (o : Option DataSetHeader) → node_of_header o ≡ node_of_destination o
 node_found None = refl

@@ -1,5 +1,6 @@
 -- A customer's files that wait to be sent, where their node has no route any more.
 use Rattle.std.specs.Prelude.{ℕ, Bool, true, false, ◌&&◌, ◌||◌, not, cond, List, map, Option, Some, None}
+use Rattle.njh_ebcdic.specs.Users.{User}
 use Rattle.njh_ebcdic.specs.Names.{is_name}
 use Rattle.njh_header.specs.FileHeaders.{destination_of}
 use Rattle.njh_spool.specs.CustomerSpool.{CustomerSpool, WholeFile, whole_numbered, with_state}
@@ -19,9 +20,9 @@ is_unknown Unknown = true
 abbrev pub node_unrouted : CustomerEntry → List ℕ → Bool
 node_unrouted entry node = not (is_name node) || is_unknown (route_of entry node)
 
-abbrev pub destination_unrouted : CustomerEntry → Option (List ℕ × List ℕ) → Bool
+abbrev pub destination_unrouted : CustomerEntry → Option User → Bool
 destination_unrouted entry None = false
-destination_unrouted entry (Some d) = node_unrouted entry d.0
+destination_unrouted entry (Some d) = node_unrouted entry d.node
 
 -- it may go, now or when a session has ended
 abbrev pub waits_in_state : State → Bool

@@ -2,6 +2,7 @@
 -- told.
 use Rattle.std.specs.Prelude.{ℕ, Bool, true, false, List, [], ◌∷◌, ◌++◌, Option, Some, None, ◌&&◌}
 use Rattle.std.specs.List.{list_all}
+use Rattle.njh_ebcdic.specs.Users.{User}
 use Rattle.njh_record.specs.Stored.{Stored, has_srcb}
 use Rattle.njh_record.specs.declared.Kind.{Kind}
 use Rattle.njh_record.specs.declared.Kind.TheVariants.{In, Out}
@@ -26,7 +27,7 @@ last_srcb (r ∷ s ∷ rs) = last_srcb (s ∷ rs)
 
 abbrev pub placement : Kind → List Stored → Progress
 placement kind records =
-    Placed (elim (destination_of kind records) [ Some d ↦ d.0 | None ↦ [] ]) (last_srcb records)
+    Placed (elim (destination_of kind records) [ Some d ↦ d.node | None ↦ [] ]) (last_srcb records)
 
 -- how far the file has come
 abbrev pub progress_of : Kind → List Stored → Progress
@@ -46,7 +47,7 @@ pub data Arrival : Type 0 where
 
 -- What the owner of a file is told.
 pub record Notice : Type 0 where
-  pub whom : List ℕ × List ℕ  -- node and user
+  pub whom : User  -- node and user
   pub text : List ℕ
 
 -- After an arrival: the stream, the spool, the answer to the peer, and the notice.
@@ -77,7 +78,7 @@ abbrev pub received_request : Kind → CustomerSpool → Received
 received_request kind s = requested_where (has_file_room s && has_block s) kind s
 
 -- a notice for the owner, where there is an owner and something to say
-abbrev pub notice_of : Option (List ℕ × List ℕ) → Option (List ℕ) → Option Notice
+abbrev pub notice_of : Option User → Option (List ℕ) → Option Notice
 notice_of None text = None
 notice_of (Some whom) None = None
 notice_of (Some whom) (Some text) = Some (record { whom = whom; text = text })

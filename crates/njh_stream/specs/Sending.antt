@@ -2,6 +2,7 @@
 -- which files a line's streams are for.
 use Rattle.std.specs.Prelude.{ℕ, ◌+◌, Bool, true, false, List, [], ◌∷◌, map, slice_get, Option, Some, None, ◌==◌, cond}
 use Rattle.std.specs.Prelude.{◌&&◌}
+use Rattle.njh_ebcdic.specs.Users.{User}
 use Rattle.njh_ebcdic.specs.Names.{is_name}
 use Rattle.njh_record.specs.Stored.{Stored}
 use Rattle.njh_spool.specs.declared.State.{State}
@@ -95,9 +96,9 @@ is_line l Unknown = false
 abbrev pub node_goes_by : CustomerEntry → ℕ → List ℕ → Bool
 node_goes_by entry l node = is_name node && is_line l (route_of entry node)
 
-abbrev pub destination_goes_by : CustomerEntry → ℕ → Option (List ℕ × List ℕ) → Bool
+abbrev pub destination_goes_by : CustomerEntry → ℕ → Option User → Bool
 destination_goes_by entry l None = false
-destination_goes_by entry l (Some d) = node_goes_by entry l d.0
+destination_goes_by entry l (Some d) = node_goes_by entry l d.node
 
 -- whether a file's destination goes by a line
 abbrev pub goes_by : CustomerEntry → ℕ → WholeFile → Bool

@@ -4,11 +4,12 @@ use Rattle.std.specs.Prelude.{ℕ, Bool, true, false, List, [], ◌∷◌, ◌++
 use Rattle.std.specs.Prelude.{◌&&◌, bytes_eq}
 use Rattle.std.specs.List.{list_all}
 use Rattle.std.specs.Option.{option_map}
+use Rattle.njh_header.specs.FileNames.{FileName}
 use Rattle.njh_ebcdic.specs.Names.{is_name}
 use Rattle.njh_record.specs.Stored.{Stored, has_srcb}
 use Rattle.njh_record.specs.declared.Kind.{Kind}
 use Rattle.njh_record.specs.declared.Kind.TheVariants.{In, Out}
-use Rattle.njh_header.specs.Headers.{job_header, JobHeader, data_set_header}
+use Rattle.njh_header.specs.Headers.{job_header, JobHeader, data_set_header, job_name}
 use Rattle.njh_header.specs.FileHeaders.{data_set_header_of, name_of}
 use Rattle.njh_header.specs.Texts.{node_unknown, no_files_for, routed_back, spool_full}
 use Rattle.njh_table.specs.Entries.{CustomerEntry, route_of}
@@ -23,7 +24,7 @@ pub data Verdict : Type 0 where
 
 -- The node that a file is for, by the file's name and the line on which it comes: never the hub itself, nor a node that
 -- nobody has, nor back by the line.
-abbrev pub judged_node : CustomerEntry → ℕ → List ℕ → Option (List ℕ × ℕ) → Verdict
+abbrev pub judged_node : CustomerEntry → ℕ → List ℕ → Option FileName → Verdict
 judged_node entry l node name =
     elim (route_of entry node) [
       | Here ↦ Cancelled (Some (no_files_for entry.hub))
@@ -34,7 +35,7 @@ judged_node entry l node name =
 -- a job's header says where it runs
 abbrev pub judged_job : CustomerEntry → ℕ → JobHeader → Verdict
 judged_job entry l h =
-    cond (is_name h.execution.0) (judged_node entry l h.execution.0 (Some (h.origin.0, h.number))) (Cancelled None)
+    cond (is_name h.execution.node) (judged_node entry l h.execution.node (Some (job_name h))) (Cancelled None)
 
 -- ---- which records come in which order
 
@@ -56,20 +57,20 @@ judged_data_set entry l earlier r =
       | false ↦ Cancelled None
       | true ↦ elim (data_set_header r.bytes) [
         | Err fault ↦ Cancelled None
-        | Ok h ↦ judged_node entry l h.destination.0 (name_of earlier)
+        | Ok h ↦ judged_node entry l h.destination.node (name_of earlier)
       ]
     ]
 
 -- the destination's node of the first data set header
 abbrev pub file_node : List Stored → List ℕ
-file_node records = elim (data_set_header_of records) [ Some h ↦ h.destination.0 | None ↦ [] ]
+file_node records = elim (data_set_header_of records) [ Some h ↦ h.destination.node | None ↦ [] ]
 
 -- a data set header that has to name this node
 abbrev pub judged_against : List ℕ → List ℕ → Verdict
 judged_against node bytes =
     elim (data_set_header bytes) [
       | Err fault ↦ Cancelled None
-      | Ok h ↦ cond (bytes_eq h.destination.0 node) Taken (Cancelled None)
+      | Ok h ↦ cond (bytes_eq h.destination.node node) Taken (Cancelled None)
     ]
 
 -- a later data set header names the same node
@@ -115,7 +116,7 @@ pub data ComingRecord : Type 0 where
   TooLong : ComingRecord
 
 -- the text for the owner where the quota has no room, if the file has a name
-abbrev pub full_text : Option (List ℕ × ℕ) → Option (List ℕ)
+abbrev pub full_text : Option FileName → Option (List ℕ)
 full_text name = option_map spool_full name
 
 -- the verdict on a record, with which the file's records are these, where there is room for it or not

@@ -93,7 +93,7 @@ fn judge_first(customer: &Customer, line: u16, kind: Kind, srcb: u8, bytes: &[u8
 /// A job goes to the node where it runs.
 fn judge_job(customer: &Customer, line: u16, header: &JobHeader) -> Verdict
     ensures verdict { verdict_value result ≡ transmissions.judged_job (entry_of customer.now) line header.now }
-    ensures progress { IsPlaced result header.now.execution.0 0xc0 }
+    ensures progress { IsPlaced result header.now.execution.node 0xc0 }
 {
     let node = header.destination().node;
     match Name::of_field(&node) {

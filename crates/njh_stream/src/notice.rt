@@ -20,5 +20,5 @@ impl Model for Notice {
 
     ghost Value = { receiving.Notice };
 
-    ghost view = { λ n. record { whom = (n.node, n.user); text = n.text.items } };
+    ghost view = { λ n. record { whom = record { node = n.node; user = n.user }; text = n.text.items } };
 }

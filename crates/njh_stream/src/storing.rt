@@ -3,6 +3,7 @@
 ghost use Rattle.std.specs.Prelude.{◌≡◌, ℕ, ◌<◌, ◌≤◌, ◌++◌, ◌∷◌, [], List, length, slice_set, IsSome, IsTrue};
 ghost use Rattle.std.specs.Prelude.{MatchOption, None, Some};
 ghost use Rattle.std.specs.Option.{option_map};
+ghost use Rattle.njh_header.specs.Headers.{job_name};
 ghost use Rattle.njh_header.specs.FileHeaders as headers;
 ghost use Rattle.njh_record.specs.Stored.{Stored};
 ghost use Rattle.njh_spool.specs.CustomerSpool.{has_room_for, partial_numbered};
@@ -145,7 +146,7 @@ fn append(
 /// NJH021 for a file with this job header.
 fn full_text(header: &Option<JobHeader>) -> Option<MessageText>
     ensures { option_map (λ t. t.items) result
-        ≡ transmissions.full_text (option_map (λ h. (h.origin.0, h.number)) header.now) }
+        ≡ transmissions.full_text (option_map job_name header.now) }
 {
     match header {
         Some(header) => Some(spool_full(header.file_name())),

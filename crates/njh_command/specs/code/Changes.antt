@@ -1,5 +1,6 @@
 -- What HOLD, RELEASE and REROUTE make of a file, and what they say of it.
 use Rattle.std.specs.Prelude.{ℕ, Bool, true, false, List, [], ◌∷◌}
+use Rattle.njh_header.specs.FileNames.{FileName}
 use Rattle.njh_spool.specs.declared.State.TheVariants.{Ready, Held}
 use Rattle.njh_spool.specs.CustomerSpool.{CustomerSpool, WholeFile}
 use Rattle.njh_command.specs.declared.changing.Change.{Change}
@@ -15,7 +16,7 @@ change_by Hold f = file_in_state Held f
 change_by Release f = file_in_state Ready f
 change_by (Reroute node) f = with_new_destination node f
 
-abbrev pub change_text : Change → List ℕ × ℕ → ℕ → List ℕ
+abbrev pub change_text : Change → FileName → ℕ → List ℕ
 change_text Hold name n = held_text name n
 change_text Release name n = released_text name n
 change_text (Reroute node) name n = rerouted_to name node n

@@ -2,7 +2,7 @@
 use Rattle.std.specs.Prelude.{◌≡◌, ℕ, Bool, true, false, List, Option, None, Result, Ok, Err, ◌==◌, not, ◌&&◌}
 use Rattle.std.specs.Prelude.{slice_set}
 use Rattle.std.specs.Option.{option_map}
-use Rattle.njh_header.specs.Headers.{DataSetHeader, JobHeader}
+use Rattle.njh_header.specs.Headers.{DataSetHeader, JobHeader, job_name}
 use Rattle.njh_header.specs.declared.fault.HeaderFault.{HeaderFault}
 use Rattle.njh_record.specs.Stored.{Stored}
 use Rattle.njh_record.specs.declared.Kind.{Kind}
@@ -38,7 +38,7 @@ IsPlaced verdict node last = IsTakenAt verdict (Placed node last)
 
 -- where a data set header is taken it reads, and says where the file goes
 abbrev pub IsHeaderPlaced : Verdict → Result DataSetHeader HeaderFault → ℕ → Type 0
-IsHeaderPlaced (Taken progress) (Ok h) srcb = (progress ≡ Placed h.destination.0 srcb) × (srcb ≡ 0xe0)
+IsHeaderPlaced (Taken progress) (Ok h) srcb = (progress ≡ Placed h.destination.node srcb) × (srcb ≡ 0xe0)
 IsHeaderPlaced (Taken progress) (Err fault) srcb = ⊥
 IsHeaderPlaced (Cancelled text) header srcb = Unit {0}
 
@@ -53,7 +53,7 @@ appended_where true n progress header r s =
     record { receiver = Open n progress; spool = with_appended n r s; answer = None; notice = None }
 appended_where false n progress header r s =
     received_cancelling n (notice_of (option_map (λ h. h.origin) header)
-    (transmissions.full_text (option_map (λ h. (h.origin.0, h.number)) header))) s
+    (transmissions.full_text (option_map job_name header))) s
 
 -- a step's outcome is as said: the stream, the answer, the notice, and the spool of customer c
 pub record IsAfter (after : After) (new old : List CustomerSpool) (c : ℕ) (done : Received) : Type 0 where

@@ -1,6 +1,7 @@
 -- What the command leaves of the files, and who is told.
 use Rattle.std.proofs.Common.{◌≡◌, fold, slice_set, ap, sym, ◌∙◌}
 use Rattle.std.proofs.lemmas.List.{get_or-set_same}
+use Rattle.njh_nmr.specs.Nodal.{sender_of}
 use Rattle.njh_spool.specs.Spools.{spool_at, no_spool}
 use Rattle.njh_table.specs.TableFile.{customer_at, entry_of}
 use Rattle.njh_command.specs.Commands.{CommandOutcome, message_outcome}
@@ -15,7 +16,7 @@ returns c =
     let spools = c.args.spool.now in
     let files = spool_at c.args.customer spools in
     let n = c.args.message.now in
-    let done = message_outcome entry (n.origin, n.user) n.message files in
+    let done = message_outcome entry (sender_of n) n.message files in
     let same : message_outcome entry (c.origin-node.result, c.user-user.result) c.message.result.now files ≡ done =
     λ i. message_outcome entry (c.origin-node.ensures i, c.user-user.ensures i) (c.message.ensures.value i) files in
     let spool = c.obey.ensures.spool ∙ ap (λ (o : CommandOutcome). slice_set spools c.args.customer o.spool) same in
