@@ -58,8 +58,7 @@ impl Deframer {
         // A loop over what is left of a piece comes to the same frames and the same rest, and ends.
         ensures goes_on { GoesOn self.old piece.now result.0 (option_map received_of result.1)
             (feed_outcome self.old piece.now).rest }
-        ensures within { result.0 ≤ length piece.now }
-        ensures some { 0 < length piece.now → 0 < result.0 }
+        ensures progress { (result.0 ≤ length piece.now) × (0 < length piece.now → 0 < result.0) }
         ensures short { IfSome result.1 (λ frame. IsShort (received_of frame)) }
     {
         let (taken, ended) = self.scanner.scan(piece);

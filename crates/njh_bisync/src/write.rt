@@ -21,10 +21,8 @@ pub fn put_text(data: &[u8], out: &mut Vec<u8>) -> Result<(), AllocError>
     ensures ok { OnOk result (out.new.items ≡ out.old.items ++ text_bytes «data».now) }
     ensures err { OnErr result
         ((out.new.items ≡ out.old.items) × (vec_capacity out.new ≡ vec_capacity out.old)) }
-    ensures succeeds { vec_len out.old + length (text_bytes «data».now) ≤ vec_capacity out.old
-        → IsOk result }
     ensures in_place { vec_len out.old + length (text_bytes «data».now) ≤ vec_capacity out.old
-        → vec_capacity out.new ≡ vec_capacity out.old }
+        → IsOk result × (vec_capacity out.new ≡ vec_capacity out.old) }
     ensures capacity { vec_capacity out.old ≤ vec_capacity out.new }
     ensures short { length (text_bytes «data».now) ≤ 4 + 2 * length «data».now }
     ensures longest { length (text_bytes «data».now) ≤ LONGEST_FRAME }
@@ -41,10 +39,8 @@ pub fn put_control(control: Control, out: &mut Vec<u8>) -> Result<(), AllocError
     ensures ok { OnOk result (out.new.items ≡ out.old.items ++ control_bytes control) }
     ensures err { OnErr result
         ((out.new.items ≡ out.old.items) × (vec_capacity out.new ≡ vec_capacity out.old)) }
-    ensures succeeds { vec_len out.old + length (control_bytes control) ≤ vec_capacity out.old
-        → IsOk result }
     ensures in_place { vec_len out.old + length (control_bytes control) ≤ vec_capacity out.old
-        → vec_capacity out.new ≡ vec_capacity out.old }
+        → IsOk result × (vec_capacity out.new ≡ vec_capacity out.old) }
     ensures capacity { vec_capacity out.old ≤ vec_capacity out.new }
     ensures short { length (control_bytes control) ≤ 2 }
 {
@@ -60,9 +56,8 @@ fn put_pair(first: u8, second: u8, out: &mut Vec<u8>) -> Result<(), AllocError>
     ensures ok { OnOk result (out.new.items ≡ out.old.items ++ first ∷ second ∷ []) }
     ensures err { OnErr result
         ((out.new.items ≡ out.old.items) × (vec_capacity out.new ≡ vec_capacity out.old)) }
-    ensures succeeds { vec_len out.old + 2 ≤ vec_capacity out.old → IsOk result }
     ensures in_place { vec_len out.old + 2 ≤ vec_capacity out.old
-        → vec_capacity out.new ≡ vec_capacity out.old }
+        → IsOk result × (vec_capacity out.new ≡ vec_capacity out.old) }
     ensures capacity { vec_capacity out.old ≤ vec_capacity out.new }
 {
     make_room(out, 2)?;
@@ -76,9 +71,8 @@ fn put_one(byte: u8, out: &mut Vec<u8>) -> Result<(), AllocError>
     ensures ok { OnOk result (out.new.items ≡ out.old.items ++ byte ∷ []) }
     ensures err { OnErr result
         ((out.new.items ≡ out.old.items) × (vec_capacity out.new ≡ vec_capacity out.old)) }
-    ensures succeeds { vec_len out.old + 1 ≤ vec_capacity out.old → IsOk result }
     ensures in_place { vec_len out.old + 1 ≤ vec_capacity out.old
-        → vec_capacity out.new ≡ vec_capacity out.old }
+        → IsOk result × (vec_capacity out.new ≡ vec_capacity out.old) }
     ensures capacity { vec_capacity out.old ≤ vec_capacity out.new }
 {
     make_room(out, 1)?;
@@ -104,9 +98,8 @@ fn make_text_room(data: &[u8], out: &mut Vec<u8>) -> Result<(), AllocError>
     ensures items { out.new.items ≡ out.old.items }
     ensures room { OnOk result (vec_len out.new + length (text_bytes «data».now) ≤ vec_capacity out.new) }
     ensures err { OnErr result (vec_capacity out.new ≡ vec_capacity out.old) }
-    ensures succeeds { vec_len out.old + length (text_bytes «data».now) ≤ vec_capacity out.old → IsOk result }
     ensures in_place { vec_len out.old + length (text_bytes «data».now) ≤ vec_capacity out.old
-        → vec_capacity out.new ≡ vec_capacity out.old }
+        → IsOk result × (vec_capacity out.new ≡ vec_capacity out.old) }
     ensures capacity { vec_capacity out.old ≤ vec_capacity out.new }
     ensures short { length (text_bytes «data».now) ≤ 4 + 2 * length «data».now }
 {
@@ -121,9 +114,8 @@ fn make_room(out: &mut Vec<u8>, count: usize) -> Result<(), AllocError>
     ensures items { out.new.items ≡ out.old.items }
     ensures room { OnOk result (vec_len out.new + count ≤ vec_capacity out.new) }
     ensures err { OnErr result (vec_capacity out.new ≡ vec_capacity out.old) }
-    ensures succeeds { vec_len out.old + count ≤ vec_capacity out.old → IsOk result }
     ensures in_place { vec_len out.old + count ≤ vec_capacity out.old
-        → vec_capacity out.new ≡ vec_capacity out.old }
+        → IsOk result × (vec_capacity out.new ≡ vec_capacity out.old) }
     ensures capacity { vec_capacity out.old ≤ vec_capacity out.new }
 {
     if count <= out.capacity() - out.len() {

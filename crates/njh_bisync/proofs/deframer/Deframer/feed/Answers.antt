@@ -15,8 +15,7 @@ returns-in-Some c =
       record {
         taken = taken;
         frame = frame;
-        within = told.goes_on.within;
-        some = told.goes_on.some;
+        progress = (told.goes_on.within, told.goes_on.some);
         first = told.first;
         goes_on = told.goes_on;
         short = c.frame.ensures.short;
@@ -34,8 +33,7 @@ returns-in-None c =
       record {
         taken = taken;
         frame = frame;
-        within = told.goes_on.within;
-        some = told.goes_on.some;
+        progress = (told.goes_on.within, told.goes_on.some);
         first = told.first;
         goes_on = told.goes_on;
         short = tt;
