@@ -4,7 +4,7 @@ use Rattle.std.proofs.Common.{IsSomeAnd, slice_get, ◌==◌, sym, ap, arith, eq
 use Rattle.njh_spool.specs.Spools.{IsSound}
 use Rattle.njh_spool.specs.CustomerSpool.{CustomerSpool, WholeFile, whole_numbered, on_file, without_whole}
 use Rattle.njh_command.specs.Files.{file_at, no_file, with_file, without_at}
-use Rattle.njh_command.proofs.OnlyOneLaws.{only_found, only_changed, only_removed}
+use Rattle.njh_stream.proofs.OnlyOneLaws.{only_found, only_changed, only_removed}
 
 pub number_at : (xs : List WholeFile) (i n : ℕ) (d : WholeFile) → IsSomeAnd (slice_get xs i) (λ f. n ≡ f.number) → (get_or xs i
     d).number ≡ n

@@ -1,5 +1,4 @@
 mod UpTo
-mod OnlyOneLaws
 mod FileLaws
 mod SplitLaws
 mod RecordLaws

@@ -16,7 +16,7 @@ use Rattle.njh_command.specs.Commands.{changed_file, may_change, first_replies, 
 use Rattle.njh_command.specs.code.Changes.{numbers_where, standing_by, without_where}
 use Rattle.njh_command.specs.Files.{file_at, no_file, with_file}
 use Rattle.njh_command.proofs.UpTo.{changed_up_to, count_up_to, left_up_to, removed_up_to}
-use Rattle.njh_command.proofs.OnlyOneLaws.{changed_more, not_yet}
+use Rattle.njh_stream.proofs.OnlyOneLaws.{changed_more, not_yet}
 use Rattle.njh_command.proofs.ReplyLaws.{kept_more}
 
 -- nothing was done to a customer, or to a file

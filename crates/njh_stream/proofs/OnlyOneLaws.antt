@@ -1,6 +1,6 @@
 -- Lists in which a test passes one element at most, which stands at a known index.
-use Rattle.std.proofs.Common.{◌≡◌, ◌<◌, ◌≤◌, ℕ, zero, suc, ◌+◌, Bool, true, false, cond, List, [], ◌∷◌, ◌++◌, length}
-use Rattle.std.proofs.Common.{take, drop, map, set, get_or, find, count_by, Some, refl, sym, ap, ap₂, ◌∙◌}
+use Rattle.std.proofs.Common.{◌≡◌, ◌<◌, ◌≤◌, ℕ, zero, suc, ◌+◌, Bool, true, false, cond, not, filter, List, [], ◌∷◌}
+use Rattle.std.proofs.Common.{◌++◌, length, take, drop, map, set, get_or, find, count_by, Some, refl, sym, ap, ap₂, ◌∙◌}
 use Rattle.std.proofs.Common.{not-suc-le-zero, le_of_suc-le-suc, arith}
 use Rattle.std.proofs.lemmas.List.Sums.{sum_by-cons}
 
@@ -32,7 +32,8 @@ module _ {X : Type 0} (p : X → Bool) where
       at_test false f more = ap (λ rest. x ∷ rest) (more (omega (arith, count_false x xs f, e)))
 
   -- the one that passes is found
-  pub only_found : (xs : List X) (i : ℕ) (d : X) → i < length xs → p (get_or xs i d) ≡ true → count_by p xs ≤ 1 → find p xs ≡ Some (get_or xs i d)
+  pub only_found : (xs : List X) (i : ℕ) (d : X) → i < length xs → p (get_or xs i d) ≡ true → count_by p xs ≤ 1 → find p xs ≡ Some
+      (get_or xs i d)
   only_found [] i d h e few = absurd (not-suc-le-zero h)
   only_found (x ∷ xs) zero d h e few = ap (λ b. cond b (Some x) (find p xs)) e
   only_found (x ∷ xs) (suc i) d h e few = at_test (p x) refl (only_found xs i d (le_of_suc-le-suc h) e)
@@ -54,6 +55,33 @@ module _ {X : Type 0} (p : X → Bool) where
       at_test :
           (b : Bool) → p x ≡ b → (count_by p xs ≤ 1 → map (λ y. cond (p y) (g y) y) xs ≡ set xs i (g (get_or xs i d)))
           → cond b (g x) x ∷ map (λ y. cond (p y) (g y) y) xs ≡ x ∷ set xs i (g (get_or xs i d))
+      at_test true f more = absurd (omega (arith, count_true x xs f, few, counted_at xs i d (le_of_suc-le-suc h) e))
+      at_test false f more = ap (λ rest. x ∷ rest) (more (omega (arith, count_false x xs f, few)))
+
+  -- where none passes nothing is removed
+  pub none_removed : (xs : List X) → count_by p xs ≡ 0 → filter (λ x. not (p x)) xs ≡ xs
+  none_removed [] e = refl
+  none_removed (x ∷ xs) e = at_test (p x) refl (none_removed xs)
+    where
+      at_test :
+          (b : Bool) → p x ≡ b → (count_by p xs ≡ 0 → filter (λ y. not (p y)) xs ≡ xs)
+          → cond (not b) (x ∷ filter (λ y. not (p y)) xs) (filter (λ y. not (p y)) xs) ≡ x ∷ xs
+      at_test true f more = let no : 1 + count_by p xs ≡ 0 = sym (count_true x xs f) ∙ e in absurd (omega (arith, no))
+      at_test false f more = ap (λ rest. x ∷ rest) (more (omega (arith, count_false x xs f, e)))
+
+  -- and it alone is removed
+  pub only_removed :
+      (xs : List X) (i : ℕ) (d : X) → i < length xs → p (get_or xs i d) ≡ true → count_by p xs ≤ 1
+      → filter (λ x. not (p x)) xs ≡ take i xs ++ drop (suc i) xs
+  only_removed [] i d h e few = absurd (not-suc-le-zero h)
+  only_removed (x ∷ xs) zero d h e few =
+      ap (λ b. cond (not b) (x ∷ filter (λ y. not (p y)) xs) (filter (λ y. not (p y)) xs)) e
+      ∙ none_removed xs (omega (arith, count_true x xs e, few))
+  only_removed (x ∷ xs) (suc i) d h e few = at_test (p x) refl (only_removed xs i d (le_of_suc-le-suc h) e)
+    where
+      at_test :
+          (b : Bool) → p x ≡ b → (count_by p xs ≤ 1 → filter (λ y. not (p y)) xs ≡ take i xs ++ drop (suc i) xs)
+          → cond (not b) (x ∷ filter (λ y. not (p y)) xs) (filter (λ y. not (p y)) xs) ≡ x ∷ (take i xs ++ drop (suc i) xs)
       at_test true f more = absurd (omega (arith, count_true x xs f, few, counted_at xs i d (le_of_suc-le-suc h) e))
       at_test false f more = ap (λ rest. x ∷ rest) (more (omega (arith, count_false x xs f, few)))
 
