@@ -4,4 +4,3 @@ mod SplitLaws
 mod RecordLaws
 mod ReplyLaws
 mod WalkLaws
-mod UserLaws

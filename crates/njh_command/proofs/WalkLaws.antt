@@ -11,7 +11,7 @@ use Rattle.njh_ebcdic.specs.Users.{User}
 use Rattle.njh_spool.specs.Spools.{spool_at, no_spool}
 use Rattle.njh_spool.specs.CustomerSpool.{CustomerSpool, WholeFile}
 use Rattle.njh_command.specs.declared.changing.Standing.TheVariants.{Other, Busy, Idle}
-use Rattle.njh_command.specs.Replies.{file_line}
+use Rattle.njh_texts.specs.Texts.{file_line}
 use Rattle.njh_command.specs.Commands.{changed_file, may_change, first_replies, is_owned}
 use Rattle.njh_command.specs.code.Changes.{numbers_where, standing_by, without_where}
 use Rattle.njh_command.specs.Files.{file_at, no_file, with_file}

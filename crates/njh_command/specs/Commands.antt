@@ -8,7 +8,7 @@ use Rattle.njh_spool.specs.declared.State.{State}
 use Rattle.njh_spool.specs.declared.State.TheVariants.{Ready, Held, Refused, Sending}
 use Rattle.njh_spool.specs.CustomerSpool.{CustomerSpool, WholeFile}
 use Rattle.njh_header.specs.FileHeaders.{file_owner, name_of, with_destination}
-use Rattle.njh_header.specs.Texts.{node_unknown, no_files_for}
+use Rattle.njh_texts.specs.Texts.{node_unknown, no_files_for}
 use Rattle.njh_table.specs.Entries.{CustomerEntry, route_of}
 use Rattle.njh_table.specs.declared.Route.{Route}
 use Rattle.njh_table.specs.declared.Route.TheVariants.{Here, Line, Unknown}
@@ -17,8 +17,8 @@ use Rattle.njh_stream.specs.Sending.{file_in, after_abort}
 use Rattle.njh_command.specs.declared.command.Command.{Command}
 use Rattle.njh_command.specs.declared.command.Command.TheVariants as commands
 use Rattle.njh_command.specs.Words.{command_of}
-use Rattle.njh_command.specs.Replies.{file_line, files_line, held_text, released_text, cancelled_text, rerouted_to}
-use Rattle.njh_command.specs.Replies.{not_found, bad_command, being_sent_text}
+use Rattle.njh_texts.specs.Texts.{file_line, files_line, held_text, released_text, cancelled_text, rerouted_to}
+use Rattle.njh_texts.specs.Texts.{not_found, bad_command, being_sent_text}
 
 -- What is answered, what is left in the spool, and the numbers of the files that were removed while they were being
 -- sent, in order of arrival.

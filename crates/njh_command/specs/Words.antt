@@ -7,7 +7,7 @@ use Rattle.std.specs.Result.{result_ok}
 use Rattle.njh_header.specs.FileNames.{FileName}
 use Rattle.njh_ebcdic.specs.Names.{ebcdic, is_empty, upper, within}
 use Rattle.njh_ebcdic.specs.Reading.{name_of_word}
-use Rattle.njh_header.specs.Decimals.{decimal_value}
+use Rattle.njh_texts.specs.Decimals.{decimal_value}
 use Rattle.njh_command.specs.declared.command.Command.{Command}
 use Rattle.njh_command.specs.declared.command.Command.TheVariants as commands
 

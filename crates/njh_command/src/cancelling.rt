@@ -11,8 +11,8 @@ use crate::choice::Choice;
 use crate::files::remove;
 use crate::replies::Replies;
 use crate::senders::Senders;
-use crate::texts::{cancelled, not_found};
 use njh_spool::Spool;
+use njh_texts::{cancelled, not_found};
 
 /// Removes the files, and says how many. The streams of those that are being sent give them up, in order.
 pub(crate) fn cancel_files<S: Senders>(

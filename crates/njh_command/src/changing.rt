@@ -11,10 +11,10 @@ use crate::choice::{Choice, is_chosen};
 use crate::files::{set_state, state_of};
 use crate::replies::Replies;
 use crate::rerouting::reroute;
-use crate::texts::{being_sent, held, not_found, released, rerouted_to};
 use njh_ebcdic::Name;
-use njh_header::{FileName, MessageText};
+use njh_header::FileName;
 use njh_spool::{Spool, State};
+use njh_texts::{MessageText, being_sent, held, not_found, released, rerouted_to};
 
 /// What becomes of the files.
 #[derive(Clone, Copy, Debug, PartialEq, Eq)]

@@ -12,7 +12,6 @@ mod replies;
 mod rerouting;
 mod running;
 mod senders;
-mod texts;
 mod words;
 
 pub use command::{BadCommand, Command};
@@ -20,4 +19,3 @@ pub use files::number_of;
 pub use replies::{MOST_REPLIES, Replies};
 pub use running::{obey, run};
 pub use senders::{Senders, give_up};
-pub use texts::file_text;

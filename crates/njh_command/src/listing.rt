@@ -4,14 +4,14 @@ ghost use Rattle.std.specs.Prelude.{◌≡◌, ◌<◌, ◌++◌, ◌∷◌, [],
 ghost use Rattle.njh_spool.specs.Spools.{spool_at};
 ghost use Rattle.njh_command.specs.Commands.{first_replies, listing, is_owned};
 ghost use Rattle.njh_command.specs.Files.{file_at};
-ghost use Rattle.njh_command.specs.Replies.{file_line};
+ghost use Rattle.njh_texts.specs.Texts.{file_line};
 
 use crate::choice::is_owner;
 use crate::files::summary_of;
 use crate::replies::Replies;
-use crate::texts::files_line;
 use njh_header::User;
 use njh_spool::Spool;
+use njh_texts::files_line;
 
 /// Tells of each of a user's files, and then of how many they are.
 pub(crate) fn list_files(who: User, spool: &Spool, customer: u16, replies: &mut Replies)

@@ -2,12 +2,11 @@
 
 ghost use Rattle.std.specs.Prelude.{◌≡◌, ◌+◌, ◌<◌, ◌≤◌, ◌∷◌, ◌++◌, [], length, map, take};
 ghost use Rattle.njh_command.specs.Commands.{first_replies};
-ghost use Rattle.njh_command.specs.Replies.{listing_line};
+ghost use Rattle.njh_texts.specs.Texts.{listing_line};
 
-use crate::texts::put_file_line;
 use arrayvec::ArrayVec;
-use njh_header::MessageText;
 use njh_spool::FileSummary;
+use njh_texts::{MessageText, put_file_line};
 use std::marker::Model;
 
 /// The most replies to one command; those behind them aren't said.

@@ -13,11 +13,11 @@ use crate::command::Command;
 use crate::listing::list_files;
 use crate::replies::Replies;
 use crate::senders::Senders;
-use crate::texts::{bad_command, not_found};
 use njh_ebcdic::{FIELD, Name};
-use njh_header::{MessageText, User, no_files_for, node_unknown};
+use njh_header::User;
 use njh_spool::Spool;
 use njh_table::{Route, Tables};
+use njh_texts::{MessageText, bad_command, no_files_for, node_unknown, not_found};
 
 /// Does what a message of a user to the hub says, or answers that it is no command. The user is told by node and user
 /// field.

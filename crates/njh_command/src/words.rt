@@ -4,13 +4,14 @@ ghost use Rattle.std.specs.Prelude.{◌≡◌, ◌≤◌, ◌==◌, ◌∷◌, [
 ghost use Rattle.std.specs.List.{list_all, position_or_len};
 ghost use Rattle.njh_ebcdic.specs.Characters.{is_plain};
 ghost use Rattle.njh_ebcdic.specs.Names.{upper, within};
-ghost use Rattle.njh_header.specs.Decimals.{decimal_value};
+ghost use Rattle.njh_texts.specs.Decimals.{decimal_value};
 ghost use Rattle.njh_command.specs.Words.{is_blank, is_full_stop, name_in, name_of_parts, node_in, number_in, says};
 ghost use Rattle.njh_command.specs.Words.{words};
 
 use arrayvec::ArrayVec;
 use njh_ebcdic::{BLANK, FIELD, Name, fold_upper};
-use njh_header::{FileName, MessageText, push_ascii};
+use njh_header::FileName;
+use njh_texts::{MessageText, push_ascii};
 
 /// What stands between the node and the number of a file's name.
 const FULL_STOP: u8 = 0x4b;

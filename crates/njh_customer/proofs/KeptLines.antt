@@ -7,7 +7,7 @@ use Rattle.njh_ebcdic.specs.Users.{User}
 use Rattle.njh_block.specs.Blocks.{Item, Data, Aborted, Long, Control, General, stream_number, stream_of}
 use Rattle.njh_block.specs.Codes.{kind_of}
 use Rattle.njh_block.specs.declared.answer.Answer.{Answer}
-use Rattle.njh_header.specs.Texts.{node_unknown}
+use Rattle.njh_texts.specs.Texts.{node_unknown}
 use Rattle.njh_nmr.specs.declared.fault.NmrFault.{NmrFault}
 use Rattle.njh_nmr.specs.Nodal.{Nodal, nodal_of, is_user_command, cut_after_message, notice_record, sender_of}
 use Rattle.njh_table.specs.Entries.{CustomerEntry, route_of}

@@ -2,7 +2,7 @@
 
 ghost use Rattle.std.specs.Prelude.{◌≡◌, ◌<◌, ◌≤◌, ℕ, List, length, slice_set, Some};
 ghost use Rattle.njh_block.specs.Blocks.{control_byte, stream_number, stream_of};
-ghost use Rattle.njh_header.specs.Texts.{node_unknown};
+ghost use Rattle.njh_texts.specs.Texts.{node_unknown};
 ghost use Rattle.njh_nmr.specs.Nodal.{cut_after_message, record_of, sender_of};
 ghost use Rattle.njh_block.specs.ItemViews.{given_item};
 ghost use Rattle.njh_spool.specs.Spools.{spool_at};
@@ -18,12 +18,12 @@ ghost use Rattle.njh_customer.specs.Waiting.{with_message_to, with_waiting};
 use crate::customer_lines::CustomerLines;
 use njh_block::{Answer, Block, ControlRcb, Item, Rcb, Stream};
 use njh_command::{Replies, obey};
-use njh_header::node_unknown;
 use njh_nmr::Nmr;
 use njh_record::Record;
 use njh_spool::Spool;
 use njh_stream::{Arrival, streams_stay_tied};
 use njh_table::{Customer, LineId, Route, Tables};
+use njh_texts::node_unknown;
 
 /// An arrival on a stream of a line.
 fn arrive(

@@ -1,9 +1,4 @@
-pub mod Digits
-pub mod Decimal
 pub mod Fields
-pub mod TextLemmas
-pub mod Trimmed
-pub mod Halves
 pub mod Walking
 pub mod FirstHeader
 pub mod Redirected

@@ -1,10 +1,8 @@
 //! Laws of the definitions. Each function does nothing: its contract is the law.
 
-ghost use Rattle.std.specs.Prelude.{◌≡◌, ◌<◌, ◌^◌, ◌↔◌, ℕ, List, Ok, Err, None};
-ghost use Rattle.njh_ebcdic.specs.Names.{digits};
+ghost use Rattle.std.specs.Prelude.{◌≡◌, ◌↔◌, ℕ, List, Ok, Err, None};
 ghost use Rattle.njh_record.specs.declared.Kind.{Kind};
 ghost use Rattle.njh_record.specs.Stored.{Stored};
-ghost use Rattle.njh_header.specs.Decimals.{IsDecimal};
 ghost use Rattle.njh_header.specs.FileHeaders.{with_destination};
 ghost use Rattle.njh_header.specs.Headers.{DataSetHeader, IsDataSetFault, IsDataSetHeader, data_set_header, IsJobFault};
 ghost use Rattle.njh_header.specs.Headers.{IsJobHeader, JobHeader, job_header};
@@ -34,11 +32,6 @@ pub fn one_data_set_header()
         → (data_set_header bytes ≡ Ok header) ↔ IsDataSetHeader bytes header }
     ensures fault { (bytes : List ℕ) (fault : HeaderFault)
         → (data_set_header bytes ≡ Err fault) ↔ IsDataSetFault bytes fault }
-{}
-
-/// The digits of a number say it, and begin with no zero but where it is the only one.
-pub fn decimal_digits()
-    ensures { (number : ℕ) → number < 2 ^ 32 → IsDecimal (digits number) number }
 {}
 
 /// A file that is redirected record by record is the file with another destination.

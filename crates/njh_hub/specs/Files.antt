@@ -7,7 +7,7 @@ use Rattle.njh_record.specs.declared.Kind.{Kind}
 use Rattle.njh_header.specs.FileHeaders.{name_of, file_owner, destination_of}
 use Rattle.njh_spool.specs.CustomerSpool.{CustomerSpool, WholeFile}
 use Rattle.njh_spool.specs.declared.State.{State}
-use Rattle.njh_command.specs.Replies.{file_text}
+use Rattle.njh_texts.specs.Texts.{file_text}
 use Rattle.njh_hub.specs.WholeHub.{Part, part}
 
 -- What its headers don't say, since one of them doesn't read, is None; the hub stores no such file.

@@ -7,12 +7,11 @@ ghost use Rattle.njh_stream.specs.SpoolFiles.{records_in};
 ghost use Rattle.njh_hub.specs.Files.{files_of, printed_file_line, view_of_file};
 
 use crate::fault::HubFault;
-use njh_command::{file_text, number_of};
-use njh_header::{
-    Destination, FileName, FileRecords, MessageText, User, destination_of, name_of, owner_of,
-};
+use njh_command::number_of;
+use njh_header::{Destination, FileName, FileRecords, User, destination_of, name_of, owner_of};
 use njh_record::{Kind, Record, put_bytes};
 use njh_spool::{FileId, RecordReader, Spool, State};
+use njh_texts::{MessageText, file_text};
 use std::alloc::{AllocError, Global};
 use std::marker::Model;
 

@@ -11,7 +11,7 @@ use Rattle.njh_record.specs.declared.Kind.{Kind}
 use Rattle.njh_record.specs.declared.Kind.TheVariants.{In, Out}
 use Rattle.njh_header.specs.Headers.{job_header, JobHeader, data_set_header, job_name}
 use Rattle.njh_header.specs.FileHeaders.{data_set_header_of, name_of}
-use Rattle.njh_header.specs.Texts.{node_unknown, no_files_for, routed_back, spool_full}
+use Rattle.njh_texts.specs.Texts.{node_unknown, no_files_for, routed_back, spool_full}
 use Rattle.njh_table.specs.Entries.{CustomerEntry, route_of}
 use Rattle.njh_table.specs.declared.Route.TheVariants.{Here, Line, Unknown}
 

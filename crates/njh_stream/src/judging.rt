@@ -11,12 +11,10 @@ ghost use Rattle.njh_stream.specs.Transmissions as transmissions;
 use crate::receiver::Progress;
 use crate::spool_file::SpoolFile;
 use njh_ebcdic::{FIELD, Name};
-use njh_header::{
-    DataSetHeader, FileName, JobHeader, MessageText, name_of, no_files_for, node_unknown,
-    routed_back, srcb,
-};
+use njh_header::{DataSetHeader, FileName, JobHeader, name_of, srcb};
 use njh_record::Kind;
 use njh_table::{Customer, Route};
+use njh_texts::{MessageText, no_files_for, node_unknown, routed_back};
 
 /// A record is taken, and then the file has come so far; or it cancels its file, and this is for the owner.
 pub(crate) enum Verdict {

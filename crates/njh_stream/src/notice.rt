@@ -1,7 +1,7 @@
 //! What the owner of a file is told.
 
 use njh_ebcdic::{FIELD, Name};
-use njh_header::MessageText;
+use njh_texts::MessageText;
 use std::marker::Model;
 
 /// A message of the hub for the owner of a file.

@@ -21,10 +21,11 @@ use crate::notice::Notice;
 use crate::receiver::{After, Progress, Receiver};
 use crate::spool_file::SpoolFile;
 use njh_block::ControlRcb;
-use njh_header::{FileRecords, JobHeader, MessageText, job_header_of, spool_full, srcb};
+use njh_header::{FileRecords, JobHeader, job_header_of, srcb};
 use njh_record::Kind;
 use njh_spool::{FileId, Spool};
 use njh_table::Customer;
+use njh_texts::{MessageText, spool_full};
 
 /// A record with bytes for an open file is judged first and stored last.
 pub(crate) fn store(

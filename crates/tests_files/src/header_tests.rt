@@ -2,11 +2,9 @@
 
 use arrayvec::ArrayVec;
 use njh_ebcdic::Name;
-use njh_header::{
-    DataSetHeader, FileName, HeaderFault, JobHeader, MessageText, SignOn, no_files_for,
-    node_unknown, routed_back, spool_full, srcb,
-};
+use njh_header::{DataSetHeader, FileName, HeaderFault, JobHeader, SignOn, srcb};
 use njh_record::Record;
+use njh_texts::{MessageText, no_files_for, node_unknown, routed_back, spool_full};
 use std::process::Abort;
 use std::test::Fail;
 

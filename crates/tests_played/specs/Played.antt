@@ -6,7 +6,7 @@ use Rattle.njh_bisync.specs.Frames.{data_so_far}
 use Rattle.njh_bisync.specs.Written.{text_bytes}
 use Rattle.njh_record.specs.Writing.{before_run, first_item, items_past, spelling_of}
 use Rattle.njh_sched.specs.NextBlock.{streams, after_source, after_sources, filled_block}
-use Rattle.njh_command.specs.Replies.{file_text}
+use Rattle.njh_texts.specs.Texts.{file_text}
 use Rattle.njh_line.specs.LineTable.{table_outcome}
 use Rattle.njh_table.specs.Entries.{CustomerEntry}
 use Rattle.njh_table.specs.NewRoutes.{NewRoute, route_checked}

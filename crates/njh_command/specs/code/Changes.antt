@@ -9,7 +9,7 @@ use Rattle.njh_command.specs.declared.changing.Standing.{Standing}
 use Rattle.njh_command.specs.declared.changing.Standing.TheVariants.{Other, Busy, Idle}
 use Rattle.njh_command.specs.Commands.{is_sending, with_new_destination, file_in_state}
 use Rattle.njh_command.specs.Files.{without_at}
-use Rattle.njh_command.specs.Replies.{held_text, released_text, rerouted_to}
+use Rattle.njh_texts.specs.Texts.{held_text, released_text, rerouted_to}
 
 abbrev pub change_by : Change → WholeFile → WholeFile
 change_by Hold f = file_in_state Held f

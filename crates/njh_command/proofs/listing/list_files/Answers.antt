@@ -3,7 +3,7 @@ use Rattle.std.proofs.Common.{◌<◌, ◌≤◌, ◌++◌, ◌∷◌, [], ℕ, 
 use Rattle.std.proofs.Common.{subst, ◌∙◌, arith}
 use Rattle.njh_spool.specs.Spools.{spool_at}
 use Rattle.njh_command.specs.Commands.{count, first_replies, is_owned}
-use Rattle.njh_command.specs.Replies.{file_line, files_line}
+use Rattle.njh_texts.specs.Texts.{file_line, files_line}
 use Rattle.njh_command.proofs.ReplyLaws.{kept_more}
 use Rattle.njh_command.proofs.WalkLaws.{counted_more, one_listed, all_looked_at}
 use Rattle.njh_command.proofs.listing.list_files.Goals.{then-list_file, else-list_file}

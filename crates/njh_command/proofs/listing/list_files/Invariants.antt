@@ -2,7 +2,7 @@ use Rattle.std.proofs.Common.{◌≡◌, ◌≤◌, map, filter, take}
 use Rattle.njh_spool.specs.Spools.{spool_at}
 use Rattle.njh_command.specs.Commands.{first_replies, is_owned}
 use Rattle.njh_command.proofs.UpTo.{count_up_to}
-use Rattle.njh_command.specs.Replies.{file_line}
+use Rattle.njh_texts.specs.Texts.{file_line}
 use Rattle.njh_command.proofs.listing.list_files.Given as goal
 
 abbrev pub invariant-loop-index : goal.invariant-loop-index

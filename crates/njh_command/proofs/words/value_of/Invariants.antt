@@ -1,5 +1,5 @@
 use Rattle.std.proofs.Common.{◌≡◌, ◌<◌, ◌^◌, drop}
-use Rattle.njh_header.specs.Decimals.{decimal_value, value_behind}
+use Rattle.njh_texts.specs.Decimals.{decimal_value, value_behind}
 use Rattle.njh_command.proofs.words.value_of.Given as goal
 
 abbrev pub invariant-loop-digit : goal.invariant-loop-digit

@@ -2,7 +2,7 @@
 use Rattle.std.proofs.Common.{◌≤◌, ◌<◌, ◌++◌, ◌∷◌, [], ℕ, List, sym, ap, ◌∙◌, arith}
 use Rattle.arrayvec.specs.ArrayVec.{ArrayVec}
 use Rattle.njh_command.specs.Commands.{first_replies}
-use Rattle.njh_command.specs.Replies.{listing_line}
+use Rattle.njh_texts.specs.Texts.{listing_line}
 use Rattle.njh_command.proofs.ReplyLaws.{one_more_written, none_more_written}
 use Rattle.njh_command.proofs.replies.Replies.add_file.Goals as goal
 

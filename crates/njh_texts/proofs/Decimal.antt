@@ -4,8 +4,8 @@ use Rattle.std.proofs.Common.{◌++◌, refl, sym, ◌∙◌, ap, subst, arith}
 use Rattle.std.specs.List.{AllByRecursion}
 use Rattle.std.proofs.lemmas.Bool.{cases_lt}
 use Rattle.njh_ebcdic.specs.Names.{digits}
-use Rattle.njh_header.specs.Decimals.{IsDigit, value_behind, decimal_value, IsDecimal}
-use Rattle.njh_header.proofs.Digits.{digits-last, digits-one}
+use Rattle.njh_texts.specs.Decimals.{IsDigit, value_behind, decimal_value, IsDecimal}
+use Rattle.njh_texts.proofs.Digits.{digits-last, digits-one}
 
 all_last : (ds : List ℕ) (d : ℕ) → AllByRecursion IsDigit ds → IsDigit d → AllByRecursion IsDigit (ds ++ d ∷ [])
 all_last [] d all is = (is, tt)

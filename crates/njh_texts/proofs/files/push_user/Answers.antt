@@ -1,8 +1,8 @@
 use Rattle.std.proofs.Common.{◌++◌, ◌∷◌, [], ap, sym, ◌∙◌}
 use Rattle.std.proofs.lemmas.List.{append_assoc}
 use Rattle.njh_ebcdic.specs.Names.{without_end_blanks}
-use Rattle.njh_command.proofs.UserLaws.{user-said}
-use Rattle.njh_command.proofs.texts.push_user.Goals as goal
+use Rattle.njh_texts.proofs.UserLaws.{user-said}
+use Rattle.njh_texts.proofs.files.push_user.Goals as goal
 
 pub returns-then-ne-clause-text : goal.returns-then-ne-clause-text
 returns-then-ne-clause-text c =

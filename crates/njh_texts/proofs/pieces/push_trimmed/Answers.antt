@@ -1,8 +1,8 @@
 use Rattle.std.proofs.Common.{◌++◌, ap, sym, ◌∙◌, bytes_eq, drop, replicate, take}
 use Rattle.std.proofs.lemmas.List.{append_assoc}
 use Rattle.njh_ebcdic.specs.Names.{without_end_blanks}
-use Rattle.njh_header.proofs.Halves.{trimmed-back, trimmed-front}
-use Rattle.njh_header.proofs.text.push_trimmed.Goals as goal
+use Rattle.njh_texts.proofs.Halves.{trimmed-back, trimmed-front}
+use Rattle.njh_texts.proofs.pieces.push_trimmed.Goals as goal
 
 pub returns-then-eq-clause-text : goal.returns-then-eq-clause-text
 returns-then-eq-clause-text c =

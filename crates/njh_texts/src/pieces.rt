@@ -1,14 +1,14 @@
-//! Texts of replies and notices, put together piece by piece.
+//! The pieces that texts are put together of.
 
 ghost use Rattle.std.specs.Prelude.{◌≡◌, ◌+◌, ◌≤◌, ◌++◌, drop, length, take, IsTrue};
 ghost use Rattle.std.specs.List.{list_all};
 ghost use Rattle.njh_ebcdic.specs.Characters.{is_plain};
 ghost use Rattle.njh_ebcdic.specs.Names.{digits, ebcdic, without_end_blanks};
-ghost use Rattle.njh_header.specs.Texts.{file_name as name_text};
+ghost use Rattle.njh_texts.specs.Texts.{file_name as name_text};
 
-use crate::file_name::FileName;
 use arrayvec::ArrayVec;
 use njh_ebcdic::{BLANK, plain_byte};
+use njh_header::FileName;
 use njh_nmr::LONGEST_MESSAGE;
 use njh_record::put_bytes;
 

@@ -1,5 +1,8 @@
--- What the hub replies to a command, a definition a reply. NJH020 and NJH022 stand in njh_header, since notices say
--- them too.
+-- What the hub says in EBCDIC, a definition a text, in the order of their numbers:
+--   replies to a command: 001 a file, 002 how many, 003 held, 004 released, 005 cancelled, 006 rerouted, 010 no such
+--   file, 011 no command, 012 being sent;
+--   to the owner of a file, or in reply: 020 a node that nobody has, 021 a full quota, 022 the hub itself, 023 back by the
+--   line that it came on.
 use Rattle.std.specs.Prelude.{ℕ, List, [], ◌∷◌, ◌++◌, length, Option, Some, None, codes}
 use Rattle.njh_ebcdic.specs.Users.{User}
 use Rattle.njh_header.specs.FileNames.{FileName}
@@ -10,9 +13,12 @@ use Rattle.njh_spool.specs.declared.State.{State}
 use Rattle.njh_spool.specs.declared.State.TheVariants.{Ready, Held, Refused, Sending}
 use Rattle.njh_spool.specs.CustomerSpool.{WholeFile}
 use Rattle.njh_header.specs.FileHeaders.{name_of, destination_of}
-use Rattle.njh_header.specs.Texts.{file_name}
 
 -- ---- what they are made of
+
+-- node, full stop, number
+abbrev pub file_name : FileName → List ℕ
+file_name name = without_end_blanks name.node ++ 0x4b ∷ digits name.number
 
 abbrev pub name_text : Option FileName → List ℕ
 name_text None = []
@@ -38,7 +44,7 @@ state_text Held = ebcdic (codes "HELD")
 state_text Refused = ebcdic (codes "REFUSED")
 state_text Sending = ebcdic (codes "SENDING")
 
--- ---- the replies
+-- ---- the replies to a command
 
 -- what is said of a file: LYON.42 TO METZ PAUL OUT 4 RECORDS READY
 unfoldable pub file_text : Option FileName → Option User → Kind → ℕ → State → List ℕ
@@ -90,3 +96,21 @@ bad_command = ebcdic (codes "NJH011 BAD COMMAND")
 -- NJH012 LYON.42 IS BEING SENT
 abbrev pub being_sent_text : FileName → List ℕ
 being_sent_text name = ebcdic (codes "NJH012 ") ++ file_name name ++ ebcdic (codes " IS BEING SENT")
+
+-- ---- what notices say too
+
+-- NJH020 NODE ROME UNKNOWN
+abbrev pub node_unknown : List ℕ → List ℕ
+node_unknown node = ebcdic (codes "NJH020 NODE ") ++ without_end_blanks node ++ ebcdic (codes " UNKNOWN")
+
+-- NJH021 SPOOL FULL LYON.42
+abbrev pub spool_full : FileName → List ℕ
+spool_full name = ebcdic (codes "NJH021 SPOOL FULL ") ++ file_name name
+
+-- NJH022 NO FILES FOR HUB
+abbrev pub no_files_for : List ℕ → List ℕ
+no_files_for hub = ebcdic (codes "NJH022 NO FILES FOR ") ++ without_end_blanks hub
+
+-- NJH023 LYON.42 ROUTED BACK
+abbrev pub routed_back : FileName → List ℕ
+routed_back name = ebcdic (codes "NJH023 ") ++ file_name name ++ ebcdic (codes " ROUTED BACK")

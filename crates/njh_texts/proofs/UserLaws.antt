@@ -3,7 +3,7 @@ use Rattle.std.proofs.Common.{◌≡◌, ℕ, ◌==◌, Bool, true, false, cond,
 use Rattle.std.proofs.Common.{bytes_eq, refl, sym, ap, ◌∙◌}
 use Rattle.std.proofs.lemmas.Bool.{both_ways}
 use Rattle.njh_ebcdic.specs.Names.{is_empty, without_end_blanks}
-use Rattle.njh_command.specs.Replies.{user_text}
+use Rattle.njh_texts.specs.Texts.{user_text}
 
 none_left : (b : ℕ) (blank : Bool) (rest : List ℕ)
     → (blank && is_empty rest) ≡ is_empty (elim rest as (λ _. List ℕ) [ [] ↦ cond blank [] (b ∷ []) | r ∷ rs ↦ b ∷ r ∷ rs ])

@@ -1,5 +1,0 @@
-use Rattle.njh_header.proofs.Decimal.{digits_say}
-use Rattle.njh_header.proofs.laws.decimal_digits.Goals as goal
-
-pub returns : goal.returns
-returns c = digits_say

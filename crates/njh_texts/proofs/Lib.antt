@@ -1,0 +1,6 @@
+mod Digits
+mod Decimal
+mod TextLemmas
+mod Trimmed
+mod Halves
+mod UserLaws
