@@ -22,7 +22,7 @@ use njh_nmr::Nmr;
 use njh_record::Record;
 use njh_spool::Spool;
 use njh_stream::{Arrival, streams_stay_tied};
-use njh_table::{Customer, LineId, Route, Tables};
+use njh_table::{LineId, NamedCustomer, Route, Tables};
 use njh_texts::node_unknown;
 
 /// An arrival on a stream of a line.
@@ -237,7 +237,7 @@ fn pass_on(other: u16, message: &Nmr, lines: &mut CustomerLines)
 }
 
 /// The sender of a command is told that nobody has its node.
-fn tell_unknown(customer: &Customer, message: &Nmr, lines: &mut CustomerLines)
+fn tell_unknown(customer: &NamedCustomer, message: &Nmr, lines: &mut CustomerLines)
     ensures { lines.new
         ≡ with_message_to (entry_of customer.now) (sender_of message.now)
         (node_unknown message.now.to) lines.old }

@@ -28,7 +28,7 @@ use njh_nmr::{LONGEST_MESSAGE, Nmr};
 use njh_record::Record;
 use njh_spool::{FileId, Spool};
 use njh_stream::{Notice, Receiver, Sender};
-use njh_table::{Customer, LineId, Route, Tables};
+use njh_table::{LineId, NamedCustomer, Route, Tables};
 use std::alloc::{AllocError, Global};
 use std::marker::Model;
 
@@ -194,7 +194,7 @@ impl CustomerLines {
     }
 
     /// The hub says something to a user at a node.
-    pub(crate) fn say(&mut self, customer: &Customer, node: Name, user: [u8; FIELD], text: &[u8])
+    pub(crate) fn say(&mut self, customer: &NamedCustomer, node: Name, user: [u8; FIELD], text: &[u8])
         requires { length text.now ≤ LONGEST_MESSAGE }
         ensures { self.new ≡ with_message_to (entry_of customer.now)
             (record { node = node; user = user }) text.now self.old }
@@ -215,7 +215,7 @@ impl CustomerLines {
     /// The hub replies to a user's command.
     pub(crate) fn say_all(
         &mut self,
-        customer: &Customer,
+        customer: &NamedCustomer,
         node: Name,
         user: [u8; FIELD],
         replies: &Replies,
@@ -246,7 +246,7 @@ impl CustomerLines {
     }
 
     /// The owner of a file is told, if there is something to say.
-    pub(crate) fn notify(&mut self, customer: &Customer, notice: &Option<Notice>)
+    pub(crate) fn notify(&mut self, customer: &NamedCustomer, notice: &Option<Notice>)
         ensures { self.new ≡ with_notice_to (entry_of customer.now) notice.now self.old }
     {
         if let Some(notice) = notice {

@@ -22,7 +22,7 @@ use njh_ebcdic::Name;
 use njh_line::{Config, Session};
 use njh_spool::Spool;
 use njh_stream::{Notice, Receiver, Sender};
-use njh_table::{Customer, LineId, Tables};
+use njh_table::{LineId, NamedCustomer, Tables};
 use std::alloc::{AllocError, Global};
 use std::marker::Model;
 
@@ -52,7 +52,7 @@ impl Lines {
     ghost use Rattle.njh_customer.specs.Part.{part_at_open, part_with, part_after_bytes, part_after_signal};
 
     /// The lines of a customer's entry, each down, with no stream about a file. Want of memory is the only refusal.
-    pub fn open(alloc: Global, customer: &Customer) -> Result<Lines, AllocError>
+    pub fn open(alloc: Global, customer: &NamedCustomer) -> Result<Lines, AllocError>
         requires { All IsLine customer.now.lines }
         ensures { IfOk result (λ lines.
             part_with (entry_unmarked (entry_of customer.now)) (empty_spool customer.now.quota customer.now.files) lines
@@ -231,7 +231,7 @@ impl Lines {
 }
 /// What a line is told by the table.
 #[tactic(auto, using(crate::proofs::OpenLaws::password_in_name))]
-fn config_of(customer: &Customer, line: &njh_table::Line) -> Config
+fn config_of(customer: &NamedCustomer, line: &njh_table::NamedLine) -> Config
     ensures { result ≡ config_of (entry_of customer.now) line.now.entry }
 {
     Config {

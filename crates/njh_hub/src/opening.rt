@@ -11,7 +11,7 @@ ghost use Rattle.njh_table.specs.TableFile.{customer_at, entry_of};
 use crate::fault::HubFault;
 use njh_customer::Lines;
 use njh_spool::{Quota, Spool};
-use njh_table::{Customer, Tables};
+use njh_table::{NamedCustomer, Tables};
 use std::alloc::{AllocError, Global};
 
 /// The tables with no line marked as up.
@@ -48,7 +48,7 @@ fn quotas_of(alloc: Global, tables: &Tables) -> Result<Vec<Quota>, AllocError>
 }
 
 /// A customer's quota.
-fn quota_of(customer: &Customer) -> Quota
+fn quota_of(customer: &NamedCustomer) -> Quota
     ensures { result ≡ quota_in customer.now }
 {
     Quota {

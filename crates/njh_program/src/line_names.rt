@@ -4,7 +4,7 @@ ghost use Rattle.std.specs.Prelude.{◌≡◌, IfOk, map, string_bytes};
 ghost use Rattle.std.specs.Option.{option_map};
 ghost use Rattle.njh_program.specs.LineNames.{name_at, names_in, names_of};
 
-use njh_table::{Customer, LineId, Tables};
+use njh_table::{LineId, NamedCustomer, Tables};
 use std::alloc::{AllocError, Global};
 use std::marker::Model;
 
@@ -45,7 +45,7 @@ impl LineNames {
 }
 
 /// The names of a customer's lines, in their order.
-fn names_in(alloc: Global, customer: &Customer) -> Result<Vec<String>, AllocError>
+fn names_in(alloc: Global, customer: &NamedCustomer) -> Result<Vec<String>, AllocError>
     ensures { IfOk result (λ names. map string_bytes names.items ≡ names_in customer.now) }
 {
     let mut names = Vec::new(alloc);

@@ -10,7 +10,7 @@ ghost use Rattle.njh_program.specs.ScriptRoutes.{IsNamedIn};
 
 use njh_ebcdic::Name;
 use njh_hub::{Event, GivenRoutes};
-use njh_table::{Customer, GivenRoute, LineId, Tables};
+use njh_table::{GivenRoute, LineId, NamedCustomer, Tables};
 use std::alloc::{AllocError, Global};
 
 /// The event of the words behind `ROUTES`, if they have one: a customer's name and then a pair for each route, which
@@ -61,7 +61,7 @@ fn customer_named(tables: &Tables, word: &str) -> Option<u16>
 }
 
 /// The place of the first customer of a name.
-fn place_of(customers: &[Customer], name: Name) -> Option<usize>
+fn place_of(customers: &[NamedCustomer], name: Name) -> Option<usize>
     ensures place { result ≡ position (λ c. bytes_eq name c.name) customers.now }
     ensures within { IfSome result (λ place. place < length customers.now) }
 {
@@ -70,7 +70,7 @@ fn place_of(customers: &[Customer], name: Name) -> Option<usize>
         .position(|customer| is_named(customer, name))
 }
 
-fn is_named(customer: &Customer, name: Name) -> bool
+fn is_named(customer: &NamedCustomer, name: Name) -> bool
     ensures { result ≡ bytes_eq name customer.now.name }
 {
     name == customer.name()
@@ -148,13 +148,13 @@ fn second_by(tables: &Tables, second: Option<&str>) -> Option<Option<LineId>>
     }
 }
 
-/// What stands before the first mark in a text, or all; and what stands behind that mark.
-fn first_part(text: &str, mark: char) -> (&str, Option<&str>)
-    requires { mark < 128 }
-    ensures parts { slice_split (λ b. b == mark) text.now ≡ result.0.now ∷ parts_behind mark result.1 }
+/// What stands before the first separator in a text, or all; and what stands behind that separator.
+fn first_part(text: &str, separator: char) -> (&str, Option<&str>)
+    requires { separator < 128 }
+    ensures parts { slice_split (λ b. b == separator) text.now ≡ result.0.now ∷ parts_behind separator result.1 }
     ensures shorter { IfSome result.1 (λ behind. length behind.now < length text.now) }
 {
-    match text.split_once(mark) {
+    match text.split_once(separator) {
         Some((part, behind)) => (part, Some(behind)),
         None => (text, None),
     }

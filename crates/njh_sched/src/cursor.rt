@@ -13,14 +13,14 @@ use crate::files::{Elsewhere, goes_there, is_among, is_ready, other, pass_where,
 use njh_header::Destination;
 use njh_record::Kind;
 use njh_spool::{FileId, FileSummary, Spool};
-use njh_table::{Customer, LineId};
+use njh_table::{LineId, NamedCustomer};
 use std::marker::Model;
 
 /// A search of a customer's whole files, oldest first, for those that may go on a line. For each kind of file it has an
 /// index: no file of the kind before it is Ready and goes by the line.
 #[derive(Drop)]
 pub struct Cursor<'a> {
-    entry: &'a Customer,
+    entry: &'a NamedCustomer,
     id: LineId,
     sysin: u32,
     sysout: u32,
@@ -44,7 +44,7 @@ impl<'a> Model for Cursor<'a> {
 
 impl<'a> Cursor<'a> {
     /// Before the first file of a line's customer, whose entry is given.
-    pub fn new(id: LineId, entry: &'a Customer) -> Self
+    pub fn new(id: LineId, entry: &'a NamedCustomer) -> Self
         ensures { result ≡ first_file entry.now id }
     {
         Cursor {

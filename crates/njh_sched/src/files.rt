@@ -14,7 +14,7 @@ use arrayvec::ArrayVec;
 use njh_record::Kind;
 use njh_spool::{FileId, FileSummary, Spool, State};
 use njh_stream::node_goes_by;
-use njh_table::Customer;
+use njh_table::NamedCustomer;
 
 /// A customer's whole file by its index in order of arrival.
 pub fn file_at(customer: u16, index: u32, spool: &Spool) -> FileId
@@ -67,7 +67,7 @@ pub fn is_among(nodes: &[[u8; 8]], node: &[u8; 8]) -> bool
 }
 
 /// Whether a node goes by a line. Where it doesn't it is kept among those that don't, while there is room.
-pub fn goes_there(entry: &Customer, line: u16, node: &[u8; 8], elsewhere: &mut Elsewhere) -> bool
+pub fn goes_there(entry: &NamedCustomer, line: u16, node: &[u8; 8], elsewhere: &mut Elsewhere) -> bool
     requires { list_any (node_goes_by (entry_of entry.now) line) elsewhere.old.items ≡ false }
     ensures goes { result ≡ node_goes_by (entry_of entry.now) line node.now }
     ensures elsewhere { list_any (node_goes_by (entry_of entry.now) line) elsewhere.new.items ≡ false }

@@ -14,7 +14,7 @@ use crate::records::add_records;
 use crate::requests::add_requests;
 use njh_block::BlockWriter;
 use njh_spool::Spool;
-use njh_table::{Customer, LineId, Tables};
+use njh_table::{LineId, NamedCustomer, Tables};
 
 /// Whether a block has records.
 fn has_items(writer: &BlockWriter) -> bool
@@ -27,7 +27,7 @@ fn has_items(writer: &BlockWriter) -> bool
 fn add_all<L: Outgoing>(
     line: &mut L,
     id: LineId,
-    entry: &Customer,
+    entry: &NamedCustomer,
     spool: &mut Spool,
     writer: &mut BlockWriter,
 ) -> bool

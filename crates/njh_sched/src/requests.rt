@@ -16,7 +16,7 @@ use crate::record_room::add_where_room;
 use njh_block::{BlockWriter, ControlRcb, Out, Stream};
 use njh_spool::{FileId, Spool, State};
 use njh_stream::Sender;
-use njh_table::{Customer, LineId};
+use njh_table::{LineId, NamedCustomer};
 
 /// Whether the line has a stream, and it is idle.
 fn may_ask<L: Outgoing>(stream: Stream, line: &L) -> bool
@@ -85,7 +85,7 @@ fn add_request<L: Outgoing>(
 /// all streams, and looks at none where no stream is idle. Where the customer has no files no stream is looked at.
 pub fn add_requests<L: Outgoing>(
     id: LineId,
-    entry: &Customer,
+    entry: &NamedCustomer,
     line: &mut L,
     spool: &mut Spool,
     writer: &mut BlockWriter,

@@ -5,7 +5,7 @@ ghost use Rattle.std.specs.List.{cons_option};
 ghost use Rattle.njh_table.specs.TableFile.{HasLine};
 ghost use Rattle.njh_serve.specs.Endpoints.{endpoint_of, endpoints_in, endpoints_of, site_of};
 
-use njh_table::{Customer, Line, LineId, Tables};
+use njh_table::{LineId, NamedCustomer, NamedLine, Tables};
 use std::alloc::{AllocError, Global};
 use std::net::SocketAddr;
 
@@ -42,7 +42,7 @@ pub fn endpoints_of(alloc: Global, tables: &Tables) -> Result<Vec<Endpoint>, All
 /// Adds those of a customer.
 fn add_endpoints(
     tables: &Tables,
-    customer: &Customer,
+    customer: &NamedCustomer,
     endpoints: &mut Vec<Endpoint>,
 ) -> Result<(), AllocError>
     ensures added { OnOk result (endpoints.new.items ≡ endpoints.old.items ++ endpoints_in tables.now customer.now) }
@@ -58,7 +58,7 @@ fn add_endpoints(
 /// Adds a line that is served.
 fn add_endpoint(
     tables: &Tables,
-    line: &Line,
+    line: &NamedLine,
     endpoints: &mut Vec<Endpoint>,
 ) -> Result<(), AllocError>
     ensures added { OnOk result (endpoints.new.items
@@ -74,7 +74,7 @@ fn add_endpoint(
 }
 
 /// A line with its socket, where it is served.
-fn endpoint_of(tables: &Tables, line: &Line) -> Option<Endpoint>
+fn endpoint_of(tables: &Tables, line: &NamedLine) -> Option<Endpoint>
     ensures found { result ≡ endpoint_of tables.now line.now }
     ensures known { IfSome result (λ endpoint. HasLine tables.now endpoint.line) }
 {
@@ -84,7 +84,7 @@ fn endpoint_of(tables: &Tables, line: &Line) -> Option<Endpoint>
 }
 
 /// How a line is connected, if at all.
-fn site_of(line: &Line) -> Option<Site>
+fn site_of(line: &NamedLine) -> Option<Site>
     ensures { result ≡ site_of line.now }
 {
     match line.peer() {

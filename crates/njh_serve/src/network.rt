@@ -104,7 +104,7 @@ impl<'a, R: Net + Clock> Network for MioNetwork<'a, R> {
     fn wait(&mut self, milliseconds: u64, ready: &mut [Readiness]) -> io::Result<()> {
         self.poll.poll(&mut self.events, Some(Duration::from_millis(milliseconds)))?;
         for event in &self.events {
-            mark(ready, event);
+            note(ready, event);
         }
         Ok(())
     }
@@ -161,25 +161,25 @@ fn connection_token(place: usize) -> Token {
     Token(place.saturating_mul(2) | 1)
 }
 
-/// Marks what an event says to be ready of its line. A line that there isn't has no marks.
-fn mark(ready: &mut [Readiness], event: &Event)
+/// Notes what an event says to be ready of its line, if there is such a line.
+fn note(ready: &mut [Readiness], event: &Event)
     ensures { length ready.new ≡ length ready.old }
 {
     let Token(token) = event.token();
     match ready.get_mut(token / 2) {
-        Some(marks) if token % 2 == 0 => marks.listener = true,
-        Some(marks) => mark_connection(marks, event),
+        Some(line) if token % 2 == 0 => line.listener = true,
+        Some(line) => note_connection(line, event),
         None => {}
     }
 }
 
-/// Marks what is ready of a connection. One that failed is ready for both: the call that follows says so.
-fn mark_connection(marks: &mut Readiness, event: &Event) {
+/// Notes what is ready of a connection. One that failed is ready for both: the call that follows says so.
+fn note_connection(line: &mut Readiness, event: &Event) {
     if event.is_readable() || event.is_read_closed() || event.is_error() {
-        marks.reads = true;
+        line.reads = true;
     }
     if event.is_writable() || event.is_write_closed() || event.is_error() {
-        marks.writes = true;
+        line.writes = true;
     }
 }
 

@@ -6,7 +6,7 @@ ghost use Rattle.njh_service.specs.Revisions.{given_route, given_routes};
 
 use njh_ebcdic::Name;
 use njh_hub::GivenRoutes;
-use njh_table::{Customer, GivenRoute, LineId, RouteLines, Tables};
+use njh_table::{GivenRoute, LineId, NamedCustomer, RouteLines, Tables};
 use std::alloc::{AllocError, Global};
 
 /// The routes of a customer, all of them and in their order, each by the customer's own lines. Out of memory is the
@@ -23,7 +23,7 @@ pub fn routes_of(alloc: Global, tables: &Tables, customer: u16) -> Result<GivenR
 fn each_route(
     alloc: Global,
     number: u16,
-    customer: &Customer,
+    customer: &NamedCustomer,
 ) -> Result<Vec<GivenRoute>, AllocError>
     ensures { IfOk result (λ routes. routes.items ≡ given_routes number customer.now.routes) }
 {
@@ -35,7 +35,7 @@ fn each_route(
 }
 
 /// A route of the customer of a number.
-fn route_at(number: u16, customer: &Customer, place: usize) -> GivenRoute
+fn route_at(number: u16, customer: &NamedCustomer, place: usize) -> GivenRoute
     requires { place < length customer.now.routes }
     ensures { slice_get (given_routes number customer.now.routes) place ≡ Some result }
 {
@@ -65,7 +65,7 @@ fn own_line(number: u16, line: u16) -> LineId
 }
 
 /// Whether a customer has other routes, or the same in another order, in new tables.
-pub(crate) fn have_other_routes(customer: &Customer, new: &Customer) -> bool
+pub(crate) fn have_other_routes(customer: &NamedCustomer, new: &NamedCustomer) -> bool
     ensures { result ≡ false → new.now.routes ≡ customer.now.routes }
 {
     if new.routes() != customer.routes() {
@@ -80,7 +80,7 @@ pub(crate) fn have_other_routes(customer: &Customer, new: &Customer) -> bool
 }
 
 /// Whether the route of a place is another.
-fn is_other_route(customer: &Customer, new: &Customer, place: usize) -> bool
+fn is_other_route(customer: &NamedCustomer, new: &NamedCustomer, place: usize) -> bool
     requires here { place < length customer.now.routes }
     requires there { place < length new.now.routes }
     ensures { result ≡ false → slice_get new.now.routes place ≡ slice_get customer.now.routes place }

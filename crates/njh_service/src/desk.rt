@@ -4,7 +4,7 @@ ghost use Rattle.std.specs.Prelude.{◌≡◌, ◌≤◌};
 ghost use Rattle.njh_hub.specs.Views.{HasGivenUp};
 
 use crate::dial::Dial;
-use crate::entry::{Ending, Entry, Failure, Happening, Place};
+use crate::entry::{Ending, Failure, Happening, LogEntry, Place};
 use crate::log::Log;
 use crate::post::{Door, Label, Post};
 use njh_hub::Hub;
@@ -285,7 +285,7 @@ impl<N: Network + Drop, L: Write + Drop> Desk<N, L> {
     pub(crate) fn tell(&mut self, label: &Label, happening: Happening) {
         let second = self.network.utc();
         let place = Place::Line(label.customer, label.line.as_str());
-        self.log.write(second, &Entry { place, happening });
+        self.log.write(second, &LogEntry { place, happening });
     }
 }
 

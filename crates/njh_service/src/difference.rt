@@ -5,7 +5,7 @@ ghost use Rattle.njh_service.specs.Revisions.{without_mark, without_routes, Agre
 
 use arrayvec::ArrayString;
 use njh_ebcdic::Name;
-use njh_table::{Customer, Line, Tables};
+use njh_table::{NamedCustomer, NamedLine, Tables};
 use std::fmt;
 
 /// How many bytes the name of a line has at most.
@@ -71,7 +71,7 @@ pub fn difference_of(tables: &Tables, other: &Tables) -> Option<Difference>
 }
 
 /// What differs first between customers.
-fn of_customers(customers: &[Customer], others: &[Customer]) -> Option<Difference>
+fn of_customers(customers: &[NamedCustomer], others: &[NamedCustomer]) -> Option<Difference>
     ensures { result ≡ None → map without_routes others.now ≡ map without_routes customers.now }
 {
     if others.len() != customers.len() {
@@ -87,7 +87,7 @@ fn of_customers(customers: &[Customer], others: &[Customer]) -> Option<Differenc
 }
 
 /// What differs first between two customers.
-fn of_customer(customer: &Customer, other: &Customer) -> Option<Difference>
+fn of_customer(customer: &NamedCustomer, other: &NamedCustomer) -> Option<Difference>
     ensures { result ≡ None → without_routes other.now ≡ without_routes customer.now }
 {
     match customer_key(customer, other) {
@@ -97,7 +97,7 @@ fn of_customer(customer: &Customer, other: &Customer) -> Option<Difference>
 }
 
 /// What of two customers' own keys differs first.
-fn customer_key(customer: &Customer, other: &Customer) -> Option<CustomerKey>
+fn customer_key(customer: &NamedCustomer, other: &NamedCustomer) -> Option<CustomerKey>
     ensures { result ≡ None → (other.now.name ≡ customer.now.name) × (other.now.hub ≡ customer.now.hub)
         × (other.now.quota ≡ customer.now.quota) × (other.now.files ≡ customer.now.files)
         × (length other.now.lines ≡ length customer.now.lines) }
@@ -121,7 +121,7 @@ fn customer_key(customer: &Customer, other: &Customer) -> Option<CustomerKey>
 }
 
 /// What differs first between as many lines of two customers.
-fn of_lines(customer: Name, lines: &[Line], others: &[Line]) -> Option<Difference>
+fn of_lines(customer: Name, lines: &[NamedLine], others: &[NamedLine]) -> Option<Difference>
     requires { length others.now ≡ length lines.now }
     ensures { result ≡ None → map without_mark others.now ≡ map without_mark lines.now }
 {
@@ -135,14 +135,14 @@ fn of_lines(customer: Name, lines: &[Line], others: &[Line]) -> Option<Differenc
 }
 
 /// What of a line differs.
-fn of_line(customer: Name, line: &Line, key: LineKey) -> Difference {
+fn of_line(customer: Name, line: &NamedLine, key: LineKey) -> Difference {
     let mut name = ArrayString::new();
     let _whole = name.try_push_str(line.name()).is_ok();
     Difference::Line(customer, name, key)
 }
 
 /// What of two lines differs first.
-fn line_key(line: &Line, other: &Line) -> Option<LineKey>
+fn line_key(line: &NamedLine, other: &NamedLine) -> Option<LineKey>
     ensures { result ≡ None → without_mark other.now ≡ without_mark line.now }
 {
     if other.name() != line.name() {
@@ -158,7 +158,7 @@ fn line_key(line: &Line, other: &Line) -> Option<LineKey>
 }
 
 /// What of two lines' entries differs first.
-fn entry_key(line: &Line, other: &Line) -> Option<LineKey>
+fn entry_key(line: &NamedLine, other: &NamedLine) -> Option<LineKey>
     ensures { result ≡ None → other.now.entry ≡ line.now.entry }
 {
     if other.node() != line.node() {

@@ -14,7 +14,7 @@ const BLANK: u8 = 0x40;
 
 /// What happened, and where.
 #[derive(Clone, Copy, Drop)]
-pub struct Entry<'a> {
+pub struct LogEntry<'a> {
     /// Where it happened.
     pub place: Place<'a>,
     /// What happened.
@@ -107,7 +107,7 @@ pub struct FileLine {
     pub blocks: u32,
 }
 
-impl fmt::Display for Entry<'_> {
+impl fmt::Display for LogEntry<'_> {
     fn fmt<W: fmt::Write>(&self, f: &mut fmt::Formatter<W>) -> fmt::Result {
         write!(f, "{}: {}", self.place, self.happening)
     }

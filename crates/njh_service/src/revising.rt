@@ -1,6 +1,6 @@
 //! New routes, and what the log tells of them.
 
-use crate::entry::{Entry, Happening, Place};
+use crate::entry::{Happening, LogEntry, Place};
 use crate::exchange::Exchange;
 use crate::table_source::TableSource;
 use njh_hub::{HubFault, NewRoutes};
@@ -38,6 +38,6 @@ impl<N: Network + Drop, L: Write + Drop, S: TableSource + Drop> Exchange<N, L, S
         };
         let place = Place::Customer(name);
         let second = self.desk.network.utc();
-        self.desk.log.write(second, &Entry { place, happening });
+        self.desk.log.write(second, &LogEntry { place, happening });
     }
 }

@@ -3,7 +3,7 @@
 ghost use Rattle.std.specs.Prelude.{◌<◌};
 
 use crate::desk::Desk;
-use crate::entry::{Entry, FileLine, Happening, Place};
+use crate::entry::{FileLine, Happening, LogEntry, Place};
 use crate::notice_line::NoticeLine;
 use crate::post::Label;
 use crate::streams::{STREAMS, Streams, ended, files_coming, files_going, first_gone, near_after};
@@ -113,7 +113,7 @@ impl<N: Network + Drop, L: Write + Drop> Desk<N, L> {
             let second = self.network.utc();
             let place = Place::Customer(label.customer);
             let happening = Happening::NearQuota(used, quota);
-            self.log.write(second, &Entry { place, happening });
+            self.log.write(second, &LogEntry { place, happening });
         }
     }
 }

@@ -11,11 +11,11 @@ ghost use Rattle.njh_table.specs.TableFile.{entry_of};
 use njh_ebcdic::{FIELD, Name};
 use njh_header::Destination;
 use njh_spool::{FileId, Spool, State};
-use njh_table::{Customer, Route};
+use njh_table::{NamedCustomer, Route};
 
 /// A customer's files that are Ready or Refused, and whose destination's node has no route, are Held. All others stay
 /// as they are.
-pub fn hold_unrouted(entry: &Customer, customer: u16, spool: &mut Spool)
+pub fn hold_unrouted(entry: &NamedCustomer, customer: u16, spool: &mut Spool)
     requires { customer < length spool.old }
     ensures { spool.new
         ≡ slice_set spool.old customer (holding.unrouted_held (entry_of entry.now) (spool_at customer spool.old)) }
@@ -28,7 +28,7 @@ pub fn hold_unrouted(entry: &Customer, customer: u16, spool: &mut Spool)
 }
 
 /// A file that waits and whose node has no route is Held.
-fn hold_file(entry: &Customer, customer: u16, file: FileId, spool: &mut Spool)
+fn hold_file(entry: &NamedCustomer, customer: u16, file: FileId, spool: &mut Spool)
     requires { customer < length spool.old }
     ensures { spool.new
         ≡ slice_set spool.old customer (holding.held_numbered (entry_of entry.now) file (spool_at customer spool.old)) }
@@ -39,7 +39,7 @@ fn hold_file(entry: &Customer, customer: u16, file: FileId, spool: &mut Spool)
 }
 
 /// Whether a whole file is Ready or Refused, and its node has no route.
-fn has_lost_route(entry: &Customer, customer: u16, file: FileId, spool: &Spool) -> bool
+fn has_lost_route(entry: &NamedCustomer, customer: u16, file: FileId, spool: &Spool) -> bool
     requires { customer < length spool.now }
     ensures { result ≡ holds_of (holding.has_lost_route (entry_of entry.now))
         (whole_numbered file (spool_at customer spool.now)) }
@@ -52,7 +52,7 @@ fn has_lost_route(entry: &Customer, customer: u16, file: FileId, spool: &Spool) 
 }
 
 /// Whether the node of a customer's whole file has no route.
-fn is_unrouted(entry: &Customer, customer: u16, file: FileId, spool: &Spool) -> bool
+fn is_unrouted(entry: &NamedCustomer, customer: u16, file: FileId, spool: &Spool) -> bool
     requires { customer < length spool.now }
     ensures { (f : WholeFile) → whole_numbered file (spool_at customer spool.now) ≡ Some f → result
         ≡ holding.destination_unrouted (entry_of entry.now) (headers.destination_of f.kind f.records) }
@@ -63,7 +63,7 @@ fn is_unrouted(entry: &Customer, customer: u16, file: FileId, spool: &Spool) -> 
     }
 }
 
-fn destination_unrouted(entry: &Customer, destination: Option<Destination>) -> bool
+fn destination_unrouted(entry: &NamedCustomer, destination: Option<Destination>) -> bool
     ensures { result ≡ holding.destination_unrouted (entry_of entry.now) destination }
 {
     match destination {
@@ -72,7 +72,7 @@ fn destination_unrouted(entry: &Customer, destination: Option<Destination>) -> b
     }
 }
 
-fn node_unrouted(entry: &Customer, node: &[u8; FIELD]) -> bool
+fn node_unrouted(entry: &NamedCustomer, node: &[u8; FIELD]) -> bool
     ensures { result ≡ holding.node_unrouted (entry_of entry.now) node.now }
 {
     match Name::of_field(node) {

@@ -13,7 +13,7 @@ use crate::spool_file::SpoolFile;
 use njh_ebcdic::{FIELD, Name};
 use njh_header::{DataSetHeader, FileName, JobHeader, name_of, srcb};
 use njh_record::Kind;
-use njh_table::{Customer, Route};
+use njh_table::{NamedCustomer, Route};
 use njh_texts::{MessageText, no_files_for, node_unknown, routed_back};
 
 /// A record is taken, and then the file has come so far; or it cancels its file, and this is for the owner.
@@ -24,7 +24,7 @@ pub(crate) enum Verdict {
 
 /// Judges a record by the records of its file so far.
 pub(crate) fn judge(
-    customer: &Customer,
+    customer: &NamedCustomer,
     line: u16,
     kind: Kind,
     file: &SpoolFile<'_>,
@@ -71,7 +71,7 @@ fn judge_placed(kind: Kind, node: [u8; FIELD], last: u8, srcb: u8, bytes: &[u8])
 }
 
 /// The first record: a job header that reads.
-fn judge_first(customer: &Customer, line: u16, kind: Kind, srcb: u8, bytes: &[u8]) -> Verdict
+fn judge_first(customer: &NamedCustomer, line: u16, kind: Kind, srcb: u8, bytes: &[u8]) -> Verdict
     ensures verdict { verdict_value result
         ≡ transmissions.judged_first (entry_of customer.now) line kind (record { srcb = srcb; bytes = bytes.now }) }
     ensures progress { IsProgress result kind (record { srcb = srcb; bytes = bytes.now } ∷ []) }
@@ -89,7 +89,7 @@ fn judge_first(customer: &Customer, line: u16, kind: Kind, srcb: u8, bytes: &[u8
 }
 
 /// A job goes to the node where it runs.
-fn judge_job(customer: &Customer, line: u16, header: &JobHeader) -> Verdict
+fn judge_job(customer: &NamedCustomer, line: u16, header: &JobHeader) -> Verdict
     ensures verdict { verdict_value result ≡ transmissions.judged_job (entry_of customer.now) line header.now }
     ensures progress { IsPlaced result header.now.execution.node 0xc0 }
 {
@@ -111,7 +111,7 @@ fn judge_job(customer: &Customer, line: u16, header: &JobHeader) -> Verdict
 
 /// The record of an output file that has to be its first data set header.
 fn judge_data_set(
-    customer: &Customer,
+    customer: &NamedCustomer,
     line: u16,
     file: &SpoolFile<'_>,
     srcb: u8,
@@ -151,7 +151,7 @@ fn judge_later(node: [u8; FIELD], bytes: &[u8], progress: Progress) -> Verdict
 
 /// A file goes neither to the hub itself, nor to a node that nobody has, nor back by the line on which it comes.
 fn judge_node(
-    customer: &Customer,
+    customer: &NamedCustomer,
     line: u16,
     node: Name,
     file: Option<FileName>,

@@ -23,7 +23,7 @@ use njh_ebcdic::FIELD;
 use njh_header::srcb;
 use njh_record::Kind;
 use njh_spool::{FileId, Spool, next_number_is_least};
-use njh_table::{Customer, LineId, Tables};
+use njh_table::{LineId, NamedCustomer, Tables};
 
 /// How far a file that comes in has got.
 #[derive(Clone, Copy, Debug, PartialEq, Eq)]
@@ -300,7 +300,7 @@ fn receive(
     arrival: Arrival<'_>,
     kind: Kind,
     id: LineId,
-    entry: &Customer,
+    entry: &NamedCustomer,
     spool: &mut Spool,
 ) -> After
     requires spooled { id.customer < length spool.old }
@@ -367,7 +367,7 @@ fn receive_draining(arrival: Arrival<'_>, kind: Kind, customer: u16, spool: &mut
 /// A record for an open file; one without bytes ends it.
 fn receive_record(
     id: LineId,
-    entry: &Customer,
+    entry: &NamedCustomer,
     kind: Kind,
     file: FileId,
     progress: Progress,

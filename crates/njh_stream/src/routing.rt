@@ -10,10 +10,10 @@ ghost use Rattle.njh_stream.specs.Sending as sending;
 use njh_ebcdic::{FIELD, Name};
 use njh_header::Destination;
 use njh_spool::{FileId, Spool, State};
-use njh_table::{Customer, Route};
+use njh_table::{NamedCustomer, Route};
 
 /// Whether a customer's whole file goes by a line: by the route of its destination's node.
-pub fn goes_by(entry: &Customer, line: u16, customer: u16, file: FileId, spool: &Spool) -> bool
+pub fn goes_by(entry: &NamedCustomer, line: u16, customer: u16, file: FileId, spool: &Spool) -> bool
     requires { customer < length spool.now }
     ensures { (f : WholeFile) → whole_numbered file (spool_at customer spool.now) ≡ Some f → result
         ≡ sending.goes_by (entry_of entry.now) line f }
@@ -25,7 +25,7 @@ pub fn goes_by(entry: &Customer, line: u16, customer: u16, file: FileId, spool: 
 }
 
 /// Whether the node of a destination goes by a line.
-fn destination_goes_by(entry: &Customer, line: u16, destination: Option<Destination>) -> bool
+fn destination_goes_by(entry: &NamedCustomer, line: u16, destination: Option<Destination>) -> bool
     ensures { result ≡ sending.destination_goes_by (entry_of entry.now) line destination }
 {
     match destination {
@@ -35,7 +35,7 @@ fn destination_goes_by(entry: &Customer, line: u16, destination: Option<Destinat
 }
 
 /// Whether a node's route is a line.
-pub fn node_goes_by(entry: &Customer, line: u16, node: &[u8; FIELD]) -> bool
+pub fn node_goes_by(entry: &NamedCustomer, line: u16, node: &[u8; FIELD]) -> bool
     ensures { result ≡ sending.node_goes_by (entry_of entry.now) line node.now }
 {
     match Name::of_field(node) {
@@ -54,7 +54,7 @@ fn is_line(route: Route, line: u16) -> bool
 }
 
 /// Whether a whole file was refused and goes by a line.
-fn may_go_again(entry: &Customer, line: u16, customer: u16, file: FileId, spool: &Spool) -> bool
+fn may_go_again(entry: &NamedCustomer, line: u16, customer: u16, file: FileId, spool: &Spool) -> bool
     requires { customer < length spool.now }
     ensures { result ≡ sending.holds_of (sending.may_go_again (entry_of entry.now) line)
         (whole_numbered file (spool_at customer spool.now)) }
@@ -66,7 +66,7 @@ fn may_go_again(entry: &Customer, line: u16, customer: u16, file: FileId, spool:
 }
 
 /// The files that were refused and go by a line are Ready again.
-pub fn retry_refused(entry: &Customer, line: u16, customer: u16, spool: &mut Spool)
+pub fn retry_refused(entry: &NamedCustomer, line: u16, customer: u16, spool: &mut Spool)
     requires { customer < length spool.old }
     ensures { spool.new
         ≡ slice_set spool.old customer (sending.tried_again (entry_of entry.now) line (spool_at customer spool.old)) }
@@ -79,7 +79,7 @@ pub fn retry_refused(entry: &Customer, line: u16, customer: u16, spool: &mut Spo
 }
 
 /// A file that was refused and goes by a line is Ready again.
-fn retry_file(entry: &Customer, line: u16, customer: u16, file: FileId, spool: &mut Spool)
+fn retry_file(entry: &NamedCustomer, line: u16, customer: u16, file: FileId, spool: &mut Spool)
     requires { customer < length spool.old }
     ensures { spool.new
         ≡ slice_set spool.old customer (with_retry (entry_of entry.now) line file (spool_at customer spool.old)) }

@@ -24,13 +24,13 @@ use njh_block::ControlRcb;
 use njh_header::{FileRecords, JobHeader, job_header_of, srcb};
 use njh_record::Kind;
 use njh_spool::{FileId, Spool};
-use njh_table::Customer;
+use njh_table::NamedCustomer;
 use njh_texts::{MessageText, spool_full};
 
 /// A record with bytes for an open file is judged first and stored last.
 pub(crate) fn store(
     customer: u16,
-    entry: &Customer,
+    entry: &NamedCustomer,
     line: u16,
     kind: Kind,
     file: FileId,

@@ -5,26 +5,26 @@ ghost use Rattle.njh_table.specs.Entries.{line_now, route_of};
 ghost use Rattle.njh_table.specs.TableFile.{entry_of, route_entry};
 
 use crate::Route;
-use crate::line::Line;
+use crate::line::NamedLine;
 use crate::routes::{RouteLines, Routes};
 use njh_ebcdic::Name;
 use std::marker::Model;
 
 /// A customer: its name, and what its entry says of its private network.
 #[derive(Drop)]
-pub struct Customer {
+pub struct NamedCustomer {
     pub(crate) name: Name,
     pub(crate) hub: Name,
     pub(crate) quota: u32,
     pub(crate) files: u32,
-    pub(crate) lines: Vec<Line>,
+    pub(crate) lines: Vec<NamedLine>,
     pub(crate) routes: Routes,
 }
 
-impl Model for Customer {
-    ghost use Rattle.njh_table.specs.TableFile.{NamedCustomer};
+impl Model for NamedCustomer {
+    ghost use Rattle.njh_table.specs.TableFile as table;
 
-    ghost Value = { NamedCustomer };
+    ghost Value = { table.NamedCustomer };
 
     ghost view = { λ c. record {
       name = c.name;
@@ -36,7 +36,7 @@ impl Model for Customer {
     } };
 }
 
-impl Customer {
+impl NamedCustomer {
     /// The customer's name.
     pub fn name(&self) -> Name
         ensures { result ≡ self.now.name }
@@ -66,7 +66,7 @@ impl Customer {
     }
 
     /// The lines, in the order of the file.
-    pub fn lines(&self) -> &[Line]
+    pub fn lines(&self) -> &[NamedLine]
         ensures { result.now ≡ self.now.lines }
     {
         self.lines.as_slice()

@@ -10,7 +10,7 @@ use std::net::SocketAddr;
 
 /// A line: its name on this hub, and what its customer's entry says of it.
 #[derive(Drop)]
-pub struct Line {
+pub struct NamedLine {
     pub(crate) name: String,
     pub(crate) node: Name,
     pub(crate) role: Role,
@@ -22,11 +22,12 @@ pub struct Line {
     pub(crate) up: bool,
 }
 
-impl Model for Line {
+impl Model for NamedLine {
     ghost use Rattle.std.specs.String.{string_bytes};
-    ghost use Rattle.njh_table.specs.TableFile.{NamedLine, password_bytes};
+    ghost use Rattle.njh_table.specs.TableFile as table;
+    ghost use Rattle.njh_table.specs.TableFile.{password_bytes};
 
-    ghost Value = { NamedLine };
+    ghost Value = { table.NamedLine };
 
     ghost view = { λ l. record {
       name = string_bytes l.name;
@@ -43,7 +44,7 @@ impl Model for Line {
     } };
 }
 
-impl Line {
+impl NamedLine {
     /// The name: 1 to 8 letters and digits of ASCII.
     pub fn name(&self) -> &str
         ensures { result.now ≡ self.now.name }

@@ -5,8 +5,8 @@ ghost use Rattle.njh_table.specs.Marks.{customer_marked, customer_unmarked, line
 ghost use Rattle.njh_table.specs.TableFile.{no_customer};
 
 use crate::LineId;
-use crate::customer::Customer;
-use crate::line::Line;
+use crate::customer::NamedCustomer;
+use crate::line::NamedLine;
 use crate::tables::Tables;
 
 impl Tables {
@@ -30,7 +30,7 @@ impl Tables {
 }
 
 /// One line of one customer has this mark.
-fn mark_line(customers: &mut Vec<Customer>, id: LineId, up: bool)
+fn mark_line(customers: &mut Vec<NamedCustomer>, id: LineId, up: bool)
     requires customer { id.customer < vec_len customers.old }
     requires line { id.number < length (slice_index_or customers.old.items id.customer no_customer).lines }
     ensures { customers.new.items ≡ slice_set customers.old.items id.customer
@@ -40,7 +40,7 @@ fn mark_line(customers: &mut Vec<Customer>, id: LineId, up: bool)
 }
 
 /// No line of the customers has a mark.
-fn take_marks(customers: &mut Vec<Customer>)
+fn take_marks(customers: &mut Vec<NamedCustomer>)
     ensures { customers.new.items ≡ map customer_unmarked customers.old.items }
 {
     for index in 0..customers.len() {
@@ -49,7 +49,7 @@ fn take_marks(customers: &mut Vec<Customer>)
 }
 
 /// None of the lines has a mark.
-fn take_line_marks(lines: &mut Vec<Line>)
+fn take_line_marks(lines: &mut Vec<NamedLine>)
     ensures { lines.new.items ≡ map (line_marked false) lines.old.items }
 {
     for index in 0..lines.len() {
@@ -57,7 +57,7 @@ fn take_line_marks(lines: &mut Vec<Line>)
     }
 }
 
-impl Customer {
+impl NamedCustomer {
     fn set_up(&mut self, line: u16, up: bool)
         requires { line < length self.old.lines }
         ensures { self.new ≡ customer_marked line up self.old }
@@ -72,7 +72,7 @@ impl Customer {
     }
 }
 
-impl Line {
+impl NamedLine {
     fn set_up(&mut self, up: bool)
         ensures { self.new ≡ line_marked up self.old }
     {

@@ -9,7 +9,7 @@ ghost use Rattle.njh_table.specs.NewRoutes.{own_route, new_routes_of, repeats, r
 ghost use Rattle.njh_table.specs.TableFile.{no_customer, route_entry};
 
 use crate::LineId;
-use crate::customer::Customer;
+use crate::customer::NamedCustomer;
 use crate::fault::TableFault;
 use crate::limits::MAX_ROUTES;
 use crate::routes::{RouteLines, Routes};
@@ -88,7 +88,7 @@ fn given_lines(route: &GivenRoute) -> RouteLines
 }
 
 /// A customer has these routes, and nothing else of it changes.
-fn give_routes(customers: &mut Vec<Customer>, customer: u16, routes: Routes)
+fn give_routes(customers: &mut Vec<NamedCustomer>, customer: u16, routes: Routes)
     requires { customer < vec_len customers.old }
     ensures { customers.new.items
         ≡ slice_set customers.old.items customer
@@ -97,7 +97,7 @@ fn give_routes(customers: &mut Vec<Customer>, customer: u16, routes: Routes)
     customers[usize::from(customer)].set_routes(routes);
 }
 
-impl Customer {
+impl NamedCustomer {
     fn set_routes(&mut self, routes: Routes)
         ensures { self.new ≡ record self.old { routes = routes } }
     {
@@ -106,7 +106,7 @@ impl Customer {
 }
 
 /// The first fault of a customer's new routes, from the left.
-fn check_each(number: u16, customer: &Customer, routes: &[GivenRoute]) -> Result<(), TableFault>
+fn check_each(number: u16, customer: &NamedCustomer, routes: &[GivenRoute]) -> Result<(), TableFault>
     ensures { result ≡ checked_from (length customer.now.lines) (customer.now.hub ∷ [])
         (new_routes_of number routes.now) }
 {
@@ -120,7 +120,7 @@ fn check_each(number: u16, customer: &Customer, routes: &[GivenRoute]) -> Result
 #[tactic(auto, unfolding(crate::specs::NewRoutes::route_checked))]
 fn check_one(
     number: u16,
-    customer: &Customer,
+    customer: &NamedCustomer,
     before: &[GivenRoute],
     route: GivenRoute,
 ) -> Result<(), TableFault>
@@ -177,14 +177,14 @@ fn is_for(route: &GivenRoute, node: Name) -> bool
 }
 
 /// Whether a line is one of a customer's own.
-fn is_own(number: u16, customer: &Customer, id: LineId) -> bool
+fn is_own(number: u16, customer: &NamedCustomer, id: LineId) -> bool
     ensures { result ≡ is_own (length customer.now.lines) (own_number number id) }
 {
     id.customer == number && usize::from(id.number) < customer.lines().len()
 }
 
 /// Whether there is no second line, or it is one of a customer's own.
-fn may_be_second(number: u16, customer: &Customer, second: Option<LineId>) -> bool
+fn may_be_second(number: u16, customer: &NamedCustomer, second: Option<LineId>) -> bool
     ensures { result ≡ may_be_second (length customer.now.lines) (other_second number second) }
 {
     match second {

@@ -1,7 +1,7 @@
 //! The tables of a hub.
 
-use crate::customer::Customer;
-use crate::line::Line;
+use crate::customer::NamedCustomer;
+use crate::line::NamedLine;
 use crate::owners::Owners;
 use crate::{LineId, Route};
 use njh_ebcdic::Name;
@@ -11,7 +11,7 @@ use std::marker::Model;
 #[derive(Drop)]
 pub struct Tables {
     pub(crate) capacity: u32,
-    pub(crate) customers: Vec<Customer>,
+    pub(crate) customers: Vec<NamedCustomer>,
     pub(crate) owners: Owners,
 }
 
@@ -43,7 +43,7 @@ impl Tables {
     }
 
     /// The customers, in the order of the file.
-    pub fn customers(&self) -> &[Customer]
+    pub fn customers(&self) -> &[NamedCustomer]
         ensures all { result.now ≡ self.now.customers }
         ensures accepted { IsAccepted self.now }
     {
@@ -51,7 +51,7 @@ impl Tables {
     }
 
     /// A customer by its number.
-    pub fn customer(&self, customer: u16) -> &Customer
+    pub fn customer(&self, customer: u16) -> &NamedCustomer
         requires { customer < length self.now.customers }
         ensures { result.now ≡ customer_at self.now customer }
     {
@@ -69,7 +69,7 @@ impl Tables {
     }
 
     /// A line by its customer and its number.
-    pub fn line(&self, id: LineId) -> &Line
+    pub fn line(&self, id: LineId) -> &NamedLine
         requires { HasLine self.now id }
         ensures { result.now ≡ table_line self.now id }
     {

@@ -8,7 +8,7 @@ mod customers;
 mod lines;
 mod routes;
 
-use crate::customer::Customer;
+use crate::customer::NamedCustomer;
 use crate::fault::TableFault;
 use crate::keys::{list_at, number_at};
 use crate::limits::{MAX_CAPACITY, MAX_CUSTOMERS};
@@ -18,7 +18,7 @@ use crate::walk::customers::customers_in;
 use std::alloc::Global;
 use toml::Table;
 
-fn quotas_of(customers: &[Customer]) -> u64
+fn quotas_of(customers: &[NamedCustomer]) -> u64
     requires { length customers.now ≤ MAX_CUSTOMERS }
     ensures { result ≡ sum_by (λ c. c.quota) customers.now }
 {
@@ -29,7 +29,7 @@ fn quotas_of(customers: &[Customer]) -> u64
 }
 
 /// Whether the customers' quotas add to more than the capacity.
-fn quotas_exceed(customers: &[Customer], capacity: u32) -> bool
+fn quotas_exceed(customers: &[NamedCustomer], capacity: u32) -> bool
     requires { length customers.now ≤ MAX_CUSTOMERS }
     ensures { result ≡ nat_lt capacity (sum_by (λ c. c.quota) customers.now) }
 {

@@ -7,7 +7,7 @@ use crate::samples::TABLES;
 use njh_bisync::LONGEST_FRAME;
 use njh_customer::{FrameBuffer, Lines, Room, Signal, opened_is_coherent};
 use njh_spool::{Quota, Spool, SpoolFault};
-use njh_table::{Customer, LineId, Tables};
+use njh_table::{LineId, NamedCustomer, Tables};
 use std::alloc::{AllocError, Global};
 use std::marker::Model;
 use std::process::Abort;
@@ -38,7 +38,7 @@ impl Model for Desk {
 }
 
 /// A spool of a customer's quota.
-fn open_spool<R: Abort>(rt: &R, alloc: Global, customer: &Customer) -> Result<Spool, SpoolFault>
+fn open_spool<R: Abort>(rt: &R, alloc: Global, customer: &NamedCustomer) -> Result<Spool, SpoolFault>
     ensures { IfOk result (λ spool. spool ≡ empty_spool customer.now.quota customer.now.files ∷ []) }
 {
     let quota = Quota {

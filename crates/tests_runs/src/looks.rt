@@ -6,7 +6,7 @@ use njh_block::Stream;
 use njh_ebcdic::Name;
 use njh_hub::{FileSummaryView, Hub};
 use njh_program::Failure;
-use njh_service::{Entry, Happening, NoticeLine, Place};
+use njh_service::{Happening, LogEntry, NoticeLine, Place};
 use njh_spool::FileId;
 use njh_stream::Receiver;
 use njh_table::{LineId, Tables};
@@ -172,7 +172,7 @@ fn show_refusal<R: Print>(rt: &R, hub: &Hub, customer: Name) -> Result<(), Failu
         Some(notice) => {
             let place = Place::Line(customer, "a1");
             let happening = Happening::ComingRefused(Stream::at(4), Some(NoticeLine::of(notice)));
-            println!(rt; "{}", Entry { place, happening })?
+            println!(rt; "{}", LogEntry { place, happening })?
         }
         None => println!(rt; "no file refused")?,
     }

@@ -7,7 +7,7 @@ ghost use Rattle.toml.specs.View.{view, items_view, table_view};
 ghost use Rattle.njh_table.specs.TableFile.{owners_from};
 ghost use Rattle.njh_table.specs.Walk.{Walks, customer_keys, next_customer, customers_onto};
 
-use crate::customer::Customer;
+use crate::customer::NamedCustomer;
 use crate::fault::TableFault;
 use crate::keys::{keys_in, list_or_empty_at, name_at, number_at};
 use crate::limits::{MAX_CUSTOMERS, MAX_FILES, MAX_QUOTA};
@@ -27,20 +27,20 @@ struct CustomerKeys {
     files: u32,
 }
 
-fn is_named(customer: &Customer, name: Name) -> bool
+fn is_named(customer: &NamedCustomer, name: Name) -> bool
     ensures { result ≡ bytes_eq customer.now.name name }
 {
     customer.name() == name
 }
 
-fn has_customer(customers: &[Customer], name: Name) -> bool
+fn has_customer(customers: &[NamedCustomer], name: Name) -> bool
     ensures { result ≡ list_any (λ c. bytes_eq c.name name) customers.now }
 {
     customers.iter().any(|customer| is_named(customer, name))
 }
 
 #[tactic(auto, unfolding(crate::specs::Walk::customer_keys))]
-fn customer_keys(keys: &Table, earlier: &[Customer]) -> Result<CustomerKeys, TableFault>
+fn customer_keys(keys: &Table, earlier: &[NamedCustomer]) -> Result<CustomerKeys, TableFault>
     ensures { result_map_both (λ c. record { name = c.name; hub = c.hub; quota = c.quota; files = c.files })
         (λ f. f) result
         ≡ customer_keys earlier.now (table_view keys.now) }
@@ -65,9 +65,9 @@ fn customer_keys(keys: &Table, earlier: &[Customer]) -> Result<CustomerKeys, Tab
 fn next_customer(
     alloc: Global,
     value: &Value,
-    earlier: &[Customer],
+    earlier: &[NamedCustomer],
     owners: &mut Owners,
-) -> Result<Customer, TableFault>
+) -> Result<NamedCustomer, TableFault>
     requires { owners.old ≡ owners_from 0 earlier.now }
     ensures walk { Walks (λ c. c) result (next_customer earlier.now (view value.now)) }
     ensures owners { IfOk result (λ c. owners.new ≡ owners_from 0 (earlier.now ++ c ∷ [])) }
@@ -83,7 +83,7 @@ fn next_customer(
     let number = earlier.len() as u16;
     let lines = lines_in(alloc, line_values, number, owners)?;
     let routes = routes_in(alloc, route_values, number, own.hub, owners)?;
-    Ok(Customer {
+    Ok(NamedCustomer {
         name: own.name,
         hub: own.hub,
         quota: own.quota,
@@ -97,7 +97,7 @@ pub(super) fn customers_in(
     alloc: Global,
     values: &[Value],
     owners: &mut Owners,
-) -> Result<Vec<Customer>, TableFault>
+) -> Result<Vec<NamedCustomer>, TableFault>
     requires { owners.old ≡ [] }
     ensures walk { Walks (λ v. v.items) result (customers_onto [] (items_view values.now)) }
     ensures owners { IfOk result (λ v. owners.new ≡ owners_from 0 v.items) }

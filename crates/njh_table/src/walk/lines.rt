@@ -11,14 +11,14 @@ use crate::keys::{
     keys_in, line_name_at, name_at, number_at, number_or_zero_at, password_at, peer_at, role_at,
 };
 use crate::limits::{MAX_BLOCK, MAX_LINES, MAX_PORT, MAX_STREAMS, MIN_BLOCK};
-use crate::line::Line;
+use crate::line::NamedLine;
 use crate::owners::Owners;
 use std::alloc::Global;
 use toml::{Table, Value};
 
 /// The line of a name, by its other keys.
 #[tactic(auto, unfolding(crate::specs::Walk::walked_line))]
-fn line_of(alloc: Global, name: &str, keys: &Table) -> Result<Line, TableFault>
+fn line_of(alloc: Global, name: &str, keys: &Table) -> Result<NamedLine, TableFault>
     ensures walk { Walks (λ l. l) result (walked_line name.now (table_view keys.now)) }
     ensures name { IfOk result (λ l. l.name ≡ name.now) }
 {
@@ -29,7 +29,7 @@ fn line_of(alloc: Global, name: &str, keys: &Table) -> Result<Line, TableFault>
     let password = password_at(keys, "password")?;
     let port = number_or_zero_at(keys, "port", MAX_PORT)? as u16;
     let peer = peer_at(keys, "connect", port)?;
-    Ok(Line {
+    Ok(NamedLine {
         name: String::from_str(alloc, name)?,
         node,
         role,
@@ -50,7 +50,7 @@ fn next_line(
     customer: u16,
     number: usize,
     owners: &mut Owners,
-) -> Result<Line, TableFault>
+) -> Result<NamedLine, TableFault>
     requires { number ≤ length (names_in owners.old) }
     ensures walk { Walks (λ l. l) result (next_line (names_in owners.old) (view value.now)) }
     ensures owners { IfOk result (λ l. owners.new
@@ -78,7 +78,7 @@ pub(super) fn lines_in(
     values: &[Value],
     customer: u16,
     owners: &mut Owners,
-) -> Result<Vec<Line>, TableFault>
+) -> Result<Vec<NamedLine>, TableFault>
     ensures walk { Walks (λ v. v.items) result (lines_onto (names_in owners.old) [] (items_view values.now)) }
     ensures owners { IfOk result (λ v. owners.new ≡ owners.old ++ line_owners customer 0 v.items) }
 {

@@ -2,7 +2,7 @@
 
 use super::*;
 use crate::same::is_same;
-use njh_table::{Customer, LineId};
+use njh_table::{LineId, NamedCustomer};
 use std::process::Abort;
 use std::test::Fail;
 
@@ -50,7 +50,7 @@ fn step(tables: &mut Tables, what: &str) -> Result<(), Fail> {
     )
 }
 
-fn push_marks(alloc: Global, text: &mut String, customer: &Customer) -> Result<(), AllocError> {
+fn push_marks(alloc: Global, text: &mut String, customer: &NamedCustomer) -> Result<(), AllocError> {
     for line in customer.lines() {
         let mark = if line.is_up() { "up" } else { "-" };
         text.push_str(format!(in alloc; " {} {mark}", line.name())?.as_str())?;

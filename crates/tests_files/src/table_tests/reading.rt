@@ -2,7 +2,7 @@
 
 use super::*;
 use crate::same::is_same;
-use njh_table::{Customer, Line, Role};
+use njh_table::{NamedCustomer, NamedLine, Role};
 use std::process::Abort;
 use std::test::Fail;
 
@@ -52,7 +52,7 @@ fn text_of(alloc: Global, tables: &Tables) -> Result<String, AllocError> {
     Ok(text)
 }
 
-fn push_customer(alloc: Global, text: &mut String, customer: &Customer) -> Result<(), AllocError> {
+fn push_customer(alloc: Global, text: &mut String, customer: &NamedCustomer) -> Result<(), AllocError> {
     let head = format!(in alloc;
         "{} {} {} {}\n",
         customer.name(),
@@ -71,7 +71,7 @@ fn push_customer(alloc: Global, text: &mut String, customer: &Customer) -> Resul
     Ok(())
 }
 
-fn push_line(alloc: Global, text: &mut String, line: &Line) -> Result<(), AllocError> {
+fn push_line(alloc: Global, text: &mut String, line: &NamedLine) -> Result<(), AllocError> {
     let role = match line.role() {
         Role::Answer => "answer",
         Role::Call => "call",
@@ -92,7 +92,7 @@ fn push_line(alloc: Global, text: &mut String, line: &Line) -> Result<(), AllocE
     text.push_str(all.as_str())
 }
 
-fn text_of_peer(alloc: Global, line: &Line) -> Result<String, AllocError> {
+fn text_of_peer(alloc: Global, line: &NamedLine) -> Result<String, AllocError> {
     match line.peer() {
         Some(peer) => format!(in alloc; " {peer}"),
         None => String::from_str(alloc, ""),
