@@ -4,3 +4,5 @@ mod SplitLaws
 mod RecordLaws
 mod ReplyLaws
 mod WalkLaws
+mod CommandMoves
+mod RerouteNodes

@@ -20,15 +20,20 @@ use Rattle.njh_command.specs.Words.{command_of}
 use Rattle.njh_texts.specs.Texts.{file_line, files_line, held_text, released_text, cancelled_text, rerouted_to}
 use Rattle.njh_texts.specs.Texts.{not_found, bad_command, being_sent_text}
 
--- What is answered, what is left in the spool, and the numbers of the files that were removed while they were being
+-- What is answered, which whole files are left, and the numbers of the files that were removed while they were being
 -- sent, in order of arrival.
 pub record CommandOutcome : Type 0 where
   pub replies : List (List ℕ)
-  pub spool : CustomerSpool
+  pub files : List WholeFile
   pub cancelled : List ℕ
 
+-- The spool with the files that are left. No command touches anything else in it.
+abbrev pub spool_after : CommandOutcome → CustomerSpool → CustomerSpool
+spool_after done s = record s { whole = done.files }
+
+-- no file is touched
 abbrev pub answers : List (List ℕ) → CustomerSpool → CommandOutcome
-answers replies s = record { replies = replies; spool = s; cancelled = [] }
+answers replies s = record { replies = replies; files = s.whole; cancelled = [] }
 
 -- ---- which files
 
@@ -96,8 +101,11 @@ with_changes p change s = record s { whole = map (changed_file p change) s.whole
 -- the files that aren't being sent change, and the others are left
 abbrev pub changing : (ℕ → List ℕ) → (WholeFile → WholeFile) → (WholeFile → Bool) → FileName → CustomerSpool
     → CommandOutcome
-changing text change p name s =
-    answers (change_replies text name (count (may_change p) s) (count (is_busy p) s)) (with_changes p change s)
+changing text change p name s = record {
+  replies = change_replies text name (count (may_change p) s) (count (is_busy p) s);
+  files = map (changed_file p change) s.whole;
+  cancelled = [];
+}
 
 abbrev pub file_in_state : State → WholeFile → WholeFile
 file_in_state state f = record f { state = state }
@@ -126,7 +134,7 @@ rerouted_by entry node who name s = rerouting (route_of entry node) entry node (
 abbrev pub cancelling : (WholeFile → Bool) → FileName → CustomerSpool → CommandOutcome
 cancelling p name s = record {
   replies = where_found (count p s) name (cancelled_text name (count p s) ∷ []);
-  spool = record s { whole = filter (λ f. not (p f)) s.whole };
+  files = filter (λ f. not (p f)) s.whole;
   cancelled = map (λ f. f.number) (filter (is_busy p) s.whole);
 }
 

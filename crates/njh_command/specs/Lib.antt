@@ -1,4 +1,5 @@
 pub mod Words
 pub mod Commands
 pub mod Files
+pub mod CommandLaws
 pub mod code

@@ -3,7 +3,7 @@
 ghost use Rattle.std.specs.Prelude.{◌≡◌, ◌<◌, fold, length, slice_set};
 ghost use Rattle.njh_spool.specs.Spools.{spool_at};
 ghost use Rattle.njh_command.specs.code.Changes.{numbers_where, without_where};
-ghost use Rattle.njh_command.specs.Commands.{cancelling, is_of_name, count, is_busy, without_file};
+ghost use Rattle.njh_command.specs.Commands.{cancelling, is_of_name, count, is_busy, spool_after, without_file};
 ghost use Rattle.njh_command.specs.Files.{file_at};
 
 use crate::changing::{Standing, judge};
@@ -27,7 +27,8 @@ pub(crate) fn cancel_files<S: Senders>(
         ≡ (cancelling (is_of_name choice.now.who choice.now.name) choice.now.name
         (spool_at customer spool.old)).replies }
     ensures spool { spool.new ≡ slice_set spool.old customer
-        (cancelling (is_of_name choice.now.who choice.now.name) choice.now.name (spool_at customer spool.old)).spool }
+        (spool_after (cancelling (is_of_name choice.now.who choice.now.name) choice.now.name
+        (spool_at customer spool.old)) (spool_at customer spool.old)) }
     ensures senders { senders.new ≡ fold (λ x n. S.each x (without_file n)) senders.old
         (cancelling (is_of_name choice.now.who choice.now.name) choice.now.name
         (spool_at customer spool.old)).cancelled }
@@ -48,7 +49,8 @@ fn cancel_each<S: Senders>(
     requires { customer < length spool.old }
     ensures count { result ≡ count (is_of_name choice.now.who choice.now.name) (spool_at customer spool.old) }
     ensures spool { spool.new ≡ slice_set spool.old customer
-        (cancelling (is_of_name choice.now.who choice.now.name) choice.now.name (spool_at customer spool.old)).spool }
+        (spool_after (cancelling (is_of_name choice.now.who choice.now.name) choice.now.name
+        (spool_at customer spool.old)) (spool_at customer spool.old)) }
     ensures senders { senders.new ≡ fold (λ x n. S.each x (without_file n)) senders.old
         (cancelling (is_of_name choice.now.who choice.now.name) choice.now.name
         (spool_at customer spool.old)).cancelled }

@@ -7,6 +7,7 @@ mod changing;
 mod choice;
 mod command;
 mod files;
+mod laws;
 mod listing;
 mod replies;
 mod rerouting;
@@ -16,6 +17,7 @@ mod words;
 
 pub use command::{BadCommand, Command};
 pub use files::number_of;
+pub use laws::{commands_move_files_so, reroutes_name_fields};
 pub use replies::{MOST_REPLIES, Replies};
 pub use running::{obey, run};
 pub use senders::{Senders, give_up};

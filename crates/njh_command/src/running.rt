@@ -4,7 +4,7 @@ ghost use Rattle.std.specs.Prelude.{◌≡◌, ◌<◌, ◌∷◌, [], fold, len
 ghost use Rattle.njh_spool.specs.Spools.{spool_at};
 ghost use Rattle.njh_table.specs.TableFile.{customer_at, entry_of};
 ghost use Rattle.njh_command.specs.Commands.{is_of_name, message_outcome, count, command_outcome, rerouted_by};
-ghost use Rattle.njh_command.specs.Commands.{where_found, without_file};
+ghost use Rattle.njh_command.specs.Commands.{where_found, spool_after, without_file};
 
 use crate::cancelling::cancel_files;
 use crate::changing::{Change, change_files};
@@ -38,8 +38,9 @@ pub fn obey<S: Senders>(
             (record { node = from; user = user }) message.now
         (spool_at customer spool.old)).replies }
     ensures spool { spool.new ≡ slice_set spool.old customer
-        (message_outcome (entry_of (customer_at tables.now customer)) (record { node = from; user = user }) message.now
-        (spool_at customer spool.old)).spool }
+        (spool_after (message_outcome (entry_of (customer_at tables.now customer))
+            (record { node = from; user = user }) message.now
+        (spool_at customer spool.old)) (spool_at customer spool.old)) }
     ensures senders { senders.new ≡ fold (λ x n. S.each x (without_file n)) senders.old
         (message_outcome (entry_of (customer_at tables.now customer)) (record { node = from; user = user }) message.now
         (spool_at customer spool.old)).cancelled }
@@ -71,8 +72,9 @@ pub fn run<S: Senders>(
         ≡ (command_outcome (entry_of (customer_at tables.now customer)) (record { node = from; user = user }) command
         (spool_at customer spool.old)).replies }
     ensures spool { spool.new ≡ slice_set spool.old customer
-        (command_outcome (entry_of (customer_at tables.now customer)) (record { node = from; user = user }) command
-        (spool_at customer spool.old)).spool }
+        (spool_after (command_outcome (entry_of (customer_at tables.now customer))
+            (record { node = from; user = user }) command
+        (spool_at customer spool.old)) (spool_at customer spool.old)) }
     ensures senders { senders.new ≡ fold (λ x n. S.each x (without_file n)) senders.old
         (command_outcome (entry_of (customer_at tables.now customer)) (record { node = from; user = user }) command
         (spool_at customer spool.old)).cancelled }
@@ -129,8 +131,8 @@ fn reroute_files(
         ≡ (rerouted_by (entry_of (customer_at tables.now customer)) node choice.now.who choice.now.name
         (spool_at customer spool.old)).replies }
     ensures spool { spool.new ≡ slice_set spool.old customer
-        (rerouted_by (entry_of (customer_at tables.now customer)) node choice.now.who choice.now.name
-        (spool_at customer spool.old)).spool }
+        (spool_after (rerouted_by (entry_of (customer_at tables.now customer)) node choice.now.who choice.now.name
+        (spool_at customer spool.old)) (spool_at customer spool.old)) }
 {
     match tables.route(customer, node) {
         Route::Here => {

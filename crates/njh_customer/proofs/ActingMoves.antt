@@ -1,6 +1,6 @@
 -- What a record that comes does to a customer's whole files and to its streams from the hub.
-use Rattle.std.proofs.Common.{◌≡◌, ℕ, Bool, true, false, cond, ◌==◌, ◌&&◌, ◌⊎◌, inl, inr, List, [], ◌∷◌, ◌++◌, fold}
-use Rattle.std.proofs.Common.{Option, Some, None, Result, Ok, Err, refl, sym, ap, subst, ◌∙◌}
+use Rattle.std.proofs.Common.{◌≡◌, ℕ, Bool, true, false, cond, not, ◌==◌, ◌&&◌, ◌⊎◌, inl, inr, List, [], ◌∷◌, ◌++◌}
+use Rattle.std.proofs.Common.{fold, map, filter, Option, Some, None, Result, Ok, Err, refl, sym, ap, subst, ◌∙◌}
 use Rattle.std.specs.Option.{option_map}
 use Rattle.std.proofs.lemmas.Bool.{eqb-true}
 use Rattle.njh_ebcdic.specs.Users.{User}
@@ -13,7 +13,7 @@ use Rattle.njh_record.specs.Stored.{Stored}
 use Rattle.njh_record.specs.declared.Kind.{Kind}
 use Rattle.njh_spool.specs.CustomerSpool.{CustomerSpool, PartialFile, WholeFile, without_partial, as_whole}
 use Rattle.njh_spool.specs.CustomerSpool.{partial_numbered, partial_records, has_file_room, has_block, has_room_for}
-use Rattle.njh_spool.specs.declared.State.TheVariants.{Ready}
+use Rattle.njh_spool.specs.declared.State.TheVariants.{Held, Ready}
 use Rattle.njh_table.specs.Entries.{CustomerEntry, route_of}
 use Rattle.njh_table.specs.declared.Route.{Route}
 use Rattle.njh_table.specs.declared.Route.TheVariants.{Here, Line, Unknown}
@@ -30,7 +30,9 @@ use Rattle.njh_stream.specs.Transmissions.{Verdict, Taken, Cancelled, Fitting, i
 use Rattle.njh_command.specs.declared.command.Command.{Command}
 use Rattle.njh_command.specs.declared.command.Command.TheVariants as commands
 use Rattle.njh_command.specs.Words.{command_of}
-use Rattle.njh_command.specs.Commands.{CommandOutcome, is_of_name, command_outcome, obeyed_where, rerouting}
+use Rattle.njh_command.specs.CommandLaws.{FilesMove, CommandsMoveFilesSo, stay, held, released, rerouted, cancelled}
+use Rattle.njh_command.specs.Commands.{CommandOutcome, changed_file, file_in_state, is_of_name, message_outcome}
+use Rattle.njh_command.specs.Commands.{with_new_destination}
 use Rattle.njh_customer.specs.Customer.{Customer, CustomerLine, line_at, on_line, with_notice, receiver_at}
 use Rattle.njh_customer.specs.Customer.{with_receiver, sender_at}
 use Rattle.njh_customer.specs.Waiting.{with_answer_on, with_waiting, with_message_to, with_notice_to}
@@ -257,90 +259,86 @@ module _ (l : ℕ) (i : Item) (c : Customer) (n : Nodal) where
       all_said_senders c.entry (sender_of n) done.replies (fold without_sending c.lines done.cancelled)
       ∙ ap (λ numbers. streams_from_hub (fold without_sending c.lines numbers)) e
 
-  obeyed_acts : (command : Command) → Commands c.entry (sender_of n) command i → Acted l i c (with_outcome n (command_outcome c.entry (sender_of n) command c.spool) c)
-  obeyed_acts commands.List given =
-      record { entry = refl; moves = inl (ap (of_parts c.spool.whole) (changes (command_outcome c.entry (sender_of n) commands.List c.spool) refl)) }
-  obeyed_acts (commands.Hold name) given =
-      let done = command_outcome c.entry (sender_of n) (commands.Hold name) c.spool in
-      record { entry = refl; moves = inr (moves.holds (sender_of n) name given (ap (of_parts done.spool.whole) (changes done refl))) }
-  obeyed_acts (commands.Release name) given =
-      let done = command_outcome c.entry (sender_of n) (commands.Release name) c.spool in
-      record { entry = refl; moves = inr (moves.releases (sender_of n) name given (ap (of_parts done.spool.whole) (changes done refl))) }
-  obeyed_acts (commands.Cancel name) given =
-      let done = command_outcome c.entry (sender_of n) (commands.Cancel name) c.spool in
+  -- no stream moves, and the files are these
+  left_so : (done : CommandOutcome) (files : List WholeFile) → done.files ≡ files → done.cancelled ≡ []
+      → outgoing (with_outcome n done c) ≡ of_parts files (streams_from_hub c.lines)
+  left_so done files left quiet =
+      ap (λ fs. of_parts fs (streams_from_hub (with_outcome n done c).lines)) left ∙ ap (of_parts files) (changes done quiet)
+
+  -- by what becomes of the files
+  moved_acts : (done : CommandOutcome) → ((x : Command) → command_of n.message ≡ Some x → Commands c.entry (sender_of n) x i)
+      → FilesMove c.entry (sender_of n) n.message c.spool.whole done → Acted l i c (with_outcome n done c)
+  moved_acts done given (stay left quiet) = record { entry = refl; moves = inl (left_so done c.spool.whole left quiet) }
+  moved_acts done given (held name says left quiet) =
+      let files = map (changed_file (is_of_name (sender_of n) name) (file_in_state Held)) c.spool.whole in
+      record { entry = refl; moves = inr (moves.holds (sender_of n) name (given (commands.Hold name) says) (left_so done files left quiet)) }
+  moved_acts done given (released name says left quiet) =
+      let files = map (changed_file (is_of_name (sender_of n) name) (file_in_state Ready)) c.spool.whole in
+      record { entry = refl; moves = inr (moves.releases (sender_of n) name (given (commands.Release name) says) (left_so done files left quiet)) }
+  moved_acts done given (rerouted name node line says route left quiet) =
+      let files = map (changed_file (is_of_name (sender_of n) name) (with_new_destination node)) c.spool.whole in
       record {
         entry = refl;
-        moves = inr (moves.cancels (sender_of n) name given
-            (ap (of_parts done.spool.whole) (all_said_senders c.entry (sender_of n) done.replies (fold without_sending c.lines done.cancelled))
-            ∙ sym (all_given_up (busy_numbers (is_of_name (sender_of n) name) c.spool.whole) done.spool.whole c.lines)));
+        moves = inr (moves.reroutes (sender_of n) name node line (given (commands.Reroute name node) says) route (left_so done files left quiet));
       }
-  obeyed_acts (commands.Reroute name node) given = at_route (route_of c.entry node) refl
-    where
-      at_route : (r : Route) → route_of c.entry node ≡ r
-          → Acted l i c (with_outcome n (rerouting r c.entry node (is_of_name (sender_of n) name) name c.spool) c)
-      at_route Here e =
-          record {
-            entry = refl;
-            moves = inl (ap (of_parts c.spool.whole) (changes (rerouting Here c.entry node (is_of_name (sender_of n) name) name c.spool) refl));
-          }
-      at_route (Line line) e =
-          let done = rerouting (Line line) c.entry node (is_of_name (sender_of n) name) name c.spool in
-          record { entry = refl; moves = inr (moves.reroutes (sender_of n) name node line given e (ap (of_parts done.spool.whole) (changes done refl))) }
-      at_route Unknown e =
-          record {
-            entry = refl;
-            moves = inl (ap (of_parts c.spool.whole) (changes (rerouting Unknown c.entry node (is_of_name (sender_of n) name) name c.spool) refl));
-          }
+  moved_acts done given (cancelled name says left numbers) =
+      let p = is_of_name (sender_of n) name in
+      let kept = filter (λ f. not (p f)) c.spool.whole in
+      record {
+        entry = refl;
+        moves = inr (moves.cancels (sender_of n) name (given (commands.Cancel name) says)
+            (ap (λ fs. of_parts fs (streams_from_hub (with_outcome n done c).lines)) left
+            ∙ ap (of_parts kept) (all_said_senders c.entry (sender_of n) done.replies (fold without_sending c.lines done.cancelled))
+            ∙ ap (λ ns. of_parts kept (streams_from_hub (fold without_sending c.lines ns))) numbers
+            ∙ sym (all_given_up (busy_numbers p c.spool.whole) kept c.lines)));
+      }
 
   command_acts :
-      (srcb : ℕ) (bytes : List ℕ) → i ≡ Data 0x9a srcb bytes → nodal_of bytes ≡ Ok n → route_of c.entry n.to ≡ Here → is_user_command n ≡ true
-      → Acted l i c (after_user_command n c)
-  command_acts srcb bytes is reads here user = at_command (command_of n.message) refl
-    where
-      at_command : (o : Option Command) → command_of n.message ≡ o → Acted l i c (with_outcome n (obeyed_where o c.entry (sender_of n) c.spool) c)
-      at_command None e =
-          record { entry = refl; moves = inl (ap (of_parts c.spool.whole) (changes (obeyed_where None c.entry (sender_of n) c.spool) refl)) }
-      at_command (Some command) e =
-          obeyed_acts command (record {
-            srcb = srcb;
-            bytes = bytes;
-            is_message = is;
-            nodal = n;
-            reads = reads;
-            to_hub = here;
-            is_command = user;
-            sender = refl;
-            says = e;
-          })
+      CommandsMoveFilesSo → (srcb : ℕ) (bytes : List ℕ) → i ≡ Data 0x9a srcb bytes → nodal_of bytes ≡ Ok n → route_of c.entry n.to ≡ Here
+      → is_user_command n ≡ true → Acted l i c (after_user_command n c)
+  command_acts move srcb bytes is reads here user =
+      moved_acts (message_outcome c.entry (sender_of n) n.message c.spool)
+      (λ x says. record {
+        srcb = srcb;
+        bytes = bytes;
+        is_message = is;
+        nodal = n;
+        reads = reads;
+        to_hub = here;
+        is_command = user;
+        sender = refl;
+        says = says;
+      })
+      (move c.entry (sender_of n) n.message c.spool)
 
   routed_acts :
-      (srcb : ℕ) (bytes : List ℕ) → i ≡ Data 0x9a srcb bytes → nodal_of bytes ≡ Ok n → (r : Route) → route_of c.entry n.to ≡ r
+      CommandsMoveFilesSo → (srcb : ℕ) (bytes : List ℕ) → i ≡ Data 0x9a srcb bytes → nodal_of bytes ≡ Ok n → (r : Route) → route_of c.entry n.to ≡ r
       → Acted l i c (message_routed l n bytes r c)
-  routed_acts srcb bytes is reads Here e = at_command (is_user_command n) refl
+  routed_acts move srcb bytes is reads Here e = at_command (is_user_command n) refl
     where
       at_command : (b : Bool) → is_user_command n ≡ b → Acted l i c (cond b (after_user_command n c) c)
-      at_command true user = command_acts srcb bytes is reads e user
+      at_command true user = command_acts move srcb bytes is reads e user
       at_command false user = unmoved l i c
-  routed_acts srcb bytes is reads (Line k) e =
+  routed_acts move srcb bytes is reads (Line k) e =
       let m = cut_after_message bytes in
       acted_either (k == l) l i c (record c { lines = with_waiting k m c.lines }) c (unmoved l i c)
       (lines_alone l i (with_waiting k m c.lines) c (waits_senders k m c.lines))
-  routed_acts srcb bytes is reads Unknown e =
+  routed_acts move srcb bytes is reads Unknown e =
       let whom : User = sender_of n in
       acted_either (is_user_command n) l i (after_unknown_node n c) c c
       (lines_alone l i (with_message_to c.entry whom (node_unknown n.to) c.lines) c (said_senders c.entry whom (node_unknown n.to) c.lines)) (unmoved l i c)
 
-message_acts : (l srcb : ℕ) (bytes : List ℕ) (c : Customer) → Acted l (Data 0x9a srcb bytes) c (after_message l bytes c)
-message_acts l srcb bytes c = at_nodal (nodal_of bytes) refl
+message_acts : CommandsMoveFilesSo → (l srcb : ℕ) (bytes : List ℕ) (c : Customer) → Acted l (Data 0x9a srcb bytes) c (after_message l bytes c)
+message_acts move l srcb bytes c = at_nodal (nodal_of bytes) refl
   where
     at_nodal : (n : Result Nodal NmrFault) → nodal_of bytes ≡ n → Acted l (Data 0x9a srcb bytes) c (message_read l bytes n c)
     at_nodal (Err e) reads = unmoved l (Data 0x9a srcb bytes) c
-    at_nodal (Ok n) reads = routed_acts l (Data 0x9a srcb bytes) c n srcb bytes refl reads (route_of c.entry n.to) refl
+    at_nodal (Ok n) reads = routed_acts l (Data 0x9a srcb bytes) c n move srcb bytes refl reads (route_of c.entry n.to) refl
 
 -- ---- every record
 
-data_acts : (l rcb srcb : ℕ) (bytes : List ℕ) (c : Customer) → Acted l (Data rcb srcb bytes) c (after_record l (Data rcb srcb bytes) c)
-data_acts l rcb srcb bytes c = at_message (rcb == 0x9a) refl
+data_acts : CommandsMoveFilesSo → (l rcb srcb : ℕ) (bytes : List ℕ) (c : Customer) → Acted l (Data rcb srcb bytes) c (after_record l (Data rcb srcb bytes) c)
+data_acts move l rcb srcb bytes c = at_message (rcb == 0x9a) refl
   where
     ends : Ends (receiving.Data srcb bytes) (Data rcb srcb bytes)
     ends own e = (rcb, ap (at_bytes rcb) e)
@@ -349,7 +347,7 @@ data_acts l rcb srcb bytes c = at_message (rcb == 0x9a) refl
         (b : Bool) → (rcb == 0x9a) ≡ b
         → Acted l (Data rcb srcb bytes) c (cond b (after_message l bytes c) (after_stream_record l (stream_of (line_at l c.lines).streams rcb) (receiving.Data srcb bytes) c))
     at_message true e =
-        subst (λ n. Acted l (Data n srcb bytes) c (after_message l bytes c)) (sym (eqb-true rcb 0x9a e)) (message_acts l srcb bytes c)
+        subst (λ n. Acted l (Data n srcb bytes) c (after_message l bytes c)) (sym (eqb-true rcb 0x9a e)) (message_acts move l srcb bytes c)
     at_message false e = stream_acts l (stream_of (line_at l c.lines).streams rcb) (receiving.Data srcb bytes) (Data rcb srcb bytes) c ends
 
 no_end_abort : (i : Item) → Ends receiving.Abort i
@@ -358,14 +356,14 @@ no_end_abort i srcb e = absurd (cc e)
 no_end_long : (i : Item) → Ends receiving.Long i
 no_end_long i srcb e = absurd (cc e)
 
-pub acts_so : (l : ℕ) (i : Item) (c : Customer) → Acted l i c (after_record l i c)
-acts_so l (Data rcb srcb bytes) c = data_acts l rcb srcb bytes c
-acts_so l (Aborted rcb srcb) c =
+pub acts_so : CommandsMoveFilesSo → (l : ℕ) (i : Item) (c : Customer) → Acted l i c (after_record l i c)
+acts_so move l (Data rcb srcb bytes) c = data_acts move l rcb srcb bytes c
+acts_so move l (Aborted rcb srcb) c =
     stream_acts l (stream_of (line_at l c.lines).streams rcb) receiving.Abort (Aborted rcb srcb) c (no_end_abort (Aborted rcb srcb))
-acts_so l (Long rcb srcb) c =
+acts_so move l (Long rcb srcb) c =
     stream_acts l (stream_of (line_at l c.lines).streams rcb) receiving.Long (Long rcb srcb) c (no_end_long (Long rcb srcb))
-acts_so l (Control rcb srcb) c =
+acts_so move l (Control rcb srcb) c =
     let stream = stream_of (line_at l c.lines).streams srcb in
     acted_either (rcb == 0x90) l (Control rcb srcb) (after_stream_request l srcb stream c) (peer_answered l rcb stream c) c
     (request_acts l srcb stream (Control rcb srcb) c) (peer_acts l (line_at l c.lines).streams rcb srcb stream c refl)
-acts_so l (General srcb rest) c = unmoved l (General srcb rest) c
+acts_so move l (General srcb rest) c = unmoved l (General srcb rest) c

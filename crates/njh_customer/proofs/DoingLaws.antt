@@ -18,6 +18,7 @@ use Rattle.njh_stream.specs.declared.sender.Sender.{Sender}
 use Rattle.njh_stream.specs.Sending.{goes_by}
 use Rattle.njh_sched.specs.NextBlock.{Filling, filled_block, filling}
 use Rattle.njh_sched.specs.Tight.{own_fcs}
+use Rattle.njh_command.specs.CommandLaws.{CommandsMoveFilesSo}
 use Rattle.njh_line.specs.LineTable as input
 use Rattle.njh_line.specs.LineTable.{Input}
 use Rattle.njh_line.specs.Lines.{LineState, after_end, after_input}
@@ -117,7 +118,7 @@ pub record Judged (up : Bool) (l : ℕ) (items : List Item) (c d : Customer) : T
   pub last : (line_at l d.lines).state.last ≡ (line_at l c.lines).state.last
   pub lines : length d.lines ≡ length c.lines
 
-module _ (carry : BlocksCarry) where
+module _ (carry : BlocksCarry) (commands : CommandsMoveFilesSo) where
   -- a new block, or what is sent in its place
   next_goes_out : (l : ℕ) (or_ack0 : Bool) (c : Customer) → l < length c.lines
       → GoesOut c.entry l (line_at l c.lines).state (outgoing c) (outgoing (replied_to l (reply.Next or_ack0) c).after) (replied_to l (reply.Next or_ack0) c).frame
@@ -245,7 +246,7 @@ module _ (carry : BlocksCarry) where
   input_does : (l : ℕ) (items : List Item) (came : Input) (c : Customer) → l < length c.lines → Does l items c (after_line_input l came c)
   input_does l items came c there =
       let d = accepted_on l came c in
-      let judged = accepted_judged l items came c d (acting_where false l items d) in
+      let judged = accepted_judged l items came c d (acting_where commands false l items d) in
       carried_does l items (verdict_on l came c) c d (goes_up_by l came c) judged (omega (arith, there, judged.lines))
 
   ended_does : (l : ℕ) (items : List Item) (c d : Customer) (up : Bool) → Judged up l items c d → Does l items c (silent (session_ended l d))
@@ -271,7 +272,7 @@ module _ (carry : BlocksCarry) where
   block_does l b c there =
       let v = verdict_on l (block_input b) c in
       let a = acted_where v.acts l b.items (accepted_on l (block_input b) c) in
-      let judged = accepted_judged l b.items (block_input b) c a.customer (acting_where v.acts l b.items (accepted_on l (block_input b) c)) in
+      let judged = accepted_judged l b.items (block_input b) c a.customer (acting_where commands v.acts l b.items (accepted_on l (block_input b) c)) in
       behind_does l b.items a.ended v c a.customer (goes_up_by l (block_input b) c) judged (omega (arith, there, judged.lines))
 
   text_does : (l : ℕ) (text : List ℕ) (c : Customer) → l < length c.lines → Does l (records_of_frame (frame.Text text)) c (after_text l text c)

@@ -28,6 +28,7 @@ use Rattle.njh_line.specs.LineTable as input
 use Rattle.njh_line.specs.LineTable.{Input}
 use Rattle.njh_line.specs.Lines.{LineState, after_end, after_input}
 use Rattle.njh_line.specs.Up.{InputsKeepUp, KeepsUp}
+use Rattle.njh_command.specs.CommandLaws.{CommandsMoveFilesSo}
 use Rattle.njh_customer.specs.declared.signal.Signal.{Signal}
 use Rattle.njh_customer.specs.Customer.{Customer, CustomerLine, IsMarked, no_customer_line, line_at, on_line, in_state}
 use Rattle.njh_customer.specs.Customer.{config_of, fresh_customer, quiet_line}
@@ -186,7 +187,7 @@ module _ (keep : InputsKeepUp) (l : ℕ) (came : Input) (c : Customer) (marked :
 
 -- ---- a frame, and a signal
 
-module _ (keep : InputsKeepUp) where
+module _ (keep : InputsKeepUp) (commands : CommandsMoveFilesSo) where
   block_marked : (l : ℕ) (b : Block) (c : Customer) → IsMarked c → IsMarked (after_block l b c).after
   block_marked l b c marked = at a.ended
     where
@@ -197,7 +198,7 @@ module _ (keep : InputsKeepUp) where
       a = acted_where v.acts l b.items (accepted_on l (block_input b) c)
 
       acting : Acting l b.items (accepted_on l (block_input b) c) a.customer
-      acting = acting_where v.acts l b.items (accepted_on l (block_input b) c)
+      acting = acting_where commands v.acts l b.items (accepted_on l (block_input b) c)
 
       at : (ended : Bool) → IsMarked (behind_records ended l v a.customer).after
       at true = ended_marked keep l (block_input b) c marked a.customer acting.entry acting.kept
@@ -273,9 +274,9 @@ module _ (keep : InputsKeepUp) where
 fresh_marked : (entry : CustomerEntry) → IsMarked (fresh_customer entry)
 fresh_marked entry = sym (map-map is_line_up (λ line. quiet_line (config_of entry line) line.streams) entry.lines)
 
-pub marks_right : InputsKeepUp → MarksAreRight
-marks_right keep = record {
+pub marks_right : InputsKeepUp → CommandsMoveFilesSo → MarksAreRight
+marks_right keep commands = record {
   fresh = fresh_marked;
-  events = event_marked keep;
-  takes = λ p l piece marked. take_marked keep (rest_on l p) p.customer l piece marked;
+  events = event_marked keep commands;
+  takes = λ p l piece marked. take_marked keep commands (rest_on l p) p.customer l piece marked;
 }

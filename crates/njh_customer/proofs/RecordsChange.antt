@@ -1,20 +1,11 @@
 -- What becomes of the records of whole files.
-use Rattle.std.proofs.Common.{◌≡◌, ℕ, ◌+◌, ◌-◌, ◌≤◌, Bool, true, false, cond, not, ◌&&◌, ◌==◌, ◌⊎◌, inl, inr, List, []}
-use Rattle.std.proofs.Common.{◌∷◌, ◌++◌, length, map, filter, replicate, Option, Some, None, Result, Ok, Err, nat_lt}
-use Rattle.std.proofs.Common.{refl, sym, ap, subst, ◌∙◌, arith}
-use Rattle.std.proofs.lemmas.Bool.{ltb-false}
-use Rattle.std.proofs.lemmas.List.{length-append, length-replicate}
+use Rattle.std.proofs.Common.{◌≡◌, ℕ, Bool, true, false, cond, not, ◌&&◌, ◌==◌, ◌⊎◌, inl, inr, List, [], ◌∷◌, ◌++◌, map}
+use Rattle.std.proofs.Common.{filter, None, refl, sym, ap, subst, ◌∙◌}
 use Rattle.std.proofs.lemmas.List.Elements.{Contains-push_cases}
-use Rattle.std.specs.List.{Contains, list_all}
-use Rattle.std.specs.Option.{option_and_then}
-use Rattle.std.specs.Prelude.{codes}
-use Rattle.std.specs.Result.{result_ok}
+use Rattle.std.specs.List.{Contains}
 use Rattle.njh_ebcdic.specs.Users.{User}
 use Rattle.njh_header.specs.FileNames.{FileName}
 use Rattle.njh_block.specs.Blocks.{Item, Data}
-use Rattle.njh_ebcdic.specs.Names.{is_empty, is_name_byte, padded_field}
-use Rattle.njh_ebcdic.specs.declared.name.NameFault.{NameFault}
-use Rattle.njh_ebcdic.specs.declared.name.NameFault.TheVariants.{Empty, TooLong, BadCharacter}
 use Rattle.njh_header.specs.FileHeaders.{with_destination}
 use Rattle.njh_header.specs.Redirecting.{records_to_node}
 use Rattle.njh_record.specs.Stored.{Stored}
@@ -27,9 +18,9 @@ use Rattle.njh_table.specs.NewRoutes.{entries_of_routes}
 use Rattle.njh_stream.specs.Sending.{ready}
 use Rattle.njh_stream.specs.Transmissions.{is_whole}
 use Rattle.njh_command.specs.declared.command.Command.TheVariants as commands
-use Rattle.njh_command.specs.Words.{command_in, file_command, name_in, node_in, reroute_command, says, words}
 use Rattle.njh_command.specs.Commands.{changed_file, is_of_name, may_change, is_sending, with_new_destination}
 use Rattle.njh_command.specs.Commands.{file_in_state}
+use Rattle.njh_command.specs.CommandLaws.{ReroutesNameFields}
 use Rattle.njh_command.specs.Files.{no_file}
 use Rattle.njh_customer.specs.Customer.{with_marks}
 use Rattle.njh_customer.specs.NewRoutes.{entry_with}
@@ -41,74 +32,6 @@ use Rattle.njh_customer.specs.MovingLaws.{FileMoves, RecordsChangeSo}
 use Rattle.njh_customer.proofs.FileListLaws.{from_map, into_map, from_filter}
 use Rattle.njh_customer.proofs.LeavingLaws.{without_files_files}
 use Rattle.njh_customer.proofs.RoutesMoves.{held_so}
-
--- ---- the node of a command has eight bytes
-
-padded_eight : (word : List ℕ) → length word ≤ 8 → length (padded_field word) ≡ 8
-padded_eight word short =
-    let whole : length (padded_field word) ≡ length word + length (replicate {A = ℕ} (8 - length word) 0x40) = length-append word (replicate (8 - length word) 0x40) in
-    let blanks : length (replicate {A = ℕ} (8 - length word) 0x40) ≡ 8 - length word = length-replicate (8 - length word) 0x40 in
-    omega (arith, whole, blanks, short)
-
-abbrev name_where : Bool → Bool → Bool → List ℕ → Result (List ℕ) NameFault
-name_where empty long good word = cond empty (Err Empty) (cond long (Err TooLong) (cond good (Ok (padded_field word)) (Err BadCharacter)))
-
-node_eight : (word node : List ℕ) → node_in word ≡ Some node → length node ≡ 8
-node_eight word node e = at_tests (is_empty word) (nat_lt 8 (length word)) (list_all is_name_byte word) refl e
-  where
-    at_tests : (empty long good : Bool) → nat_lt 8 (length word) ≡ long → result_ok (name_where empty long good word) ≡ Some node → length node ≡ 8
-    at_tests true long good h e = absurd (cc e)
-    at_tests false true good h e = absurd (cc e)
-    at_tests false false false h e = absurd (cc e)
-    at_tests false false true h e =
-        let same : padded_field word ≡ node = cc e in
-        let short : length word ≤ 8 = omega (arith, ltb-false 8 (length word) h) in
-        ap length (sym same) ∙ padded_eight word short
-
-no_reroute : (verb node : List ℕ) (name other : FileName) → file_command verb other ≡ Some (commands.Reroute name node) → length node ≡ 8
-no_reroute verb node name other e = at_verbs (says (codes "HOLD") verb) (says (codes "RELEASE") verb) (says (codes "CANCEL") verb) e
-  where
-    at_verbs :
-        (a b c : Bool)
-        → cond a (Some (commands.Hold other)) (cond b (Some (commands.Release other)) (cond c (Some (commands.Cancel other)) None)) ≡ Some (commands.Reroute name node)
-        → length node ≡ 8
-    at_verbs true b c e = absurd (cc e)
-    at_verbs false true c e = absurd (cc e)
-    at_verbs false false true e = absurd (cc e)
-    at_verbs false false false e = absurd (cc e)
-
-rerouted_eight : (ws : List (List ℕ)) (name : FileName) (node : List ℕ) → command_in ws ≡ Some (commands.Reroute name node) → length node ≡ 8
-rerouted_eight [] name node e = absurd (cc e)
-rerouted_eight (verb ∷ []) name node e = at_verb (says (codes "LIST") verb) e
-  where
-    at_verb : (b : Bool) → cond b (Some commands.List) None ≡ Some (commands.Reroute name node) → length node ≡ 8
-    at_verb true e = absurd (cc e)
-    at_verb false e = absurd (cc e)
-rerouted_eight (verb ∷ word ∷ []) name node e = at_name (name_in word) e
-  where
-    at_name : (o : Option FileName) → option_and_then (file_command verb) o ≡ Some (commands.Reroute name node) → length node ≡ 8
-    at_name None e = absurd (cc e)
-    at_name (Some other) e = no_reroute verb node name other e
-rerouted_eight (verb ∷ word ∷ to ∷ []) name node e = at_name (name_in word) e
-  where
-    at_verb :
-        (b : Bool) (other : FileName) (found : List ℕ) → node_in to ≡ Some found → cond b (Some (commands.Reroute other found)) None ≡ Some (commands.Reroute name node)
-        → length node ≡ 8
-    at_verb true other found at e = let same : found ≡ node = cc e in ap length (sym same) ∙ node_eight to found at
-    at_verb false other found at e = absurd (cc e)
-
-    at_node :
-        (o : Option (List ℕ)) (other : FileName) → node_in to ≡ o → option_and_then (reroute_command verb other) o ≡ Some (commands.Reroute name node)
-        → length node ≡ 8
-    at_node None other at e = absurd (cc e)
-    at_node (Some found) other at e = at_verb (says (codes "REROUTE") verb) other found at e
-
-    at_name :
-        (o : Option FileName) → option_and_then (λ n. option_and_then (reroute_command verb n) (node_in to)) o ≡ Some (commands.Reroute name node)
-        → length node ≡ 8
-    at_name None e = absurd (cc e)
-    at_name (Some other) e = at_node (node_in to) other refl e
-rerouted_eight (verb ∷ word ∷ to ∷ more ∷ others) name node e = absurd (cc e)
 
 -- ---- each file
 
@@ -151,7 +74,8 @@ both_are true true e = absurd (cc e)
 both_are true false e = (refl, refl)
 both_are false b e = absurd (cc e)
 
-module _ (by_records : (kind : Kind) (node : List ℕ) (records : List Stored) → records_to_node kind node None records ≡ with_destination kind node records) where
+module _ (by_records : (kind : Kind) (node : List ℕ) (records : List Stored) → records_to_node kind node None records ≡ with_destination kind node records)
+    (fields : ReroutesNameFields) where
   module _ (entry : CustomerEntry) (l : ℕ) (items : List Item) (x y : Outgoing) (g : WholeFile) where
     was_there : IsOneOf x.files g → FileMoves entry items x g
     was_there one = laws.stays one.0 one.1 one.2 one.3 one.4
@@ -169,7 +93,7 @@ module _ (by_records : (kind : Kind) (node : List ℕ) (records : List Stored) �
         by_test true f found e is =
             let idle = both_are (is_of_name who name f) (is_sending f.state) e in
             laws.rerouted i who name node f at given found idle.0 idle.1 (ap (λ h. h.number) is) (ap (λ h. h.kind) is)
-            (rerouted_eight (words given.nodal.message) name node given.says) (ap (λ h. h.records) is ∙ sym (by_records f.kind node f.records))
+            (fields given.nodal.message name node given.says) (ap (λ h. h.records) is ∙ sym (by_records f.kind node f.records))
         by_test false f found e is = laws.stays f found (ap (λ h. h.number) is) (ap (λ h. h.kind) is) (ap (λ h. h.records) is)
 
         at_change : (f : WholeFile) × Contains x.files f × (g ≡ changed_file (is_of_name who name) (with_new_destination node) f) → FileMoves entry items x g

@@ -5,6 +5,7 @@ use Rattle.std.proofs.lemmas.List.{length-map}
 use Rattle.std.proofs.lemmas.List.Elements.{Contains-append_right}
 use Rattle.std.specs.List.{Contains}
 use Rattle.njh_block.specs.Blocks.{Item}
+use Rattle.njh_command.specs.CommandLaws.{CommandsMoveFilesSo}
 use Rattle.njh_customer.specs.Customer.{Customer}
 use Rattle.njh_customer.specs.Acting.{after_record, ends_session, ended_or, all_acted, acted_where}
 use Rattle.njh_customer.specs.OutgoingFiles.{outgoing}
@@ -48,17 +49,18 @@ one_more l items i c d e there one keeps later = at_move one.moves
 abbrev AreAmong : List Item → List Item → Type 0
 AreAmong some items = (i : Item) → Contains some i → Contains items i
 
-all_acting : (l : ℕ) (items some : List Item) (c : Customer) → AreAmong some items → Acting l items c (all_acted l some c).customer
-all_acting l items [] c among = idle l items c
-all_acting l items (i ∷ is) c among =
-    let there : Contains (i ∷ is) i = (0, omega arith, refl) in
-    let later = all_acting l items is (after_record l i c) (λ j at. among j (Contains-append_right (i ∷ []) is j at)) in
-    at_end (ends_session i) (one_more l items i c (after_record l i c) (all_acted l is (after_record l i c)).customer (among i there) (acts_so l i c) (acted_keeps l i c) later)
-  where
-    at_end : (b : Bool) → Acting l items c (all_acted l is (after_record l i c)).customer → Acting l items c (ended_or b c (all_acted l is (after_record l i c))).customer
-    at_end true acting = idle l items c
-    at_end false acting = acting
+module _ (commands : CommandsMoveFilesSo) where
+  all_acting : (l : ℕ) (items some : List Item) (c : Customer) → AreAmong some items → Acting l items c (all_acted l some c).customer
+  all_acting l items [] c among = idle l items c
+  all_acting l items (i ∷ is) c among =
+      let there : Contains (i ∷ is) i = (0, omega arith, refl) in
+      let later = all_acting l items is (after_record l i c) (λ j at. among j (Contains-append_right (i ∷ []) is j at)) in
+      at_end (ends_session i) (one_more l items i c (after_record l i c) (all_acted l is (after_record l i c)).customer (among i there) (acts_so commands l i c) (acted_keeps l i c) later)
+    where
+      at_end : (b : Bool) → Acting l items c (all_acted l is (after_record l i c)).customer → Acting l items c (ended_or b c (all_acted l is (after_record l i c))).customer
+      at_end true acting = idle l items c
+      at_end false acting = acting
 
-pub acting_where : (b : Bool) (l : ℕ) (items : List Item) (c : Customer) → Acting l items c (acted_where b l items c).customer
-acting_where true l items c = all_acting l items items c (λ i at. at)
-acting_where false l items c = idle l items c
+  pub acting_where : (b : Bool) (l : ℕ) (items : List Item) (c : Customer) → Acting l items c (acted_where b l items c).customer
+  acting_where true l items c = all_acting l items items c (λ i at. at)
+  acting_where false l items c = idle l items c

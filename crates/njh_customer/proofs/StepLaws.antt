@@ -20,10 +20,7 @@ use Rattle.njh_stream.specs.Receiving.{Arrival, received_arrival}
 use Rattle.njh_stream.specs.Sending.{SenderOutcome, after_grant, after_refusal, after_completion}
 use Rattle.njh_stream.specs.declared.sender.Sender.{Sender}
 use Rattle.njh_stream.specs.declared.sender.Sender.TheVariants as sender
-use Rattle.njh_command.specs.declared.command.Command.{Command}
-use Rattle.njh_command.specs.declared.command.Command.TheVariants as commands
-use Rattle.njh_command.specs.Words.{command_of}
-use Rattle.njh_command.specs.Commands.{CommandOutcome, command_outcome, obeyed_where, is_of_name, rerouting}
+use Rattle.njh_command.specs.Commands.{CommandOutcome, message_outcome}
 use Rattle.njh_line.specs.LineTable.{Input}
 use Rattle.njh_line.specs.Lines.{after_input}
 use Rattle.njh_customer.specs.Alone.{accepted_on, goes_up_by, with_raised_line}
@@ -117,49 +114,19 @@ module _ (untied : NothingUnties) where
 
   -- ---- messages
 
-  obeyed_partial : (entry : CustomerEntry) (who : User) (command : Command) (s : CustomerSpool) → (command_outcome entry who command s).spool.partial ≡ s.partial
-  obeyed_partial entry who commands.List s = refl
-  obeyed_partial entry who (commands.Hold name) s = refl
-  obeyed_partial entry who (commands.Release name) s = refl
-  obeyed_partial entry who (commands.Cancel name) s = refl
-  obeyed_partial entry who (commands.Reroute name node) s = at_route (route_of entry node)
-    where
-      at_route : (r : Route) → (rerouting r entry node (is_of_name who name) name s).spool.partial ≡ s.partial
-      at_route Here = refl
-      at_route (Line l) = refl
-      at_route Unknown = refl
-
-  obeyed_quota : (entry : CustomerEntry) (who : User) (command : Command) (s : CustomerSpool) → (command_outcome entry who command s).spool.quota ≡ s.quota
-  obeyed_quota entry who commands.List s = refl
-  obeyed_quota entry who (commands.Hold name) s = refl
-  obeyed_quota entry who (commands.Release name) s = refl
-  obeyed_quota entry who (commands.Cancel name) s = refl
-  obeyed_quota entry who (commands.Reroute name node) s = at_route (route_of entry node)
-    where
-      at_route : (r : Route) → (rerouting r entry node (is_of_name who name) name s).spool.quota ≡ s.quota
-      at_route Here = refl
-      at_route (Line l) = refl
-      at_route Unknown = refl
-
-  outcome_stays : (n : Nodal) (done : CommandOutcome) (c : Customer) → done.spool.partial ≡ c.spool.partial → done.spool.quota ≡ c.spool.quota → IsCoherent c → Stays (with_outcome n done c) c
-  outcome_stays n done c partial quota coherent =
+  outcome_stays : (n : Nodal) (done : CommandOutcome) (c : Customer) → IsCoherent c → Stays (with_outcome n done c) c
+  outcome_stays n done c coherent =
       stays_like (with_outcome n done c) c
       (record {
         entry = refl;
         lines = all_said_shapes c.entry (sender_of n) done.replies (fold without_sending c.lines done.cancelled) ∙ all_given_up_shapes done.cancelled c.lines;
-        partial = partial;
-        quota = quota;
+        partial = refl;
+        quota = refl;
       })
       coherent
 
   command_stays : (n : Nodal) (c : Customer) → IsCoherent c → Stays (after_user_command n c) c
-  command_stays n c coherent = at_command (command_of n.message)
-    where
-      at_command : (o : Option Command) → Stays (with_outcome n (obeyed_where o c.entry (sender_of n) c.spool) c) c
-      at_command None = outcome_stays n (obeyed_where None c.entry (sender_of n) c.spool) c refl refl coherent
-      at_command (Some x) =
-          outcome_stays n (command_outcome c.entry (sender_of n) x c.spool) c (obeyed_partial c.entry (sender_of n) x c.spool)
-          (obeyed_quota c.entry (sender_of n) x c.spool) coherent
+  command_stays n c coherent = outcome_stays n (message_outcome c.entry (sender_of n) n.message c.spool) c coherent
 
   routed_stays : (l : ℕ) (n : Nodal) (bytes : List ℕ) (r : Route) (c : Customer) → IsCoherent c → Stays (message_routed l n bytes r c) c
   routed_stays l n bytes Here c coherent = stays_where (is_user_command n) (after_user_command n c) c c (command_stays n c coherent) (stays c coherent)

@@ -17,7 +17,7 @@ use Rattle.njh_stream.specs.Arrivals.{answer_on}
 use Rattle.njh_stream.specs.Receiving as receiving
 use Rattle.njh_stream.specs.Receiving.{Arrival, Received, received_arrival}
 use Rattle.njh_stream.specs.Sending.{SenderOutcome, after_grant, after_refusal, after_completion}
-use Rattle.njh_command.specs.Commands.{message_outcome, without_file, CommandOutcome}
+use Rattle.njh_command.specs.Commands.{message_outcome, spool_after, without_file, CommandOutcome}
 use Rattle.njh_customer.specs.Customer.{Customer, CustomerLine, line_at, on_line, with_notice, receiver_at}
 use Rattle.njh_customer.specs.Customer.{with_receiver, sender_at, with_sender}
 use Rattle.njh_customer.specs.Waiting.{with_answer_on, with_waiting, with_message_to, all_said, with_notice_to}
@@ -91,7 +91,7 @@ without_sending lines n = map (with_senders_by (without_file n)) lines
 
 abbrev pub with_outcome : Nodal → CommandOutcome → Customer → Customer
 with_outcome n done c = record c {
-  spool = done.spool;
+  spool = spool_after done c.spool;
   lines = all_said c.entry (sender_of n) done.replies (fold without_sending c.lines done.cancelled);
 }
 

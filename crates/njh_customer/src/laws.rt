@@ -12,6 +12,7 @@ ghost use Rattle.njh_customer.specs.MovingLaws.{EventsMoveSo, FilesLeaveSo, File
 ghost use Rattle.njh_customer.specs.MovingLaws.{IdleStreamsTakeFiles, RecordsChangeSo, RoutesDoSo, SignalsDoSo};
 ghost use Rattle.njh_customer.specs.MovingLaws.{StreamsMoveSo, TakesMoveSo};
 
+use njh_command::{commands_move_files_so, reroutes_name_fields};
 use njh_header::redirected_by_records;
 use njh_line::inputs_keep_up;
 use njh_sched::{
@@ -57,6 +58,7 @@ pub fn marks_are_right()
     ensures { MarksAreRight }
 {
     inputs_keep_up();
+    commands_move_files_so();
 }
 
 /// A customer that was just opened is coherent.
@@ -80,6 +82,7 @@ pub fn frames_do_so()
     sources_move_streams_so();
     sources_fill_the_block();
     nothing_where_all_is_suspended();
+    commands_move_files_so();
 }
 
 /// An event, and a step by bytes, move the customer's whole files and its streams from the hub by a few kinds of moves
@@ -114,6 +117,7 @@ pub fn records_change_so()
     ensures { RecordsChangeSo }
 {
     redirected_by_records();
+    reroutes_name_fields();
 }
 
 /// A text that is spoiled or is no block, and a block whose check failed, change no file, no stream and nothing that

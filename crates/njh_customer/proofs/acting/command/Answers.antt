@@ -4,7 +4,7 @@ use Rattle.std.proofs.lemmas.List.{get_or-set_same}
 use Rattle.njh_nmr.specs.Nodal.{sender_of}
 use Rattle.njh_spool.specs.Spools.{spool_at, no_spool}
 use Rattle.njh_table.specs.TableFile.{customer_at, entry_of}
-use Rattle.njh_command.specs.Commands.{CommandOutcome, message_outcome}
+use Rattle.njh_command.specs.Commands.{CommandOutcome, message_outcome, spool_after}
 use Rattle.njh_customer.specs.Acting.{without_sending}
 use Rattle.njh_customer.specs.Customer.{customer_with}
 use Rattle.njh_customer.specs.Waiting.{all_said}
@@ -19,8 +19,8 @@ returns c =
     let done = message_outcome entry (sender_of n) n.message files in
     let same : message_outcome entry (c.origin-node.result, c.user-user.result) c.message.result.now files ≡ done =
     λ i. message_outcome entry (c.origin-node.ensures i, c.user-user.ensures i) (c.message.ensures.value i) files in
-    let spool = c.obey.ensures.spool ∙ ap (λ (o : CommandOutcome). slice_set spools c.args.customer o.spool) same in
-    let files_are = ap (spool_at c.args.customer) spool ∙ get_or-set_same spools c.args.customer done.spool no_spool c.requires.spooled in
+    let spool = c.obey.ensures.spool ∙ ap (λ (o : CommandOutcome). slice_set spools c.args.customer (spool_after o files)) same in
+    let files_are = ap (spool_at c.args.customer) spool ∙ get_or-set_same spools c.args.customer (spool_after done files) no_spool c.requires.spooled in
     let replies = c.obey.ensures.replies ∙ ap (λ (o : CommandOutcome). o.replies) same in
     let cancelled = ap (λ (o : CommandOutcome). fold without_sending c.args.lines.now o.cancelled) same in
     let lines = c.say_all.ensures
