@@ -12,6 +12,13 @@ use njh_header::{destination_place, redirected_by_records};
 use njh_record::{Kind, Record};
 use njh_spool::{Spool, State};
 
+/// Where a file goes.
+#[derive(Clone, Copy, Debug, PartialEq, Eq)]
+struct Redirection {
+    kind: Kind,
+    node: Name,
+}
+
 /// The file at a place goes to another node: its headers say so, and it is Ready where it was Refused.
 pub(crate) fn reroute(node: Name, spool: &mut Spool, customer: u16, index: u32)
     requires range { customer < length spool.old }
@@ -35,17 +42,17 @@ fn redirect(node: Name, spool: &mut Spool, customer: u16, index: u32)
         (file_at index (spool_at customer spool.old))) (spool_at customer spool.old)) }
 {
     let kind = kind_of(spool, customer, index);
+    let to = Redirection { kind, node };
     let mut before = None;
     for n in 0..count_records(spool, customer, index) {
-        before = Some(redirect_record(kind, before, node, spool, customer, index, n));
+        before = Some(redirect_record(&to, before, spool, customer, index, n));
     }
 }
 
 /// The n-th record of the file at a place names another node, where it names one. It gives the record's SRCB.
 fn redirect_record(
-    kind: Kind,
+    to: &Redirection,
     before: Option<u8>,
-    node: Name,
     spool: &mut Spool,
     customer: u16,
     index: u32,
@@ -56,13 +63,14 @@ fn redirect_record(
     requires known { n < length (file_at index (spool_at customer spool.old)).records }
     ensures srcb { result ≡ (stored_at n (file_at index (spool_at customer spool.old)).records).srcb }
     ensures spool { spool.new ≡ slice_set spool.old customer (with_file index
-        (with_records (with_redirected kind before node n (file_at index (spool_at customer spool.old)).records)
+        (with_records (with_redirected to.now.kind before to.now.node n
+        (file_at index (spool_at customer spool.old)).records)
         (file_at index (spool_at customer spool.old))) (spool_at customer spool.old)) }
 {
     let mut record = Record::new();
     let srcb = read_record(spool, customer, index, n, &mut record);
-    if let Some(place) = destination_place(kind, before, srcb, &record) {
-        rewrite_record(spool, customer, index, n, place, node.bytes());
+    if let Some(place) = destination_place(to.kind, before, srcb, &record) {
+        rewrite_record(spool, customer, index, n, place, to.node.bytes());
     }
     srcb
 }

@@ -13,73 +13,71 @@ use crate::command::Command;
 use crate::listing::list_files;
 use crate::replies::Replies;
 use crate::senders::Senders;
-use njh_ebcdic::{FIELD, Name};
+use njh_ebcdic::Name;
 use njh_header::User;
 use njh_spool::Spool;
 use njh_table::{Route, Tables};
 use njh_texts::{MessageText, bad_command, no_files_for, node_unknown, not_found};
 
-/// Does what a message of a user to the hub says, or answers that it is no command. The user is told by node and user
-/// field.
+/// Who says a command.
+#[derive(Clone, Copy, Debug, PartialEq, Eq)]
+pub struct Originator {
+    /// The user, by node and user field.
+    pub who: User,
+    /// The customer on whose line the command came.
+    pub customer: u16,
+}
+
+/// Does what a message of a user to the hub says, or answers that it is no command.
 pub fn obey<S: Senders>(
     message: &[u8],
-    from: Name,
-    user: [u8; FIELD],
-    customer: u16,
+    from: Originator,
     tables: &Tables,
     spool: &mut Spool,
     senders: &mut S,
     replies: &mut Replies,
 )
-    requires known { customer < length tables.now.customers }
-    requires range { customer < length spool.old }
+    requires known { from.customer < length tables.now.customers }
+    requires range { from.customer < length spool.old }
     ensures replies { replies.new
-        ≡ (message_outcome (entry_of (customer_at tables.now customer))
-            (record { node = from; user = user }) message.now
-        (spool_at customer spool.old)).replies }
-    ensures spool { spool.new ≡ slice_set spool.old customer
-        (spool_after (message_outcome (entry_of (customer_at tables.now customer))
-            (record { node = from; user = user }) message.now
-        (spool_at customer spool.old)) (spool_at customer spool.old)) }
+        ≡ (message_outcome (entry_of (customer_at tables.now from.customer)) from.who message.now
+        (spool_at from.customer spool.old)).replies }
+    ensures spool { spool.new ≡ slice_set spool.old from.customer
+        (spool_after (message_outcome (entry_of (customer_at tables.now from.customer)) from.who message.now
+        (spool_at from.customer spool.old)) (spool_at from.customer spool.old)) }
     ensures senders { senders.new ≡ fold (λ x n. S.each x (without_file n)) senders.old
-        (message_outcome (entry_of (customer_at tables.now customer)) (record { node = from; user = user }) message.now
-        (spool_at customer spool.old)).cancelled }
+        (message_outcome (entry_of (customer_at tables.now from.customer)) from.who message.now
+        (spool_at from.customer spool.old)).cancelled }
 {
     match Command::read(message) {
-        Ok(command) => run(
-            command, from, user, customer, tables, spool, senders, replies,
-        ),
+        Ok(command) => run(command, from, tables, spool, senders, replies),
         Err(_) => replies.put_one(bad_command()),
     }
 }
 
 /// Does what a user commands, to the user's own whole files alone, in their order of arrival, and says what is replied.
-/// The user is told by node and user field. A file that is removed while it is being sent is given up by the customer's
-/// streams.
+/// A file that is removed while it is being sent is given up by the customer's streams.
 pub fn run<S: Senders>(
     command: Command,
-    from: Name,
-    user: [u8; FIELD],
-    customer: u16,
+    from: Originator,
     tables: &Tables,
     spool: &mut Spool,
     senders: &mut S,
     replies: &mut Replies,
 )
-    requires known { customer < length tables.now.customers }
-    requires range { customer < length spool.old }
+    requires known { from.customer < length tables.now.customers }
+    requires range { from.customer < length spool.old }
     ensures replies { replies.new
-        ≡ (command_outcome (entry_of (customer_at tables.now customer)) (record { node = from; user = user }) command
-        (spool_at customer spool.old)).replies }
-    ensures spool { spool.new ≡ slice_set spool.old customer
-        (spool_after (command_outcome (entry_of (customer_at tables.now customer))
-            (record { node = from; user = user }) command
-        (spool_at customer spool.old)) (spool_at customer spool.old)) }
+        ≡ (command_outcome (entry_of (customer_at tables.now from.customer)) from.who command
+        (spool_at from.customer spool.old)).replies }
+    ensures spool { spool.new ≡ slice_set spool.old from.customer
+        (spool_after (command_outcome (entry_of (customer_at tables.now from.customer)) from.who command
+        (spool_at from.customer spool.old)) (spool_at from.customer spool.old)) }
     ensures senders { senders.new ≡ fold (λ x n. S.each x (without_file n)) senders.old
-        (command_outcome (entry_of (customer_at tables.now customer)) (record { node = from; user = user }) command
-        (spool_at customer spool.old)).cancelled }
+        (command_outcome (entry_of (customer_at tables.now from.customer)) from.who command
+        (spool_at from.customer spool.old)).cancelled }
 {
-    let who = User { node: from, user };
+    let Originator { who, customer } = from;
     match command {
         Command::List => list_files(who, spool, customer, replies),
         Command::Hold(name) => {

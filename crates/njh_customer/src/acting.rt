@@ -17,7 +17,8 @@ ghost use Rattle.njh_customer.specs.Waiting.{with_message_to, with_waiting};
 
 use crate::customer_lines::CustomerLines;
 use njh_block::{Answer, Block, ControlRcb, Item, Rcb, Stream};
-use njh_command::{Replies, obey};
+use njh_command::{Originator, Replies, obey};
+use njh_header::User;
 use njh_nmr::Nmr;
 use njh_record::Record;
 use njh_spool::Spool;
@@ -262,16 +263,11 @@ fn command(
 {
     let node = message.origin();
     let user = message.user();
-    obey(
-        message.message(),
-        node,
-        user,
+    let from = Originator {
+        who: User { node, user },
         customer,
-        tables,
-        spool,
-        lines,
-        replies,
-    );
+    };
+    obey(message.message(), from, tables, spool, lines, replies);
     lines.say_all(tables.customer(customer), node, user, replies);
 }
 

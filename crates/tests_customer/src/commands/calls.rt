@@ -2,8 +2,9 @@
 
 use crate::Streams;
 use crate::samples::{ACME, Row};
-use njh_command::{Replies, obey};
+use njh_command::{Originator, Replies, obey};
 use njh_ebcdic::{FIELD, Name};
+use njh_header::User;
 use njh_record::{Kind, Record};
 use njh_spool::{FileId, Quota, Spool, SpoolFault, State};
 use njh_stream::Sender;
@@ -89,16 +90,11 @@ pub fn replies<R: Abort>(
     assert!(rt; usize::from(customer) < tables.customers().len());
     assert!(rt; customer < spool.customers());
     let mut replies = Replies::new();
-    obey(
-        message,
-        node,
-        user,
+    let from = Originator {
+        who: User { node, user },
         customer,
-        tables,
-        spool,
-        streams,
-        &mut replies,
-    );
+    };
+    obey(message, from, tables, spool, streams, &mut replies);
     replies
 }
 

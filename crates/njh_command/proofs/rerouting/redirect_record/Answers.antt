@@ -13,9 +13,9 @@ pub returns-in-Some-clause-spool : goal.returns-in-Some-clause-spool
 returns-in-Some-clause-spool c =
     let r : Stored = record { srcb = c.read_record-srcb.result; bytes = c.read_record-srcb.new.into.items } in
     let of : List ℕ → Stored = λ (b : List ℕ). record { srcb = c.read_record-srcb.result; bytes = b } in
-    let e = redirected_here c.args.kind c.args.before c.args.node c.args.n c.in-Some.place
+    let e = redirected_here c.args.to.now.kind c.args.before c.args.to.now.node c.args.n c.in-Some.place
     (file_at c.args.index (spool_at c.args.customer c.args.spool.now)).records r c.read_record-srcb.ensures.record
-    (ap (λ b. destination_place c.args.kind c.args.before (of b)) (sym c.deref.ensures.0) ∙ sym c.destination_place.ensures.place ∙
+    (ap (λ b. destination_place c.args.to.now.kind c.args.before (of b)) (sym c.deref.ensures.0) ∙ sym c.destination_place.ensures.place ∙
     c.in-Some.is) in
     cc (e, c.rewrite_record.ensures, c.read_record-srcb.ensures.same, c.bytes.ensures.same)
 
@@ -30,8 +30,8 @@ returns-in_default-clause-spool c =
     let r : Stored = record { srcb = c.read_record-srcb.result; bytes = c.read_record-srcb.new.into.items } in
     let of : List ℕ → Stored = λ (b : List ℕ). record { srcb = c.read_record-srcb.result; bytes = b } in
     let f : WholeFile = file_at c.args.index (spool_at c.args.customer c.args.spool.now) in
-    let e = redirected_nowhere c.args.kind c.args.before c.args.node c.args.n f.records r c.read_record-srcb.ensures.record
-    (ap (λ b. destination_place c.args.kind c.args.before (of b)) (sym c.deref.ensures.0) ∙ sym c.destination_place.ensures.place ∙
+    let e = redirected_nowhere c.args.to.now.kind c.args.before c.args.to.now.node c.args.n f.records r c.read_record-srcb.ensures.record
+    (ap (λ b. destination_place c.args.to.now.kind c.args.before (of b)) (sym c.deref.ensures.0) ∙ sym c.destination_place.ensures.place ∙
     c.in_default.is) in
     c.read_record-srcb.ensures.same
     ∙ unmoved c.args.spool.now c.args.customer
