@@ -2,8 +2,8 @@
 
 ghost use Rattle.std.specs.Prelude.{◌≡◌, ◌<◌, fold, length, slice_set};
 ghost use Rattle.njh_spool.specs.Spools.{spool_at};
-ghost use Rattle.njh_command.specs.code.Changes.{numbers_where, without_where};
-ghost use Rattle.njh_command.specs.Commands.{cancelling, is_of_name, count, is_busy, spool_after, without_file};
+ghost use Rattle.njh_command.specs.code.Changes.{is_chosen, numbers_where, without_where};
+ghost use Rattle.njh_command.specs.Commands.{cancelling, count, is_busy, spool_after, without_file};
 ghost use Rattle.njh_command.specs.Files.{file_at};
 
 use crate::changing::{Standing, judge};
@@ -24,14 +24,12 @@ pub(crate) fn cancel_files<S: Senders>(
 )
     requires { customer < length spool.old }
     ensures replies { replies.new
-        ≡ (cancelling (is_of_name choice.now.who choice.now.name) choice.now.name
-        (spool_at customer spool.old)).replies }
+        ≡ (cancelling (is_chosen choice.now) choice.now.name (spool_at customer spool.old)).replies }
     ensures spool { spool.new ≡ slice_set spool.old customer
-        (spool_after (cancelling (is_of_name choice.now.who choice.now.name) choice.now.name
-        (spool_at customer spool.old)) (spool_at customer spool.old)) }
+        (spool_after (cancelling (is_chosen choice.now) choice.now.name (spool_at customer spool.old))
+        (spool_at customer spool.old)) }
     ensures senders { senders.new ≡ fold (λ x n. S.each x (without_file n)) senders.old
-        (cancelling (is_of_name choice.now.who choice.now.name) choice.now.name
-        (spool_at customer spool.old)).cancelled }
+        (cancelling (is_chosen choice.now) choice.now.name (spool_at customer spool.old)).cancelled }
 {
     match cancel_each(choice, spool, customer, senders) {
         0 => replies.put_one(not_found(choice.name)),
@@ -47,13 +45,12 @@ fn cancel_each<S: Senders>(
     senders: &mut S,
 ) -> u32
     requires { customer < length spool.old }
-    ensures count { result ≡ count (is_of_name choice.now.who choice.now.name) (spool_at customer spool.old) }
+    ensures count { result ≡ count (is_chosen choice.now) (spool_at customer spool.old) }
     ensures spool { spool.new ≡ slice_set spool.old customer
-        (spool_after (cancelling (is_of_name choice.now.who choice.now.name) choice.now.name
-        (spool_at customer spool.old)) (spool_at customer spool.old)) }
+        (spool_after (cancelling (is_chosen choice.now) choice.now.name (spool_at customer spool.old))
+        (spool_at customer spool.old)) }
     ensures senders { senders.new ≡ fold (λ x n. S.each x (without_file n)) senders.old
-        (cancelling (is_of_name choice.now.who choice.now.name) choice.now.name
-        (spool_at customer spool.old)).cancelled }
+        (cancelling (is_chosen choice.now) choice.now.name (spool_at customer spool.old)).cancelled }
 {
     // A file that is removed leaves its place to the one behind it.
     let mut index = 0;
@@ -78,13 +75,12 @@ fn cancel_at<S: Senders>(
 ) -> bool
     requires range { customer < length spool.old }
     requires within { index < length (spool_at customer spool.old).whole }
-    ensures removed { result ≡ is_of_name choice.now.who choice.now.name (file_at index (spool_at customer spool.old)) }
+    ensures removed { result ≡ is_chosen choice.now (file_at index (spool_at customer spool.old)) }
     ensures spool { spool.new ≡ slice_set spool.old customer
-        (without_where (is_of_name choice.now.who choice.now.name (file_at index (spool_at customer spool.old))) index
+        (without_where (is_chosen choice.now (file_at index (spool_at customer spool.old))) index
         (spool_at customer spool.old)) }
     ensures senders { senders.new ≡ fold (λ x n. S.each x (without_file n)) senders.old
-        (numbers_where (is_busy (is_of_name choice.now.who choice.now.name)
-        (file_at index (spool_at customer spool.old)))
+        (numbers_where (is_busy (is_chosen choice.now) (file_at index (spool_at customer spool.old)))
         (file_at index (spool_at customer spool.old))) }
 {
     match judge(choice, spool, customer, index) {

@@ -2,9 +2,8 @@
 
 ghost use Rattle.std.specs.Prelude.{◌≡◌, ◌<◌, length, slice_set};
 ghost use Rattle.njh_spool.specs.Spools.{spool_at};
-ghost use Rattle.njh_command.specs.code.Changes.{change_by, standing_of, change_text};
-ghost use Rattle.njh_command.specs.Commands.{change_replies, with_changes, changed_file, is_of_name, count, is_busy};
-ghost use Rattle.njh_command.specs.Commands.{may_change};
+ghost use Rattle.njh_command.specs.code.Changes.{change_by, change_text, is_chosen, standing_of};
+ghost use Rattle.njh_command.specs.Commands.{change_replies, with_changes, changed_file, count, is_busy, may_change};
 ghost use Rattle.njh_command.specs.Files.{file_at, with_file};
 
 use crate::choice::{Choice, is_chosen};
@@ -55,11 +54,10 @@ pub(crate) fn change_files(
 )
     requires { customer < length spool.old }
     ensures replies { replies.new ≡ change_replies (change_text change.now choice.now.name) choice.now.name
-        (count (may_change (is_of_name choice.now.who choice.now.name)) (spool_at customer spool.old))
-        (count (is_busy (is_of_name choice.now.who choice.now.name)) (spool_at customer spool.old)) }
+        (count (may_change (is_chosen choice.now)) (spool_at customer spool.old))
+        (count (is_busy (is_chosen choice.now)) (spool_at customer spool.old)) }
     ensures spool { spool.new ≡ slice_set spool.old customer
-        (with_changes (is_of_name choice.now.who choice.now.name) (change_by change.now)
-        (spool_at customer spool.old)) }
+        (with_changes (is_chosen choice.now) (change_by change.now) (spool_at customer spool.old)) }
 {
     let counts = change_each(change, choice, spool, customer);
     reply_to(change, choice.name, counts, replies);
@@ -91,13 +89,10 @@ fn done(change: &Change, name: FileName, count: u32) -> MessageText
 /// Changes the files in order.
 fn change_each(change: &Change, choice: &Choice, spool: &mut Spool, customer: u16) -> Counts
     requires { customer < length spool.old }
-    ensures idle { result.idle
-        ≡ count (may_change (is_of_name choice.now.who choice.now.name)) (spool_at customer spool.old) }
-    ensures busy { result.busy
-        ≡ count (is_busy (is_of_name choice.now.who choice.now.name)) (spool_at customer spool.old) }
+    ensures idle { result.idle ≡ count (may_change (is_chosen choice.now)) (spool_at customer spool.old) }
+    ensures busy { result.busy ≡ count (is_busy (is_chosen choice.now)) (spool_at customer spool.old) }
     ensures spool { spool.new ≡ slice_set spool.old customer
-        (with_changes (is_of_name choice.now.who choice.now.name) (change_by change.now)
-        (spool_at customer spool.old)) }
+        (with_changes (is_chosen choice.now) (change_by change.now) (spool_at customer spool.old)) }
 {
     let mut idle = 0;
     let mut busy = 0;
@@ -121,11 +116,9 @@ fn change_at(
 ) -> Standing
     requires range { customer < length spool.old }
     requires within { index < length (spool_at customer spool.old).whole }
-    ensures standing { result ≡ standing_of (is_of_name choice.now.who choice.now.name)
-        (file_at index (spool_at customer spool.old)) }
+    ensures standing { result ≡ standing_of (is_chosen choice.now) (file_at index (spool_at customer spool.old)) }
     ensures spool { spool.new ≡ slice_set spool.old customer (with_file index
-        (changed_file (is_of_name choice.now.who choice.now.name) (change_by change.now)
-        (file_at index (spool_at customer spool.old)))
+        (changed_file (is_chosen choice.now) (change_by change.now) (file_at index (spool_at customer spool.old)))
         (spool_at customer spool.old)) }
 {
     let standing = judge(choice, spool, customer, index);
@@ -140,8 +133,7 @@ fn change_at(
 pub(crate) fn judge(choice: &Choice, spool: &Spool, customer: u16, index: u32) -> Standing
     requires range { customer < length spool.now }
     requires within { index < length (spool_at customer spool.now).whole }
-    ensures { result ≡ standing_of (is_of_name choice.now.who choice.now.name)
-        (file_at index (spool_at customer spool.now)) }
+    ensures { result ≡ standing_of (is_chosen choice.now) (file_at index (spool_at customer spool.now)) }
 {
     if !is_chosen(choice, spool, customer, index) {
         return Standing::Other;

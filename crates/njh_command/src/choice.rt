@@ -2,7 +2,8 @@
 
 ghost use Rattle.std.specs.Prelude.{◌≡◌, ◌<◌, length};
 ghost use Rattle.njh_spool.specs.Spools.{spool_at};
-ghost use Rattle.njh_command.specs.Commands.{is_of_name, is_called, is_owner};
+ghost use Rattle.njh_command.specs.Commands.{is_called, is_owner};
+ghost use Rattle.njh_command.specs.code.Changes.{is_chosen};
 ghost use Rattle.njh_command.specs.Files.{file_at};
 
 use crate::files::summary_of;
@@ -22,7 +23,7 @@ pub(crate) struct Choice {
 pub(crate) fn is_chosen(choice: &Choice, spool: &Spool, customer: u16, index: u32) -> bool
     requires range { customer < length spool.now }
     requires within { index < length (spool_at customer spool.now).whole }
-    ensures { result ≡ is_of_name choice.now.who choice.now.name (file_at index (spool_at customer spool.now)) }
+    ensures { result ≡ is_chosen choice.now (file_at index (spool_at customer spool.now)) }
 {
     let headers = summary_of(spool, customer, index).headers;
     is_called(choice.name, &headers) && is_owner(choice.who, &headers)

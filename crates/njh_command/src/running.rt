@@ -3,7 +3,8 @@
 ghost use Rattle.std.specs.Prelude.{◌≡◌, ◌<◌, ◌∷◌, [], fold, length, slice_set};
 ghost use Rattle.njh_spool.specs.Spools.{spool_at};
 ghost use Rattle.njh_table.specs.TableFile.{customer_at, entry_of};
-ghost use Rattle.njh_command.specs.Commands.{is_of_name, message_outcome, count, command_outcome, rerouted_by};
+ghost use Rattle.njh_command.specs.code.Changes.{is_chosen};
+ghost use Rattle.njh_command.specs.Commands.{message_outcome, count, command_outcome, rerouted_by};
 ghost use Rattle.njh_command.specs.Commands.{where_found, spool_after, without_file};
 
 use crate::cancelling::cancel_files;
@@ -146,8 +147,7 @@ fn reroute_files(
 fn refused(choice: &Choice, text: MessageText, spool: &Spool, customer: u16, replies: &mut Replies)
     requires { customer < length spool.now }
     ensures { replies.new
-        ≡ where_found (count (is_of_name choice.now.who choice.now.name) (spool_at customer spool.now))
-        choice.now.name (text.items ∷ []) }
+        ≡ where_found (count (is_chosen choice.now) (spool_at customer spool.now)) choice.now.name (text.items ∷ []) }
 {
     match count_files(choice, spool, customer) {
         0 => replies.put_one(not_found(choice.name)),
@@ -158,7 +158,7 @@ fn refused(choice: &Choice, text: MessageText, spool: &Spool, customer: u16, rep
 /// How many files there are of them.
 fn count_files(choice: &Choice, spool: &Spool, customer: u16) -> u32
     requires { customer < length spool.now }
-    ensures { result ≡ count (is_of_name choice.now.who choice.now.name) (spool_at customer spool.now) }
+    ensures { result ≡ count (is_chosen choice.now) (spool_at customer spool.now) }
 {
     let mut count = 0;
     for index in 0..spool.files(customer) {

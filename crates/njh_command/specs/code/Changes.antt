@@ -1,4 +1,4 @@
--- What HOLD, RELEASE and REROUTE make of a file, and what they say of it.
+-- Which files a command is for, what HOLD, RELEASE and REROUTE make of a file, and what they say of it.
 use Rattle.std.specs.Prelude.{ℕ, Bool, true, false, List, [], ◌∷◌}
 use Rattle.njh_header.specs.FileNames.{FileName}
 use Rattle.njh_spool.specs.declared.State.TheVariants.{Ready, Held}
@@ -7,9 +7,13 @@ use Rattle.njh_command.specs.declared.changing.Change.{Change}
 use Rattle.njh_command.specs.declared.changing.Change.TheVariants.{Hold, Release, Reroute}
 use Rattle.njh_command.specs.declared.changing.Standing.{Standing}
 use Rattle.njh_command.specs.declared.changing.Standing.TheVariants.{Other, Busy, Idle}
-use Rattle.njh_command.specs.Commands.{is_sending, with_new_destination, file_in_state}
+use Rattle.njh_command.specs.declared.choice.Choice.{Choice}
+use Rattle.njh_command.specs.Commands.{is_of_name, is_sending, with_new_destination, file_in_state}
 use Rattle.njh_command.specs.Files.{without_at}
 use Rattle.njh_texts.specs.Texts.{held_text, released_text, rerouted_to}
+
+abbrev pub is_chosen : Choice → WholeFile → Bool
+is_chosen choice = is_of_name choice.who choice.name
 
 abbrev pub change_by : Change → WholeFile → WholeFile
 change_by Hold f = file_in_state Held f
