@@ -1,6 +1,8 @@
 pub mod ProgressLaws
+pub mod UnreadLaws
 pub mod ReceivingLaws
 pub mod StoringLaws
+pub mod ClassLaws
 pub mod AgreesLaws
 pub mod EndingLaws
 pub mod RoutingLaws

@@ -19,7 +19,10 @@ use Rattle.njh_stream.specs.code.Verdicts.{IsAfter}
 use Rattle.njh_stream.specs.SpoolFiles.{records_in}
 use Rattle.njh_stream.specs.Transmissions.{is_whole}
 use Rattle.njh_stream.specs.Receiving.{progress_of, placement, last_srcb, received_end, closed_by, received_record}
-use Rattle.njh_stream.specs.Receiving.{received_open, received_request, Data}
+use Rattle.njh_stream.specs.Receiving.{received_arrival, received_nothing, received_open, received_request, without_open}
+use Rattle.njh_stream.specs.Receiving.{Abort, Data, Request}
+use Rattle.njh_stream.specs.declared.receiver.Receiver.{Receiver}
+use Rattle.njh_stream.specs.declared.receiver.Receiver.TheVariants.{Idle, Open, Draining}
 use Rattle.njh_stream.specs.code.Agreement.{AgreesWith, ends_whole}
 use Rattle.njh_stream.proofs.ProgressLaws.{ends_by_last, all_job_headers}
 
@@ -108,6 +111,21 @@ record_stored entry l kind n srcb [] s some = absurd (some refl)
 record_stored entry l kind n srcb (b ∷ bytes) s some = refl
 
 -- ---- a request while a file is open
+
+-- what comes of the file before
+pub request_cuts :
+    (entry : CustomerEntry) (l : ℕ) (kind : Kind) (receiver : Receiver) (s : CustomerSpool)
+    → received_request kind (without_open receiver s) ≡ received_arrival entry l kind receiver Request s
+request_cuts entry l kind Idle s = refl
+request_cuts entry l kind (Open n progress) s = refl
+request_cuts entry l kind Draining s = refl
+
+pub abort_cuts :
+    (entry : CustomerEntry) (l : ℕ) (kind : Kind) (receiver : Receiver) (s : CustomerSpool)
+    → received_nothing Idle (without_open receiver s) ≡ received_arrival entry l kind receiver Abort s
+abort_cuts entry l kind Idle s = refl
+abort_cuts entry l kind (Open n progress) s = refl
+abort_cuts entry l kind Draining s = refl
 
 -- a file that begins after another was given up
 pub begun_after :

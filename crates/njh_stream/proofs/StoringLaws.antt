@@ -1,5 +1,5 @@
 -- A record for an open file, by the verdict on it.
-use Rattle.std.proofs.Common.{◌≡◌, ℕ, Bool, true, false, List, [], ◌∷◌, ◌++◌, Option, Result, Ok, Err, MatchOption}
+use Rattle.std.proofs.Common.{◌≡◌, ℕ, Bool, true, false, List, [], ◌∷◌, ◌++◌, Option, Some, Result, Ok, Err, MatchOption}
 use Rattle.std.proofs.Common.{refl, sym, ap, ◌∙◌}
 use Rattle.std.specs.Prelude.{IsOk}
 use Rattle.std.specs.Option.{option_map, option_or}
@@ -12,9 +12,11 @@ use Rattle.njh_stream.specs.declared.receiver.Progress.{Progress}
 use Rattle.njh_spool.specs.Spools.{fault_unless}
 use Rattle.njh_spool.specs.declared.SpoolFault.{SpoolFault}
 use Rattle.njh_spool.specs.declared.SpoolFault.TheVariants.{NoSuchFile, QuotaFull}
-use Rattle.njh_stream.specs.declared.receiver.Progress.TheVariants.{Placed}
-use Rattle.njh_stream.specs.code.Verdicts.{appended_where, judged_placed}
-use Rattle.njh_stream.proofs.ProgressLaws.{placed_judged, placed_stays}
+use Rattle.njh_stream.specs.declared.coming.ComingFile.{ComingFile}
+use Rattle.njh_stream.specs.code.Classes.{unread_progress, IsKept}
+use Rattle.njh_stream.specs.code.Verdicts.{appended_where}
+use Rattle.njh_stream.proofs.UnreadLaws.{unread_taken}
+use Rattle.njh_stream.proofs.ReceivingLaws.{progress_in}
 use Rattle.njh_stream.specs.Transmissions.{Taken, Cancelled, verdict_of, with_room}
 use Rattle.njh_stream.specs.Receiving.{received_record, stored_by, received_cancelling, notice_of, progress_of}
 
@@ -50,17 +52,16 @@ stored_taken entry l kind n r s earlier progress e h progress_is =
     by_room true = ap (λ p. appended_where true n p (job_header_of (earlier ++ r ∷ [])) r s) progress_is
     by_room false = refl
 
--- a record of a placed file that is taken unread, and for which there is room
+-- a record that is stored as it is
 pub stored_unread :
-    (entry : CustomerEntry) (l : ℕ) (kind : Kind) (n : ℕ) (r : Stored) (s : CustomerSpool) (node : List ℕ) (last : ℕ)
-    → Placed node last ≡ progress_of kind (partial_records n s) → judged_placed kind node last r.srcb r.bytes ≡ Taken
-    → has_room_for n r s ≡ true
-    → appended_where true n (Placed node r.srcb) (job_header_of (partial_records n s ++ r ∷ [])) r s ≡ received_record entry l kind n r s
-stored_unread entry l kind n r s node last kept taken room =
-    ap (λ b. appended_where b n (Placed node r.srcb) (job_header_of (partial_records n s ++ r ∷ [])) r s) (sym room)
-    ∙ stored_taken entry l kind n r s (partial_records n s) (Placed node r.srcb) refl
-    (sym taken ∙ sym (placed_judged entry l kind (partial_records n s) r node last kept))
-    (placed_stays kind (partial_records n s) r node last kept)
+    (entry : CustomerEntry) (l : ℕ) (file : ComingFile) (r : Stored) (s : CustomerSpool) (earlier : List Stored) (progress : Progress)
+    → earlier ≡ partial_records file.number s → IsKept file s → unread_progress file.kind file.progress r.srcb ≡ Some progress
+    → appended_where (has_room_for file.number r s) file.number progress (job_header_of (earlier ++ r ∷ [])) r s
+    ≡ received_record entry l file.kind file.number r s
+stored_unread entry l file r s earlier progress e kept unread =
+    let taken = unread_taken entry l file.kind earlier r file.progress progress
+    (progress_in file.kind file.progress file.number s kept ∙ ap (progress_of file.kind) (sym e)) unread in
+    stored_taken entry l file.kind file.number r s earlier progress e taken.0 taken.1
 
 -- what was appended had room
 pub had_room :

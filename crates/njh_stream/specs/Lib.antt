@@ -4,6 +4,7 @@ pub mod Sending
 pub mod SpoolFiles
 pub mod Holding
 pub mod Arrivals
+pub mod Steps
 pub mod Outcomes
 pub mod Following
 pub mod Streams

@@ -3,12 +3,14 @@
 #![tactic(auto)]
 
 mod arrival;
+mod coming;
 mod ending;
 mod holding;
 mod judging;
 mod laws;
 mod notice;
 mod receiver;
+mod record_class;
 mod routing;
 mod sender;
 mod spool_file;

@@ -1,29 +1,31 @@
 //! Streams to the hub.
 
-ghost use Rattle.std.specs.Prelude.{◌≡◌, ℕ, ◌<◌, ◌≤◌, length, slice_set, MatchOption, None, Some};
+ghost use Rattle.std.specs.Prelude.{◌≡◌, ℕ, ◌<◌, ◌≤◌, length, slice_set, None, Some};
 ghost use Rattle.std.specs.Option.{option_map};
-ghost use Rattle.njh_block.specs.Blocks.{rcb_of};
 ghost use Rattle.njh_block.specs.Codes.{kind_of};
 ghost use Rattle.njh_record.specs.declared.Kind.{Kind};
-ghost use Rattle.njh_spool.specs.CustomerSpool.{partial_numbered};
 ghost use Rattle.njh_spool.specs.Spools.{spool_at};
 ghost use Rattle.njh_table.specs.Entries.{CustomerEntry};
-ghost use Rattle.njh_table.specs.TableFile.{customer_at, entry_of};
+ghost use Rattle.njh_table.specs.TableFile.{entry_of};
 ghost use Rattle.njh_stream.specs.Arrivals.{answer_on, arrival_of, received_on, IsShort};
-ghost use Rattle.njh_stream.specs.code.Verdicts.{IsAfter};
-ghost use Rattle.njh_stream.specs.Receiving.{received_end, received_arrival, received_draining, received_idle};
-ghost use Rattle.njh_stream.specs.Receiving.{received_open, received_request, without_open, Data};
-ghost use Rattle.njh_stream.specs.code.Agreement.{Agrees, AgreesWith, ends_whole};
+ghost use Rattle.njh_stream.specs.Receiving.{received_arrival, received_end, received_request, without_open};
+ghost use Rattle.njh_stream.specs.Receiving.{Data, Long};
+ghost use Rattle.njh_stream.specs.Steps.{IsStepOf};
+ghost use Rattle.njh_stream.specs.code.Agreement.{Agrees, ends_whole};
+ghost use Rattle.njh_stream.specs.code.Classes.{IsKept};
+ghost use Rattle.njh_stream.specs.code.Verdicts.{IsAfter, IsUnread};
 
 use crate::arrival::Arrival;
+use crate::coming::{ComingFile, Origin, StreamRecord};
 use crate::notice::Notice;
-use crate::storing::{cancel, store, store_unread};
+use crate::record_class::{RecordClass, class_of};
+use crate::storing::{append, cancel, store, store_unread};
 use njh_block::{Answer, ControlRcb, Stream};
 use njh_ebcdic::FIELD;
 use njh_header::srcb;
 use njh_record::Kind;
 use njh_spool::{FileId, Spool, next_number_is_least};
-use njh_table::{LineId, NamedCustomer, Tables};
+use njh_table::{LineId, Tables};
 
 /// How far a file that comes in has got.
 #[derive(Clone, Copy, Debug, PartialEq, Eq)]
@@ -129,94 +131,44 @@ impl Receiver {
         requires spooled { id.customer < length spool.old }
         requires short { IsShort (arrival_of arrival) }
         requires agrees { Agrees (kind_of stream) self.old (spool_at id.customer spool.old) }
-        ensures receiver { self.new
-            ≡ (received_on tables.now spool.old id stream self.old (arrival_of arrival.entry)).receiver }
-        ensures answer { result.answer
-            ≡ option_map (answer_on stream) (received_on tables.now spool.old id stream self.old
-            (arrival_of arrival.entry)).answer }
-        ensures notice { result.notice
-            ≡ (received_on tables.now spool.old id stream self.old (arrival_of arrival.entry)).notice }
-        ensures spool { spool.new ≡ slice_set spool.old id.customer
-            (received_on tables.now spool.old id stream self.old (arrival_of arrival.entry)).spool }
-        ensures agrees { Agrees (kind_of stream) self.new (spool_at id.customer spool.new) }
-    {
-        match arrival {
-            Arrival::Record { srcb, bytes } => {
-                self.take_record(srcb, bytes, stream, id, tables, spool)
-            }
-            Arrival::Request | Arrival::TooLong | Arrival::Abort => {
-                self.take(arrival, stream, id, tables, spool)
-            }
-        }
-    }
-
-    /// As `step`, of a record.
-    fn take_record(
-        &mut self,
-        srcb: u8,
-        bytes: &[u8],
-        stream: Stream,
-        id: LineId,
-        tables: &Tables,
-        spool: &mut Spool,
-    ) -> Step
-        requires known { id.customer < length tables.now.customers }
-        requires spooled { id.customer < length spool.old }
-        requires short { length bytes.now ≤ 256 }
-        requires agrees { Agrees (kind_of stream) self.old (spool_at id.customer spool.old) }
-        ensures receiver { self.new
-            ≡ (received_on tables.now spool.old id stream self.old (Data srcb bytes.now)).receiver }
-        ensures answer { result.answer
-            ≡ option_map (answer_on stream) (received_on tables.now spool.old id stream self.old
-            (Data srcb bytes.now)).answer }
-        ensures notice { result.notice
-            ≡ (received_on tables.now spool.old id stream self.old (Data srcb bytes.now)).notice }
-        ensures spool { spool.new ≡ slice_set spool.old id.customer
-            (received_on tables.now spool.old id stream self.old (Data srcb bytes.now)).spool }
+        ensures step { IsStepOf (received_on tables.now spool.old id stream self.old (arrival_of arrival.entry))
+            stream id.customer spool.old spool.new self.new result }
         ensures agrees { Agrees (kind_of stream) self.new (spool_at id.customer spool.new) }
     {
         next_number_is_least();
-        let was = *self;
-        match receive_unread(was, srcb, bytes, stream.kind(), id.customer, spool) {
-            Some(receiver) => {
-                *self = receiver;
+        let receiver = *self;
+        match receive_unread(receiver, &arrival, stream.kind(), id.customer, spool) {
+            Some(after) => {
+                *self = after;
                 Step {
                     answer: None,
                     notice: None,
                 }
             }
-            None => self.take(Arrival::Record { srcb, bytes }, stream, id, tables, spool),
+            None => {
+                let customer = tables.customer(id.customer);
+                self.take(arrival, stream, &Origin { id, customer }, spool)
+            }
         }
     }
 
-    /// As `step`, of any arrival.
+    /// As `step`, with room for a notice.
     fn take(
         &mut self,
         arrival: Arrival<'_>,
         stream: Stream,
-        id: LineId,
-        tables: &Tables,
+        from: &Origin<'_>,
         spool: &mut Spool,
     ) -> Step
-        requires known { id.customer < length tables.now.customers }
-        requires spooled { id.customer < length spool.old }
+        requires spooled { from.now.id.customer < length spool.old }
         requires short { IsShort (arrival_of arrival) }
-        requires agrees { Agrees (kind_of stream) self.old (spool_at id.customer spool.old) }
-        ensures receiver { self.new
-            ≡ (received_on tables.now spool.old id stream self.old (arrival_of arrival.entry)).receiver }
-        ensures answer { result.answer
-            ≡ option_map (answer_on stream) (received_on tables.now spool.old id stream self.old
-            (arrival_of arrival.entry)).answer }
-        ensures notice { result.notice
-            ≡ (received_on tables.now spool.old id stream self.old (arrival_of arrival.entry)).notice }
-        ensures spool { spool.new ≡ slice_set spool.old id.customer
-            (received_on tables.now spool.old id stream self.old (arrival_of arrival.entry)).spool }
-        ensures agrees { Agrees (kind_of stream) self.new (spool_at id.customer spool.new) }
+        requires agrees { Agrees (kind_of stream) self.old (spool_at from.now.id.customer spool.old) }
+        ensures { IsStepOf (received_arrival (entry_of from.now.customer.now) from.now.id.number (kind_of stream)
+            self.old (arrival_of arrival.entry) (spool_at from.now.id.customer spool.old))
+            stream from.now.id.customer spool.old spool.new self.new result }
     {
-        next_number_is_least();
-        let was = *self;
-        let entry = tables.customer(id.customer);
-        let after = receive(was, arrival, stream.kind(), id, entry, spool);
+        let receiver = *self;
+        let after = receive(receiver, arrival, stream.kind(), from, spool);
         *self = after.receiver;
         Step {
             answer: answer_of(after.answer, stream),
@@ -232,14 +184,22 @@ impl Receiver {
         ensures receiver { self.new ≡ Receiver.Idle }
         ensures spool { spool.new ≡ slice_set spool.old customer (without_open self.old (spool_at customer spool.old)) }
     {
-        let was = *self;
-        match was {
-            Receiver::Open { file, .. } => {
-                spool.abandon(customer, file).ok();
-            }
-            Receiver::Idle | Receiver::Draining => {}
-        }
+        let receiver = *self;
+        give_up(receiver, customer, spool);
         *self = Receiver::Idle;
+    }
+}
+
+/// The file of a stream that is open is given up.
+fn give_up(receiver: Receiver, customer: u16, spool: &mut Spool)
+    requires { customer < length spool.old }
+    ensures { spool.new ≡ slice_set spool.old customer (without_open receiver (spool_at customer spool.old)) }
+{
+    match receiver {
+        Receiver::Open { file, .. } => {
+            spool.abandon(customer, file).ok();
+        }
+        Receiver::Idle | Receiver::Draining => {}
     }
 }
 
@@ -256,41 +216,27 @@ fn answer_of(answer: Option<ControlRcb>, stream: Stream) -> Option<Answer>
     }
 }
 
-/// A record that goes by, or that is stored without a look at its bytes: what the stream is about then. Nothing is
-/// answered, and no room for a notice is made and moved. Else none, and nothing is stored.
+/// A record of which is known, without a look at its bytes, what it does: what the stream is about then. Else none, and
+/// nothing is done.
 fn receive_unread(
     receiver: Receiver,
-    srcb: u8,
-    bytes: &[u8],
+    arrival: &Arrival<'_>,
     kind: Kind,
     customer: u16,
     spool: &mut Spool,
 ) -> Option<Receiver>
     requires spooled { customer < length spool.old }
-    requires short { length bytes.now ≤ 256 }
+    requires short { IsShort (arrival_of arrival.now) }
     requires agrees { Agrees kind receiver (spool_at customer spool.old) }
-    ensures { MatchOption result (spool.new ≡ spool.old) (λ after. (entry : CustomerEntry) (l : ℕ)
-        → IsAfter (record { receiver = after; answer = None; notice = None }) spool.new spool.old customer
-        (received_arrival entry l kind receiver (Data srcb bytes.now) (spool_at customer spool.old))) }
+    ensures { IsUnread result spool.new spool.old customer (λ entry l. received_arrival entry l kind receiver
+        (arrival_of arrival.now) (spool_at customer spool.old)) }
 {
-    match receiver {
-        Receiver::Open { file, progress } => {
-            if bytes.is_empty() {
-                return None;
-            }
-            match store_unread(customer, kind, file, progress, srcb, bytes, spool) {
-                Some(progress) => Some(Receiver::Open { file, progress }),
-                None => None,
-            }
+    match *arrival {
+        Arrival::Record { srcb, bytes } => {
+            let record = StreamRecord { srcb, bytes };
+            store_unread(receiver, &record, kind, customer, spool)
         }
-        Receiver::Idle => Some(Receiver::Idle),
-        Receiver::Draining => {
-            if bytes.is_empty() {
-                Some(Receiver::Idle)
-            } else {
-                Some(Receiver::Draining)
-            }
-        }
+        Arrival::Request | Arrival::TooLong | Arrival::Abort => None,
     }
 }
 
@@ -299,103 +245,70 @@ fn receive(
     receiver: Receiver,
     arrival: Arrival<'_>,
     kind: Kind,
-    id: LineId,
-    entry: &NamedCustomer,
+    from: &Origin<'_>,
     spool: &mut Spool,
 ) -> After
-    requires spooled { id.customer < length spool.old }
+    requires spooled { from.now.id.customer < length spool.old }
     requires short { IsShort (arrival_of arrival) }
-    requires agrees { Agrees kind receiver (spool_at id.customer spool.old) }
-    ensures { IsAfter result spool.new spool.old id.customer
-        (received_arrival (entry_of entry.now) id.number kind receiver (arrival_of arrival.entry)
-        (spool_at id.customer spool.old)) }
+    requires agrees { Agrees kind receiver (spool_at from.now.id.customer spool.old) }
+    ensures { IsAfter result spool.new spool.old from.now.id.customer
+        (received_arrival (entry_of from.now.customer.now) from.now.id.number kind receiver
+        (arrival_of arrival.entry) (spool_at from.now.id.customer spool.old)) }
 {
-    match receiver {
-        Receiver::Idle => receive_idle(arrival, kind, id.customer, spool),
-        Receiver::Draining => receive_draining(arrival, kind, id.customer, spool),
-        Receiver::Open { file, progress } => match arrival {
-            Arrival::Request => {
-                spool.abandon(id.customer, file).ok();
-                begin(id.customer, kind, spool)
-            }
-            Arrival::Record { srcb, bytes } => {
-                receive_record(id, entry, kind, file, progress, srcb, bytes, spool)
-            }
-            Arrival::TooLong => cancel(id.customer, file, None, None, spool),
-            Arrival::Abort => {
-                spool.abandon(id.customer, file).ok();
-                After::silent(Receiver::Idle)
-            }
-        },
-    }
-}
-
-/// An idle stream hears requests alone.
-fn receive_idle(arrival: Arrival<'_>, kind: Kind, customer: u16, spool: &mut Spool) -> After
-    requires { customer < length spool.old }
-    ensures { IsAfter result spool.new spool.old customer
-        (received_idle kind (arrival_of arrival.entry) (spool_at customer spool.old)) }
-{
+    let customer = from.id.customer;
     match arrival {
-        Arrival::Request => begin(customer, kind, spool),
-        Arrival::Record { .. } | Arrival::TooLong | Arrival::Abort => {
+        Arrival::Request => {
+            give_up(receiver, customer, spool);
+            begin(customer, kind, spool)
+        }
+        Arrival::Record { srcb, bytes } => {
+            let record = StreamRecord { srcb, bytes };
+            receive_record(receiver, &record, kind, from, spool)
+        }
+        Arrival::TooLong => receive_too_long(receiver, customer, spool),
+        Arrival::Abort => {
+            give_up(receiver, customer, spool);
             After::silent(Receiver::Idle)
         }
     }
 }
 
-/// The rest of a file that was given up goes by, up to its end.
-fn receive_draining(arrival: Arrival<'_>, kind: Kind, customer: u16, spool: &mut Spool) -> After
+/// A record that is too long cancels the file that comes.
+fn receive_too_long(receiver: Receiver, customer: u16, spool: &mut Spool) -> After
     requires { customer < length spool.old }
-    ensures { IsAfter result spool.new spool.old customer
-        (received_draining kind (arrival_of arrival.entry) (spool_at customer spool.old)) }
+    ensures { (entry : CustomerEntry) (l : ℕ) (kind : Kind) → IsAfter result spool.new spool.old customer
+        (received_arrival entry l kind receiver Long (spool_at customer spool.old)) }
 {
-    match arrival {
-        Arrival::Request => begin(customer, kind, spool),
-        Arrival::Abort => After::silent(Receiver::Idle),
-        Arrival::TooLong => After::silent(Receiver::Draining),
-        Arrival::Record { bytes, .. } => {
-            if bytes.is_empty() {
-                After::silent(Receiver::Idle)
-            } else {
-                After::silent(Receiver::Draining)
-            }
-        }
+    match receiver {
+        Receiver::Open { file, .. } => cancel(customer, file, None, None, spool),
+        Receiver::Idle | Receiver::Draining => After::silent(receiver),
     }
 }
 
-/// A record for an open file; one without bytes ends it.
+/// A record, by its class.
 fn receive_record(
-    id: LineId,
-    entry: &NamedCustomer,
+    receiver: Receiver,
+    next: &StreamRecord<'_>,
     kind: Kind,
-    file: FileId,
-    progress: Progress,
-    srcb: u8,
-    bytes: &[u8],
+    from: &Origin<'_>,
     spool: &mut Spool,
 ) -> After
-    requires spooled { id.customer < length spool.old }
-    requires short { length bytes.now ≤ 256 }
-    requires agrees { AgreesWith kind progress (partial_numbered file (spool_at id.customer spool.old)) }
-    ensures { IsAfter result spool.new spool.old id.customer
-        (received_open (entry_of entry.now) id.number kind file (Data srcb bytes.now)
-        (spool_at id.customer spool.old)) }
+    requires spooled { from.now.id.customer < length spool.old }
+    requires short { length next.now.bytes.now ≤ 256 }
+    requires agrees { Agrees kind receiver (spool_at from.now.id.customer spool.old) }
+    ensures { IsAfter result spool.new spool.old from.now.id.customer
+        (received_arrival (entry_of from.now.customer.now) from.now.id.number kind receiver
+        (Data next.now.srcb next.now.bytes.now) (spool_at from.now.id.customer spool.old)) }
 {
-    if bytes.is_empty() {
-        close(id.customer, kind, file, progress, spool)
-    } else {
-        store(
-            id.customer,
-            entry,
-            id.number,
-            kind,
-            file,
-            progress,
-            srcb,
-            bytes,
-            spool,
-        )
+    let customer = from.id.customer;
+    spool.quota_holds(customer);
+    match class_of(receiver, kind, next) {
+        RecordClass::GoesBy(receiver) => After::silent(receiver),
+        RecordClass::Ends(file) => close(customer, file, spool),
+        RecordClass::Stored { file, progress } => {
+            append(customer, file.number, progress, next, spool)
+        }
+        RecordClass::Judged(file) => store(from, file, next, spool),
     }
 }
 
@@ -414,16 +327,16 @@ fn begin(customer: u16, kind: Kind, spool: &mut Spool) -> After
 }
 
 /// A file ends: it is finished where it is whole, and given up otherwise.
-fn close(customer: u16, kind: Kind, file: FileId, progress: Progress, spool: &mut Spool) -> After
+fn close(customer: u16, file: ComingFile, spool: &mut Spool) -> After
     requires range { customer < length spool.old }
-    requires agrees { AgreesWith kind progress (partial_numbered file (spool_at customer spool.old)) }
-    ensures { IsAfter result spool.new spool.old customer (received_end file (spool_at customer spool.old)) }
+    requires kept { IsKept file (spool_at customer spool.old) }
+    ensures { IsAfter result spool.new spool.old customer (received_end file.number (spool_at customer spool.old)) }
 {
-    if progress.is_whole() {
-        spool.finish(customer, file).ok();
+    if file.progress.is_whole() {
+        spool.finish(customer, file.number).ok();
         After::answered(Receiver::Idle, ControlRcb::Completion)
     } else {
-        spool.abandon(customer, file).ok();
+        spool.abandon(customer, file.number).ok();
         After::answered(Receiver::Idle, ControlRcb::Refusal)
     }
 }

@@ -1,143 +1,115 @@
-//! A record comes for a file that is open.
+//! Records are stored.
 
-ghost use Rattle.std.specs.Prelude.{◌≡◌, ℕ, ◌<◌, ◌≤◌, ◌++◌, ◌∷◌, [], List, length, slice_set, IsSome, IsTrue};
-ghost use Rattle.std.specs.Prelude.{MatchOption, None, Some};
+ghost use Rattle.std.specs.Prelude.{◌≡◌, ◌<◌, ◌≤◌, ◌++◌, ◌∷◌, [], length, None, IsSome};
 ghost use Rattle.std.specs.Option.{option_map};
 ghost use Rattle.njh_header.specs.Headers.{job_name};
 ghost use Rattle.njh_header.specs.FileHeaders as headers;
-ghost use Rattle.njh_record.specs.Stored.{Stored};
 ghost use Rattle.njh_spool.specs.CustomerSpool.{has_room_for, partial_numbered};
 ghost use Rattle.njh_spool.specs.Spools.{spool_at};
-ghost use Rattle.njh_table.specs.Entries.{CustomerEntry};
 ghost use Rattle.njh_table.specs.TableFile.{entry_of};
-ghost use Rattle.njh_stream.specs.code.Verdicts.{appended_where, judged_placed, IsAfter};
+ghost use Rattle.njh_stream.specs.code.Classes.{stored_of, unread_progress, IsKept};
+ghost use Rattle.njh_stream.specs.code.Verdicts.{appended_where, IsAfter, IsUnread};
 ghost use Rattle.njh_stream.specs.SpoolFiles.{records_in};
-ghost use Rattle.njh_stream.specs.Receiving.{received_cancelling, notice_of, received_record};
-ghost use Rattle.njh_stream.specs.code.Agreement.{AgreesWith};
+ghost use Rattle.njh_stream.specs.Receiving.{received_arrival, received_cancelling, notice_of, received_record, Data};
+ghost use Rattle.njh_stream.specs.code.Agreement.{Agrees};
 ghost use Rattle.njh_stream.specs.Transmissions as transmissions;
 
+use crate::coming::{ComingFile, Origin, StreamRecord};
 use crate::judging::{Verdict, judge};
 use crate::notice::Notice;
 use crate::receiver::{After, Progress, Receiver};
+use crate::record_class::{RecordClass, class_of};
 use crate::spool_file::SpoolFile;
 use njh_block::ControlRcb;
 use njh_header::{FileRecords, JobHeader, job_header_of, srcb};
 use njh_record::Kind;
 use njh_spool::{FileId, Spool};
-use njh_table::NamedCustomer;
 use njh_texts::{MessageText, spool_full};
 
-/// A record with bytes for an open file is judged first and stored last.
-pub(crate) fn store(
-    customer: u16,
-    entry: &NamedCustomer,
-    line: u16,
-    kind: Kind,
-    file: FileId,
-    progress: Progress,
-    srcb: u8,
-    bytes: &[u8],
-    spool: &mut Spool,
-) -> After
-    requires range { customer < length spool.old }
-    requires short { length bytes.now ≤ 256 }
-    requires agrees { AgreesWith kind progress (partial_numbered file (spool_at customer spool.old)) }
-    ensures { IsAfter result spool.new spool.old customer
-        (received_record (entry_of entry.now) line kind file (record { srcb = srcb; bytes = bytes.now })
-        (spool_at customer spool.old)) }
-{
-    spool.quota_holds(customer);
-    let records = SpoolFile::of(spool, customer, file);
-    let verdict = judge(entry, line, kind, &records, progress, srcb, bytes);
-    match verdict {
-        Verdict::Cancelled(text) => {
-            let header = header_with(&records, srcb, bytes);
-            cancel(customer, file, header, text, spool)
-        }
-        Verdict::Taken(progress) => { append(customer, file, progress, srcb, bytes, spool) }
-    }
-}
-
-/// Whether a record of a file whose header said where it goes is taken without a look at its bytes: all but a data set
-/// header that continues no other.
-fn is_taken_unread(kind: Kind, last: u8, srcb: u8) -> bool
-    ensures { (node bytes : List ℕ) → IsTrue result → judged_placed kind node last srcb bytes ≡ transmissions.Taken }
-{
-    match kind {
-        Kind::In => true,
-        Kind::Out => {
-            if srcb == srcb::DATA_SET_HEADER && last != srcb::DATA_SET_HEADER {
-                false
-            } else {
-                true
-            }
-        }
-    }
-}
-
-/// A record with bytes for an open file, where it is taken without a look at its bytes and the quota has room for it:
-/// how far the file has come then. Else none, and nothing is stored. Most records come so, and there is no room for a
-/// notice to be made and moved.
+/// A record that goes by, or that is stored without a look at its bytes, where the quota has room for it: what the
+/// stream is about then. Else none, and nothing is stored. Most records come so: nothing is answered, and no room for a
+/// notice is made and moved.
 pub(crate) fn store_unread(
-    customer: u16,
+    receiver: Receiver,
+    next: &StreamRecord<'_>,
     kind: Kind,
-    file: FileId,
-    progress: Progress,
-    srcb: u8,
-    bytes: &[u8],
+    customer: u16,
     spool: &mut Spool,
-) -> Option<Progress>
-    requires range { customer < length spool.old }
-    requires short { length bytes.now ≤ 256 }
-    requires agrees { AgreesWith kind progress (partial_numbered file (spool_at customer spool.old)) }
-    ensures { MatchOption result (spool.new ≡ spool.old) (λ after. (entry : CustomerEntry) (l : ℕ)
-        → IsAfter (record {
-          receiver = Receiver.Open file after;
-          answer = None;
-          notice = None;
-        }) spool.new spool.old customer
-        (received_record entry l kind file (record { srcb = srcb; bytes = bytes.now }) (spool_at customer spool.old))) }
+) -> Option<Receiver>
+    requires spooled { customer < length spool.old }
+    requires short { length next.now.bytes.now ≤ 256 }
+    requires agrees { Agrees kind receiver (spool_at customer spool.old) }
+    ensures { IsUnread result spool.new spool.old customer (λ entry l. received_arrival entry l kind receiver
+        (Data next.now.srcb next.now.bytes.now) (spool_at customer spool.old)) }
 {
-    match progress {
-        Progress::Placed { node, last } => {
-            if !is_taken_unread(kind, last, srcb) {
-                return None;
-            }
-            match spool.append(customer, file, srcb, bytes) {
-                Ok(()) => Some(Progress::Placed { node, last: srcb }),
+    match class_of(receiver, kind, next) {
+        RecordClass::GoesBy(receiver) => Some(receiver),
+        RecordClass::Stored { file, progress } => {
+            match spool.append(customer, file.number, next.srcb, next.bytes) {
+                Ok(()) => Some(Receiver::Open {
+                    file: file.number,
+                    progress,
+                }),
                 Err(_) => None,
             }
         }
-        Progress::Beginning | Progress::JobHeader => None,
+        RecordClass::Ends(_) | RecordClass::Judged(_) => None,
+    }
+}
+
+/// A record whose bytes say whether it is taken is judged first and stored last.
+pub(crate) fn store(
+    from: &Origin<'_>,
+    file: ComingFile,
+    next: &StreamRecord<'_>,
+    spool: &mut Spool,
+) -> After
+    requires spooled { from.now.id.customer < length spool.old }
+    requires short { length next.now.bytes.now ≤ 256 }
+    requires kept { IsKept file (spool_at from.now.id.customer spool.old) }
+    requires read { unread_progress file.kind file.progress next.now.srcb ≡ None }
+    ensures { IsAfter result spool.new spool.old from.now.id.customer
+        (received_record (entry_of from.now.customer.now) from.now.id.number file.kind file.number
+        (stored_of next.now) (spool_at from.now.id.customer spool.old)) }
+{
+    let customer = from.id.customer;
+    spool.quota_holds(customer);
+    let earlier = SpoolFile::of(spool, customer, file.number);
+    let verdict = judge(from, &file, &earlier, next);
+    match verdict {
+        Verdict::Cancelled(text) => {
+            let header = header_with(&earlier, next);
+            cancel(customer, file.number, header, text, spool)
+        }
+        Verdict::Taken(progress) => append(customer, file.number, progress, next, spool),
     }
 }
 
 /// A record that is taken goes to its file, where the quota has room for it.
-fn append(
+pub(crate) fn append(
     customer: u16,
     file: FileId,
     progress: Progress,
-    srcb: u8,
-    bytes: &[u8],
+    next: &StreamRecord<'_>,
     spool: &mut Spool,
 ) -> After
     requires range { customer < length spool.old }
-    requires short { length bytes.now ≤ 256 }
+    requires short { length next.now.bytes.now ≤ 256 }
     requires there { IsSome (partial_numbered file (spool_at customer spool.old)) }
-    ensures { let r : Stored = record { srcb = srcb; bytes = bytes.now } in IsAfter result spool.new spool.old customer
-        (appended_where (has_room_for file r (spool_at customer spool.old)) file progress
-        (headers.job_header_of (records_in file (spool_at customer spool.old) ++ r ∷ [])) r
-        (spool_at customer spool.old)) }
+    ensures { IsAfter result spool.new spool.old customer
+        (appended_where (has_room_for file (stored_of next.now) (spool_at customer spool.old)) file progress
+        (headers.job_header_of (records_in file (spool_at customer spool.old) ++ stored_of next.now ∷ []))
+        (stored_of next.now) (spool_at customer spool.old)) }
 {
-    match spool.append(customer, file, srcb, bytes) {
+    match spool.append(customer, file, next.srcb, next.bytes) {
         Ok(()) => After {
             receiver: Receiver::Open { file, progress },
             answer: None,
             notice: None,
         },
         Err(_) => {
-            let records = SpoolFile::of(spool, customer, file);
-            let header = header_with(&records, srcb, bytes);
+            let earlier = SpoolFile::of(spool, customer, file);
+            let header = header_with(&earlier, next);
             let text = full_text(&header);
             cancel(customer, file, header, text, spool)
         }
@@ -156,14 +128,14 @@ fn full_text(header: &Option<JobHeader>) -> Option<MessageText>
 }
 
 /// The job header of a file with a record more.
-fn header_with(file: &SpoolFile<'_>, srcb: u8, bytes: &[u8]) -> Option<JobHeader>
-    ensures { result ≡ headers.job_header_of (file.now ++ record { srcb = srcb; bytes = bytes.now } ∷ []) }
+fn header_with(earlier: &SpoolFile<'_>, next: &StreamRecord<'_>) -> Option<JobHeader>
+    ensures { result ≡ headers.job_header_of (earlier.now ++ stored_of next.now ∷ []) }
 {
-    if file.count() > 0 {
-        return job_header_of(file);
+    if earlier.count() > 0 {
+        return job_header_of(earlier);
     }
-    if srcb == srcb::JOB_HEADER {
-        JobHeader::read(bytes).ok()
+    if next.srcb == srcb::JOB_HEADER {
+        JobHeader::read(next.bytes).ok()
     } else {
         None
     }

@@ -1,12 +1,11 @@
 -- What the code's verdict on a record says.
-use Rattle.std.specs.Prelude.{◌≡◌, ℕ, Bool, true, false, List, Option, None, Result, Ok, Err, ◌==◌, not, ◌&&◌}
+use Rattle.std.specs.Prelude.{◌≡◌, ℕ, Bool, true, false, List, Option, Some, None, Result, Ok, Err}
 use Rattle.std.specs.Prelude.{slice_set}
 use Rattle.std.specs.Option.{option_map}
 use Rattle.njh_header.specs.Headers.{DataSetHeader, JobHeader, job_name}
 use Rattle.njh_header.specs.declared.fault.HeaderFault.{HeaderFault}
 use Rattle.njh_record.specs.Stored.{Stored}
 use Rattle.njh_record.specs.declared.Kind.{Kind}
-use Rattle.njh_record.specs.declared.Kind.TheVariants.{In, Out}
 use Rattle.njh_stream.specs.declared.receiver.After.{After}
 use Rattle.njh_stream.specs.declared.judging.Verdict.{Verdict}
 use Rattle.njh_stream.specs.declared.judging.Verdict.TheVariants.{Taken, Cancelled}
@@ -14,7 +13,10 @@ use Rattle.njh_stream.specs.declared.receiver.Progress.{Progress}
 use Rattle.njh_stream.specs.declared.receiver.Progress.TheVariants.{Placed}
 use Rattle.njh_stream.specs.Transmissions as transmissions
 use Rattle.njh_spool.specs.CustomerSpool.{CustomerSpool, with_appended}
+use Rattle.njh_stream.specs.declared.receiver.Receiver.{Receiver}
 use Rattle.njh_stream.specs.declared.receiver.Receiver.TheVariants.{Open}
+use Rattle.njh_table.specs.Entries.{CustomerEntry}
+use Rattle.njh_stream.specs.code.Classes.{begins_data_set}
 use Rattle.njh_stream.specs.Receiving.{Received, progress_of, received_cancelling, notice_of}
 
 abbrev pub verdict_value : Verdict → transmissions.Verdict
@@ -23,9 +25,8 @@ verdict_value (Cancelled text) = transmissions.Cancelled (option_map (λ t. t.it
 
 -- a record of a placed file, by the file's node and the SRCB of the last record
 abbrev pub judged_placed : Kind → List ℕ → ℕ → ℕ → List ℕ → transmissions.Verdict
-judged_placed In node last srcb bytes = transmissions.Taken
-judged_placed Out node last srcb bytes =
-    elim ((srcb == 0xe0) && not (last == 0xe0))
+judged_placed kind node last srcb bytes =
+    elim (begins_data_set kind last srcb)
     [ true ↦ transmissions.judged_against node bytes | false ↦ transmissions.Taken ]
 
 -- where the record is taken, the file has come so far
@@ -61,3 +62,12 @@ pub record IsAfter (after : After) (new old : List CustomerSpool) (c : ℕ) (don
   pub answer : after.answer ≡ done.answer
   pub notice : after.notice ≡ done.notice
   pub spool : new ≡ slice_set old c done.spool
+
+-- What a record does is known without a look at its bytes: the stream is about this then and nothing is answered, on
+-- whatever line it comes and whatever the tables say. Or it isn't known, and nothing is done.
+abbrev pub IsUnread : Option Receiver → List CustomerSpool → List CustomerSpool → ℕ → (CustomerEntry → ℕ → Received)
+    → Type 0
+IsUnread None new old c done = new ≡ old
+IsUnread (Some receiver) new old c done =
+    (entry : CustomerEntry) (l : ℕ)
+    → IsAfter (record { receiver = receiver; answer = None; notice = None }) new old c (done entry l)
