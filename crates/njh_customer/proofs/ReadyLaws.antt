@@ -1,11 +1,11 @@
 -- A line is ready for what comes next.
-use Rattle.std.proofs.Common.{◌≡◌, ℕ, ◌<◌, Bool, true, false, cond, ◌&&◌, not, List, [], ◌∷◌, length, drop, slice_get}
-use Rattle.std.proofs.Common.{slice_set, nat_lt, Some, refl, sym, ap, ap₂, subst, ◌∙◌, arith}
-use Rattle.std.proofs.lemmas.Bool.{ltb-false}
+use Rattle.std.proofs.Common.{◌≡◌, ℕ, ◌<◌, Bool, false, ◌&&◌, not, List, [], ◌∷◌, length, drop, slice_get}
+use Rattle.std.proofs.Common.{slice_set, Some, sym, ap, ap₂, subst, ◌∙◌, arith}
 use Rattle.std.proofs.lemmas.List.{length-map, length-set, set-set, set-get_or, get_or-set_same}
 use Rattle.njh_spool.specs.CustomerSpool.{CustomerSpool}
 use Rattle.njh_spool.specs.Spools.{spool_at, no_spool}
 use Rattle.njh_table.specs.declared.LineId.{LineId}
+use Rattle.njh_table.specs.Entries.{CustomerEntry}
 use Rattle.njh_table.specs.Marks.{customer_marked, entry_marked, with_mark}
 use Rattle.njh_table.specs.TableFile.{NamedCustomer, TableFile, HasLine, customer_at, entry_of, no_customer}
 use Rattle.njh_line.specs.Laws.{is_up}
@@ -17,18 +17,19 @@ use Rattle.njh_customer.specs.code.Coherence.{IsCoherent}
 use Rattle.njh_block.specs.Blocks.{Block, Item}
 use Rattle.njh_line.specs.declared.verdict.Verdict.{Verdict}
 use Rattle.njh_customer.specs.Alone.{Step, accepted_on, behind_records, after_block, block_input, carried_out}
-use Rattle.njh_customer.specs.Alone.{goes_up_by, after_line_input, with_raised_line, silent, verdict_on, where_there}
+use Rattle.njh_customer.specs.Alone.{goes_up_by, after_line_input, with_raised_line, verdict_on}
 use Rattle.njh_customer.specs.Acting.{after_record, acted_where, all_acted, ended_or, ends_session}
-use Rattle.njh_customer.specs.CustomerSteps.{Brings, Leads, IsReady, KeepsOtherEntries, customer_of, with_customer}
+use Rattle.njh_customer.specs.declared.shared.Shared.{Shared}
+use Rattle.njh_customer.specs.CustomerSteps.{Brings, Leads, SendsStep, MakesStep, IsReady, IsThere, KeepsOtherEntries}
+use Rattle.njh_customer.specs.CustomerSteps.{customer_of, with_customer}
 use Rattle.njh_customer.proofs.StepLaws.{Stays}
 
 pub next_ready :
-    (tables : TableFile) (id : LineId) (old new : List CustomerSpool) (lines_old lines_new : List CustomerLine) (after : Customer)
-    → IsReady tables id old lines_old → Leads tables id.customer old new lines_new after
-    → Stays after (customer_of tables id.customer old lines_old) → IsReady tables id new lines_new
-next_ready tables id old new lines_old lines_new after ready leads stays = record {
-  known = ready.known;
-  spooled = omega (arith, ready.spooled, ap length leads.others, length-set old id.customer (spool_at id.customer new));
+    (id : LineId) (old new : Shared) (lines_old lines_new : List CustomerLine) (after : Customer) → IsReady id old lines_old
+    → Leads id.customer old new lines_new after → Stays after (customer_of id.customer old lines_old) → IsReady id new lines_new
+next_ready id old new lines_old lines_new after ready leads stays = record {
+  known = omega (arith, ready.known, ap (λ t. length t.customers) leads.tables);
+  spooled = omega (arith, ready.spooled, ap length leads.others, length-set old.spool id.customer (spool_at id.customer new.spool));
   there = omega (arith, ready.there, ap (λ c. length c.lines) leads.customer, stays.lines);
   coherent = subst IsCoherent (sym leads.customer) stays.coherent;
 }
@@ -86,136 +87,165 @@ retold_marked tables new id up there is =
 
 -- a step that leaves the tables
 pub as_brings :
-    (tables : TableFile) (c : ℕ) (old new : List CustomerSpool) (lines : List CustomerLine) (after : Customer)
-    → Leads tables c old new lines after → Brings tables tables c old new lines after
-as_brings tables c old new lines after leads = record { customer = leads.customer; others = leads.others; entries = retold_same tables c }
+    (c : ℕ) (old new : Shared) (lines : List CustomerLine) (after : Customer) → Leads c old new lines after → Brings c old new lines after
+as_brings c old new lines after leads = record {
+  customer = leads.customer;
+  others = leads.others;
+  entries = subst (KeepsOtherEntries c old.tables) (sym leads.tables) (retold_same old.tables c);
+}
 
 pub next_brought :
-    (tables retold : TableFile) (id : LineId) (old new : List CustomerSpool) (lines_old lines_new : List CustomerLine) (after : Customer)
-    → IsReady tables id old lines_old → Brings tables retold id.customer old new lines_new after
-    → Stays after (customer_of tables id.customer old lines_old) → IsReady retold id new lines_new
-next_brought tables retold id old new lines_old lines_new after ready brings stays = record {
+    (id : LineId) (old new : Shared) (lines_old lines_new : List CustomerLine) (after : Customer) → IsReady id old lines_old
+    → Brings id.customer old new lines_new after → Stays after (customer_of id.customer old lines_old) → IsReady id new lines_new
+next_brought id old new lines_old lines_new after ready brings stays = record {
   known = omega (
     arith,
     ready.known,
     ap (λ t. length t.customers) brings.entries,
-    length-set tables.customers id.customer (customer_at retold id.customer),
+    length-set old.tables.customers id.customer (customer_at new.tables id.customer),
   );
-  spooled = omega (arith, ready.spooled, ap length brings.others, length-set old id.customer (spool_at id.customer new));
+  spooled = omega (arith, ready.spooled, ap length brings.others, length-set old.spool id.customer (spool_at id.customer new.spool));
   there = omega (arith, ready.there, ap (λ c. length c.lines) brings.customer, stays.lines);
   coherent = subst IsCoherent (sym brings.customer) stays.coherent;
 }
 
 -- the files stay
-pub still_brought :
-    (tables retold : TableFile) (id : LineId) (spools : List CustomerSpool) (old new : List CustomerLine) (after : Customer)
-    → IsReady tables id spools old → customer_of retold id.customer spools new ≡ after → KeepsOtherEntries id.customer tables retold
-    → Stays after (customer_of tables id.customer spools old) → IsReady retold id spools new
-still_brought tables retold id spools old new after ready customer entries =
-    next_brought tables retold id spools spools old new after ready
-    (record { customer = customer; others = sym (set-get_or spools id.customer no_spool); entries = entries })
+pub still_brings :
+    (c : ℕ) (old new : Shared) (lines : List CustomerLine) (after : Customer) → customer_of c new lines ≡ after → new.spool ≡ old.spool
+    → KeepsOtherEntries c old.tables new.tables → Brings c old new lines after
+still_brings c old new lines after customer files entries = record {
+  customer = customer;
+  others = files ∙ sym (ap (λ s. slice_set old.spool c (spool_at c s)) files ∙ set-get_or old.spool c no_spool);
+  entries = entries;
+}
 
 -- a line of the customer is one of the tables
-pub known_line :
-    (tables : TableFile) (id : LineId) (spools : List CustomerSpool) (lines : List CustomerLine) → IsReady tables id spools lines
-    → HasLine tables id
-known_line tables id spools lines ready =
-    omega (arith, ready.there, ready.coherent.marks, length-map (customer_at tables id.customer).lines (λ l. l.up))
+pub known_line : (id : LineId) (shared : Shared) (lines : List CustomerLine) → IsReady id shared lines → HasLine shared.tables id
+known_line id shared lines ready =
+    omega (arith, ready.there, ready.coherent.marks, length-map (customer_at shared.tables id.customer).lines (λ l. l.up))
+
+pub is_there : (id : LineId) (shared : Shared) (lines : List CustomerLine) → IsReady id shared lines → IsThere id shared lines
+is_there id shared lines ready = record {
+  known = ready.known;
+  line = known_line id shared lines ready;
+  spooled = ready.spooled;
+  there = ready.there;
+}
+
+-- it is still there behind a step that leaves the tables
+pub still_there :
+    (id : LineId) (old new : Shared) (lines_old lines_new : List CustomerLine) (after : Customer) → IsThere id old lines_old
+    → Leads id.customer old new lines_new after → length after.lines ≡ length lines_old → IsThere id new lines_new
+still_there id old new lines_old lines_new after there leads count = record {
+  known = omega (arith, there.known, ap (λ t. length t.customers) leads.tables);
+  line = subst (λ t. HasLine t id) (sym leads.tables) there.line;
+  spooled = omega (arith, there.spooled, ap length leads.others, length-set old.spool id.customer (spool_at id.customer new.spool));
+  there = omega (arith, there.there, ap (λ c. length c.lines) leads.customer, count);
+}
 
 -- what brings on from where it was brought
 pub brought_on :
-    (tables between_tables retold : TableFile) (c : ℕ) (old now new : List CustomerSpool) (lines_now lines_new : List CustomerLine)
-    (between : Customer) (then : Customer → Customer) → Brings tables between_tables c old now lines_now between
-    → Brings between_tables retold c now new lines_new (then (customer_of between_tables c now lines_now))
-    → Brings tables retold c old new lines_new (then between)
-brought_on tables between_tables retold c old now new lines_now lines_new between then first second = record {
+    (c : ℕ) (old now new : Shared) (lines_now lines_new : List CustomerLine) (between : Customer) (then : Customer → Customer)
+    → Brings c old now lines_now between → Brings c now new lines_new (then (customer_of c now lines_now)) → Brings c old new lines_new (then between)
+brought_on c old now new lines_now lines_new between then first second = record {
   customer = second.customer ∙ ap then first.customer;
-  others = others_twice old now new c first.others second.others;
-  entries = retold_twice tables between_tables retold c first.entries second.entries;
+  others = others_twice old.spool now.spool new.spool c first.others second.others;
+  entries = retold_twice old.tables now.tables new.tables c first.entries second.entries;
+}
+
+-- what sends a frame from where it was brought
+pub sent_behind :
+    (c : ℕ) (old now new : Shared) (lines_now lines_new : List CustomerLine) (frame : List ℕ) (between : Customer) (then : Customer → Step)
+    → Brings c old now lines_now between → SendsStep c now new lines_new frame (then (customer_of c now lines_now))
+    → SendsStep c old new lines_new frame (then between)
+sent_behind c old now new lines_now lines_new frame between then first second = record {
+  after = brought_on c old now new lines_now lines_new between (λ x. (then x).after) first second.after;
+  frame = second.frame ∙ ap (λ x. (then x).frame) first.customer;
+}
+
+-- a step that leaves the customer coherent, with as many lines
+pub made_by :
+    (id : LineId) (old : Shared) (before : List CustomerLine) (new : Shared) (lines : List CustomerLine) (frame : List ℕ) (step : Step)
+    → IsReady id old before → SendsStep id.customer old new lines frame step → Stays step.after (customer_of id.customer old before)
+    → MakesStep id old before new lines frame step
+made_by id old before new lines frame step ready sends stays = record {
+  after = sends.after;
+  frame = sends.frame;
+  ready = next_brought id old new before lines step.after ready sends.after stays;
+  count = ap (λ c. length c.lines) sends.after.customer ∙ stays.lines;
 }
 
 -- a mark behind what a step led to
 pub marked_behind :
-    (tables retold : TableFile) (id : LineId) (up : Bool) (old new : List CustomerSpool) (lines : List CustomerLine) (after : Customer)
-    → Leads tables id.customer old new lines after → id.customer < length tables.customers → retold ≡ with_mark id up tables
-    → entry_of (customer_at (with_mark id up tables) id.customer) ≡ entry_marked id.number up (entry_of (customer_at tables id.customer))
-    → Brings tables retold id.customer old new lines (record after { entry = entry_marked id.number up after.entry })
-marked_behind tables retold id up old new lines after leads there is own = record {
-  customer =
-      ap (λ entry. customer_with entry (spool_at id.customer new) lines) (ap (λ t. entry_of (customer_at t id.customer)) is ∙ own)
-      ∙ ap (λ (d : Customer). record d { entry = entry_marked id.number up d.entry }) leads.customer;
-  others = leads.others;
-  entries = retold_marked tables retold id up there is;
-}
+    (id : LineId) (up : Bool) (old now new : Shared) (lines : List CustomerLine) (after : Customer) → Leads id.customer old now lines after
+    → id.customer < length old.tables.customers → new.tables ≡ with_mark id up now.tables → new.spool ≡ now.spool
+    → entry_of (customer_at (with_mark id up old.tables) id.customer) ≡ entry_marked id.number up (entry_of (customer_at old.tables id.customer))
+    → Brings id.customer old new lines (record after { entry = entry_marked id.number up after.entry })
+marked_behind id up old now new lines after leads there is files own =
+    let marked : new.tables ≡ with_mark id up old.tables = is ∙ ap (with_mark id up) leads.tables in
+    let mark : Customer → Customer = λ d. record d { entry = entry_marked id.number up d.entry } in
+    let here : CustomerEntry = entry_of (customer_at old.tables id.customer) in
+    let before : customer_of id.customer now lines ≡ customer_with here (spool_at id.customer now.spool) lines =
+    ap (λ t. customer_with (entry_of (customer_at t id.customer)) (spool_at id.customer now.spool) lines) leads.tables in
+    record {
+      customer =
+          ap₂ (λ entry s. customer_with entry (spool_at id.customer s) lines) (ap (λ t. entry_of (customer_at t id.customer)) marked ∙ own) files
+          ∙ ap mark (sym before ∙ leads.customer);
+      others = files ∙ leads.others ∙ ap (λ s. slice_set old.spool id.customer (spool_at id.customer s)) (sym files);
+      entries = retold_marked old.tables new.tables id up there marked;
+    }
 
 -- The line table judged what came: the line's state, and its mark where it goes up.
 pub accepted_so :
-    (tables retold : TableFile) (id : LineId) (spools : List CustomerSpool) (old new : List CustomerLine) (came : Input) (was_up now_up up : Bool)
-    → id.number < length old → new ≡ on_line id.number (in_state (after_input came)) old
-    → was_up ≡ is_up (line_at id.number old).state.session.phase → now_up ≡ is_up (line_at id.number new).state.session.phase
-    → up ≡ (now_up && not was_up) → entry_of (customer_at retold id.customer) ≡ with_raised_line up id.number (entry_of (customer_at tables id.customer))
-    → customer_of retold id.customer spools new ≡ accepted_on id.number came (customer_of tables id.customer spools old)
-accepted_so tables retold id spools old new came was_up now_up up there lines was now goes entry =
-    let x = line_at id.number old in
+    (id : LineId) (old now : Shared) (lines new : List CustomerLine) (came : Input) (was_up now_up up : Bool)
+    → id.number < length lines → new ≡ on_line id.number (in_state (after_input came)) lines
+    → was_up ≡ is_up (line_at id.number lines).state.session.phase → now_up ≡ is_up (line_at id.number new).state.session.phase
+    → up ≡ (now_up && not was_up) → now.spool ≡ old.spool
+    → entry_of (customer_at now.tables id.customer) ≡ with_raised_line up id.number (entry_of (customer_at old.tables id.customer))
+    → customer_of id.customer now new ≡ accepted_on id.number came (customer_of id.customer old lines)
+accepted_so id old now lines new came was_up now_up up there is was went goes files entry =
+    let x = line_at id.number lines in
     let phase : is_up (line_at id.number new).state.session.phase ≡ is_up (after_input came x.state).session.phase =
-    ap (λ ls. is_up (line_at id.number ls).state.session.phase) lines
-    ∙ ap (λ y. is_up y.state.session.phase) (get_or-set_same old id.number (in_state (after_input came) x) no_customer_line there) in
-    ap (λ e. customer_with e (spool_at id.customer spools) new)
-    (entry ∙ ap (λ b. with_raised_line b id.number (entry_of (customer_at tables id.customer))) (goes ∙ ap₂ (λ n w. n && not w) (now ∙ phase) was))
-    ∙ ap (customer_with (with_raised_line (goes_up_by id.number came (customer_of tables id.customer spools old)) id.number (entry_of (customer_at tables id.customer))) (spool_at id.customer spools)) lines
+    ap (λ ls. is_up (line_at id.number ls).state.session.phase) is
+    ∙ ap (λ y. is_up y.state.session.phase) (get_or-set_same lines id.number (in_state (after_input came) x) no_customer_line there) in
+    ap₂ (λ e s. customer_with e (spool_at id.customer s) new)
+    (entry ∙ ap (λ b. with_raised_line b id.number (entry_of (customer_at old.tables id.customer))) (goes ∙ ap₂ (λ n w. n && not w) (went ∙ phase) was)) files
+    ∙ ap (customer_with (with_raised_line (goes_up_by id.number came (customer_of id.customer old lines)) id.number (entry_of (customer_at old.tables id.customer))) (spool_at id.customer old.spool)) is
 
 -- What comes but a good block: its verdict, and what that asks for.
-pub brought_by_verdict :
-    (tables accepted_tables retold : TableFile) (id : LineId) (old new : List CustomerSpool) (lines lines_accepted lines_new : List CustomerLine)
-    (came : Input) (v : Verdict) → v ≡ verdict_on id.number came (customer_of tables id.customer old lines)
-    → customer_of accepted_tables id.customer old lines_accepted ≡ accepted_on id.number came (customer_of tables id.customer old lines)
-    → KeepsOtherEntries id.customer tables accepted_tables
-    → Brings accepted_tables retold id.customer old new lines_new (carried_out id.number v (customer_of accepted_tables id.customer old lines_accepted)).after
-    → Brings tables retold id.customer old new lines_new (after_line_input id.number came (customer_of tables id.customer old lines)).after
-brought_by_verdict tables accepted_tables retold id old new lines lines_accepted lines_new came v verdict accepted entries behind =
+pub sent_by_verdict :
+    (id : LineId) (old accepted new : Shared) (lines lines_accepted lines_new : List CustomerLine) (frame : List ℕ) (came : Input) (v : Verdict)
+    → v ≡ verdict_on id.number came (customer_of id.customer old lines)
+    → Brings id.customer old accepted lines_accepted (accepted_on id.number came (customer_of id.customer old lines))
+    → SendsStep id.customer accepted new lines_new frame (carried_out id.number v (customer_of id.customer accepted lines_accepted))
+    → SendsStep id.customer old new lines_new frame (after_line_input id.number came (customer_of id.customer old lines))
+sent_by_verdict id old accepted new lines lines_accepted lines_new frame came v verdict first behind =
     let l = id.number in
-    let c = customer_of tables id.customer old lines in
-    let d = customer_of accepted_tables id.customer old lines_accepted in
-    let all : Brings tables retold id.customer old new lines_new (carried_out l v d).after = record {
-      customer = behind.customer;
-      others = behind.others;
-      entries = retold_twice tables accepted_tables retold id.customer entries behind.entries;
-    } in
-    subst (λ w. Brings tables retold id.customer old new lines_new (carried_out l w (accepted_on l came c)).after) verdict
-    (subst (λ x. Brings tables retold id.customer old new lines_new (carried_out l v x).after) accepted all)
+    let d = accepted_on l came (customer_of id.customer old lines) in
+    subst (λ w. SendsStep id.customer old new lines_new frame (carried_out l w d)) verdict
+    (sent_behind id.customer old accepted new lines_accepted lines_new frame d (carried_out l v) first behind)
 
--- a line that is there takes a step
-pub there_steps : (l : ℕ) (s : Step) (c : Customer) → l < length c.lines → where_there l s c ≡ s
-there_steps l s c there = by (nat_lt l (length c.lines)) refl
-  where
-    by : (b : Bool) → nat_lt l (length c.lines) ≡ b → cond b s (silent c) ≡ s
-    by true e = refl
-    by false e = absurd (omega (arith, ltb-false l (length c.lines) e, there))
+-- behind a block's records, by what the customer was when these came
+abbrev behind_block : ℕ → List Item → Verdict → Customer → Step
+behind_block l items v d = let a = acted_where v.acts l items d in behind_records a.ended l v a.customer
 
 -- A good block: its verdict, its records, and what is behind them, where these ended the session or didn't.
-pub brought_by_block :
-    (ended : Bool) (tables accepted_tables retold : TableFile) (id : LineId) (old now new : List CustomerSpool)
-    (lines lines_accepted lines_now lines_new : List CustomerLine) (b : Block) (v : Verdict)
-    → v ≡ verdict_on id.number (block_input b) (customer_of tables id.customer old lines)
-    → customer_of accepted_tables id.customer old lines_accepted ≡ accepted_on id.number (block_input b) (customer_of tables id.customer old lines)
-    → KeepsOtherEntries id.customer tables accepted_tables
-    → ended ≡ (acted_where v.acts id.number b.items (customer_of accepted_tables id.customer old lines_accepted)).ended
-    → Leads accepted_tables id.customer old now lines_now (acted_where v.acts id.number b.items (customer_of accepted_tables id.customer old lines_accepted)).customer
-    → Brings accepted_tables retold id.customer now new lines_new (behind_records ended id.number v (customer_of accepted_tables id.customer now lines_now)).after
-    → Brings tables retold id.customer old new lines_new (after_block id.number b (customer_of tables id.customer old lines)).after
-brought_by_block ended tables accepted_tables retold id old now new lines lines_accepted lines_now lines_new b v verdict accepted entries is_ended acted behind =
+pub sent_by_block :
+    (ended : Bool) (id : LineId) (old accepted now new : Shared) (lines lines_accepted lines_now lines_new : List CustomerLine) (frame : List ℕ)
+    (b : Block) (v : Verdict) → v ≡ verdict_on id.number (block_input b) (customer_of id.customer old lines)
+    → Brings id.customer old accepted lines_accepted (accepted_on id.number (block_input b) (customer_of id.customer old lines))
+    → ended ≡ (acted_where v.acts id.number b.items (customer_of id.customer accepted lines_accepted)).ended
+    → Leads id.customer accepted now lines_now (acted_where v.acts id.number b.items (customer_of id.customer accepted lines_accepted)).customer
+    → SendsStep id.customer now new lines_new frame (behind_records ended id.number v (customer_of id.customer now lines_now))
+    → SendsStep id.customer old new lines_new frame (after_block id.number b (customer_of id.customer old lines))
+sent_by_block ended id old accepted now new lines lines_accepted lines_now lines_new frame b v verdict first is_ended acted behind =
     let l = id.number in
-    let c = customer_of tables id.customer old lines in
-    let d = customer_of accepted_tables id.customer old lines_accepted in
-    let a = acted_where v.acts l b.items d in
-    let led = brought_on accepted_tables accepted_tables retold id.customer old now new lines_now lines_new a.customer (λ x. (behind_records ended l v x).after)
-    (as_brings accepted_tables id.customer old now lines_now a.customer acted) behind in
-    let all : Brings tables retold id.customer old new lines_new (behind_records ended l v a.customer).after = record {
-      customer = led.customer;
-      others = led.others;
-      entries = retold_twice tables accepted_tables retold id.customer entries led.entries;
-    } in
-    subst (λ x. Brings tables retold id.customer old new lines_new (behind_records (acted_where x.acts l b.items (accepted_on l (block_input b) c)).ended l x
-    (acted_where x.acts l b.items (accepted_on l (block_input b) c)).customer).after) verdict
-    (subst (λ x. Brings tables retold id.customer old new lines_new (behind_records (acted_where v.acts l b.items x).ended l v (acted_where v.acts l b.items x).customer).after)
-    accepted (subst (λ e. Brings tables retold id.customer old new lines_new (behind_records e l v a.customer).after) is_ended all))
+    let n = id.customer in
+    let d = accepted_on l (block_input b) (customer_of n old lines) in
+    let a = acted_where v.acts l b.items (customer_of n accepted lines_accepted) in
+    let later = sent_behind n accepted now new lines_now lines_new frame a.customer (behind_records ended l v)
+    (as_brings n accepted now lines_now a.customer acted) behind in
+    let ends : SendsStep n accepted new lines_new frame (behind_block l b.items v (customer_of n accepted lines_accepted)) =
+    subst (λ e. SendsStep n accepted new lines_new frame (behind_records e l v a.customer)) is_ended later in
+    subst (λ w. SendsStep n old new lines_new frame (behind_block l b.items w d)) verdict
+    (sent_behind n old accepted new lines_accepted lines_new frame d (behind_block l b.items v) first ends)

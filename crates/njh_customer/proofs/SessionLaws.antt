@@ -1,14 +1,11 @@
 -- What a line sends, the end of its session, and all that comes on it leave a customer coherent.
 use Rattle.std.proofs.Common.{◌≡◌, ℕ, ◌<◌, Bool, true, false, List, [], ◌∷◌, length, set, replicate, Option, Some, None}
-use Rattle.std.proofs.Common.{Result, Ok, Err, refl, sym, subst, ◌∙◌, arith, nat_lt, cond}
+use Rattle.std.proofs.Common.{refl, sym, subst, ◌∙◌, arith}
 use Rattle.std.proofs.Math.ListN.{get_or-map}
 use Rattle.std.proofs.Math.Seq.{map-set_same}
 use Rattle.std.proofs.lemmas.List.{map-set, length-map, length-set, length-replicate}
 use Rattle.std.proofs.lemmas.List.Elements.{All-set}
-use Rattle.njh_bisync.specs.Frames as frame
-use Rattle.njh_bisync.specs.Frames.{Received}
-use Rattle.njh_block.specs.Blocks.{Block, read_block}
-use Rattle.njh_block.specs.declared.fault.BlockFault.{BlockFault}
+use Rattle.njh_block.specs.Blocks.{Block}
 use Rattle.njh_spool.specs.CustomerSpool.{CustomerSpool, with_state}
 use Rattle.njh_spool.specs.declared.State.TheVariants.{Ready}
 use Rattle.njh_stream.specs.declared.receiver.Receiver.{Receiver}
@@ -20,22 +17,18 @@ use Rattle.njh_stream.specs.Streams.{streams_at}
 use Rattle.njh_stream.specs.code.Agreement.{AreTied}
 use Rattle.njh_sched.specs.NextBlock.{filling}
 use Rattle.njh_sched.specs.Tight.{own_fcs}
-use Rattle.njh_line.specs.LineTable as input
 use Rattle.njh_line.specs.LineTable.{Input}
 use Rattle.njh_line.specs.Lines.{after_end}
 use Rattle.njh_line.specs.declared.verdict.Reply.{Reply}
 use Rattle.njh_line.specs.declared.verdict.Reply.TheVariants as reply
 use Rattle.njh_line.specs.declared.verdict.Verdict.{Verdict}
-use Rattle.njh_customer.specs.declared.signal.Signal.{Signal}
 use Rattle.njh_customer.specs.Customer.{Customer, no_customer_line, line_at, on_line, in_state}
 use Rattle.njh_customer.specs.code.Coherence.{streams_to_hub, HasStreams, IsCoherent}
 use Rattle.njh_customer.specs.Sending.{LineSent, outlet_of, own_block, sending_of_reply}
 use Rattle.njh_customer.specs.Acting.{acted_where}
-use Rattle.njh_customer.specs.Alone.{Step, silent, after_reply, replied_to, quiet, session_over, session_over_where}
+use Rattle.njh_customer.specs.Alone.{after_reply, replied_to, quiet, session_over, session_over_where}
 use Rattle.njh_customer.specs.Alone.{session_ended, carried_out, verdict_on, accepted_on, after_line_input, block_input}
-use Rattle.njh_customer.specs.Alone.{behind_records, after_block, text_read, after_text, after_received, signal_input}
-use Rattle.njh_customer.specs.Alone.{after_frame, after_signal}
-use Rattle.njh_customer.specs.Feeding.{acted_on}
+use Rattle.njh_customer.specs.Alone.{behind_records, after_block}
 use Rattle.njh_customer.proofs.ShapeLaws.{shape, on_line_shapes}
 use Rattle.njh_customer.proofs.CoherenceLaws.{ArrivalsTie, NothingUnties, EndsTie}
 use Rattle.njh_customer.proofs.StepLaws.{Stays, stays, stays_like, stays_lines, accepted_stays, acted_where_stays}
@@ -145,7 +138,7 @@ module _ (untied : NothingUnties) (ends : EndsTie) where
       let first = reply_stays l v.reply c coherent in
       onward (session_over_where v.ended l d) d c (over_where_stays v.ended l d (omega (arith, line_there, first.lines)) first.coherent) first
 
-  input_stays : (l : ℕ) (came : Input) (c : Customer) → l < length c.lines → IsCoherent c → Stays (after_line_input l came c).after c
+  pub input_stays : (l : ℕ) (came : Input) (c : Customer) → l < length c.lines → IsCoherent c → Stays (after_line_input l came c).after c
   input_stays l came c line_there coherent =
       let d = accepted_on l came c in
       let first = accepted_stays untied l came c coherent in
@@ -156,7 +149,7 @@ module _ (untied : NothingUnties) (ends : EndsTie) where
     behind_stays true l v c line_there coherent = ended_stays l c line_there coherent
     behind_stays false l v c line_there coherent = carried_stays l v c line_there coherent
 
-    block_stays : (l : ℕ) (b : Block) (c : Customer) → l < length c.lines → IsCoherent c → Stays (after_block l b c).after c
+    pub block_stays : (l : ℕ) (b : Block) (c : Customer) → l < length c.lines → IsCoherent c → Stays (after_block l b c).after c
     block_stays l b c line_there coherent =
         let v = verdict_on l (block_input b) c in
         let d = accepted_on l (block_input b) c in
@@ -166,33 +159,3 @@ module _ (untied : NothingUnties) (ends : EndsTie) where
         onward (behind_records a.ended l v a.customer).after a.customer c
         (behind_stays a.ended l v a.customer (omega (arith, line_there, first.lines, acted.lines)) acted.coherent)
         (onward a.customer d c acted first)
-
-    text_stays : (l : ℕ) (text : List ℕ) (c : Customer) → l < length c.lines → IsCoherent c → Stays (after_text l text c).after c
-    text_stays l text c line_there coherent = at_block (read_block text)
-      where
-        at_block : (b : Result Block BlockFault) → Stays (text_read l b c).after c
-        at_block (Ok b) = block_stays l b c line_there coherent
-        at_block (Err e) = input_stays l input.Bad c line_there coherent
-
-    received_stays : (l : ℕ) (x : Received) (c : Customer) → l < length c.lines → IsCoherent c → Stays (after_received l x c).after c
-    received_stays l frame.Enquiry c line_there coherent = input_stays l input.Enquiry c line_there coherent
-    received_stays l frame.Ack0 c line_there coherent = input_stays l input.Ack0 c line_there coherent
-    received_stays l frame.Nak c line_there coherent = input_stays l input.Nak c line_there coherent
-    received_stays l frame.Eot c line_there coherent = input_stays l input.Eot c line_there coherent
-    received_stays l (frame.Text text) c line_there coherent = text_stays l text c line_there coherent
-    received_stays l frame.Spoiled c line_there coherent = input_stays l input.Spoiled c line_there coherent
-
-    there_stays : (b : Bool) (x : Step) (c : Customer) → IsCoherent c → Stays x.after c → Stays (cond b x (silent c)).after c
-    there_stays true x c coherent after = after
-    there_stays false x c coherent after = stays c coherent
-
-    pub frame_stays : (l : ℕ) (o : Option Received) (c : Customer) → l < length c.lines → IsCoherent c → Stays (acted_on l o c).after c
-    unfolding after_frame
-    frame_stays l None c line_there coherent = stays c coherent
-    frame_stays l (Some x) c line_there coherent =
-        there_stays (nat_lt l (length c.lines)) (after_received l x c) c coherent (received_stays l x c line_there coherent)
-
-    pub signal_stays : (l : ℕ) (x : Signal) (c : Customer) → l < length c.lines → IsCoherent c → Stays (after_signal l x c).after c
-    unfolding after_signal
-    signal_stays l x c line_there coherent =
-        there_stays (nat_lt l (length c.lines)) (after_line_input l (signal_input x) c) c coherent (input_stays l (signal_input x) c line_there coherent)

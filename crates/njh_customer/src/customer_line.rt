@@ -14,12 +14,14 @@ ghost use Rattle.njh_table.specs.TableFile.{customer_at, entry_of};
 ghost use Rattle.njh_customer.specs.Sending.{sending_of_next, sending_of_reply};
 ghost use Rattle.njh_customer.specs.Customer.{quiet_line, in_state, with_notice, receiver_at, with_receiver, sender_at};
 ghost use Rattle.njh_customer.specs.Customer.{with_sender};
+ghost use Rattle.njh_customer.specs.CustomerSteps.{LineSends};
 
 use crate::frame_buffer::FrameBuffer;
 use crate::sending::{
     begin_block, send_again, send_control, send_opening, send_sequence, send_written,
 };
-use njh_block::{Answer, BlockWriter, Fcs, Stream};
+use crate::shared::Shared;
+use njh_block::{Answer, Fcs, Stream};
 use njh_command::give_up;
 use njh_line::{Config, Input, Line, Phase, Reply, Session, Verdict};
 use njh_record::Record;
@@ -206,41 +208,34 @@ impl CustomerLine {
         self.line.push_message(message);
     }
 
-    /// Sends what a verdict asks for. `block` is room for a block.
+    /// Sends what a verdict asks for.
     pub(crate) fn send_reply(
         &mut self,
         id: LineId,
         reply: Reply,
-        tables: &Tables,
-        spool: &mut Spool,
-        block: &mut BlockWriter,
+        shared: &mut Shared,
         out: &mut FrameBuffer,
     )
-        requires known { id.customer < length tables.now.customers }
-        requires spooled { id.customer < length spool.old }
-        requires quota { (customer_at tables.now id.customer).quota ≡ (spool_at id.customer spool.old).quota }
-        ensures line { self.new
-            ≡ (sending_of_reply (entry_of (customer_at tables.now id.customer)) id.number reply
-            (spool_at id.customer spool.old) self.old).line }
-        ensures spool { spool.new ≡ slice_set spool.old id.customer
-            (sending_of_reply (entry_of (customer_at tables.now id.customer)) id.number reply
-            (spool_at id.customer spool.old) self.old).spool }
-        ensures frame { out.new
-            ≡ (sending_of_reply (entry_of (customer_at tables.now id.customer)) id.number reply
-            (spool_at id.customer spool.old) self.old).frame }
+        requires known { id.customer < length shared.old.tables.customers }
+        requires spooled { id.customer < length shared.old.spool }
+        requires quota { (customer_at shared.old.tables id.customer).quota
+            ≡ (spool_at id.customer shared.old.spool).quota }
+        ensures { LineSends id.customer shared.old shared.new self.new out.new
+            (sending_of_reply (entry_of (customer_at shared.old.tables id.customer)) id.number reply
+            (spool_at id.customer shared.old.spool) self.old) }
     {
         match reply {
             Reply::Nothing => out.clear(),
             Reply::Control(control) => send_control(&mut self.line, control, out),
             Reply::Again => send_again(&mut self.line, out),
-            Reply::SignOn(kind) => send_opening(&mut self.line, kind, block, out),
+            Reply::SignOn(kind) => send_opening(&mut self.line, kind, &mut shared.block, out),
             Reply::Sequence { expected } => {
-                let fcs = own_fcs(id.customer, spool, tables);
-                send_sequence(&mut self.line, expected, fcs, block, out);
+                let fcs = own_fcs(id.customer, &shared.spool, &shared.tables);
+                send_sequence(&mut self.line, expected, fcs, &mut shared.block, out);
             }
             Reply::Next { or_ack0 } => {
-                let fcs = own_fcs(id.customer, spool, tables);
-                self.send_next(id, or_ack0, fcs, tables, spool, block, out);
+                let fcs = own_fcs(id.customer, &shared.spool, &shared.tables);
+                self.send_next(id, or_ack0, fcs, shared, out);
             }
         }
     }
@@ -251,27 +246,25 @@ impl CustomerLine {
         id: LineId,
         or_ack0: bool,
         fcs: Fcs,
-        tables: &Tables,
-        spool: &mut Spool,
-        block: &mut BlockWriter,
+        shared: &mut Shared,
         out: &mut FrameBuffer,
     )
-        requires known { id.customer < length tables.now.customers }
-        requires spooled { id.customer < length spool.old }
-        requires own { fcs ≡ own_fcs (spool_at id.customer spool.old) }
-        ensures line { self.new
-            ≡ (sending_of_next (entry_of (customer_at tables.now id.customer)) id.number or_ack0
-            (spool_at id.customer spool.old) self.old).line }
-        ensures spool { spool.new ≡ slice_set spool.old id.customer
-            (sending_of_next (entry_of (customer_at tables.now id.customer)) id.number or_ack0
-            (spool_at id.customer spool.old) self.old).spool }
-        ensures frame { out.new
-            ≡ (sending_of_next (entry_of (customer_at tables.now id.customer)) id.number or_ack0
-            (spool_at id.customer spool.old) self.old).frame }
+        requires known { id.customer < length shared.old.tables.customers }
+        requires spooled { id.customer < length shared.old.spool }
+        requires own { fcs ≡ own_fcs (spool_at id.customer shared.old.spool) }
+        ensures { LineSends id.customer shared.old shared.new self.new out.new
+            (sending_of_next (entry_of (customer_at shared.old.tables id.customer)) id.number or_ack0
+            (spool_at id.customer shared.old.spool) self.old) }
     {
-        begin_block(&self.line, fcs, block);
-        fill(self, id, spool, tables, block);
-        send_written(&mut self.line, or_ack0, block, fcs, out);
+        begin_block(&self.line, fcs, &mut shared.block);
+        fill(
+            self,
+            id,
+            &mut shared.spool,
+            &shared.tables,
+            &mut shared.block,
+        );
+        send_written(&mut self.line, or_ack0, &shared.block, fcs, out);
     }
 
     /// The end of a session: the files that were being sent may go again, and so may those that were refused and go by

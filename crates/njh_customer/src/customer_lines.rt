@@ -1,17 +1,18 @@
 //! A customer's lines, and what waits on them.
 
 ghost use Rattle.std.specs.Prelude.{◌≡◌, ◌<◌, ◌≤◌, ◌++◌, ◌∷◌, [], IfOk, length, map};
+ghost use Rattle.njh_block.specs.Blocks.{stream_of};
 ghost use Rattle.njh_block.specs.declared.answer.Answer.{Answer as WaitingAnswer};
 ghost use Rattle.njh_stream.specs.declared.sender.Sender.{Sender};
 ghost use Rattle.njh_nmr.specs.Nodal.{notice_record};
 ghost use Rattle.njh_table.specs.TableFile.{entry_of};
 ghost use Rattle.njh_command.specs.Commands.{without_file};
 ghost use Rattle.njh_customer.specs.Acting.{without_sending, with_senders_by};
-ghost use Rattle.njh_customer.specs.Alone.{replied_to, session_closed, signal_input};
+ghost use Rattle.njh_customer.specs.Alone.{replied_to, session_closed};
 ghost use Rattle.njh_line.specs.LineTable.{table_outcome, input_value};
 ghost use Rattle.njh_line.specs.Laws.{is_up};
 ghost use Rattle.njh_line.specs.Lines.{after_end, after_input};
-ghost use Rattle.njh_customer.specs.CustomerSteps.{IsReady, Leads, customer_of};
+ghost use Rattle.njh_customer.specs.CustomerSteps.{Acts, IsReady, IsThere, Leads, customer_of};
 ghost use Rattle.njh_customer.specs.Customer.{in_state, line_at, with_notice, on_line, receiver_at, with_receiver};
 ghost use Rattle.njh_customer.specs.Customer.{sender_at, with_sender};
 ghost use Rattle.njh_customer.specs.Waiting.{all_said, with_answer_on, goes, with_notice_to, with_message_to};
@@ -19,16 +20,16 @@ ghost use Rattle.njh_customer.specs.Waiting.{with_waiting};
 
 use crate::customer_line::CustomerLine;
 use crate::frame_buffer::FrameBuffer;
-use crate::signal::Signal;
-use njh_block::{Answer, BlockWriter, Stream};
+use crate::shared::Shared;
+use njh_block::{Answer, Rcb, Stream};
 use njh_command::{Replies, Senders};
 use njh_ebcdic::{FIELD, Name};
 use njh_line::{Input, Reply, Verdict};
 use njh_nmr::{LONGEST_MESSAGE, Nmr};
 use njh_record::Record;
-use njh_spool::{FileId, Spool};
+use njh_spool::FileId;
 use njh_stream::{Notice, Receiver, Sender};
-use njh_table::{LineId, NamedCustomer, Route, Tables};
+use njh_table::{LineId, NamedCustomer, Route};
 use std::alloc::{AllocError, Global};
 use std::marker::Model;
 
@@ -88,6 +89,14 @@ impl CustomerLines {
         self.lines[usize::from(line)].is_up()
     }
 
+    /// The stream of a line that an RCB names.
+    pub(crate) fn stream(&self, line: u16, rcb: Rcb) -> Option<Stream>
+        requires { line < length self.now }
+        ensures { result ≡ stream_of (line_at line self.now).streams rcb.byte }
+    {
+        rcb.stream(self.lines[usize::from(line)].streams())
+    }
+
     /// Says what a stream to the hub is about.
     pub(crate) fn set_receiver(&mut self, line: u16, stream: Stream, receiver: Receiver)
         requires { line < length self.old }
@@ -114,17 +123,6 @@ impl CustomerLines {
         self.lines[usize::from(line)].accept(input)
     }
 
-    /// Decides by the line table what a signal does.
-    pub(crate) fn accept_signal(&mut self, line: u16, signal: Signal) -> Verdict
-        requires { line < length self.old }
-        ensures verdict { result
-            ≡ (table_outcome (line_at line self.old).state.config (signal_input signal)
-            (line_at line self.old).state.session).verdict }
-        ensures lines { self.new ≡ on_line line (in_state (after_input (signal_input signal))) self.old }
-    {
-        accept_signal(&mut self.lines, line, signal)
-    }
-
     /// A record of a block ends the session of a line.
     pub(crate) fn end(&mut self, line: u16)
         requires { line < length self.old }
@@ -133,35 +131,29 @@ impl CustomerLines {
         self.lines[usize::from(line)].end();
     }
 
-    /// Sends what a verdict asks for. `block` is room for a block.
+    /// Sends what a verdict asks for.
     pub(crate) fn send_reply(
         &mut self,
         id: LineId,
         reply: Reply,
-        tables: &Tables,
-        spool: &mut Spool,
-        block: &mut BlockWriter,
+        shared: &mut Shared,
         out: &mut FrameBuffer,
     )
-        requires ready { IsReady tables.now id spool.old self.old }
-        ensures after { Leads tables.now id.customer spool.old spool.new self.new
-            (replied_to id.number reply (customer_of tables.now id.customer spool.old self.old)).after }
-        ensures frame { out.new ≡ (replied_to id.number reply
-            (customer_of tables.now id.customer spool.old self.old)).frame }
+        requires ready { IsReady id shared.old self.old }
+        ensures after { Leads id.customer shared.old shared.new self.new
+            (replied_to id.number reply (customer_of id.customer shared.old self.old)).after }
+        ensures frame { out.new ≡ (replied_to id.number reply (customer_of id.customer shared.old self.old)).frame }
     {
-        self.lines[usize::from(id.number)].send_reply(id, reply, tables, spool, block, out);
+        self.lines[usize::from(id.number)].send_reply(id, reply, shared, out);
     }
 
     /// The end of a line's session, by the marks as they are: what becomes of its streams' files, and its answers are
     /// gone.
-    pub(crate) fn end_session(&mut self, id: LineId, tables: &Tables, spool: &mut Spool)
-        requires known { id.customer < length tables.now.customers }
-        requires spooled { id.customer < length spool.old }
-        requires there { id.number < length self.old }
-        ensures { Leads tables.now id.customer spool.old spool.new self.new
-            (session_closed id.number (customer_of tables.now id.customer spool.old self.old)) }
+    pub(crate) fn end_session(&mut self, id: LineId, shared: &mut Shared)
+        requires there { IsThere id shared.old self.old }
+        ensures { Acts id shared.old self.old shared.new self.new (session_closed id.number) }
     {
-        self.lines[usize::from(id.number)].end_session(id, tables, spool);
+        self.lines[usize::from(id.number)].end_session(id, &shared.tables, &mut shared.spool);
     }
 
     /// Lets an answer to the peer of a line wait, if there is one.
@@ -265,27 +257,5 @@ impl Senders for CustomerLines {
         for line in 0..self.lines.len() {
             self.lines[line].give_up(file);
         }
-    }
-}
-
-/// Decides by the line table what a signal on a line does.
-fn accept_signal(lines: &mut [CustomerLine], line: u16, signal: Signal) -> Verdict
-    requires { line < length lines.old }
-    ensures verdict { result
-        ≡ (table_outcome (line_at line lines.old).state.config (signal_input signal)
-        (line_at line lines.old).state.session).verdict }
-    ensures lines { lines.new ≡ on_line line (in_state (after_input (signal_input signal))) lines.old }
-{
-    lines[usize::from(line)].accept(&signal_input(signal))
-}
-
-/// A signal, as it comes to its line.
-fn signal_input(signal: Signal) -> Input<'static>
-    ensures { input_value result ≡ signal_input signal }
-{
-    match signal {
-        Signal::Tick => Input::Tick,
-        Signal::Garbled => Input::Garbled,
-        Signal::Lost => Input::Lost,
     }
 }

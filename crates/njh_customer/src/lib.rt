@@ -1,6 +1,6 @@
 //! A customer by itself: its files and its lines, and what bytes and signals on one of these do and send.
 //!
-//! Nothing here knows of another customer.
+//! No step reads or changes another customer's entry or files.
 #![tactic(auto)]
 
 mod acting;
@@ -11,8 +11,8 @@ mod frame_buffer;
 mod laws;
 mod lines;
 mod new_routes;
-mod room;
 mod sending;
+mod shared;
 mod signal;
 
 pub use frame_buffer::FrameBuffer;
@@ -23,5 +23,5 @@ pub use laws::{
 };
 pub use lines::Lines;
 pub use new_routes::{routes_keep_coherent, unrouted_files_stay};
-pub use room::Room;
+pub use shared::Shared;
 pub use signal::Signal;

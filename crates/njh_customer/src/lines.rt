@@ -3,26 +3,23 @@
 ghost use Rattle.std.specs.Prelude.{◌≡◌, ◌<◌, ◌≤◌, length, map, slice_set, IfOk};
 ghost use Rattle.njh_bisync.specs.ByteSteps.{feed_outcome};
 ghost use Rattle.njh_spool.specs.CustomerSpool.{empty_spool};
-ghost use Rattle.njh_spool.specs.Spools.{spool_at};
 ghost use Rattle.njh_table.specs.Marks.{entry_unmarked};
-ghost use Rattle.njh_table.specs.TableFile.{customer_at, entry_of, password_bytes};
+ghost use Rattle.njh_table.specs.TableFile.{entry_of, password_bytes};
 ghost use Rattle.njh_customer.specs.Customer.{config_of, line_at, password_in};
 ghost use Rattle.njh_customer.specs.Feeding.{acted_on};
-ghost use Rattle.njh_customer.specs.CustomerSteps.{Brings, IsReady, KeepsOtherEntries, customer_of};
+ghost use Rattle.njh_customer.specs.CustomerSteps.{IsReady, Makes, PartMakes, part_of};
 ghost use Rattle.njh_customer.specs.Part.{rest_at};
 
-use crate::customer::{take_frame, take_signal};
 use crate::customer_line::CustomerLine;
 use crate::customer_lines::CustomerLines;
 use crate::frame_buffer::FrameBuffer;
-use crate::room::Room;
+use crate::shared::Shared;
 use crate::signal::Signal;
 use njh_bisync::Deframer;
 use njh_ebcdic::Name;
 use njh_line::{Config, Session};
-use njh_spool::Spool;
 use njh_stream::{Notice, Receiver, Sender};
-use njh_table::{LineId, NamedCustomer, Tables};
+use njh_table::{LineId, NamedCustomer};
 use std::alloc::{AllocError, Global};
 use std::marker::Model;
 
@@ -112,39 +109,28 @@ impl Lines {
     }
 
     /// One step by bytes of a line: those up to the end of the first frame that is answered, or all. Says how many. The
-    /// frame that is sent is put into `out`, which is empty then where none is. Nothing depends on what `room` held.
+    /// frame that is sent is put into `out`, which is empty then where none is. Nothing depends on what room `shared`
+    /// has.
     pub fn take_bytes(
         &mut self,
         id: LineId,
         piece: &[u8],
-        tables: &mut Tables,
-        spool: &mut Spool,
-        room: &mut Room,
+        shared: &mut Shared,
         out: &mut FrameBuffer,
     ) -> usize
-        requires ready { IsReady tables.old id spool.old self.old.lines }
+        requires ready { IsReady id shared.old self.old.lines }
         ensures taken { result
-            ≡ (part_after_bytes (part_with (entry_of (customer_at tables.old id.customer))
-            (spool_at id.customer spool.old) self.old) id.number piece.now).taken }
+            ≡ (part_after_bytes (part_of id.customer shared.old self.old) id.number piece.now).taken }
         ensures progress { 0 < length piece.now → 0 < result }
         ensures few { result ≤ length piece.now }
-        ensures part { part_with (entry_of (customer_at tables.new id.customer))
-            (spool_at id.customer spool.new) self.new
-            ≡ (part_after_bytes (part_with (entry_of (customer_at tables.old id.customer))
-            (spool_at id.customer spool.old) self.old) id.number piece.now).after }
-        ensures others { spool.new ≡ slice_set spool.old id.customer (spool_at id.customer spool.new) }
-        ensures entries { KeepsOtherEntries id.customer tables.old tables.new }
-        ensures ready { IsReady tables.new id spool.new self.new.lines }
-        ensures count { length self.new.lines ≡ length self.old.lines }
-        ensures frame { out.new
-            ≡ (part_after_bytes (part_with (entry_of (customer_at tables.old id.customer))
-            (spool_at id.customer spool.old) self.old) id.number piece.now).frame }
+        ensures step { let t = part_after_bytes (part_of id.customer shared.old self.old) id.number piece.now in
+            PartMakes id shared.old self.old shared.new self.new out.new t.after t.frame }
     {
         out.clear();
         let mut left = piece;
         let mut taken = 0;
         while !left.is_empty() && out.is_empty() {
-            let used = self.take_frame(id, left, tables, spool, room, out);
+            let used = self.take_frame(id, left, shared, out);
             taken += used;
             let (_, after) = left.split_at(used);
             left = after;
@@ -158,38 +144,21 @@ impl Lines {
         &mut self,
         id: LineId,
         piece: &[u8],
-        tables: &mut Tables,
-        spool: &mut Spool,
-        room: &mut Room,
+        shared: &mut Shared,
         out: &mut FrameBuffer,
     ) -> usize
-        requires ready { IsReady tables.old id spool.old self.old.lines }
+        requires ready { IsReady id shared.old self.old.lines }
         ensures taken { result ≡ (feed_outcome (rest_at id.number self.old.rests) piece.now).taken }
         ensures within { result ≤ length piece.now }
         ensures progress { 0 < length piece.now → 0 < result }
         ensures rest { rest_at id.number self.new.rests
             ≡ (feed_outcome (rest_at id.number self.old.rests) piece.now).rest }
         ensures rests { self.new.rests ≡ slice_set self.old.rests id.number (rest_at id.number self.new.rests) }
-        ensures after { Brings tables.old tables.new id.customer spool.old spool.new self.new.lines
-            (acted_on id.number (feed_outcome (rest_at id.number self.old.rests) piece.now).frame
-            (customer_of tables.old id.customer spool.old self.old.lines)).after }
-        ensures ready { IsReady tables.new id spool.new self.new.lines }
-        ensures count { length self.new.lines ≡ length self.old.lines }
-        ensures frame { out.new
-            ≡ (acted_on id.number (feed_outcome (rest_at id.number self.old.rests) piece.now).frame
-            (customer_of tables.old id.customer spool.old self.old.lines)).frame }
+        ensures step { Makes id shared.old self.old.lines shared.new self.new.lines out.new
+            (acted_on id.number (feed_outcome (rest_at id.number self.old.rests) piece.now).frame) }
     {
         let (taken, frame) = self.deframers[usize::from(id.number)].feed(piece);
-        take_frame(
-            id,
-            frame,
-            tables,
-            spool,
-            &mut self.lines,
-            &mut room.block,
-            &mut room.replies,
-            out,
-        );
+        shared.take_frame(id, frame, &mut self.lines, out);
         taken
     }
 
@@ -199,36 +168,18 @@ impl Lines {
         &mut self,
         id: LineId,
         signal: Signal,
-        tables: &mut Tables,
-        spool: &mut Spool,
-        room: &mut Room,
+        shared: &mut Shared,
         out: &mut FrameBuffer,
     )
-        requires ready { IsReady tables.old id spool.old self.old.lines }
-        ensures part { part_with (entry_of (customer_at tables.new id.customer))
-            (spool_at id.customer spool.new) self.new
-            ≡ (part_after_signal (part_with (entry_of (customer_at tables.old id.customer))
-            (spool_at id.customer spool.old) self.old) id.number signal).after }
-        ensures others { spool.new ≡ slice_set spool.old id.customer (spool_at id.customer spool.new) }
-        ensures entries { KeepsOtherEntries id.customer tables.old tables.new }
-        ensures ready { IsReady tables.new id spool.new self.new.lines }
-        ensures count { length self.new.lines ≡ length self.old.lines }
-        ensures frame { out.new
-            ≡ (part_after_signal (part_with (entry_of (customer_at tables.old id.customer))
-            (spool_at id.customer spool.old) self.old) id.number signal).frame }
+        requires ready { IsReady id shared.old self.old.lines }
+        ensures { let t = part_after_signal (part_of id.customer shared.old self.old) id.number signal in
+            PartMakes id shared.old self.old shared.new self.new out.new t.after t.frame }
     {
         self.deframers[usize::from(id.number)].reset();
-        take_signal(
-            id,
-            signal,
-            tables,
-            spool,
-            &mut self.lines,
-            &mut room.block,
-            out,
-        );
+        shared.take_signal(id, signal, &mut self.lines, out);
     }
 }
+
 /// What a line is told by the table.
 #[tactic(auto, using(crate::proofs::OpenLaws::password_in_name))]
 fn config_of(customer: &NamedCustomer, line: &njh_table::NamedLine) -> Config

@@ -11,6 +11,7 @@ use Rattle.njh_table.specs.declared.LineId.{LineId}
 use Rattle.njh_table.specs.TableFile.{NamedCustomer, TableFile, customer_at, entry_of, no_customer}
 use Rattle.njh_customer.specs.Customer.{IsMarked}
 use Rattle.njh_customer.specs.code.Coherence.{IsCoherent}
+use Rattle.njh_customer.specs.declared.shared.Shared.{Shared}
 use Rattle.njh_customer.specs.CustomerSteps.{IsReady, KeepsOtherEntries}
 use Rattle.njh_customer.specs.Part.{Part, Lines, part_with}
 use Rattle.njh_hub.specs.WholeHub.{no_part, part, HasLine, SameLines}
@@ -41,14 +42,14 @@ line-there table files lines id known =
     (cases_lt id.customer (length table.customers))
 
 -- it is ready for what comes next
-pub line-ready : (table : TableFile) (files : List CustomerSpool) (lines : List Lines) (id : LineId) → IsHub table files lines
-    → HasLine (parts_of table files lines) id → IsReady table id files (lines_at id.customer lines).lines
-line-ready table files lines id hub known =
-    let there = line-there table files lines id known in
+pub line-ready : (shared : Shared) (lines : List Lines) (id : LineId) → IsHub shared.tables shared.spool lines
+    → HasLine (parts_of shared.tables shared.spool lines) id → IsReady id shared (lines_at id.customer lines).lines
+line-ready shared lines id hub known =
+    let there = line-there shared.tables shared.spool lines id known in
     record {
       known = there;
       spooled = omega (arith, there, hub.spooled);
-      there = omega (arith, known, ap (λ (p : Part). length p.customer.lines) (part-there table files lines id.customer there));
+      there = omega (arith, known, ap (λ (p : Part). length p.customer.lines) (part-there shared.tables shared.spool lines id.customer there));
       coherent = hub.coherent id.customer there;
     }
 
@@ -151,83 +152,82 @@ entry-there table files lines parts c are there =
     ∙ ap (λ (p : Part). p.customer.entry) (part-there table files lines c there)
 
 -- What a step on a line finds in the hub: the lines of a customer that is there, and its part.
-pub record Found (table : TableFile) (files : List CustomerSpool) (lines : List Lines) (parts : List Part) (id : LineId) (x : Lines)
+pub record Found (shared : Shared) (lines : List Lines) (parts : List Part) (id : LineId) (x : Lines)
     : Type 0 where
-  pub hub : IsHub table files lines
-  pub are : parts_of table files lines ≡ parts
-  pub there : id.customer < length table.customers
+  pub hub : IsHub shared.tables shared.spool lines
+  pub are : parts_of shared.tables shared.spool lines ≡ parts
+  pub there : id.customer < length shared.tables.customers
   pub lines_is : x ≡ lines_at id.customer lines
-  pub ready : IsReady table id files x.lines
-  pub marked : IsMarked (part_with (entry_of (customer_at table id.customer)) (spools.spool_at id.customer files) x).customer
-  pub part_is : part_with (entry_of (customer_at table id.customer)) (spools.spool_at id.customer files) x ≡ part id.customer parts
+  pub ready : IsReady id shared x.lines
+  pub marked : IsMarked (part_with (entry_of (customer_at shared.tables id.customer)) (spools.spool_at id.customer shared.spool) x).customer
+  pub part_is : part_with (entry_of (customer_at shared.tables id.customer)) (spools.spool_at id.customer shared.spool) x ≡ part id.customer parts
 
-pub found : (table : TableFile) (files : List CustomerSpool) (lines : List Lines) (parts : List Part) (id : LineId) (x : Lines)
-    → IsHub table files lines → parts_of table files lines ≡ parts → HasLine parts id → x ≡ get_or lines id.customer x
-    → Found table files lines parts id x
-found table files lines parts id x hub are known here =
+pub found : (shared : Shared) (lines : List Lines) (parts : List Part) (id : LineId) (x : Lines)
+    → IsHub shared.tables shared.spool lines → parts_of shared.tables shared.spool lines ≡ parts → HasLine parts id → x ≡ get_or lines id.customer x
+    → Found shared lines parts id x
+found shared lines parts id x hub are known here =
     let c = id.customer in
-    let has : HasLine (parts_of table files lines) id = subst (λ (ps : List Part). HasLine ps id) (sym are) known in
-    let there = line-there table files lines id has in
+    let has : HasLine (parts_of shared.tables shared.spool lines) id = subst (λ (ps : List Part). HasLine ps id) (sym are) known in
+    let there = line-there shared.tables shared.spool lines id has in
     let is : x ≡ lines_at c lines = get_or_read lines c x (omega (arith, there, hub.lined)) here no_lines in
     record {
       hub = hub;
       are = are;
       there = there;
       lines_is = is;
-      ready = subst (λ (y : Lines). IsReady table id files y.lines) (sym is) (line-ready table files lines id hub has);
-      marked = subst (λ (y : Lines). IsMarked (part_with (entry_of (customer_at table c)) (spools.spool_at c files) y).customer) (sym is)
+      ready = subst (λ (y : Lines). IsReady id shared y.lines) (sym is) (line-ready shared lines id hub has);
+      marked = subst (λ (y : Lines). IsMarked (part_with (entry_of (customer_at shared.tables c)) (spools.spool_at c shared.spool) y).customer) (sym is)
           (hub.marked c there);
-      part_is = ap (part_with (entry_of (customer_at table c)) (spools.spool_at c files)) is ∙ sym (part-there table files lines c there)
+      part_is = ap (part_with (entry_of (customer_at shared.tables c)) (spools.spool_at c shared.spool)) is ∙ sym (part-there shared.tables shared.spool lines c there)
           ∙ ap (part c) are;
     }
 
 -- What a step on that line leads to: the customer is ready for the next, with as many lines, and those that are up are marked.
-pub record Stepped (table : TableFile) (files : List CustomerSpool) (x : Lines) (id : LineId)
-    (new : TableFile) (after : List CustomerSpool) (y : Lines) : Type 0 where
-  pub in_table : KeepsOtherEntries id.customer table new
-  pub in_files : after ≡ slice_set files id.customer (spools.spool_at id.customer after)
-  pub ready : IsReady new id after y.lines
-  pub marked : IsMarked (part_with (entry_of (customer_at new id.customer)) (spools.spool_at id.customer after) y).customer
+pub record Stepped (shared : Shared) (x : Lines) (id : LineId) (new : Shared) (y : Lines) : Type 0 where
+  pub in_table : KeepsOtherEntries id.customer shared.tables new.tables
+  pub in_files : new.spool ≡ slice_set shared.spool id.customer (spools.spool_at id.customer new.spool)
+  pub ready : IsReady id new y.lines
+  pub marked : IsMarked (part_with (entry_of (customer_at new.tables id.customer)) (spools.spool_at id.customer new.spool) y).customer
   pub count : length y.lines ≡ length x.lines
 
-pub stepped : {table : TableFile} {files : List CustomerSpool} {lines : List Lines} {parts : List Part} {id : LineId} {x : Lines}
-    {new : TableFile} {after : List CustomerSpool} {y : Lines} → Found table files lines parts id x
-    → Stepped table files x id new after y → Moves table files lines id.customer new after (set lines id.customer y)
-stepped {table} {files} {lines} {parts} {id} {x} {new} {after} {y} f t =
+pub stepped : {shared : Shared} {lines : List Lines} {parts : List Part} {id : LineId} {x : Lines}
+    {new : Shared} {y : Lines} → Found shared lines parts id x
+    → Stepped shared x id new y → Moves shared.tables shared.spool lines id.customer new.tables new.spool (set lines id.customer y)
+stepped {shared} {lines} {parts} {id} {x} {new} {y} f t =
     let c = id.customer in
     let is : y ≡ lines_at c (set lines c y) = sym (get_or-set_same lines c y no_lines (omega (arith, f.there, f.hub.lined))) in
     record {
       hub = f.hub;
       there = f.there;
-      in_table = subst (λ (n : TableFile). DifferAt no_customer c table.customers n.customers) (sym t.in_table)
-          (differ-set no_customer c table.customers (customer_at new c));
-      in_files = subst (λ (ss : List CustomerSpool). DifferAt spools.no_spool c files ss) (sym t.in_files)
-          (differ-set spools.no_spool c files (spools.spool_at c after));
+      in_table = subst (λ (n : TableFile). DifferAt no_customer c shared.tables.customers n.customers) (sym t.in_table)
+          (differ-set no_customer c shared.tables.customers (customer_at new.tables c));
+      in_files = subst (λ (ss : List CustomerSpool). DifferAt spools.no_spool c shared.spool ss) (sym t.in_files)
+          (differ-set spools.no_spool c shared.spool (spools.spool_at c new.spool));
       in_lines = differ-set no_lines c lines y;
-      coherent = subst (λ (l : Lines). IsCoherent (part_with (entry_of (customer_at new c)) (spools.spool_at c after) l).customer) is
+      coherent = subst (λ (l : Lines). IsCoherent (part_with (entry_of (customer_at new.tables c)) (spools.spool_at c new.spool) l).customer) is
           t.ready.coherent;
-      marked = subst (λ (l : Lines). IsMarked (part_with (entry_of (customer_at new c)) (spools.spool_at c after) l).customer) is t.marked;
+      marked = subst (λ (l : Lines). IsMarked (part_with (entry_of (customer_at new.tables c)) (spools.spool_at c new.spool) l).customer) is t.marked;
     }
 
 -- so its part becomes another, and no other does
-pub step-leads : {table : TableFile} {files : List CustomerSpool} {lines : List Lines} {parts : List Part} {id : LineId} {x : Lines}
-    {new : TableFile} {after : List CustomerSpool} {y : Lines} → Found table files lines parts id x
-    → Stepped table files x id new after y
-    → (p : Part) → part_with (entry_of (customer_at new id.customer)) (spools.spool_at id.customer after) y ≡ p
-    → parts_of new after (set lines id.customer y) ≡ set parts id.customer p
-step-leads {table} {files} {lines} {parts} {id} {x} {new} {after} {y} f t p is =
+pub step-leads : {shared : Shared} {lines : List Lines} {parts : List Part} {id : LineId} {x : Lines}
+    {new : Shared} {y : Lines} → Found shared lines parts id x
+    → Stepped shared x id new y
+    → (p : Part) → part_with (entry_of (customer_at new.tables id.customer)) (spools.spool_at id.customer new.spool) y ≡ p
+    → parts_of new.tables new.spool (set lines id.customer y) ≡ set parts id.customer p
+step-leads {shared} {lines} {parts} {id} {x} {new} {y} f t p is =
     let c = id.customer in
     parts-moved (stepped f t)
     ∙ ap₂ (λ (ps : List Part) (q : Part). set ps c q) f.are
-    (ap (part_with (entry_of (customer_at new c)) (spools.spool_at c after))
+    (ap (part_with (entry_of (customer_at new.tables c)) (spools.spool_at c new.spool))
     (get_or-set_same lines c y no_lines (omega (arith, f.there, f.hub.lined))) ∙ is)
 
 -- and each keeps as many lines
-pub step-lines : {table : TableFile} {files : List CustomerSpool} {lines : List Lines} {parts : List Part} {id : LineId} {x : Lines}
-    {new : TableFile} {after : List CustomerSpool} {y : Lines} → Found table files lines parts id x
-    → Stepped table files x id new after y
-    → (p : Part) → part_with (entry_of (customer_at new id.customer)) (spools.spool_at id.customer after) y ≡ p
+pub step-lines : {shared : Shared} {lines : List Lines} {parts : List Part} {id : LineId} {x : Lines}
+    {new : Shared} {y : Lines} → Found shared lines parts id x
+    → Stepped shared x id new y
+    → (p : Part) → part_with (entry_of (customer_at new.tables id.customer)) (spools.spool_at id.customer new.spool) y ≡ p
     → SameLines parts (set parts id.customer p)
-step-lines {table} {files} {lines} {parts} {id} {x} {new} {after} {y} f t p is =
-    lines-stay parts id.customer p (customer-known table files lines parts id.customer f.are f.there)
+step-lines {shared} {lines} {parts} {id} {x} {new} {y} f t p is =
+    lines-stay parts id.customer p (customer-known shared.tables shared.spool lines parts id.customer f.are f.there)
     (ap (λ (q : Part). length q.customer.lines) (sym is) ∙ t.count ∙ ap (λ (q : Part). length q.customer.lines) f.part_is)

@@ -7,6 +7,13 @@ use Rattle.njh_hub.specs.declared.fault.HubFault.{HubFault}
 use Rattle.njh_hub.specs.declared.fault.HubFault.TheVariants.{UnknownLine, Memory}
 use Rattle.njh_hub.specs.WholeHub.{Part, part, HasLine, SameLines}
 
+-- New routes of a customer leave the others' parts, and each as many lines; where they are refused, all is as it was.
+pub record RoutesLeave {A : Type 0} (parts : List Part) (customer : ℕ) (result : Result A HubFault)
+    (new : List Part) : Type 0 where
+  pub others : (c : ℕ) → c ≢ customer → part c new ≡ part c parts
+  pub lines : SameLines parts new
+  pub err : OnErr result (new ≡ parts)
+
 -- A step on a line leads that line's customer to `after` and no other anywhere, and puts what it sent in the place of
 -- what `out` held; or it is refused, and nothing has changed.
 pub record IsStep {A Z : Type 0} (parts : List Part) (id : LineId) (after : Part) (sent : List ℕ) (out : Vec ℕ Z)

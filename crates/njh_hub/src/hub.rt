@@ -16,8 +16,7 @@ use crate::fault::HubFault;
 use crate::file_view::{FileView, files_of};
 use crate::opening::{all_down, open_lines, open_spool};
 use njh_bisync::LONGEST_FRAME;
-use njh_customer::{FrameBuffer, Lines, Room, Signal, marks_are_right, opened_is_coherent};
-use njh_spool::Spool;
+use njh_customer::{FrameBuffer, Lines, Shared, Signal, marks_are_right, opened_is_coherent};
 use njh_table::{LineId, Tables, marks_change_one_entry};
 use std::alloc::Global;
 use std::marker::Model;
@@ -27,11 +26,9 @@ use std::mem;
 /// customers' parts.
 #[derive(Drop)]
 pub struct Hub {
-    tables: Tables,
-    spool: Spool,
+    /// The tables and the files, and what a step writes in; it is lent to each customer in turn.
+    shared: Shared,
     lines: Vec<Lines>,
-    /// What a step writes in; it is lent to each customer in turn, and says nothing of any.
-    room: Room,
     alloc: Global,
 }
 
@@ -43,9 +40,9 @@ impl Model for Hub {
 
     ghost Value = { List Part };
 
-    ghost view = { λ hub. parts_of hub.tables hub.spool hub.lines.items };
+    ghost view = { λ hub. parts_of hub.shared.tables hub.shared.spool hub.lines.items };
 
-    ghost invariant = { λ hub. IsHub hub.tables hub.spool hub.lines.items };
+    ghost invariant = { λ hub. IsHub hub.shared.tables hub.shared.spool hub.lines.items };
 }
 
 impl Hub {
@@ -66,10 +63,8 @@ impl Hub {
         let spool = open_spool(alloc, &tables)?;
         let lines = open_lines(alloc, &tables)?;
         Ok(Hub {
-            tables,
-            spool,
+            shared: Shared::new(tables, spool),
             lines,
-            room: Room::new(),
             alloc,
         })
     }
@@ -98,7 +93,7 @@ impl Hub {
         if usize::from(customer) >= self.lines.len() {
             return Err(HubFault::UnknownCustomer);
         }
-        let files = files_of(self.alloc, &self.spool, customer)?;
+        let files = files_of(self.alloc, &self.shared.spool, customer)?;
         Ok(files)
     }
 
@@ -113,8 +108,8 @@ impl Hub {
         if usize::from(customer) >= self.lines.len() {
             return Err(HubFault::UnknownCustomer);
         }
-        self.spool.quota_holds(customer);
-        Ok(self.spool.used(customer))
+        self.shared.spool.quota_holds(customer);
+        Ok(self.shared.spool.used(customer))
     }
 
     /// Law: which of a customer's lines count as up where a route has a second line: those whose sessions are up, and
@@ -123,7 +118,7 @@ impl Hub {
         requires { customer < length self.now }
         ensures { IsMarked (part customer self.now).customer }
     {
-        let _tables = &self.tables;
+        let _tables = &self.shared.tables;
     }
 
     /// Where the hub's memory comes from.
@@ -147,14 +142,7 @@ impl Hub {
         marks_are_right();
         let mut frame = self.frame_buffer(id, out)?;
         let lines = &mut self.lines[usize::from(id.customer)];
-        let taken = lines.take_bytes(
-            id,
-            piece,
-            &mut self.tables,
-            &mut self.spool,
-            &mut self.room,
-            &mut frame,
-        );
+        let taken = lines.take_bytes(id, piece, &mut self.shared, &mut frame);
         *out = frame.into_bytes();
         Ok(taken)
     }
@@ -196,14 +184,7 @@ impl Hub {
         marks_are_right();
         let mut frame = self.frame_buffer(id, out)?;
         let lines = &mut self.lines[usize::from(id.customer)];
-        lines.take_signal(
-            id,
-            signal,
-            &mut self.tables,
-            &mut self.spool,
-            &mut self.room,
-            &mut frame,
-        );
+        lines.take_signal(id, signal, &mut self.shared, &mut frame);
         *out = frame.into_bytes();
         Ok(())
     }

@@ -5,7 +5,7 @@ ghost use Rattle.njh_spool.specs.CustomerSpool.{empty_spool};
 
 use crate::samples::TABLES;
 use njh_bisync::LONGEST_FRAME;
-use njh_customer::{FrameBuffer, Lines, Room, Signal, opened_is_coherent};
+use njh_customer::{FrameBuffer, Lines, Shared, Signal, opened_is_coherent};
 use njh_spool::{Quota, Spool, SpoolFault};
 use njh_table::{LineId, NamedCustomer, Tables};
 use std::alloc::{AllocError, Global};
@@ -17,10 +17,8 @@ use std::test::Fail;
 /// last.
 #[derive(Drop)]
 pub struct Desk {
-    tables: Tables,
-    spool: Spool,
+    shared: Shared,
     lines: Lines,
-    room: Room,
     frame: FrameBuffer,
 }
 
@@ -33,8 +31,8 @@ impl Model for Desk {
 
     ghost view = { λ d. tt };
 
-    ghost invariant = { λ d. (0 < length d.tables.customers) × (0 < length d.spool)
-        × IsCoherent (customer_of d.tables 0 d.spool d.lines.lines) };
+    ghost invariant = { λ d. (0 < length d.shared.tables.customers) × (0 < length d.shared.spool)
+        × IsCoherent (customer_of 0 d.shared d.lines.lines) };
 }
 
 /// A spool of a customer's quota.
@@ -59,10 +57,8 @@ impl Desk {
         let lines = Lines::open(alloc, tables.customer(0))?;
         let frame = FrameBuffer::of(Vec::with_capacity(alloc, LONGEST_FRAME)?);
         Ok(Desk {
-            tables,
-            spool,
+            shared: Shared::new(tables, spool),
             lines,
-            room: Room::new(),
             frame,
         })
     }
@@ -76,14 +72,8 @@ impl Desk {
             customer: 0,
             number: line,
         };
-        self.lines.take_bytes(
-            id,
-            piece,
-            &mut self.tables,
-            &mut self.spool,
-            &mut self.room,
-            &mut self.frame,
-        )
+        self.lines
+            .take_bytes(id, piece, &mut self.shared, &mut self.frame)
     }
 
     /// A signal comes on a line.
@@ -93,14 +83,8 @@ impl Desk {
                 customer: 0,
                 number: line,
             };
-            self.lines.take_signal(
-                id,
-                signal,
-                &mut self.tables,
-                &mut self.spool,
-                &mut self.room,
-                &mut self.frame,
-            );
+            self.lines
+                .take_signal(id, signal, &mut self.shared, &mut self.frame);
         }
     }
 

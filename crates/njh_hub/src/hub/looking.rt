@@ -104,7 +104,7 @@ impl Hub {
         if usize::from(customer) >= self.lines.len() {
             return None;
         }
-        file_summary(&self.spool, customer, file)
+        file_summary(&self.shared.spool, customer, file)
     }
 
     /// How many blocks a customer's files may take. `UnknownCustomer` comes where the hub has no such customer.
@@ -116,6 +116,6 @@ impl Hub {
         if usize::from(customer) >= self.lines.len() {
             return Err(HubFault::UnknownCustomer);
         }
-        Ok(self.tables.customer(customer).quota())
+        Ok(self.shared.tables.customer(customer).quota())
     }
 }

@@ -1,11 +1,12 @@
 //! A customer that is given new routes while the hub runs.
 
-ghost use Rattle.std.specs.Prelude.{◌≡◌, ◌≢◌, ℕ, ◌<◌, length, slice_set, OnOk, OnErr, Ok, Err};
+ghost use Rattle.std.specs.Prelude.{◌≡◌, ◌<◌, length, slice_set, OnOk, OnErr, Ok, Err};
 ghost use Rattle.njh_customer.specs.NewRoutes.{part_after_routes};
 ghost use Rattle.njh_table.specs.NewRoutes.{new_routes_of, routes_checked, entries_of_routes, with_routes};
 ghost use Rattle.njh_table.specs.TableFile.{customer_at, entry_of};
 ghost use Rattle.njh_table.specs.declared.fault.TableFault.{TableFault};
-ghost use Rattle.njh_hub.specs.WholeHub.{part, SameLines};
+ghost use Rattle.njh_hub.specs.Steps.{RoutesLeave};
+ghost use Rattle.njh_hub.specs.WholeHub.{part};
 
 use crate::fault::HubFault;
 use crate::hub::Hub;
@@ -23,8 +24,7 @@ impl Hub {
         ensures hub { OnOk result (self.new
             ≡ slice_set self.old customer (part_after_routes (entries_of_routes (new_routes_of customer routes.now))
             (part customer self.old))) }
-        ensures others { (c : ℕ) → c ≢ customer → part c self.new ≡ part c self.old }
-        ensures lines { SameLines self.old self.new }
+        ensures stays { RoutesLeave self.old customer result self.new }
         ensures known { OnOk result (customer < length self.old) }
         ensures checked { OnOk result (routes_checked (part customer self.old).customer.entry
             (new_routes_of customer routes.now) ≡ Ok tt) }
@@ -35,18 +35,17 @@ impl Hub {
         ensures memory { customer < length self.old →
             routes_checked (part customer self.old).customer.entry (new_routes_of customer routes.now) ≡ Ok tt →
             OnErr result (result ≡ Err HubFault.Memory) }
-        ensures err { OnErr result (self.new ≡ self.old) }
     {
         if usize::from(customer) >= self.lines.len() {
             return Err(HubFault::UnknownCustomer);
         }
-        match set_in_tables(&mut self.tables, customer, routes) {
+        match set_in_tables(&mut self.shared.tables, customer, routes) {
             Ok(()) => {}
             Err(fault) => return Err(fault),
         }
         routes_keep_coherent();
         let lines = &self.lines[usize::from(customer)];
-        lines.set_routes(customer, &self.tables, &mut self.spool);
+        lines.set_routes(customer, &self.shared.tables, &mut self.shared.spool);
         Ok(())
     }
 }

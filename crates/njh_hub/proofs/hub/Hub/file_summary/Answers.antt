@@ -10,7 +10,7 @@ use Rattle.njh_hub.proofs.hub.Hub.file_summary.Goals as goal
 pub returns-then-from-len : goal.returns-then-from-len
 returns-then-from-len c =
     let s = c.self.inside in
-    let count = length-parts_of s.tables s.spool s.lines.items in
+    let count = length-parts_of s.shared.tables s.shared.spool s.lines.items in
     let past : length c.args.self.now ≤ c.args.customer =
     omega (arith, count, ap (λ (ps : List Part). length ps) c.self.view_is, s.lines.ok.0, c.self.invariant.lined) in
     sym (ap (λ (p : Part). option_map file_summary (whole_numbered c.args.file p.customer.spool))
@@ -19,8 +19,8 @@ returns-then-from-len c =
 pub returns : goal.returns
 returns c =
     let s = c.self.inside in
-    let there : c.args.customer < length s.tables.customers = omega (arith, s.lines.ok.0, c.self.invariant.lined) in
+    let there : c.args.customer < length s.shared.tables.customers = omega (arith, s.lines.ok.0, c.self.invariant.lined) in
     c.file_summary.ensures
     ∙ ap (λ (p : Part). option_map file_summary (whole_numbered c.args.file p.customer.spool))
-    (sym (part-there s.tables s.spool s.lines.items c.args.customer there))
+    (sym (part-there s.shared.tables s.shared.spool s.lines.items c.args.customer there))
     ∙ ap (λ (ps : List Part). option_map file_summary (whole_file_on c.args.customer c.args.file ps)) c.self.view_is

@@ -7,31 +7,31 @@ use Rattle.njh_hub.proofs.hub.Hub.files.Goals as goal
 pub returns-then-from-len-clause-memory : goal.returns-then-from-len-clause-memory
 returns-then-from-len-clause-memory c =
     let s = c.self.inside in
-    let count = length-parts_of s.tables s.spool s.lines.items in
+    let count = length-parts_of s.shared.tables s.shared.spool s.lines.items in
     λ here. absurd (omega (arith, here, count, ap (λ (ps : List Part). length ps) c.self.view_is, s.lines.ok.0, c.self.invariant.lined))
 
 pub returns-clause-files : goal.returns-clause-files
 returns-clause-files c =
     let s = c.self.inside in
-    let there : c.args.customer < length s.tables.customers = omega (arith, s.lines.ok.0, c.self.invariant.lined) in
+    let there : c.args.customer < length s.shared.tables.customers = omega (arith, s.lines.ok.0, c.self.invariant.lined) in
     c.in_ok-files.ensures.files
-    ∙ ap (λ (p : Part). files_of p.customer.spool) (sym (part-there s.tables s.spool s.lines.items c.args.customer there))
+    ∙ ap (λ (p : Part). files_of p.customer.spool) (sym (part-there s.shared.tables s.shared.spool s.lines.items c.args.customer there))
     ∙ ap (files_at c.args.customer) c.self.view_is
 
 pub returns-clause-known : goal.returns-clause-known
 returns-clause-known c =
     let s = c.self.inside in
-    let count = length-parts_of s.tables s.spool s.lines.items in
+    let count = length-parts_of s.shared.tables s.shared.spool s.lines.items in
     omega (arith, count, ap (λ (ps : List Part). length ps) c.self.view_is, s.lines.ok.0, c.self.invariant.lined)
 
 pub returns-in_err-files-clause-unknown : goal.returns-in_err-files-clause-unknown
 returns-in_err-files-clause-unknown c =
     let s = c.self.inside in
-    let count = length-parts_of s.tables s.spool s.lines.items in
+    let count = length-parts_of s.shared.tables s.shared.spool s.lines.items in
     λ nowhere. absurd (nowhere (omega (arith, count, ap (λ (ps : List Part). length ps) c.self.view_is, s.lines.ok.0, c.self.invariant.lined)))
 
 pub returns-clause-unknown : goal.returns-clause-unknown
 returns-clause-unknown c =
     let s = c.self.inside in
-    let count = length-parts_of s.tables s.spool s.lines.items in
+    let count = length-parts_of s.shared.tables s.shared.spool s.lines.items in
     λ nowhere. absurd (nowhere (omega (arith, count, ap (λ (ps : List Part). length ps) c.self.view_is, s.lines.ok.0, c.self.invariant.lined)))

@@ -16,32 +16,32 @@ pub index_mut-lines-requires : goal.index_mut-lines-requires
 index_mut-lines-requires c =
     let s = c.self.inside in
     let known = subst (λ ps. HasLine ps c.args.id) (sym c.self.view_is) c.in_ok-frame.ensures.known in
-    omega (arith, line-there s.tables s.spool s.lines.items c.args.id known, c.self.invariant.lined, s.lines.ok.0)
+    omega (arith, line-there s.shared.tables s.shared.spool s.lines.items c.args.id known, c.self.invariant.lined, s.lines.ok.0)
 
 pub take_signal-requires : goal.take_signal-requires
 take_signal-requires c =
     let s = c.self.inside in
     let x = c.index_mut-lines.result.now in
     let here : x ≡ get_or s.lines.items c.args.id.customer x = search rules in
-    let f = found s.tables s.spool s.lines.items c.args.self.now c.args.id x c.self.invariant c.self.view_is c.in_ok-frame.ensures.known here in
+    let f = found s.shared s.lines.items c.args.self.now c.args.id x c.self.invariant c.self.view_is c.in_ok-frame.ensures.known here in
     record { ready = f.ready }
 
 -- what the step finds, and what it leads to
-finds : (c : After-drop-out) → Found c.self.inside.tables c.self.inside.spool c.self.inside.lines.items c.args.self.now c.args.id
+finds : (c : After-drop-out) → Found c.self.inside.shared c.self.inside.lines.items c.args.self.now c.args.id
     c.index_mut-lines.result.now
 finds c =
     let s = c.self.inside in
     let x = c.index_mut-lines.result.now in
     let here : x ≡ get_or s.lines.items c.args.id.customer x = search rules in
-    found s.tables s.spool s.lines.items c.args.self.now c.args.id x c.self.invariant c.self.view_is c.in_ok-frame.ensures.known here
+    found s.shared s.lines.items c.args.self.now c.args.id x c.self.invariant c.self.view_is c.in_ok-frame.ensures.known here
 
-steps : (c : After-drop-out) → Stepped c.self.inside.tables c.self.inside.spool c.index_mut-lines.result.now c.args.id
-    c.take_signal.new.tables c.take_signal.new.spool c.take_signal.new.self
+steps : (c : After-drop-out) → Stepped c.self.inside.shared c.index_mut-lines.result.now c.args.id
+    c.take_signal.new.shared c.take_signal.new.self
 steps c =
     let s = c.self.inside in
     let t = c.take_signal in
     let n = c.args.id.customer in
-    let p = part_with (entry_of (customer_at s.tables n)) (spools.spool_at n s.spool) c.index_mut-lines.result.now in
+    let p = part_with (entry_of (customer_at s.shared.tables n)) (spools.spool_at n s.shared.spool) c.index_mut-lines.result.now in
     record {
       in_table = t.ensures.entries;
       in_files = t.ensures.others;
@@ -56,19 +56,19 @@ abbrev after : (c : After-drop-out) → Part
 after c = let p = part c.args.id.customer c.args.self.now in (part_after_signal p c.args.id.number c.args.signal).after
 
 leads : (c : After-drop-out)
-    → parts_of c.take_signal.new.tables c.take_signal.new.spool
+    → parts_of c.take_signal.new.shared.tables c.take_signal.new.shared.spool
     (slice_set c.self.inside.lines.items c.from.result c.take_signal.new.self)
     ≡ slice_set c.args.self.now c.args.id.customer (after c)
 leads c =
     let t = c.take_signal in
-    ap (λ (n : ℕ). parts_of t.new.tables t.new.spool (slice_set c.self.inside.lines.items n t.new.self)) c.from.ensures
+    ap (λ (n : ℕ). parts_of t.new.shared.tables t.new.shared.spool (slice_set c.self.inside.lines.items n t.new.self)) c.from.ensures
     ∙ step-leads (finds c) (steps c) (after c)
     (t.ensures.part ∙ ap (λ (p : Part). (part_after_signal p c.args.id.number c.args.signal).after) (finds c).part_is)
 
 pub invariant_of-self : goal.invariant_of-self
 invariant_of-self c =
     let t = c.take_signal in
-    subst (λ (n : ℕ). IsHub t.new.tables t.new.spool (slice_set c.self.inside.lines.items n t.new.self)) (sym c.from.ensures)
+    subst (λ (n : ℕ). IsHub t.new.shared.tables t.new.shared.spool (slice_set c.self.inside.lines.items n t.new.self)) (sym c.from.ensures)
     (hub-moved (stepped (finds c) (steps c)))
 
 pub returns : goal.returns

@@ -9,25 +9,25 @@ use Rattle.njh_hub.proofs.hub.Hub.used.Goals as goal
 pub returns-clause-used : goal.returns-clause-used
 returns-clause-used c =
     let s = c.self.inside in
-    let there : c.args.customer < length s.tables.customers = omega (arith, s.lines.ok.0, c.self.invariant.lined) in
-    c.used.ensures ∙ ap (λ (p : Part). used_blocks p.customer.spool) (sym (part-there s.tables s.spool s.lines.items c.args.customer there))
+    let there : c.args.customer < length s.shared.tables.customers = omega (arith, s.lines.ok.0, c.self.invariant.lined) in
+    c.used.ensures ∙ ap (λ (p : Part). used_blocks p.customer.spool) (sym (part-there s.shared.tables s.shared.spool s.lines.items c.args.customer there))
     ∙ ap (λ (ps : List Part). used_blocks (part c.args.customer ps).customer.spool) c.self.view_is
 
 pub returns-clause-quota : goal.returns-clause-quota
 returns-clause-quota c =
     let s = c.self.inside in
     let n = c.args.customer in
-    let there : n < length s.tables.customers = omega (arith, s.lines.ok.0, c.self.invariant.lined) in
-    let entry_quota : (spools.spool_at n s.spool).quota ≡ (part n c.args.self.now).customer.entry.quota =
+    let there : n < length s.shared.tables.customers = omega (arith, s.lines.ok.0, c.self.invariant.lined) in
+    let entry_quota : (spools.spool_at n s.shared.spool).quota ≡ (part n c.args.self.now).customer.entry.quota =
     (c.self.invariant.coherent n there).quota
-    ∙ ap (λ (p : Part). p.customer.entry.quota) (sym (part-there s.tables s.spool s.lines.items n there))
+    ∙ ap (λ (p : Part). p.customer.entry.quota) (sym (part-there s.shared.tables s.shared.spool s.lines.items n there))
     ∙ ap (λ (ps : List Part). (part n ps).customer.entry.quota) c.self.view_is in
     omega (arith, c.used.ensures, c.quota_holds.ensures.blocks, entry_quota)
 
 pub returns-then-from-len-clause-known : goal.returns-then-from-len-clause-known
 returns-then-from-len-clause-known c =
     let s = c.self.inside in
-    let count = length-parts_of s.tables s.spool s.lines.items in (
+    let count = length-parts_of s.shared.tables s.shared.spool s.lines.items in (
       λ e. absurd (false≢true e),
       λ here. absurd (omega (arith, here, count, ap (λ (ps : List Part). length ps) c.self.view_is, s.lines.ok.0, c.self.invariant.lined)),
     )
@@ -35,5 +35,5 @@ returns-then-from-len-clause-known c =
 pub returns-clause-known : goal.returns-clause-known
 returns-clause-known c =
     let s = c.self.inside in
-    let count = length-parts_of s.tables s.spool s.lines.items in
+    let count = length-parts_of s.shared.tables s.shared.spool s.lines.items in
     (λ _. omega (arith, count, ap (λ (ps : List Part). length ps) c.self.view_is, s.lines.ok.0, c.self.invariant.lined), λ _. refl)

@@ -1,11 +1,12 @@
 -- The customer that was just opened is coherent.
-use Rattle.std.proofs.Common.{◌≡◌, ◌<◌, ◌≤◌, false, [], ◌∷◌, length, get_or, sym, ap, subst, ◌∙◌, rules, arith}
+use Rattle.std.proofs.Common.{◌≡◌, ◌<◌, ◌≤◌, false, List, [], ◌∷◌, length, get_or, sym, ap, subst, ◌∙◌, rules, arith}
 use Rattle.std.proofs.lemmas.List.{length-map}
 use Rattle.std.specs.List.{All}
 use Rattle.std.proofs.lemmas.List.Elements.{All-map}
-use Rattle.njh_spool.specs.CustomerSpool.{empty_spool}
+use Rattle.njh_spool.specs.CustomerSpool.{CustomerSpool, empty_spool}
+use Rattle.njh_spool.specs.Spools.{spool_at}
 use Rattle.njh_table.specs.Marks.{entry_unmarked}
-use Rattle.njh_table.specs.TableFile.{customer_at, entry_of, no_customer}
+use Rattle.njh_table.specs.TableFile.{TableFile, customer_at, entry_of, no_customer}
 use Rattle.njh_customer.specs.Customer.{customer_with, fresh_customer}
 use Rattle.njh_customer.specs.code.Coherence.{IsCoherent}
 use Rattle.tests_customer.proofs.desk.Desk.open.Goals as goal
@@ -38,4 +39,9 @@ invariant_of-result g c =
           ∙ sym (length-map entry.lines (λ _. false) ∙ length-map named.lines (λ l. l.entry))
           ∙ fresh.marks;
     } in
-    (some, spooled, subst IsCoherent (sym (ap (λ s. customer_with entry s lines.lines) spool_is)) own)
+    let Opened : TableFile → List CustomerSpool → Type 0 = λ t s.
+    (0 < length t.customers) × (0 < length s) × IsCoherent (customer_with (entry_of (customer_at t 0)) (spool_at 0 s) lines.lines) in
+    let opened : Opened tables c.in_ok-spool.spool =
+    (some, spooled, subst IsCoherent (sym (ap (λ s. customer_with entry s lines.lines) spool_is)) own) in
+    subst (λ t. Opened t c.new.result.spool) (sym c.new.ensures.tables)
+    (subst (λ s. Opened tables s) (sym c.new.ensures.spool) opened)

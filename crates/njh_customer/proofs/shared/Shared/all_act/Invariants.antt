@@ -2,15 +2,16 @@ use Rattle.std.proofs.Common.{◌≡◌, length, slice_set}
 use Rattle.njh_spool.specs.Spools.{spool_at}
 use Rattle.njh_customer.specs.Acting.{all_acted}
 use Rattle.njh_customer.specs.CustomerSteps.{IsReady, customer_of}
-use Rattle.njh_customer.proofs.acting.all_act.Given as goal
+use Rattle.njh_customer.proofs.shared.Shared.all_act.Given as goal
 
 -- what is left to act is what leads on from here
 abbrev pub invariant-records : goal.invariant-records
 invariant-records l = record {
-  rest : all_acted l.id.number l.block.items (customer_of l.tables l.id.customer l.spool l.lines)
-      ≡ all_acted l.id.number l.fn.block.items (customer_of l.tables l.id.customer l.fn.spool l.fn.lines);
-  others : l.spool ≡ slice_set l.fn.spool l.id.customer (spool_at l.id.customer l.spool);
-  ready : IsReady l.tables l.id l.spool l.lines;
+  rest : all_acted l.id.number l.block.items (customer_of l.id.customer l.self l.lines)
+      ≡ all_acted l.id.number l.fn.block.items (customer_of l.id.customer l.fn.self l.fn.lines);
+  others : l.self.spool ≡ slice_set l.fn.self.spool l.id.customer (spool_at l.id.customer l.self.spool);
+  tables : l.self.tables ≡ l.fn.self.tables;
+  ready : IsReady l.id l.self l.lines;
 }
 
 abbrev pub decreases-records : goal.decreases-records

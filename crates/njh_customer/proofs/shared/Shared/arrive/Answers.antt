@@ -6,12 +6,12 @@ use Rattle.njh_stream.specs.code.Agreement.{Agrees}
 use Rattle.njh_customer.specs.Customer.{receiver_at}
 use Rattle.njh_customer.specs.CustomerSteps.{customer_of}
 use Rattle.njh_customer.proofs.CoherenceLaws.{agrees_there}
-use Rattle.njh_customer.proofs.acting.arrive.Goals as goal
+use Rattle.njh_customer.proofs.shared.Shared.arrive.Goals as goal
 
 pub step-step-requires-clause-agrees : goal.step-step-requires-clause-agrees
 step-step-requires-clause-agrees c =
     let id = c.args.id in
-    subst (λ r. Agrees (kind_of c.args.stream) r (spool_at id.customer c.args.spool.now))
-    (sym (c.receiver-receiver.ensures ∙ ap (receiver_at c.args.stream) c.line.ensures))
-    (agrees_there id.number c.args.stream (customer_of c.args.tables.now id.customer c.args.spool.now c.args.lines.now)
-    c.requires.ready.coherent)
+    let stream = c.in-Some.stream in
+    subst (λ r. Agrees (kind_of stream) r (spool_at id.customer c.args.self.now.spool))
+    (sym (c.receiver-receiver.ensures ∙ ap (receiver_at stream) c.line.ensures))
+    (agrees_there id.number stream (customer_of id.customer c.args.self.now c.args.lines.now) c.requires.ready.coherent)
