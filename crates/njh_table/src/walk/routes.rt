@@ -16,6 +16,14 @@ use njh_ebcdic::Name;
 use std::alloc::Global;
 use toml::Value;
 
+/// A route as a table file names it: its node, and its lines by their names.
+#[derive(Clone, Copy)]
+struct NamedRoute<'a> {
+    node: Name,
+    line: &'a str,
+    second: Option<&'a str>,
+}
+
 /// Whether the customer's hub and its routes so far say where a node goes.
 fn is_routed(hub: Name, routes: &Routes, node: Name) -> bool
     ensures { result ≡ is_routed hub routes.now node }
@@ -43,21 +51,21 @@ fn number_of_second(
     }
 }
 
-/// A route for a node by lines of its customer: the node and the lines' numbers.
+/// A route of a customer by its own lines: the node and the lines' numbers.
 #[tactic(auto, unfolding(crate::specs::Walk::route_by))]
 fn route_by(
-    node: Name,
-    line: &str,
-    second: Option<&str>,
+    named: NamedRoute<'_>,
     customer: u16,
     hub: Name,
     owners: &Owners,
     routes: &Routes,
 ) -> Result<(Name, RouteLines), TableFault>
     ensures walk { result_map_both route_entry (λ f. f) result
-        ≡ route_by hub (own_line owners.now customer) routes.now node line.now (option_map (λ s. s.now) second.entry) }
+        ≡ route_by hub (own_line owners.now customer) routes.now named.entry.node named.entry.line.now
+        (option_map (λ s. s.now) named.entry.second) }
     ensures new { IfOk result (λ r. lines_to routes.now r.0 ≡ None) }
 {
+    let NamedRoute { node, line, second } = named;
     if is_routed(hub, routes, node) {
         return Err(TableFault::DoubleNode);
     }
@@ -88,7 +96,8 @@ fn next_route(
     let node = name_at(keys, "node")?;
     let line = text_at(keys, "line")?;
     let second = second_at(keys, "second", line)?;
-    route_by(node, line, second, customer, hub, owners, routes)
+    let named = NamedRoute { node, line, second };
+    route_by(named, customer, hub, owners, routes)
 }
 
 pub(super) fn routes_in(
