@@ -46,6 +46,13 @@ impl Model for TurnRoom {
     ghost invariant = { λ room. (0 < length room.buffer.items) × (LONGEST_FRAME ≤ vec_capacity room.out) };
 }
 
+/// What a read answered, and the buffer that it was given: bytes that came stand at its front.
+#[derive(Clone, Copy)]
+struct Answer<'a> {
+    reading: Result<Reading, WireFault>,
+    buffer: &'a [u8],
+}
+
 impl TurnRoom {
     /// Room that every turn finds enough. Want of memory is the only refusal.
     pub fn new(alloc: Global) -> Result<TurnRoom, HubFault>
@@ -80,35 +87,35 @@ pub fn wire_turn<W: Wire>(
     ensures lines { SameLines hub.old hub.new }
 {
     let buffer = room.buffer.as_mut_slice();
-    let answer = wire.read(buffer);
-    act_on(answer, buffer, hub, id, wire, quiet, &mut room.out)
+    let reading = wire.read(buffer);
+    let answer = Answer { reading, buffer };
+    act_on(answer, hub, id, wire, quiet, &mut room.out)
 }
 
-/// Hands the hub what a read answered, of bytes that stand at the front of the buffer. Answers the quiets in a row.
+/// Hands the hub what a read answered. Answers the quiets in a row.
 fn act_on<W: Wire>(
-    answer: Result<Reading, WireFault>,
-    buffer: &[u8],
+    answer: Answer<'_>,
     hub: &mut Hub,
     id: LineId,
     wire: &mut W,
     quiet: u8,
     out: &mut Vec<u8>,
 ) -> u8
-    requires within { IfOk answer (IsReading (length buffer.now)) }
+    requires within { IfOk answer.reading (IsReading (length answer.buffer.now)) }
     requires known { HasLine hub.old id }
     requires few { quiet < 10 }
     requires room { LONGEST_FRAME ≤ vec_capacity out.old }
-    ensures heard { (cut : Option ℕ) ×
-        IsHeard W.passed W.count hub.old (wire_event id quiet
-        (heard_of answer buffer.now)) cut wire.old hub.new wire.new }
-    ensures quiets { result ≡ quiet_after quiet (heard_of answer buffer.now) }
+    ensures heard { let heard = heard_of answer.entry.reading answer.entry.buffer.now in
+        (cut : Option ℕ)
+        × IsHeard W.passed W.count hub.old (wire_event id quiet heard) cut wire.old hub.new wire.new }
+    ensures quiets { result ≡ quiet_after quiet (heard_of answer.entry.reading answer.entry.buffer.now) }
     ensures few { result < 10 }
     ensures lines { SameLines hub.old hub.new }
     ensures room { LONGEST_FRAME ≤ vec_capacity out.new }
 {
-    match answer {
+    match answer.reading {
         Ok(Reading::Bytes(count)) => {
-            pass_bytes(hub, id, &buffer[..count], wire, out);
+            pass_bytes(hub, id, &answer.buffer[..count], wire, out);
             0
         }
         Ok(Reading::Quiet) => {

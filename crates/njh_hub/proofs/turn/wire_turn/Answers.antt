@@ -3,7 +3,7 @@ use Rattle.njh_hub.proofs.turn.wire_turn.Goals as goal
 
 pub returns-clause-turn : goal.returns-clause-turn
 returns-clause-turn g c =
-    let read = c.read-answer in
+    let read = c.read-reading in
     let did = c.act_on.ensures.heard in (
       _,
       read_turn g.W.Wire.passed g.W.Wire.count c.args.hub.now c.act_on.new.hub c.args.id c.args.quiet read.result
