@@ -8,6 +8,8 @@
 #[cfg(test)]
 mod dialling_tests;
 #[cfg(test)]
+mod group_tests;
+#[cfg(test)]
 mod listening_tests;
 #[cfg(test)]
 mod log_tests;

@@ -5,10 +5,10 @@ use std::cell::{Cell, RefCell};
 use std::io::Write;
 
 /// How many peers there are.
-pub const PEERS: usize = 4;
+pub const PEERS: usize = 6;
 
 /// How many lines may be served.
-const LINES: usize = 4;
+const LINES: usize = 40;
 
 /// A peer whose answer to dials has this port; the peers behind it have the ports behind it.
 const FIRST_PORT: u16 = 9000;
@@ -175,7 +175,7 @@ pub struct World<'a> {
     now: Cell<u64>,
     peers: [Peer; PEERS],
     /// On which port each line listens.
-    ports: [Cell<u16>; LINES],
+    ports: Cell<[u16; LINES]>,
     log_takes: Cell<usize>,
     seen: RefCell<Vec<u8>>,
 }
@@ -187,8 +187,15 @@ impl<'a> World<'a> {
             acts,
             next: Cell::new(0),
             now: Cell::new(0),
-            peers: [Peer::new(), Peer::new(), Peer::new(), Peer::new()],
-            ports: [Cell::new(0), Cell::new(0), Cell::new(0), Cell::new(0)],
+            peers: [
+                Peer::new(),
+                Peer::new(),
+                Peer::new(),
+                Peer::new(),
+                Peer::new(),
+                Peer::new(),
+            ],
+            ports: Cell::new([0; LINES]),
             log_takes: Cell::new(1_000_000),
             seen: RefCell::new(Vec::new(alloc)),
         }
@@ -206,9 +213,11 @@ impl<'a> World<'a> {
 
     /// A line listens on a port.
     pub fn listen(&self, place: usize, port: u16) {
-        if let Some(found) = self.ports.get(place) {
-            found.set(port);
+        let mut ports = self.ports.get();
+        if let Some(found) = ports.get_mut(place) {
+            *found = port;
         }
+        self.ports.set(ports);
     }
 
     /// The first peer that waits at a port is connected to a line.
@@ -304,8 +313,9 @@ impl<'a> World<'a> {
     /// The line that listens on a port.
     fn place_of(&self, port: u16) -> usize {
         self.ports
+            .get()
             .iter()
-            .position(|found| found.get() == port)
+            .position(|found| *found == port)
             .unwrap_or(LINES)
     }
 

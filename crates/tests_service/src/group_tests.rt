@@ -1,0 +1,98 @@
+//! More lines than are watched together: each is served as if it were alone, at the edges of each sixteen too.
+
+use crate::listening_tests::CONTACT;
+use crate::play::play;
+use crate::world::{Act, at};
+use std::alloc::Global;
+use std::io;
+use std::io::Write;
+use std::test::Fail;
+
+/// How many customers there are.
+const CUSTOMERS: u16 = 4;
+
+/// How many lines each has.
+const EACH: u16 = 10;
+
+/// Tables of forty lines: the line at place P is P of its customer, which is P / 10, and listens at port P + 1.
+fn tables(alloc: Global) -> io::Result<Vec<u8>> {
+    let mut text = Vec::new(alloc);
+    writeln!(text, "capacity = 400")?;
+    for customer in 0..CUSTOMERS {
+        add_customer(&mut text, customer)?;
+    }
+    Ok(text)
+}
+
+/// Adds a customer and its lines.
+fn add_customer(text: &mut Vec<u8>, customer: u16) -> io::Result<()> {
+    writeln!(
+        *text,
+        "[[customer]]\nname = \"C{customer}\"\nhub = \"BUREAU\"\nquota = 100\nfiles = 8"
+    )?;
+    for number in 0..EACH {
+        let place = customer.saturating_mul(EACH).saturating_add(number);
+        let port = place.saturating_add(1);
+        writeln!(
+            *text,
+            "[[customer.line]]\nname = \"p{place}\"\nnode = \"LYON\"\nrole = \"answer\""
+        )?;
+        writeln!(*text, "block = 1024\nstreams = 4\nport = {port}")?;
+    }
+    Ok(())
+}
+
+/// Peers of the first and the last line of each group are told, answered, asked again at the tick a second later, and
+/// let go, each at its own moment and while nothing happens on any other line.
+#[test]
+fn lines_at_the_edges(rt: HostRuntime) -> Result<(), Fail> {
+    let acts = [
+        at(1000, 0, Act::Connects(1)),
+        at(1010, 1, Act::Connects(16)),
+        at(1020, 2, Act::Connects(17)),
+        at(1030, 3, Act::Connects(32)),
+        at(1040, 4, Act::Connects(33)),
+        at(1050, 5, Act::Connects(40)),
+        at(1550, 0, CONTACT),
+        at(1560, 1, CONTACT),
+        at(1570, 2, CONTACT),
+        at(1580, 3, CONTACT),
+        at(1590, 4, CONTACT),
+        at(1600, 5, CONTACT),
+        at(3030, 0, Act::Ends),
+        at(3140, 1, Act::Ends),
+        at(3250, 2, Act::Ends),
+        at(3360, 3, Act::Ends),
+        at(3470, 4, Act::Ends),
+        at(3580, 5, Act::Ends),
+    ];
+    let wanted = "\
+1970-01-01T00:00:01Z C0 p0: connected from 10.0.0.0:5000
+1970-01-01T00:00:01Z C1 p15: connected from 10.0.0.1:5000
+1970-01-01T00:00:01Z C1 p16: connected from 10.0.0.2:5000
+1970-01-01T00:00:01Z C3 p31: connected from 10.0.0.3:5000
+1970-01-01T00:00:01Z C3 p32: connected from 10.0.0.4:5000
+1970-01-01T00:00:01Z C3 p39: connected from 10.0.0.5:5000
+1550 to 0: 1070
+1560 to 1: 1070
+1570 to 2: 1070
+1580 to 3: 1070
+1590 to 4: 1070
+1600 to 5: 1070
+2550 to 0: 3d
+2560 to 1: 3d
+2570 to 2: 3d
+2580 to 3: 3d
+2590 to 4: 3d
+2600 to 5: 3d
+1970-01-01T00:00:03Z C0 p0: closed
+1970-01-01T00:00:03Z C1 p15: closed
+1970-01-01T00:00:03Z C1 p16: closed
+1970-01-01T00:00:03Z C3 p31: closed
+1970-01-01T00:00:03Z C3 p32: closed
+1970-01-01T00:00:03Z C3 p39: closed
+";
+    let tables = tables(rt.alloc())?;
+    let tables = str::from_utf8(&tables).unwrap_or("no text");
+    play(&rt, rt.alloc(), tables, &acts, 4000, wanted)
+}
