@@ -5,6 +5,7 @@ mod LineForms
 mod Lines
 mod Parting
 mod PlainLines
+mod PrintSteps
 mod PrintedParts
 mod Printing
 mod ReplayLaws

@@ -1,7 +1,7 @@
 -- A hub that was just opened on tables, a run of it over a script, and what is printed.
 use Rattle.std.proofs.Common.{◌≡◌, ◌<◌, ℕ, zero, suc, List, [], ◌∷◌, ◌++◌, length, map, get_or, take, Option, Some}
 use Rattle.std.proofs.Common.{None, ◌⊎◌, inl, inr, refl, sym, ap, subst, ◌∙◌, append-nil, arith}
-use Rattle.std.specs.Prelude.{All, IsSomeAnd, OnOk, Result, Ok, Err, slice_get}
+use Rattle.std.specs.Prelude.{All, IsSomeAnd, slice_get}
 use Rattle.std.specs.Io.KnownBytes.{Appends, Keeps}
 use Rattle.std.proofs.lemmas.List.{length-map}
 use Rattle.std.proofs.lemmas.Option.{slice_get_within, get_or_from_slice_get}
@@ -23,11 +23,11 @@ use Rattle.njh_hub.specs.WholeHub.{Part, part_at_open}
 use Rattle.njh_hub.specs.Laws.{Begins}
 use Rattle.njh_hub.specs.RunStops.{HandedUntil, IfHub, IsRefused, IsRoutes}
 use Rattle.njh_hub.specs.WholeHub as hub
-use Rattle.njh_program.specs.LineNames.{customers_of, names_of}
+use Rattle.njh_program.specs.LineNames.{customers_of}
 use Rattle.njh_program.specs.declared.fault.ReplayFault.TheVariants.{Hub}
 use Rattle.njh_program.specs.Printed.{frames_text, AppendsBeginning, IsPrinted}
 use Rattle.njh_program.specs.code.PrintedLaws.{text_of-append}
-use Rattle.njh_program.specs.Replayed.{MayEnd, fault_after, text_by, text_with, IsSentUpTo}
+use Rattle.njh_program.specs.Replayed.{fault_after, IsRefusal, IsSentUpTo, MayEnd, MayStop}
 use Rattle.njh_program.specs.ScriptRoutes.{IsNamedIn}
 
 get_or-map_default : {X Y : Type 0} (f : X → Y) (xs : List X) (k : ℕ) (d : X) → get_or (map f xs) k (f d) ≡ f (get_or xs k d)
@@ -98,6 +98,10 @@ not_bad parts (Garbled id) fault named refused = refused
 not_bad parts (Lost id) fault named refused = refused
 not_bad parts (Routes c routes) fault named refused = cc (sym named.1 ∙ refused.1)
 
+no_refusal : (why : Cause) → IsRefusal (fault_after why) → ⊥
+no_refusal (cause.Hub fault) refusal = refusal
+no_refusal cause.Sink refusal = refusal
+
 module _ (parts : List Part) (events : List Event) (k : ℕ) (named : All (hub.IsNamed parts) events) where
   never : (why : HubFault) → ((event : Event) → hub.IsNamed parts event → IsRefused parts event why → ⊥)
       → IsSomeAnd (slice_get events k) (λ event. IsRefused parts event why) → ⊥
@@ -108,13 +112,17 @@ module _ (parts : List Part) (events : List Event) (k : ℕ) (named : All (hub.I
       not event there is) refused
 
   -- what is left that stops a run of such events
-  pub MayEnd-stopped : (why : Cause) → IfHub why (λ why. IsSomeAnd (slice_get events k) (λ event. IsRefused parts event why))
+  MayEnd-stopped : (why : Cause) → IfHub why (λ why. IsSomeAnd (slice_get events k) (λ event. IsRefused parts event why))
       → MayEnd (fault_after why)
   MayEnd-stopped (cause.Hub UnknownLine) refused = absurd (never UnknownLine (not_unknown parts) refused)
   MayEnd-stopped (cause.Hub UnknownCustomer) refused = absurd (never UnknownCustomer (not_foreign parts) refused)
   MayEnd-stopped (cause.Hub Memory) refused = refl
   MayEnd-stopped (cause.Hub (BadRoutes fault)) refused = absurd (never (BadRoutes fault) (λ event. not_bad parts event fault) refused)
   MayEnd-stopped cause.Sink refused = tt
+
+  pub MayStop-stopped : (why : Cause) → IfHub why (λ why. IsSomeAnd (slice_get events k) (λ event. IsRefused parts event why))
+      → MayStop (fault_after why)
+  MayStop-stopped why refused = (MayEnd-stopped why refused, no_refusal why)
 
 -- new routes send nothing
 routes_silent : (parts : List Part) (event : Event) → IsRoutes event → (hub.hub_event parts event).sent ≡ []
@@ -179,31 +187,9 @@ stopped_at_routes names parts events k n a b none which printed =
           inl (Keeps-none a b (subst (λ (s : List (LineId × List ℕ)). Appends a b (frames_text names s)) silent sent))
     ]
 
--- what a hub that was just opened prints
-pub fresh_text : (t : TableFile) (names : List (List (List ℕ))) (parts : List Part) (events : List Event) (customers : List (List ℕ))
-    → names ≡ names_of t → parts ≡ map part_at_open (entries_of t) → customers ≡ customers_of t
-    → (P : (List (List ℕ) → List ℕ) → List (List ℕ) → Type 0) → P (text_by names parts events) customers
-    → P (text_with t events) (customers_of t)
-fresh_text t names parts events customers named fresh called P so =
-    let first = subst (λ (ns : List (List (List ℕ))). P (text_by ns parts events) customers) named so in
-    let second = subst (λ (ps : List Part). P (text_by (names_of t) ps events) customers) fresh first in
-    subst (P (text_with t events)) called second
-
-pub fresh_sent : (t : TableFile) (names : List (List (List ℕ))) (parts : List Part) (events : List Event) (a b : Option (List ℕ))
-    → names ≡ names_of t → parts ≡ map part_at_open (entries_of t) → IsSentUpTo names parts events a b
-    → IsSentUpTo (names_of t) (map part_at_open (entries_of t)) events a b
-fresh_sent t names parts events a b named fresh sent =
-    subst (λ (ps : List Part). IsSentUpTo (names_of t) ps events a b) fresh
-    (subst (λ (ns : List (List (List ℕ))). IsSentUpTo ns parts events a b) named sent)
-
 -- it has as many customers as its tables
 pub opened_customers : (t : TableFile) (parts : List Part) (customers : List (List ℕ)) → parts ≡ map part_at_open (entries_of t)
     → customers ≡ customers_of t → length customers ≡ length parts
 opened_customers t parts customers fresh called =
     ap (λ (xs : List (List ℕ)). length xs) called ∙ length-map t.customers (λ (c : NamedCustomer). c.name)
     ∙ sym (ap (λ (ps : List Part). length ps) fresh ∙ length-map (entries_of t) part_at_open ∙ length-map t.customers entry_of)
-
--- on Ok alone
-pub on_ok_then : {A E : Type 0} (r : Result A E) (P Q : Type 0) → (P → Q) → OnOk r P → OnOk r Q
-on_ok_then (Ok x) P Q then so = then so
-on_ok_then (Err e) P Q then so = tt

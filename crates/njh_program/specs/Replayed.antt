@@ -1,7 +1,7 @@
 -- What a replay answers.
-use Rattle.std.specs.Prelude.{◌≡◌, ℕ, ◌<◌, ◌≤◌, List, ◌++◌, length, map, take, slice_get, Option, IfSome, IsSomeAnd, Ok}
-use Rattle.std.specs.Prelude.{Err, ⊤}
-use Rattle.std.specs.Io.KnownBytes.{Appends}
+use Rattle.std.specs.Prelude.{◌≡◌, ℕ, ◌<◌, ◌≤◌, ◌⊎◌, List, ◌++◌, length, map, take, slice_get, Option, IfSome}
+use Rattle.std.specs.Prelude.{IsSomeAnd, Result, Ok, Err, ⊤}
+use Rattle.std.specs.Io.KnownBytes.{Appends, Keeps}
 use Rattle.njh_table.specs.TableFile.{TableFile}
 use Rattle.njh_hub.specs.Parts.{entries_of}
 use Rattle.njh_hub.specs.RunStops.{IsRoutes}
@@ -95,3 +95,26 @@ MayEnd (Hub fault) = fault ≡ Memory
 abbrev pub fault_after : Cause → ReplayFault
 fault_after (cause.Hub fault) = Hub fault
 fault_after cause.Sink = Device
+
+-- the faults that stop the printing, by which no script is refused
+abbrev pub MayStop : ReplayFault → Type 0
+MayStop fault = MayEnd fault × (IsRefusal fault → ⊥)
+
+-- What a step that prints a text has done by its result: after what had been written came the whole text; or, where a
+-- fault stopped the step, a beginning of it, and where memory ran out as much as `short` says.
+abbrev pub Prints : {A : Type 0} → Result A ReplayFault → (old new : Option (List ℕ)) (text : List ℕ)
+    (short : Option (List ℕ) → Option (List ℕ) → Type 0) → Type 0
+Prints (Ok x) old new text short = Appends old new text
+Prints (Err fault) old new text short =
+    AppendsBeginning old new text × MayStop fault × (fault ≡ Hub Memory → short old new)
+
+-- What is written where memory ran out in a run: nothing, or the frames of the events before one that gives routes.
+abbrev pub IsRunShort : (names : List (List (List ℕ))) (parts : List Part) (events : List Event)
+    (old new : Option (List ℕ)) → Type 0
+IsRunShort names parts events old new = Keeps old new ⊎ IsSentUpTo names parts events old new
+
+-- And where the files of customers are printed behind it: or the text up to the files of some customer.
+abbrev pub IsTextShort : (names : List (List (List ℕ))) (parts : List Part) (events : List Event)
+    (customers : List (List ℕ)) (old new : Option (List ℕ)) → Type 0
+IsTextShort names parts events customers old new = Keeps old new ⊎ IsSentUpTo names parts events old new
+    ⊎ IsPrintedUpTo customers old new (text_by names parts events)

@@ -1,18 +1,18 @@
 //! Prints the files that a hub holds.
 
-ghost use Rattle.std.specs.Prelude.{◌≡◌, ◌+◌, ◌<◌, ◌≤◌, ◌++◌, length, IfOk, IfErr, OnOk, OnErr};
+ghost use Rattle.std.specs.Prelude.{◌≡◌, ◌+◌, ◌<◌, ◌≤◌, ◌++◌, length, IfOk, OnOk, OnErr};
 ghost use Rattle.std.specs.Io.KnownBytes.{Appends, Keeps};
 ghost use Rattle.njh_ebcdic.specs.Characters.{shown_text};
 ghost use Rattle.njh_hub.specs.Files.{files_at};
 ghost use Rattle.njh_program.specs.LineNames.{customers_of};
 ghost use Rattle.njh_program.specs.Printed.{file_text, files_from, files_text, AppendsBeginning, IsPrintedUpTo};
-ghost use Rattle.njh_program.specs.Replayed.{IsRefusal, MayEnd};
+ghost use Rattle.njh_program.specs.Replayed.{Prints};
 
 use crate::fault::ReplayFault;
 use crate::print::{WriteFault, write_bytes};
 use arrayvec::ArrayVec;
 use njh_ebcdic::{Name, text_of};
-use njh_hub::{FileView, Hub, HubFault};
+use njh_hub::{FileView, Hub};
 use njh_table::Tables;
 use std::alloc::{AllocError, Global};
 use std::io::Write;
@@ -39,14 +39,8 @@ pub fn customer_names(alloc: Global, tables: &Tables) -> Result<Vec<Name>, Alloc
 pub fn print_files<W: Write>(hub: &Hub, customers: &[Name], out: &mut W) -> Result<(), ReplayFault>
     requires all { length customers.now ≡ length hub.now }
     requires few { length customers.now ≤ 64 }
-    ensures printed { OnOk result (Appends (W.contents out.old) (W.contents out.new)
-        (files_from 0 customers.now hub.now)) }
-    ensures begun { OnErr result (AppendsBeginning (W.contents out.old) (W.contents out.new)
-        (files_from 0 customers.now hub.now)) }
-    ensures memory { result ≡ Err (ReplayFault.Hub HubFault.Memory) →
-        IsPrintedUpTo customers.now (W.contents out.old) (W.contents out.new) (λ before. files_from 0 before hub.now) }
-    ensures faults { IfErr result MayEnd }
-    ensures refuses_no_script { IfErr result (λ fault. ¬ IsRefusal fault) }
+    ensures { Prints result (W.contents out.old) (W.contents out.new) (files_from 0 customers.now hub.now)
+        (λ old new. IsPrintedUpTo customers.now old new (λ before. files_from 0 before hub.now)) }
 {
     for (customer, name) in customers.iter().enumerate() {
         print_customer(hub, customer as u16, *name, out)?;
@@ -62,13 +56,8 @@ fn print_customer<W: Write>(
     out: &mut W,
 ) -> Result<(), ReplayFault>
     requires { customer < length hub.now }
-    ensures printed { OnOk result (Appends (W.contents out.old) (W.contents out.new)
-        (files_text name (files_at customer hub.now))) }
-    ensures begun { OnErr result (AppendsBeginning (W.contents out.old) (W.contents out.new)
-        (files_text name (files_at customer hub.now))) }
-    ensures memory { result ≡ Err (ReplayFault.Hub HubFault.Memory) → Keeps (W.contents out.old) (W.contents out.new) }
-    ensures faults { IfErr result MayEnd }
-    ensures refuses_no_script { IfErr result (λ fault. ¬ IsRefusal fault) }
+    ensures { Prints result (W.contents out.old) (W.contents out.new) (files_text name (files_at customer hub.now))
+        Keeps }
 {
     let files = hub.files(customer)?;
     match print_each(&files, name, out) {

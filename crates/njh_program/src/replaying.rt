@@ -1,12 +1,12 @@
 //! Replays a script through a hub.
 
 ghost use Rattle.std.specs.Prelude.{◌≡◌, ◌≤◌, ◌⊎◌, ℕ, length, map, All, IfOk, IfErr, OnOk, OnErr};
-ghost use Rattle.std.specs.Io.KnownBytes.{Appends, Keeps};
+ghost use Rattle.std.specs.Io.KnownBytes.{Keeps};
 ghost use Rattle.njh_program.specs.LineNames.{customers_of, names_of};
-ghost use Rattle.njh_program.specs.Printed.{frames_text, AppendsBeginning, IsPrintedUpTo};
-ghost use Rattle.njh_program.specs.Replayed.{fault_after, text_by, text_of_run, text_with, HasScript, HasTooLong};
-ghost use Rattle.njh_program.specs.Replayed.{HasBadLine, IsBegun, IsReplayed, IsReplayedToRoutes, IsReplayedUpTo};
-ghost use Rattle.njh_program.specs.Replayed.{IsRefusal, IsSentUpTo, MayEnd, SameParts};
+ghost use Rattle.njh_program.specs.Printed.{frames_text};
+ghost use Rattle.njh_program.specs.Replayed.{fault_after, text_by, text_of_run, HasBadLine, HasScript, HasTooLong};
+ghost use Rattle.njh_program.specs.Replayed.{IsBegun, IsRefusal, IsReplayed, IsReplayedToRoutes, IsReplayedUpTo};
+ghost use Rattle.njh_program.specs.Replayed.{IsRunShort, IsTextShort, MayEnd, Prints, SameParts};
 ghost use Rattle.njh_program.specs.ScriptRoutes.{IsNamedIn};
 ghost use Rattle.njh_hub.specs.Parts.{entries_of};
 ghost use Rattle.njh_hub.specs.WholeHub.{hub_run, part_at_open, IsNamed};
@@ -65,15 +65,8 @@ fn print_events<W: Write>(
     out: &mut W,
 ) -> Result<(), ReplayFault>
     requires { All (IsNamedIn tables) events.now }
-    ensures printed { OnOk result (Appends (W.contents out.old) (W.contents out.new) (text_of_run tables events.now)) }
-    ensures begun { OnErr result (AppendsBeginning (W.contents out.old) (W.contents out.new)
-        (text_of_run tables events.now)) }
-    ensures memory { result ≡ Err (ReplayFault.Hub HubFault.Memory) → Keeps (W.contents out.old) (W.contents out.new)
-        ⊎ IsSentUpTo (names_of tables) (map part_at_open (entries_of tables)) events.now (W.contents out.old)
-        (W.contents out.new)
-        ⊎ IsPrintedUpTo (customers_of tables) (W.contents out.old) (W.contents out.new) (text_with tables events.now) }
-    ensures faults { IfErr result MayEnd }
-    ensures refuses_no_script { IfErr result (λ fault. ¬ IsRefusal fault) }
+    ensures { Prints result (W.contents out.old) (W.contents out.new) (text_of_run tables events.now)
+        (IsTextShort (names_of tables) (map part_at_open (entries_of tables)) events.now (customers_of tables)) }
 {
     let names = LineNames::of(alloc, &tables)?;
     let customers = customer_names(alloc, &tables)?;
@@ -92,15 +85,9 @@ fn print_all<W: Write>(
     requires named { All (IsNamed hub.old) events.now }
     requires all { length customers.now ≡ length hub.old }
     requires few { length customers.now ≤ 64 }
-    ensures printed { OnOk result (Appends (W.contents out.old) (W.contents out.new)
-        (text_by names.now hub.old events.now customers.now)) }
-    ensures begun { OnErr result (AppendsBeginning (W.contents out.old) (W.contents out.new)
-        (text_by names.now hub.old events.now customers.now)) }
-    ensures memory { result ≡ Err (ReplayFault.Hub HubFault.Memory) → Keeps (W.contents out.old) (W.contents out.new)
-        ⊎ IsSentUpTo names.now hub.old events.now (W.contents out.old) (W.contents out.new)
-        ⊎ IsPrintedUpTo customers.now (W.contents out.old) (W.contents out.new) (text_by names.now hub.old events.now) }
-    ensures faults { IfErr result MayEnd }
-    ensures refuses_no_script { IfErr result (λ fault. ¬ IsRefusal fault) }
+    ensures { Prints result (W.contents out.old) (W.contents out.new)
+        (text_by names.now hub.old events.now customers.now)
+        (IsTextShort names.now hub.old events.now customers.now) }
 {
     print_run(hub, events, names, out)?;
     print_files(hub, customers, out)?;
@@ -118,16 +105,10 @@ fn print_run<W: Write>(
     out: &mut W,
 ) -> Result<(), ReplayFault>
     requires { All (IsNamed hub.old) events.now }
-    ensures printed { OnOk result (Appends (W.contents out.old) (W.contents out.new)
-        (frames_text names.now (hub_run hub.old events.now).sent)) }
+    ensures printed { Prints result (W.contents out.old) (W.contents out.new)
+        (frames_text names.now (hub_run hub.old events.now).sent) (IsRunShort names.now hub.old events.now) }
     ensures after { OnOk result (SameParts (hub_run hub.old events.now).parts hub.new (length hub.old)) }
-    ensures begun { OnErr result (AppendsBeginning (W.contents out.old) (W.contents out.new)
-        (frames_text names.now (hub_run hub.old events.now).sent)) }
-    ensures memory { result ≡ Err (ReplayFault.Hub HubFault.Memory) → Keeps (W.contents out.old) (W.contents out.new)
-        ⊎ IsSentUpTo names.now hub.old events.now (W.contents out.old) (W.contents out.new) }
     ensures customers { length hub.new ≡ length hub.old }
-    ensures faults { IfErr result MayEnd }
-    ensures refuses_no_script { IfErr result (λ fault. ¬ IsRefusal fault) }
 {
     let mut printer = Printer {
         out,

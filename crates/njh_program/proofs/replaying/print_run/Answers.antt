@@ -7,41 +7,34 @@ use Rattle.njh_program.specs.declared.fault.ReplayFault.TheVariants.{Hub}
 use Rattle.njh_program.specs.Replayed.{fault_after}
 use Rattle.njh_program.specs.Printed.{frames_text, AppendsBeginning}
 use Rattle.njh_program.proofs.PrintedParts.{beginning-kept, beginning-part}
-use Rattle.njh_program.proofs.ReplayLaws.{MayEnd-stopped, printed_begins, stopped_begun, stopped_whole}
+use Rattle.njh_program.proofs.ReplayLaws.{MayStop-stopped, printed_begins, stopped_begun, stopped_whole}
 use Rattle.njh_program.proofs.ReplayLaws.{stopped_at_routes}
 use Rattle.njh_program.proofs.replaying.print_run.Goals as goal
 
-pub returns-in-Err-clause-faults : goal.returns-in-Err-clause-faults
-returns-in-Err-clause-faults g c =
-    let fault = c.in-Err.fault in
-    rw c.fault_after.ensures (MayEnd-stopped c.args.hub.now c.args.events.now fault.events c.requires fault.cause c.in-Err.ensures.causes)
-
-pub returns-in-Err-clause-begun : goal.returns-in-Err-clause-begun
-returns-in-Err-clause-begun g c =
+pub returns-in-Err-clause-printed : goal.returns-in-Err-clause-printed
+returns-in-Err-clause-printed g c =
     let fault = c.in-Err.fault in
     let contents = g.W.Write.contents in
     let names = c.args.names.now in
+    let start = c.args.hub.now in
     let events = c.args.events.now in
-    let sent = (hub_run c.args.hub.now (first_events events fault.events fault.bytes)).sent in
-    let whole = (hub_run c.args.hub.now events).sent in
-    let begins = c.sent_in_order.ensures c.args.hub.now events fault.events fault.bytes in
+    let sent = (hub_run start (first_events events fault.events fault.bytes)).sent in
+    let whole = (hub_run start events).sent in
+    let begins = c.sent_in_order.ensures start events fault.events fault.bytes in
     let begun : AppendsBeginning (contents c.args.out.now) (contents c.run.new.sink.out.now) (frames_text names whole) =
     stopped_begun _ _ fault.cause _ _ sent whole _ c.in-Err.ensures.handed begins
     (λ front more printed all. printed_begins names _ _ _ front more whole printed.1 all)
     (λ front last between more printed part all. beginning-part names _ _ _ _ front last more whole printed.1 _ part.1 all) in
     let same = stopped_begun _ _ fault.cause _ _ sent whole (c.run.new.sink.out.ghost_name ≡ _) c.in-Err.ensures.handed begins
     (λ front more printed all. printed.0)
-    (λ front last between more printed part all. part.0 ∙ printed.0) in
-    beginning-kept _ _ _ (frames_text names whole) begun (search (rules, same))
-
-pub returns-in-Err-clause-memory : goal.returns-in-Err-clause-memory
-returns-in-Err-clause-memory g c = λ memory.
-    let fault = c.in-Err.fault in
-    let start = c.args.hub.now in
-    let events = c.args.events.now in
-    let stop : fault_after fault.cause ≡ Hub Memory = cc (c.fault_after.ensures, memory) in
-    let stopped = stopped_whole _ _ fault.cause _ _ (hub_run start (first_events events fault.events fault.bytes)).sent c.in-Err.ensures.handed stop in
-    let at = c.in-Err.ensures.memory stopped.0 in
-    let same = stopped.1.0 in
-    stopped_at_routes c.args.names.now start events fault.events fault.bytes _ _ at.0 at.1
-    (Appends-kept _ _ _ _ stopped.1.1.1 (search (rules, same)))
+    (λ front last between more printed part all. part.0 ∙ printed.0) in (
+      beginning-kept _ _ _ (frames_text names whole) begun (search (rules, same)),
+      rw c.fault_after.ensures (MayStop-stopped start events fault.events c.requires fault.cause c.in-Err.ensures.causes),
+      λ memory.
+          let stop : fault_after fault.cause ≡ Hub Memory = cc (c.fault_after.ensures, memory) in
+          let stopped = stopped_whole _ _ fault.cause _ _ sent c.in-Err.ensures.handed stop in
+          let at = c.in-Err.ensures.memory stopped.0 in
+          let same = stopped.1.0 in
+          stopped_at_routes names start events fault.events fault.bytes _ _ at.0 at.1
+          (Appends-kept _ _ _ _ stopped.1.1.1 (search (rules, same))),
+    )
