@@ -186,7 +186,13 @@ impl CustomerLines {
     }
 
     /// The hub says something to a user at a node.
-    pub(crate) fn say(&mut self, customer: &NamedCustomer, node: Name, user: [u8; FIELD], text: &[u8])
+    pub(crate) fn say(
+        &mut self,
+        customer: &NamedCustomer,
+        node: Name,
+        user: [u8; FIELD],
+        text: &[u8],
+    )
         requires { length text.now ≤ LONGEST_MESSAGE }
         ensures { self.new ≡ with_message_to (entry_of customer.now)
             (record { node = node; user = user }) text.now self.old }

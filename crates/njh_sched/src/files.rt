@@ -67,7 +67,12 @@ pub fn is_among(nodes: &[[u8; 8]], node: &[u8; 8]) -> bool
 }
 
 /// Whether a node goes by a line. Where it doesn't it is kept among those that don't, while there is room.
-pub fn goes_there(entry: &NamedCustomer, line: u16, node: &[u8; 8], elsewhere: &mut Elsewhere) -> bool
+pub fn goes_there(
+    entry: &NamedCustomer,
+    line: u16,
+    node: &[u8; 8],
+    elsewhere: &mut Elsewhere,
+) -> bool
     requires { list_any (node_goes_by (entry_of entry.now) line) elsewhere.old.items ≡ false }
     ensures goes { result ≡ node_goes_by (entry_of entry.now) line node.now }
     ensures elsewhere { list_any (node_goes_by (entry_of entry.now) line) elsewhere.new.items ≡ false }

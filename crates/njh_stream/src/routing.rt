@@ -54,7 +54,13 @@ fn is_line(route: Route, line: u16) -> bool
 }
 
 /// Whether a whole file was refused and goes by a line.
-fn may_go_again(entry: &NamedCustomer, line: u16, customer: u16, file: FileId, spool: &Spool) -> bool
+fn may_go_again(
+    entry: &NamedCustomer,
+    line: u16,
+    customer: u16,
+    file: FileId,
+    spool: &Spool,
+) -> bool
     requires { customer < length spool.now }
     ensures { result ≡ sending.holds_of (sending.may_go_again (entry_of entry.now) line)
         (whole_numbered file (spool_at customer spool.now)) }

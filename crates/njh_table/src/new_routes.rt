@@ -106,7 +106,11 @@ impl NamedCustomer {
 }
 
 /// The first fault of a customer's new routes, from the left.
-fn check_each(number: u16, customer: &NamedCustomer, routes: &[GivenRoute]) -> Result<(), TableFault>
+fn check_each(
+    number: u16,
+    customer: &NamedCustomer,
+    routes: &[GivenRoute],
+) -> Result<(), TableFault>
     ensures { result ≡ checked_from (length customer.now.lines) (customer.now.hub ∷ [])
         (new_routes_of number routes.now) }
 {

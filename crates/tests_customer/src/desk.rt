@@ -36,7 +36,11 @@ impl Model for Desk {
 }
 
 /// A spool of a customer's quota.
-fn open_spool<R: Abort>(rt: &R, alloc: Global, customer: &NamedCustomer) -> Result<Spool, SpoolFault>
+fn open_spool<R: Abort>(
+    rt: &R,
+    alloc: Global,
+    customer: &NamedCustomer,
+) -> Result<Spool, SpoolFault>
     ensures { IfOk result (λ spool. spool ≡ empty_spool customer.now.quota customer.now.files ∷ []) }
 {
     let quota = Quota {

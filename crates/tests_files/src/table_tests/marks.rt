@@ -50,7 +50,11 @@ fn step(tables: &mut Tables, what: &str) -> Result<(), Fail> {
     )
 }
 
-fn push_marks(alloc: Global, text: &mut String, customer: &NamedCustomer) -> Result<(), AllocError> {
+fn push_marks(
+    alloc: Global,
+    text: &mut String,
+    customer: &NamedCustomer,
+) -> Result<(), AllocError> {
     for line in customer.lines() {
         let mark = if line.is_up() { "up" } else { "-" };
         text.push_str(format!(in alloc; " {} {mark}", line.name())?.as_str())?;

@@ -107,7 +107,11 @@ fn give(tables: &mut Tables, routes: &[GivenRoute]) -> Result<(), TableFault> {
     tables.set_routes(0, routes)
 }
 
-fn push_customer(alloc: Global, text: &mut String, customer: &NamedCustomer) -> Result<(), AllocError> {
+fn push_customer(
+    alloc: Global,
+    text: &mut String,
+    customer: &NamedCustomer,
+) -> Result<(), AllocError> {
     text.push_str(format!(in alloc; " {}", customer.name())?.as_str())?;
     for index in 0..customer.routes() {
         let route = text_of_route(alloc, customer.route_at(index))?;

@@ -52,7 +52,11 @@ fn text_of(alloc: Global, tables: &Tables) -> Result<String, AllocError> {
     Ok(text)
 }
 
-fn push_customer(alloc: Global, text: &mut String, customer: &NamedCustomer) -> Result<(), AllocError> {
+fn push_customer(
+    alloc: Global,
+    text: &mut String,
+    customer: &NamedCustomer,
+) -> Result<(), AllocError> {
     let head = format!(in alloc;
         "{} {} {} {}\n",
         customer.name(),
