@@ -10,10 +10,10 @@ use Rattle.std.proofs.lemmas.List.Filters.{length-filter_more}
 use Rattle.njh_ebcdic.specs.Users.{User}
 use Rattle.njh_spool.specs.Spools.{spool_at, no_spool}
 use Rattle.njh_spool.specs.CustomerSpool.{CustomerSpool, WholeFile}
-use Rattle.njh_command.specs.declared.changing.Standing.TheVariants.{Other, Busy, Idle}
+use Rattle.njh_command.specs.declared.changing.FileClass.TheVariants.{Other, Busy, Idle}
 use Rattle.njh_texts.specs.Texts.{file_line}
 use Rattle.njh_command.specs.Commands.{changed_file, may_change, first_replies, is_owned}
-use Rattle.njh_command.specs.code.Changes.{numbers_where, standing_by, without_where}
+use Rattle.njh_command.specs.code.Changes.{numbers_where, file_class_by, without_where}
 use Rattle.njh_command.specs.Files.{file_at, no_file, with_file}
 use Rattle.njh_command.proofs.UpTo.{changed_up_to, count_up_to, left_up_to, removed_up_to}
 use Rattle.njh_stream.proofs.OnlyOneLaws.{changed_more, not_yet}
@@ -127,18 +127,18 @@ all_looked_at xs n h = take_all n xs h
 
 -- ---- what a file is to a change
 
-pub as_other : (passes sending : Bool) → standing_by passes sending ≡ Other → ((passes && not sending) ≡ false) × ((passes && sending)
+pub as_other : (passes sending : Bool) → file_class_by passes sending ≡ Other → ((passes && not sending) ≡ false) × ((passes && sending)
     ≡ false)
 as_other false sending e = (refl, refl)
 as_other true true e = absurd (cc e)
 as_other true false e = absurd (cc e)
 
-pub as_busy : (passes sending : Bool) → standing_by passes sending ≡ Busy → ((passes && not sending) ≡ false) × ((passes && sending) ≡ true)
+pub as_busy : (passes sending : Bool) → file_class_by passes sending ≡ Busy → ((passes && not sending) ≡ false) × ((passes && sending) ≡ true)
 as_busy false sending e = absurd (cc e)
 as_busy true true e = (refl, refl)
 as_busy true false e = absurd (cc e)
 
-pub as_idle : (passes sending : Bool) → standing_by passes sending ≡ Idle → ((passes && not sending) ≡ true) × ((passes && sending) ≡ false)
+pub as_idle : (passes sending : Bool) → file_class_by passes sending ≡ Idle → ((passes && not sending) ≡ true) × ((passes && sending) ≡ false)
 as_idle false sending e = absurd (cc e)
 as_idle true true e = absurd (cc e)
 as_idle true false e = (refl, refl)

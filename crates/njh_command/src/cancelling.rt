@@ -6,7 +6,7 @@ ghost use Rattle.njh_command.specs.code.Changes.{is_chosen, numbers_where, witho
 ghost use Rattle.njh_command.specs.Commands.{cancelling, count, is_busy, spool_after, without_file};
 ghost use Rattle.njh_command.specs.Files.{file_at};
 
-use crate::changing::{Standing, judge};
+use crate::changing::{FileClass, judge};
 use crate::choice::Choice;
 use crate::files::remove;
 use crate::replies::Replies;
@@ -84,12 +84,12 @@ fn cancel_at<S: Senders>(
         (file_at index (spool_at customer spool.old))) }
 {
     match judge(choice, spool, customer, index) {
-        Standing::Other => false,
-        Standing::Idle => {
+        FileClass::Other => false,
+        FileClass::Idle => {
             remove(spool, customer, index);
             true
         }
-        Standing::Busy => {
+        FileClass::Busy => {
             let file = remove(spool, customer, index);
             senders.abort(file);
             true

@@ -2,7 +2,7 @@
 
 ghost use Rattle.std.specs.Prelude.{◌≡◌, ◌<◌, length, slice_set};
 ghost use Rattle.njh_spool.specs.Spools.{spool_at};
-ghost use Rattle.njh_command.specs.code.Changes.{change_by, change_text, is_chosen, standing_of};
+ghost use Rattle.njh_command.specs.code.Changes.{change_by, change_text, is_chosen, file_class_of};
 ghost use Rattle.njh_command.specs.Commands.{change_replies, with_changes, changed_file, count, is_busy, may_change};
 ghost use Rattle.njh_command.specs.Files.{file_at, with_file};
 
@@ -28,7 +28,7 @@ pub(crate) enum Change {
 
 /// What a file is to a change.
 #[derive(Clone, Copy, Debug, PartialEq, Eq)]
-pub(crate) enum Standing {
+pub(crate) enum FileClass {
     /// It isn't one of the files.
     Other,
     /// It is one, and is being sent.
@@ -98,9 +98,9 @@ fn change_each(change: &Change, choice: &Choice, spool: &mut Spool, customer: u1
     let mut busy = 0;
     for index in 0..spool.files(customer) {
         match change_at(change, choice, spool, customer, index) {
-            Standing::Other => {}
-            Standing::Busy => busy += 1,
-            Standing::Idle => idle += 1,
+            FileClass::Other => {}
+            FileClass::Busy => busy += 1,
+            FileClass::Idle => idle += 1,
         }
     }
     Counts { idle, busy }
@@ -113,34 +113,34 @@ fn change_at(
     spool: &mut Spool,
     customer: u16,
     index: u32,
-) -> Standing
+) -> FileClass
     requires range { customer < length spool.old }
     requires within { index < length (spool_at customer spool.old).whole }
-    ensures standing { result ≡ standing_of (is_chosen choice.now) (file_at index (spool_at customer spool.old)) }
+    ensures standing { result ≡ file_class_of (is_chosen choice.now) (file_at index (spool_at customer spool.old)) }
     ensures spool { spool.new ≡ slice_set spool.old customer (with_file index
         (changed_file (is_chosen choice.now) (change_by change.now) (file_at index (spool_at customer spool.old)))
         (spool_at customer spool.old)) }
 {
     let standing = judge(choice, spool, customer, index);
     match standing {
-        Standing::Idle => change_one(change, spool, customer, index),
-        Standing::Other | Standing::Busy => {}
+        FileClass::Idle => change_one(change, spool, customer, index),
+        FileClass::Other | FileClass::Busy => {}
     }
     standing
 }
 
 /// What the file at a place is to a change.
-pub(crate) fn judge(choice: &Choice, spool: &Spool, customer: u16, index: u32) -> Standing
+pub(crate) fn judge(choice: &Choice, spool: &Spool, customer: u16, index: u32) -> FileClass
     requires range { customer < length spool.now }
     requires within { index < length (spool_at customer spool.now).whole }
-    ensures { result ≡ standing_of (is_chosen choice.now) (file_at index (spool_at customer spool.now)) }
+    ensures { result ≡ file_class_of (is_chosen choice.now) (file_at index (spool_at customer spool.now)) }
 {
     if !is_chosen(choice, spool, customer, index) {
-        return Standing::Other;
+        return FileClass::Other;
     }
     match state_of(spool, customer, index) {
-        State::Sending => Standing::Busy,
-        State::Ready | State::Held | State::Refused => Standing::Idle,
+        State::Sending => FileClass::Busy,
+        State::Ready | State::Held | State::Refused => FileClass::Idle,
     }
 }
 

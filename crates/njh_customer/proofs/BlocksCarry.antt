@@ -126,11 +126,11 @@ SourcesMove =
 
 abbrev pub SourcesFill : Type 0
 SourcesFill =
-    (goes : WholeFile → Bool) (x : Filling) → all_suspended x.outlet.peer ≡ false
+    (goes : WholeFile → Bool) (x : Filling) → all_suspended x.outlet.peer_fcs ≡ false
     → filled_block goes x ≡ after_sources goes (sources x.block.limit x.outlet) x
 
 abbrev pub NothingGoes : Type 0
-NothingGoes = (goes : WholeFile → Bool) (x : Filling) → all_suspended x.outlet.peer ≡ true → filled_block goes x ≡ x
+NothingGoes = (goes : WholeFile → Bool) (x : Filling) → all_suspended x.outlet.peer_fcs ≡ true → filled_block goes x ≡ x
 
 module _ (in_order : CarriesInOrder) (quiet : IsQuiet) (each : SourcesMove) (fill : SourcesFill) (nothing_goes : NothingGoes) where
   behind_all :
@@ -148,12 +148,12 @@ module _ (in_order : CarriesInOrder) (quiet : IsQuiet) (each : SourcesMove) (fil
   behind_filled :
       (entry : CustomerEntry) (l k n p : ℕ) (base : List (List Sender)) (x : Filling) → l < length base → k < 8 → k < length x.outlet.senders
       → x.block.items ≡ [] → sender_at k x.outlet ≡ Sending n p → length (file_records n x.spool) ≤ p → Behind k n p (filled_block (goes_by entry l) x)
-  behind_filled entry l k n p base x inside few in_line none at past = at_suspended (all_suspended x.outlet.peer) refl
+  behind_filled entry l k n p base x inside few in_line none at past = at_suspended (all_suspended x.outlet.peer_fcs) refl
     where
       begins : Behind k n p x
       begins = stays at (ap (records_under (rcb_of k)) none)
 
-      at_suspended : (b : Bool) → all_suspended x.outlet.peer ≡ b → Behind k n p (filled_block (goes_by entry l) x)
+      at_suspended : (b : Bool) → all_suspended x.outlet.peer_fcs ≡ b → Behind k n p (filled_block (goes_by entry l) x)
       at_suspended true e = subst (Behind k n p) (sym (nothing_goes (goes_by entry l) x e)) begins
       at_suspended false e =
           let all = sources x.block.limit x.outlet in

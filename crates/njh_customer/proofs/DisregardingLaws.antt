@@ -14,19 +14,19 @@ use Rattle.njh_line.specs.declared.Phase.{Phase}
 use Rattle.njh_line.specs.declared.Phase.TheVariants.{Down, Calling, Answered, SentI, Up}
 use Rattle.njh_line.specs.declared.config.Config.{Config}
 use Rattle.njh_line.specs.declared.session.Session.{Session}
-use Rattle.njh_line.specs.declared.verdict.Reply.TheVariants as reply
+use Rattle.njh_line.specs.declared.verdict.LineReply.TheVariants as reply
 use Rattle.njh_line.specs.declared.verdict.Verdict.{Verdict}
 use Rattle.njh_customer.specs.Customer.{Customer, CustomerLine, no_customer_line, line_at, on_line, in_state}
-use Rattle.njh_customer.specs.Alone.{Step, goes_up, with_raised_line, silent, session_over, session_ended, carried_out}
+use Rattle.njh_customer.specs.Alone.{CustomerStep, goes_up, with_raised_line, silent, session_over, session_ended, carried_out}
 use Rattle.njh_customer.specs.Alone.{after_line_input, text_read, after_frame, after_signal}
 use Rattle.njh_customer.specs.Disregarding.{session_on, IsButSession, IsDisregarded, SpoiledIsDisregarded}
 use Rattle.njh_customer.specs.Disregarding.{BadBlocksAreDisregarded, GarbledIsDisregarded}
 
 -- by what the line table says, where the line goes up or doesn't
-abbrev by_mark : Bool → ℕ → Session → Verdict → Customer → Step
+abbrev by_mark : Bool → ℕ → Session → Verdict → Customer → CustomerStep
 by_mark up l s v c = carried_out l v (record c { entry = with_raised_line up l c.entry; lines = on_line l (in_state (with_session s)) c.lines })
 
-abbrev by_parts : ℕ → Session → Verdict → Customer → Step
+abbrev by_parts : ℕ → Session → Verdict → Customer → CustomerStep
 by_parts l s v c = by_mark (goes_up (session_on l c).phase s.phase) l s v c
 
 -- a line that is as far as it was doesn't go up
@@ -100,7 +100,7 @@ module _ (l : ℕ) (c : Customer) where
   unchanged : IsButSession l c c
   unchanged = record { session = session_on l c; after = ap (lines_as c) (sym same_lines) }
 
-  where_down : (s : Step) → in_session (session_on l c).phase ≡ false → s ≡ silent c → IsDisregarded l c s
+  where_down : (s : CustomerStep) → in_session (session_on l c).phase ≡ false → s ≡ silent c → IsDisregarded l c s
   where_down s e same =
       record {
         down = λ _. same;
@@ -109,7 +109,7 @@ module _ (l : ℕ) (c : Customer) where
       }
 
   tried_or_over : (b : Bool) → ((session_on l c).tries == 5) ≡ b → l < length c.lines → in_session (session_on l c).phase ≡ true
-      → (s : Step) → s ≡ by_parts l (try_nak (session_on l c)).session (try_nak (session_on l c)).verdict c → IsDisregarded l c s
+      → (s : CustomerStep) → s ≡ by_parts l (try_nak (session_on l c)).session (try_nak (session_on l c)).verdict c → IsDisregarded l c s
   tried_or_over true e there up s is =
       record {
         down = λ down. absurd (cc (sym up ∙ down));
@@ -124,7 +124,7 @@ module _ (l : ℕ) (c : Customer) where
         over = λ _ _ tries. absurd (eqb-false (session_on l c).tries 5 e tries);
       }
 
-  by_phase : (p : Phase) → (session_on l c).phase ≡ p → l < length c.lines → (s : Step)
+  by_phase : (p : Phase) → (session_on l c).phase ≡ p → l < length c.lines → (s : CustomerStep)
       → (let o = cell p (none (session_on l c)) (none (session_on l c)) (try_nak (session_on l c)) (try_nak (session_on l c)) (try_nak (session_on l c)) in
       s ≡ by_parts l o.session o.verdict c)
       → IsDisregarded l c s
@@ -148,7 +148,7 @@ module _ (l : ℕ) (c : Customer) where
         over = λ there up tries. absurd (omega (arith, ltb-false l (length c.lines) e, there));
       }
 
-  where_it_is : (s : Step) (b : Bool) → nat_lt l (length c.lines) ≡ b → (l < length c.lines → IsDisregarded l c s) → IsDisregarded l c (cond b s (silent c))
+  where_it_is : (s : CustomerStep) (b : Bool) → nat_lt l (length c.lines) ≡ b → (l < length c.lines → IsDisregarded l c s) → IsDisregarded l c (cond b s (silent c))
   where_it_is s true e there = there (ltb-true l (length c.lines) e)
   where_it_is s false e there = not_there e
 

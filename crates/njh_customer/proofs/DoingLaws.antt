@@ -24,8 +24,8 @@ use Rattle.njh_line.specs.LineTable.{Input}
 use Rattle.njh_line.specs.Lines.{LineState, after_end, after_input}
 use Rattle.njh_line.specs.Openings.{opening}
 use Rattle.njh_line.specs.declared.config.Config.{Config}
-use Rattle.njh_line.specs.declared.verdict.Reply.{Reply}
-use Rattle.njh_line.specs.declared.verdict.Reply.TheVariants as reply
+use Rattle.njh_line.specs.declared.verdict.LineReply.{LineReply}
+use Rattle.njh_line.specs.declared.verdict.LineReply.TheVariants as reply
 use Rattle.njh_line.specs.declared.verdict.Verdict.{Verdict}
 use Rattle.njh_customer.specs.declared.signal.Signal.{Signal}
 use Rattle.njh_customer.specs.Customer.{Customer, CustomerLine, no_customer_line, line_at, on_line, in_state}
@@ -33,7 +33,7 @@ use Rattle.njh_customer.specs.Acting.{acted_where}
 use Rattle.njh_customer.specs.Sending.{LineSent, Sending, sending_of_control, sending_of_no_block, sending_of_empty}
 use Rattle.njh_customer.specs.Sending.{sending_of_block, next_block, outlet_of, own_block, sending_of_reply}
 use Rattle.njh_customer.specs.Sending.{with_outlet}
-use Rattle.njh_customer.specs.Alone.{Step, silent, quiet, with_raised_line, goes_up_by, after_reply, replied_to}
+use Rattle.njh_customer.specs.Alone.{CustomerStep, silent, with_idle_streams, with_raised_line, goes_up_by, after_reply, replied_to}
 use Rattle.njh_customer.specs.Alone.{session_over, session_over_where, session_ended, carried_out, verdict_on}
 use Rattle.njh_customer.specs.Alone.{accepted_on, after_line_input, block_input, behind_records, after_block, text_read}
 use Rattle.njh_customer.specs.Alone.{after_text, after_received, signal_input, after_frame, after_signal}
@@ -171,7 +171,7 @@ module _ (carry : BlocksCarry) (commands : CommandsMoveFilesSo) where
           (sym (after_is sent refl)) (new_block full.block.bcb full.block.fcs full.block.items refl leads carries)
 
   reply_goes_out :
-      (l : ℕ) (r : Reply) (c : Customer) → l < length c.lines
+      (l : ℕ) (r : LineReply) (c : Customer) → l < length c.lines
       → GoesOut c.entry l (line_at l c.lines).state (outgoing c) (outgoing (replied_to l r c).after) (replied_to l r c).frame
   reply_goes_out l reply.Nothing c there = sent_unmoved l (sending_of_reply c.entry l reply.Nothing c.spool (line_at l c.lines)) c refl refl (nothing_sent refl)
   reply_goes_out l (reply.Control which) c there =
@@ -193,7 +193,7 @@ module _ (carry : BlocksCarry) (commands : CommandsMoveFilesSo) where
   ended_so l false d = still_on refl refl
 
   over_lines : (l : ℕ) (ended : Bool) (d : Customer) → length (session_over_where ended l d).lines ≡ length d.lines
-  over_lines l true d = length-set d.lines l (quiet (line_at l d.lines))
+  over_lines l true d = length-set d.lines l (with_idle_streams (line_at l d.lines))
   over_lines l false d = refl
 
   kept_at : (l : ℕ) (c d : Customer) → kepts d.lines ≡ kepts c.lines → kept (line_at l d.lines) ≡ kept (line_at l c.lines)
@@ -303,7 +303,7 @@ module _ (carry : BlocksCarry) (commands : CommandsMoveFilesSo) where
       }
 
   there_does :
-      (l : ℕ) (items : List Item) (b : Bool) (x : Step) (c : Customer) → nat_lt l (length c.lines) ≡ b → (l < length c.lines → Does l items c x)
+      (l : ℕ) (items : List Item) (b : Bool) (x : CustomerStep) (c : Customer) → nat_lt l (length c.lines) ≡ b → (l < length c.lines → Does l items c x)
       → Does l items c (cond b x (silent c))
   there_does l items true x c e does = does (ltb-true l (length c.lines) e)
   there_does l items false x c e does = silent_does l items c

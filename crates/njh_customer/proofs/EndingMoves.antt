@@ -14,7 +14,7 @@ use Rattle.njh_stream.specs.declared.sender.Sender.TheVariants as sender
 use Rattle.njh_stream.specs.Receiving.{without_open, without_all_open}
 use Rattle.njh_stream.specs.Sending.{all_ended, spool_after_session, file_in, may_go_again, ready, tried_again}
 use Rattle.njh_customer.specs.Customer.{Customer, no_customer_line, line_at}
-use Rattle.njh_customer.specs.Alone.{quiet, session_over}
+use Rattle.njh_customer.specs.Alone.{with_idle_streams, session_over}
 use Rattle.njh_customer.specs.OutgoingFiles.{with_file_state, outgoing, streams_from_hub}
 use Rattle.njh_customer.specs.Moves.{Over}
 
@@ -65,7 +65,7 @@ over_so l c =
     let x = line_at l c.lines in
     record {
       streams =
-          map-set (λ y. y.senders) c.lines l (quiet x)
+          map-set (λ y. y.senders) c.lines l (with_idle_streams x)
           ∙ ap (λ senders. set (streams_from_hub c.lines) l (replicate (length senders) sender.Idle)) (sym (get_or-map (λ y. y.senders) c.lines l no_customer_line));
       files =
           ap (map ready) (without_all_whole x.receivers (tried_again c.entry l (all_ended x.senders c.spool)))

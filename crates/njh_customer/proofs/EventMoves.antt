@@ -11,7 +11,7 @@ use Rattle.njh_block.specs.Blocks.{Item}
 use Rattle.njh_table.specs.Entries.{CustomerEntry}
 use Rattle.njh_table.specs.Marks.{entry_marked}
 use Rattle.njh_customer.specs.Customer.{Customer, line_at, with_marks}
-use Rattle.njh_customer.specs.Alone.{Step, with_raised_line, after_signal}
+use Rattle.njh_customer.specs.Alone.{CustomerStep, with_raised_line, after_signal}
 use Rattle.njh_customer.specs.Feeding.{acted_on, bytes_run}
 use Rattle.njh_customer.specs.Part.{part_after_bytes, rest_on}
 use Rattle.njh_customer.specs.Runs.{OwnBytes, OwnSignal, OwnRoutes, Run, event_run}
@@ -43,7 +43,7 @@ more_records entry l some items x y among (by_end over) = by_end over
 
 -- all moves of a step
 pub does_moves :
-    (l : ℕ) (items : List Item) (c : Customer) (s : Step) (does : Does l items c s)
+    (l : ℕ) (items : List Item) (c : Customer) (s : CustomerStep) (does : Does l items c s)
     → LeadsByMoves (Moves (with_raised_line does.up l c.entry) l items) (outgoing c) (outgoing s.after)
 does_moves l items c s does =
     leads_then (Moves entry l items) (outgoing c) does.acted (outgoing s.after)
@@ -72,7 +72,7 @@ raised_is false l entry = refl
 own_marks : (new old : CustomerEntry) (up : List Bool) → new ≡ with_marks up old → new ≡ with_marks new.up old
 own_marks new old up e = e ∙ sym (ap (λ (x : CustomerEntry). with_marks x.up old) e)
 
-pub does_entry : (l : ℕ) (items : List Item) (c : Customer) (s : Step) → Does l items c s → s.after.entry ≡ with_marks s.after.entry.up c.entry
+pub does_entry : (l : ℕ) (items : List Item) (c : Customer) (s : CustomerStep) → Does l items c s → s.after.entry ≡ with_marks s.after.entry.up c.entry
 does_entry l items c s does = at_end does.end
   where
     judged : CustomerEntry
@@ -85,7 +85,7 @@ does_entry l items c s does = at_end does.end
 
 -- the moves of a step, by the marks of their moments
 pub does_moves_by :
-    (l : ℕ) (items more : List Item) (c : Customer) (s : Step) → ((i : Item) → Contains items i → Contains more i) → Does l items c s
+    (l : ℕ) (items more : List Item) (c : Customer) (s : CustomerStep) → ((i : Item) → Contains items i → Contains more i) → Does l items c s
     → LeadsByMoves (MovesBy c.entry (Records l more)) (outgoing c) (outgoing s.after)
 does_moves_by l items more c s among does =
     let entry = with_raised_line does.up l c.entry in

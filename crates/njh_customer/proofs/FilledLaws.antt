@@ -84,7 +84,7 @@ after_sources_kept goes (source ∷ more) x =
 
 pub filled_kept : (goes : WholeFile → Bool) (x : Filling) → Kept (filled_block goes x) x
 unfolding filled_block
-filled_kept goes x = at_suspended (all_suspended x.outlet.peer)
+filled_kept goes x = at_suspended (all_suspended x.outlet.peer_fcs)
   where
     at_suspended : (b : Bool) → Kept (filled_where b goes x) x
     at_suspended true = same x

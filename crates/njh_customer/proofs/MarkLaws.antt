@@ -20,8 +20,8 @@ use Rattle.njh_table.specs.Keys.{Walked}
 use Rattle.njh_table.specs.NewRoutes.{NewRoute, routes_checked}
 use Rattle.njh_line.specs.declared.Phase.{Phase}
 use Rattle.njh_line.specs.declared.config.Config.{Config}
-use Rattle.njh_line.specs.declared.verdict.Reply.{Reply}
-use Rattle.njh_line.specs.declared.verdict.Reply.TheVariants as reply
+use Rattle.njh_line.specs.declared.verdict.LineReply.{LineReply}
+use Rattle.njh_line.specs.declared.verdict.LineReply.TheVariants as reply
 use Rattle.njh_line.specs.declared.verdict.Verdict.{Verdict}
 use Rattle.njh_line.specs.Laws.{is_up}
 use Rattle.njh_line.specs.LineTable as input
@@ -31,11 +31,11 @@ use Rattle.njh_line.specs.Up.{InputsKeepUp, KeepsUp}
 use Rattle.njh_command.specs.CommandLaws.{CommandsMoveFilesSo}
 use Rattle.njh_customer.specs.declared.signal.Signal.{Signal}
 use Rattle.njh_customer.specs.Customer.{Customer, CustomerLine, IsMarked, no_customer_line, line_at, on_line, in_state}
-use Rattle.njh_customer.specs.Customer.{config_of, fresh_customer, quiet_line}
+use Rattle.njh_customer.specs.Customer.{config_of, fresh_customer, idle_line}
 use Rattle.njh_customer.specs.Acting.{Acted, acted_where}
 use Rattle.njh_customer.specs.Sending.{Sending, sending_of_block, sending_of_control, sending_of_empty, next_block}
 use Rattle.njh_customer.specs.Sending.{sending_of_no_block, sending_of_reply, with_outlet, sending_of_written}
-use Rattle.njh_customer.specs.Alone.{Step, quiet, with_raised_line, goes_up, silent, replied_to, session_over_where}
+use Rattle.njh_customer.specs.Alone.{CustomerStep, with_idle_streams, with_raised_line, goes_up, silent, replied_to, session_over_where}
 use Rattle.njh_customer.specs.Alone.{session_ended, carried_out, verdict_on, accepted_on, after_line_input, block_input}
 use Rattle.njh_customer.specs.Alone.{behind_records, after_block, text_read, after_text, after_received, signal_input}
 use Rattle.njh_customer.specs.Alone.{after_frame, after_signal}
@@ -93,7 +93,7 @@ written_phase or_ack0 w x = at w.items
     at (i ∷ is) = refl
 
 reply_phase :
-    (entry : CustomerEntry) (l : ℕ) (r : Reply) (s : CustomerSpool) (x : CustomerLine)
+    (entry : CustomerEntry) (l : ℕ) (r : LineReply) (s : CustomerSpool) (x : CustomerLine)
     → (sending_of_reply entry l r s x).line.state.session.phase ≡ x.state.session.phase
 reply_phase entry l reply.Nothing s x = refl
 reply_phase entry l (reply.Control which) s x = control_phase which x.state
@@ -165,7 +165,7 @@ module _ (keep : InputsKeepUp) (l : ℕ) (came : Input) (c : Customer) (marked :
       at true e =
           lowered d entry
           ∙ ap (set (ups c.lines) l) (sym (keeps.over (sym e)))
-          ∙ sym sent_ups ∙ sym (map-set_same is_line_up sent.lines l (quiet (line_at l sent.lines)) no_customer_line refl)
+          ∙ sym sent_ups ∙ sym (map-set_same is_line_up sent.lines l (with_idle_streams (line_at l sent.lines)) no_customer_line refl)
       at false e =
           ap (λ (x : CustomerEntry). x.up) entry
           ∙ marks_on before after l c.entry (ups c.lines) marked has_mark (keeps.on (sym e))
@@ -177,7 +177,7 @@ module _ (keep : InputsKeepUp) (l : ℕ) (came : Input) (c : Customer) (marked :
   ended_marked d entry kept_so =
       let xs = on_line l (in_state after_end) d.lines in
       lowered d entry
-      ∙ sym (map-set_same is_line_up xs l (quiet (line_at l xs)) no_customer_line refl
+      ∙ sym (map-set_same is_line_up xs l (with_idle_streams (line_at l xs)) no_customer_line refl
       ∙ map-set is_line_up d.lines l (in_state after_end (line_at l d.lines))
       ∙ ap (λ us. set us l false) (ups_kept d.lines (accepted_on l came c).lines kept_so ∙ accepted_ups)
       ∙ set-set (ups c.lines) l (is_up after) false)
@@ -219,7 +219,7 @@ module _ (keep : InputsKeepUp) (commands : CommandsMoveFilesSo) where
   received_marked l (frame.Text text) c marked = text_marked l text c marked
   received_marked l frame.Spoiled c marked = input_marked keep l input.Spoiled c marked
 
-  where_marked : (b : Bool) (x : Step) (c : Customer) → IsMarked c → IsMarked x.after → IsMarked (cond b x (silent c)).after
+  where_marked : (b : Bool) (x : CustomerStep) (c : Customer) → IsMarked c → IsMarked x.after → IsMarked (cond b x (silent c)).after
   where_marked true x c marked step = step
   where_marked false x c marked step = marked
 
@@ -272,7 +272,7 @@ module _ (keep : InputsKeepUp) (commands : CommandsMoveFilesSo) where
   event_marked p (OwnRoutes routes) marked = routes_marked routes p marked
 
 fresh_marked : (entry : CustomerEntry) → IsMarked (fresh_customer entry)
-fresh_marked entry = sym (map-map is_line_up (λ line. quiet_line (config_of entry line) line.streams) entry.lines)
+fresh_marked entry = sym (map-map is_line_up (λ line. idle_line (config_of entry line) line.streams) entry.lines)
 
 pub marks_right : InputsKeepUp → CommandsMoveFilesSo → MarksAreRight
 marks_right keep commands = record {

@@ -6,7 +6,7 @@ use Rattle.njh_ebcdic.specs.Names.{is_name}
 use Rattle.njh_bisync.specs.Reading.{Rest, Nothing}
 use Rattle.njh_table.specs.Entries.{CustomerEntry}
 use Rattle.njh_table.specs.TableFile.{NamedLine}
-use Rattle.njh_customer.specs.Customer.{CustomerLine, config_of, password_in, quiet_line}
+use Rattle.njh_customer.specs.Customer.{CustomerLine, config_of, password_in, idle_line}
 
 pub password_in_name : (name : List ℕ) → IsTrue (is_name name) → password_in name ≡ Some name
 password_in_name [] h = absurd (false≢true h)
@@ -17,8 +17,8 @@ rests_of_lines [] = refl
 rests_of_lines (l ∷ ls) = ap (λ (rests : List Rest). Nothing ∷ rests) (rests_of_lines ls)
 
 pub states_of_lines : (entry : CustomerEntry) (lines : List NamedLine) →
-    map (λ line. quiet_line (config_of entry line) line.streams) (map (λ l. l.entry) lines)
-    ≡ map (λ l. quiet_line (config_of entry l.entry) l.entry.streams) lines
+    map (λ line. idle_line (config_of entry line) line.streams) (map (λ l. l.entry) lines)
+    ≡ map (λ l. idle_line (config_of entry l.entry) l.entry.streams) lines
 states_of_lines entry [] = refl
-states_of_lines entry (l ∷ ls) = ap (λ (states : List CustomerLine). quiet_line (config_of entry l.entry) l.entry.streams ∷ states)
+states_of_lines entry (l ∷ ls) = ap (λ (states : List CustomerLine). idle_line (config_of entry l.entry) l.entry.streams ∷ states)
     (states_of_lines entry ls)

@@ -16,7 +16,7 @@ use Rattle.njh_customer.specs.Customer.{on_line}
 use Rattle.njh_customer.specs.code.Coherence.{IsCoherent}
 use Rattle.njh_block.specs.Blocks.{Block, Item}
 use Rattle.njh_line.specs.declared.verdict.Verdict.{Verdict}
-use Rattle.njh_customer.specs.Alone.{Step, accepted_on, behind_records, after_block, block_input, carried_out}
+use Rattle.njh_customer.specs.Alone.{CustomerStep, accepted_on, behind_records, after_block, block_input, carried_out}
 use Rattle.njh_customer.specs.Alone.{goes_up_by, after_line_input, with_raised_line, verdict_on}
 use Rattle.njh_customer.specs.Acting.{after_record, acted_where, all_acted, ended_or, ends_session}
 use Rattle.njh_customer.specs.declared.shared.Shared.{Shared}
@@ -155,7 +155,7 @@ brought_on c old now new lines_now lines_new between then first second = record 
 
 -- what sends a frame from where it was brought
 pub sent_behind :
-    (c : ℕ) (old now new : Shared) (lines_now lines_new : List CustomerLine) (frame : List ℕ) (between : Customer) (then : Customer → Step)
+    (c : ℕ) (old now new : Shared) (lines_now lines_new : List CustomerLine) (frame : List ℕ) (between : Customer) (then : Customer → CustomerStep)
     → Brings c old now lines_now between → SendsStep c now new lines_new frame (then (customer_of c now lines_now))
     → SendsStep c old new lines_new frame (then between)
 sent_behind c old now new lines_now lines_new frame between then first second = record {
@@ -165,7 +165,7 @@ sent_behind c old now new lines_now lines_new frame between then first second = 
 
 -- a step that leaves the customer coherent, with as many lines
 pub made_by :
-    (id : LineId) (old : Shared) (before : List CustomerLine) (new : Shared) (lines : List CustomerLine) (frame : List ℕ) (step : Step)
+    (id : LineId) (old : Shared) (before : List CustomerLine) (new : Shared) (lines : List CustomerLine) (frame : List ℕ) (step : CustomerStep)
     → IsReady id old before → SendsStep id.customer old new lines frame step → Stays step.after (customer_of id.customer old before)
     → MakesStep id old before new lines frame step
 made_by id old before new lines frame step ready sends stays = record {
@@ -226,7 +226,7 @@ sent_by_verdict id old accepted new lines lines_accepted lines_new frame came v 
     (sent_behind id.customer old accepted new lines_accepted lines_new frame d (carried_out l v) first behind)
 
 -- behind a block's records, by what the customer was when these came
-abbrev behind_block : ℕ → List Item → Verdict → Customer → Step
+abbrev behind_block : ℕ → List Item → Verdict → Customer → CustomerStep
 behind_block l items v d = let a = acted_where v.acts l items d in behind_records a.ended l v a.customer
 
 -- A good block: its verdict, its records, and what is behind them, where these ended the session or didn't.

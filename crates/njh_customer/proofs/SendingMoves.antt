@@ -185,7 +185,7 @@ module _ (entry : CustomerEntry) (l : ℕ) (base : List (List Sender)) (inside :
 
   pub filled_leads : (x : Filling) → LeadsByMoves (Sends entry l) (out_of l base x) (out_of l base (filled_block (goes_by entry l) x))
   unfolding filled_block
-  filled_leads x = at_suspended (all_suspended x.outlet.peer)
+  filled_leads x = at_suspended (all_suspended x.outlet.peer_fcs)
     where
       at_suspended : (b : Bool) → LeadsByMoves (Sends entry l) (out_of l base x) (out_of l base (filled_where b (goes_by entry l) x))
       at_suspended true = nowhere (out_of l base x)
@@ -193,7 +193,7 @@ module _ (entry : CustomerEntry) (l : ℕ) (base : List (List Sender)) (inside :
 
   pub filled_with_none : (x : Filling) → (filled_block (goes_by entry l) x).block.items ≡ [] → out_of l base (filled_block (goes_by entry l) x) ≡ out_of l base x
   unfolding filled_block
-  filled_with_none x = at_suspended (all_suspended x.outlet.peer)
+  filled_with_none x = at_suspended (all_suspended x.outlet.peer_fcs)
     where
       at_suspended : (b : Bool) → (filled_where b (goes_by entry l) x).block.items ≡ [] → out_of l base (filled_where b (goes_by entry l) x) ≡ out_of l base x
       at_suspended true none = refl

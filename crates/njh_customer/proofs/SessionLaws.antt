@@ -19,14 +19,14 @@ use Rattle.njh_sched.specs.NextBlock.{filling}
 use Rattle.njh_sched.specs.Tight.{own_fcs}
 use Rattle.njh_line.specs.LineTable.{Input}
 use Rattle.njh_line.specs.Lines.{after_end}
-use Rattle.njh_line.specs.declared.verdict.Reply.{Reply}
-use Rattle.njh_line.specs.declared.verdict.Reply.TheVariants as reply
+use Rattle.njh_line.specs.declared.verdict.LineReply.{LineReply}
+use Rattle.njh_line.specs.declared.verdict.LineReply.TheVariants as reply
 use Rattle.njh_line.specs.declared.verdict.Verdict.{Verdict}
 use Rattle.njh_customer.specs.Customer.{Customer, no_customer_line, line_at, on_line, in_state}
 use Rattle.njh_customer.specs.code.Coherence.{streams_to_hub, HasStreams, IsCoherent}
 use Rattle.njh_customer.specs.Sending.{LineSent, outlet_of, own_block, sending_of_reply}
 use Rattle.njh_customer.specs.Acting.{acted_where}
-use Rattle.njh_customer.specs.Alone.{after_reply, replied_to, quiet, session_over, session_over_where}
+use Rattle.njh_customer.specs.Alone.{after_reply, replied_to, with_idle_streams, session_over, session_over_where}
 use Rattle.njh_customer.specs.Alone.{session_ended, carried_out, verdict_on, accepted_on, after_line_input, block_input}
 use Rattle.njh_customer.specs.Alone.{behind_records, after_block}
 use Rattle.njh_customer.proofs.ShapeLaws.{shape, on_line_shapes}
@@ -83,7 +83,7 @@ module _ (untied : NothingUnties) (ends : EndsTie) where
       stays_like untied (after_reply l x c).after c
       (record { entry = refl; lines = map-set_same shape c.lines l x.line no_customer_line same; partial = partial; quota = quota }) coherent
 
-  reply_stays : (l : ℕ) (r : Reply) (c : Customer) → IsCoherent c → Stays (replied_to l r c).after c
+  reply_stays : (l : ℕ) (r : LineReply) (c : Customer) → IsCoherent c → Stays (replied_to l r c).after c
   reply_stays l reply.Nothing c coherent = sent_stays l (sending_of_reply c.entry l reply.Nothing c.spool (line_at l c.lines)) c refl refl refl coherent
   reply_stays l (reply.Control control) c coherent =
       sent_stays l (sending_of_reply c.entry l (reply.Control control) c.spool (line_at l c.lines)) c refl refl refl coherent
@@ -112,12 +112,12 @@ module _ (untied : NothingUnties) (ends : EndsTie) where
       let eight = coherent.streamed l no_customer_line line_there in
       record {
         coherent = record {
-          tied = subst (λ rs. AreTied rs (without_all_open x.receivers sent)) (sym (map-set (λ y. y.receivers) c.lines l (quiet x))) after;
-          streamed = All-set HasStreams c.lines l (quiet x) (length-replicate (length x.receivers) receiver.Idle ∙ eight.0, eight.1) coherent.streamed;
+          tied = subst (λ rs. AreTied rs (without_all_open x.receivers sent)) (sym (map-set (λ y. y.receivers) c.lines l (with_idle_streams x))) after;
+          streamed = All-set HasStreams c.lines l (with_idle_streams x) (length-replicate (length x.receivers) receiver.Idle ∙ eight.0, eight.1) coherent.streamed;
           quota = without_all_quota x.receivers sent ∙ all_ended_quota x.senders c.spool ∙ coherent.quota;
-          marks = length-set c.entry.up l false ∙ coherent.marks ∙ sym (length-set c.lines l (quiet x));
+          marks = length-set c.entry.up l false ∙ coherent.marks ∙ sym (length-set c.lines l (with_idle_streams x));
         };
-        lines = length-set c.lines l (quiet x);
+        lines = length-set c.lines l (with_idle_streams x);
       }
 
   over_where_stays : (b : Bool) (l : ℕ) (c : Customer) → l < length c.lines → IsCoherent c → Stays (session_over_where b l c) c

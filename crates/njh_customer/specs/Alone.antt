@@ -17,7 +17,7 @@ use Rattle.njh_line.specs.LineTable.{Input, table_outcome}
 use Rattle.njh_line.specs.Laws.{is_up}
 use Rattle.njh_line.specs.Lines.{after_input, after_end, without_answers}
 use Rattle.njh_line.specs.declared.Phase.{Phase}
-use Rattle.njh_line.specs.declared.verdict.Reply.{Reply}
+use Rattle.njh_line.specs.declared.verdict.LineReply.{LineReply}
 use Rattle.njh_line.specs.declared.verdict.Verdict.{Verdict}
 use Rattle.njh_customer.specs.declared.signal.Signal.{Signal}
 use Rattle.njh_customer.specs.declared.signal.Signal.TheVariants as signal
@@ -26,26 +26,26 @@ use Rattle.njh_customer.specs.Acting.{acted_where}
 use Rattle.njh_customer.specs.Sending.{LineSent, sending_of_reply}
 
 -- The customer after a step, and the frame that it sent; [] where it sent none.
-pub record Step : Type 0 where
+pub record CustomerStep : Type 0 where
   pub after : Customer
   pub frame : List ℕ
 
-abbrev pub silent : Customer → Step
+abbrev pub silent : Customer → CustomerStep
 silent c = record { after = c; frame = [] }
 
 -- a line sends what a verdict asks for
-abbrev pub after_reply : ℕ → LineSent → Customer → Step
+abbrev pub after_reply : ℕ → LineSent → Customer → CustomerStep
 after_reply l sent c =
     record { after = record c { spool = sent.spool; lines = slice_set c.lines l sent.line }; frame = sent.frame }
 
-abbrev pub replied_to : ℕ → Reply → Customer → Step
+abbrev pub replied_to : ℕ → LineReply → Customer → CustomerStep
 replied_to l reply c = after_reply l (sending_of_reply c.entry l reply c.spool (line_at l c.lines)) c
 
 -- ---- the end of a line's session
 
 -- its answers are gone, its streams are about nothing, and SYSOUT 4 counts as served last
-abbrev pub quiet : CustomerLine → CustomerLine
-quiet x = record x {
+abbrev pub with_idle_streams : CustomerLine → CustomerLine
+with_idle_streams x = record x {
   state = without_answers x.state;
   receivers = replicate (length x.receivers) receiver.Idle;
   senders = replicate (length x.senders) sender.Idle;
@@ -60,7 +60,7 @@ spool_over entry l x s = without_all_open x.receivers (tried_again entry l (all_
 -- they are judged by the marks as these were just before
 abbrev pub session_closed : ℕ → Customer → Customer
 session_closed l c =
-    record c { spool = spool_over c.entry l (line_at l c.lines) c.spool; lines = on_line l quiet c.lines }
+    record c { spool = spool_over c.entry l (line_at l c.lines) c.spool; lines = on_line l with_idle_streams c.lines }
 
 -- and then the line counts as not up
 abbrev pub session_over : ℕ → Customer → Customer
@@ -77,7 +77,7 @@ session_ended l c = session_over l (record c { lines = on_line l (in_state after
 -- ---- what comes on a line
 
 -- what a verdict asks for is sent, and then the session ends where it says so
-abbrev pub carried_out : ℕ → Verdict → Customer → Step
+abbrev pub carried_out : ℕ → Verdict → Customer → CustomerStep
 carried_out l v c =
     let s = replied_to l v.reply c in record { after = session_over_where v.ended l s.after; frame = s.frame }
 
@@ -106,32 +106,32 @@ accepted_on l came c = record c {
 }
 
 -- what comes to a line but a good block
-abbrev pub after_line_input : ℕ → Input → Customer → Step
+abbrev pub after_line_input : ℕ → Input → Customer → CustomerStep
 after_line_input l came c = carried_out l (verdict_on l came c) (accepted_on l came c)
 
 abbrev pub block_input : Block → Input
 block_input b = input.Block b.bcb b.fcs (general_first b.items)
 
 -- behind the records of a block, one of which ended the session or didn't
-abbrev pub behind_records : Bool → ℕ → Verdict → Customer → Step
+abbrev pub behind_records : Bool → ℕ → Verdict → Customer → CustomerStep
 behind_records true l v c = silent (session_ended l c)
 behind_records false l v c = carried_out l v c
 
 -- a good block: its records act where the line table says so, and then it is answered
-abbrev pub after_block : ℕ → Block → Customer → Step
+abbrev pub after_block : ℕ → Block → Customer → CustomerStep
 after_block l b c =
     let v = verdict_on l (block_input b) c in
     let a = acted_where v.acts l b.items (accepted_on l (block_input b) c) in
     behind_records a.ended l v a.customer
 
-abbrev pub text_read : ℕ → Result Block BlockFault → Customer → Step
+abbrev pub text_read : ℕ → Result Block BlockFault → Customer → CustomerStep
 text_read l (Ok b) c = after_block l b c
 text_read l (Err e) c = after_line_input l input.Bad c
 
-abbrev pub after_text : ℕ → List ℕ → Customer → Step
+abbrev pub after_text : ℕ → List ℕ → Customer → CustomerStep
 after_text l text c = text_read l (read_block text) c
 
-abbrev pub after_received : ℕ → Received → Customer → Step
+abbrev pub after_received : ℕ → Received → Customer → CustomerStep
 after_received l frame.Enquiry c = after_line_input l input.Enquiry c
 after_received l frame.Ack0 c = after_line_input l input.Ack0 c
 after_received l frame.Nak c = after_line_input l input.Nak c
@@ -145,13 +145,13 @@ signal_input signal.Garbled = input.Garbled
 signal_input signal.Lost = input.Lost
 
 -- a line that isn't there takes nothing and sends nothing
-abbrev pub where_there : ℕ → Step → Customer → Step
+abbrev pub where_there : ℕ → CustomerStep → Customer → CustomerStep
 where_there l s c = cond (nat_lt l (length c.lines)) s (silent c)
 
 -- a frame comes on a line
-unfoldable pub after_frame : ℕ → Received → Customer → Step
+unfoldable pub after_frame : ℕ → Received → Customer → CustomerStep
 after_frame l received c = where_there l (after_received l received c) c
 
 -- a signal comes on a line
-unfoldable pub after_signal : ℕ → Signal → Customer → Step
+unfoldable pub after_signal : ℕ → Signal → Customer → CustomerStep
 after_signal l s c = where_there l (after_line_input l (signal_input s) c) c

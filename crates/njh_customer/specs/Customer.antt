@@ -45,8 +45,8 @@ config_of entry line = record {
 }
 
 -- a line that is down, none of whose streams is about a file
-abbrev pub quiet_line : Config → ℕ → CustomerLine
-quiet_line config streams = record {
+abbrev pub idle_line : Config → ℕ → CustomerLine
+idle_line config streams = record {
   state = fresh_line config;
   streams = streams;
   receivers = replicate 8 receiver.Idle;
@@ -60,7 +60,7 @@ abbrev pub fresh_customer : CustomerEntry → Customer
 fresh_customer entry = record {
   entry = entry_unmarked entry;
   spool = empty_spool entry.quota entry.files;
-  lines = map (λ line. quiet_line (config_of entry line) line.streams) entry.lines;
+  lines = map (λ line. idle_line (config_of entry line) line.streams) entry.lines;
 }
 
 -- a customer of this entry with these files and lines

@@ -6,7 +6,7 @@ use Rattle.njh_table.specs.TableFile.{TableFile, NamedCustomer, HasLine, custome
 use Rattle.njh_customer.specs.declared.shared.Shared.{Shared}
 use Rattle.njh_customer.specs.Customer.{Customer, CustomerLine, customer_with}
 use Rattle.njh_customer.specs.Acting.{Acted}
-use Rattle.njh_customer.specs.Alone.{Step}
+use Rattle.njh_customer.specs.Alone.{CustomerStep}
 use Rattle.njh_customer.specs.Sending.{LineSent}
 use Rattle.njh_customer.specs.Part.{Part, Lines, part_with}
 use Rattle.njh_customer.specs.code.Coherence.{IsCoherent}
@@ -72,13 +72,14 @@ pub record LeadsOn (id : LineId) (old new : Shared) (lines : List CustomerLine) 
   pub ready : IsReady id new lines
 
 -- It is brought to what it is after a step, and the step's frame is sent.
-pub record SendsStep (c : ℕ) (old new : Shared) (lines : List CustomerLine) (out : List ℕ) (step : Step) : Type 0 where
+pub record SendsStep (c : ℕ) (old new : Shared) (lines : List CustomerLine) (out : List ℕ) (step : CustomerStep)
+    : Type 0 where
   pub after : Brings c old new lines step.after
   pub frame : out ≡ step.frame
 
 -- So it is, its line is ready for more, and it has as many lines.
 pub record MakesStep (id : LineId) (old : Shared) (before : List CustomerLine) (new : Shared)
-    (lines : List CustomerLine) (out : List ℕ) (step : Step) : Type 0 where
+    (lines : List CustomerLine) (out : List ℕ) (step : CustomerStep) : Type 0 where
   pub after : Brings id.customer old new lines step.after
   pub frame : out ≡ step.frame
   pub ready : IsReady id new lines
@@ -110,13 +111,13 @@ abbrev pub Marks : LineId → Shared → List CustomerLine → Shared → List C
 Marks id old before new lines step = Brings id.customer old new lines (step (customer_of id.customer old before))
 
 -- what sends a frame
-abbrev pub Sends : LineId → Shared → List CustomerLine → Shared → List CustomerLine → List ℕ → (Customer → Step)
+abbrev pub Sends : LineId → Shared → List CustomerLine → Shared → List CustomerLine → List ℕ → (Customer → CustomerStep)
     → Type 0
 Sends id old before new lines out step =
     SendsStep id.customer old new lines out (step (customer_of id.customer old before))
 
 -- a whole step
-abbrev pub Makes : LineId → Shared → List CustomerLine → Shared → List CustomerLine → List ℕ → (Customer → Step)
+abbrev pub Makes : LineId → Shared → List CustomerLine → Shared → List CustomerLine → List ℕ → (Customer → CustomerStep)
     → Type 0
 Makes id old before new lines out step =
     MakesStep id old before new lines out (step (customer_of id.customer old before))

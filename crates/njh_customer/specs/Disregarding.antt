@@ -8,7 +8,7 @@ use Rattle.njh_line.specs.Sessions.{in_session}
 use Rattle.njh_line.specs.declared.session.Session.{Session}
 use Rattle.njh_customer.specs.declared.signal.Signal.TheVariants.{Garbled}
 use Rattle.njh_customer.specs.Customer.{Customer, line_at, on_line, in_state}
-use Rattle.njh_customer.specs.Alone.{Step, silent, session_ended, after_frame, after_signal}
+use Rattle.njh_customer.specs.Alone.{CustomerStep, silent, session_ended, after_frame, after_signal}
 
 abbrev pub session_on : ℕ → Customer → Session
 session_on l c = (line_at l c.lines).state.session
@@ -21,7 +21,7 @@ pub record IsButSession (l : ℕ) (c d : Customer) : Type 0 where
 
 -- What is disregarded does nothing where no session is on, and in a session it moves nothing else; but where five tries
 -- were made, the session ends.
-pub record IsDisregarded (l : ℕ) (c : Customer) (s : Step) : Type 0 where
+pub record IsDisregarded (l : ℕ) (c : Customer) (s : CustomerStep) : Type 0 where
   pub down : in_session (session_on l c).phase ≡ false → s ≡ silent c
   pub goes_on : (session_on l c).tries ≢ 5 → IsButSession l c s.after
   pub over : l < length c.lines → in_session (session_on l c).phase ≡ true → (session_on l c).tries ≡ 5

@@ -5,10 +5,10 @@ use Rattle.njh_bisync.specs.Frames.{Received}
 use Rattle.njh_bisync.specs.Reading.{Rest}
 use Rattle.njh_bisync.specs.ByteSteps.{rest_step}
 use Rattle.njh_customer.specs.Customer.{Customer}
-use Rattle.njh_customer.specs.Alone.{Step, after_frame}
+use Rattle.njh_customer.specs.Alone.{CustomerStep, after_frame}
 
 -- a frame acts, where one ended
-abbrev pub acted_on : ℕ → Option Received → Customer → Step
+abbrev pub acted_on : ℕ → Option Received → Customer → CustomerStep
 acted_on l None c = record { after = c; frame = [] }
 acted_on l (Some received) c = after_frame l received c
 
@@ -34,7 +34,7 @@ pub record Taking : Type 0 where
 abbrev pub later_by : ℕ → Taking → Taking
 later_by n t = record t { taken = n + t.taken }
 
-abbrev pub or_later : ℕ → Rest → Step → Taking → Taking
+abbrev pub or_later : ℕ → Rest → CustomerStep → Taking → Taking
 or_later n rest step later =
     elim step.frame [
       | [] ↦ later_by n later

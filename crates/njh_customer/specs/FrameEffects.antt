@@ -18,7 +18,7 @@ use Rattle.njh_line.specs.Lines.{LineState}
 use Rattle.njh_line.specs.Openings.{opening}
 use Rattle.njh_line.specs.declared.opening.Opening.{Opening}
 use Rattle.njh_customer.specs.Customer.{Customer, line_at}
-use Rattle.njh_customer.specs.Alone.{Step, with_raised_line}
+use Rattle.njh_customer.specs.Alone.{CustomerStep, with_raised_line}
 use Rattle.njh_customer.specs.OutgoingFiles.{Outgoing, outgoing, records_numbered, sender_on, streams_of}
 use Rattle.njh_customer.specs.Moves.{LeadsByMoves, OneActs, Over, Sends}
 
@@ -80,7 +80,7 @@ pub data Ends (entry : CustomerEntry) (l : ℕ) (x : Outgoing) (after : Customer
 
 -- What a step on line l does by these records: where the line goes up by what came it counts as up from then on. The
 -- records act, or none does; then what goes out, of the line as it was; and at last the line's session goes on or ends.
-pub record Does (l : ℕ) (items : List Item) (c : Customer) (s : Step) : Type 0 where
+pub record Does (l : ℕ) (items : List Item) (c : Customer) (s : CustomerStep) : Type 0 where
   pub up : Bool  -- whether the line goes up
   pub acted : Outgoing
   pub records : LeadsByMoves (OneActs (with_raised_line up l c.entry) l items) (outgoing c) acted

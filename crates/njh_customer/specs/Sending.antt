@@ -9,8 +9,8 @@ use Rattle.njh_line.specs.Lines as line
 use Rattle.njh_line.specs.Lines.{LineState, LastSent, after_sending}
 use Rattle.njh_line.specs.Openings.{opening}
 use Rattle.njh_line.specs.declared.opening.Opening.{Opening}
-use Rattle.njh_line.specs.declared.verdict.Reply.{Reply}
-use Rattle.njh_line.specs.declared.verdict.Reply.TheVariants as reply
+use Rattle.njh_line.specs.declared.verdict.LineReply.{LineReply}
+use Rattle.njh_line.specs.declared.verdict.LineReply.TheVariants as reply
 use Rattle.njh_spool.specs.CustomerSpool.{CustomerSpool}
 use Rattle.njh_table.specs.Entries.{CustomerEntry}
 use Rattle.njh_stream.specs.Sending.{goes_by}
@@ -79,7 +79,7 @@ sending_of_written or_ack0 w x = elim w.items [ [] ↦ sending_of_empty or_ack0 
 abbrev pub outlet_of : CustomerLine → Outlet
 outlet_of x = record {
   streams = x.streams;
-  peer = x.state.session.peer_fcs;
+  peer_fcs = x.state.session.peer_fcs;
   answers = x.state.answers;
   messages = x.state.messages;
   senders = x.senders;
@@ -98,7 +98,7 @@ with_outlet o x =
 -- what is left of a line without what it has to send
 abbrev pub without_queues : CustomerLine → CustomerLine
 without_queues x =
-    with_outlet (record { streams = 0; peer = (0, 0); answers = []; messages = []; senders = []; served = 0 }) x
+    with_outlet (record { streams = 0; peer_fcs = (0, 0); answers = []; messages = []; senders = []; served = 0 }) x
 
 -- the next block of a line, under its customer's function control sequence
 abbrev pub next_block : CustomerEntry → ℕ → CustomerSpool → CustomerLine → Filling
@@ -121,7 +121,7 @@ sending_of_next entry l or_ack0 s x =
     let f = next_block entry l s x in
     sending_of_line (sending_of_written or_ack0 f.block) f.spool (with_outlet f.outlet x)
 
-abbrev pub sending_of_reply : CustomerEntry → ℕ → Reply → CustomerSpool → CustomerLine → LineSent
+abbrev pub sending_of_reply : CustomerEntry → ℕ → LineReply → CustomerSpool → CustomerLine → LineSent
 sending_of_reply entry l reply.Nothing s x = record { line = x; spool = s; frame = [] }
 sending_of_reply entry l (reply.Control control) s x = sending_of_line (sending_of_control control) s x
 sending_of_reply entry l reply.Again s x = sending_of_line sending_again s x

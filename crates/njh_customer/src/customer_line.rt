@@ -7,12 +7,12 @@ ghost use Rattle.njh_line.specs.Laws as laws;
 ghost use Rattle.njh_line.specs.Lines as lines;
 ghost use Rattle.njh_command.specs.Commands.{without_file};
 ghost use Rattle.njh_customer.specs.Acting.{with_senders_by};
-ghost use Rattle.njh_customer.specs.Alone.{quiet, spool_over};
+ghost use Rattle.njh_customer.specs.Alone.{with_idle_streams, spool_over};
 ghost use Rattle.njh_spool.specs.Spools.{spool_at};
 ghost use Rattle.njh_sched.specs.Tight.{own_fcs};
 ghost use Rattle.njh_table.specs.TableFile.{customer_at, entry_of};
 ghost use Rattle.njh_customer.specs.Sending.{sending_of_next, sending_of_reply};
-ghost use Rattle.njh_customer.specs.Customer.{quiet_line, in_state, with_notice, receiver_at, with_receiver, sender_at};
+ghost use Rattle.njh_customer.specs.Customer.{idle_line, in_state, with_notice, receiver_at, with_receiver, sender_at};
 ghost use Rattle.njh_customer.specs.Customer.{with_sender};
 ghost use Rattle.njh_customer.specs.CustomerSteps.{LineSends};
 
@@ -23,7 +23,7 @@ use crate::sending::{
 use crate::shared::Shared;
 use njh_block::{Answer, Fcs, Stream};
 use njh_command::give_up;
-use njh_line::{Config, Input, Line, Phase, Reply, Session, Verdict};
+use njh_line::{Config, Input, Line, LineReply, Phase, Session, Verdict};
 use njh_record::Record;
 use njh_sched::{Outgoing, fill, own_fcs};
 use njh_spool::{FileId, Spool};
@@ -72,7 +72,7 @@ impl CustomerLine {
     pub(crate) fn new(alloc: Global, config: Config, streams: u8) -> Result<Self, AllocError>
         requires config { IsConfig config }
         requires streams { streams ≤ 4 }
-        ensures { IfOk result (λ x. x ≡ quiet_line config streams) }
+        ensures { IfOk result (λ x. x ≡ idle_line config streams) }
     {
         Ok(CustomerLine {
             line: Line::new(alloc, config)?,
@@ -212,7 +212,7 @@ impl CustomerLine {
     pub(crate) fn send_reply(
         &mut self,
         id: LineId,
-        reply: Reply,
+        reply: LineReply,
         shared: &mut Shared,
         out: &mut FrameBuffer,
     )
@@ -225,15 +225,15 @@ impl CustomerLine {
             (spool_at id.customer shared.old.spool) self.old) }
     {
         match reply {
-            Reply::Nothing => out.clear(),
-            Reply::Control(control) => send_control(&mut self.line, control, out),
-            Reply::Again => send_again(&mut self.line, out),
-            Reply::SignOn(kind) => send_opening(&mut self.line, kind, &mut shared.block, out),
-            Reply::Sequence { expected } => {
+            LineReply::Nothing => out.clear(),
+            LineReply::Control(control) => send_control(&mut self.line, control, out),
+            LineReply::Again => send_again(&mut self.line, out),
+            LineReply::SignOn(kind) => send_opening(&mut self.line, kind, &mut shared.block, out),
+            LineReply::Sequence { expected } => {
                 let fcs = own_fcs(id.customer, &shared.spool, &shared.tables);
                 send_sequence(&mut self.line, expected, fcs, &mut shared.block, out);
             }
-            Reply::Next { or_ack0 } => {
+            LineReply::Next { or_ack0 } => {
                 let fcs = own_fcs(id.customer, &shared.spool, &shared.tables);
                 self.send_next(id, or_ack0, fcs, shared, out);
             }
@@ -272,7 +272,7 @@ impl CustomerLine {
     pub(crate) fn end_session(&mut self, id: LineId, tables: &Tables, spool: &mut Spool)
         requires known { id.customer < length tables.now.customers }
         requires spooled { id.customer < length spool.old }
-        ensures line { self.new ≡ quiet self.old }
+        ensures line { self.new ≡ with_idle_streams self.old }
         ensures spool { spool.new ≡ slice_set spool.old id.customer
             (spool_over (entry_of (customer_at tables.now id.customer)) id.number self.old
             (spool_at id.customer spool.old)) }
@@ -296,7 +296,7 @@ impl Outgoing for CustomerLine {
         self.streams
     }
 
-    fn peer(&self) -> Fcs {
+    fn peer_fcs(&self) -> Fcs {
         self.line.session().peer_fcs
     }
 

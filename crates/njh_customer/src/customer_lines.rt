@@ -24,7 +24,7 @@ use crate::shared::Shared;
 use njh_block::{Answer, Rcb, Stream};
 use njh_command::{Replies, Senders};
 use njh_ebcdic::{FIELD, Name};
-use njh_line::{Input, Reply, Verdict};
+use njh_line::{Input, LineReply, Verdict};
 use njh_nmr::{LONGEST_MESSAGE, Nmr};
 use njh_record::Record;
 use njh_spool::FileId;
@@ -135,7 +135,7 @@ impl CustomerLines {
     pub(crate) fn send_reply(
         &mut self,
         id: LineId,
-        reply: Reply,
+        reply: LineReply,
         shared: &mut Shared,
         out: &mut FrameBuffer,
     )

@@ -21,7 +21,7 @@ use std::alloc::Global;
 use std::marker::Model;
 
 /// How many bytes are asked for at once.
-const PIECE: usize = 4096;
+const READ_SIZE: usize = 4096;
 
 /// How many quiets in a row are no tick.
 const QUIETS: u8 = 9;
@@ -59,7 +59,7 @@ impl TurnRoom {
         ensures { OnErr result (result ≡ Err HubFault.Memory) }
     {
         Ok(TurnRoom {
-            buffer: vec![in alloc; 0u8; PIECE]?,
+            buffer: vec![in alloc; 0u8; READ_SIZE]?,
             out: Vec::with_capacity(alloc, LONGEST_FRAME)?,
         })
     }

@@ -6,8 +6,8 @@ use Rattle.njh_line.specs.declared.config.Config.{Config}
 use Rattle.njh_line.specs.declared.counts.Counted.{Counted}
 use Rattle.njh_line.specs.declared.counts.Counted.TheVariants.{Acts, Repeats, OutOfSequence}
 use Rattle.njh_line.specs.declared.session.Session.{Session}
-use Rattle.njh_line.specs.declared.table.Outcome.{Outcome}
-use Rattle.njh_line.specs.declared.verdict.Reply.TheVariants.{Sequence}
+use Rattle.njh_line.specs.declared.table.SessionOutcome.{SessionOutcome}
+use Rattle.njh_line.specs.declared.verdict.LineReply.TheVariants.{Sequence}
 use Rattle.njh_line.specs.Counts.{after_acting, count_verdict, expected_count}
 use Rattle.njh_line.specs.LineTable.{Block, table_outcome, acting, cell, end_with, try_again}
 use Rattle.njh_line.specs.Openings.{First}
@@ -15,7 +15,7 @@ use Rattle.njh_line.specs.Sessions.{in_session}
 use Rattle.njh_line.proofs.CountLaws.{clash}
 
 -- The count rule before the cells of a session is the count rule in each.
-in_row : (p : Phase) (k : Counted) (before before' down calling answered sent_i up again sequence : Outcome) → in_session p ≡ true →
+in_row : (p : Phase) (k : Counted) (before before' down calling answered sent_i up again sequence : SessionOutcome) → in_session p ≡ true →
     elim k [ Acts ↦ cell p before before' answered sent_i up | Repeats ↦ again | OutOfSequence ↦ sequence ]
     ≡ cell p down calling
     (elim k [ Acts ↦ answered | Repeats ↦ again | OutOfSequence ↦ sequence ])
@@ -27,17 +27,17 @@ in_row Answered k before before' down calling answered sent_i up again sequence 
 in_row SentI k before before' down calling answered sent_i up again sequence e = refl
 in_row Up k before before' down calling answered sent_i up again sequence e = refl
 
-where_acts : (k : Counted) (x y z : Outcome) → k ≡ Acts → x ≡ elim k [ Acts ↦ x | Repeats ↦ y | OutOfSequence ↦ z ]
+where_acts : (k : Counted) (x y z : SessionOutcome) → k ≡ Acts → x ≡ elim k [ Acts ↦ x | Repeats ↦ y | OutOfSequence ↦ z ]
 where_acts Acts x y z e = refl
 where_acts Repeats x y z e = absurd (cc)
 where_acts OutOfSequence x y z e = absurd (cc)
 
-where_repeats : (k : Counted) (x y z : Outcome) → k ≡ Repeats → y ≡ elim k [ Acts ↦ x | Repeats ↦ y | OutOfSequence ↦ z ]
+where_repeats : (k : Counted) (x y z : SessionOutcome) → k ≡ Repeats → y ≡ elim k [ Acts ↦ x | Repeats ↦ y | OutOfSequence ↦ z ]
 where_repeats Acts x y z e = absurd (cc)
 where_repeats Repeats x y z e = refl
 where_repeats OutOfSequence x y z e = absurd (cc)
 
-where_out_of_sequence : (k : Counted) (x y z : Outcome) → k ≡ OutOfSequence → z ≡ elim k [ Acts ↦ x | Repeats ↦ y | OutOfSequence ↦ z ]
+where_out_of_sequence : (k : Counted) (x y z : SessionOutcome) → k ≡ OutOfSequence → z ≡ elim k [ Acts ↦ x | Repeats ↦ y | OutOfSequence ↦ z ]
 where_out_of_sequence Acts x y z e = absurd (cc)
 where_out_of_sequence Repeats x y z e = absurd (cc)
 where_out_of_sequence OutOfSequence x y z e = refl

@@ -12,9 +12,9 @@ use Rattle.njh_table.specs.declared.Role.TheVariants.{Call, Answer}
 use Rattle.njh_line.specs.declared.counts.Counted.{Counted}
 use Rattle.njh_line.specs.declared.counts.Counted.TheVariants.{Acts, Repeats, OutOfSequence}
 use Rattle.njh_line.specs.declared.session.Session.{Session}
-use Rattle.njh_line.specs.declared.table.Outcome.{Outcome}
-use Rattle.njh_line.specs.declared.verdict.Reply.{Reply}
-use Rattle.njh_line.specs.declared.verdict.Reply.TheVariants.{Again, Control, Next, Sequence}
+use Rattle.njh_line.specs.declared.table.SessionOutcome.{SessionOutcome}
+use Rattle.njh_line.specs.declared.verdict.LineReply.{LineReply}
+use Rattle.njh_line.specs.declared.verdict.LineReply.TheVariants.{Again, Control, Next, Sequence}
 use Rattle.njh_line.specs.Counts.{after_acting, count_verdict, expected_count}
 use Rattle.njh_line.specs.Laws.{MovesTriesAlone, is_acting, is_disregarded, is_up, last_bcb_after, last_bcb_by}
 use Rattle.njh_line.specs.Laws.{sets_tries}
@@ -28,7 +28,7 @@ use Rattle.njh_line.proofs.RowLaws as rows
 
 -- ---- what holds of each cell holds of the row
 
-every : (P : Phase → Outcome → Type 0) (p : Phase) (d c a i u : Outcome)
+every : (P : Phase → SessionOutcome → Type 0) (p : Phase) (d c a i u : SessionOutcome)
     → P Down d → P Calling c → P Answered a → P SentI i → P Up u → P p (cell p d c a i u)
 every P Down down calling answered sent_i up d c a i u = d
 every P Calling down calling answered sent_i up d c a i u = c
@@ -36,7 +36,7 @@ every P Answered down calling answered sent_i up d c a i u = a
 every P SentI down calling answered sent_i up d c a i u = i
 every P Up down calling answered sent_i up d c a i u = u
 
-inside : (P : Phase → Outcome → Type 0) (p : Phase) (d c a i u : Outcome) → in_session p ≡ true
+inside : (P : Phase → SessionOutcome → Type 0) (p : Phase) (d c a i u : SessionOutcome) → in_session p ≡ true
     → P Answered a → P SentI i → P Up u → P p (cell p d c a i u)
 inside P Down down calling answered sent_i up e a i u = clash false e refl
 inside P Calling down calling answered sent_i up e a i u = clash false e refl
@@ -44,7 +44,7 @@ inside P Answered down calling answered sent_i up e a i u = a
 inside P SentI down calling answered sent_i up e a i u = i
 inside P Up down calling answered sent_i up e a i u = u
 
-outside : (P : Phase → Outcome → Type 0) (p : Phase) (d c a i u : Outcome) → in_session p ≡ false
+outside : (P : Phase → SessionOutcome → Type 0) (p : Phase) (d c a i u : SessionOutcome) → in_session p ≡ false
     → P Down d → P Calling c → P p (cell p d c a i u)
 outside P Down down calling answered sent_i up e d c = d
 outside P Calling down calling answered sent_i up e d c = c
@@ -57,12 +57,12 @@ outside P Up down calling answered sent_i up e d c = clash true refl e
 not_five : (n : ℕ) → n < 5 → (n == 5) ≡ false
 not_five n h = ne_eqb n 5 (λ e. omega arith)
 
-try_moves : (five : Bool) (reply : Reply) (s : Session) → five ≡ false
+try_moves : (five : Bool) (reply : LineReply) (s : Session) → five ≡ false
     → MovesTriesAlone s (cond five (end s) (with_reply reply (record s { tries = s.tries + 1 })))
 try_moves true reply s e = clash true refl e
 try_moves false reply s e = record { session = refl; ended = refl; acts = refl }
 
-disregarded : (p : Phase) (reply : Reply) (s : Session) → s.tries < 5
+disregarded : (p : Phase) (reply : LineReply) (s : Session) → s.tries < 5
     → MovesTriesAlone s (cell p (none s) (none s) (try_with reply s) (try_with reply s) (try_with reply s))
 disregarded p reply s h =
     let nothing : MovesTriesAlone s (none s) = record { session = refl; ended = refl; acts = refl } in
@@ -83,12 +83,12 @@ stays line s Spoiled e h = disregarded s.phase _ s h
 stays line s Bad e h = disregarded s.phase _ s h
 stays line s (Block bcb fcs first) e h = clash false e refl
 
-fifth_try : (five : Bool) (reply : Reply) (s : Session) → five ≡ true
+fifth_try : (five : Bool) (reply : LineReply) (s : Session) → five ≡ true
     → cond five (end s) (with_reply reply (record s { tries = s.tries + 1 })) ≡ end s
 fifth_try true reply s e = refl
 fifth_try false reply s e = clash false e refl
 
-fifth : (p : Phase) (reply : Reply) (s : Session) → in_session p ≡ true → s.tries ≡ 5
+fifth : (p : Phase) (reply : LineReply) (s : Session) → in_session p ≡ true → s.tries ≡ 5
     → cell p (none s) (none s) (try_with reply s) (try_with reply s) (try_with reply s) ≡ end s
 fifth p reply s i h =
     let try = fifth_try (s.tries == 5) reply s (eq-eqb s.tries 5 h) in
@@ -115,15 +115,15 @@ repeat_tries line s bcb fcs first e f = sym (rows.repeats line bcb fcs first s e
 pub repeat_stays : (line : Config) (s : Session) (bcb : ℕ) (fcs : ℕ × ℕ) (first : First) → in_session s.phase ≡ true
     → count_verdict s.last_bcb bcb ≡ Repeats → s.tries < 5 → MovesTriesAlone s (table_outcome line (Block bcb fcs first) s)
 repeat_stays line s bcb fcs first e f h =
-    subst (λ (x : Outcome). MovesTriesAlone s x) (rows.repeats line bcb fcs first s e f)
+    subst (λ (x : SessionOutcome). MovesTriesAlone s x) (rows.repeats line bcb fcs first s e f)
     (try_moves (s.tries == 5) Again s (not_five s.tries h))
 
 -- ---- tries
 
-abbrev KeepsTries : Session → Outcome → Type 0
+abbrev KeepsTries : Session → SessionOutcome → Type 0
 KeepsTries s x = x.verdict.ended ≡ false → s.tries ≤ x.session.tries
 
-try_rises : (five : Bool) (reply : Reply) (s : Session)
+try_rises : (five : Bool) (reply : LineReply) (s : Session)
     → s.tries ≤ (cond five (end s) (with_reply reply (record s { tries = s.tries + 1 }))).session.tries
 try_rises true reply s = omega arith
 try_rises false reply s = omega arith
@@ -132,13 +132,13 @@ wait_rises : (turn : Bool) (s : Session) → s.tries ≤ (cond turn (with_reply 
 wait_rises true s = omega arith
 wait_rises false s = try_rises (s.tries == 5) _ s
 
-count_rises : (k : Counted) (acted : Outcome) (reply : Reply) (s : Session) → is_acting k ≡ false
-    → s.tries ≤ (elim k as (λ x. Outcome) [ Acts ↦ acted | Repeats ↦ try_again s | OutOfSequence ↦ end_with reply s ]).session.tries
+count_rises : (k : Counted) (acted : SessionOutcome) (reply : LineReply) (s : Session) → is_acting k ≡ false
+    → s.tries ≤ (elim k as (λ x. SessionOutcome) [ Acts ↦ acted | Repeats ↦ try_again s | OutOfSequence ↦ end_with reply s ]).session.tries
 count_rises Acts acted reply s e = clash true refl e
 count_rises Repeats acted reply s e = try_rises (s.tries == 5) Again s
 count_rises OutOfSequence acted reply s e = omega arith
 
-trying_keeps : (p : Phase) (reply : Reply) (s : Session) → in_session p ≡ true
+trying_keeps : (p : Phase) (reply : LineReply) (s : Session) → in_session p ≡ true
     → KeepsTries s (cell p (none s) (none s) (try_with reply s) (try_with reply s) (try_with reply s))
 trying_keeps p reply s e =
     let try : KeepsTries s (try_with reply s) = λ f. try_rises (s.tries == 5) reply s in
@@ -175,10 +175,10 @@ tries_stay line s (Block bcb fcs first) e f g =
 
 -- ---- the last block acted on
 
-abbrev KeepsLast : Session → Outcome → Type 0
+abbrev KeepsLast : Session → SessionOutcome → Type 0
 KeepsLast s x = x.session.last_bcb ≡ s.last_bcb
 
-try_last : (five : Bool) (reply : Reply) (s : Session)
+try_last : (five : Bool) (reply : LineReply) (s : Session)
     → KeepsLast s (cond five (end s) (with_reply reply (record s { tries = s.tries + 1 })))
 try_last true reply s = refl
 try_last false reply s = refl
@@ -187,19 +187,19 @@ wait_last : (turn : Bool) (s : Session) → KeepsLast s (cond turn (with_reply (
 wait_last true s = refl
 wait_last false s = try_last (s.tries == 5) _ s
 
-trying_last : (p : Phase) (reply : Reply) (s : Session)
+trying_last : (p : Phase) (reply : LineReply) (s : Session)
     → KeepsLast s (cell p (none s) (none s) (try_with reply s) (try_with reply s) (try_with reply s))
 trying_last p reply s =
     let try = try_last (s.tries == 5) reply s in
     every (λ q x. KeepsLast s x) p _ _ _ _ _ refl refl try try try
 
-sign_on_last : (reply : Reply) (line : Config) (x : Option SignOn) (next : Session) → KeepsLast next (signed_on reply line x next)
+sign_on_last : (reply : LineReply) (line : Config) (x : Option SignOn) (next : Session) → KeepsLast next (signed_on reply line x next)
 sign_on_last reply line None next = refl
 sign_on_last reply line (Some x) next = refl
 
-count_last : (k : Counted) (acted : Outcome) (reply : Reply) (bcb : ℕ) (fcs : ℕ × ℕ) (s : Session)
+count_last : (k : Counted) (acted : SessionOutcome) (reply : LineReply) (bcb : ℕ) (fcs : ℕ × ℕ) (s : Session)
     → KeepsLast (after_acting bcb fcs s) acted
-    → (elim k as (λ x. Outcome) [ Acts ↦ acted | Repeats ↦ try_again s | OutOfSequence ↦ end_with reply s ]).session.last_bcb
+    → (elim k as (λ x. SessionOutcome) [ Acts ↦ acted | Repeats ↦ try_again s | OutOfSequence ↦ end_with reply s ]).session.last_bcb
     ≡ last_bcb_by k bcb s.last_bcb
 count_last Acts acted reply bcb fcs s e = e
 count_last Repeats acted reply bcb fcs s e = try_last (s.tries == 5) Again s
@@ -229,7 +229,7 @@ last_acted line s (Block bcb fcs first) e f =
 
 -- ---- a session begins
 
-abbrev IsFresh : Outcome → Type 0
+abbrev IsFresh : SessionOutcome → Type 0
 IsFresh x = in_session x.session.phase ≡ true → (x.session.tries ≡ 0) × (x.session.last_bcb ≡ None)
 
 none_afresh : (s : Session) → in_session s.phase ≡ false → IsFresh (none s)

@@ -11,9 +11,9 @@ use Rattle.njh_line.specs.declared.counts.Counted.{Counted}
 use Rattle.njh_line.specs.declared.counts.Counted.TheVariants.{Acts, Repeats, OutOfSequence}
 use Rattle.njh_line.specs.declared.opening.Opening.TheVariants.{Initial, Response}
 use Rattle.njh_line.specs.declared.session.Session.{Session}
-use Rattle.njh_line.specs.declared.table.Outcome.{Outcome}
-use Rattle.njh_line.specs.declared.verdict.Reply.{Reply}
-use Rattle.njh_line.specs.declared.verdict.Reply.TheVariants as reply
+use Rattle.njh_line.specs.declared.table.SessionOutcome.{SessionOutcome}
+use Rattle.njh_line.specs.declared.verdict.LineReply.{LineReply}
+use Rattle.njh_line.specs.declared.verdict.LineReply.TheVariants as reply
 use Rattle.njh_line.specs.Counts.{count_verdict, expected_count, after_acting}
 use Rattle.njh_line.specs.Laws.{is_up}
 use Rattle.njh_line.specs.LineTable as input
@@ -23,23 +23,23 @@ use Rattle.njh_line.specs.LineTable.{next_or_turn, next_in_turn, by_count, signe
 use Rattle.njh_line.specs.Openings.{fitting}
 use Rattle.njh_line.specs.Up.{InputsKeepUp}
 
-record Follows (p : Phase) (o : Outcome) : Type 0 where
+record Follows (p : Phase) (o : SessionOutcome) : Type 0 where
   pub over : o.verdict.ended ≡ true → is_up o.session.phase ≡ false
   pub on : o.verdict.ended ≡ false → is_up p ≡ true → is_up o.session.phase ≡ true
 
 module _ (s : Session) where
   -- a line that wasn't up
-  low : (o : Outcome) → o.verdict.ended ≡ false → is_up s.phase ≡ false → Follows s.phase o
+  low : (o : SessionOutcome) → o.verdict.ended ≡ false → is_up s.phase ≡ false → Follows s.phase o
   low o e down = record { over = λ over. absurd (cc (sym e ∙ over)); on = λ _ up. absurd (cc (sym down ∙ up)) }
 
   -- one that is as far as it was
-  as_far : (o : Outcome) → o.verdict.ended ≡ false → o.session.phase ≡ s.phase → Follows s.phase o
+  as_far : (o : SessionOutcome) → o.verdict.ended ≡ false → o.session.phase ≡ s.phase → Follows s.phase o
   as_far o e same = record { over = λ over. absurd (cc (sym e ∙ over)); on = λ _ up. ap is_up same ∙ up }
 
-  ends : (o : Outcome) → o.verdict.ended ≡ true → is_up o.session.phase ≡ false → Follows s.phase o
+  ends : (o : SessionOutcome) → o.verdict.ended ≡ true → is_up o.session.phase ≡ false → Follows s.phase o
   ends o e down = record { over = λ _. down; on = λ on. absurd (cc (sym e ∙ on)) }
 
-  tries : (r : Reply) → Follows s.phase (try_with r s)
+  tries : (r : LineReply) → Follows s.phase (try_with r s)
   tries r = at (s.tries == 5)
     where
       at : (b : Bool) → Follows s.phase (cond b (end s) (with_reply r (record s { tries = s.tries + 1 })))
@@ -65,11 +65,11 @@ module _ (s : Session) where
   down_by_role role.Call = refl
   down_by_role role.Answer = refl
 
-  signed : (r : Reply) (config : Config) (o : Option SignOn) (t : Session) → (signed_on r config o t).verdict.ended ≡ false
+  signed : (r : LineReply) (config : Config) (o : Option SignOn) (t : Session) → (signed_on r config o t).verdict.ended ≡ false
   signed r config (Some x) t = refl
   signed r config None t = refl
 
-  by_counts : (bcb : ℕ) (fcs : ℕ × ℕ) (acted : Session → Outcome) → Follows s.phase (acted (after_acting bcb fcs s)) → Follows s.phase (by_count bcb fcs acted s)
+  by_counts : (bcb : ℕ) (fcs : ℕ × ℕ) (acted : Session → SessionOutcome) → Follows s.phase (acted (after_acting bcb fcs s)) → Follows s.phase (by_count bcb fcs acted s)
   by_counts bcb fcs acted acts = at (count_verdict s.last_bcb bcb)
     where
       at :
@@ -84,7 +84,7 @@ module _ (s : Session) where
       at OutOfSequence = ends (end_with (reply.Sequence (0x80 + expected_count s.last_bcb)) s) refl refl
 
   in_row :
-      (down calling answered sent_i up : Outcome) → (is_up s.phase ≡ false → Follows s.phase down) → (is_up s.phase ≡ false → Follows s.phase calling)
+      (down calling answered sent_i up : SessionOutcome) → (is_up s.phase ≡ false → Follows s.phase down) → (is_up s.phase ≡ false → Follows s.phase calling)
       → (is_up s.phase ≡ false → Follows s.phase answered) → (is_up s.phase ≡ false → Follows s.phase sent_i) → Follows s.phase up
       → Follows s.phase (cell s.phase down calling answered sent_i up)
   in_row down calling answered sent_i up d c a i u = at s.phase refl

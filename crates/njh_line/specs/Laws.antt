@@ -5,7 +5,7 @@ use Rattle.njh_line.specs.declared.Phase.TheVariants.{Up}
 use Rattle.njh_line.specs.declared.counts.Counted.{Counted}
 use Rattle.njh_line.specs.declared.counts.Counted.TheVariants.{Acts}
 use Rattle.njh_line.specs.declared.session.Session.{Session}
-use Rattle.njh_line.specs.declared.table.Outcome.{Outcome}
+use Rattle.njh_line.specs.declared.table.SessionOutcome.{SessionOutcome}
 use Rattle.njh_line.specs.Counts.{count_verdict, bcb_type}
 use Rattle.njh_line.specs.LineTable.{Input, Ack0, Garbled, Spoiled, Bad, Block}
 use Rattle.njh_line.specs.Lines.{LineState}
@@ -19,7 +19,7 @@ is_disregarded _ = false
 
 -- Nothing of the session moved but its tries: not its phase, turn, BCB, count, size, nor either FCS. It goes on, and no
 -- record acts.
-pub record MovesTriesAlone (s : Session) (x : Outcome) : Type 0 where
+pub record MovesTriesAlone (s : Session) (x : SessionOutcome) : Type 0 where
   pub session : x.session ≡ record s { tries = x.session.tries }
   pub ended : x.verdict.ended ≡ false
   pub acts : x.verdict.acts ≡ false

@@ -12,10 +12,10 @@ use Rattle.njh_line.specs.declared.input.Input as declared_input
 use Rattle.njh_line.specs.declared.input.Input.TheVariants as came
 use Rattle.njh_line.specs.declared.opening.Opening.TheVariants.{Initial, Response}
 use Rattle.njh_line.specs.declared.session.Session.{Session}
-use Rattle.njh_line.specs.declared.table.Outcome.{Outcome}
-use Rattle.njh_line.specs.declared.verdict.Reply.{Reply}
-use Rattle.njh_line.specs.declared.verdict.Reply.TheVariants.{Nothing, Control, Again, SignOn as SendSignOn, Sequence}
-use Rattle.njh_line.specs.declared.verdict.Reply.TheVariants.{Next}
+use Rattle.njh_line.specs.declared.table.SessionOutcome.{SessionOutcome}
+use Rattle.njh_line.specs.declared.verdict.LineReply.{LineReply}
+use Rattle.njh_line.specs.declared.verdict.LineReply.TheVariants.{Nothing, Control, Again, SignOn as SendSignOn}
+use Rattle.njh_line.specs.declared.verdict.LineReply.TheVariants.{Next, Sequence}
 use Rattle.njh_line.specs.Counts.{count_verdict, expected_count, after_acting}
 use Rattle.njh_line.specs.Openings.{First, fitting, shown_first}
 use Rattle.njh_line.specs.Sessions.{entered_session, acknowledged_session, down_session}
@@ -48,69 +48,69 @@ input_value (came.Block bcb fcs first) = Block bcb fcs (shown_first first)
 
 -- ---- the cells of the table: for a session, the session after the input, and what the input does
 
-abbrev pub with_reply : Reply → Session → Outcome
+abbrev pub with_reply : LineReply → Session → SessionOutcome
 with_reply reply s = record { session = s; verdict = record { ended = false; acts = false; reply = reply } }
 
-abbrev pub none : Session → Outcome
+abbrev pub none : Session → SessionOutcome
 none s = with_reply Nothing s
 
-abbrev pub enquiry : Session → Outcome
+abbrev pub enquiry : Session → SessionOutcome
 enquiry s = with_reply (Control control.Enquiry) s
 
-abbrev pub ack0 : Session → Outcome
+abbrev pub ack0 : Session → SessionOutcome
 ack0 s = with_reply (Control control.Ack0) s
 
 -- the line goes down, where it wasn't up
-abbrev pub hang_up : Session → Outcome
+abbrev pub hang_up : Session → SessionOutcome
 hang_up s = none (down_session s)
 
 -- the session ends, and something or nothing is sent for it
-abbrev pub end_with : Reply → Session → Outcome
+abbrev pub end_with : LineReply → Session → SessionOutcome
 end_with reply s = record { session = down_session s; verdict = record { ended = true; acts = false; reply = reply } }
 
-abbrev pub end : Session → Outcome
+abbrev pub end : Session → SessionOutcome
 end s = end_with Nothing s
 
 -- a try: five at the most
-abbrev pub try_with : Reply → Session → Outcome
+abbrev pub try_with : LineReply → Session → SessionOutcome
 try_with reply s = cond (s.tries == 5) (end s) (with_reply reply (record s { tries = s.tries + 1 }))
 
-abbrev pub try_again : Session → Outcome
+abbrev pub try_again : Session → SessionOutcome
 try_again s = try_with Again s
 
-abbrev pub try_nak : Session → Outcome
+abbrev pub try_nak : Session → SessionOutcome
 try_nak s = try_with (Control control.Nak) s
 
 -- the peer calls, and the end that answers does
-abbrev pub contact : Role → Session → Outcome
+abbrev pub contact : Role → Session → SessionOutcome
 contact Call s = none s
 contact Answer s = ack0 (entered_session Answered s)
 
 -- the session ends, and the peer calls
-abbrev pub end_and_contact : Role → Session → Outcome
+abbrev pub end_and_contact : Role → Session → SessionOutcome
 end_and_contact role s =
     let x = contact role (down_session s) in
     record { session = x.session; verdict = record x.verdict { ended = true } }
 
 -- the end that calls does
-abbrev pub call : Role → Session → Outcome
+abbrev pub call : Role → Session → SessionOutcome
 call Call s = enquiry (record s { phase = Calling })
 call Answer s = none s
 
 -- the I block
-abbrev pub i_block : Session → Outcome
+abbrev pub i_block : Session → SessionOutcome
 i_block s = with_reply (SendSignOn Initial) (entered_session SentI s)
 
 -- the peer acknowledges: the next block, or nothing and the turn is the hub's
-abbrev pub next_or_turn : Session → Outcome
+abbrev pub next_or_turn : Session → SessionOutcome
 next_or_turn s = with_reply (Next false) (acknowledged_session s)
 
 -- the next block where the turn is the hub's, else a try
-abbrev pub next_in_turn : Session → Outcome
+abbrev pub next_in_turn : Session → SessionOutcome
 next_in_turn s = cond s.has_turn (with_reply (Next true) s) (try_nak s)
 
 -- the count rule, before a cell for a block that is acted on
-abbrev pub by_count : ℕ → ℕ × ℕ → (Session → Outcome) → Session → Outcome
+abbrev pub by_count : ℕ → ℕ × ℕ → (Session → SessionOutcome) → Session → SessionOutcome
 by_count bcb fcs acted s =
     elim (count_verdict s.last_bcb bcb) [
       | Acts ↦ acted (after_acting bcb fcs s)
@@ -119,41 +119,41 @@ by_count bcb fcs acted s =
     ]
 
 -- a sign-on that fits, or none that does
-abbrev pub signed_on : Reply → Config → Option SignOn → Session → Outcome
+abbrev pub signed_on : LineReply → Config → Option SignOn → Session → SessionOutcome
 signed_on reply line (Some x) s = with_reply reply (record s { phase = Up; size = min line.block x.block })
 signed_on reply line None s = hang_up s
 
 -- an I that fits: the J block
-abbrev pub i_sign_on : Config → First → Session → Outcome
+abbrev pub i_sign_on : Config → First → Session → SessionOutcome
 i_sign_on line first s = signed_on (SendSignOn Response) line (fitting Initial line first) s
 
 -- a J that fits: the next block
-abbrev pub j_sign_on : Config → First → Session → Outcome
+abbrev pub j_sign_on : Config → First → Session → SessionOutcome
 j_sign_on line first s = signed_on (Next true) line (fitting Response line first) s
 
 -- the records act: the next block
-abbrev pub act : Session → Outcome
+abbrev pub act : Session → SessionOutcome
 act s = record { session = s; verdict = record { ended = false; acts = true; reply = Next true } }
 
 -- ---- the table
 
 -- the cell of a phase in a row
-abbrev pub cell : Phase → (down calling answered sent_i up : Outcome) → Outcome
+abbrev pub cell : Phase → (down calling answered sent_i up : SessionOutcome) → SessionOutcome
 cell Down down calling answered sent_i up = down
 cell Calling down calling answered sent_i up = calling
 cell Answered down calling answered sent_i up = answered
 cell SentI down calling answered sent_i up = sent_i
 cell Up down calling answered sent_i up = up
 
-abbrev pub row : (down calling answered sent_i up : Session → Outcome) → Session → Outcome
+abbrev pub row : (down calling answered sent_i up : Session → SessionOutcome) → Session → SessionOutcome
 row down calling answered sent_i up s = cell s.phase (down s) (calling s) (answered s) (sent_i s) (up s)
 
 -- what a block that is acted on does: a row of its own
-abbrev pub acting : Config → First → Session → Outcome
+abbrev pub acting : Config → First → Session → SessionOutcome
 acting line first s = row none none (i_sign_on line first) (j_sign_on line first) act s
 
 -- a row for each input, and in it a cell for each phase: Down, Calling, Answered, SentI, Up
-unfoldable pub table_outcome : Config → Input → Session → Outcome
+unfoldable pub table_outcome : Config → Input → Session → SessionOutcome
 table_outcome line Enquiry s = row (contact line.role) none ack0 none (end_and_contact line.role) s
 table_outcome line Ack0 s = row none i_block none none next_or_turn s
 table_outcome line Nak s = row none none try_again try_again try_again s

@@ -14,7 +14,7 @@ use crate::input::Input::{
 };
 use crate::opening::Opening;
 use crate::session::Session;
-use crate::verdict::{Reply, Verdict};
+use crate::verdict::{LineReply, Verdict};
 use njh_bisync::Control;
 use njh_block::{Bcb, Fcs};
 use njh_header::SignOn;
@@ -23,23 +23,23 @@ use njh_table::Role;
 /// The most tries in a row.
 const TRIES: u8 = 5;
 
-const ENQUIRY: Reply = Reply::Control(Control::Enquiry);
+const ENQUIRY: LineReply = LineReply::Control(Control::Enquiry);
 
-const ACK_0: Reply = Reply::Control(Control::Ack0);
+const ACK_0: LineReply = LineReply::Control(Control::Ack0);
 
-const NAK: Reply = Reply::Control(Control::Nak);
+const NAK: LineReply = LineReply::Control(Control::Nak);
 
-const I_BLOCK: Reply = Reply::SignOn(Opening::Initial);
+const I_BLOCK: LineReply = LineReply::SignOn(Opening::Initial);
 
-const J_BLOCK: Reply = Reply::SignOn(Opening::Response);
+const J_BLOCK: LineReply = LineReply::SignOn(Opening::Response);
 
-const NEXT_BLOCK: Reply = Reply::Next { or_ack0: true };
+const NEXT_BLOCK: LineReply = LineReply::Next { or_ack0: true };
 
-const NEXT_BLOCK_OR_TURN: Reply = Reply::Next { or_ack0: false };
+const NEXT_BLOCK_OR_TURN: LineReply = LineReply::Next { or_ack0: false };
 
 /// The session after an input, and what the input does.
 #[derive(Clone, Copy)]
-pub(crate) struct Outcome {
+pub(crate) struct SessionOutcome {
     /// The session then.
     pub session: Session,
     /// What the input does.
@@ -48,7 +48,7 @@ pub(crate) struct Outcome {
 
 /// The table: an input and a phase to a cell. In Down and Calling there is no session, and a block is none.
 #[tactic(auto, unfolding(crate::specs::LineTable::table_outcome))]
-pub(crate) fn accepted(config: &Config, session: Session, input: &Input<'_>) -> Outcome
+pub(crate) fn accepted(config: &Config, session: Session, input: &Input<'_>) -> SessionOutcome
     requires config { IsConfig config.now }
     requires session { IsSession session }
     ensures outcome { result ≡ table_outcome config.now (input_value input.now) session }
@@ -65,11 +65,11 @@ pub(crate) fn accepted(config: &Config, session: Session, input: &Input<'_>) -> 
         (Ack0, Up) => with_reply(session.acknowledged(), NEXT_BLOCK_OR_TURN),
 
         (Nak, Down | Calling) => none(session),
-        (Nak, Answered | SentI | Up) => try_with(session, Reply::Again),
+        (Nak, Answered | SentI | Up) => try_with(session, LineReply::Again),
 
         (Eot | Lost, Down) => none(session),
         (Eot | Lost, Calling | Answered | SentI) => none(session.down()),
-        (Eot | Lost, Up) => end_with(session, Reply::Nothing),
+        (Eot | Lost, Up) => end_with(session, LineReply::Nothing),
 
         (Block { .. }, Down | Calling) => none(session),
         (Block { bcb, fcs, first }, Answered | SentI | Up) => {
@@ -86,10 +86,10 @@ pub(crate) fn accepted(config: &Config, session: Session, input: &Input<'_>) -> 
     }
 }
 
-fn with_reply(session: Session, reply: Reply) -> Outcome
+fn with_reply(session: Session, reply: LineReply) -> SessionOutcome
     ensures { result ≡ with_reply reply session }
 {
-    Outcome {
+    SessionOutcome {
         session,
         verdict: Verdict {
             ended: false,
@@ -99,17 +99,17 @@ fn with_reply(session: Session, reply: Reply) -> Outcome
     }
 }
 
-fn none(session: Session) -> Outcome
+fn none(session: Session) -> SessionOutcome
     ensures { result ≡ none session }
 {
-    with_reply(session, Reply::Nothing)
+    with_reply(session, LineReply::Nothing)
 }
 
 /// The session ends.
-fn end_with(session: Session, reply: Reply) -> Outcome
+fn end_with(session: Session, reply: LineReply) -> SessionOutcome
     ensures { result ≡ end_with reply session }
 {
-    Outcome {
+    SessionOutcome {
         session: session.down(),
         verdict: Verdict {
             ended: true,
@@ -120,13 +120,13 @@ fn end_with(session: Session, reply: Reply) -> Outcome
 }
 
 /// Five tries are the most: then the session ends, and nothing is sent.
-fn try_with(session: Session, reply: Reply) -> Outcome
+fn try_with(session: Session, reply: LineReply) -> SessionOutcome
     requires { IsSession session }
     ensures outcome { result ≡ try_with reply session }
     ensures kept { IsSession result.session }
 {
     if session.tries == TRIES {
-        return end_with(session, Reply::Nothing);
+        return end_with(session, LineReply::Nothing);
     }
     with_reply(
         Session {
@@ -138,7 +138,7 @@ fn try_with(session: Session, reply: Reply) -> Outcome
 }
 
 /// The peer calls: the end that answers enters a session.
-fn contact(role: Role, session: Session) -> Outcome
+fn contact(role: Role, session: Session) -> SessionOutcome
     ensures { result ≡ contact role session }
 {
     match role {
@@ -148,11 +148,11 @@ fn contact(role: Role, session: Session) -> Outcome
 }
 
 /// The peer calls while the line is up: what ends the session may begin another.
-fn end_and_contact(role: Role, session: Session) -> Outcome
+fn end_and_contact(role: Role, session: Session) -> SessionOutcome
     ensures { result ≡ end_and_contact role session }
 {
     let next = contact(role, session.down());
-    Outcome {
+    SessionOutcome {
         session: next.session,
         verdict: Verdict {
             ended: true,
@@ -162,7 +162,7 @@ fn end_and_contact(role: Role, session: Session) -> Outcome
 }
 
 /// Only the end that calls does so.
-fn call(role: Role, session: Session) -> Outcome
+fn call(role: Role, session: Session) -> SessionOutcome
     ensures { result ≡ call role session }
 {
     match role {
@@ -178,7 +178,7 @@ fn call(role: Role, session: Session) -> Outcome
 }
 
 /// A tick while the line is up.
-fn next_in_turn(session: Session) -> Outcome
+fn next_in_turn(session: Session) -> SessionOutcome
     requires { IsSession session }
     ensures outcome { result ≡ next_in_turn session }
     ensures kept { IsSession result.session }
@@ -196,7 +196,7 @@ fn block_came(
     bcb: Bcb,
     fcs: Fcs,
     first: Option<(u8, &[u8])>,
-) -> Outcome
+) -> SessionOutcome
     requires config { IsConfig config.now }
     requires session { IsSession session }
     requires inside { in_session session.phase ≡ true }
@@ -205,10 +205,10 @@ fn block_came(
 {
     match session.counted(bcb) {
         Counted::Acts => acting(config, session.after_acting(bcb, fcs), first),
-        Counted::Repeats => try_with(session, Reply::Again),
+        Counted::Repeats => try_with(session, LineReply::Again),
         Counted::OutOfSequence => end_with(
             session,
-            Reply::Sequence {
+            LineReply::Sequence {
                 expected: Bcb::normal(session.expected()),
             },
         ),
@@ -216,7 +216,7 @@ fn block_came(
 }
 
 /// What a block that is acted on does; `session` is the one after it.
-fn acting(config: &Config, session: Session, first: Option<(u8, &[u8])>) -> Outcome
+fn acting(config: &Config, session: Session, first: Option<(u8, &[u8])>) -> SessionOutcome
     requires config { IsConfig config.now }
     requires session { IsSession session }
     ensures outcome { result ≡ acting config.now (shown_first first.entry) session }
@@ -232,7 +232,7 @@ fn acting(config: &Config, session: Session, first: Option<(u8, &[u8])>) -> Outc
             let sign_on = config.fitting(Opening::Response, first);
             signed_on(config, session, sign_on, NEXT_BLOCK)
         }
-        Up => Outcome {
+        Up => SessionOutcome {
             session,
             verdict: Verdict {
                 ended: false,
@@ -244,7 +244,12 @@ fn acting(config: &Config, session: Session, first: Option<(u8, &[u8])>) -> Outc
 }
 
 /// A sign-on comes, or none that fits.
-fn signed_on(config: &Config, session: Session, sign_on: Option<SignOn>, reply: Reply) -> Outcome
+fn signed_on(
+    config: &Config,
+    session: Session,
+    sign_on: Option<SignOn>,
+    reply: LineReply,
+) -> SessionOutcome
     requires config { IsConfig config.now }
     requires session { IsSession session }
     requires fits { IfSome sign_on (λ x. 300 ≤ x.block) }

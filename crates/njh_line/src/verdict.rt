@@ -6,7 +6,7 @@ use njh_block::Bcb;
 
 /// What is sent.
 #[derive(Clone, Copy, Debug, PartialEq, Eq)]
-pub enum Reply {
+pub enum LineReply {
     /// Nothing.
     Nothing,
     /// A control frame.
@@ -35,5 +35,5 @@ pub struct Verdict {
     /// Whether the block's records act.
     pub acts: bool,
     /// What is sent.
-    pub reply: Reply,
+    pub reply: LineReply,
 }

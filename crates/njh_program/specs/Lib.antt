@@ -1,6 +1,6 @@
 pub mod Arguments
 pub mod LineNames
-pub mod Outcome
+pub mod ProgramOutcome
 pub mod Printed
 pub mod Replayed
 pub mod Script

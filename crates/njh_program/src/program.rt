@@ -3,7 +3,7 @@
 ghost use Rattle.std.specs.Prelude.{◌≡◌, ◌≤◌, ◌⊎◌, map, IfErr, OnOk, OnErr};
 ghost use Rattle.std.specs.Io.KnownBytes.{Keeps};
 ghost use Rattle.std.specs.Process.{exit_status};
-ghost use Rattle.njh_program.specs.Outcome.{IsBegunFor, IsRunDone, IsFailed};
+ghost use Rattle.njh_program.specs.ProgramOutcome.{IsBegunFor, IsRunDone, IsFailed};
 ghost use Rattle.njh_program.specs.Status.{status_after, status_of};
 
 use crate::arguments::{Request, not_utf8, request_of};

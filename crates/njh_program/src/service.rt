@@ -1,7 +1,7 @@
 //! Serves the lines of a table file.
 
 ghost use Rattle.std.specs.Prelude.{Some, OnOk, IfErr};
-ghost use Rattle.njh_program.specs.Outcome.{AreServedOf};
+ghost use Rattle.njh_program.specs.ProgramOutcome.{AreServedOf};
 ghost use Rattle.njh_program.specs.TableBytes.{AreRefused, IsUnread};
 
 use crate::failure::Failure;

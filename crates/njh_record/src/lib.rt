@@ -5,8 +5,8 @@
 mod bytes;
 mod item;
 mod laws;
-mod reading;
 mod scb;
+mod unspelling;
 mod writing;
 
 use arrayvec::ArrayVec;
@@ -15,9 +15,9 @@ pub use laws::{
     no_proper_prefix, one_answer, one_reading, one_spelling, reads_back, reads_spellings,
     rest_behind, spelling_bounds,
 };
-pub use reading::{skip, unspell};
 pub use scb::ABORT;
 use thiserror::Error;
+pub use unspelling::{skip, unspell};
 pub use writing::{add_spelling, spelled_len};
 
 /// The bytes of one record, at most 256.

@@ -186,7 +186,7 @@ module _ (goes : WholeFile → Bool) (k : ℕ) (x : Filling) (few : k < 8) (insi
   pub filled_carries : (n p : ℕ) → sender_at k x.outlet ≡ Sending n p → p ≤ length (file_records n x.spool)
       → Carries k n p (file_records n x.spool) (records_under (rcb_of k) x.block.items) (filled_block goes x)
   unfolding filled_block
-  filled_carries n p sender within = at_suspended (all_suspended x.outlet.peer)
+  filled_carries n p sender within = at_suspended (all_suspended x.outlet.peer_fcs)
     where
       begins : Carries k n p (file_records n x.spool) (records_under (rcb_of k) x.block.items) x
       begins =
@@ -202,7 +202,7 @@ module _ (goes : WholeFile → Bool) (k : ℕ) (x : Filling) (few : k < 8) (insi
   pub filled_quiet : sends_file (sender_at k x.outlet) ≡ false
       → records_under (rcb_of k) (filled_block goes x).block.items ≡ records_under (rcb_of k) x.block.items
   unfolding filled_block
-  filled_quiet quiet = at_suspended (all_suspended x.outlet.peer)
+  filled_quiet quiet = at_suspended (all_suspended x.outlet.peer_fcs)
     where
       at_suspended : (b : Bool) → records_under (rcb_of k) (filled_where b goes x).block.items ≡ records_under (rcb_of k) x.block.items
       at_suspended true = refl

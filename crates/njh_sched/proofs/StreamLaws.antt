@@ -178,7 +178,7 @@ module _ (goes : WholeFile → Bool) (k : ℕ) (x : Filling) where
     by_request t true (Some f) e is =
         asks_at t (t == k) f refl (idle_is (sender_at t x.outlet) (and_both _ (is_idle (sender_at t x.outlet)) e).1) is
 
-    serves_by : (b : Bool) → is_on x.outlet.peer k ≡ true → sends_file (sender_at k x.outlet) ≡ true
+    serves_by : (b : Bool) → is_on x.outlet.peer_fcs k ≡ true → sends_file (sender_at k x.outlet) ≡ true
         → Does goes k x (added_where b (served_by x.outlet x.spool k) x)
     serves_by true on e = sends (record {
       lets = on;
@@ -188,13 +188,13 @@ module _ (goes : WholeFile → Bool) (k : ℕ) (x : Filling) where
     })
     serves_by false on e = left (record { sender = refl; items = refl })
 
-    serves_at : (t : ℕ) (b : Bool) → (t == k) ≡ b → k < 8 → t < 8 → is_on x.outlet.peer t ≡ true → sends_file (sender_at t x.outlet) ≡ true
+    serves_at : (t : ℕ) (b : Bool) → (t == k) ≡ b → k < 8 → t < 8 → is_on x.outlet.peer_fcs t ≡ true → sends_file (sender_at t x.outlet) ≡ true
         → Does goes k x (added_where (has_room x.block (served_by x.outlet x.spool t).item) (served_by x.outlet x.spool t) x)
     serves_at t true e few below on is =
         let same : t ≡ k = eqb-true t k e in
         subst (λ n. Does goes k x (added_where (has_room x.block (served_by x.outlet x.spool n).item)
         (served_by x.outlet x.spool n) x)) (sym same)
-        (serves_by (has_room x.block (served_by x.outlet x.spool k).item) (ap (is_on x.outlet.peer) (sym same) ∙ on)
+        (serves_by (has_room x.block (served_by x.outlet x.spool k).item) (ap (is_on x.outlet.peer_fcs) (sym same) ∙ on)
         (ap (λ n. sends_file (sender_at n x.outlet)) (sym same) ∙ is))
     serves_at t false e few below on is =
         left_by (has_room x.block (served_by x.outlet x.spool t).item) (served_by x.outlet x.spool t)
@@ -206,8 +206,8 @@ module _ (goes : WholeFile → Bool) (k : ℕ) (x : Filling) where
     by_turn None few e = left (record { sender = refl; items = refl })
     by_turn (Some t) few e =
         let is : (may_send x.outlet t ≡ true) × (t < 8) = served_is x.outlet t e in
-        let both : (is_on x.outlet.peer t ≡ true) × (sends_file (sender_at t x.outlet) ≡ true)
-        = and_both (is_on x.outlet.peer t) (sends_file (sender_at t x.outlet)) is.0 in
+        let both : (is_on x.outlet.peer_fcs t ≡ true) × (sends_file (sender_at t x.outlet) ≡ true)
+        = and_both (is_on x.outlet.peer_fcs t) (sends_file (sender_at t x.outlet)) is.0 in
         serves_at t (t == k) refl few is.1 both.0 both.1
 
     by_source : (source : Source) → k < 8 → Does goes k x (after_candidate (candidate goes source x.outlet x.spool) x)

@@ -40,7 +40,7 @@ pub record Asks (goes : WholeFile → Bool) (k : ℕ) (x y : Filling) : Type 0 w
 -- it sends a file, and the peer lets it: its next record, or its end of file behind the last, is added, and it moves on
 -- by it
 pub record Sends (k : ℕ) (x y : Filling) : Type 0 where
-  pub lets : is_on x.outlet.peer k ≡ true
+  pub lets : is_on x.outlet.peer_fcs k ≡ true
   pub before : sends_file (sender_at k x.outlet) ≡ true
   pub item : y.block.items ≡ x.block.items ++ data_item k (next_of (sender_at k x.outlet) x.spool).stored ∷ []
   pub after : sender_at k y.outlet ≡ (next_of (sender_at k x.outlet) x.spool).sender

@@ -21,7 +21,7 @@ use Rattle.njh_stream.specs.Sending.{Next, next_of}
 -- What a line has to send, and what its peer lets it send.
 pub record Outlet : Type 0 where
   pub streams : ℕ  -- of each kind
-  pub peer : ℕ × ℕ  -- the peer's function control sequence
+  pub peer_fcs : ℕ × ℕ  -- the peer's function control sequence
   pub answers : List Answer
   pub messages : List (List ℕ)
   pub senders : List Sender  -- SYSIN 1 to 4, SYSOUT 1 to 4
@@ -128,7 +128,7 @@ sends_file _ = false
 
 -- whether a stream sends a file, and the peer lets it
 abbrev pub may_send : Outlet → ℕ → Bool
-may_send o k = is_on o.peer k && sends_file (sender_at k o)
+may_send o k = is_on o.peer_fcs k && sends_file (sender_at k o)
 
 unfoldable pub streams : List ℕ
 streams = 0 ∷ 1 ∷ 2 ∷ 3 ∷ 4 ∷ 5 ∷ 6 ∷ 7 ∷ []
@@ -177,7 +177,7 @@ messages_where false messages = []
 
 -- none where the peer doesn't let them
 abbrev pub waiting_messages : Outlet → List Source
-waiting_messages o = messages_where (messages_on o.peer) o.messages
+waiting_messages o = messages_where (messages_on o.peer_fcs) o.messages
 
 -- The answers that wait, the streams' aborts, their requests, the messages that wait, and then the streams in turn: as
 -- often as the block may have bytes, which is more than it has room for.
@@ -225,7 +225,7 @@ filled_where false goes x = after_sources goes (sources x.block.limit x.outlet) 
 
 -- The block when it is filled; nothing is added where the peer suspends all.
 unfoldable pub filled_block : (WholeFile → Bool) → Filling → Filling
-filled_block goes x = filled_where (all_suspended x.outlet.peer) goes x
+filled_block goes x = filled_where (all_suspended x.outlet.peer_fcs) goes x
 
 -- a block, an outlet and a customer's spool, as long as all had room
 abbrev pub filling : Writing → Outlet → CustomerSpool → Filling

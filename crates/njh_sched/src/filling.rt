@@ -80,7 +80,7 @@ pub fn fill<L: Outgoing>(
     // what isn't of its outlet stays
     ensures rest { L.rest line.new ≡ L.rest line.old }
 {
-    if !line.peer().all_suspended() {
+    if !line.peer_fcs().all_suspended() {
         add_all(line, id, tables.customer(id.customer), spool, writer);
     }
     has_items(writer)

@@ -13,7 +13,8 @@ use njh_stream::Sender;
 /// Where the peer suspends all, nothing is added and nothing moves.
 #[tactic(auto, unfolding(crate::specs::NextBlock::filled_block))]
 pub fn nothing_where_all_is_suspended()
-    ensures { (goes : WholeFile → Bool) (x : Filling) → all_suspended x.outlet.peer ≡ true → filled_block goes x ≡ x }
+    ensures { (goes : WholeFile → Bool) (x : Filling) → all_suspended x.outlet.peer_fcs ≡ true
+        → filled_block goes x ≡ x }
 {}
 
 /// What each source of a block does to a stream, one after the other. A stream that isn't sending, or that the peer
@@ -32,7 +33,7 @@ pub fn sources_move_streams_so()
 /// A block is filled by its sources one after the other, where the peer doesn't suspend all.
 #[tactic(auto, unfolding(crate::specs::NextBlock::filled_block))]
 pub fn sources_fill_the_block()
-    ensures { (goes : WholeFile → Bool) (x : Filling) → all_suspended x.outlet.peer ≡ false
+    ensures { (goes : WholeFile → Bool) (x : Filling) → all_suspended x.outlet.peer_fcs ≡ false
         → filled_block goes x ≡ after_sources goes (sources x.block.limit x.outlet) x }
 {}
 

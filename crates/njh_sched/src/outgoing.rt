@@ -22,8 +22,8 @@ pub trait Outgoing {
         ensures { result ≡ (outlet self.now).streams };
 
     /// The peer's last function control sequence.
-    fn peer(&self) -> Fcs
-        ensures { result ≡ (outlet self.now).peer };
+    fn peer_fcs(&self) -> Fcs
+        ensures { result ≡ (outlet self.now).peer_fcs };
 
     /// The answer that waits longest.
     fn front_answer(&self) -> Option<Answer>

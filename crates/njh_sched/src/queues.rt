@@ -82,7 +82,7 @@ pub fn add_messages<L: Outgoing>(line: &mut L, writer: &mut BlockWriter) -> bool
         ≡ filling_where result writer.new (L.outlet line.new) s }
     ensures rest { L.rest line.new ≡ L.rest line.old }
 {
-    if line.peer().messages_on() {
+    if line.peer_fcs().messages_on() {
         add_all_messages(line, writer)
     } else {
         true

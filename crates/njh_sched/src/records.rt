@@ -19,7 +19,7 @@ use njh_stream::Sender;
 fn may_send<L: Outgoing>(stream: Stream, line: &L) -> bool
     ensures { result ≡ may_send (L.outlet line.now) stream }
 {
-    matches!(line.sender(stream), Sender::Sending(_, _)) && line.peer().is_on(stream)
+    matches!(line.sender(stream), Sender::Sending(_, _)) && line.peer_fcs().is_on(stream)
 }
 
 /// The stream whose turn it is.

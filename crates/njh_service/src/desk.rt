@@ -4,7 +4,7 @@ ghost use Rattle.std.specs.Prelude.{◌≡◌, ◌≤◌};
 ghost use Rattle.njh_hub.specs.Views.{HasGivenUp};
 
 use crate::dial::Dial;
-use crate::entry::{Ending, Failure, Happening, LogEntry, Place};
+use crate::entry::{Ending, Failure, LogEntry, LogEvent, Place};
 use crate::log::Log;
 use crate::post::{Door, Label, Post};
 use njh_hub::Hub;
@@ -87,19 +87,19 @@ impl<N: Network + Drop, L: Write + Drop> Desk<N, L> {
         ensures kept { ¬ HasGivenUp hub.now post.old.line → wire.new.connection ≡ wire.old.connection }
     {
         let soon = self.now.saturating_add(QUIET);
-        let due = wire.due();
-        if due != post.seen || due == soon || (post.linked && !wire.is_connected()) {
+        let deadline = wire.deadline();
+        if deadline != post.seen || deadline == soon || (post.linked && !wire.is_connected()) {
             self.look(post, hub, wire);
-            post.seen = due;
+            post.seen = deadline;
             post.linked = wire.is_connected() || wire.is_ready();
         }
         if wire.waits_to_send() {
-            return soon.min(post.moment).min(wire.due());
+            return soon.min(post.moment).min(wire.deadline());
         }
         if wire.is_ready() {
             return self.now;
         }
-        wire.due().saturating_add(post.lag()).min(post.moment)
+        wire.deadline().saturating_add(post.lag()).min(post.moment)
     }
 
     /// Looks at a line on which something came.
@@ -149,12 +149,12 @@ impl<N: Network + Drop, L: Write + Drop> Desk<N, L> {
             return;
         }
         label.up = up;
-        let happening = if up {
-            Happening::SessionUp(label.node)
+        let event = if up {
+            LogEvent::SessionUp(label.node)
         } else {
-            Happening::SessionDown(ending)
+            LogEvent::SessionDown(ending)
         };
-        self.tell(label, happening);
+        self.tell(label, event);
     }
 
     /// Takes a connection that waits, where the line has none or one that is silent. Answers when the listener
@@ -174,14 +174,14 @@ impl<N: Network + Drop, L: Write + Drop> Desk<N, L> {
         }
         match self.network.accept(listener) {
             Ok(Some((connection, address))) => {
-                self.connect(label, wire, connection, Happening::ConnectedFrom(address));
+                self.connect(label, wire, connection, LogEvent::ConnectedFrom(address));
                 self.now
             }
             Ok(None) => u64::MAX,
             Err(_) => {
                 if label.again <= self.now {
                     label.again = self.now.saturating_add(TELL);
-                    self.tell(label, Happening::AcceptFailed);
+                    self.tell(label, LogEvent::AcceptFailed);
                 }
                 self.now.saturating_add(PAUSE)
             }
@@ -194,7 +194,7 @@ impl<N: Network + Drop, L: Write + Drop> Desk<N, L> {
         label: &mut Label,
         wire: &mut LineWire<N::Connection>,
         connection: N::Connection,
-        happening: Happening,
+        event: LogEvent,
     )
         ensures counts { wire.old.failures ≤ wire.new.failures }
         ensures place { wire.new.place ≡ wire.old.place }
@@ -207,7 +207,7 @@ impl<N: Network + Drop, L: Write + Drop> Desk<N, L> {
             self.tell_end(label, end);
         }
         label.lost = false;
-        self.tell_connected(label, happening);
+        self.tell_connected(label, event);
     }
 
     /// Dials, or sees whether a dial was answered.
@@ -235,7 +235,7 @@ impl<N: Network + Drop, L: Write + Drop> Desk<N, L> {
         match self.network.is_connected(connection) {
             Ok(true) => {
                 if let Some(connection) = dial.take() {
-                    self.connect(label, wire, connection, Happening::ConnectedTo(address));
+                    self.connect(label, wire, connection, LogEvent::ConnectedTo(address));
                 }
             }
             Ok(false) => {
@@ -250,17 +250,17 @@ impl<N: Network + Drop, L: Write + Drop> Desk<N, L> {
     /// A dial failed.
     fn give_up(&mut self, address: SocketAddr, dial: &mut Dial<N::Connection>, label: &Label) {
         dial.fail(self.now);
-        self.tell(label, Happening::DialFailed(address));
+        self.tell(label, LogEvent::DialFailed(address));
     }
 
     /// Tells of a new connection, unless one was told in the second before.
-    fn tell_connected(&mut self, label: &mut Label, happening: Happening) {
+    fn tell_connected(&mut self, label: &mut Label, event: LogEvent) {
         label.connected = label.again <= self.now;
         if !label.connected {
             return;
         }
         label.again = self.now.saturating_add(TELL);
-        self.tell(label, happening);
+        self.tell(label, event);
     }
 
     /// Tells of the end of a connection that was told.
@@ -272,20 +272,20 @@ impl<N: Network + Drop, L: Write + Drop> Desk<N, L> {
         self.tell(
             label,
             match end {
-                End::Ended => Happening::Closed,
-                End::Closed => Happening::Closed,
-                End::Failed => Happening::Failed(Failure::Broken),
-                End::Stalled => Happening::Failed(Failure::Stalled),
-                End::Replaced => Happening::Failed(Failure::Replaced),
+                End::Ended => LogEvent::Closed,
+                End::Closed => LogEvent::Closed,
+                End::Failed => LogEvent::Failed(Failure::Broken),
+                End::Stalled => LogEvent::Failed(Failure::Stalled),
+                End::Replaced => LogEvent::Failed(Failure::Replaced),
             },
         );
     }
 
     /// Writes a line of the log.
-    pub(crate) fn tell(&mut self, label: &Label, happening: Happening) {
+    pub(crate) fn tell(&mut self, label: &Label, event: LogEvent) {
         let second = self.network.utc();
         let place = Place::Line(label.customer, label.line.as_str());
-        self.log.write(second, &LogEntry { place, happening });
+        self.log.write(second, &LogEntry { place, event });
     }
 }
 

@@ -18,7 +18,7 @@ pub struct LogEntry<'a> {
     /// Where it happened.
     pub place: Place<'a>,
     /// What happened.
-    pub happening: Happening,
+    pub event: LogEvent,
 }
 
 /// Where something happened.
@@ -32,7 +32,7 @@ pub enum Place<'a> {
 
 /// Something that an operator wants to know.
 #[derive(Clone, Copy, Drop)]
-pub enum Happening {
+pub enum LogEvent {
     /// A peer connected from this address.
     ConnectedFrom(SocketAddr),
     /// The hub connected to this address.
@@ -109,7 +109,7 @@ pub struct FileLine {
 
 impl fmt::Display for LogEntry<'_> {
     fn fmt<W: fmt::Write>(&self, f: &mut fmt::Formatter<W>) -> fmt::Result {
-        write!(f, "{}: {}", self.place, self.happening)
+        write!(f, "{}: {}", self.place, self.event)
     }
 }
 
@@ -122,40 +122,36 @@ impl fmt::Display for Place<'_> {
     }
 }
 
-impl fmt::Display for Happening {
+impl fmt::Display for LogEvent {
     fn fmt<W: fmt::Write>(&self, f: &mut fmt::Formatter<W>) -> fmt::Result {
         match self {
-            Happening::ConnectedFrom(address) => write!(f, "connected from {address}"),
-            Happening::ConnectedTo(address) => write!(f, "connected to {address}"),
-            Happening::Closed => write!(f, "closed"),
-            Happening::Failed(failure) => write!(f, "failed: {failure}"),
-            Happening::DialFailed(address) => write!(f, "no connection to {address}"),
-            Happening::AcceptFailed => write!(f, "a connection could not be taken"),
-            Happening::SessionUp(node) => write!(f, "session up with {node}"),
-            Happening::SessionDown(ending) => write!(f, "session down: {ending}"),
-            Happening::FileIn(file) => write!(f, "file in: {file}"),
-            Happening::FileHeld(file) => write!(f, "file held: {file}"),
-            Happening::FileOut(file) => write!(f, "file out: {file}"),
-            Happening::FileRefused(file) => write!(f, "file refused: {file}"),
-            Happening::ComingRefused(stream, None) => write!(
+            LogEvent::ConnectedFrom(address) => write!(f, "connected from {address}"),
+            LogEvent::ConnectedTo(address) => write!(f, "connected to {address}"),
+            LogEvent::Closed => write!(f, "closed"),
+            LogEvent::Failed(failure) => write!(f, "failed: {failure}"),
+            LogEvent::DialFailed(address) => write!(f, "no connection to {address}"),
+            LogEvent::AcceptFailed => write!(f, "a connection could not be taken"),
+            LogEvent::SessionUp(node) => write!(f, "session up with {node}"),
+            LogEvent::SessionDown(ending) => write!(f, "session down: {ending}"),
+            LogEvent::FileIn(file) => write!(f, "file in: {file}"),
+            LogEvent::FileHeld(file) => write!(f, "file held: {file}"),
+            LogEvent::FileOut(file) => write!(f, "file out: {file}"),
+            LogEvent::FileRefused(file) => write!(f, "file refused: {file}"),
+            LogEvent::ComingRefused(stream, None) => write!(
                 f,
                 "file in refused: {}",
                 StreamName(*stream)
             ),
-            Happening::ComingRefused(stream, Some(notice)) => write!(
+            LogEvent::ComingRefused(stream, Some(notice)) => write!(
                 f,
                 "file in refused: {}, {}",
                 StreamName(*stream),
                 notice
             ),
-            Happening::ComingCutOff(stream) => write!(
-                f,
-                "file in cut off: {}",
-                StreamName(*stream)
-            ),
-            Happening::NearQuota(used, quota) => write!(f, "{used} of {quota} blocks are used"),
-            Happening::NewRoutes => write!(f, "new routes"),
-            Happening::RoutesRefused(fault) => write!(f, "new routes refused: {fault}"),
+            LogEvent::ComingCutOff(stream) => write!(f, "file in cut off: {}", StreamName(*stream)),
+            LogEvent::NearQuota(used, quota) => write!(f, "{used} of {quota} blocks are used"),
+            LogEvent::NewRoutes => write!(f, "new routes"),
+            LogEvent::RoutesRefused(fault) => write!(f, "new routes refused: {fault}"),
         }
     }
 }

@@ -22,7 +22,7 @@ mod way;
 
 pub use customer_routes::routes_of;
 pub use difference::{CustomerKey, Difference, LineKey, difference_of};
-pub use entry::{Ending, Failure, FileLine, Happening, LogEntry, Place};
+pub use entry::{Ending, Failure, FileLine, LogEntry, LogEvent, Place};
 pub use exchange::Exchange;
 pub use log::Log;
 pub use notice_line::NoticeLine;

@@ -1,6 +1,6 @@
 //! New routes, and what the log tells of them.
 
-use crate::entry::{Happening, LogEntry, Place};
+use crate::entry::{LogEntry, LogEvent, Place};
 use crate::exchange::Exchange;
 use crate::table_source::TableSource;
 use njh_hub::{HubFault, NewRoutes};
@@ -32,12 +32,12 @@ impl<N: Network + Drop, L: Write + Drop, S: TableSource + Drop> Exchange<N, L, S
         let Some(name) = self.revision.settle(customer, answer.is_ok()) else {
             return;
         };
-        let happening = match answer {
-            Ok(()) => Happening::NewRoutes,
-            Err(fault) => Happening::RoutesRefused(fault),
+        let event = match answer {
+            Ok(()) => LogEvent::NewRoutes,
+            Err(fault) => LogEvent::RoutesRefused(fault),
         };
         let place = Place::Customer(name);
         let second = self.desk.network.utc();
-        self.desk.log.write(second, &LogEntry { place, happening });
+        self.desk.log.write(second, &LogEntry { place, event });
     }
 }

@@ -3,7 +3,7 @@
 ghost use Rattle.std.specs.Prelude.{◌<◌};
 
 use crate::desk::Desk;
-use crate::entry::{FileLine, Happening, LogEntry, Place};
+use crate::entry::{FileLine, LogEntry, LogEvent, Place};
 use crate::notice_line::NoticeLine;
 use crate::post::Label;
 use crate::streams::{STREAMS, Streams, ended, files_coming, files_going, first_gone, near_after};
@@ -44,7 +44,7 @@ impl<N: Network + Drop, L: Write + Drop> Desk<N, L> {
                 break;
             };
             if let Some(file) = streams.coming[place] {
-                let happening = match hub.file_summary(id.customer, file) {
+                let event = match hub.file_summary(id.customer, file) {
                     Some(summary) => arrival(&summary),
                     None => {
                         let drains = matches!(receivers.get(place), Some(Receiver::Draining));
@@ -52,7 +52,7 @@ impl<N: Network + Drop, L: Write + Drop> Desk<N, L> {
                         loss(Stream::at(place as u8), drains, notice)
                     }
                 };
-                self.tell(label, happening);
+                self.tell(label, event);
             }
             streams.coming[place] = None;
         }
@@ -85,8 +85,8 @@ impl<N: Network + Drop, L: Write + Drop> Desk<N, L> {
             let Some(place) = first_gone(&streams.going, now) else {
                 break;
             };
-            if let Some(happening) = departure(hub, customer, streams, place) {
-                self.tell(label, happening);
+            if let Some(event) = departure(hub, customer, streams, place) {
+                self.tell(label, event);
             }
             streams.going[place] = None;
         }
@@ -112,34 +112,34 @@ impl<N: Network + Drop, L: Write + Drop> Desk<N, L> {
         if *near && !was {
             let second = self.network.utc();
             let place = Place::Customer(label.customer);
-            let happening = Happening::NearQuota(used, quota);
-            self.log.write(second, &LogEntry { place, happening });
+            let event = LogEvent::NearQuota(used, quota);
+            self.log.write(second, &LogEntry { place, event });
         }
     }
 }
 
 /// What is told of a file that came whole.
-fn arrival(file: &FileSummaryView) -> Happening {
+fn arrival(file: &FileSummaryView) -> LogEvent {
     let line = FileLine::of(file);
     if file.state == State::Held {
-        Happening::FileHeld(line)
+        LogEvent::FileHeld(line)
     } else {
-        Happening::FileIn(line)
+        LogEvent::FileIn(line)
     }
 }
 
 /// What is told of a file that came in on a stream and isn't kept. `drains` where its rest is ignored, `notice` where
 /// its owner was told something: then the hub refused it. Else its peer gave it up, or its session ended.
-fn loss(stream: Stream, drains: bool, notice: Option<&Notice>) -> Happening {
+fn loss(stream: Stream, drains: bool, notice: Option<&Notice>) -> LogEvent {
     if drains || notice.is_some() {
-        Happening::ComingRefused(stream, notice.map(NoticeLine::of))
+        LogEvent::ComingRefused(stream, notice.map(NoticeLine::of))
     } else {
-        Happening::ComingCutOff(stream)
+        LogEvent::ComingCutOff(stream)
     }
 }
 
 /// What became of a file that a stream from the hub is about no more, where it went out or was refused.
-fn departure(hub: &Hub, customer: u16, streams: &Streams, place: usize) -> Option<Happening>
+fn departure(hub: &Hub, customer: u16, streams: &Streams, place: usize) -> Option<LogEvent>
     requires { place < 8 }
 {
     let file = streams.going[place]?;
@@ -147,14 +147,14 @@ fn departure(hub: &Hub, customer: u16, streams: &Streams, place: usize) -> Optio
     match hub.file_summary(customer, file) {
         Some(summary) => {
             if summary.state == State::Refused {
-                Some(Happening::FileRefused(line))
+                Some(LogEvent::FileRefused(line))
             } else {
                 None
             }
         }
         None => {
             if streams.ended[place] {
-                Some(Happening::FileOut(line))
+                Some(LogEvent::FileOut(line))
             } else {
                 None
             }

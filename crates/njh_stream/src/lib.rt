@@ -21,7 +21,7 @@ pub use ending::{end_receivers, end_senders};
 pub use holding::hold_unrouted;
 pub use laws::{one_outcome, streams_end_so, streams_stay_tied};
 pub use notice::Notice;
-pub use receiver::{Progress, Receiver, Step};
+pub use receiver::{Progress, Receiver, StreamStep};
 pub use routing::{goes_by, node_goes_by, retry_refused};
 pub use sender::Sender;
 pub use spool_file::SpoolFile;

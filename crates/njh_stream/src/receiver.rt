@@ -73,7 +73,7 @@ pub enum Receiver {
 
 /// What an arrival asks for.
 #[derive(Debug, Drop)]
-pub struct Step {
+pub struct StreamStep {
     /// The answer to the peer.
     pub answer: Option<Answer>,
     /// What the owner of the file is told.
@@ -126,7 +126,7 @@ impl Receiver {
         id: LineId,
         tables: &Tables,
         spool: &mut Spool,
-    ) -> Step
+    ) -> StreamStep
         requires known { id.customer < length tables.now.customers }
         requires spooled { id.customer < length spool.old }
         requires short { IsShort (arrival_of arrival) }
@@ -140,7 +140,7 @@ impl Receiver {
         match receive_unread(receiver, &arrival, stream.kind(), id.customer, spool) {
             Some(after) => {
                 *self = after;
-                Step {
+                StreamStep {
                     answer: None,
                     notice: None,
                 }
@@ -159,7 +159,7 @@ impl Receiver {
         stream: Stream,
         from: &Origin<'_>,
         spool: &mut Spool,
-    ) -> Step
+    ) -> StreamStep
         requires spooled { from.now.id.customer < length spool.old }
         requires short { IsShort (arrival_of arrival) }
         requires agrees { Agrees (kind_of stream) self.old (spool_at from.now.id.customer spool.old) }
@@ -170,7 +170,7 @@ impl Receiver {
         let receiver = *self;
         let after = receive(receiver, arrival, stream.kind(), from, spool);
         *self = after.receiver;
-        Step {
+        StreamStep {
             answer: answer_of(after.answer, stream),
             notice: after.notice,
         }

@@ -1,8 +1,8 @@
 -- What the hub says in EBCDIC, a definition a text, in the order of their numbers:
 --   replies to a command: 001 a file, 002 how many, 003 held, 004 released, 005 cancelled, 006 rerouted, 010 no such
 --   file, 011 no command, 012 being sent;
---   to the owner of a file, or in reply: 020 a node that nobody has, 021 a full quota, 022 the hub itself, 023 back by the
---   line that it came on.
+--   to the owner of a file, or in reply: 020 a node that nobody has, 021 a full quota, 022 the hub itself, 023 back by
+--   the line that it came on.
 use Rattle.std.specs.Prelude.{ℕ, List, [], ◌∷◌, ◌++◌, length, Option, Some, None, codes}
 use Rattle.njh_ebcdic.specs.Users.{User}
 use Rattle.njh_header.specs.FileNames.{FileName}

@@ -1,5 +1,5 @@
 pub mod Moved
 pub mod Standing
 pub mod Places
-pub mod Answers
+pub mod Readings
 pub mod code

@@ -27,7 +27,7 @@ pub record Standing (C : Type 0) : Type 0 where
   pub answered : Bool
   -- the time now, when silence is a quiet, and when bytes last came
   pub clock : ℕ
-  pub due : ℕ
+  pub deadline : ℕ
   pub heard : ℕ
   -- why the last connection ended
   pub end : Option End
@@ -49,7 +49,7 @@ first_standing place = record {
   readable = false;
   answered = false;
   clock = 0;
-  due = 0;
+  deadline = 0;
   heard = 0;
   end = None;
   failures = 0;
@@ -64,7 +64,7 @@ with_connection connection s = record s {
   waiting = [];
   readable = true;
   answered = false;
-  due = later s.clock;
+  deadline = later s.clock;
   heard = s.clock;
 }
 
@@ -104,7 +104,7 @@ after_stop stops.Failed s = record s { parting = Some Failed; end = Some ends.Fa
 
 -- bytes came now
 abbrev pub hearing : {C : Type 0} → Standing C → Standing C
-hearing s = record s { due = later s.clock; heard = s.clock }
+hearing s = record s { deadline = later s.clock; heard = s.clock }
 
 -- bytes of a frame wait behind what waited, since now where nothing did
 abbrev pub keeping : {C : Type 0} → List ℕ → Standing C → Standing C

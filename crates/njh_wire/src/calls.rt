@@ -2,7 +2,7 @@
 
 ghost use Rattle.std.specs.Prelude.{◌≡◌, ◌≢◌, ◌≤◌, [], length, take, IsSome, IfOk, IfSome};
 ghost use Rattle.std.specs.Option.{option_map};
-ghost use Rattle.njh_wire.specs.Answers.{Sends};
+ghost use Rattle.njh_wire.specs.Readings.{Sends};
 ghost use Rattle.njh_wire.specs.declared.end.Stop.TheVariants.{Full};
 
 use crate::connection::{Connection, ConnectionFault, Received};

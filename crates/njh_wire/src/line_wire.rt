@@ -9,7 +9,7 @@ ghost use Rattle.njh_wire.specs.Standing.{first_standing, with_connection, witho
 ghost use Rattle.njh_wire.specs.Standing.{after_displacement, after_admission, after_close};
 ghost use Rattle.std.specs.Option.{option_map};
 ghost use Rattle.njh_wire.specs.Places.{IsAt, IsOwn};
-ghost use Rattle.njh_wire.specs.Answers.{IsOpen, IsWait, IsRead, IsWritten, IsFlushed, before_answer};
+ghost use Rattle.njh_wire.specs.Readings.{IsOpen, IsWait, IsRead, IsWritten, IsFlushed, before_answer};
 
 mod reading;
 mod writing;
@@ -42,7 +42,7 @@ pub struct LineWire<C: Connection + Drop> {
     readable: bool,
     answered: bool,
     clock: u64,
-    due: u64,
+    deadline: u64,
     heard: u64,
     end: Option<End>,
     failures: u64,
@@ -65,7 +65,7 @@ impl<C: Connection + Drop> Model for LineWire<C> {
       readable = wire.readable;
       answered = wire.answered;
       clock = wire.clock;
-      due = wire.due;
+      deadline = wire.deadline;
       heard = wire.heard;
       end = wire.end;
       failures = wire.failures;
@@ -91,7 +91,7 @@ impl<C: Connection + Drop> LineWire<C> {
             readable: false,
             answered: false,
             clock: 0,
-            due: 0,
+            deadline: 0,
             heard: 0,
             end: None,
             failures: 0,
@@ -177,16 +177,16 @@ impl<C: Connection + Drop> LineWire<C> {
 
     /// When its next read can answer something other than `Pending` though nothing came, in milliseconds: at its next
     /// quiet, or when bytes will have waited for a second. `u64::MAX` where nobody is connected.
-    pub fn due(&self) -> u64
+    pub fn deadline(&self) -> u64
         ensures waits { 0 < length self.now.waiting → result ≡ min (self.now.since + 1000) u64.MAX }
-        ensures quiet { self.now.waiting ≡ [] → IsSome self.now.connection → result ≡ self.now.due }
+        ensures quiet { self.now.waiting ≡ [] → IsSome self.now.connection → result ≡ self.now.deadline }
         ensures absent { self.now.waiting ≡ [] → self.now.connection ≡ None → result ≡ u64.MAX }
     {
         if !self.waiting.is_empty() {
             return self.since.saturating_add(STALL_TIME);
         }
         if self.connection.is_some() {
-            self.due
+            self.deadline
         } else {
             u64::MAX
         }
@@ -225,7 +225,7 @@ impl<C: Connection + Drop> LineWire<C> {
         self.waiting.clear();
         self.readable = true;
         self.answered = false;
-        self.due = self.clock.saturating_add(QUIET_TIME);
+        self.deadline = self.clock.saturating_add(QUIET_TIME);
         self.heard = self.clock;
     }
 

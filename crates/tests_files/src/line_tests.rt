@@ -5,7 +5,7 @@ ghost use Rattle.njh_line.specs.Sessions.{IsConfig};
 use njh_bisync::Control;
 use njh_block::{Answer, Bcb, ControlRcb, Fcs, Rcb};
 use njh_ebcdic::Name;
-use njh_line::{Config, Input, Line, Opening, Phase, Reply, Verdict};
+use njh_line::{Config, Input, Line, LineReply, Opening, Phase, Verdict};
 use njh_record::Record;
 use njh_table::Role;
 use std::process::Abort;
@@ -35,9 +35,9 @@ static LYON: [u8; 40] = *b"\x29\
     \x40\x40\x40\x40\x40\x40\x40\x40\
     \0\0\0\0\0\0";
 
-const ENQUIRY: Reply = Reply::Control(Control::Enquiry);
+const ENQUIRY: LineReply = LineReply::Control(Control::Enquiry);
 
-const NAK: Reply = Reply::Control(Control::Nak);
+const NAK: LineReply = LineReply::Control(Control::Nak);
 
 /// A line from BUREAU to LYON.
 fn config(rt: &impl Abort, role: Role, password: Option<Name>) -> Config
@@ -58,7 +58,7 @@ fn check(
     line: &mut Line,
     input: &Input<'_>,
     ended: bool,
-    reply: Reply,
+    reply: LineReply,
     phase: Phase,
 ) {
     let acts = false;
@@ -82,7 +82,7 @@ fn opens(rt: HostRuntime) -> Result<(), Fail> {
 #[test]
 fn calls(rt: HostRuntime) -> Result<(), Fail> {
     let mut line = Line::new(rt.alloc(), config(&rt, Role::Call, None))?;
-    let i_block = Reply::SignOn(Opening::Initial);
+    let i_block = LineReply::SignOn(Opening::Initial);
     let j_block = Input::Block {
         bcb: Bcb::setting(0),
         fcs: Fcs::nothing_suspended(),
@@ -93,7 +93,7 @@ fn calls(rt: HostRuntime) -> Result<(), Fail> {
         &mut line,
         &Input::Enquiry,
         false,
-        Reply::Nothing,
+        LineReply::Nothing,
         Phase::Down,
     );
     check(&rt, &mut line, &Input::Tick, false, ENQUIRY, Phase::Calling);
@@ -105,7 +105,7 @@ fn calls(rt: HostRuntime) -> Result<(), Fail> {
         &mut line,
         &j_block,
         false,
-        Reply::Next { or_ack0: true },
+        LineReply::Next { or_ack0: true },
         Phase::Up,
     );
     assert!(rt; line.session().size == 512);
@@ -114,7 +114,7 @@ fn calls(rt: HostRuntime) -> Result<(), Fail> {
         &mut line,
         &Input::Enquiry,
         true,
-        Reply::Nothing,
+        LineReply::Nothing,
         Phase::Down,
     );
     Ok(())

@@ -16,7 +16,7 @@ use Rattle.njh_customer.specs.Part.{part_at_open}
 use Rattle.njh_customer.specs.Runs.{OwnEvent, OwnBytes, OwnSignal, OwnRoutes, alone_run}
 
 -- An event, and the frame that it sends on its line.
-pub record Turn : Type 0 where
+pub record PlayedEvent : Type 0 where
   pub event : OwnEvent
   pub sent : List (ℕ × List ℕ)
 
@@ -25,17 +25,17 @@ abbrev sent_on : ℕ → List ℕ → List (ℕ × List ℕ)
 sent_on l [] = []
 sent_on l (b ∷ frame) = (l, b ∷ frame) ∷ []
 
-abbrev pub on : ℕ → List ℕ → List ℕ → Turn
+abbrev pub on : ℕ → List ℕ → List ℕ → PlayedEvent
 on l piece frame = record { event = OwnBytes l piece; sent = sent_on l frame }
 
-abbrev pub signal : Signal → ℕ → List ℕ → Turn
+abbrev pub signal : Signal → ℕ → List ℕ → PlayedEvent
 signal kind l frame = record { event = OwnSignal kind l; sent = sent_on l frame }
 
-abbrev pub routes : List NewRoute → Turn
+abbrev pub routes : List NewRoute → PlayedEvent
 routes given = record { event = OwnRoutes given; sent = [] }
 
 -- A customer of this entry that was just opened sends these frames over these events, and no others.
-unfoldable pub Plays : CustomerEntry → List Turn → Type 0
+unfoldable pub Plays : CustomerEntry → List PlayedEvent → Type 0
 unfolding
     character_of byte_of_character rest_step data_so_far text_bytes before_run first_item items_past spelling_of streams
     after_source after_sources filled_block file_text table_outcome after_frame

@@ -5,7 +5,7 @@ use Rattle.njh_table.specs.Entries.{CustomerEntry}
 use Rattle.njh_table.specs.declared.Role.TheVariants.{Answer}
 use Rattle.tests_played.specs.Spelled.{hex, field, text, block, job_header, data_set_header, hello, trailer, file_end}
 use Rattle.tests_played.specs.Spelled.{says, hears}
-use Rattle.tests_played.specs.Played.{Turn, on}
+use Rattle.tests_played.specs.Played.{PlayedEvent, on}
 
 -- the line to LYON, and the line to METZ
 abbrev pub a1 : ℕ
@@ -59,13 +59,13 @@ abbrev pub bureau_signs_on : List ℕ
 bureau_signs_on = sign_on "d1" "BUREAU" "0400"
 
 -- a peer that takes texts of 300 bytes
-abbrev pub with_small_texts : ℕ → String → List Turn
+abbrev pub with_small_texts : ℕ → String → List PlayedEvent
 with_small_texts l node = on l enquiry ack0 ∷ on l (sign_on "c9" node "012c") bureau_signs_on ∷ []
 
-abbrev pub lyon_is_up : List Turn
+abbrev pub lyon_is_up : List PlayedEvent
 lyon_is_up = on a1 enquiry ack0 ∷ on a1 lyon_signs_on bureau_signs_on ∷ []
 
-abbrev pub metz_is_up : List Turn
+abbrev pub metz_is_up : List PlayedEvent
 metz_is_up = on a2 enquiry ack0 ∷ on a2 metz_signs_on bureau_signs_on ∷ []
 
 -- ---- files, on SYSOUT 1
@@ -89,13 +89,13 @@ file number user =
     job_header 0x99 number user ++ data_set_header 0x99 "METZ" "PAUL" ++ hello 0x99 ++ trailer 0x99 ++ file_end 0x99
 
 -- it comes on a1, in the two blocks from this one on
-abbrev pub file_comes : ℕ → ℕ → String → List Turn
+abbrev pub file_comes : ℕ → ℕ → String → List PlayedEvent
 file_comes bcb number user =
     on a1 (block bcb request) (block bcb permission)
     ∷ on a1 (block (bcb + 1) (file number user)) (block (bcb + 1) completion) ∷ []
 
 -- LYON.42 of ANNA is in the spool, and a2 is up
-abbrev pub file_is_ready : List Turn
+abbrev pub file_is_ready : List PlayedEvent
 file_is_ready = lyon_is_up ++ file_comes 0x80 42 "ANNA" ++ metz_is_up
 
 -- ---- what these are in bytes

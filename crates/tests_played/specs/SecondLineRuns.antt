@@ -4,7 +4,7 @@ use Rattle.njh_customer.specs.declared.signal.Signal.TheVariants.{Tick, Lost}
 use Rattle.njh_table.specs.Entries.{CustomerEntry}
 use Rattle.njh_table.specs.declared.Role.TheVariants.{Answer}
 use Rattle.tests_played.specs.Spelled.{ebcdic, field, nodal_message, says, hears, block}
-use Rattle.tests_played.specs.Played.{Plays, Turn, on, signal}
+use Rattle.tests_played.specs.Played.{Plays, PlayedEvent, on, signal}
 use Rattle.tests_played.specs.Samples.{
   a1,
   a2,
@@ -36,7 +36,7 @@ acme_of_three_lines = record acme {
 }
 
 -- LYON.42 of ANNA is in the spool, and both lines to METZ are up; the second has nothing of it
-abbrev both_are_up : List Turn
+abbrev both_are_up : List PlayedEvent
 both_are_up = file_is_ready ++ on a3 enquiry ack0 ∷ on a3 metz_signs_on bureau_signs_on ∷ on a3 ack0 [] ∷ []
 
 -- When the first line is lost the second asks for the file, and sends it to its end though the first comes back; a

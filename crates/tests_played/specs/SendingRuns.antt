@@ -3,7 +3,7 @@ use Rattle.std.specs.Prelude.{ℕ, List, [], ◌∷◌, ◌++◌, refl}
 use Rattle.njh_customer.specs.declared.signal.Signal.TheVariants.{Tick, Lost}
 use Rattle.tests_played.specs.Spelled.{hex, ebcdic, nodal_message, job_header, data_set_header, trailer, file_end, says}
 use Rattle.tests_played.specs.Spelled.{hears, text, block}
-use Rattle.tests_played.specs.Played.{Plays, Turn, on, signal}
+use Rattle.tests_played.specs.Played.{Plays, PlayedEvent, on, signal}
 use Rattle.tests_played.specs.Samples.{
   a1,
   a2,
@@ -107,7 +107,7 @@ verse rcb =
 
 -- METZ takes texts of 300 bytes. The first block has 296 with all headers, the second 300 with all data; so the
 -- trailers are left.
-abbrev trailers_are_left : List Turn
+abbrev trailers_are_left : List PlayedEvent
 trailers_are_left =
     lyon_is_up
     ++ on a1 (block 0x80 (on_each (control 0x90))) (block 0x80 (on_each (control 0xa0)))

@@ -6,7 +6,7 @@ use njh_block::Stream;
 use njh_ebcdic::Name;
 use njh_hub::{FileSummaryView, Hub};
 use njh_program::Failure;
-use njh_service::{Happening, LogEntry, NoticeLine, Place};
+use njh_service::{LogEntry, LogEvent, NoticeLine, Place};
 use njh_spool::FileId;
 use njh_stream::Receiver;
 use njh_table::{LineId, Tables};
@@ -171,8 +171,8 @@ fn show_refusal<R: Print>(rt: &R, hub: &Hub, customer: Name) -> Result<(), Failu
     match notices[4].as_ref() {
         Some(notice) => {
             let place = Place::Line(customer, "a1");
-            let happening = Happening::ComingRefused(Stream::at(4), Some(NoticeLine::of(notice)));
-            println!(rt; "{}", LogEntry { place, happening })?
+            let event = LogEvent::ComingRefused(Stream::at(4), Some(NoticeLine::of(notice)));
+            println!(rt; "{}", LogEntry { place, event })?
         }
         None => println!(rt; "no file refused")?,
     }

@@ -105,7 +105,7 @@ impl<'a> Player<'a> {
                 let mut buffer = [0; 100];
                 assert_eq!(rt; self.wire.read(&mut buffer), want, "{name}");
             }
-            Step::Due(want) => assert_eq!(rt; self.wire.due(), want, "{name}"),
+            Step::Due(want) => assert_eq!(rt; self.wire.deadline(), want, "{name}"),
             Step::Is(ready, waits) => {
                 assert_eq!(rt; self.wire.is_ready(), ready, "{name}");
                 assert_eq!(rt; self.wire.waits_to_send(), waits, "{name}");

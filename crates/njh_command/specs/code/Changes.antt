@@ -5,8 +5,8 @@ use Rattle.njh_spool.specs.declared.State.TheVariants.{Ready, Held}
 use Rattle.njh_spool.specs.CustomerSpool.{CustomerSpool, WholeFile}
 use Rattle.njh_command.specs.declared.changing.Change.{Change}
 use Rattle.njh_command.specs.declared.changing.Change.TheVariants.{Hold, Release, Reroute}
-use Rattle.njh_command.specs.declared.changing.Standing.{Standing}
-use Rattle.njh_command.specs.declared.changing.Standing.TheVariants.{Other, Busy, Idle}
+use Rattle.njh_command.specs.declared.changing.FileClass.{FileClass}
+use Rattle.njh_command.specs.declared.changing.FileClass.TheVariants.{Other, Busy, Idle}
 use Rattle.njh_command.specs.declared.choice.Choice.{Choice}
 use Rattle.njh_command.specs.Commands.{is_of_name, is_sending, with_new_destination, file_in_state}
 use Rattle.njh_command.specs.Files.{without_at}
@@ -26,13 +26,13 @@ change_text Release name n = released_text name n
 change_text (Reroute node) name n = rerouted_to name node n
 
 -- what a file is that passes or doesn't, and is being sent or isn't
-abbrev pub standing_by : Bool → Bool → Standing
-standing_by false sending = Other
-standing_by true true = Busy
-standing_by true false = Idle
+abbrev pub file_class_by : Bool → Bool → FileClass
+file_class_by false sending = Other
+file_class_by true true = Busy
+file_class_by true false = Idle
 
-abbrev pub standing_of : (WholeFile → Bool) → WholeFile → Standing
-standing_of p f = standing_by (p f) (is_sending f.state)
+abbrev pub file_class_of : (WholeFile → Bool) → WholeFile → FileClass
+file_class_of p f = file_class_by (p f) (is_sending f.state)
 
 -- ---- CANCEL, file by file
 

@@ -6,8 +6,8 @@ use Rattle.njh_record.specs.declared.RecordFault.{RecordFault}
 use Rattle.njh_record.specs.declared.RecordFault.TheVariants as faults
 use Rattle.njh_record.specs.declared.item.Item as own
 use Rattle.njh_record.specs.declared.item.Item.TheVariants as own_items
-use Rattle.njh_record.specs.declared.reading.Part.{Part}
-use Rattle.njh_record.specs.declared.reading.Part.TheVariants as part
+use Rattle.njh_record.specs.declared.unspelling.SpellingPart.{SpellingPart}
+use Rattle.njh_record.specs.declared.unspelling.SpellingPart.TheVariants as part
 use Rattle.njh_record.specs.declared.End.{End}
 use Rattle.njh_record.specs.declared.End.TheVariants.{Record, Abort}
 use Rattle.njh_record.specs.Spelling.{Item, blanks, repeat, literal, item_bytes, end_byte}
@@ -47,7 +47,7 @@ StandsFirst bytes Bad = BeginsBad bytes
 StandsFirst bytes Cut = IsCutItem bytes
 
 -- what the code finds first stands there
-abbrev pub LeadsToPart : List ℕ → Result (Part × Bor (List ℕ)) RecordFault → Type 0
+abbrev pub LeadsToPart : List ℕ → Result (SpellingPart × Bor (List ℕ)) RecordFault → Type 0
 LeadsToPart bytes (Ok (part.Item item, rest)) = StandsFirst bytes (OfItem (item_of item) rest.now)
 LeadsToPart bytes (Ok (part.End end, rest)) = StandsFirst bytes (OfEnd end rest.now)
 LeadsToPart bytes (Err faults.BadScb) = StandsFirst bytes Bad

@@ -4,7 +4,7 @@ ghost use Rattle.std.specs.Prelude.{◌≡◌, ◌<◌, ◌≤◌, length, take,
 ghost use Rattle.njh_hub.specs.Sent.{IsCounted};
 ghost use Rattle.njh_hub.specs.Wires.{IsReading};
 ghost use Rattle.njh_wire.specs.Standing.{after_stop, hearing};
-ghost use Rattle.njh_wire.specs.Answers.{IsSilence, IsAnswer, IsOpen, IsWait, IsRead, Receives};
+ghost use Rattle.njh_wire.specs.Readings.{IsSilence, IsAnswer, IsOpen, IsWait, IsRead, Receives};
 
 use super::{LineWire, QUIET_TIME, STALL_TIME};
 use crate::calls::receive_on;
@@ -75,10 +75,10 @@ impl<C: Connection + Drop> LineWire<C> {
         if self.connection.is_none() {
             return Reading::Absent;
         }
-        if self.clock < self.due {
+        if self.clock < self.deadline {
             return Reading::Pending;
         }
-        self.due = self.clock.saturating_add(QUIET_TIME);
+        self.deadline = self.clock.saturating_add(QUIET_TIME);
         Reading::Quiet
     }
 
@@ -118,7 +118,7 @@ impl<C: Connection + Drop> LineWire<C> {
     fn hear(&mut self)
         ensures { self.new ≡ hearing self.old }
     {
-        self.due = self.clock.saturating_add(QUIET_TIME);
+        self.deadline = self.clock.saturating_add(QUIET_TIME);
         self.heard = self.clock;
     }
 }

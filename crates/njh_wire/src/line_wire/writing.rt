@@ -2,7 +2,7 @@
 
 ghost use Rattle.std.specs.Prelude.{◌≡◌, ◌+◌, ◌<◌, ◌≤◌, length, take, IsTrue, ◌↔◌, IsSome, IfSome};
 ghost use Rattle.njh_wire.specs.Standing.{keeping};
-ghost use Rattle.njh_wire.specs.Answers.{Sends, IsWritten};
+ghost use Rattle.njh_wire.specs.Readings.{Sends, IsWritten};
 
 use super::LineWire;
 use crate::calls::{send_none, send_on};

@@ -24,7 +24,7 @@ impl Outgoing for Memory {
 
     ghost outlet = { λ m. record {
       streams = m.streams;
-      peer = m.peer;
+      peer_fcs = m.peer;
       answers = m.answers.items;
       messages = map (λ r. r.items) m.messages.items;
       senders = m.senders;
@@ -42,7 +42,7 @@ impl Outgoing for Memory {
         self.streams
     }
 
-    fn peer(&self) -> Fcs {
+    fn peer_fcs(&self) -> Fcs {
         self.peer
     }
 

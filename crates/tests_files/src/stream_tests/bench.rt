@@ -5,7 +5,7 @@ ghost use Rattle.njh_stream.specs.Arrivals.{arrival_of, IsShort};
 
 use njh_block::Stream;
 use njh_spool::{Quota, Spool, SpoolFault};
-use njh_stream::{Arrival, Receiver, Step, end_receivers};
+use njh_stream::{Arrival, Receiver, StreamStep, end_receivers};
 use njh_table::{LineId, Tables};
 use std::alloc::Global;
 use std::marker::Model;
@@ -61,7 +61,7 @@ impl Bench {
         })
     }
 
-    pub fn come<R: Abort>(&mut self, rt: &R, tables: &Tables, arrival: Arrival<'_>) -> Step {
+    pub fn come<R: Abort>(&mut self, rt: &R, tables: &Tables, arrival: Arrival<'_>) -> StreamStep {
         assert!(rt; !tables.customers().is_empty());
         assert!(rt; is_short(arrival));
         let id = LineId {

@@ -6,7 +6,7 @@ use super::cases;
 use super::playing::play;
 use crate::same::is_same;
 use njh_block::Stream;
-use njh_stream::{Arrival, Receiver, Step};
+use njh_stream::{Arrival, Receiver, StreamStep};
 use njh_table::Tables;
 use njh_texts::MessageText;
 use std::alloc::Global;
@@ -138,7 +138,7 @@ fn byte(alloc: Global, digits: &str) -> Result<u8, Fail> {
     Ok(*bytes.as_slice().first().ok_or("no byte")?)
 }
 
-fn said(alloc: Global, step: Step) -> Result<String, Fail> {
+fn said(alloc: Global, step: StreamStep) -> Result<String, Fail> {
     let mut text = String::new(alloc);
     if let Some(answer) = step.answer {
         text = format!(in alloc; "{:02x} {:02x}", answer.rcb.byte(), answer.stream.byte)?;

@@ -2,7 +2,7 @@
 use Rattle.std.proofs.Common.{◌≡◌, ◌<◌, ◌+◌, ℕ, true, false, length, sym, ap, subst, ◌∙◌, arith, slice_set}
 use Rattle.njh_spool.specs.CustomerSpool.{CustomerSpool, WholeFile}
 use Rattle.njh_spool.specs.Spools.{spool_at}
-use Rattle.njh_command.specs.code.Changes.{change_by, standing_of}
+use Rattle.njh_command.specs.code.Changes.{change_by, file_class_of}
 use Rattle.njh_command.specs.Commands.{changed_file, is_of_name, is_busy, may_change, is_sending}
 use Rattle.njh_command.specs.Files.{file_at, with_file}
 use Rattle.njh_command.proofs.UpTo.{changed_up_to}
@@ -22,7 +22,7 @@ loop-index-preserved c =
     let now_is : spool_at c.args.customer c.loop-index.spool ≡ changed_up_to g i s =
     part_of c.args.spool.now c.loop-index.spool c.args.customer (changed_up_to g i s) c.requires c.loop-index.invariant.spool in
     let here : file_at i (spool_at c.args.customer c.loop-index.spool) ≡ f = ap (file_at i) now_is ∙ changed_not_yet g i s inside in
-    let standing : c.change_at.result ≡ standing_of p f = c.change_at.ensures.standing ∙ ap (standing_of p) here in
+    let standing : c.change_at.result ≡ file_class_of p f = c.change_at.ensures.standing ∙ ap (file_class_of p) here in
     let spool : c.change_at.new.spool ≡ slice_set c.args.spool.now c.args.customer (changed_up_to g (i + 1) s) =
     moved_twice c.args.spool.now c.loop-index.spool c.change_at.new.spool c.args.customer (changed_up_to g i s)
     (λ (x : CustomerSpool). with_file i (g (file_at i x)) x) c.requires c.loop-index.invariant.spool c.change_at.ensures.spool

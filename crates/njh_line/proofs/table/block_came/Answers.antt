@@ -1,6 +1,6 @@
 use Rattle.std.proofs.Common.{ℕ, ◌+◌, ◌∙◌, sym, ap}
 use Rattle.njh_line.specs.declared.session.Session.{Session}
-use Rattle.njh_line.specs.declared.verdict.Reply.TheVariants.{Sequence}
+use Rattle.njh_line.specs.declared.verdict.LineReply.TheVariants.{Sequence}
 use Rattle.njh_line.specs.LineTable.{acting, end_with}
 use Rattle.njh_line.specs.Openings.{shown_first}
 use Rattle.njh_line.proofs.RowLaws as rows

@@ -5,7 +5,7 @@ use Rattle.njh_table.specs.Entries.{LineEntry}
 use Rattle.njh_table.specs.Marks.{entry_unmarked}
 use Rattle.njh_table.specs.TableFile.{NamedLine, entry_of}
 use Rattle.njh_spool.specs.CustomerSpool.{empty_spool}
-use Rattle.njh_customer.specs.Customer.{CustomerLine, config_of, customer_with, quiet_line}
+use Rattle.njh_customer.specs.Customer.{CustomerLine, config_of, customer_with, idle_line}
 use Rattle.njh_customer.specs.Part.{Part}
 use Rattle.njh_customer.proofs.OpenLaws.{rests_of_lines, states_of_lines}
 use Rattle.njh_customer.proofs.lines.Lines.open.Goals as goal
@@ -15,7 +15,7 @@ loop-line-preserved c =
     let lines : List NamedLine = c.args.customer.now.lines in
     let i = c.loop-line.line-index in
     let entry = entry_of c.args.customer.now in
-    let state : NamedLine → CustomerLine = λ l. quiet_line (config_of entry l.entry) l.entry.streams in
+    let state : NamedLine → CustomerLine = λ l. idle_line (config_of entry l.entry) l.entry.streams in
     let within : i < length lines = omega (arith, ap (λ (ls : List NamedLine). length ls) c.lines-line-items.ensures) in
     let item : c.line-item.result ≡ get_or lines i c.line-item.result =
     c.line-item.is ∙ ap (λ (ls : List NamedLine). get_or ls i c.line-item.result) c.lines-line-items.ensures in
@@ -33,7 +33,7 @@ pub returns : goal.returns
 returns c =
     let lines : List NamedLine = c.args.customer.now.lines in
     let entry = entry_of c.args.customer.now in
-    let state : NamedLine → CustomerLine = λ l. quiet_line (config_of entry l.entry) l.entry.streams in
+    let state : NamedLine → CustomerLine = λ l. idle_line (config_of entry l.entry) l.entry.streams in
     let all : take c.loop-line.line-index lines
     ≡ lines = take_all _ lines (omega (arith, ap (λ (ls : List NamedLine). length ls) c.lines-line-items.ensures)) in
     let part_of : List Rest → List CustomerLine → Part =

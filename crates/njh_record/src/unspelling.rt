@@ -12,7 +12,7 @@ use crate::{End, Record, RecordFault};
 
 /// What a spelling says first.
 #[derive(Clone, Copy)]
-enum Part<'a> {
+enum SpellingPart<'a> {
     /// An item.
     Item(Item<'a>),
     /// Its end.
@@ -20,30 +20,36 @@ enum Part<'a> {
 }
 
 /// The first part of a spelling, and the bytes behind it.
-fn next_part(bytes: &[u8]) -> Result<(Part<'_>, &[u8]), RecordFault>
+fn next_part(bytes: &[u8]) -> Result<(SpellingPart<'_>, &[u8]), RecordFault>
     ensures { LeadsToPart bytes.now result }
 {
     let [scb, rest @ ..] = bytes else {
         return Err(RecordFault::Truncated);
     };
     match *scb {
-        END_OF_RECORD => Ok((Part::End(End::Record), rest)),
-        ABORT => Ok((Part::End(End::Abort), rest)),
+        END_OF_RECORD => Ok((SpellingPart::End(End::Record), rest)),
+        ABORT => Ok((SpellingPart::End(End::Abort), rest)),
         ..BLANKS => Err(RecordFault::BadScb),
-        BLANKS..REPEAT => Ok((Part::Item(Item::Blanks(usize::from(*scb - BLANKS))), rest)),
+        BLANKS..REPEAT => Ok((
+            SpellingPart::Item(Item::Blanks(usize::from(*scb - BLANKS))),
+            rest,
+        )),
         REPEAT..LITERAL => {
             let [byte, rest @ ..] = rest else {
                 return Err(RecordFault::Truncated);
             };
             let count = usize::from(*scb - REPEAT);
-            Ok((Part::Item(Item::Repeat { byte: *byte, count }), rest))
+            Ok((
+                SpellingPart::Item(Item::Repeat { byte: *byte, count }),
+                rest,
+            ))
         }
         LITERAL.. => {
             let count = usize::from(*scb - LITERAL);
             let Some((literal, rest)) = rest.split_at_checked(count) else {
                 return Err(RecordFault::Truncated);
             };
-            Ok((Part::Item(Item::Literal(literal)), rest))
+            Ok((SpellingPart::Item(Item::Literal(literal)), rest))
         }
     }
 }
@@ -58,8 +64,8 @@ fn read_parts(bytes: &[u8], contents: &mut Record) -> Result<(usize, End), Recor
     loop {
         let (part, after) = next_part(rest)?;
         match part {
-            Part::Item(item) => fits = fits && item.add_to(contents),
-            Part::End(end) => {
+            SpellingPart::Item(item) => fits = fits && item.add_to(contents),
+            SpellingPart::End(end) => {
                 let used = bytes.len() - after.len();
                 match end {
                     End::Abort => return Ok((used, End::Abort)),
@@ -104,8 +110,8 @@ pub fn skip(bytes: &[u8]) -> Option<&[u8]>
             return None;
         };
         match part {
-            Part::Item(_) => rest = after,
-            Part::End(_) => return Some(after),
+            SpellingPart::Item(_) => rest = after,
+            SpellingPart::End(_) => return Some(after),
         }
     }
 }

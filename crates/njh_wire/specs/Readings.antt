@@ -14,8 +14,9 @@ use Rattle.njh_wire.specs.Standing.{keeping, after_stop, hearing}
 -- Nothing came. That is a quiet only when it is due, and then the next is due 100 milliseconds later.
 abbrev pub IsSilence : {C : Type 0} → Standing C → Reading → Standing C → Type 0
 IsSilence s (reading.Bytes n) new = ⊥
-IsSilence s reading.Quiet new = IsSome s.connection × (s.due ≤ s.clock) × (new ≡ record s { due = later s.clock })
-IsSilence s reading.Pending new = IsSome s.connection × (s.clock < s.due) × (new ≡ s)
+IsSilence s reading.Quiet new =
+    IsSome s.connection × (s.deadline ≤ s.clock) × (new ≡ record s { deadline = later s.clock })
+IsSilence s reading.Pending new = IsSome s.connection × (s.clock < s.deadline) × (new ≡ s)
 IsSilence s reading.Closed new = ⊥
 IsSilence s reading.Absent new = (s.connection ≡ None) × (new ≡ s)
 

@@ -1,6 +1,6 @@
 use Rattle.std.proofs.Common.{ℕ, arith, length-drop, length-take}
 use Rattle.njh_record.proofs.Fronts.{cut_none, cut_repeat, cut_literal}
-use Rattle.njh_record.proofs.reading.next_part.Goals as goal
+use Rattle.njh_record.proofs.unspelling.next_part.Goals as goal
 
 pub returns-in_default : goal.returns-in_default
 returns-in_default c = cut_none _ c.in_default.len_below

@@ -1,6 +1,6 @@
 use Rattle.std.proofs.Common.{sym, ◌∙◌}
 use Rattle.njh_record.proofs.Skips.{behind-item, behind-end, behind-fault}
-use Rattle.njh_record.proofs.reading.skip.Goals as goal
+use Rattle.njh_record.proofs.unspelling.skip.Goals as goal
 
 pub returns-in_default : goal.returns-in_default
 returns-in_default c = sym (c.loop-part.invariant ∙ behind-fault _ _ c.in_default.ensures)

@@ -1,6 +1,6 @@
 use Rattle.std.proofs.Common.{length}
 use Rattle.njh_record.specs.code.Parts.{HasRead}
-use Rattle.njh_record.proofs.reading.read_parts.Given as goal
+use Rattle.njh_record.proofs.unspelling.read_parts.Given as goal
 
 abbrev pub invariant-loop-part : goal.invariant-loop-part
 invariant-loop-part l = HasRead l.bytes l.rest l.contents.items l.fits

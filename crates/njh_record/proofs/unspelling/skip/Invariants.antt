@@ -1,7 +1,7 @@
 use Rattle.std.proofs.Common.{◌≡◌, length}
 use Rattle.njh_record.specs.Unspelled.{record_at_front}
 use Rattle.njh_record.specs.Skipped.{behind}
-use Rattle.njh_record.proofs.reading.skip.Given as goal
+use Rattle.njh_record.proofs.unspelling.skip.Given as goal
 
 abbrev pub invariant-loop-part : goal.invariant-loop-part
 invariant-loop-part l = behind (record_at_front l.bytes) ≡ behind (record_at_front l.rest)

@@ -2,7 +2,7 @@ use Rattle.std.proofs.Common.{arith}
 use Rattle.std.proofs.lemmas.Result.{err_from_is_err_and}
 use Rattle.njh_record.proofs.Steps.{HasRead-none, HasRead-takes, HasRead-passes, unspells-aborted, unspells-whole}
 use Rattle.njh_record.proofs.Steps.{unspells-too_long, unspells-fault}
-use Rattle.njh_record.proofs.reading.read_parts.Goals as goal
+use Rattle.njh_record.proofs.unspelling.read_parts.Goals as goal
 
 pub loop-part-preserved-then-fits : goal.loop-part-preserved-then-fits
 loop-part-preserved-then-fits c =
