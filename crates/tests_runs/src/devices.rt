@@ -1,8 +1,7 @@
-//! Streams that fail, or fall short, at each of their calls in turn.
+//! Streams that fail, fall short or are interrupted at each of their calls in turn.
 //!
 //! `replayed` has a line for each script: its name and the arguments of the program. `NAME.script` is the script, and
-//! `NAME.out` what
-//! the program prints.
+//! `NAME.out` what the program prints.
 
 ghost use Rattle.std.specs.Prelude.{◌≤◌, IfOk};
 
@@ -26,6 +25,8 @@ enum Mishap {
     Fails,
     /// It moves one byte at most.
     FallsShort,
+    /// It is interrupted before it moves a byte, and is to be asked again.
+    IsInterrupted,
 }
 
 /// How many calls a stream had, and which of them goes amiss, counted from 1.
@@ -48,6 +49,7 @@ impl Calls {
         match self.mishap {
             Mishap::Fails => Err(io::Error::from(ErrorKind::BrokenPipe)),
             Mishap::FallsShort => Ok(count.min(1)),
+            Mishap::IsInterrupted => Err(io::Error::from(ErrorKind::Interrupted)),
         }
     }
 }
@@ -81,12 +83,18 @@ impl Write for Drain {
     }
 
     fn flush(&mut self) -> io::Result<()> {
-        self.calls.take(0)?;
+        match self.calls.mishap {
+            Mishap::Fails | Mishap::FallsShort => {
+                self.calls.take(0)?;
+            }
+            // Reads and writes alone are asked again.
+            Mishap::IsInterrupted => {}
+        }
         Ok(())
     }
 }
 
-/// Tries each script over streams that fail or fall short.
+/// Tries each script over streams that fail, fall short or are interrupted.
 pub fn compare_all<R: Files + Net + Clock + Print + AllocGlobal>(rt: &R) -> Result<(), Failure> {
     let index = fs::read_to_string(rt, "replayed")?;
     for line in index.as_str().lines() {
@@ -111,8 +119,10 @@ fn compare<R: Files + Net + Clock + Print + AllocGlobal>(
     for (what, is_read, mishap) in [
         ("a read fails", true, Mishap::Fails),
         ("a read falls short", true, Mishap::FallsShort),
+        ("a read is interrupted", true, Mishap::IsInterrupted),
         ("a write fails", false, Mishap::Fails),
         ("a write falls short", false, Mishap::FallsShort),
+        ("a write is interrupted", false, Mishap::IsInterrupted),
     ] {
         match first_other(rt, arguments, &script, &output, is_read, mishap)? {
             None => println!(rt; "{name}: {what}: as it must")?,

@@ -37,6 +37,7 @@ fn tried<R: Files + Net + Clock + Print + AllocGlobal>(rt: &R) -> Result<(), Fai
     random_runs::compare(rt)?;
     streams::fail(rt)?;
     steps::take(rt)?;
+    steps::fit(rt)?;
     steps::keep(rt)?;
     looks::look(rt)?;
     served::serve(rt)?;

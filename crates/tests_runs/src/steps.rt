@@ -156,6 +156,29 @@ fn take_all<R: Print + AllocGlobal>(rt: &R, hub: &mut Hub) -> Result<(), Failure
     take_signal(rt, hub, "lost", A1)
 }
 
+/// A step asks for memory where `out` has no room for the longest frame, of 8,196 bytes, and nowhere else.
+pub fn fit<R: Print + AllocGlobal>(rt: &R) -> Result<(), Failure> {
+    let mut hub = open(rt.alloc(), Tables::base(rt.alloc())?)?;
+    for room in [8_195, 8_196] {
+        take_within(rt, &mut hub, room)?;
+    }
+    Ok(())
+}
+
+/// Says whether a step makes its `out` larger, where that has so much room.
+fn take_within<R: Print + AllocGlobal>(rt: &R, hub: &mut Hub, room: usize) -> Result<(), Failure> {
+    let contact = bytes_of(rt.alloc(), CONTACT)?;
+    let mut out = Vec::with_capacity(rt.alloc(), room)?;
+    let before = out.capacity();
+    let answer = hub.take(A1, &contact, &mut out);
+    if out.capacity() == before {
+        println!(rt; "room for {room}: it stays so")?;
+    } else {
+        println!(rt; "room for {room}: more is taken")?;
+    }
+    show(rt, "take", answer, &out)
+}
+
 /// Says how many files a customer has.
 fn count_files<R: Print>(rt: &R, hub: &Hub, customer: u16) -> Result<(), Failure> {
     match hub.files(customer) {
