@@ -55,6 +55,21 @@ waiting() {
   echo "a block beside 1,024 waiting files: $(((many_cost - few_cost) / (many_lines - few_lines))) instructions"
 }
 
+# What one event costs, of a row's script of so many bytes and of one that has some more.
+event() {
+  read -r few_cost few_lines <<< "$(whole "$1" "$2")"
+  read -r many_cost many_lines <<< "$(whole "$1" "$3")"
+  echo $(((many_cost - few_cost) / (many_lines - few_lines)))
+}
+
+# What an event costs beside files that wait for a line that is down.
+beside() {
+  for what in block list hold; do
+    printf '%-9s %12s %12s %12s\n' "$what" "$(event "$what-all" 420000 440000)" "$(event "$what-half" 420000 440000)" \
+      "$(event "$what-left" 420000 440000)"
+  done
+}
+
 # How long it takes to start with the largest tables, and how much memory is touched.
 starting() {
   python3 "$here/scripts.py" . largest 0
@@ -69,4 +84,7 @@ row mixed 38 25 d5d1c8f0f0f140 '^c0x2 1002.\{300\}'
 row empty 65 43 '^a1 1070'
 row ignored 25 11 '^a1 1002.*b0a800'
 waiting
+printf '%-9s %12s %12s %12s\n' 'one event' 'of 1,024' 'of 512' '512 left'
+beside
+echo "an event of 512 new routes: $(event routes 20000 60000) instructions"
 starting 2>&1

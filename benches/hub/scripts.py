@@ -1,12 +1,16 @@
 #!/usr/bin/env python3
 """Writes the script of a row, and the table file that it is for, into a folder: scripts.py FOLDER ROW BYTES.
 
-A row is one of ROWS below. A script has the bytes that are asked for, to within a line. Of the row `largest` there is a
-table file alone, with as much in it as may be.
+A row is one of ROWS below, or `block`, `list` or `hold` with one of BESIDE, as in `list-left`. A script has the bytes
+that are asked for, to within a line. Of the row `largest` there is a table file alone, with as much in it as may be.
 """
 import sys
 
-ROWS = ["cards", "commands", "mixed", "empty", "ignored", "waiting"]
+ROWS = ["cards", "commands", "mixed", "empty", "ignored", "waiting", "routes"]
+
+# The rows of which the cost of one event is asked for, beside the files of one user: for a line that is down, all of
+# those that a customer may have, or half of them, or what is left where every other one was removed.
+BESIDE = ["all", "half", "left"]
 
 # How many files wait for a line that is down, in the row `waiting`.
 WAITING = 1024
@@ -180,6 +184,31 @@ def stored(line, user, node, count):
     return list(blocks(line, records))
 
 
+def new_routes(lines):
+    """The most routes that a customer may be given, again and again."""
+    while True:
+        routes = " ".join(f"N{n}:{lines[n % len(lines)].name}" for n in range(512))
+        yield f"ROUTES ACME {routes}\n"
+
+
+def beside(lines, which):
+    """Files for a line that is down: 1,024, 512, or the 512 that are left of 1,024."""
+    line = lines[0]
+    first = line.sign_on() + stored(line, "ANNA", "METZ", WAITING // 2 if which == "half" else WAITING)
+    if which == "left":
+        for number in range(1, WAITING, 2):
+            first.append(line.block(message("BUREAU", "ANNA", "LYON", f"CANCEL LYON.{number}")))
+    return first
+
+
+def one_event(line, what):
+    """A block without records, LIST, or HOLD of the file that came last but one."""
+    if what == "block":
+        return empty(line)
+    text = {"list": "LIST", "hold": f"HOLD LYON.{WAITING // 2}"}[what]
+    return iter(lambda: line.block(message("BUREAU", "ANNA", "LYON", text)), None)
+
+
 def in_turn(*parts):
     while True:
         for part in parts:
@@ -252,6 +281,11 @@ def script(row):
         return one, a[0].sign_on(), ignored(a[0])
     if row == "waiting":
         return one, a[0].sign_on() + stored(a[0], "ANNA", "METZ", WAITING), empty(a[0])
+    if row == "routes":
+        return one, [], new_routes(a)
+    what, _, which = row.partition("-")
+    if what in ["block", "list", "hold"] and which in BESIDE:
+        return one, beside(a, which), one_event(a[0], what)
     raise SystemExit(f"no such row: {row}")
 
 
