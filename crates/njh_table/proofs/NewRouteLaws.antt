@@ -12,7 +12,7 @@ use Rattle.njh_table.specs.declared.LineId.{LineId}
 use Rattle.njh_table.specs.declared.new_routes.GivenRoute.{GivenRoute}
 use Rattle.njh_table.specs.declared.fault.TableFault.{TableFault}
 use Rattle.njh_table.specs.declared.fault.TableFault.TheVariants.{BadValue, DoubleNode, UnknownLine, TooMany}
-use Rattle.njh_table.specs.declared.limits.TheConstants.{MAX_ROUTES}
+use Rattle.njh_table.specs.Limits.{max_routes}
 use Rattle.njh_table.specs.Accepted.{AreDistinct, IsRoute, IsCustomer, IsAccepted}
 use Rattle.njh_table.specs.Entries.{RouteEntry, lines_to}
 use Rattle.njh_table.specs.Keys.{Walked, ◌>>◌, fault_where}
@@ -193,7 +193,7 @@ pub checked-distinct : (t : TableFile) (c : ℕ) (routes : List GivenRoute)
     → routes_checked (entry_of (customer_at t c)) (new_routes_of c routes) ≡ Ok tt → AreDistinct (map (λ r. r.node) routes)
 checked-distinct t c routes e =
     let entry = entry_of (customer_at t c) in
-    let (few, rest) = passed (nat_lt MAX_ROUTES (length (new_routes_of c routes))) TooMany _ tt e in
+    let (few, rest) = passed (nat_lt max_routes (length (new_routes_of c routes))) TooMany _ tt e in
     let nodes : AreDistinct (entry.hub ∷ map (λ r. r.node) (new_routes_of c routes)) =
     distinct (length entry.lines) (entry.hub ∷ []) (new_routes_of c routes) (alone entry.hub) rest in
     let given = subst (λ ns. AreDistinct (entry.hub ∷ ns)) (map-map (λ (r : NewRoute). r.node) (own_route c) routes) nodes in
@@ -206,7 +206,7 @@ pub checked-given : (t : TableFile) (c : ℕ) (routes : List GivenRoute)
 checked-given t c routes e =
     let entry = entry_of (customer_at t c) in
     taken-given (length entry.lines) c (entry.hub ∷ []) routes
-    (passed (nat_lt MAX_ROUTES (length (new_routes_of c routes))) TooMany _ tt e).1
+    (passed (nat_lt max_routes (length (new_routes_of c routes))) TooMany _ tt e).1
 
 -- ---- the tables with them
 
@@ -219,13 +219,13 @@ with_routes-is : (t : TableFile) (c : ℕ) (routes : List GivenRoute) → IsCust
 with_routes-is t c given was e =
     let customer = customer_at t c in
     let routes = new_routes_of c given in
-    let (few, rest) = passed (nat_lt MAX_ROUTES (length routes)) TooMany _ tt e in
+    let (few, rest) = passed (nat_lt max_routes (length routes)) TooMany _ tt e in
     let (same, each) = checked-given t c given e in
     record {
       quota = was.quota;
       files = was.files;
       lines = was.lines;
-      routes = subst (λ n. n ≤ MAX_ROUTES) (sym (length-map routes taken_route)) (ltb-false MAX_ROUTES (length routes) few);
+      routes = subst (λ n. n ≤ max_routes) (sym (length-map routes taken_route)) (ltb-false max_routes (length routes) few);
       each_route = subst (λ rs. All (IsRoute (length customer.lines)) rs) (sym same)
           (subst (λ n. All (IsRoute n) (map as_given given)) (entry_lines customer) each);
       nodes = subst (λ ns. AreDistinct (customer.hub ∷ ns)) (sym (map-map (λ (r : RouteEntry). r.node) taken_route routes))

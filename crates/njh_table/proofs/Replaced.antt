@@ -4,7 +4,7 @@ use Rattle.std.proofs.Common.{◌≡◌, ℕ, zero, suc, ◌+◌, ◌≤◌, sum
 use Rattle.std.proofs.Common.{ap₂, refl, subst, sym, ◌∙◌}
 use Rattle.std.proofs.lemmas.List.{length-map, map-set, set-get_or}
 use Rattle.std.proofs.lemmas.List.Sums.{sum-map}
-use Rattle.njh_table.specs.declared.limits.TheConstants.{MAX_CUSTOMERS, MAX_LINES}
+use Rattle.njh_table.specs.Limits.{max_customers, max_lines}
 use Rattle.njh_table.specs.Accepted.{IsBetween, AreDistinct, IsCustomer, IsAccepted}
 use Rattle.njh_table.specs.TableFile.{NamedLine, NamedCustomer, Owners, TableFile, line_names, line_owners, no_customer}
 use Rattle.njh_table.specs.TableFile.{owners_from}
@@ -19,10 +19,10 @@ accepted_again t customers names quotas lines each was =
     ∙ sum-map (λ (c : NamedCustomer). c.quota) customers in
     record {
       capacity = was.capacity;
-      customers = subst (IsBetween 1 MAX_CUSTOMERS) count was.customers;
+      customers = subst (IsBetween 1 max_customers) count was.customers;
       names = subst AreDistinct (sym names) was.names;
       each = each;
-      lines = subst (λ ns. length ns ≤ MAX_LINES) (sym lines) was.lines;
+      lines = subst (λ ns. length ns ≤ max_lines) (sym lines) was.lines;
       line_names = subst AreDistinct (sym lines) was.line_names;
       quotas = subst (λ n. n ≤ t.capacity) total was.quotas;
     }

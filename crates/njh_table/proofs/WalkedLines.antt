@@ -8,7 +8,7 @@ use Rattle.std.proofs.lemmas.List.Folds.{list_any-append}
 use Rattle.std.proofs.lemmas.List.Elements.{All-push}
 use Rattle.toml.specs.Data.{Data, Members, Items, no_items, item}
 use Rattle.njh_table.specs.declared.fault.TableFault.TheVariants.{TooMany, DoubleLine}
-use Rattle.njh_table.specs.declared.limits.TheConstants.{MAX_LINES, MIN_BLOCK, MAX_BLOCK, MAX_STREAMS, MAX_PORT}
+use Rattle.njh_table.specs.Limits.{max_lines, min_block, max_block, max_streams, max_port}
 use Rattle.njh_table.specs.Accepted.{IsBetween, AreDistinct, IsLine}
 use Rattle.njh_table.specs.TableFile.{NamedLine}
 use Rattle.njh_table.specs.Keys.{number, node_name, is_line_name, line_name, role, password, peer}
@@ -19,7 +19,7 @@ use Rattle.njh_table.proofs.Gives.{with_any_or, number-is, line_name-is, IsPeerO
 use Rattle.njh_table.proofs.Distinct.{distinct_push}
 
 pub record IsNewLine (taken : List (List ℕ)) (l : NamedLine) : Type 0 where
-  pub room : length taken < MAX_LINES
+  pub room : length taken < max_lines
   pub absent : list_any (bytes_eq l.name) taken ≡ false
   pub is : IsLine l
 
@@ -28,32 +28,32 @@ unfolding walked_line
 line_of-gives name keys is_name =
     with_any _ node_name (codes "node") keys _ (λ node.
     with_any _ role (codes "role") keys _ (λ role.
-    with_value (IsBetween MIN_BLOCK MAX_BLOCK) _ (number MIN_BLOCK MAX_BLOCK) (codes "block") keys _
-    (number-is MIN_BLOCK MAX_BLOCK) (λ block in_block.
-    with_value (IsBetween 1 MAX_STREAMS) _ (number 1 MAX_STREAMS) (codes "streams") keys _ (number-is 1 MAX_STREAMS)
+    with_value (IsBetween min_block max_block) _ (number min_block max_block) (codes "block") keys _
+    (number-is min_block max_block) (λ block in_block.
+    with_value (IsBetween 1 max_streams) _ (number 1 max_streams) (codes "streams") keys _ (number-is 1 max_streams)
     (λ streams in_streams.
     with_any_or _ password [] (codes "password") keys _ (λ password.
-    with_value_or (IsBetween 0 MAX_PORT) _ (number 0 MAX_PORT) 0 (codes "port") keys _ (omega arith, omega arith)
-    (number-is 0 MAX_PORT) (λ port in_port.
+    with_value_or (IsBetween 0 max_port) _ (number 0 max_port) 0 (codes "port") keys _ (omega arith, omega arith)
+    (number-is 0 max_port) (λ port in_port.
     with_value_or (IsPeerOf port) _ (peer port) None (codes "connect") keys _ tt (peer-is port) (λ peer is_peer.
     (refl, record { name = is_name; block = in_block; streams = in_streams; port = in_port.1; peer = is_peer }))))))))
 
 next_line-gives : (taken : List (List ℕ)) (value : Data) → Gives (IsNewLine taken) (next_line taken value)
 unfolding next_line
 next_line-gives taken value =
-    past _ (nat_le MAX_LINES (length taken)) TooMany _ tt (λ room.
+    past _ (nat_le max_lines (length taken)) TooMany _ tt (λ room.
     with_keys _ value _ (λ keys.
     with_value (λ name. is_line_name name ≡ true) _ line_name (codes "name") keys _ line_name-is (λ name is_name.
     past _ (list_any (bytes_eq name) taken) DoubleLine _ tt (λ absent.
     weaker _ _ (walked_line name keys) (line_of-gives name keys is_name) (λ l is. record {
-      room = leb-false MAX_LINES (length taken) room;
+      room = leb-false max_lines (length taken) room;
       absent = ap (λ name. list_any (bytes_eq name) taken) is.0 ∙ absent;
       is = is.1;
     })))))
 
 pub record AreLines (taken : List (List ℕ)) (lines : List NamedLine) : Type 0 where
   pub each : All IsLine lines
-  pub count : length (taken ++ map (λ l. l.name) lines) ≤ MAX_LINES
+  pub count : length (taken ++ map (λ l. l.name) lines) ≤ max_lines
   pub distinct : AreDistinct (taken ++ map (λ l. l.name) lines)
 
 names-push : (taken : List (List ℕ)) (done : List NamedLine) (l : NamedLine)
@@ -70,7 +70,7 @@ AreLines-push taken done l lines new =
     let longer : length (before ++ l.name ∷ []) ≡ length before + 1 = length-append before (l.name ∷ []) in
     record {
       each = All-push IsLine done l lines.each new.is;
-      count = subst (λ ns. length ns ≤ MAX_LINES) (sym names) (omega (arith, new.room, longer));
+      count = subst (λ ns. length ns ≤ max_lines) (sym names) (omega (arith, new.room, longer));
       distinct = subst AreDistinct (sym names) (distinct_push before l.name lines.distinct new.absent);
     }
 

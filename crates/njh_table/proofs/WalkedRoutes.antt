@@ -11,7 +11,7 @@ use Rattle.std.proofs.lemmas.Option.{IfSome_then}
 use Rattle.std.proofs.lemmas.Slice.Eq.{bytes_eq-Decides}
 use Rattle.toml.specs.Data.{Data, Items, no_items, item, as_str}
 use Rattle.njh_table.specs.declared.fault.TableFault.TheVariants.{TooMany, DoubleNode, UnknownLine}
-use Rattle.njh_table.specs.declared.limits.TheConstants.{MAX_ROUTES}
+use Rattle.njh_table.specs.Limits.{max_routes}
 use Rattle.njh_table.specs.Accepted.{AreDistinct, IsRoute}
 use Rattle.njh_table.specs.declared.routes.RouteLines.{RouteLines}
 use Rattle.njh_table.specs.Entries.{RouteEntry, lines_to, route_lines}
@@ -63,7 +63,7 @@ number_of_second-gives lines find line number (Some name) finds found other =
     (λ l second. (found-below lines find name l finds second, λ same. other (finds.apart name line l second (found ∙ ap Some (sym same)))))
 
 pub record IsNewRoute (hub : List ℕ) (lines : ℕ) (done : List RouteEntry) (r : RouteEntry) : Type 0 where
-  pub room : length done < MAX_ROUTES
+  pub room : length done < max_routes
   pub absent : is_routed hub done r.node ≡ false
   pub is : IsRoute lines r
 
@@ -71,7 +71,7 @@ next_route-gives : (hub : List ℕ) (lines : ℕ) (find : List ℕ → Option �
     → Finds lines find → Gives (IsNewRoute hub lines done) (next_route hub find done value)
 unfolding next_route route_by
 next_route-gives hub lines find done value finds =
-    past _ (nat_le MAX_ROUTES (length done)) TooMany _ tt (λ room.
+    past _ (nat_le max_routes (length done)) TooMany _ tt (λ room.
     with_keys _ value _ (λ keys.
     with_any _ node_name (codes "node") keys _ (λ node.
     with_any _ as_str (codes "line") keys _ (λ line.
@@ -82,7 +82,7 @@ next_route-gives hub lines find done value finds =
     and_then (IsSecond lines number) _ (number_of_second find second) _
     (number_of_second-gives lines find line number second finds found other) (λ second_number is.
     record {
-      room = leb-false MAX_ROUTES (length done) room;
+      room = leb-false max_routes (length done) room;
       absent = absent;
       is = record { line = found-below lines find line number finds found; second = is };
     }))))))))
@@ -101,7 +101,7 @@ unrouted (r ∷ routes) node absent =
     or_from _ _ (nat_list_eq_equiv.symm node r.node ∙ here) (unrouted routes node rest)
 
 pub record AreRoutes (hub : List ℕ) (lines : ℕ) (routes : List RouteEntry) : Type 0 where
-  pub count : length routes ≤ MAX_ROUTES
+  pub count : length routes ≤ max_routes
   pub each : All (IsRoute lines) routes
   pub nodes : AreDistinct (hub ∷ map (λ r. r.node) routes)
 

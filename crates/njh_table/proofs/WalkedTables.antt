@@ -14,7 +14,7 @@ use Rattle.toml.specs.Parse.{parse_document}
 use Rattle.njh_table.specs.declared.fault.TableFault.{TableFault}
 use Rattle.njh_table.specs.declared.fault.TableFault.TheVariants.{TooMany, MissingKey, BadToml, BadValue, QuotaOver}
 use Rattle.njh_table.specs.declared.fault.TableFault.TheVariants.{Memory}
-use Rattle.njh_table.specs.declared.limits.TheConstants.{MAX_CUSTOMERS, MAX_LINES, MAX_CAPACITY, MAX_QUOTA, MAX_FILES}
+use Rattle.njh_table.specs.Limits.{max_customers, max_lines, max_capacity, max_quota, max_files}
 use Rattle.njh_table.specs.Accepted.{IsBetween, AreDistinct, IsLine, IsRoute, IsCustomer, IsAccepted}
 use Rattle.njh_table.specs.TableFile.{NamedCustomer, TableFile, line_names}
 use Rattle.njh_table.specs.Keys.{◌>>=◌, number, node_name}
@@ -27,14 +27,14 @@ use Rattle.njh_table.proofs.WalkedLines.{AreLines, lines_onto-gives}
 use Rattle.njh_table.proofs.WalkedRoutes.{AreRoutes, routes_onto-gives, line_number-finds}
 
 pub record AreCustomers (customers : List NamedCustomer) : Type 0 where
-  pub count : length customers ≤ MAX_CUSTOMERS
+  pub count : length customers ≤ max_customers
   pub names : AreDistinct (map (λ c. c.name) customers)
   pub each : All IsCustomer customers
-  pub lines : length (line_names customers) ≤ MAX_LINES
+  pub lines : length (line_names customers) ≤ max_lines
   pub line_names : AreDistinct (line_names customers)
 
 pub record IsNewCustomer (done : List NamedCustomer) (c : NamedCustomer) : Type 0 where
-  pub room : length done < MAX_CUSTOMERS
+  pub room : length done < max_customers
   pub absent : list_any (λ d. bytes_eq d.name c.name) done ≡ false
   pub is : IsCustomer c
   pub lines : AreLines (line_names done) c.lines
@@ -42,8 +42,8 @@ pub record IsNewCustomer (done : List NamedCustomer) (c : NamedCustomer) : Type 
 -- what holds of a customer's own keys
 pub record AreKeys (done : List NamedCustomer) (own : CustomerKeys) : Type 0 where
   pub absent : list_any (λ d. bytes_eq d.name own.name) done ≡ false
-  pub quota : IsBetween 1 MAX_QUOTA own.quota
-  pub files : IsBetween 1 MAX_FILES own.files
+  pub quota : IsBetween 1 max_quota own.quota
+  pub files : IsBetween 1 max_files own.files
 
 customer_keys-gives : (done : List NamedCustomer) (keys : Members) → Gives (AreKeys done) (customer_keys done keys)
 unfolding customer_keys
@@ -51,15 +51,15 @@ customer_keys-gives done keys =
     with_any _ node_name (codes "name") keys _ (λ name.
     past _ (list_any (λ c. bytes_eq c.name name) done) BadValue _ tt (λ absent.
     with_any _ node_name (codes "hub") keys _ (λ hub.
-    with_value (IsBetween 1 MAX_QUOTA) _ (number 1 MAX_QUOTA) (codes "quota") keys _ (number-is 1 MAX_QUOTA) (λ quota in_quota.
-    with_value (IsBetween 1 MAX_FILES) _ (number 1 MAX_FILES) (codes "files") keys _ (number-is 1 MAX_FILES) (λ files in_files.
+    with_value (IsBetween 1 max_quota) _ (number 1 max_quota) (codes "quota") keys _ (number-is 1 max_quota) (λ quota in_quota.
+    with_value (IsBetween 1 max_files) _ (number 1 max_files) (codes "files") keys _ (number-is 1 max_files) (λ files in_files.
     record { absent = absent; quota = in_quota; files = in_files })))))
 
 next_customer-gives : (done : List NamedCustomer) (value : Data) → AreCustomers done
     → Gives (IsNewCustomer done) (next_customer done value)
 unfolding next_customer
 next_customer-gives done value customers =
-    past _ (nat_le MAX_CUSTOMERS (length done)) TooMany _ tt (λ room.
+    past _ (nat_le max_customers (length done)) TooMany _ tt (λ room.
     with_keys _ value _ (λ keys.
     and_then (AreKeys done) _ (customer_keys done keys) _ (customer_keys-gives done keys) (λ own are_keys.
     with_any_or _ as_array no_items (codes "line") keys _ (λ line_values.
@@ -71,7 +71,7 @@ next_customer-gives done value customers =
     (no_routes own.hub (length lines)))
     (λ routes are_routes.
     record {
-      room = leb-false MAX_CUSTOMERS (length done) room;
+      room = leb-false max_customers (length done) room;
       absent = are_keys.absent;
       lines = are_lines;
       is = record {
@@ -116,7 +116,7 @@ AreCustomers-push done c customers new =
       names = subst AreDistinct (sym (map-append (λ (c : NamedCustomer). c.name) done (c ∷ [])))
           (distinct_push (map (λ c. c.name) done) c.name customers.names (new_name done c.name new.absent));
       each = All-push IsCustomer done c customers.each new.is;
-      lines = subst (λ ns. length ns ≤ MAX_LINES) (sym names) new.lines.count;
+      lines = subst (λ ns. length ns ≤ max_lines) (sym names) new.lines.count;
       line_names = subst AreDistinct (sym names) new.lines.distinct;
     }
 
@@ -153,7 +153,7 @@ some_customers (item value more) some =
 pub tables_in-gives : (keys : Members) → Gives IsAccepted (tables_in keys)
 unfolding tables_in
 tables_in-gives keys =
-    with_value (IsBetween 1 MAX_CAPACITY) _ (number 1 MAX_CAPACITY) (codes "capacity") keys _ (number-is 1 MAX_CAPACITY)
+    with_value (IsBetween 1 max_capacity) _ (number 1 max_capacity) (codes "capacity") keys _ (number-is 1 max_capacity)
     (λ capacity in_capacity.
     with_any _ as_array (codes "customer") keys _ (λ values.
     past _ (is_empty values) MissingKey _ tt (λ some.

@@ -2,8 +2,8 @@
 -- capacity.
 use Rattle.std.specs.Prelude.{◌≡◌, ◌≢◌, ℕ, ◌<◌, ◌≤◌, List, ◌∷◌, length, map, sum_by, All, AllPairs, IfSome, IsTrue}
 use Rattle.std.specs.Net.Socket.{socket_port}
-use Rattle.njh_table.specs.declared.limits.TheConstants.{MAX_CUSTOMERS, MAX_LINES, MAX_ROUTES, MAX_CAPACITY, MAX_QUOTA}
-use Rattle.njh_table.specs.declared.limits.TheConstants.{MAX_FILES, MIN_BLOCK, MAX_BLOCK, MAX_STREAMS, MAX_PORT}
+use Rattle.njh_table.specs.Limits.{max_customers, max_lines, max_routes, max_capacity, max_quota}
+use Rattle.njh_table.specs.Limits.{max_files, min_block, max_block, max_streams, max_port}
 use Rattle.njh_table.specs.Entries.{RouteEntry}
 use Rattle.njh_table.specs.TableFile.{NamedLine, NamedCustomer, TableFile, line_names}
 use Rattle.njh_table.specs.Keys.{is_line_name}
@@ -16,9 +16,9 @@ AreDistinct names = AllPairs (λ a b. a ≢ b) names
 
 pub record IsLine (l : NamedLine) : Type 0 where
   pub name : IsTrue (is_line_name l.name)
-  pub block : IsBetween MIN_BLOCK MAX_BLOCK l.entry.block
-  pub streams : IsBetween 1 MAX_STREAMS l.entry.streams
-  pub port : l.port ≤ MAX_PORT
+  pub block : IsBetween min_block max_block l.entry.block
+  pub streams : IsBetween 1 max_streams l.entry.streams
+  pub port : l.port ≤ max_port
   -- a line whose peer listens has no port of its own
   pub peer : IfSome l.peer (λ address. (l.port ≡ 0) × (socket_port address ≢ 0))
 
@@ -28,19 +28,19 @@ pub record IsRoute (lines : ℕ) (r : RouteEntry) : Type 0 where
   pub second : IfSome r.second (λ line. (line < lines) × (line ≢ r.line))
 
 pub record IsCustomer (c : NamedCustomer) : Type 0 where
-  pub quota : IsBetween 1 MAX_QUOTA c.quota
-  pub files : IsBetween 1 MAX_FILES c.files
+  pub quota : IsBetween 1 max_quota c.quota
+  pub files : IsBetween 1 max_files c.files
   pub lines : All IsLine c.lines
-  pub routes : length c.routes ≤ MAX_ROUTES
+  pub routes : length c.routes ≤ max_routes
   pub each_route : All (IsRoute (length c.lines)) c.routes
   -- a node has one route at most, and the hub's own name has none
   pub nodes : AreDistinct (c.hub ∷ map (λ r. r.node) c.routes)
 
 pub record IsAccepted (t : TableFile) : Type 0 where
-  pub capacity : IsBetween 1 MAX_CAPACITY t.capacity
-  pub customers : IsBetween 1 MAX_CUSTOMERS (length t.customers)
+  pub capacity : IsBetween 1 max_capacity t.capacity
+  pub customers : IsBetween 1 max_customers (length t.customers)
   pub names : AreDistinct (map (λ c. c.name) t.customers)
   pub each : All IsCustomer t.customers
-  pub lines : length (line_names t.customers) ≤ MAX_LINES
+  pub lines : length (line_names t.customers) ≤ max_lines
   pub line_names : AreDistinct (line_names t.customers)
   pub quotas : sum_by (λ c. c.quota) t.customers ≤ t.capacity

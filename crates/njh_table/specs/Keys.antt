@@ -13,7 +13,7 @@ use Rattle.njh_table.specs.declared.Role.{Role}
 use Rattle.njh_table.specs.declared.Role.TheVariants.{Call, Answer}
 use Rattle.njh_table.specs.declared.fault.TableFault.{TableFault}
 use Rattle.njh_table.specs.declared.fault.TableFault.TheVariants.{MissingKey, BadValue}
-use Rattle.njh_table.specs.declared.limits.TheConstants.{MAX_LINE_NAME}
+use Rattle.njh_table.specs.Limits.{max_line_name}
 use Rattle.njh_table.specs.Addresses.{address_of}
 
 -- what a part of the walk gives, or the first fault in it
@@ -61,7 +61,7 @@ abbrev pub is_letter_or_digit : ℕ → Bool
 is_letter_or_digit c = within 48 57 c || within 65 90 c || within 97 122 c
 
 abbrev pub is_line_name : List ℕ → Bool
-is_line_name text = within 1 MAX_LINE_NAME (length text) && list_all is_letter_or_digit text
+is_line_name text = within 1 max_line_name (length text) && list_all is_letter_or_digit text
 
 abbrev pub line_name_of : List ℕ → Option (List ℕ)
 line_name_of text = if is_line_name text then Some text else None

@@ -4,7 +4,7 @@ use Rattle.std.specs.Prelude.{length, map, slice_set, Option, Some, None, option
 use Rattle.std.specs.List.{list_any}
 use Rattle.njh_table.specs.declared.LineId.{LineId}
 use Rattle.njh_table.specs.declared.fault.TableFault.TheVariants.{BadValue, DoubleNode, UnknownLine, TooMany}
-use Rattle.njh_table.specs.declared.limits.TheConstants.{MAX_ROUTES}
+use Rattle.njh_table.specs.Limits.{max_routes}
 use Rattle.njh_table.specs.declared.new_routes.GivenRoute.{GivenRoute}
 use Rattle.njh_table.specs.declared.routes.RouteLines.{RouteLines}
 use Rattle.njh_table.specs.Entries.{RouteEntry, CustomerEntry}
@@ -87,7 +87,7 @@ checked_from lines taken (r ∷ routes) = route_checked lines taken r >> checked
 -- all routes that a customer is to have: the hub's own name can have none
 abbrev pub routes_checked : CustomerEntry → List NewRoute → Walked (Unit {0})
 routes_checked entry routes = do
-  fault_where (nat_lt MAX_ROUTES (length routes)) TooMany
+  fault_where (nat_lt max_routes (length routes)) TooMany
   checked_from (length entry.lines) (entry.hub ∷ []) routes
 
 -- ---- the entry with them

@@ -10,8 +10,8 @@ use Rattle.toml.specs.Parse.{parse_document}
 use Rattle.njh_table.specs.declared.fault.TableFault.{TableFault}
 use Rattle.njh_table.specs.declared.fault.TableFault.TheVariants.{BadToml, MissingKey, BadValue, DoubleLine, DoubleNode}
 use Rattle.njh_table.specs.declared.fault.TableFault.TheVariants.{UnknownLine, QuotaOver, TooMany, Memory}
-use Rattle.njh_table.specs.declared.limits.TheConstants.{MAX_CUSTOMERS, MAX_LINES, MAX_ROUTES, MAX_CAPACITY, MAX_QUOTA}
-use Rattle.njh_table.specs.declared.limits.TheConstants.{MAX_FILES, MIN_BLOCK, MAX_BLOCK, MAX_STREAMS, MAX_PORT}
+use Rattle.njh_table.specs.Limits.{max_customers, max_lines, max_routes, max_capacity, max_quota}
+use Rattle.njh_table.specs.Limits.{max_files, min_block, max_block, max_streams, max_port}
 use Rattle.njh_table.specs.Entries.{RouteEntry, lines_to}
 use Rattle.njh_table.specs.Keys.{Walked, ◌>>=◌, ◌>>◌, fault_where, keys_in, at_key, at_key_or, number, node_name}
 use Rattle.njh_table.specs.Keys.{line_name, role, password, peer, second_line}
@@ -24,10 +24,10 @@ unfoldable pub walked_line : List ℕ → Members → Walked NamedLine
 walked_line name keys = do
   node ← at_key node_name (codes "node") keys
   role ← at_key role (codes "role") keys
-  block ← at_key (number MIN_BLOCK MAX_BLOCK) (codes "block") keys
-  streams ← at_key (number 1 MAX_STREAMS) (codes "streams") keys
+  block ← at_key (number min_block max_block) (codes "block") keys
+  streams ← at_key (number 1 max_streams) (codes "streams") keys
   password ← at_key_or password [] (codes "password") keys
-  port ← at_key_or (number 0 MAX_PORT) 0 (codes "port") keys
+  port ← at_key_or (number 0 max_port) 0 (codes "port") keys
   peer ← at_key_or (peer port) None (codes "connect") keys
   Ok (record {
     name = name;
@@ -40,7 +40,7 @@ walked_line name keys = do
 -- the next line, after the lines of the hub that have these names: no two lines of the hub have one name
 unfoldable pub next_line : List (List ℕ) → Data → Walked NamedLine
 next_line taken value = do
-  fault_where (nat_le MAX_LINES (length taken)) TooMany
+  fault_where (nat_le max_lines (length taken)) TooMany
   keys ← keys_in value
   name ← at_key line_name (codes "name") keys
   fault_where (list_any (bytes_eq name) taken) DoubleLine
@@ -82,7 +82,7 @@ route_by hub line_number done node line second = do
 -- the next route of a customer, after those done
 unfoldable pub next_route : List ℕ → (List ℕ → Option ℕ) → List RouteEntry → Data → Walked RouteEntry
 next_route hub line_number done value = do
-  fault_where (nat_le MAX_ROUTES (length done)) TooMany
+  fault_where (nat_le max_routes (length done)) TooMany
   keys ← keys_in value
   node ← at_key node_name (codes "node") keys
   line ← at_key as_str (codes "line") keys
@@ -110,14 +110,14 @@ customer_keys done keys = do
   name ← at_key node_name (codes "name") keys
   fault_where (list_any (λ c. bytes_eq c.name name) done) BadValue
   hub ← at_key node_name (codes "hub") keys
-  quota ← at_key (number 1 MAX_QUOTA) (codes "quota") keys
-  files ← at_key (number 1 MAX_FILES) (codes "files") keys
+  quota ← at_key (number 1 max_quota) (codes "quota") keys
+  files ← at_key (number 1 max_files) (codes "files") keys
   Ok (record { name = name; hub = hub; quota = quota; files = files })
 
 -- the next customer, after those done: both its lists are lists before an element of them is looked at
 unfoldable pub next_customer : List NamedCustomer → Data → Walked NamedCustomer
 next_customer done value = do
-  fault_where (nat_le MAX_CUSTOMERS (length done)) TooMany
+  fault_where (nat_le max_customers (length done)) TooMany
   keys ← keys_in value
   own ← customer_keys done keys
   line_values ← at_key_or as_array no_items (codes "line") keys
@@ -141,7 +141,7 @@ is_empty (item value more) = false
 -- the tables that a document gives: it has a customer, and the quotas add to at most the capacity
 unfoldable pub tables_in : Members → Walked TableFile
 tables_in keys = do
-  capacity ← at_key (number 1 MAX_CAPACITY) (codes "capacity") keys
+  capacity ← at_key (number 1 max_capacity) (codes "capacity") keys
   customer_values ← at_key as_array (codes "customer") keys
   fault_where (is_empty customer_values) MissingKey
   customers ← customers_onto [] customer_values

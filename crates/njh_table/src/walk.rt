@@ -2,6 +2,7 @@
 
 ghost use Rattle.std.specs.Prelude.{◌≡◌, ◌≤◌, length, sum_by, nat_lt};
 ghost use Rattle.toml.specs.View.{table_view};
+ghost use Rattle.njh_table.specs.Limits.{max_customers};
 ghost use Rattle.njh_table.specs.Walk.{Walks, tables_in};
 
 mod customers;
@@ -11,7 +12,7 @@ mod routes;
 use crate::customer::NamedCustomer;
 use crate::fault::TableFault;
 use crate::keys::{list_at, number_at};
-use crate::limits::{MAX_CAPACITY, MAX_CUSTOMERS};
+use crate::limits::MAX_CAPACITY;
 use crate::owners::Owners;
 use crate::tables::Tables;
 use crate::walk::customers::customers_in;
@@ -19,7 +20,7 @@ use std::alloc::Global;
 use toml::Table;
 
 fn quotas_of(customers: &[NamedCustomer]) -> u64
-    requires { length customers.now ≤ MAX_CUSTOMERS }
+    requires { length customers.now ≤ max_customers }
     ensures { result ≡ sum_by (λ c. c.quota) customers.now }
 {
     customers
@@ -30,7 +31,7 @@ fn quotas_of(customers: &[NamedCustomer]) -> u64
 
 /// Whether the customers' quotas add to more than the capacity.
 fn quotas_exceed(customers: &[NamedCustomer], capacity: u32) -> bool
-    requires { length customers.now ≤ MAX_CUSTOMERS }
+    requires { length customers.now ≤ max_customers }
     ensures { result ≡ nat_lt capacity (sum_by (λ c. c.quota) customers.now) }
 {
     quotas_of(customers) > u64::from(capacity)

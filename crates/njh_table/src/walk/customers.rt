@@ -4,6 +4,7 @@ ghost use Rattle.std.specs.Prelude.{◌≡◌, ◌<◌, ◌≤◌, ◌++◌, [],
 ghost use Rattle.std.specs.List.{list_any};
 ghost use Rattle.std.specs.Result.{result_map_both};
 ghost use Rattle.toml.specs.View.{view, items_view, table_view};
+ghost use Rattle.njh_table.specs.Limits.{max_customers};
 ghost use Rattle.njh_table.specs.TableFile.{owners_from};
 ghost use Rattle.njh_table.specs.Walk.{Walks, customer_keys, next_customer, customers_onto};
 
@@ -71,7 +72,7 @@ fn next_customer(
     requires { owners.old ≡ owners_from 0 earlier.now }
     ensures walk { Walks (λ c. c) result (next_customer earlier.now (view value.now)) }
     ensures owners { IfOk result (λ c. owners.new ≡ owners_from 0 (earlier.now ++ c ∷ [])) }
-    ensures room { OnOk result (length earlier.now < MAX_CUSTOMERS) }
+    ensures room { OnOk result (length earlier.now < max_customers) }
 {
     if earlier.len() >= MAX_CUSTOMERS {
         return Err(TableFault::TooMany);
@@ -101,7 +102,7 @@ pub(super) fn customers_in(
     requires { owners.old ≡ [] }
     ensures walk { Walks (λ v. v.items) result (customers_onto [] (items_view values.now)) }
     ensures owners { IfOk result (λ v. owners.new ≡ owners_from 0 v.items) }
-    ensures few { IfOk result (λ v. vec_len v ≤ MAX_CUSTOMERS) }
+    ensures few { IfOk result (λ v. vec_len v ≤ max_customers) }
 {
     let mut customers = Vec::new(alloc);
     for value in values {

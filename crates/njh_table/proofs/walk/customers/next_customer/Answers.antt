@@ -1,7 +1,7 @@
 use Rattle.std.proofs.Common.{◌≡◌, [], ◌++◌, length, Ok, ap, sym, refl, ◌∙◌}
 use Rattle.std.proofs.lemmas.Bool.{lt-leb}
 use Rattle.toml.specs.View.{items_view}
-use Rattle.njh_table.specs.declared.limits.TheConstants.{MAX_CUSTOMERS}
+use Rattle.njh_table.specs.Limits.{max_customers}
 use Rattle.njh_table.specs.TableFile.{names_in, line_names, line_owners, own_line}
 use Rattle.njh_table.specs.Walk.{next_customer, lines_onto, routes_onto, line_number}
 use Rattle.njh_table.proofs.OwnersLaws.{names-owners_from, owners_after, AreApart, own_line-is}
@@ -35,14 +35,14 @@ pub returns-in_err-keys-clause-walk : goal.returns-in_err-keys-clause-walk
 unfolding next_customer
 returns-in_err-keys-clause-walk c =
     stops _ _ _ _ c.from_residual.ensures.1
-    (λ _. passes _ _ _ (lt-leb MAX_CUSTOMERS _ c.if-earlier-ge-MAX_CUSTOMERS.false)
+    (λ _. passes _ _ _ (lt-leb max_customers _ c.if-earlier-ge-MAX_CUSTOMERS.false)
     ∙ ends _ _ _ (sym c.in_err-keys.ensures))
 
 pub returns-in_err-own-clause-walk : goal.returns-in_err-own-clause-walk
 unfolding next_customer
 returns-in_err-own-clause-walk c =
     stops _ _ _ _ c.from_residual-in_err-own.ensures.1
-    (λ _. passes _ _ _ (lt-leb MAX_CUSTOMERS _ c.if-earlier-ge-MAX_CUSTOMERS.false)
+    (λ _. passes _ _ _ (lt-leb max_customers _ c.if-earlier-ge-MAX_CUSTOMERS.false)
     ∙ goes_on _ _ _ (sym c.in_ok-keys.ensures)
     ∙ ends _ _ _ (sym c.in_err-own.ensures))
 
@@ -50,7 +50,7 @@ pub returns-in_err-line_values-clause-walk : goal.returns-in_err-line_values-cla
 unfolding next_customer
 returns-in_err-line_values-clause-walk c =
     stops _ _ _ _ c.from_residual-in_err-line_values.ensures.1
-    (λ _. passes _ _ _ (lt-leb MAX_CUSTOMERS _ c.if-earlier-ge-MAX_CUSTOMERS.false)
+    (λ _. passes _ _ _ (lt-leb max_customers _ c.if-earlier-ge-MAX_CUSTOMERS.false)
     ∙ goes_on _ _ _ (sym c.in_ok-keys.ensures)
     ∙ goes_on _ _ _ (sym c.in_ok-own.ensures)
     ∙ ends _ _ _ (sym c.in_err-line_values.ensures))
@@ -59,7 +59,7 @@ pub returns-in_err-route_values-clause-walk : goal.returns-in_err-route_values-c
 unfolding next_customer
 returns-in_err-route_values-clause-walk c =
     stops _ _ _ _ c.from_residual-in_err-route_values.ensures.1
-    (λ _. passes _ _ _ (lt-leb MAX_CUSTOMERS _ c.if-earlier-ge-MAX_CUSTOMERS.false)
+    (λ _. passes _ _ _ (lt-leb max_customers _ c.if-earlier-ge-MAX_CUSTOMERS.false)
     ∙ goes_on _ _ _ (sym c.in_ok-keys.ensures)
     ∙ goes_on _ _ _ (sym c.in_ok-own.ensures)
     ∙ goes_on _ _ _ (sym c.in_ok-line_values.ensures)
@@ -71,7 +71,7 @@ returns-in_err-lines-clause-walk c =
     let values = items_view c.in_ok-line_values.line_values.now in
     let taken = names (goal.at.returns-in_err-lines-clause-walk c).In_ok-route_values in
     stops _ _ _ _ c.from_residual-in_err-lines.ensures.1
-    (λ no_memory. passes _ _ _ (lt-leb MAX_CUSTOMERS _ c.if-earlier-ge-MAX_CUSTOMERS.false)
+    (λ no_memory. passes _ _ _ (lt-leb max_customers _ c.if-earlier-ge-MAX_CUSTOMERS.false)
     ∙ goes_on _ _ _ (sym c.in_ok-keys.ensures)
     ∙ goes_on _ _ _ (sym c.in_ok-own.ensures)
     ∙ goes_on _ _ _ (sym c.in_ok-line_values.ensures)
@@ -84,7 +84,7 @@ returns-in_err-routes-clause-walk c =
     let values = items_view c.in_ok-route_values.route_values.now in
     let at_lines = (goal.at.returns-in_err-routes-clause-walk c).In_ok-lines in
     stops _ _ _ _ c.from_residual-in_err-routes.ensures.1
-    (λ no_memory. passes _ _ _ (lt-leb MAX_CUSTOMERS _ c.if-earlier-ge-MAX_CUSTOMERS.false)
+    (λ no_memory. passes _ _ _ (lt-leb max_customers _ c.if-earlier-ge-MAX_CUSTOMERS.false)
     ∙ goes_on _ _ _ (sym c.in_ok-keys.ensures)
     ∙ goes_on _ _ _ (sym c.in_ok-own.ensures)
     ∙ goes_on _ _ _ (sym c.in_ok-line_values.ensures)
@@ -97,7 +97,7 @@ unfolding next_customer
 returns-clause-walk c =
     let values = items_view c.in_ok-route_values.route_values.now in
     let at_lines = (goal.at.returns-clause-walk c).In_ok-lines in
-    passes _ _ _ (lt-leb MAX_CUSTOMERS _ c.if-earlier-ge-MAX_CUSTOMERS.false)
+    passes _ _ _ (lt-leb max_customers _ c.if-earlier-ge-MAX_CUSTOMERS.false)
     ∙ goes_on _ _ _ (sym c.in_ok-keys.ensures)
     ∙ goes_on _ _ _ (sym c.in_ok-own.ensures)
     ∙ goes_on _ _ _ (sym c.in_ok-line_values.ensures)

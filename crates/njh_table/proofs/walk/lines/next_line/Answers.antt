@@ -1,12 +1,12 @@
 use Rattle.std.proofs.Common.{◌≡◌, ℕ, ◌<◌, false, nat_le, sym, subst, ◌∙◌}
 use Rattle.std.proofs.lemmas.Bool.{lt-leb}
-use Rattle.njh_table.specs.declared.limits.TheConstants.{MAX_LINES}
+use Rattle.njh_table.specs.Limits.{max_lines}
 use Rattle.njh_table.specs.Walk.{next_line}
 use Rattle.njh_table.proofs.Loops.{goes_on, ends, passes, stops}
 use Rattle.njh_table.proofs.walk.lines.next_line.Goals as goal
 
-room : {count taken : ℕ} → count ≡ taken → count < MAX_LINES → nat_le MAX_LINES taken ≡ false
-room {taken = taken} same below = lt-leb MAX_LINES taken (subst (λ n. n < MAX_LINES) same below)
+room : {count taken : ℕ} → count ≡ taken → count < max_lines → nat_le max_lines taken ≡ false
+room {taken = taken} same below = lt-leb max_lines taken (subst (λ n. n < max_lines) same below)
 
 pub returns-in_err-keys-clause-walk : goal.returns-in_err-keys-clause-walk
 unfolding next_line

@@ -1,12 +1,12 @@
 use Rattle.std.proofs.Common.{◌≡◌, ℕ, ◌<◌, false, nat_le, sym, subst, ◌∙◌}
 use Rattle.std.proofs.lemmas.Bool.{lt-leb}
-use Rattle.njh_table.specs.declared.limits.TheConstants.{MAX_ROUTES}
+use Rattle.njh_table.specs.Limits.{max_routes}
 use Rattle.njh_table.specs.Walk.{next_route}
 use Rattle.njh_table.proofs.Loops.{goes_on, ends, passes, leaves_seen}
 use Rattle.njh_table.proofs.walk.routes.next_route.Goals as goal
 
-room : {count done : ℕ} → count ≡ done → count < MAX_ROUTES → nat_le MAX_ROUTES done ≡ false
-room {done = done} same below = lt-leb MAX_ROUTES done (subst (λ n. n < MAX_ROUTES) same below)
+room : {count done : ℕ} → count ≡ done → count < max_routes → nat_le max_routes done ≡ false
+room {done = done} same below = lt-leb max_routes done (subst (λ n. n < max_routes) same below)
 
 pub returns-in_err-keys-clause-walk : goal.returns-in_err-keys-clause-walk
 unfolding next_route
