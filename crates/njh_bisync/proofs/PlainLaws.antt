@@ -8,6 +8,7 @@ use Rattle.std.proofs.lemmas.List.{take-append-drop, take_all, drop_more, length
 use Rattle.std.proofs.lemmas.List.Sums.{fails_before_first, passes_at_first, prefix_len-le-length}
 use Rattle.std.proofs.lemmas.List.Concat.{flat_map-append}
 use Rattle.std.proofs.lemmas.List.Folds.{length-prefix_len}
+use Rattle.njh_bisync.specs.Limits.{longest_text}
 use Rattle.njh_bisync.specs.Reading.{InText}
 use Rattle.njh_bisync.specs.ByteSteps.{rest_step, ahead, feed_outcome, kept_with}
 use Rattle.njh_bisync.specs.code.PlainBytes.{plain_len, kept_all}
@@ -17,20 +18,20 @@ use Rattle.njh_bisync.specs.Written.{bytes_of_data}
 kept_all-one : (held : Option (List ℕ)) (byte : ℕ) → kept_all held (byte ∷ []) ≡ kept_with held byte
 kept_all-one None byte = refl
 kept_all-one (Some held) byte =
-    elim (cases_lt (length held) 4096) [
-      | inl below ↦ rw (le-ltb 4096 (length held + 1) (omega arith), lt-ltb (length held) 4096 below)
-      | inr full ↦ rw (lt-ltb 4096 (length held + 1) (omega arith), le-ltb (length held) 4096 full)
+    elim (cases_lt (length held) longest_text) [
+      | inl below ↦ rw (le-ltb longest_text (length held + 1) (omega arith), lt-ltb (length held) longest_text below)
+      | inr full ↦ rw (lt-ltb longest_text (length held + 1) (omega arith), le-ltb (length held) longest_text full)
     ]
 
 kept_all-more : (held : Option (List ℕ)) (byte : ℕ) (bytes : List ℕ) → kept_all (kept_with held byte) bytes ≡ kept_all held (byte ∷ bytes)
 kept_all-more None byte bytes = refl
 kept_all-more (Some held) byte bytes =
-    elim (cases_lt (length held) 4096) [
+    elim (cases_lt (length held) longest_text) [
       | inl below ↦
           let long : length (held ++ byte ∷ []) + length bytes ≡ length held + length (byte ∷ bytes) =
           omega (arith, length-append held (byte ∷ [])) in
-          rw (lt-ltb (length held) 4096 below, long, append_assoc held (byte ∷ []) bytes)
-      | inr full ↦ rw (le-ltb (length held) 4096 full, lt-ltb 4096 (length held + length (byte ∷ bytes)) (omega arith))
+          rw (lt-ltb (length held) longest_text below, long, append_assoc held (byte ∷ []) bytes)
+      | inr full ↦ rw (le-ltb (length held) longest_text full, lt-ltb longest_text (length held + length (byte ∷ bytes)) (omega arith))
     ]
 
 -- a run of plain bytes in a text

@@ -3,6 +3,7 @@ use Rattle.std.proofs.Common.{◌≡◌, ℕ, ◌+◌, ◌<◌, ◌≤◌, ◌==
 use Rattle.std.proofs.Common.{if◌then◌else◌, refl, ap, sym, ◌∙◌, arith, append_assoc, append-nil, length-append}
 use Rattle.std.specs.Prelude.{flat_map, Option, Some}
 use Rattle.std.proofs.lemmas.Bool.{eqb-true, lt-ltb}
+use Rattle.njh_bisync.specs.Limits.{longest_text}
 use Rattle.njh_bisync.specs.Frames.{Text}
 use Rattle.njh_bisync.specs.Reading.{Nothing, InText, Reads}
 use Rattle.njh_bisync.specs.ByteSteps.{rest_step, Fed, ahead, feed_outcome, kept_with}
@@ -11,8 +12,8 @@ use Rattle.njh_bisync.specs.declared.frame.Control.{Control}
 use Rattle.njh_bisync.specs.declared.frame.Control.TheVariants.{Enquiry, Ack0, Nak}
 use Rattle.njh_bisync.proofs.FedLaws.{reads_one}
 
-room-kept_with : (held : List ℕ) (byte : ℕ) → length held < 4096 → kept_with (Some held) byte ≡ Some (held ++ byte ∷ [])
-room-kept_with held byte room = rw (lt-ltb (length held) 4096 room)
+room-kept_with : (held : List ℕ) (byte : ℕ) → length held < longest_text → kept_with (Some held) byte ≡ Some (held ++ byte ∷ [])
+room-kept_with held byte room = rw (lt-ltb (length held) longest_text room)
 
 ahead-ahead : (f : Fed) → ahead 1 (ahead 1 f) ≡ ahead 2 f
 ahead-ahead f =
@@ -20,7 +21,7 @@ ahead-ahead f =
     ap (λ (n : ℕ). record f { taken = n }) e
 
 -- one byte of data, as it is written
-data_byte-fed : (held : List ℕ) (byte : ℕ) (same : Bool) (more : List ℕ) → (byte == 0x10) ≡ same → length held < 4096
+data_byte-fed : (held : List ℕ) (byte : ℕ) (same : Bool) (more : List ℕ) → (byte == 0x10) ≡ same → length held < longest_text
     → feed_outcome (InText (Some held) false) ((if same then 0x10 ∷ 0x10 ∷ [] else byte ∷ []) ++ more)
     ≡ ahead (length (if same then 0x10 ∷ 0x10 ∷ [] else byte ∷ [])) (feed_outcome (InText (Some (held ++ byte ∷ [])) false) more)
 unfolding rest_step
@@ -28,20 +29,20 @@ data_byte-fed held byte true more is room =
     ahead-ahead (feed_outcome (InText (kept_with (Some held) 0x10) false) more)
     ∙ (ap (λ (h : Option (List ℕ)). ahead 2 (feed_outcome (InText h false) more)) (room-kept_with held 0x10 room)
     ∙ ap (λ b. ahead 2 (feed_outcome (InText (Some (held ++ b ∷ [])) false) more)) (sym (eqb-true byte 0x10 is)))
-data_byte-fed held byte false more is room = rw (is, lt-ltb (length held) 4096 room)
+data_byte-fed held byte false more is room = rw (is, lt-ltb (length held) longest_text room)
 
 -- a text that ended so many bytes ahead
 abbrev told : ℕ → List ℕ → Fed
 told n held = record { taken = n; frame = Some (Text held); rest = Nothing }
 
-read_data : (done held more : List ℕ) → length done + length held ≤ 4096
+read_data : (done held more : List ℕ) → length done + length held ≤ longest_text
     → feed_outcome (InText (Some done) false) (flat_map bytes_of_data held ++ (0x10 ∷ 0x26 ∷ more)) ≡ told
     (length (flat_map bytes_of_data held) + 2) (done ++ held)
 unfolding rest_step
 read_data done [] more room = ap (told 2) (sym (append-nil done))
 read_data done (byte ∷ held) more room =
     let rest = flat_map bytes_of_data held ++ (0x10 ∷ 0x26 ∷ more) in
-    let longer : length (done ++ byte ∷ []) + length held ≤ 4096 = omega (arith, length-append done (byte ∷ [])) in
+    let longer : length (done ++ byte ∷ []) + length held ≤ longest_text = omega (arith, length-append done (byte ∷ [])) in
     let added : length (bytes_of_data byte) + (length (flat_map bytes_of_data held) + 2) ≡ length
     (bytes_of_data byte ++ flat_map bytes_of_data held) + 2 =
     omega (arith, length-append (bytes_of_data byte) (flat_map bytes_of_data held)) in
@@ -51,7 +52,7 @@ read_data done (byte ∷ held) more room =
     ∙ (ap (λ n. told n ((done ++ byte ∷ []) ++ held)) added
     ∙ ap (told (length (bytes_of_data byte ++ flat_map bytes_of_data held) + 2)) (append_assoc done (byte ∷ []) held))))
 
-pub text_read_back : (held more : List ℕ) → length held ≤ 4096
+pub text_read_back : (held more : List ℕ) → length held ≤ longest_text
     → feed_outcome Nothing (text_bytes held ++ more) ≡ record { taken = length (text_bytes held); frame = Some (Text held); rest = Nothing }
 unfolding rest_step text_bytes
 text_read_back held more room =
@@ -63,7 +64,7 @@ text_read_back held more room =
     ∙ (ap (λ f. ahead 1 (ahead 1 f)) (read_data [] held more (omega arith))
     ∙ ap (λ n. told n held) long)
 
-pub text_reads : (held : List ℕ) → length held ≤ 4096 → Reads (text_bytes held) (Text held ∷ []) Nothing
+pub text_reads : (held : List ℕ) → length held ≤ longest_text → Reads (text_bytes held) (Text held ∷ []) Nothing
 text_reads held room =
     reads_one (text_bytes held) (Text held) (ap (feed_outcome Nothing) (sym (append-nil (text_bytes held))) ∙ text_read_back held [] room)
 

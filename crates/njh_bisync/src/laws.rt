@@ -1,13 +1,14 @@
 //! Laws of the frame grammar, each the contract of a function that does nothing.
 ghost use Rattle.std.specs.Prelude.{◌≡◌, ◌≢◌, ℕ, ◌<◌, ◌≤◌, false, All, List, [], ◌∷◌, ◌++◌, length, Option, Some, None};
 ghost use Rattle.njh_bisync.specs.Frames.{Received, Text, LineUnit, Partial, Splits};
+ghost use Rattle.njh_bisync.specs.Limits.{longest_frame, longest_text};
 ghost use Rattle.njh_bisync.specs.Reading.{Rest, Nothing, InText, Reads};
 ghost use Rattle.njh_bisync.specs.ByteSteps.{ahead, feed_outcome, frames_after, rest_after, GoesOn};
 ghost use Rattle.njh_bisync.specs.code.PlainBytes.{kept_all};
 ghost use Rattle.njh_bisync.specs.Written.{text_bytes, control_bytes, control_frame};
 ghost use Rattle.njh_bisync.specs.declared.frame.Control.{Control};
 
-use crate::frame::LONGEST_TEXT;
+use crate::frame::{LONGEST_FRAME, LONGEST_TEXT};
 
 /// Bytes are units and then a rest, in exactly one way.
 pub fn one_splitting()
@@ -61,12 +62,18 @@ pub fn data_taken_together()
         ≡ ahead (length run) (feed_outcome (InText (kept_all held run) false) more) }
 {}
 
+/// The longest text and the longest frame have as many bytes as the definitions say.
+pub fn longest_are_as_defined()
+    ensures text { LONGEST_TEXT ≡ longest_text }
+    ensures frame { LONGEST_FRAME ≡ longest_frame }
+{}
+
 /// A text that was written is read back as that text and nothing else, whatever follows.
 pub fn text_reads_back()
-    ensures fed { (held more : List ℕ) → length held ≤ LONGEST_TEXT
+    ensures fed { (held more : List ℕ) → length held ≤ longest_text
         → feed_outcome Nothing (text_bytes held ++ more)
         ≡ record { taken = length (text_bytes held); frame = Some (Text held); rest = Nothing } }
-    ensures reads { (held : List ℕ) → length held ≤ LONGEST_TEXT
+    ensures reads { (held : List ℕ) → length held ≤ longest_text
         → Reads (text_bytes held) (Text held ∷ []) Nothing }
 {}
 

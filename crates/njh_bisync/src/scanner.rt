@@ -4,8 +4,8 @@ ghost use Rattle.std.specs.Prelude.{option_map, vec_len, vec_capacity};
 ghost use Rattle.njh_bisync.specs.ByteSteps.{rest_step, feed_outcome, kept_with};
 ghost use Rattle.njh_bisync.specs.code.PlainBytes.{fed_on, kept_all, plain_len};
 ghost use Rattle.njh_bisync.specs.Frames.{text_or_spoiled, IsShort};
+ghost use Rattle.njh_bisync.specs.Limits.{longest_text};
 ghost use Rattle.njh_bisync.specs.Reading.{Nothing, InText};
-ghost use Rattle.njh_bisync.specs.declared.frame.TheConstants.{LONGEST_TEXT};
 
 use crate::frame::{Frame, LONGEST_TEXT};
 use crate::line_byte::{ACK_0, DLE, ENQ, EOT, ETB, ETX, NAK, SOH, STX, SYN};
@@ -53,8 +53,8 @@ pub struct Scanner {
     place: Place,
     spoiled: bool,
     held: Vec<u8>,
-    ghost short: { vec_len held ≤ LONGEST_TEXT },
-    ghost room: { LONGEST_TEXT ≤ vec_capacity held },
+    ghost short: { vec_len held ≤ longest_text },
+    ghost room: { longest_text ≤ vec_capacity held },
 }
 
 impl Scanner {
@@ -276,7 +276,7 @@ impl Scanner {
 
     /// Keeps bytes one by one, in room that is there.
     fn push_all(&mut self, bytes: &[u8])
-        requires { vec_len self.old.held + length bytes.now ≤ LONGEST_TEXT }
+        requires { vec_len self.old.held + length bytes.now ≤ longest_text }
         ensures place { self.new.place ≡ self.old.place }
         ensures spoiled { self.new.spoiled ≡ self.old.spoiled }
         ensures held { self.new.held.items ≡ self.old.held.items ++ bytes.now }

@@ -1,9 +1,10 @@
 //! Frames written.
 ghost use Rattle.std.specs.Prelude.{◌≡◌, ◌+◌, ◌*◌, ◌≤◌, ◌++◌, ◌∷◌, [], length, flat_map, IsOk, OnOk, OnErr, vec_len};
 ghost use Rattle.std.specs.Prelude.{vec_capacity};
+ghost use Rattle.njh_bisync.specs.Limits.{longest_frame, longest_text};
 ghost use Rattle.njh_bisync.specs.Written.{bytes_of_data, text_bytes, control_bytes};
 
-use crate::frame::{Control, LONGEST_FRAME, LONGEST_TEXT};
+use crate::frame::Control;
 use crate::line_byte::{ACK_0, DLE, ENQ, ETB, NAK, SOH, STX};
 use crate::plain::plain_len;
 use std::alloc::AllocError;
@@ -17,7 +18,7 @@ const FRAMING: usize = 4;
 /// It ends in DLE ETB. Where `out` has the room for it no memory is asked for.
 #[tactic(auto, using(crate::proofs::WrittenLaws::lengths), unfolding(crate::specs::Written::text_bytes))]
 pub fn put_text(data: &[u8], out: &mut Vec<u8>) -> Result<(), AllocError>
-    requires { length «data».now ≤ LONGEST_TEXT }
+    requires { length «data».now ≤ longest_text }
     ensures ok { OnOk result (out.new.items ≡ out.old.items ++ text_bytes «data».now) }
     ensures err { OnErr result
         ((out.new.items ≡ out.old.items) × (vec_capacity out.new ≡ vec_capacity out.old)) }
@@ -25,7 +26,7 @@ pub fn put_text(data: &[u8], out: &mut Vec<u8>) -> Result<(), AllocError>
         → IsOk result × (vec_capacity out.new ≡ vec_capacity out.old) }
     ensures capacity { vec_capacity out.old ≤ vec_capacity out.new }
     ensures short { length (text_bytes «data».now) ≤ 4 + 2 * length «data».now }
-    ensures longest { length (text_bytes «data».now) ≤ LONGEST_FRAME }
+    ensures longest { length (text_bytes «data».now) ≤ longest_frame }
 {
     make_text_room(data, out)?;
     put_bytes(&[DLE, STX], out);
@@ -83,7 +84,7 @@ fn put_one(byte: u8, out: &mut Vec<u8>) -> Result<(), AllocError>
 /// How many bytes `put_text` appends.
 #[tactic(auto, using(crate::proofs::WrittenLaws::lengths))]
 fn text_len(data: &[u8]) -> usize
-    requires { length «data».now ≤ LONGEST_TEXT }
+    requires { length «data».now ≤ longest_text }
     ensures exact { result ≡ length (text_bytes «data».now) }
     ensures short { result ≤ 4 + 2 * length «data».now }
 {
@@ -94,7 +95,7 @@ fn text_len(data: &[u8]) -> usize
 /// Makes room for a text, whose bytes are counted only where the room for as many DLE might be missing.
 #[tactic(auto, using(crate::proofs::WrittenLaws::lengths))]
 fn make_text_room(data: &[u8], out: &mut Vec<u8>) -> Result<(), AllocError>
-    requires { length «data».now ≤ LONGEST_TEXT }
+    requires { length «data».now ≤ longest_text }
     ensures items { out.new.items ≡ out.old.items }
     ensures room { OnOk result (vec_len out.new + length (text_bytes «data».now) ≤ vec_capacity out.new) }
     ensures err { OnErr result (vec_capacity out.new ≡ vec_capacity out.old) }

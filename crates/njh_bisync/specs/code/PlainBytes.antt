@@ -1,6 +1,7 @@
 -- Bytes that are taken, and written, together.
 use Rattle.std.specs.Prelude.{ℕ, ◌+◌, ◌==◌, if◌then◌else◌, List, ◌++◌, length, drop, nat_lt, Option, Some, None}
 use Rattle.std.specs.List.{position_or_len}
+use Rattle.njh_bisync.specs.Limits.{longest_text}
 use Rattle.njh_bisync.specs.Frames.{Received}
 use Rattle.njh_bisync.specs.Reading.{Rest}
 use Rattle.njh_bisync.specs.ByteSteps.{Fed, ahead, feed_outcome}
@@ -12,7 +13,7 @@ plain_len bytes = position_or_len (λ byte. byte == 0x10) bytes
 -- the data of a text with more bytes, if they have room
 abbrev pub kept_all : Option (List ℕ) → List ℕ → Option (List ℕ)
 kept_all None bytes = None
-kept_all (Some held) bytes = if nat_lt 4096 (length held + length bytes) then None else Some (held ++ bytes)
+kept_all (Some held) bytes = if nat_lt longest_text (length held + length bytes) then None else Some (held ++ bytes)
 
 -- what is taken of a piece of which so much was taken first, with this frame, or none, and this rest then
 abbrev pub fed_on : ℕ → Option Received → Rest → List ℕ → Fed
