@@ -4,8 +4,7 @@ use Rattle.std.proofs.Common.{Result, List, length, slice_index, sym, ◌∙◌}
 use Rattle.std.proofs.lemmas.Bool.{cond-false, le-ltb, or_from}
 use Rattle.njh_record.specs.Bytes.{field}
 use Rattle.njh_ebcdic.specs.Names.{is_name}
-use Rattle.njh_nmr.specs.declared.nmr.TheConstants.{LONGEST_MESSAGE}
-use Rattle.njh_nmr.specs.Nodal.{Nodal, nodal_of, node_of, fields_of}
+use Rattle.njh_nmr.specs.Nodal.{Nodal, nodal_of, node_of, fields_of, longest_message}
 use Rattle.njh_nmr.specs.declared.fault.NmrFault.{NmrFault}
 use Rattle.njh_nmr.specs.declared.fault.NmrFault.TheVariants.{BadName}
 
@@ -20,14 +19,14 @@ either_bad true true to origin n e (inl bad) = cc
 either_bad true true to origin n e (inr bad) = cc
 
 -- where one of the nodes is no name, the record isn't one
-pub nodal_of-bad_name : (bytes : List ℕ) (e : NmrFault) → 30 ≤ length bytes → slice_index bytes 3 ≤ LONGEST_MESSAGE
+pub nodal_of-bad_name : (bytes : List ℕ) (e : NmrFault) → 30 ≤ length bytes → slice_index bytes 3 ≤ longest_message
     → slice_index bytes 3 ≤ length bytes - 30 → (Err e ≡ node_of (field 4 8 bytes)) ⊎ (Err e ≡ node_of (field 21 8 bytes))
     → Err e ≡ nodal_of bytes
 nodal_of-bad_name bytes e long few within bad =
     let len = slice_index bytes 3 in
     either_bad (is_name (field 4 8 bytes)) (is_name (field 21 8 bytes)) (field 4 8 bytes) (field 21 8 bytes) (fields_of len bytes) e bad
-    ∙ (sym (cond-false (ltb LONGEST_MESSAGE len || ltb (length bytes - 30) len) _ _
-    (or_from _ _ (le-ltb LONGEST_MESSAGE len few) (le-ltb (length bytes - 30) len within)))
+    ∙ (sym (cond-false (ltb longest_message len || ltb (length bytes - 30) len) _ _
+    (or_from _ _ (le-ltb longest_message len few) (le-ltb (length bytes - 30) len within)))
     ∙ sym (cond-false (ltb (length bytes) 30) _ _ (le-ltb (length bytes) 30 long)))
 
 named : (p : Bool) (name found : List ℕ) → ◌≡◌ {A = Result (List ℕ) NmrFault} (Ok name) (cond p (Ok found) (Err BadName)) → name ≡ found

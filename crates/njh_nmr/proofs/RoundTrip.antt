@@ -6,16 +6,15 @@ use Rattle.std.proofs.lemmas.Bool.{cond-true, cond-false, le-ltb, ltb-false, or_
 use Rattle.std.proofs.lemmas.Bool.{eqb-true}
 use Rattle.njh_record.specs.Bytes.{field}
 use Rattle.njh_ebcdic.specs.Names.{is_name}
-use Rattle.njh_nmr.specs.declared.nmr.TheConstants.{LONGEST_MESSAGE}
 use Rattle.njh_nmr.specs.declared.fault.NmrFault.{NmrFault}
 use Rattle.njh_nmr.specs.declared.fault.NmrFault.TheVariants.{TooShort, BadLength, BadName}
-use Rattle.njh_nmr.specs.Nodal.{Nodal, IsMessage, record_of, fields_of, cut_after_message, nodal_of}
+use Rattle.njh_nmr.specs.Nodal.{Nodal, IsMessage, record_of, fields_of, cut_after_message, nodal_of, longest_message}
 use Rattle.njh_nmr.proofs.Places.{record_of-nested, cut-nested}
 
 -- what makes bytes read as this message
 pub record IsRead (bytes : List ℕ) (n : Nodal) : Type 0 where
   pub long : 30 ≤ length bytes
-  pub few : slice_index bytes 3 ≤ LONGEST_MESSAGE
+  pub few : slice_index bytes 3 ≤ longest_message
   pub within : slice_index bytes 3 ≤ length bytes - 30
   pub to_named : is_name (field 4 8 bytes) ≡ true
   pub origin_named : is_name (field 21 8 bytes) ≡ true
@@ -33,12 +32,12 @@ read_parts false false true true m n is = (refl, refl, refl, refl, cc)
 IsRead-nodal_of : (bytes : List ℕ) (n : Nodal) → nodal_of bytes ≡ Ok n → IsRead bytes n
 IsRead-nodal_of bytes n is =
     let len = slice_index bytes 3 in
-    let parts = read_parts (ltb (length bytes) 30) (ltb LONGEST_MESSAGE len || ltb (length bytes - 30) len) (is_name (field 4 8 bytes))
+    let parts = read_parts (ltb (length bytes) 30) (ltb longest_message len || ltb (length bytes - 30) len) (is_name (field 4 8 bytes))
     (is_name (field 21 8 bytes)) (fields_of len bytes) n is in
-    let bounds = or_parts (ltb LONGEST_MESSAGE len) (ltb (length bytes - 30) len) parts.1 in
+    let bounds = or_parts (ltb longest_message len) (ltb (length bytes - 30) len) parts.1 in
     record {
       long = ltb-false (length bytes) 30 parts.0;
-      few = ltb-false LONGEST_MESSAGE len bounds.0;
+      few = ltb-false longest_message len bounds.0;
       within = ltb-false (length bytes - 30) len bounds.1;
       to_named = parts.2;
       origin_named = parts.3;
@@ -49,8 +48,8 @@ nodal_of-IsRead : (bytes : List ℕ) (n : Nodal) → IsRead bytes n → nodal_of
 nodal_of-IsRead bytes n read =
     let len = slice_index bytes 3 in
     cond-false (ltb (length bytes) 30) _ _ (le-ltb (length bytes) 30 read.long)
-    ∙ (cond-false (ltb LONGEST_MESSAGE len || ltb (length bytes - 30) len) _ _
-    (or_from _ _ (le-ltb LONGEST_MESSAGE len read.few) (le-ltb (length bytes - 30) len read.within))
+    ∙ (cond-false (ltb longest_message len || ltb (length bytes - 30) len) _ _
+    (or_from _ _ (le-ltb longest_message len read.few) (le-ltb (length bytes - 30) len read.within))
     ∙ (cond-true (is_name (field 4 8 bytes) && is_name (field 21 8 bytes)) _ _ (and_from _ _ read.to_named read.origin_named)
     ∙ ap Ok read.same))
 
@@ -113,7 +112,7 @@ message_with bytes to user origin message =
     }
 
 written : (bytes : ℕ × ℕ × ℕ × ℕ × ℕ) {to user origin : List ℕ} (message behind : List ℕ) → IsEight to → IsEight user
-    → IsEight origin → is_name to ≡ true → is_name origin ≡ true → length message ≤ LONGEST_MESSAGE → IsRead
+    → IsEight origin → is_name to ≡ true → is_name origin ≡ true → length message ≤ longest_message → IsRead
     (record_of (message_with bytes to user origin message) ++ behind) (message_with bytes to user origin message)
 written bytes message behind (eight a b c d e f g h) (eight i j k l m n o p) (eight q r s t u v w x) to origin few = record {
   long = omega (arith, length-append message behind);

@@ -1,7 +1,7 @@
 //! Reading, writing and answering nodal messages.
 
 ghost use Rattle.std.specs.Prelude.{◌≡◌, ◌+◌, ◌≤◌, IfOk, length};
-ghost use Rattle.njh_nmr.specs.Nodal.{node_of};
+ghost use Rattle.njh_nmr.specs.Nodal.{longest_message, node_of};
 ghost use Rattle.njh_record.specs.Bytes.{field};
 
 use crate::fault::NmrFault;
@@ -130,7 +130,7 @@ impl Nmr {
     /// Writes the record of what the hub says to a user at a node, in place of what was there. No message is made
     /// first.
     pub fn write_notice(hub: Name, node: Name, user: [u8; FIELD], text: &[u8], out: &mut Record)
-        requires { length text.now ≤ LONGEST_MESSAGE }
+        requires { length text.now ≤ longest_message }
         ensures bytes { out.new.items ≡ notice_record hub (record { node = node; user = user }) text.now }
         ensures said { out.new.items ≡ record_of (notice_to (record { node = node; user = user }) hub text.now) }
     {
@@ -168,7 +168,7 @@ impl Nmr {
     /// The message's bytes.
     pub fn message(&self) -> &[u8]
         ensures value { result.now ≡ self.now.message }
-        ensures few { length result.now ≤ LONGEST_MESSAGE }
+        ensures few { length result.now ≤ longest_message }
     {
         &self.message
     }
@@ -200,7 +200,7 @@ fn name_at(bytes: &[u8], place: usize) -> Result<Name, NmrFault>
 
 /// A message in room of its own.
 fn message_of(text: &[u8]) -> ArrayVec<u8, LONGEST_MESSAGE>
-    requires { length text.now ≤ LONGEST_MESSAGE }
+    requires { length text.now ≤ longest_message }
     ensures { result.items ≡ text.now }
 {
     let mut message = ArrayVec::new();
