@@ -1,21 +1,28 @@
 -- A line: its session, the last frame that it sent, NAKs aside, and what waits to be sent.
 use Rattle.std.specs.Prelude.{ℕ, ◌+◌, ◌%◌, ◌≤◌, true, false, List, [], ◌∷◌, ◌++◌, length, drop, nat_lt, cond}
-use Rattle.njh_bisync.specs.declared.frame.TheConstants.{LONGEST_FRAME}
+use Rattle.njh_bisync.specs.Limits.{longest_frame}
 use Rattle.njh_line.specs.declared.config.Config.{Config}
 use Rattle.njh_block.specs.declared.answer.Answer.{Answer}
-use Rattle.njh_line.specs.declared.line.TheConstants.{ANSWERS, MESSAGES}
 use Rattle.njh_line.specs.declared.sent.Sent as declared_sent
 use Rattle.njh_line.specs.declared.sent.Sent.TheVariants as went
 use Rattle.njh_line.specs.declared.session.Session.{Session}
 use Rattle.njh_line.specs.LineTable.{Input, table_outcome}
 use Rattle.njh_line.specs.Sessions.{fresh, down_session}
 
+-- how many answers may wait: the product's own limit
+abbrev pub most_answers : ℕ
+most_answers = 32
+
+-- how many nodal messages may wait: the product's own limit
+abbrev pub most_messages : ℕ
+most_messages = 64
+
 pub record LineState : Type 0 where
   pub config : Config
   pub session : Session
   pub last : List ℕ
-  pub answers : List Answer  -- 32 at most
-  pub messages : List (List ℕ)  -- 64 at most
+  pub answers : List Answer
+  pub messages : List (List ℕ)
 
 abbrev pub fresh_line : Config → LineState
 fresh_line config = record { config = config; session = fresh; last = []; answers = []; messages = [] }
@@ -44,8 +51,8 @@ sent_value (went.Block frame fcs) = Block frame.now fcs
 sent_value (went.Frame frame) = Frame frame.now
 
 abbrev pub IsShort : LastSent → Type 0
-IsShort (Block frame fcs) = length frame ≤ LONGEST_FRAME
-IsShort (Frame frame) = length frame ≤ LONGEST_FRAME
+IsShort (Block frame fcs) = length frame ≤ longest_frame
+IsShort (Frame frame) = length frame ≤ longest_frame
 IsShort Nothing = Unit {0}
 IsShort Nak = Unit {0}
 IsShort Again = Unit {0}
@@ -76,12 +83,12 @@ after_end line = with_session (down_session line.session) line
 -- an answer waits, where there is room for it
 abbrev pub with_answer : Answer → LineState → LineState
 with_answer a line =
-    record line { answers = cond (nat_lt (length line.answers) ANSWERS) (line.answers ++ a ∷ []) line.answers }
+    record line { answers = cond (nat_lt (length line.answers) most_answers) (line.answers ++ a ∷ []) line.answers }
 
 -- a nodal message waits, where there is room for it
 abbrev pub with_message : List ℕ → LineState → LineState
 with_message m line =
-    record line { messages = cond (nat_lt (length line.messages) MESSAGES) (line.messages ++ m ∷ []) line.messages }
+    record line { messages = cond (nat_lt (length line.messages) most_messages) (line.messages ++ m ∷ []) line.messages }
 
 abbrev pub without_answer : LineState → LineState
 without_answer line = record line { answers = drop 1 line.answers }

@@ -36,10 +36,9 @@ pub struct Line {
 
 impl Model for Line {
     ghost use Rattle.std.specs.Prelude.{◌≡◌, ◌≤◌, length, map, vec_capacity};
-    ghost use Rattle.njh_bisync.specs.declared.frame.TheConstants.{LONGEST_FRAME};
+    ghost use Rattle.njh_bisync.specs.Limits.{longest_frame};
     ghost use Rattle.njh_line.specs.Sessions.{IsSession, IsConfig};
-    ghost use Rattle.njh_line.specs.Lines.{LineState};
-    ghost use Rattle.njh_line.specs.declared.line.TheConstants.{ANSWERS, MESSAGES};
+    ghost use Rattle.njh_line.specs.Lines.{LineState, most_answers, most_messages};
 
     ghost Value = { LineState };
 
@@ -52,13 +51,14 @@ impl Model for Line {
     } };
 
     ghost invariant = { λ line.
-        (line.answers.capacity ≡ ANSWERS) × (line.messages.capacity ≡ MESSAGES)
-        × (LONGEST_FRAME ≤ vec_capacity line.last) × (length line.last.items ≤ LONGEST_FRAME)
+        (line.answers.capacity ≡ most_answers) × (line.messages.capacity ≡ most_messages)
+        × (longest_frame ≤ vec_capacity line.last) × (length line.last.items ≤ longest_frame)
         × IsSession line.session × IsConfig line.config };
 }
 
 impl Line {
     ghost use Rattle.std.specs.Prelude.{◌≡◌, ◌+◌, ◌≤◌, IfOk, length, option_map, slice_get};
+    ghost use Rattle.njh_bisync.specs.Limits.{longest_frame};
     ghost use Rattle.njh_line.specs.Sessions.{IsConfig, IsSession};
     ghost use Rattle.njh_line.specs.LineTable.{table_outcome, input_value};
     ghost use Rattle.njh_line.specs.Lines.{IsShort, after_end, after_input, after_sending, fresh_line, sent_value};
@@ -138,7 +138,7 @@ impl Line {
     /// The last transmission: the last frame that was sent and was no NAK; none at first.
     pub fn last(&self) -> &[u8]
         ensures same { result.now ≡ self.now.last }
-        ensures short { length result.now ≤ LONGEST_FRAME }
+        ensures short { length result.now ≤ longest_frame }
     {
         &self.last
     }
