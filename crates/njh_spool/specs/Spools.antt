@@ -6,7 +6,7 @@ use Rattle.njh_record.specs.Stored.{Stored}
 use Rattle.njh_record.specs.declared.Kind.{Kind}
 use Rattle.njh_spool.specs.declared.SpoolFault.{SpoolFault}
 use Rattle.njh_spool.specs.declared.SpoolFault.TheVariants.{QuotaFull, TooManyFiles, NoSuchFile}
-use Rattle.njh_table.specs.declared.limits.TheConstants.{MAX_QUOTA, MAX_FILES}
+use Rattle.njh_table.specs.Limits.{max_quota, max_files}
 use Rattle.njh_spool.specs.CustomerSpool.{CustomerSpool, empty_spool, used_blocks, has_file_room, has_block}
 use Rattle.njh_spool.specs.CustomerSpool.{partial_numbered, whole_numbered, has_room_for}
 
@@ -28,8 +28,8 @@ pub record IsSound (s : CustomerSpool) : Type 0 where
   pub within_limit : length s.whole + length s.partial ≤ s.limit
   pub apart : (n : ℕ) → files_numbered n s ≤ 1
   pub numbered : (n : ℕ) → s.limit ≤ n → files_numbered n s ≡ 0
-  pub quota_limit : s.quota ≤ MAX_QUOTA
-  pub files_limit : s.limit ≤ MAX_FILES
+  pub quota_limit : s.quota ≤ max_quota
+  pub files_limit : s.limit ≤ max_files
 
 -- a fault where a test fails
 abbrev pub fault_unless : Bool → SpoolFault → Option SpoolFault

@@ -2,6 +2,7 @@
 
 ghost use Rattle.std.specs.Prelude.{◌≡◌, ◌+◌, ◌*◌, ◌<◌, ◌≤◌, length, replicate, slice_set, IfOk};
 ghost use Rattle.njh_spool.specs.code.Slots.{slot_of, place_of, free_slot};
+ghost use Rattle.njh_table.specs.Limits.{max_files};
 
 use crate::file_id::FileId;
 use crate::file_slot::FileSlot;
@@ -32,7 +33,7 @@ impl Model for FileSlots {
 impl FileSlots {
     /// Slots in which no file is, for so many customers. It takes all the memory that they ever have.
     pub fn open(alloc: Global, customers: u32) -> Result<Self, AllocError>
-        ensures { IfOk result (λ slots. slots ≡ replicate (MAX_FILES * customers) free_slot) }
+        ensures { IfOk result (λ slots. slots ≡ replicate (max_files * customers) free_slot) }
     {
         let mut rows = Vec::with_capacity(alloc, customers as usize)?;
         for _done in 0..customers {
@@ -43,7 +44,7 @@ impl FileSlots {
 
     /// The slot of a customer's file, a free one where the number can be no file's.
     pub fn at(&self, customer: u16, id: FileId) -> &FileSlot
-        requires { MAX_FILES * customer + MAX_FILES ≤ length self.now }
+        requires { max_files * customer + max_files ≤ length self.now }
         ensures { result.now ≡ slot_of self.now customer id }
     {
         self.rows[usize::from(customer)].at(id.number())
@@ -51,8 +52,8 @@ impl FileSlots {
 
     /// Puts a slot in the place of a customer's file.
     pub fn set(&mut self, customer: u16, id: FileId, slot: FileSlot)
-        requires all { MAX_FILES * customer + MAX_FILES ≤ length self.old }
-        requires number { id < MAX_FILES }
+        requires all { max_files * customer + max_files ≤ length self.old }
+        requires number { id < max_files }
         ensures { self.new ≡ slice_set self.old (place_of customer id) slot }
     {
         self.rows[usize::from(customer)].set(id.number(), slot);

@@ -5,6 +5,7 @@ ghost use Rattle.std.specs.Prelude.{slice_index_or, false, IfOk, MatchOption};
 ghost use Rattle.std.specs.Vec.{vec_capacity};
 ghost use Rattle.std.specs.List.{list_any};
 ghost use Rattle.njh_spool.specs.code.NumberEntries.{is_file_entry, numbers_in, before, IsIndexed};
+ghost use Rattle.njh_table.specs.Limits.{max_files};
 
 use njh_table::MAX_FILES;
 use std::alloc::{AllocError, Global};
@@ -42,12 +43,12 @@ fn is_number(entry: u16) -> bool
 
 /// Makes places reach to a number's, where no number stands yet.
 fn reach(places: &mut Vec<u16>, number: u16)
-    requires room { vec_capacity places.old ≡ MAX_FILES }
-    requires few { length places.old.items ≤ MAX_FILES }
-    requires number { number < MAX_FILES }
+    requires room { vec_capacity places.old ≡ max_files }
+    requires few { length places.old.items ≤ max_files }
+    requires number { number < max_files }
     ensures same { (n : ℕ) → slice_index_or places.new.items n 0 ≡ slice_index_or places.old.items n 0 }
     ensures longer { length places.old.items ≤ length places.new.items }
-    ensures few { length places.new.items ≤ MAX_FILES }
+    ensures few { length places.new.items ≤ max_files }
     ensures there { number < length places.new.items }
     ensures room { vec_capacity places.new ≡ vec_capacity places.old }
 {
@@ -120,9 +121,9 @@ impl Entries {
         requires { IsIndexed self.now }
         ensures { MatchOption result
             ((p : ℕ) → p < length self.now.entries.items → slice_index_or self.now.entries.items p 0 ≡ number
-            → MAX_FILES ≤ number)
+            → max_files ≤ number)
             (λ place. (place < length self.now.entries.items) × (slice_index_or self.now.entries.items place 0 ≡ number)
-            × (number < MAX_FILES)) }
+            × (number < max_files)) }
     {
         if !is_number(number) {
             return None;
@@ -138,7 +139,7 @@ impl Entries {
     fn clear(&mut self, place: usize)
         requires index { IsIndexed self.old }
         requires within { place < length self.old.entries.items }
-        requires number { slice_index_or self.old.entries.items place 0 < MAX_FILES }
+        requires number { slice_index_or self.old.entries.items place 0 < max_files }
         ensures index { IsIndexed self.new }
         ensures others { numbers_in self.new.entries.items
             ≡ filter (λ m. not (m == slice_index_or self.old.entries.items place 0))
@@ -164,8 +165,8 @@ impl Entries {
     /// Puts a number last.
     pub fn push(&mut self, number: u16)
         requires index { IsIndexed self.old }
-        requires room { length self.old.entries.items < MAX_FILES }
-        requires number { number < MAX_FILES }
+        requires room { length self.old.entries.items < max_files }
+        requires number { number < max_files }
         requires absent { list_any (λ m. m == number) self.old.entries.items ≡ false }
         ensures index { IsIndexed self.new }
         ensures entries { self.new.entries.items ≡ self.old.entries.items ++ number ∷ [] }

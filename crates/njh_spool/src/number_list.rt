@@ -1,9 +1,9 @@
 //! The numbers of some files of one customer, in order.
 
 ghost use Rattle.std.specs.Prelude.{◌≡◌, IfOk, ℕ, ◌==◌, ◌<◌, [], ◌∷◌, ◌++◌, not, filter, count_by, length, slice_index};
+ghost use Rattle.njh_table.specs.Limits.{max_files};
 
 use crate::number_entries::Entries;
-use njh_table::MAX_FILES;
 use std::alloc::{AllocError, Global};
 use std::marker::Model;
 
@@ -50,8 +50,8 @@ impl Numbers {
 
     /// Puts a number last.
     pub fn push(&mut self, number: u16)
-        requires room { length self.old < MAX_FILES }
-        requires number { number < MAX_FILES }
+        requires room { length self.old < max_files }
+        requires number { number < max_files }
         requires absent { count_by (λ m. m == number) self.old ≡ 0 }
         ensures { self.new ≡ self.old ++ number ∷ [] }
     {

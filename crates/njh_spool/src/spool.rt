@@ -10,6 +10,7 @@ ghost use Rattle.njh_spool.specs.CustomerSpool.{empty_spool, used_blocks};
 ghost use Rattle.njh_spool.specs.Headers.{summary};
 ghost use Rattle.njh_spool.specs.Quotas.{IsWithinLimits};
 ghost use Rattle.njh_spool.specs.Spools.{spool_at, files_numbered, IsSound};
+ghost use Rattle.njh_table.specs.Limits.{max_capacity, max_customers};
 
 use crate::SpoolFault;
 use crate::customer_files::{CustomerFiles, open_all};
@@ -19,7 +20,7 @@ use crate::file_slots::FileSlots;
 use crate::quota::Quota;
 use crate::slot_places::slot_at;
 use crate::store::Store;
-use njh_table::{MAX_CAPACITY, MAX_CUSTOMERS, MAX_FILES};
+use njh_table::MAX_FILES;
 use std::alloc::Global;
 use std::marker::Model;
 
@@ -45,10 +46,10 @@ impl Model for Spool {
 
 /// The blocks that quotas add to.
 fn blocks_of_all(quotas: &[Quota]) -> u32
-    requires few { length quotas.now ≤ MAX_CUSTOMERS }
+    requires few { length quotas.now ≤ max_customers }
     requires limits { All IsWithinLimits quotas.now }
     ensures sum { result ≡ sum_by (λ q. q.blocks) quotas.now }
-    ensures most { result ≤ MAX_CAPACITY }
+    ensures most { result ≤ max_capacity }
 {
     let mut blocks = 0;
     for quota in quotas {
@@ -61,7 +62,7 @@ impl Spool {
     /// A spool without files, with these quotas in the customers' order. It takes all the memory that it ever has.
     pub fn open(alloc: Global, quotas: &[Quota]) -> Result<Self, SpoolFault>
         requires some { 0 < length quotas.now }
-        requires few { length quotas.now ≤ MAX_CUSTOMERS }
+        requires few { length quotas.now ≤ max_customers }
         requires limits { All IsWithinLimits quotas.now }
         ensures ok { IfOk result (λ spool. spool ≡ map (λ q. empty_spool q.blocks q.files) quotas.now) }
         ensures memory { IsOkUnless result SpoolFault.Memory }

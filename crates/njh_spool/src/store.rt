@@ -13,12 +13,12 @@ ghost use Rattle.std.specs.Prelude.{◌≡◌, ℕ, ◌+◌, ◌<◌, ◌≤◌,
 ghost use Rattle.njh_record.specs.Bytes.{field, with_field};
 ghost use Rattle.njh_spool.specs.code.Chains.{empty_chain, chain_at, with_chain, with_bytes, blocks_for, blocks_of};
 ghost use Rattle.njh_spool.specs.code.Chains.{blocks_used, Grows, IsMark, IsNear};
+ghost use Rattle.njh_table.specs.Limits.{max_capacity};
 
 use block::{BLOCK_DATA, Block};
 use block_mark::Mark;
 pub use laws::each_block_lies_once;
 use njh_record::Record;
-use njh_table::MAX_CAPACITY;
 use slab::Slab;
 use slot::{Slot, empty_slots};
 use std::alloc::{AllocError, Global};
@@ -46,7 +46,7 @@ impl Model for Store {
 impl Store {
     /// A store of so many blocks and slots, with an empty string in each slot.
     pub fn open(alloc: Global, capacity: u32, slots: u32) -> Result<Self, AllocError>
-        requires { capacity ≤ MAX_CAPACITY }
+        requires { capacity ≤ max_capacity }
         ensures { IfOk result (λ store. store ≡ record { capacity = capacity; chains = replicate slots empty_chain }) }
     {
         let blocks = Slab::with_capacity(alloc, capacity as usize)?;

@@ -5,7 +5,7 @@ use Rattle.std.specs.List.{flat_map, All}
 use Rattle.slab.specs.Slab.{Slab, get, slab_len}
 use Rattle.njh_spool.specs.declared.store.block.Block.{Block}
 use Rattle.njh_spool.specs.declared.store.slot.Slot.{Slot}
-use Rattle.njh_table.specs.declared.limits.TheConstants.{MAX_CAPACITY}
+use Rattle.njh_table.specs.Limits.{max_capacity}
 use Rattle.njh_spool.specs.code.Chains.{Chain, blocks_for}
 
 -- a block's link
@@ -91,5 +91,5 @@ pub record IsChained (blocks : Slab Block) (slots : List Slot) (capacity : ℕ) 
   pub room : capacity ≤ blocks.capacity
   pub full : (key : ℕ) → length (data_at blocks key) ≡ 252 * blocks_at blocks key
   pub last : All (KnowsLast blocks) slots
-  pub small : capacity ≤ MAX_CAPACITY
+  pub small : capacity ≤ max_capacity
   pub keys_fit : blocks.capacity ≤ 2 ^ 32

@@ -1,7 +1,7 @@
 -- How the slots of all files lie in memory: in a row for each customer, whose last slots may not be written yet.
 use Rattle.std.specs.Prelude.{◌≡◌, ℕ, ◌-◌, List, ◌++◌, length, replicate}
 use Rattle.std.specs.List.{flat_map}
-use Rattle.njh_table.specs.declared.limits.TheConstants.{MAX_FILES}
+use Rattle.njh_table.specs.Limits.{max_files}
 use Rattle.njh_spool.specs.declared.file_slot.FileSlot.{FileSlot}
 use Rattle.njh_spool.specs.code.Slots.{free_slot}
 
@@ -15,4 +15,4 @@ slots_in rows = flat_map (λ row. row) rows
 
 -- a row has a slot for each file that a customer may have
 abbrev pub IsWholeRow : List FileSlot → Type 0
-IsWholeRow row = length row ≡ MAX_FILES
+IsWholeRow row = length row ≡ max_files

@@ -7,7 +7,7 @@ use Rattle.njh_record.specs.declared.Kind.{Kind}
 use Rattle.njh_record.specs.declared.Kind.TheVariants.{In}
 use Rattle.njh_spool.specs.declared.State.{State}
 use Rattle.njh_spool.specs.declared.State.TheVariants.{Ready}
-use Rattle.njh_table.specs.declared.limits.TheConstants.{MAX_CUSTOMERS, MAX_QUOTA, MAX_FILES}
+use Rattle.njh_table.specs.Limits.{max_customers, max_quota, max_files}
 use Rattle.njh_spool.specs.declared.file_slot.Stage.{Stage}
 use Rattle.njh_spool.specs.declared.file_slot.Stage.TheVariants.{Free, Partial, Whole}
 use Rattle.njh_spool.specs.declared.file_slot.FileSlot.{FileSlot}
@@ -38,14 +38,14 @@ no_files = record { quota = 0; limit = 0; used = 0; whole = []; partial = [] }
 
 -- the place of a customer's file in the lists of slots and chains
 abbrev pub place_of : ℕ → ℕ → ℕ
-place_of c n = MAX_FILES * c + n
+place_of c n = max_files * c + n
 
 -- the slot and the chain of a customer's file
 abbrev pub slot_of : List FileSlot → ℕ → ℕ → FileSlot
-slot_of slots c n = cond (nat_lt n MAX_FILES) (slice_index_or slots (place_of c n) free_slot) free_slot
+slot_of slots c n = cond (nat_lt n max_files) (slice_index_or slots (place_of c n) free_slot) free_slot
 
 abbrev pub chain_of : List Chain → ℕ → ℕ → Chain
-chain_of chains c n = cond (nat_lt n MAX_FILES) (slice_index_or chains (place_of c n) empty_chain) empty_chain
+chain_of chains c n = cond (nat_lt n max_files) (slice_index_or chains (place_of c n) empty_chain) empty_chain
 
 -- what a slot and its chain are: a file, or nothing
 pub record Content : Type 0 where
@@ -127,7 +127,7 @@ pub record IsFile (slot : FileSlot) (chain : Chain) : Type 0 where
   pub bytes : chain.bytes ≡ packed_bytes (unpacked_records slot.count chain.bytes)
   pub short : All IsShort (unpacked_records slot.count chain.bytes)
   pub free : is_free slot.stage ≡ true → slot.count ≡ 0
-  pub small : length chain.bytes ≤ 252 * MAX_QUOTA
+  pub small : length chain.bytes ≤ 252 * max_quota
   pub places : ArePlaces (unpacked_records slot.count chain.bytes) chain.keys slot.places
 
 -- a whole file's slot keeps what the headers of its records say
@@ -137,9 +137,9 @@ KeepsHeaders slot chain =
 
 -- what always holds of the spool
 pub record IsKept (store : StoreValue) (slots : List FileSlot) (customers : List CustomerFiles) : Type 0 where
-  pub few : length customers ≤ MAX_CUSTOMERS
-  pub all_slots : length slots ≡ MAX_FILES * length customers
-  pub all_chains : length store.chains ≡ MAX_FILES * length customers
+  pub few : length customers ≤ max_customers
+  pub all_slots : length slots ≡ max_files * length customers
+  pub all_chains : length store.chains ≡ max_files * length customers
   pub blocks : blocks_used store ≡ sum_by (λ own. own.used) customers
   pub quotas : sum_by (λ own. own.quota) customers ≤ store.capacity
   pub own : (c : ℕ) → c < length customers → IsOwn (slice_index_or customers c no_files) (contents slots store.chains c)
