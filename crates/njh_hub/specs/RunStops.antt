@@ -1,7 +1,7 @@
 -- How far a run came, and why it stopped.
 use Rattle.std.specs.Prelude.{◌≡◌, ℕ, ◌<◌, ◌≤◌, ◌⊎◌, List, [], ◌∷◌, ◌++◌, length, Result, Ok, Err, OnOk, IfErr, Vec}
 use Rattle.std.specs.Prelude.{vec_capacity, ⊤, IsSome, IsSomeAnd}
-use Rattle.njh_bisync.specs.declared.frame.TheConstants.{LONGEST_FRAME}
+use Rattle.njh_bisync.specs.Limits.{longest_frame}
 use Rattle.njh_table.specs.declared.LineId.{LineId}
 use Rattle.njh_table.specs.NewRoutes.{new_routes_of, routes_checked}
 use Rattle.njh_hub.specs.declared.event.Event.{Event}
@@ -75,12 +75,12 @@ pub record IsEventRun {S A Z : Type 0} (took : S → S → List (LineId × List 
   pub handed : Handed took refused result sink new_sink (hub_run parts (done (event ∷ []) result)).sent
   pub known : OnOk result (IsNamed parts event)
   pub lines : SameLines parts new
-  pub room : OnOk result (IsSome (line_of_event event) ⊎ (LONGEST_FRAME ≤ vec_capacity out)
-      → LONGEST_FRAME ≤ vec_capacity new_out)
+  pub room : OnOk result (IsSome (line_of_event event) ⊎ (longest_frame ≤ vec_capacity out)
+      → longest_frame ≤ vec_capacity new_out)
   pub one : IfErr result (IsWithinOne event)
   pub behind : IfErr result (λ fault. fault.events ≡ 1 → IsNamed parts event)
   pub causes : IfErr result (λ fault. IfHub fault.cause (λ why. (fault.events ≡ 0) × IsRefused parts event why))
   pub memory : IfErr result (λ fault. fault.cause ≡ Hub Memory → (fault.events ≡ 0) × (fault.bytes ≡ 0) ×
-      (IsRoutes event ⊎ (vec_capacity out < LONGEST_FRAME)))
+      (IsRoutes event ⊎ (vec_capacity out < longest_frame)))
   pub counts : count sink ≤ count new_sink
   pub counted : IfErr result (λ fault. fault.cause ≡ Sink → IsCounted (count sink) (count new_sink))

@@ -1,7 +1,7 @@
 -- A step on one line of the hub, and what comes of it.
 use Rattle.std.specs.Prelude.{◌≡◌, ◌≢◌, ℕ, ◌+◌, ◌<◌, ◌≤◌, List, slice_set, Result, Err, OnOk, OnErr, Vec, vec_len}
 use Rattle.std.specs.Prelude.{vec_capacity}
-use Rattle.njh_bisync.specs.declared.frame.TheConstants.{LONGEST_FRAME}
+use Rattle.njh_bisync.specs.Limits.{longest_frame}
 use Rattle.njh_table.specs.declared.LineId.{LineId}
 use Rattle.njh_hub.specs.declared.fault.HubFault.{HubFault}
 use Rattle.njh_hub.specs.declared.fault.HubFault.TheVariants.{UnknownLine, Memory}
@@ -22,9 +22,9 @@ pub record IsStep {A Z : Type 0} (parts : List Part) (id : LineId) (after : Part
   pub others : (c : ℕ) → c ≢ id.customer → part c new ≡ part c parts
   pub frame : OnOk result (new_out.items ≡ sent)
   pub lines : SameLines parts new
-  pub room : OnOk result (LONGEST_FRAME ≤ vec_capacity new_out)
+  pub room : OnOk result (longest_frame ≤ vec_capacity new_out)
   pub known : OnOk result (HasLine parts id)
   pub unknown : (HasLine parts id → ⊥) → result ≡ Err UnknownLine
   pub memory : HasLine parts id
-      → OnErr result ((result ≡ Err Memory) × (vec_capacity out < vec_len out + LONGEST_FRAME))
+      → OnErr result ((result ≡ Err Memory) × (vec_capacity out < vec_len out + longest_frame))
   pub err : OnErr result ((new ≡ parts) × (new_out.items ≡ out.items) × (vec_capacity new_out ≡ vec_capacity out))

@@ -1,7 +1,7 @@
 -- One turn of a wire: what its read answered, what the hub hears of that, and what passes on the wire.
 use Rattle.std.specs.Prelude.{◌≡◌, ℕ, ◌-◌, ◌<◌, ◌≤◌, List, [], ◌∷◌, length, map, take, Option, Some, None, Result, Ok}
 use Rattle.std.specs.Prelude.{Err, IsSome, ⊤, Vec, vec_capacity, slice_set}
-use Rattle.njh_bisync.specs.declared.frame.TheConstants.{LONGEST_FRAME}
+use Rattle.njh_bisync.specs.Limits.{longest_frame}
 use Rattle.njh_table.specs.declared.LineId.{LineId}
 use Rattle.njh_hub.specs.declared.event.Event.{Event}
 use Rattle.njh_hub.specs.declared.event.Event.TheVariants.{Bytes, Tick, Garbled, Lost, Routes}
@@ -112,7 +112,7 @@ pub record IsTaken {Z : Type 0} (parts : List Part) (id : LineId) (after : Part)
   pub hub : new ≡ slice_set parts id.customer after
   pub frame : new_out.items ≡ sent
   pub lines : SameLines parts new
-  pub room : LONGEST_FRAME ≤ vec_capacity new_out
+  pub room : longest_frame ≤ vec_capacity new_out
 
 -- What came of an event of a wire. `cut` says whether a write failed, and how many bytes of the event were used then.
 pub record IsDone {S : Type 0} (passed : S → S → List WireAct → Type 0) (count : S → ℕ) (parts : List Part)

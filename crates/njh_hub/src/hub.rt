@@ -2,6 +2,7 @@
 
 ghost use Rattle.std.specs.Prelude.{◌≡◌, ℕ, ◌+◌, ◌<◌, ◌≤◌, ◌↔◌, length, IsTrue, OnOk, OnErr, IfOk, IsOk, Err};
 ghost use Rattle.std.specs.Vec.{vec_len, vec_capacity};
+ghost use Rattle.njh_bisync.specs.Limits.{longest_frame};
 ghost use Rattle.njh_customer.specs.Customer.{IsMarked};
 ghost use Rattle.njh_customer.specs.Part.{part_after_bytes, part_after_signal};
 ghost use Rattle.njh_spool.specs.CustomerSpool.{used_blocks};
@@ -195,7 +196,7 @@ impl Hub {
         ensures rests { OnOk result (id.number < length (part id.customer self.now).rests) }
         ensures unknown { ¬ HasLine self.now id → result ≡ Err HubFault.UnknownLine }
         ensures memory { HasLine self.now id →
-            OnErr result ((result ≡ Err HubFault.Memory) × (vec_capacity out.old < vec_len out.old + LONGEST_FRAME)) }
+            OnErr result ((result ≡ Err HubFault.Memory) × (vec_capacity out.old < vec_len out.old + longest_frame)) }
         ensures err { OnErr result ((out.new.items ≡ out.old.items) × (vec_capacity out.new ≡ vec_capacity out.old)) }
     {
         if !self.is_line(id) {

@@ -2,6 +2,7 @@
 
 ghost use Rattle.std.specs.Prelude.{◌≡◌, ℕ, ◌<◌, ◌≤◌, [], ◌∷◌, length, Option, OnOk, OnErr, IfOk};
 ghost use Rattle.std.specs.Vec.{vec_capacity};
+ghost use Rattle.njh_bisync.specs.Limits.{longest_frame};
 ghost use Rattle.njh_customer.specs.Part.{part_after_bytes, part_after_signal};
 ghost use Rattle.njh_hub.specs.declared.event.Event.TheVariants.{Bytes, Lost};
 ghost use Rattle.njh_hub.specs.OwnEvents.{event_by};
@@ -37,13 +38,13 @@ pub struct TurnRoom {
 impl Model for TurnRoom {
     ghost use Rattle.std.specs.Prelude.{⊤, ◌<◌, ◌≤◌, length};
     ghost use Rattle.std.specs.Vec.{vec_capacity};
-    ghost use Rattle.njh_bisync.specs.declared.frame.TheConstants.{LONGEST_FRAME};
+    ghost use Rattle.njh_bisync.specs.Limits.{longest_frame};
 
     ghost Value = { ⊤ };
 
     ghost view = { λ room. tt };
 
-    ghost invariant = { λ room. (0 < length room.buffer.items) × (LONGEST_FRAME ≤ vec_capacity room.out) };
+    ghost invariant = { λ room. (0 < length room.buffer.items) × (longest_frame ≤ vec_capacity room.out) };
 }
 
 /// What a read answered, and the buffer that it was given: bytes that came stand at its front.
@@ -104,14 +105,14 @@ fn act_on<W: Wire>(
     requires within { IfOk answer.reading (IsReading (length answer.buffer.now)) }
     requires known { HasLine hub.old id }
     requires few { quiet < 10 }
-    requires room { LONGEST_FRAME ≤ vec_capacity out.old }
+    requires room { longest_frame ≤ vec_capacity out.old }
     ensures heard { let heard = heard_of answer.entry.reading answer.entry.buffer.now in
         (cut : Option ℕ)
         × IsHeard W.passed W.count hub.old (wire_event id quiet heard) cut wire.old hub.new wire.new }
     ensures quiets { result ≡ quiet_after quiet (heard_of answer.entry.reading answer.entry.buffer.now) }
     ensures few { result < 10 }
     ensures lines { SameLines hub.old hub.new }
-    ensures room { LONGEST_FRAME ≤ vec_capacity out.new }
+    ensures room { longest_frame ≤ vec_capacity out.new }
 {
     match answer.reading {
         Ok(Reading::Bytes(count)) => {
@@ -141,11 +142,11 @@ fn act_on<W: Wire>(
 /// Hands the hub bytes of a line and writes each frame that it sends. Where a write fails the line is lost.
 fn pass_bytes<W: Wire>(hub: &mut Hub, id: LineId, piece: &[u8], wire: &mut W, out: &mut Vec<u8>)
     requires known { HasLine hub.old id }
-    requires room { LONGEST_FRAME ≤ vec_capacity out.old }
+    requires room { longest_frame ≤ vec_capacity out.old }
     ensures done { (cut : Option ℕ)
         × IsDone W.passed W.count hub.old (Bytes id piece.now) cut wire.old hub.new wire.new }
     ensures lines { SameLines hub.old hub.new }
-    ensures room { LONGEST_FRAME ≤ vec_capacity out.new }
+    ensures room { longest_frame ≤ vec_capacity out.new }
 {
     no_bytes_do_nothing();
     steps_follow_bytes();
@@ -167,11 +168,11 @@ fn pass_bytes<W: Wire>(hub: &mut Hub, id: LineId, piece: &[u8], wire: &mut W, ou
 /// Hands the hub a signal on a line and writes the frame that it sends. Where the write fails the line is lost.
 fn pass_signal<W: Wire>(hub: &mut Hub, id: LineId, signal: Signal, wire: &mut W, out: &mut Vec<u8>)
     requires known { HasLine hub.old id }
-    requires room { LONGEST_FRAME ≤ vec_capacity out.old }
+    requires room { longest_frame ≤ vec_capacity out.old }
     ensures done { (cut : Option ℕ)
         × IsDone W.passed W.count hub.old (event_by signal id) cut wire.old hub.new wire.new }
     ensures lines { SameLines hub.old hub.new }
-    ensures room { LONGEST_FRAME ≤ vec_capacity out.new }
+    ensures room { longest_frame ≤ vec_capacity out.new }
 {
     take_signal(hub, id, signal, out);
     match send(wire, out) {
@@ -183,7 +184,7 @@ fn pass_signal<W: Wire>(hub: &mut Hub, id: LineId, signal: Signal, wire: &mut W,
 /// A step by bytes, in the room that `out` has.
 fn take_bytes(hub: &mut Hub, id: LineId, piece: &[u8], out: &mut Vec<u8>) -> usize
     requires known { HasLine hub.old id }
-    requires room { LONGEST_FRAME ≤ vec_capacity out.old }
+    requires room { longest_frame ≤ vec_capacity out.old }
     ensures taken { result ≡ (part_after_bytes (part id.customer hub.old) id.number piece.now).taken }
     ensures progress { 0 < length piece.now → 0 < result }
     ensures within { result ≤ length piece.now }
@@ -201,7 +202,7 @@ fn take_bytes(hub: &mut Hub, id: LineId, piece: &[u8], out: &mut Vec<u8>) -> usi
 /// A step by a signal, in the room that `out` has.
 fn take_signal(hub: &mut Hub, id: LineId, signal: Signal, out: &mut Vec<u8>)
     requires known { HasLine hub.old id }
-    requires room { LONGEST_FRAME ≤ vec_capacity out.old }
+    requires room { longest_frame ≤ vec_capacity out.old }
     ensures { let t = part_after_signal (part id.customer hub.old) id.number signal in
         IsTaken hub.old id t.after t.frame hub.new out.new }
 {

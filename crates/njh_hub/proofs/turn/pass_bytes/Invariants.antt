@@ -1,6 +1,6 @@
 use Rattle.std.proofs.Common.{◌≡◌, ◌≤◌, ◌-◌, length, map, take}
 use Rattle.std.specs.Vec.{vec_capacity}
-use Rattle.njh_bisync.specs.declared.frame.TheConstants.{LONGEST_FRAME}
+use Rattle.njh_bisync.specs.Limits.{longest_frame}
 use Rattle.njh_hub.specs.WholeHub.{SameLines}
 use Rattle.njh_hub.specs.Wires.{sent_act}
 use Rattle.njh_hub.proofs.PieceLaws.{after_bytes}
@@ -13,7 +13,7 @@ invariant-loop-taken g l = record {
   parts : l.hub ≡ (after_bytes l.fn.hub l.id (take l.taken l.piece)).parts;
   acts : g.W.Wire.passed l.fn.wire l.wire (map sent_act (after_bytes l.fn.hub l.id (take l.taken l.piece)).sent);
   same : SameLines l.fn.hub l.hub;
-  room : LONGEST_FRAME ≤ vec_capacity l.out;
+  room : longest_frame ≤ vec_capacity l.out;
   counts : g.W.Wire.count l.fn.wire ≤ g.W.Wire.count l.wire;
 }
 

@@ -2,7 +2,7 @@ use Rattle.std.proofs.Common.{◌≡◌, ℕ, ◌+◌, ◌<◌, List, [], ◌∷
 use Rattle.std.proofs.Common.{arith, ◌≤◌, ⊎_elim, inl, inr}
 use Rattle.std.specs.Prelude.{IsSomeAnd, slice_get, All, IsSome}
 use Rattle.std.specs.Vec.{vec_capacity}
-use Rattle.njh_bisync.specs.declared.frame.TheConstants.{LONGEST_FRAME}
+use Rattle.njh_bisync.specs.Limits.{longest_frame}
 use Rattle.std.proofs.lemmas.List.{take_all, length-append}
 use Rattle.njh_customer.specs.Runs.{alone_run}
 use Rattle.njh_hub.specs.declared.event.Event.{Event}
@@ -140,9 +140,9 @@ returns-in-Err-clause-memory g c = λ memory.
     let here : k ≡ c.after.result.events = omega (arith, ap (λ (f : RunFault). f.events) c.after.ensures, told.0) in (
       ap (λ (f : RunFault). f.bytes) c.after.ensures ∙ told.1,
       ⊎_elim (λ (routes : IsRoutes event). inl (subst P (sym at) routes))
-          (λ (less : vec_capacity c.loop-index.out < LONGEST_FRAME). ⊎_elim
+          (λ (less : vec_capacity c.loop-index.out < longest_frame). ⊎_elim
           (λ (all : Q k). inr (subst Q here all))
-          (λ (enough : LONGEST_FRAME ≤ vec_capacity c.loop-index.out). absurd (omega arith)) c.loop-index.invariant.room) told.2,
+          (λ (enough : longest_frame ≤ vec_capacity c.loop-index.out). absurd (omega arith)) c.loop-index.invariant.room) told.2,
     )
 
 pub loop-index-preserved : goal.loop-index-preserved
@@ -165,7 +165,7 @@ loop-index-preserved g c =
       room = ⊎_elim (λ (line : IsSome (line_of_event event)). inr (c.in-Ok.ensures.room (inl line)))
           (λ (routes : IsRoutes event). ⊎_elim
           (λ (all : All IsRoutes (take k events)). inl (All-more IsRoutes events k event within c.index-events-index.is all routes))
-          (λ (enough : LONGEST_FRAME ≤ vec_capacity c.loop-index.out). inr (c.in-Ok.ensures.room (inr enough))) c.loop-index.invariant.room)
+          (λ (enough : longest_frame ≤ vec_capacity c.loop-index.out). inr (c.in-Ok.ensures.room (inr enough))) c.loop-index.invariant.room)
           (either_event event);
       counts = omega (arith, c.in-Ok.ensures.counts);
     }

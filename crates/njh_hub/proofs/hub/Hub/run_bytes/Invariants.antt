@@ -1,6 +1,6 @@
 use Rattle.std.proofs.Common.{◌≡◌, ◌<◌, ◌≤◌, ◌-◌, length, take}
 use Rattle.std.specs.Vec.{vec_capacity}
-use Rattle.njh_bisync.specs.declared.frame.TheConstants.{LONGEST_FRAME}
+use Rattle.njh_bisync.specs.Limits.{longest_frame}
 use Rattle.njh_hub.specs.WholeHub.{HasLine, SameLines}
 use Rattle.njh_hub.proofs.PieceLaws.{after_bytes}
 use Rattle.njh_hub.proofs.hub.Hub.run_bytes.Given as goal
@@ -14,7 +14,7 @@ invariant-loop-used g l = record {
   sent : g.S.Sink.took l.fn.sink l.sink (after_bytes l.fn.self l.id (take l.taken l.piece)).sent;
   same : SameLines l.fn.self l.self;
   known : 0 < l.taken → HasLine l.fn.self l.id;
-  room : 0 < l.taken → LONGEST_FRAME ≤ vec_capacity l.out;
+  room : 0 < l.taken → longest_frame ≤ vec_capacity l.out;
   first : l.taken ≡ 0 → vec_capacity l.out ≡ vec_capacity l.fn.out;
   counts : g.S.Sink.count l.fn.sink ≤ g.S.Sink.count l.sink;
 }
