@@ -18,6 +18,6 @@ mod words;
 pub use command::{BadCommand, Command};
 pub use files::number_of;
 pub use laws::{commands_move_files_so, reroutes_name_fields};
-pub use replies::{MOST_REPLIES, Replies};
+pub use replies::{MAX_REPLIES, Replies};
 pub use running::{Originator, obey, run};
 pub use senders::{Senders, give_up};

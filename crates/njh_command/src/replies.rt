@@ -10,14 +10,14 @@ use njh_texts::{MessageText, put_file_line};
 use std::marker::Model;
 
 /// The most replies to one command; those behind them aren't said.
-pub const MOST_REPLIES: usize = 64;
+pub const MAX_REPLIES: usize = 64;
 
 /// The replies to a command, in order: messages in EBCDIC. They are at most 64, and take no memory.
 #[derive(Debug, Drop)]
 pub struct Replies {
     /// The replies, and behind them texts of earlier commands, in whose places later ones come: none is cleared for a
     /// command.
-    texts: ArrayVec<MessageText, MOST_REPLIES>,
+    texts: ArrayVec<MessageText, MAX_REPLIES>,
     /// How many replies there are.
     count: usize,
 }
@@ -72,7 +72,7 @@ impl Replies {
     pub(crate) fn add(&mut self, text: MessageText)
         ensures { self.new ≡ first_replies (self.old ++ text.items ∷ []) }
     {
-        if self.count < MOST_REPLIES {
+        if self.count < MAX_REPLIES {
             put_at(&mut self.texts, self.count, text);
             self.count += 1;
         }
@@ -84,7 +84,7 @@ impl Replies {
             ≡ first_replies (self.old ++ listing_line file.now.headers.name file.now.headers.destination file.now.kind
             file.now.records file.now.state ∷ []) }
     {
-        if self.count < MOST_REPLIES {
+        if self.count < MAX_REPLIES {
             put_file_at(&mut self.texts, self.count, file);
             self.count += 1;
         }
@@ -100,7 +100,7 @@ impl Replies {
 
 /// Puts a text behind the first ones, in the place of what may stand there.
 #[tactic(auto, using(crate::proofs::ReplyLaws::replaced, crate::proofs::ReplyLaws::pushed))]
-fn put_at(texts: &mut ArrayVec<MessageText, MOST_REPLIES>, count: usize, text: MessageText)
+fn put_at(texts: &mut ArrayVec<MessageText, MAX_REPLIES>, count: usize, text: MessageText)
     requires within { count ≤ length texts.old.items }
     requires room { count < 64 }
     ensures front { take (count + 1) texts.new.items ≡ take count texts.old.items ++ text ∷ [] }
@@ -116,7 +116,7 @@ fn put_at(texts: &mut ArrayVec<MessageText, MOST_REPLIES>, count: usize, text: M
 
 /// Writes what tells of a file behind the first texts, in the place of what may stand there.
 #[tactic(auto, using(crate::proofs::ReplyLaws::written))]
-fn put_file_at(texts: &mut ArrayVec<MessageText, MOST_REPLIES>, count: usize, file: &FileSummary)
+fn put_file_at(texts: &mut ArrayVec<MessageText, MAX_REPLIES>, count: usize, file: &FileSummary)
     requires within { count ≤ length texts.old.items }
     requires room { count < 64 }
     ensures front { map (λ t. t.items) (take (count + 1) texts.new.items)
@@ -132,7 +132,7 @@ fn put_file_at(texts: &mut ArrayVec<MessageText, MOST_REPLIES>, count: usize, fi
 
 /// Puts an empty text behind the first texts, where there is none.
 #[tactic(auto, using(crate::proofs::ReplyLaws::place_made))]
-fn make_place(texts: &mut ArrayVec<MessageText, MOST_REPLIES>, count: usize)
+fn make_place(texts: &mut ArrayVec<MessageText, MAX_REPLIES>, count: usize)
     requires within { count ≤ length texts.old.items }
     requires room { count < 64 }
     ensures front { take count texts.new.items ≡ take count texts.old.items }

@@ -22,7 +22,7 @@ const ZERO: u8 = 0xf0;
 const NINE: u8 = 0xf9;
 
 /// The most digits of a number in a name.
-const MOST_DIGITS: usize = 5;
+const MAX_DIGITS: usize = 5;
 
 /// Where a byte stands first.
 fn place_of(bytes: &[u8], sought: u8) -> Option<usize>
@@ -135,10 +135,10 @@ fn name_of_parts(node: &[u8], number: &[u8]) -> Option<FileName>
 fn read_number(word: &[u8]) -> Option<u16>
     ensures { result ≡ number_in (map upper word.now) }
 {
-    if word.len() > MOST_DIGITS {
+    if word.len() > MAX_DIGITS {
         return None;
     }
-    let folded = capitals::<MOST_DIGITS>(word);
+    let folded = capitals::<MAX_DIGITS>(word);
     number_of(&folded)
 }
 

@@ -10,12 +10,12 @@ use Rattle.njh_line.specs.LineTable.{Input, table_outcome}
 use Rattle.njh_line.specs.Sessions.{fresh, down_session}
 
 -- how many answers may wait: the product's own limit
-abbrev pub most_answers : ℕ
-most_answers = 32
+abbrev pub max_answers : ℕ
+max_answers = 32
 
 -- how many nodal messages may wait: the product's own limit
-abbrev pub most_messages : ℕ
-most_messages = 64
+abbrev pub max_messages : ℕ
+max_messages = 64
 
 pub record LineState : Type 0 where
   pub config : Config
@@ -83,12 +83,12 @@ after_end line = with_session (down_session line.session) line
 -- an answer waits, where there is room for it
 abbrev pub with_answer : Answer → LineState → LineState
 with_answer a line =
-    record line { answers = cond (nat_lt (length line.answers) most_answers) (line.answers ++ a ∷ []) line.answers }
+    record line { answers = cond (nat_lt (length line.answers) max_answers) (line.answers ++ a ∷ []) line.answers }
 
 -- a nodal message waits, where there is room for it
 abbrev pub with_message : List ℕ → LineState → LineState
 with_message m line =
-    record line { messages = cond (nat_lt (length line.messages) most_messages) (line.messages ++ m ∷ []) line.messages }
+    record line { messages = cond (nat_lt (length line.messages) max_messages) (line.messages ++ m ∷ []) line.messages }
 
 abbrev pub without_answer : LineState → LineState
 without_answer line = record line { answers = drop 1 line.answers }

@@ -38,7 +38,7 @@ impl Model for Line {
     ghost use Rattle.std.specs.Prelude.{◌≡◌, ◌≤◌, length, map, vec_capacity};
     ghost use Rattle.njh_bisync.specs.Limits.{longest_frame};
     ghost use Rattle.njh_line.specs.Sessions.{IsSession, IsConfig};
-    ghost use Rattle.njh_line.specs.Lines.{LineState, most_answers, most_messages};
+    ghost use Rattle.njh_line.specs.Lines.{LineState, max_answers, max_messages};
 
     ghost Value = { LineState };
 
@@ -51,7 +51,7 @@ impl Model for Line {
     } };
 
     ghost invariant = { λ line.
-        (line.answers.capacity ≡ most_answers) × (line.messages.capacity ≡ most_messages)
+        (line.answers.capacity ≡ max_answers) × (line.messages.capacity ≡ max_messages)
         × (longest_frame ≤ vec_capacity line.last) × (length line.last.items ≤ longest_frame)
         × IsSession line.session × IsConfig line.config };
 }

@@ -14,21 +14,21 @@ use Rattle.njh_program.specs.declared.fault.ReplayFault.TheVariants.{TooLong, Sc
 use Rattle.njh_hub.specs.declared.fault.HubFault.TheVariants.{Memory}
 use Rattle.njh_program.specs.LineNames.{customers_of, names_of}
 use Rattle.njh_program.specs.Printed.{files_from, frames_text, AppendsBeginning, IsPrintedUpTo}
-use Rattle.njh_program.specs.Script.{most_script_bytes, script_of}
+use Rattle.njh_program.specs.Script.{max_script_bytes, script_of}
 
 -- what a reader has left, where that is known, is a good script of these events
 abbrev pub HasScript : TableFile → Option (List ℕ) → List Event → Type 0
 HasScript tables left events =
-    IfSome left (λ text. (length text ≤ most_script_bytes) × (script_of tables text ≡ Ok events))
+    IfSome left (λ text. (length text ≤ max_script_bytes) × (script_of tables text ≡ Ok events))
 
 -- it is a script that is too long
 abbrev pub HasTooLong : Option (List ℕ) → Type 0
-HasTooLong left = IfSome left (λ text. most_script_bytes < length text)
+HasTooLong left = IfSome left (λ text. max_script_bytes < length text)
 
 -- it is not, but this line of it is the first bad one
 abbrev pub HasBadLine : TableFile → Option (List ℕ) → ℕ → Type 0
 HasBadLine tables left number =
-    IfSome left (λ text. (length text ≤ most_script_bytes) × (script_of tables text ≡ Err number))
+    IfSome left (λ text. (length text ≤ max_script_bytes) × (script_of tables text ≡ Err number))
 
 -- the text of what a hub sends and then holds by these events: the frames with their lines' names, and the files of the
 -- customers of these names, from the first on

@@ -13,8 +13,8 @@ use Rattle.njh_hub.specs.declared.event.Event.TheVariants.{Bytes, Tick, Garbled,
 use Rattle.njh_program.specs.ScriptRoutes.{event_of_routes}
 
 -- how many bytes a script has at most: the product's own limit
-abbrev pub most_script_bytes : ℕ
-most_script_bytes = 1048576
+abbrev pub max_script_bytes : ℕ
+max_script_bytes = 1048576
 
 -- the lines of a text, each ended by the byte 0A, the last by that or by the text's end
 abbrev pub lines_of : List ℕ → List (List ℕ)

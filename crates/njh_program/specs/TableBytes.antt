@@ -24,8 +24,8 @@ abbrev pub AreGivenWithin : ℕ → TableFile → Type 0
 AreGivenWithin most tables = (bytes : List ℕ) × (length bytes ≤ most) × (tables_in bytes ≡ Ok tables)
 
 -- how many bytes of a table file are read while a hub runs
-abbrev pub most_changed_bytes : ℕ
-most_changed_bytes = 2000000
+abbrev pub max_changed_bytes : ℕ
+max_changed_bytes = 2000000
 
 -- why a file isn't read: it can't be, or memory ran out, or it is longer than any tables need
 abbrev pub IsUnread : Failure → Type 0

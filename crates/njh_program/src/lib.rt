@@ -28,7 +28,7 @@ pub use failure::Failure;
 pub use fault::ReplayFault;
 pub use program::{carry_out, end, run};
 pub use replaying::replay;
-pub use script::LIMIT;
+pub use script::MAX_SCRIPT_BYTES;
 pub use standard_error::StandardError;
 pub use table_file::tables_of;
 pub use table_source::{ChangeFault, TableFileSource};

@@ -17,7 +17,7 @@ use crate::input::read_text;
 use crate::line_names::LineNames;
 use crate::print::FrameRoom;
 use crate::printer::Printer;
-use crate::script::{LIMIT, events_of};
+use crate::script::{MAX_SCRIPT_BYTES, events_of};
 use njh_ebcdic::Name;
 use njh_hub::{Cause, Event, Hub, HubFault, each_is_alone, sent_in_order};
 use njh_table::Tables;
@@ -141,7 +141,7 @@ fn read_events<R: Read>(
         HasBadLine tables.now (R.remaining script.old) number }
     ensures faults { IfErr result MayEnd }
 {
-    let text = read_text(alloc, LIMIT, script)?;
+    let text = read_text(alloc, MAX_SCRIPT_BYTES, script)?;
     events_of(alloc, tables, &text)
 }
 

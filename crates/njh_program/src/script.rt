@@ -2,7 +2,7 @@
 
 ghost use Rattle.std.specs.Prelude.{◌≡◌, ℕ, ◌≤◌, ◌⊎◌, ◌++◌, [], length, All, IfOk, IfErr, IfSome, OnOk};
 ghost use Rattle.std.specs.List.{cons_option};
-ghost use Rattle.njh_program.specs.Script.{can_stand, event_in, is_skipped, most_script_bytes, script_of};
+ghost use Rattle.njh_program.specs.Script.{can_stand, event_in, is_skipped, max_script_bytes, script_of};
 ghost use Rattle.njh_program.specs.ScriptRoutes.{IsNamedIn};
 ghost use Rattle.njh_program.specs.code.LineStarts.{Begins, IsStart};
 
@@ -15,12 +15,12 @@ use njh_table::Tables;
 use std::alloc::{AllocError, Global};
 
 /// How many bytes a script has at most.
-pub const LIMIT: usize = 1_048_576;
+pub const MAX_SCRIPT_BYTES: usize = 1_048_576;
 
 /// The events of a script, all of which name what the tables have, or the number of its first bad line, counted from 1.
 /// The only other refusal is out of memory.
 pub fn events_of(alloc: Global, tables: &Tables, text: &[u8]) -> Result<Vec<Event>, ReplayFault>
-    requires { length text.now ≤ most_script_bytes }
+    requires { length text.now ≤ max_script_bytes }
     ensures events { IfOk result (λ events. script_of tables.now text.now ≡ Ok events.items) }
     ensures named { IfOk result (λ events. All (IsNamedIn tables.now) events.items) }
     ensures bad { (number : ℕ) → result ≡ Err (ReplayFault.Script number) → script_of tables.now text.now ≡ Err number }

@@ -12,7 +12,7 @@ use std::fs::File;
 use std::rt::Files;
 
 /// The most bytes of a table file, 16 MiB: ten times what the largest tables need.
-const MOST_TABLE_BYTES: usize = 16_777_216;
+const MAX_TABLE_BYTES: usize = 16_777_216;
 
 /// The tables of a file, or the base tables where none is named.
 ///
@@ -47,7 +47,7 @@ fn table_bytes<R: Files + AllocGlobal>(rt: &R, path: &str) -> Result<Vec<u8>, Fa
     ensures { IfErr result IsUnread }
 {
     let mut file = File::open(rt, path)?;
-    match read_text(rt.alloc(), MOST_TABLE_BYTES, &mut file) {
+    match read_text(rt.alloc(), MAX_TABLE_BYTES, &mut file) {
         Ok(bytes) => Ok(bytes),
         Err(ReplayFault::TooLong) => Err(Failure::Tables(TableFault::TooMany)),
         Err(ReplayFault::Device) => Err(Failure::Device),

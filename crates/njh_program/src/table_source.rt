@@ -1,7 +1,7 @@
 //! The table file of a hub that runs: it is read again where it changed.
 
 ghost use Rattle.std.specs.Prelude.{◌≡◌, ◌≤◌, vec_len, IfOk, IfSome};
-ghost use Rattle.njh_program.specs.TableBytes.{AreGivenWithin, most_changed_bytes};
+ghost use Rattle.njh_program.specs.TableBytes.{AreGivenWithin, max_changed_bytes};
 
 use crate::fault::ReplayFault;
 use crate::input::read_text;
@@ -16,7 +16,7 @@ use std::time::SystemTime;
 use thiserror::Error;
 
 /// The most bytes of a table file that is read while a hub runs, 2 MB.
-const MOST_CHANGED_BYTES: usize = 2_000_000;
+const MAX_CHANGED_BYTES: usize = 2_000_000;
 
 /// Why a table file that changed gives no tables.
 #[derive(Clone, Copy, Debug, PartialEq, Eq, Error)]
@@ -69,7 +69,7 @@ impl<R: Files + AllocGlobal> TableSource for TableFileSource<'_, R> {
     ///
     /// Its time and its length are looked at, and no more than 2 MB of it are read.
     fn changed(&mut self) -> Option<Result<Tables, ChangeFault>>
-        ensures { IfSome result (λ read. IfOk read (AreGivenWithin most_changed_bytes)) }
+        ensures { IfSome result (λ read. IfOk read (AreGivenWithin max_changed_bytes)) }
     {
         let stamp = stamp_of(self.rt, self.path)?;
         if self.seen == Some(stamp) {
@@ -91,7 +91,7 @@ fn stamp_of<R: Files>(rt: &R, path: &str) -> Option<Stamp> {
 
 /// The tables of a file that changed.
 fn changed_tables<R: Files + AllocGlobal>(rt: &R, path: &str) -> Result<Tables, ChangeFault>
-    ensures { IfOk result (AreGivenWithin most_changed_bytes) }
+    ensures { IfOk result (AreGivenWithin max_changed_bytes) }
 {
     let bytes = changed_bytes(rt, path)?;
     match tables_in(rt.alloc(), &bytes) {
@@ -102,14 +102,14 @@ fn changed_tables<R: Files + AllocGlobal>(rt: &R, path: &str) -> Result<Tables, 
 
 /// The bytes of a file that changed.
 fn changed_bytes<R: Files + AllocGlobal>(rt: &R, path: &str) -> Result<Vec<u8>, ChangeFault>
-    ensures { IfOk result (λ bytes. vec_len bytes ≤ most_changed_bytes) }
+    ensures { IfOk result (λ bytes. vec_len bytes ≤ max_changed_bytes) }
 {
     let mut file = match File::open(rt, path) {
         Ok(file) => file,
         Err(error) if error.kind() == ErrorKind::OutOfMemory => return Err(ChangeFault::Memory),
         Err(_) => return Err(ChangeFault::Unread),
     };
-    match read_text(rt.alloc(), MOST_CHANGED_BYTES, &mut file) {
+    match read_text(rt.alloc(), MAX_CHANGED_BYTES, &mut file) {
         Ok(bytes) => Ok(bytes),
         Err(ReplayFault::TooLong) => Err(ChangeFault::TooLong),
         Err(ReplayFault::Hub(_)) => Err(ChangeFault::Memory),

@@ -49,10 +49,10 @@ pub fn other(kind: Kind) -> Kind
 }
 
 /// How many nodes are kept that were found not to go by a line.
-const MOST_ELSEWHERE: usize = 8;
+const MAX_ELSEWHERE: usize = 8;
 
 /// Nodes that don't go by a line.
-pub type Elsewhere = ArrayVec<[u8; 8], MOST_ELSEWHERE>;
+pub type Elsewhere = ArrayVec<[u8; 8], MAX_ELSEWHERE>;
 
 /// Whether a node was found among some: where it says so, the node is one of them.
 pub fn is_among(nodes: &[[u8; 8]], node: &[u8; 8]) -> bool

@@ -1,6 +1,6 @@
 //! Streams that fail, and the limit of a script.
 
-use njh_program::{Failure, LIMIT, replay};
+use njh_program::{Failure, replay};
 use njh_table::Tables;
 use std::io;
 use std::io::{ErrorKind, Read, Write};
@@ -74,7 +74,7 @@ pub fn fail<R: Print + AllocGlobal>(rt: &R) -> Result<(), Failure> {
     replay_to(rt, "ten bytes", &mut { CONTACTS }, 10, true)?;
     replay_to(rt, "all bytes", &mut { CONTACTS }, 16, true)?;
     replay_to(rt, "a flush fails", &mut { CONTACTS }, 16, false)?;
-    let limit = LIMIT as u64;
+    let limit = 1_048_576;
     replay_to(rt, "a comment", &mut io::repeat(b'#').take(limit), 16, true)?;
     replay_to(rt, "blanks", &mut io::repeat(b' ').take(limit), 16, true)?;
     replay_to(

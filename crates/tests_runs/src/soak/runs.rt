@@ -11,7 +11,7 @@ use njh_table::{LineId, Tables};
 use std::alloc::{AllocError, Global};
 
 /// More events than contact and sign-on need.
-const MOST_TO_BEGIN: u32 = 8;
+const MAX_TO_BEGIN: u32 = 8;
 
 /// The other end of each line. How bad the lines are goes by the seed.
 fn peers_of(alloc: Global, tables: &Tables, seed: u64) -> Result<Vec<Peer>, AllocError> {
@@ -144,7 +144,7 @@ fn left_to_begin(bench: &Bench<'_>, customer: u16) -> Result<u64, AllocError> {
 
 /// A session, and a request for each stream.
 fn ask_for_all(bench: &mut Bench<'_>, peer: &mut Peer) -> Result<(), AllocError> {
-    for _ in 0..MOST_TO_BEGIN {
+    for _ in 0..MAX_TO_BEGIN {
         if peer.phase != Phase::Up {
             let event = peer.begin(bench.alloc)?;
             bench.step(peer, &event)?;
