@@ -13,12 +13,9 @@ pub mod ChainPuts
 pub mod ChainRemoves
 pub mod ChainSlots
 pub mod ChainWrites
-pub mod ClosingLaws
 pub mod CostLaws
-pub mod EntryLaws
 pub mod FileLaws
 pub mod HeaderLaws
-pub mod HoleLaws
 pub mod IndexLaws
 pub mod KeptLaws
 pub mod NumberLaws

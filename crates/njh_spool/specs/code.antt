@@ -1,7 +1,6 @@
 -- What only bodies and proofs speak of.
 pub mod ChainedBlocks
 pub mod Chains
-pub mod NumberEntries
 pub mod Packing
 pub mod RecordReader
 pub mod SlotRows

@@ -1,28 +1,31 @@
 //! The numbers of some files of one customer, in order.
 
-ghost use Rattle.std.specs.Prelude.{◌≡◌, IfOk, ℕ, ◌==◌, ◌<◌, [], ◌∷◌, ◌++◌, not, filter, count_by, length, slice_index};
+ghost use Rattle.std.specs.Prelude.{◌≡◌, IfOk, ◌==◌, ◌<◌, [], ◌∷◌, ◌++◌, not, filter, length, slice_index};
 ghost use Rattle.njh_table.specs.Limits.{max_files};
 
-use crate::number_entries::Entries;
+use njh_table::MAX_FILES;
 use std::alloc::{AllocError, Global};
 use std::marker::Model;
 
-/// At most as many as a customer may have files. A number that is taken away leaves a hole, which is closed when a
-/// number is put last.
+/// Room for as many numbers as a customer may have files.
+const ROOM: usize = MAX_FILES as usize;
+
+/// At most as many as a customer may have files.
 #[derive(Drop)]
 pub struct Numbers {
-    entries: Entries,
+    numbers: Vec<u16>,
 }
 
 impl Model for Numbers {
-    ghost use Rattle.std.specs.Prelude.{List, ℕ};
-    ghost use Rattle.njh_spool.specs.code.NumberEntries.{numbers_in, IsIndexed};
+    ghost use Rattle.std.specs.Prelude.{◌≡◌, List, ℕ};
+    ghost use Rattle.std.specs.Vec.{vec_capacity};
+    ghost use Rattle.njh_table.specs.Limits.{max_files};
 
     ghost Value = { List ℕ };
 
-    ghost view = { λ n. numbers_in n.entries.entries.items };
+    ghost view = { λ n. n.numbers.items };
 
-    ghost invariant = { λ n. IsIndexed n.entries };
+    ghost invariant = { λ n. vec_capacity n.numbers ≡ max_files };
 }
 
 impl Numbers {
@@ -31,38 +34,35 @@ impl Numbers {
         ensures { IfOk result (λ numbers. numbers ≡ []) }
     {
         Ok(Numbers {
-            entries: Entries::new(alloc)?,
+            numbers: Vec::with_capacity(alloc, ROOM)?,
         })
     }
 
     pub fn len(&self) -> usize
         ensures { result ≡ length self.now }
     {
-        usize::from(self.entries.count)
+        self.numbers.len()
     }
 
     pub fn at(&self, index: usize) -> u16
         requires { index < length self.now }
         ensures { result ≡ slice_index self.now index }
     {
-        self.entries.at(index)
+        self.numbers[index]
     }
 
     /// Puts a number last.
     pub fn push(&mut self, number: u16)
-        requires room { length self.old < max_files }
-        requires number { number < max_files }
-        requires absent { count_by (λ m. m == number) self.old ≡ 0 }
+        requires { length self.old < max_files }
         ensures { self.new ≡ self.old ++ number ∷ [] }
     {
-        self.entries.close();
-        self.entries.push(number);
+        self.numbers.push_reserved(number);
     }
 
     /// Takes a number away.
     pub fn remove(&mut self, number: u16)
         ensures { self.new ≡ filter (λ m. not (m == number)) self.old }
     {
-        self.entries.remove(number);
+        self.numbers.retain(|other| *other != number);
     }
 }

@@ -1,10 +1,9 @@
 use Rattle.std.proofs.Common.{◌≡◌, ℕ, ◌+◌, ◌*◌, ◌<◌, ◌≤◌, List, [], ◌∷◌, ◌++◌, length, set, refl, sym, ap, ◌∙◌, arith}
-use Rattle.std.proofs.Common.{Bool, true, cond, eqb, count_by}
+use Rattle.std.proofs.Common.{true}
 use Rattle.njh_spool.specs.declared.customer_files.CustomerFiles.{CustomerFiles}
 use Rattle.njh_spool.specs.CustomerSpool.{CustomerSpool, with_new_partial, next_number}
 use Rattle.njh_spool.specs.Spools.{spool_at}
-use Rattle.njh_spool.specs.code.Slots.{contents, slot_of, is_free, spools_of, whole_file, partial_file, spool_of}
-use Rattle.njh_spool.proofs.ReadLaws.{not_partial_free}
+use Rattle.njh_spool.specs.code.Slots.{contents, spools_of, whole_file, partial_file, spool_of}
 use Rattle.njh_spool.proofs.KeptLaws.{own_of, own_is, Moves}
 use Rattle.njh_spool.proofs.CallFinds as finds
 use Rattle.njh_spool.proofs.CallLaws as call
@@ -117,26 +116,10 @@ free_number-number-requires-clause-some c =
       free.1,
     )
 
-pub push-requires-clause-room : goal.push-requires-clause-room
-push-requires-clause-room c =
-    let n = few (goal.at.push-requires-clause-room c).After-index_mut-own in
+pub push-requires : goal.push-requires
+push-requires c =
+    let n = few (goal.at.push-requires c).After-index_mut-own in
     omega (arith, n.whole, n.partial, n.limit, n.limit_bound, c.len.ensures, c.len-2.ensures, c.if-len-own.false)
-
-pub push-requires-clause-number : goal.push-requires-clause-number
-push-requires-clause-number c =
-    let n = few (goal.at.push-requires-clause-number c).After-index_mut-own in
-    omega (arith, c.free_number-number.ensures.below, n.limit, n.limit_bound)
-
-pub push-requires-clause-absent : goal.push-requires-clause-absent
-push-requires-clause-absent c =
-    let has = finds.has c.self.inside.store c.self.inside.slots c.self.inside.customers.items c.args.customer 0
-    c.self.invariant (rw c.self.view_is c.requires) in
-    let number = c.free_number-number.result in
-    let own = own_same (goal.at.push-requires-clause-absent c).After-index_mut-own in
-    let free : is_free (slot_of c.self.inside.slots c.args.customer number).stage ≡ true =
-    c.free_number-number.ensures.free in
-    ap (λ (o : CustomerFiles). count_by (λ m. eqb m number) o.partial) own ∙ has.own.partial_once number
-    ∙ ap (λ (b : Bool). cond {A = ℕ} b 1 0) (not_partial_free (slot_of c.self.inside.slots c.args.customer number).stage free)
 
 pub set-requires-clause-all : goal.set-requires-clause-all
 set-requires-clause-all c =

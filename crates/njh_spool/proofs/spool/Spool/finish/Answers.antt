@@ -1,11 +1,11 @@
 use Rattle.std.proofs.Common.{◌≡◌, ℕ, ◌+◌, ◌*◌, true, not, eqb, List, [], ◌∷◌, ◌++◌, length, set, filter, refl, sym, ap}
-use Rattle.std.proofs.Common.{subst, ◌∙◌, arith, count_by, cond}
+use Rattle.std.proofs.Common.{subst, ◌∙◌, arith, count_by}
 use Rattle.njh_spool.specs.declared.file_slot.FileSlot.{FileSlot}
 use Rattle.njh_spool.specs.declared.file_slot.Stage.TheVariants.{Whole}
 use Rattle.njh_spool.specs.declared.customer_files.CustomerFiles.{CustomerFiles}
 use Rattle.njh_spool.specs.CustomerSpool.{CustomerSpool, with_finished}
 use Rattle.njh_spool.specs.Spools.{spool_at}
-use Rattle.njh_spool.specs.code.Slots.{contents, slot_of, is_partial, is_whole_stage, spools_of, IsFile, whole_file}
+use Rattle.njh_spool.specs.code.Slots.{contents, slot_of, is_partial, spools_of, IsFile, whole_file}
 use Rattle.njh_spool.specs.code.Slots.{partial_file}
 use Rattle.njh_spool.specs.code.Chains.{Chain, chain_at}
 use Rattle.njh_spool.specs.Headers.{kept_headers}
@@ -13,8 +13,6 @@ use Rattle.njh_spool.specs.code.Packing.{unpacked_records}
 use Rattle.njh_spool.proofs.KeptLaws.{own_of, own_is, Moves}
 use Rattle.njh_spool.proofs.CallFinds as finds
 use Rattle.njh_spool.proofs.CallLaws as call
-use Rattle.njh_spool.specs.declared.file_slot.Stage.{Stage}
-use Rattle.njh_spool.proofs.ReadLaws.{partial_stage}
 use Rattle.std.proofs.lemmas.List.{length-map}
 use Rattle.std.proofs.lemmas.List.Sums.{count_by-le-length}
 use Rattle.njh_spool.specs.declared.State.TheVariants.{Ready}
@@ -70,15 +68,15 @@ own_same c =
     own_is c.self.inside.customers.items c.args.customer c.from.result c.index_mut-own.result.now has.within c.from.ensures
     c.index_mut-own.ensures.value
 
-pub push-requires-clause-room : goal.push-requires-clause-room
-push-requires-clause-room c =
+pub push-requires : goal.push-requires
+push-requires c =
     let has = finds.has c.self.inside.store c.self.inside.slots c.self.inside.customers.items c.args.customer c.args.id
     c.self.invariant (rw c.self.view_is c.requires) in
-    let there = stage_is (goal.at.push-requires-clause-room c).After-is_partial ∙ c.if-not-is_partial.false in
+    let there = stage_is (goal.at.push-requires c).After-is_partial ∙ c.if-not-is_partial.false in
     let one = once_some (is_partial ((contents c.self.inside.slots c.self.inside.store.chains c.args.customer)
     c.args.id).stage) (count_by (λ m. eqb m c.args.id) (own_of c.self.inside.customers.items c.args.customer).partial)
     (has.own.partial_once c.args.id) there in
-    let own = ap (λ (o : CustomerFiles). length o.whole) (own_same (goal.at.push-requires-clause-room c).After-index_mut-own) in
+    let own = ap (λ (o : CustomerFiles). length o.whole) (own_same (goal.at.push-requires c).After-index_mut-own) in
     omega (
       arith,
       own,
@@ -93,24 +91,6 @@ push-requires-clause-room c =
           (own_of c.self.inside.customers.items c.args.customer).partial
           (partial_file (contents c.self.inside.slots c.self.inside.store.chains c.args.customer)),
     )
-
-pub push-requires-clause-number : goal.push-requires-clause-number
-push-requires-clause-number c =
-    let there = stage_is (goal.at.push-requires-clause-number c).After-is_partial ∙ c.if-not-is_partial.false in
-    let small = finds.small_partial c.self.inside.store c.self.inside.slots c.self.inside.customers.items c.args.customer
-    c.args.id c.self.invariant (rw c.self.view_is c.requires) there in
-    omega (arith, small, c.number-2.ensures)
-
-pub push-requires-clause-absent : goal.push-requires-clause-absent
-push-requires-clause-absent c =
-    let has = finds.has c.self.inside.store c.self.inside.slots c.self.inside.customers.items c.args.customer c.args.id
-    c.self.invariant (rw c.self.view_is c.requires) in
-    let there = stage_is (goal.at.push-requires-clause-absent c).After-is_partial ∙ c.if-not-is_partial.false in
-    let own = own_same (goal.at.push-requires-clause-absent c).After-index_mut-own in
-    let stage = partial_stage (slot_of c.self.inside.slots c.args.customer c.args.id).stage there in
-    ap (λ (k : ℕ). count_by (λ m. eqb m k) c.index_mut-own.result.now.whole) c.number-2.ensures
-    ∙ ap (λ (o : CustomerFiles). count_by (λ m. eqb m c.args.id) o.whole) own ∙ has.own.whole_once c.args.id
-    ∙ ap (λ (x : Stage). cond {A = ℕ} (is_whole_stage x) 1 0) stage
 
 moved : (c : After-set) → Moves c.self.inside.store c.self.inside.slots c.self.inside.customers.items
     c.self.inside.store c.set.new.self
