@@ -1,5 +1,6 @@
 pub mod AddressLaws
 pub mod BaseValue
+pub mod BucketLaws
 pub mod Distinct
 pub mod EntryLaws
 pub mod Gives

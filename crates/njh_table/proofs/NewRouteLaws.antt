@@ -1,5 +1,5 @@
 -- New routes that are checked: their nodes differ, their lines are the customer's, and the tables stay accepted.
-use Rattle.std.proofs.Common.{◌≡◌, ◌≢◌, ℕ, suc, ◌<◌, ◌≤◌, Bool, true, false, cond, not, ◌||◌, ◌==◌, nat_lt, List, []}
+use Rattle.std.proofs.Common.{◌≡◌, ◌≢◌, ℕ, suc, ◌<◌, ◌≤◌, Bool, true, false, cond, not, ◌==◌, nat_lt, List, []}
 use Rattle.std.proofs.Common.{◌∷◌, ◌++◌, length, map, take, get_or, set, bytes_eq, All, IfSome, Option, Some, None}
 use Rattle.std.proofs.Common.{option_map, Ok, Err, refl, sym, ap, subst, ◌∙◌, arith, append_assoc}
 use Rattle.std.specs.List.{list_any}
@@ -28,11 +28,6 @@ use Rattle.njh_table.proofs.RouteLaws.{lines_to-cons}
 -- the node and the numbers of the lines, whoever's they are
 abbrev pub as_given : GivenRoute → RouteEntry
 as_given r = route_entry (r.node, given_lines r)
-
-pub any_node : (node : List ℕ) (routes : List GivenRoute) → list_any (λ r. bytes_eq node r.node) routes
-    ≡ list_any (bytes_eq node) (map (λ r. r.node) routes)
-any_node node [] = refl
-any_node node (r ∷ routes) = ap (λ b. bytes_eq node r.node || b) (any_node node routes)
 
 -- ---- what was passed
 

@@ -1,17 +1,18 @@
 //! New routes for a customer, while the hub runs.
 
-ghost use Rattle.std.specs.Prelude.{◌≡◌, ◌<◌, [], ◌∷◌, length, map, bytes_eq, slice_index_or, slice_set, vec_len, Ok};
-ghost use Rattle.std.specs.Prelude.{Err, IfOk, OnErr};
-ghost use Rattle.std.specs.List.{list_any};
+ghost use Rattle.std.specs.Prelude.{◌≡◌, ◌<◌, [], ◌∷◌, length, map, slice_index_or, slice_set, vec_len, Ok, Err};
+ghost use Rattle.std.specs.Prelude.{IfOk, OnErr};
 ghost use Rattle.njh_table.specs.Accepted.{AreDistinct};
 ghost use Rattle.njh_table.specs.NewRoutes.{checked_from, given_lines, is_own, may_be_second, other_second, own_number};
 ghost use Rattle.njh_table.specs.NewRoutes.{own_route, new_routes_of, repeats, route_checked};
 ghost use Rattle.njh_table.specs.TableFile.{no_customer, route_entry};
+ghost use Rattle.njh_table.specs.declared.nodes.TheConstants.{MAX_NODES};
 
 use crate::LineId;
 use crate::customer::NamedCustomer;
 use crate::fault::TableFault;
 use crate::limits::MAX_ROUTES;
+use crate::nodes::Nodes;
 use crate::routes::{RouteLines, Routes};
 use crate::tables::Tables;
 use njh_ebcdic::Name;
@@ -111,31 +112,33 @@ fn check_each(
     customer: &NamedCustomer,
     routes: &[GivenRoute],
 ) -> Result<(), TableFault>
+    requires { length routes.now < MAX_NODES }
     ensures { result ≡ checked_from (length customer.now.lines) (customer.now.hub ∷ [])
         (new_routes_of number routes.now) }
 {
-    for index in 0..routes.len() {
-        check_one(number, customer, &routes[..index], routes[index])?;
+    let mut taken = Nodes::new();
+    taken.insert(customer.hub());
+    for route in routes {
+        check_one(number, customer, &taken, *route)?;
+        taken.insert(route.node);
     }
     Ok(())
 }
 
-/// The fault of a new route behind those before it.
+/// The fault of a new route, where these nodes can't have another.
 #[tactic(auto, unfolding(crate::specs::NewRoutes::route_checked))]
 fn check_one(
     number: u16,
     customer: &NamedCustomer,
-    before: &[GivenRoute],
+    taken: &Nodes,
     route: GivenRoute,
 ) -> Result<(), TableFault>
-    ensures { result
-        ≡ route_checked (length customer.now.lines) (customer.now.hub ∷ map (λ r. r.node) before.now)
-        (own_route number route) }
+    ensures { result ≡ route_checked (length customer.now.lines) taken.now (own_route number route) }
 {
     if repeats(route.line, route.second) {
         return Err(TableFault::BadValue);
     }
-    if is_taken(customer.hub(), before, route.node) {
+    if taken.contains(route.node) {
         return Err(TableFault::DoubleNode);
     }
     if !is_own(number, customer, route.line) {
@@ -155,29 +158,6 @@ fn repeats(id: LineId, second: Option<LineId>) -> bool
         Some(second) => id == second,
         None => false,
     }
-}
-
-/// Whether a node is the hub's own name, or that of one of these routes.
-fn is_taken(hub: Name, before: &[GivenRoute], node: Name) -> bool
-    ensures { result ≡ list_any (bytes_eq node) (hub ∷ map (λ r. r.node) before.now) }
-{
-    if node == hub {
-        return true;
-    }
-    have_node(before, node)
-}
-
-/// Whether one of these routes is for a node.
-fn have_node(routes: &[GivenRoute], node: Name) -> bool
-    ensures { result ≡ list_any (λ r. bytes_eq node r.node) routes.now }
-{
-    routes.iter().any(|route| is_for(route, node))
-}
-
-fn is_for(route: &GivenRoute, node: Name) -> bool
-    ensures { result ≡ bytes_eq node route.now.node }
-{
-    node == route.node
 }
 
 /// Whether a line is one of a customer's own.
