@@ -1,4 +1,4 @@
--- Marks: where the blocks of a chain lie.
+-- Where the blocks of a chain lie.
 use Rattle.std.proofs.Common.{◌≡◌, ℕ, zero, suc, ◌+◌, ◌*◌, ◌<◌, ◌≤◌, List, length, get_or, Option, Some, refl, sym, ap}
 use Rattle.std.proofs.Common.{◌∙◌, arith}
 use Rattle.std.specs.Prelude.{slice_get}
@@ -6,7 +6,7 @@ use Rattle.std.proofs.lemmas.Option.{slice_get-get_or, get_or_from_slice_get}
 use Rattle.slab.specs.Slab.{Slab, get, ContainsKey}
 use Rattle.njh_record.specs.Bytes.{field}
 use Rattle.njh_spool.specs.declared.store.block.Block.{Block}
-use Rattle.njh_spool.specs.declared.store.slot.Slot.{Slot}
+use Rattle.njh_spool.specs.declared.store.chain_ends.ChainEnds.{ChainEnds}
 use Rattle.njh_spool.specs.code.Chains.{StoreValue, chain_at, blocks_for}
 use Rattle.njh_spool.specs.code.ChainedBlocks.{link_in, data_in, next_at, keys_from, keys_of, data_of, chains_of}
 use Rattle.njh_spool.specs.code.ChainedBlocks.{IsChained}
@@ -24,49 +24,49 @@ keys_from-next s (suc (suc n)) key (suc b) within =
     let sum : suc b + 1 ≡ suc (b + 1) = omega arith in
     rw sum (keys_from-next s (suc n) (next_at s key) b (omega arith))
 
-module _ (s : Slab Block) (slots : List Slot) (i capacity : ℕ) (slot : Slot) (chained : IsChained s slots capacity)
-    (within : i < length slots) (is : get_or slots i slot ≡ slot) (store : StoreValue)
-    (view : record { capacity = capacity; chains = chains_of s slots } ≡ store) where
+module _ (s : Slab Block) (chains : List ChainEnds) (i capacity : ℕ) (ends : ChainEnds) (chained : IsChained s chains capacity)
+    (within : i < length chains) (is : get_or chains i ends ≡ ends) (store : StoreValue)
+    (view : record { capacity = capacity; chains = chains_of s chains } ≡ store) where
   -- the key of a block is that of the chain's value
   module _ (b : ℕ) (inside : 252 * b < length (chain_at i store).bytes) where
-    pub few : b < blocks_for slot.len
-    few = omega (arith, len_is s slots i capacity slot chained within is store view)
+    pub few : b < blocks_for ends.len
+    few = omega (arith, len_is s chains i capacity ends chained within is store view)
 
-    long : b < length (keys_of s slot)
-    long = omega (arith, few, length-keys_from s (blocks_for slot.len) slot.head)
+    long : b < length (keys_of s ends)
+    long = omega (arith, few, length-keys_from s (blocks_for ends.len) ends.head)
 
-    pub first_key : b ≡ 0 → slice_get (chain_at i store).keys b ≡ Some slot.head
+    pub first_key : b ≡ 0 → slice_get (chain_at i store).keys b ≡ Some ends.head
     first_key none =
-        ap (λ (keys : List ℕ). slice_get keys b) (keys_is s slots i capacity slot chained within is store view)
-        ∙ slice_get-get_or (keys_of s slot) b 0 long
-        ∙ ap Some (ap (λ n. get_or (keys_of s slot) n 0) none ∙ head_here s slots i capacity slot chained within is
-        (omega (arith, len_is s slots i capacity slot chained within is store view)))
+        ap (λ (keys : List ℕ). slice_get keys b) (keys_is s chains i capacity ends chained within is store view)
+        ∙ slice_get-get_or (keys_of s ends) b 0 long
+        ∙ ap Some (ap (λ n. get_or (keys_of s ends) n 0) none ∙ head_here s chains i capacity ends chained within is
+        (omega (arith, len_is s chains i capacity ends chained within is store view)))
 
     module _ (key : ℕ) (found : slice_get (chain_at i store).keys b ≡ Some key) where
-      pub key_at : get_or (keys_of s slot) b 0 ≡ key
-      key_at = get_or_from_slice_get (keys_of s slot) b key 0
-          (sym (ap (λ (keys : List ℕ). slice_get keys b) (keys_is s slots i capacity slot chained within is store view)) ∙ found)
+      pub key_at : get_or (keys_of s ends) b 0 ≡ key
+      key_at = get_or_from_slice_get (keys_of s ends) b key 0
+          (sym (ap (λ (keys : List ℕ). slice_get keys b) (keys_is s chains i capacity ends chained within is store view)) ∙ found)
 
       pub key_has : ContainsKey s key
-      key_has = has_here s slots i capacity slot chained within is key (key_lies s slots i capacity slot chained within is b key few key_at)
+      key_has = has_here s chains i capacity ends chained within is key (key_lies s chains i capacity ends chained within is b key few key_at)
 
       -- bytes of the string that lie in the block
       pub part_is : (at place n : ℕ) (block : Block) → get s key ≡ Some block → 252 * b + at ≡ place → at + n ≤ 252 →
           place + n ≤ length (chain_at i store).bytes → field at n block.bytes ≡ field place n (chain_at i store).bytes
-      part_is at place n block held begins ends inside_too =
-          let size = len_is s slots i capacity slot chained within is store view in
+      part_is at place n block held begins fits_here inside_too =
+          let size = len_is s chains i capacity ends chained within is store view in
           ap (λ (o : Option Block). field at n (data_in o)) (sym held)
-          ∙ sym (field-data_of s (keys_of s slot) b key at n long key_at (full_here s slots i capacity slot chained within is) ends)
-          ∙ ap (λ p. field p n (data_of s (keys_of s slot))) begins
-          ∙ sym (field-take place n slot.len (data_of s (keys_of s slot)) (omega arith))
-          ∙ ap (field place n) (sym (bytes_is s slots i capacity slot chained within is store view))
+          ∙ sym (field-data_of s (keys_of s ends) b key at n long key_at (full_here s chains i capacity ends chained within is) fits_here)
+          ∙ ap (λ p. field p n (data_of s (keys_of s ends))) begins
+          ∙ sym (field-take place n ends.len (data_of s (keys_of s ends)) (omega arith))
+          ∙ ap (field place n) (sym (bytes_is s chains i capacity ends chained within is store view))
 
       -- the key of the block after it
       pub next_key : (block : Block) → get s key ≡ Some block → 252 * b + 252 < length (chain_at i store).bytes →
           slice_get (chain_at i store).keys (b + 1) ≡ Some block.next
       next_key block at more =
-          let size = len_is s slots i capacity slot chained within is store view in
-          let after : b + 1 < blocks_for slot.len = omega arith in
-          ap (λ (keys : List ℕ). slice_get keys (b + 1)) (keys_is s slots i capacity slot chained within is store view)
-          ∙ slice_get-get_or (keys_of s slot) (b + 1) 0 (omega (arith, length-keys_from s (blocks_for slot.len) slot.head))
-          ∙ ap Some (keys_from-next s (blocks_for slot.len) slot.head b after ∙ ap (next_at s) key_at ∙ ap link_in at)
+          let size = len_is s chains i capacity ends chained within is store view in
+          let after : b + 1 < blocks_for ends.len = omega arith in
+          ap (λ (keys : List ℕ). slice_get keys (b + 1)) (keys_is s chains i capacity ends chained within is store view)
+          ∙ slice_get-get_or (keys_of s ends) (b + 1) 0 (omega (arith, length-keys_from s (blocks_for ends.len) ends.head))
+          ∙ ap Some (keys_from-next s (blocks_for ends.len) ends.head b after ∙ ap (next_at s) key_at ∙ ap link_in at)

@@ -9,7 +9,7 @@ use Rattle.slab.specs.Slab.{Slab, get, slab_len, ContainsKey, with_value}
 use Rattle.slab.proofs.SlabLemmas.{ContainsKey-within, Updates-with_value}
 use Rattle.njh_record.specs.Bytes.{with_field}
 use Rattle.njh_spool.specs.declared.store.block.Block.{Block}
-use Rattle.njh_spool.specs.declared.store.slot.Slot.{Slot}
+use Rattle.njh_spool.specs.declared.store.chain_ends.ChainEnds.{ChainEnds}
 use Rattle.njh_spool.specs.code.Chains.{blocks_for}
 use Rattle.njh_spool.specs.code.ChainedBlocks.{link_in, data_in, blocks_in, next_at, data_at, blocks_at, keys_of}
 use Rattle.njh_spool.specs.code.ChainedBlocks.{keys_from, data_of, chain_of, times_in, IsChained}
@@ -51,21 +51,21 @@ take-with_field_end size new bytes within =
     take_at (take size bytes ++ new) (drop (size + length new) bytes) (size + length new)
     (omega (arith, length-append (take size bytes) new, length-take size bytes))
 
-module _ (s : Slab Block) (slots : List Slot) (i capacity : ℕ) (slot : Slot) (chained : IsChained s slots capacity)
-    (within : i < length slots) (is : get_or slots i slot ≡ slot) (key b place len : ℕ) (bytes : List ℕ)
-    (inside : b < blocks_for slot.len) (at : get_or (keys_of s slot) b 0 ≡ key) (fits : place + length bytes ≤ 252)
-    (count : blocks_for len ≡ blocks_for slot.len) where
+module _ (s : Slab Block) (chains : List ChainEnds) (i capacity : ℕ) (ends : ChainEnds) (chained : IsChained s chains capacity)
+    (within : i < length chains) (is : get_or chains i ends ≡ ends) (key b place len : ℕ) (bytes : List ℕ)
+    (inside : b < blocks_for ends.len) (at : get_or (keys_of s ends) b 0 ≡ key) (fits : place + length bytes ≤ 252)
+    (count : blocks_for len ≡ blocks_for ends.len) where
   abbrev written : Block
   written = record { bytes = with_field place bytes (data_at s key); next = next_at s key }
 
-  abbrev new : Slot
-  new = record { head = slot.head; last = slot.last; len = len }
+  abbrev new : ChainEnds
+  new = record { head = ends.head; last = ends.last; len = len }
 
   abbrev t : Slab Block
   t = with_value s key written
 
   pub has_key : ContainsKey s key
-  has_key = has_here s slots i capacity slot chained within is key (key_lies s slots i capacity slot chained within is b key inside at)
+  has_key = has_here s chains i capacity ends chained within is key (key_lies s chains i capacity ends chained within is b key inside at)
 
   found : get t key ≡ Some written
   found = (Updates-with_value s key written has_key).changed
@@ -74,10 +74,10 @@ module _ (s : Slab Block) (slots : List Slot) (i capacity : ℕ) (slot : Slot) (
   others = (Updates-with_value s key written has_key).others
 
   one_block : blocks_at s key ≡ 1
-  one_block = block_here s slots i capacity slot chained within is key (key_lies s slots i capacity slot chained within is b key inside at)
+  one_block = block_here s chains i capacity ends chained within is key (key_lies s chains i capacity ends chained within is b key inside at)
 
   long : length (data_at s key) ≡ 252
-  long = full_here s slots i capacity slot chained within is key (key_lies s slots i capacity slot chained within is b key inside at)
+  long = full_here s chains i capacity ends chained within is key (key_lies s chains i capacity ends chained within is b key inside at)
 
   next_same : (k : ℕ) → next_at t k ≡ next_at s k
   next_same k =
@@ -106,63 +106,63 @@ module _ (s : Slab Block) (slots : List Slot) (i capacity : ℕ) (slot : Slot) (
             omega (arith, chained.full k, blocks_same k)
       ]
 
-  keys_same : keys_of t new ≡ keys_of s slot
-  keys_same = ap (λ n. keys_from t n slot.head) count ∙ keys_from-same s t (blocks_for slot.len) slot.head (λ k h. next_same k)
+  keys_same : keys_of t new ≡ keys_of s ends
+  keys_same = ap (λ n. keys_from t n ends.head) count ∙ keys_from-same s t (blocks_for ends.len) ends.head (λ k h. next_same k)
 
-  pub moves_put : Moves s t slot new
+  pub moves_put : Moves s t ends new
   moves_put =
       record {
         same = λ k more.
             others k (λ here. omega (
               arith,
               one_block,
-              ap (λ x. times_in x (keys_of s slot)) here,
+              ap (λ x. times_in x (keys_of s ends)) here,
               ap (blocks_at s) here,
-              key_lies s slots i capacity slot chained within is b key inside at,
+              key_lies s chains i capacity ends chained within is b key inside at,
             ));
         once = λ k. omega (arith, blocks_same k, ap (times_in k) keys_same);
         counted = omega (arith, slab_len-with_value s key written has_key);
         full = full;
-        last = λ some. ap (λ n. get_or (keys_of t new) (n - 1) 0) count ∙ ap (λ ks. get_or ks (blocks_for slot.len - 1) 0)
-            keys_same ∙ last_here s slots i capacity slot chained within is (omega arith);
+        last = λ some. ap (λ n. get_or (keys_of t new) (n - 1) 0) count ∙ ap (λ ks. get_or ks (blocks_for ends.len - 1) 0)
+            keys_same ∙ last_here s chains i capacity ends chained within is (omega arith);
         capacity = refl;
       }
 
   pub chain_put : chain_of t new ≡ record {
-    keys = keys_of s slot;
+    keys = keys_of s ends;
     bytes =
-        take len (with_field (252 * b + place) bytes (data_of s (keys_of s slot)));
+        take len (with_field (252 * b + place) bytes (data_of s (keys_of s ends)));
   }
   chain_put =
-      let held = data_of-put s t (keys_of s slot) b key place bytes
-      (omega (arith, length-keys_from s (blocks_for slot.len) slot.head)) at (once_here s slots i capacity slot chained
-      within is key) (full_here s slots i capacity slot chained within is) fits (ap data_in found)
+      let held = data_of-put s t (keys_of s ends) b key place bytes
+      (omega (arith, length-keys_from s (blocks_for ends.len) ends.head)) at (once_here s chains i capacity ends chained
+      within is key) (full_here s chains i capacity ends chained within is) fits (ap data_in found)
       (λ k differ. ap data_in (others k differ)) in
       ap (λ (ks : List ℕ). record { keys = ks; bytes = take len (data_of t ks) }) keys_same
-      ∙ ap (λ (bs : List ℕ). record { keys = keys_of s slot; bytes = take len bs }) held
+      ∙ ap (λ (bs : List ℕ). record { keys = keys_of s ends; bytes = take len bs }) held
 
   -- at the string's end
-  pub chain_extended : 252 * b + place ≡ slot.len → len ≡ slot.len + length bytes →
-      chain_of t new ≡ record { keys = (chain_of s slot).keys; bytes = (chain_of s slot).bytes ++ bytes }
+  pub chain_extended : 252 * b + place ≡ ends.len → len ≡ ends.len + length bytes →
+      chain_of t new ≡ record { keys = (chain_of s ends).keys; bytes = (chain_of s ends).bytes ++ bytes }
   chain_extended end longer =
-      let old = data_of s (keys_of s slot) in
-      let size = length_data s slots i capacity slot chained within is in
+      let old = data_of s (keys_of s ends) in
+      let size = length_data s chains i capacity ends chained within is in
       chain_put
-      ∙ ap (λ (n : ℕ). record { keys = keys_of s slot; bytes = take n (with_field (252 * b + place) bytes old) }) longer
-      ∙ ap (λ (p : ℕ). record { keys = keys_of s slot; bytes = take (slot.len + length bytes) (with_field p bytes old) }) end
-      ∙ ap (λ (bs : List ℕ). record { keys = keys_of s slot; bytes = bs })
-      (take-with_field_end slot.len bytes old (omega (arith, blocks_for-bounds slot.len)))
+      ∙ ap (λ (n : ℕ). record { keys = keys_of s ends; bytes = take n (with_field (252 * b + place) bytes old) }) longer
+      ∙ ap (λ (p : ℕ). record { keys = keys_of s ends; bytes = take (ends.len + length bytes) (with_field p bytes old) }) end
+      ∙ ap (λ (bs : List ℕ). record { keys = keys_of s ends; bytes = bs })
+      (take-with_field_end ends.len bytes old (omega (arith, blocks_for-bounds ends.len)))
 
   -- within the string
-  pub chain_overwritten : 252 * b + place + length bytes ≤ slot.len → len ≡ slot.len →
-      chain_of t new ≡ record { keys = (chain_of s slot).keys; bytes = with_field (252 * b + place) bytes (chain_of s slot).bytes }
+  pub chain_overwritten : 252 * b + place + length bytes ≤ ends.len → len ≡ ends.len →
+      chain_of t new ≡ record { keys = (chain_of s ends).keys; bytes = with_field (252 * b + place) bytes (chain_of s ends).bytes }
   chain_overwritten fits_string same =
-      let old = data_of s (keys_of s slot) in
-      let size = length_data s slots i capacity slot chained within is in
+      let old = data_of s (keys_of s ends) in
+      let size = length_data s chains i capacity ends chained within is in
       chain_put
-      ∙ ap (λ (n : ℕ). record { keys = keys_of s slot; bytes = take n (with_field (252 * b + place) bytes old) }) same
-      ∙ ap (λ (bs : List ℕ). record { keys = keys_of s slot; bytes = bs }) (take-with_field slot.len (252 * b + place) bytes old
-      fits_string (omega (arith, blocks_for-bounds slot.len)))
+      ∙ ap (λ (n : ℕ). record { keys = keys_of s ends; bytes = take n (with_field (252 * b + place) bytes old) }) same
+      ∙ ap (λ (bs : List ℕ). record { keys = keys_of s ends; bytes = bs }) (take-with_field ends.len (252 * b + place) bytes old
+      fits_string (omega (arith, blocks_for-bounds ends.len)))
 
 -- where bytes go that the last block has room for
 pub end_in_last : (size more : ℕ) → 0 < more → size + more ≤ 252 * blocks_for size →

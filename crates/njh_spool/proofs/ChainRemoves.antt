@@ -6,7 +6,7 @@ use Rattle.std.proofs.lemmas.List.{drop_all, drop_at}
 use Rattle.std.proofs.lemmas.List.Concat.{flat_map-cons}
 use Rattle.slab.specs.Slab.{Slab, get, slab_len, ContainsKey, Updates}
 use Rattle.njh_spool.specs.declared.store.block.Block.{Block}
-use Rattle.njh_spool.specs.declared.store.slot.Slot.{Slot}
+use Rattle.njh_spool.specs.declared.store.chain_ends.ChainEnds.{ChainEnds}
 use Rattle.njh_spool.specs.code.Chains.{blocks_for}
 use Rattle.njh_spool.specs.code.ChainedBlocks.{link_in, data_in, blocks_in, next_at, data_at, blocks_at, keys_from}
 use Rattle.njh_spool.specs.code.ChainedBlocks.{keys_of, data_of, chain_of, times_in, IsChained}
@@ -34,51 +34,51 @@ rest_of size xs ys long =
           drop_all 252 (take size (xs ++ ys)) (omega (arith, length-take size (xs ++ ys))) ∙ sym (ap (λ n. take n ys) none)
     ]
 
-module _ (s t : Slab Block) (slots : List Slot) (i capacity : ℕ) (slot : Slot) (chained : IsChained s slots capacity)
-    (within : i < length slots) (is : get_or slots i slot ≡ slot) (any : 0 < slot.len) where
-  pub head_lies : 0 < times_in slot.head (keys_of s slot)
-  head_lies = key_lies s slots i capacity slot chained within is 0 slot.head (omega arith)
-      (head_here s slots i capacity slot chained within is any)
+module _ (s t : Slab Block) (chains : List ChainEnds) (i capacity : ℕ) (ends : ChainEnds) (chained : IsChained s chains capacity)
+    (within : i < length chains) (is : get_or chains i ends ≡ ends) (any : 0 < ends.len) where
+  pub head_lies : 0 < times_in ends.head (keys_of s ends)
+  head_lies = key_lies s chains i capacity ends chained within is 0 ends.head (omega arith)
+      (head_here s chains i capacity ends chained within is any)
 
-  pub has_head : ContainsKey s slot.head
-  has_head = has_here s slots i capacity slot chained within is slot.head head_lies
+  pub has_head : ContainsKey s ends.head
+  has_head = has_here s chains i capacity ends chained within is ends.head head_lies
 
-  module _ (first : Block) (found : get s slot.head ≡ Some first) (updates : Updates s t slot.head None)
+  module _ (first : Block) (found : get s ends.head ≡ Some first) (updates : Updates s t ends.head None)
       (fewer : slab_len t + 1 ≡ slab_len s) (room : t.capacity ≡ s.capacity) where
-    abbrev shorter : Slot
-    shorter = record { head = first.next; last = slot.last; len = slot.len - 252 }
+    abbrev shorter : ChainEnds
+    shorter = record { head = first.next; last = ends.last; len = ends.len - 252 }
 
     abbrev rest : List ℕ
-    rest = keys_from s (blocks_for (slot.len - 252)) (next_at s slot.head)
+    rest = keys_from s (blocks_for (ends.len - 252)) (next_at s ends.head)
 
-    keys_first : keys_of s slot ≡ slot.head ∷ rest
+    keys_first : keys_of s ends ≡ ends.head ∷ rest
     keys_first =
-        let one : blocks_for slot.len ≡ suc (blocks_for (slot.len - 252)) = blocks_for_is slot.len
-        (suc (blocks_for (slot.len - 252))) (omega arith) (omega arith) in
-        ap (λ n. keys_from s n slot.head) one
+        let one : blocks_for ends.len ≡ suc (blocks_for (ends.len - 252)) = blocks_for_is ends.len
+        (suc (blocks_for (ends.len - 252))) (omega arith) (omega arith) in
+        ap (λ n. keys_from s n ends.head) one
 
-    times_first : (key : ℕ) → times_in key (keys_of s slot) ≡ cond {A = ℕ} (eqb slot.head key) 1 0 + times_in key rest
-    times_first key = ap (times_in key) keys_first ∙ times-cons key slot.head rest
+    times_first : (key : ℕ) → times_in key (keys_of s ends) ≡ cond {A = ℕ} (eqb ends.head key) 1 0 + times_in key rest
+    times_first key = ap (times_in key) keys_first ∙ times-cons key ends.head rest
 
-    head_one : blocks_at s slot.head ≡ 1
+    head_one : blocks_at s ends.head ≡ 1
     head_one = ap blocks_in found
 
-    in_rest : (key : ℕ) → 0 < times_in key rest → key ≢ slot.head
+    in_rest : (key : ℕ) → 0 < times_in key rest → key ≢ ends.head
     in_rest key h same =
         omega (
           arith,
-          times_first slot.head,
-          one_itself slot.head,
-          once_here s slots i capacity slot chained within is slot.head,
+          times_first ends.head,
+          one_itself ends.head,
+          once_here s chains i capacity ends chained within is ends.head,
           ap (λ x. times_in x rest) same,
         )
 
     keys_shorter : keys_of t shorter ≡ rest
     keys_shorter =
-        ap (λ x. keys_from t (blocks_for (slot.len - 252)) x) (sym (ap link_in found))
-        ∙ keys_from-same s t (blocks_for (slot.len - 252)) (next_at s slot.head) (λ k h. ap link_in (updates.others k (in_rest k h)))
+        ap (λ x. keys_from t (blocks_for (ends.len - 252)) x) (sym (ap link_in found))
+        ∙ keys_from-same s t (blocks_for (ends.len - 252)) (next_at s ends.head) (λ k h. ap link_in (updates.others k (in_rest k h)))
 
-    pub moves_rest : Moves s t slot shorter
+    pub moves_rest : Moves s t ends shorter
     moves_rest =
         record {
           same = λ key h. updates.others key (λ here. omega (
@@ -86,25 +86,25 @@ module _ (s t : Slab Block) (slots : List Slot) (i capacity : ℕ) (slot : Slot)
             head_one,
             ap (blocks_at s) here,
             ap
-                (λ x. times_in x (keys_of s slot)) here,
+                (λ x. times_in x (keys_of s ends)) here,
             head_lies,
           ));
           once = λ key.
               let new = ap (times_in key) keys_shorter in
-              elim (cases_eq key slot.head) [
+              elim (cases_eq key ends.head) [
                 | inl here ↦
                     let now = ap (λ x. blocks_at t x) here ∙ ap blocks_in updates.changed in
                     let was = ap (blocks_at s) here ∙ head_one in
-                    let itself = ap (λ x. cond {A = ℕ} (eqb slot.head x) 1 0) here ∙ one_itself slot.head in
+                    let itself = ap (λ x. cond {A = ℕ} (eqb ends.head x) 1 0) here ∙ one_itself ends.head in
                     omega (arith, times_first key)
                 | inr differ ↦
                     let same = ap blocks_in (updates.others key differ) in
-                    let other = one_other slot.head key (λ e. differ (sym e)) in
+                    let other = one_other ends.head key (λ e. differ (sym e)) in
                     omega (arith, times_first key)
               ];
-          counted = omega (arith, blocks_for_is slot.len (suc (blocks_for (slot.len - 252))) (omega arith) (omega arith));
+          counted = omega (arith, blocks_for_is ends.len (suc (blocks_for (ends.len - 252))) (omega arith) (omega arith));
           full = λ key.
-              elim (cases_eq key slot.head) [
+              elim (cases_eq key ends.head) [
                 | inl here ↦
                     let gone = ap (get t) here ∙ updates.changed in
                     let one = ap blocks_in gone in
@@ -117,22 +117,22 @@ module _ (s t : Slab Block) (slots : List Slot) (i capacity : ℕ) (slot : Slot)
                     omega (arith, chained.full key)
               ];
           last = λ some.
-              let more : blocks_for slot.len - 1 ≡ blocks_for (slot.len - 252) =
-              omega (arith, blocks_for_is slot.len (suc (blocks_for (slot.len - 252))) (omega arith) (omega arith)) in
-              ap (λ ks. get_or ks (blocks_for (slot.len - 252) - 1) 0) keys_shorter
-              ∙ sym (get_or-rest slot.head rest (blocks_for (slot.len - 252)) (omega arith))
-              ∙ ap (λ n. get_or (slot.head ∷ rest) n 0) (sym more)
-              ∙ ap (λ ks. get_or ks (blocks_for slot.len - 1) 0) (sym keys_first)
-              ∙ last_here s slots i capacity slot chained within is any;
+              let more : blocks_for ends.len - 1 ≡ blocks_for (ends.len - 252) =
+              omega (arith, blocks_for_is ends.len (suc (blocks_for (ends.len - 252))) (omega arith) (omega arith)) in
+              ap (λ ks. get_or ks (blocks_for (ends.len - 252) - 1) 0) keys_shorter
+              ∙ sym (get_or-rest ends.head rest (blocks_for (ends.len - 252)) (omega arith))
+              ∙ ap (λ n. get_or (ends.head ∷ rest) n 0) (sym more)
+              ∙ ap (λ ks. get_or ks (blocks_for ends.len - 1) 0) (sym keys_first)
+              ∙ last_here s chains i capacity ends chained within is any;
           capacity = room;
         }
 
-    pub chain_rest : chain_of t shorter ≡ record { keys = drop 1 (keys_of s slot); bytes = drop 252 (chain_of s slot).bytes }
+    pub chain_rest : chain_of t shorter ≡ record { keys = drop 1 (keys_of s ends); bytes = drop 252 (chain_of s ends).bytes }
     chain_rest =
-        let long = full_here s slots i capacity slot chained within is slot.head head_lies in
+        let long = full_here s chains i capacity ends chained within is ends.head head_lies in
         let kept = data_of-same s t rest (λ k h. ap data_in (updates.others k (in_rest k h))) in
-        let all = ap (data_of s) keys_first ∙ flat_map-cons (data_at s) slot.head rest in
-        let back = ap (λ xs. drop 252 (take slot.len xs)) all ∙ rest_of slot.len (data_at s slot.head) (data_of s rest) long in
-        ap (λ (ks : List ℕ). record { keys = ks; bytes = take (slot.len - 252) (data_of t ks) }) keys_shorter
-        ∙ ap (λ (bs : List ℕ). record { keys = rest; bytes = bs }) (ap (take (slot.len - 252)) kept ∙ sym back)
-        ∙ ap (λ (ks : List ℕ). record { keys = drop 1 ks; bytes = drop 252 (chain_of s slot).bytes }) (sym keys_first)
+        let all = ap (data_of s) keys_first ∙ flat_map-cons (data_at s) ends.head rest in
+        let back = ap (λ xs. drop 252 (take ends.len xs)) all ∙ rest_of ends.len (data_at s ends.head) (data_of s rest) long in
+        ap (λ (ks : List ℕ). record { keys = ks; bytes = take (ends.len - 252) (data_of t ks) }) keys_shorter
+        ∙ ap (λ (bs : List ℕ). record { keys = rest; bytes = bs }) (ap (take (ends.len - 252)) kept ∙ sym back)
+        ∙ ap (λ (ks : List ℕ). record { keys = drop 1 ks; bytes = drop 252 (chain_of s ends).bytes }) (sym keys_first)

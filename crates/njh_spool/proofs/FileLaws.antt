@@ -8,8 +8,8 @@ use Rattle.njh_record.specs.Stored.{Stored}
 use Rattle.njh_spool.specs.declared.file_slot.FileSlot.{FileSlot}
 use Rattle.njh_spool.specs.declared.file_slot.RecordPlace.{RecordPlace}
 use Rattle.njh_spool.specs.declared.file_slot.KeptPlaces.{KeptPlaces}
-use Rattle.njh_spool.specs.declared.store.block_mark.Mark.{Mark}
-use Rattle.njh_spool.specs.code.Chains.{Chain, IsMark}
+use Rattle.njh_spool.specs.declared.store.chain_block.ChainBlock.{ChainBlock}
+use Rattle.njh_spool.specs.code.Chains.{Chain, IsBlockOf}
 use Rattle.njh_spool.specs.CustomerSpool.{stored_size}
 use Rattle.njh_spool.specs.code.Packing.{packed_record, packed_bytes, unpacked_records, IsShort}
 use Rattle.njh_spool.specs.code.Slots.{is_free, first_place, first_places, IsPlace, ArePlaces, IsFile}
@@ -38,7 +38,7 @@ file_of records slot chain short counted is free small places =
     }
 
 first_is : (records : List Stored) (keys : List ℕ) → IsPlace records keys first_place
-first_is records keys = record { before = omega arith; place = refl; mark = λ above. absurd (omega arith) }
+first_is records keys = record { before = omega arith; place = refl; block = λ above. absurd (omega arith) }
 
 pub first_are : (records : List Stored) (keys : List ℕ) (kept : KeptPlaces) → kept ≡ first_places → ArePlaces records keys kept
 first_are records keys kept is =
@@ -55,16 +55,16 @@ All-push P (x ∷ xs) y all here =
     λ k d within. elim k as (λ k'. k' < suc (length (xs ++ y ∷ [])) → P (get_or (x ∷ (xs ++ y ∷ [])) k' d))
     [ zero ↦ λ _. All-head P x xs all | suc k' ↦ λ w. rest k' d (omega arith) ] within
 
--- a mark stays one where a chain grows
+-- a chain's block stays one where the chain grows
 slice_get-front : (n i : ℕ) (xs : List ℕ) (key : ℕ) → slice_get (take n xs) i ≡ Some key → slice_get xs i ≡ Some key
 slice_get-front zero i xs key found = cc
 slice_get-front (suc n) i [] key found = found
 slice_get-front (suc n) zero (x ∷ xs) key found = found
 slice_get-front (suc n) (suc i) (x ∷ xs) key found = slice_get-front n i xs key found
 
-pub mark-grown : (keys keys' : List ℕ) (mark : Mark) → take (length keys) keys' ≡ keys → IsMark keys mark → IsMark keys' mark
-mark-grown keys keys' mark front is = λ above. slice_get-front (length keys) mark.block keys' mark.key
-    (ap (λ (ks : List ℕ). slice_get ks mark.block) front ∙ is above)
+pub block-grown : (keys keys' : List ℕ) (block : ChainBlock) → take (length keys) keys' ≡ keys → IsBlockOf keys block → IsBlockOf keys' block
+block-grown keys keys' block front is = λ above. slice_get-front (length keys) block.index keys' block.key
+    (ap (λ (ks : List ℕ). slice_get ks block.index) front ∙ is above)
 
 -- a place stays one where a record more is put last
 place-grown : (records : List Stored) (r : Stored) (keys keys' : List ℕ) (at : RecordPlace) → take (length keys) keys' ≡ keys →
@@ -73,7 +73,7 @@ place-grown records r keys keys' at front is =
     record {
       before = omega (arith, is.before, length-append records (r ∷ []));
       place = is.place ∙ ap stored_size (sym (take-append-le at.record_index records (r ∷ []) is.before));
-      mark = mark-grown keys keys' at.mark front is.mark;
+      block = block-grown keys keys' at.block front is.block;
     }
 
 -- one record more

@@ -6,12 +6,11 @@ pub mod ChainAdds
 pub mod ChainKeys
 pub mod ChainLaws
 pub mod ChainLists
-pub mod ChainMarks
 pub mod ChainMoves
 pub mod ChainPlaces
 pub mod ChainPuts
 pub mod ChainRemoves
-pub mod ChainSlots
+pub mod ChainValues
 pub mod ChainWrites
 pub mod CostLaws
 pub mod FileLaws

@@ -8,11 +8,11 @@ use Rattle.std.proofs.lemmas.List.Sums.{sum_by-cons}
 use Rattle.njh_record.specs.Bytes.{field, two_bytes}
 use Rattle.njh_record.specs.Stored.{Stored}
 use Rattle.njh_spool.specs.declared.file_slot.FileSlot.{FileSlot}
-use Rattle.njh_spool.specs.code.Chains.{Chain, IsMark}
+use Rattle.njh_spool.specs.code.Chains.{Chain, IsBlockOf}
 use Rattle.njh_spool.specs.CustomerSpool.{stored_size}
 use Rattle.njh_spool.specs.code.Packing.{packed_record, packed_bytes, unpacked_records, IsShort}
 use Rattle.njh_spool.specs.declared.file_slot.RecordPlace.{RecordPlace}
-use Rattle.njh_spool.specs.declared.store.block_mark.Mark.{Mark}
+use Rattle.njh_spool.specs.declared.store.chain_block.ChainBlock.{ChainBlock}
 use Rattle.njh_spool.specs.code.Slots.{IsPlace, IsFile}
 use Rattle.njh_spool.proofs.PackingLaws.{length-packed_record, length-unpacked}
 
@@ -84,16 +84,16 @@ in_file slot chain k file within =
     )
 
 -- where the record after one begins
-pub next_place : (slot : FileSlot) (chain : Chain) (from : RecordPlace) (r : Stored) (size : ℕ) (mark : Mark) →
+pub next_place : (slot : FileSlot) (chain : Chain) (from : RecordPlace) (r : Stored) (size : ℕ) (block : ChainBlock) →
     IsPlace (unpacked_records slot.count chain.bytes) chain.keys from → IsAt (unpacked_records slot.count chain.bytes) from.record_index r →
-    from.record_index < slot.count → length r.bytes ≡ size → IsMark chain.keys mark → IsPlace (unpacked_records slot.count chain.bytes)
-    chain.keys (record { record_index = from.record_index + 1; place = from.place + 3 + size; mark = mark })
-next_place slot chain from r size mark place here more length_is is_mark =
+    from.record_index < slot.count → length r.bytes ≡ size → IsBlockOf chain.keys block → IsPlace (unpacked_records slot.count chain.bytes)
+    chain.keys (record { record_index = from.record_index + 1; place = from.place + 3 + size; block = block })
+next_place slot chain from r size block place here more length_is is_block =
     let next : from.record_index + 1 ≡ suc from.record_index = omega arith in
     let total : from.place + 3 + size ≡ stored_size (take (suc from.record_index) (unpacked_records slot.count chain.bytes)) =
     omega (arith, place.place, here.next) in
     record {
       before = omega (arith, length-unpacked slot.count chain.bytes);
       place = total ∙ ap (λ (n : ℕ). stored_size (take n (unpacked_records slot.count chain.bytes))) (sym next);
-      mark = is_mark;
+      block = is_block;
     }

@@ -116,5 +116,5 @@ place-rewritten k place new records keys at fits is =
     record {
       before = omega (arith, is.before, length-at_index k (rewritten_record place new) records);
       place = is.place ∙ sym (places-at_index at.record_index k place new records fits);
-      mark = is.mark;
+      block = is.block;
     }

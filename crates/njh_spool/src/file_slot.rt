@@ -5,7 +5,7 @@ ghost use Rattle.std.specs.Prelude.{◌≡◌};
 use crate::State;
 use crate::file_headers::{FileSummary, KeptHeaders};
 use crate::file_id::FileId;
-use crate::store::block_mark::{FIRST_BLOCK, Mark};
+use crate::store::chain_block::{ChainBlock, FIRST_BLOCK};
 use njh_record::Kind;
 
 /// Whether a file is in a slot, and whether it is whole yet.
@@ -22,7 +22,7 @@ pub struct RecordPlace {
     pub record_index: u32,
     pub place: u32,
     /// A block of the file's chain, to start from.
-    pub mark: Mark,
+    pub block: ChainBlock,
 }
 
 /// Where the record that was read last begins, and where the one behind it does.
@@ -47,7 +47,7 @@ impl RecordPlace {
     pub const FIRST: RecordPlace = RecordPlace {
         record_index: 0,
         place: 0,
-        mark: FIRST_BLOCK,
+        block: FIRST_BLOCK,
     };
 }
 

@@ -1,25 +1,25 @@
 //! Where the records of a file lie.
 
 ghost use Rattle.std.specs.Prelude.{◌≡◌, ◌+◌, ◌<◌, ◌≤◌, ◌++◌, length, IsSomeAnd, slice_get, Some};
-ghost use Rattle.njh_spool.specs.code.Chains.{chain_at, IsMark};
+ghost use Rattle.njh_spool.specs.code.Chains.{chain_at, IsBlockOf};
 ghost use Rattle.njh_spool.specs.code.Packing.{packed_record, unpacked_records};
 ghost use Rattle.njh_spool.specs.code.Slots.{IsFile, IsPlace};
 
 use crate::file_slot::{FileSlot, KeptPlaces, RecordPlace};
 use crate::store::Store;
-use crate::store::block_mark::Mark;
+use crate::store::chain_block::ChainBlock;
 use byteorder::{BigEndian, ByteOrder};
 use njh_record::Record;
 
 /// What a record takes before its bytes: its SRCB and its length.
 pub const RECORD_HEAD: usize = 3;
 
-/// A record's head, and a mark to read its bytes from.
+/// A record's head, and a block to read its bytes from.
 #[derive(Clone, Copy)]
 pub struct Head {
     pub srcb: u8,
     pub length: u16,
-    pub mark: Mark,
+    pub block: ChainBlock,
 }
 
 /// Reads the head of the record at a place. `into` is room for it.
@@ -32,13 +32,13 @@ fn read_head(store: &Store, at: u32, slot: &FileSlot, from: RecordPlace, into: &
     ensures head { IsSomeAnd (slice_get (unpacked_records slot.now.count
         (chain_at at store.now).bytes) from.record_index)
         (λ r. (r.srcb ≡ result.srcb) × (length r.bytes ≡ result.length)) }
-    ensures mark { IsMark (chain_at at store.now).keys result.mark }
+    ensures block { IsBlockOf (chain_at at store.now).keys result.block }
 {
-    let mark = store.read(at, from.mark, from.place, RECORD_HEAD, into);
+    let block = store.read(at, from.block, from.place, RECORD_HEAD, into);
     Head {
         srcb: into[0],
         length: BigEndian::read_u16(&into[1..]),
-        mark,
+        block,
     }
 }
 
@@ -63,7 +63,7 @@ fn place_behind(
     RecordPlace {
         record_index: from.record_index + 1,
         place: from.place + RECORD_HEAD as u32 + u32::from(head.length),
-        mark: head.mark,
+        block: head.block,
     }
 }
 
@@ -114,11 +114,11 @@ pub fn read_record(
 {
     let head = read_head(store, at, slot, from, into);
     let begins = from.place + RECORD_HEAD as u32;
-    let mark = store.read(at, head.mark, begins, usize::from(head.length), into);
+    let block = store.read(at, head.block, begins, usize::from(head.length), into);
     let next = RecordPlace {
         record_index: from.record_index + 1,
         place: begins + u32::from(head.length),
-        mark,
+        block,
     };
     (head.srcb, next)
 }

@@ -4,7 +4,7 @@ use Rattle.std.specs.Prelude.{count_by, sum_by, slice_index, slice_index_or, Opt
 use Rattle.std.specs.List.{flat_map, All}
 use Rattle.slab.specs.Slab.{Slab, get, slab_len}
 use Rattle.njh_spool.specs.declared.store.block.Block.{Block}
-use Rattle.njh_spool.specs.declared.store.slot.Slot.{Slot}
+use Rattle.njh_spool.specs.declared.store.chain_ends.ChainEnds.{ChainEnds}
 use Rattle.njh_table.specs.Limits.{max_capacity}
 use Rattle.njh_spool.specs.code.Chains.{Chain, blocks_for}
 
@@ -42,54 +42,54 @@ keys_from blocks (suc more) key = key ∷ keys_from blocks more (next_at blocks 
 abbrev pub data_of : Slab Block → List ℕ → List ℕ
 data_of blocks keys = flat_map (data_at blocks) keys
 
--- a slot with no byte
-abbrev pub no_slot : Slot
-no_slot = record { head = 0; last = 0; len = 0 }
+-- the ends of a chain with no byte
+abbrev pub empty_ends : ChainEnds
+empty_ends = record { head = 0; last = 0; len = 0 }
 
--- the keys of a slot's blocks
-abbrev pub keys_of : Slab Block → Slot → List ℕ
-keys_of blocks slot = keys_from blocks (blocks_for slot.len) slot.head
+-- the keys of a chain's blocks
+abbrev pub keys_of : Slab Block → ChainEnds → List ℕ
+keys_of blocks ends = keys_from blocks (blocks_for ends.len) ends.head
 
--- the chain of a slot
-abbrev pub chain_of : Slab Block → Slot → Chain
-chain_of blocks slot =
-    record { keys = keys_of blocks slot; bytes = take slot.len (data_of blocks (keys_of blocks slot)) }
+-- the chain between two ends
+abbrev pub chain_of : Slab Block → ChainEnds → Chain
+chain_of blocks ends =
+    record { keys = keys_of blocks ends; bytes = take ends.len (data_of blocks (keys_of blocks ends)) }
 
-abbrev pub chains_of : Slab Block → List Slot → List Chain
-chains_of blocks slots = map (chain_of blocks) slots
+abbrev pub chains_of : Slab Block → List ChainEnds → List Chain
+chains_of blocks chains = map (chain_of blocks) chains
 
 -- how many times a key stands in a list of keys
 abbrev pub times_in : ℕ → List ℕ → ℕ
 times_in key keys = count_by (λ k. k == key) keys
 
--- how many times a key stands in the chains of all slots together
-abbrev pub times : Slab Block → List Slot → ℕ → ℕ
-times blocks slots key = sum_by (λ slot. times_in key (keys_of blocks slot)) slots
+-- how many times a key stands in all chains together
+abbrev pub times : Slab Block → List ChainEnds → ℕ → ℕ
+times blocks chains key = sum_by (λ ends. times_in key (keys_of blocks ends)) chains
 
--- how many times a key stands in the chain of one slot
-abbrev pub times_at : Slab Block → List Slot → ℕ → ℕ → ℕ
-times_at blocks slots slot key = times_in key (keys_of blocks (slice_index_or slots slot no_slot))
+-- how many times a key stands in one chain
+abbrev pub times_at : Slab Block → List ChainEnds → ℕ → ℕ → ℕ
+times_at blocks chains chain key = times_in key (keys_of blocks (slice_index_or chains chain empty_ends))
 
--- a key stands once in the chain of exactly one slot
-pub record LiesInOne (blocks : Slab Block) (slots : List Slot) (key : ℕ) : Type 0 where
-  pub slot : ℕ
-  pub within : slot < length slots
-  pub once : times_at blocks slots slot key ≡ 1
-  pub others : (other : ℕ) → other < length slots → other ≢ slot → times_at blocks slots other key ≡ 0
+-- a key stands once in exactly one chain
+pub record LiesInOne (blocks : Slab Block) (chains : List ChainEnds) (key : ℕ) : Type 0 where
+  pub chain : ℕ
+  pub within : chain < length chains
+  pub once : times_at blocks chains chain key ≡ 1
+  pub others : (other : ℕ) → other < length chains → other ≢ chain → times_at blocks chains other key ≡ 0
 
--- a slot knows the last key of its chain
-abbrev pub KnowsLast : Slab Block → Slot → Type 0
-KnowsLast blocks slot = 0 < slot.len → slice_index (keys_of blocks slot) (blocks_for slot.len - 1) ≡ slot.last
+-- of a chain its last key is known
+abbrev pub KnowsLast : Slab Block → ChainEnds → Type 0
+KnowsLast blocks ends = 0 < ends.len → slice_index (keys_of blocks ends) (blocks_for ends.len - 1) ≡ ends.last
 
-pub record IsChained (blocks : Slab Block) (slots : List Slot) (capacity : ℕ) : Type 0 where
-  -- each block that isn't vacant lies once in the chain of exactly one slot, and no vacant one in any
-  pub once : (key : ℕ) → times blocks slots key ≡ blocks_at blocks key
+pub record IsChained (blocks : Slab Block) (chains : List ChainEnds) (capacity : ℕ) : Type 0 where
+  -- each block that isn't vacant lies once in exactly one chain, and no vacant one in any
+  pub once : (key : ℕ) → times blocks chains key ≡ blocks_at blocks key
   -- there are as many blocks as the strings need
-  pub counted : slab_len blocks ≡ sum_by (λ slot. blocks_for slot.len) slots
+  pub counted : slab_len blocks ≡ sum_by (λ ends. blocks_for ends.len) chains
   -- where they are fewer than the capacity, a vacant one is left
   pub within : slab_len blocks ≤ capacity
   pub room : capacity ≤ blocks.capacity
   pub full : (key : ℕ) → length (data_at blocks key) ≡ 252 * blocks_at blocks key
-  pub last : All (KnowsLast blocks) slots
+  pub last : All (KnowsLast blocks) chains
   pub small : capacity ≤ max_capacity
   pub keys_fit : blocks.capacity ≤ 2 ^ 32

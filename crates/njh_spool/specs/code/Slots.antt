@@ -14,7 +14,7 @@ use Rattle.njh_spool.specs.declared.file_slot.FileSlot.{FileSlot}
 use Rattle.njh_spool.specs.declared.file_slot.RecordPlace.{RecordPlace}
 use Rattle.njh_spool.specs.declared.file_slot.KeptPlaces.{KeptPlaces}
 use Rattle.njh_spool.specs.declared.customer_files.CustomerFiles.{CustomerFiles}
-use Rattle.njh_spool.specs.code.Chains.{Chain, StoreValue, empty_chain, blocks_used, IsMark}
+use Rattle.njh_spool.specs.code.Chains.{Chain, StoreValue, empty_chain, blocks_used, IsBlockOf}
 use Rattle.njh_spool.specs.CustomerSpool.{CustomerSpool, WholeFile, PartialFile, stored_size, used_blocks}
 use Rattle.njh_spool.specs.Spools.{IsSound}
 use Rattle.njh_spool.specs.Headers.{kept_headers, no_headers}
@@ -22,7 +22,7 @@ use Rattle.njh_spool.specs.code.Packing.{packed_bytes, unpacked_records, IsShort
 
 -- where the first record of any file begins
 abbrev pub first_place : RecordPlace
-first_place = record { record_index = 0; place = 0; mark = record { block = 0; key = 0 } }
+first_place = record { record_index = 0; place = 0; block = record { index = 0; key = 0 } }
 
 -- the places of a file of which no record was read
 abbrev pub first_places : KeptPlaces
@@ -114,7 +114,7 @@ pub record IsOwn (own : CustomerFiles) (files : ℕ → Content) : Type 0 where
 pub record IsPlace (records : List Stored) (keys : List ℕ) (at : RecordPlace) : Type 0 where
   pub before : at.record_index ≤ length records
   pub place : at.place ≡ stored_size (take at.record_index records)
-  pub mark : IsMark keys at.mark
+  pub block : IsBlockOf keys at.block
 
 -- the places that a file's slot keeps
 pub record ArePlaces (records : List Stored) (keys : List ℕ) (kept : KeptPlaces) : Type 0 where

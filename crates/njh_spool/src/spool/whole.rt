@@ -131,7 +131,7 @@ impl Spool {
         let at = crate::slot_places::place(customer, id);
         let begins = place_of_record(&self.store, at, &slot, n);
         let from = begins.place + (RECORD_HEAD + place) as u32;
-        self.store.overwrite(at, begins.mark, from, bytes);
+        self.store.overwrite(at, begins.block, from, bytes);
         slot.headers = headers_behind(&self.store, at, &slot, n);
         self.slots.set(customer, id, slot);
         Ok(())

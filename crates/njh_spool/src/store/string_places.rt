@@ -2,124 +2,131 @@
 
 ghost use Rattle.std.specs.Prelude.{◌≡◌, ◌+◌, ◌*◌, ◌<◌, ◌≤◌, ◌++◌, length, slice_get, Some};
 ghost use Rattle.njh_record.specs.Bytes.{field, with_field};
-ghost use Rattle.njh_spool.specs.code.Chains.{chain_at, with_bytes, IsMark, IsNear};
+ghost use Rattle.njh_spool.specs.code.Chains.{chain_at, with_bytes, IsBlockOf, IsNear};
 
 use crate::store::Store;
 use crate::store::block::{BLOCK_DATA, put};
-use crate::store::block_mark::{FIRST_BLOCK, Mark};
+use crate::store::chain_block::{ChainBlock, FIRST_BLOCK};
 use njh_record::Record;
 
 impl Store {
-    /// The key of a mark's block.
-    pub(super) fn key_of(&self, slot: u32, mark: Mark) -> u32
-        requires slot { slot < length self.now.chains }
-        requires mark { IsMark (chain_at slot self.now).keys mark }
-        requires within { 252 * mark.block < length (chain_at slot self.now).bytes }
-        ensures { slice_get (chain_at slot self.now).keys mark.block ≡ Some result }
+    /// The key of a chain's block.
+    pub(super) fn key_of(&self, chain: u32, block: ChainBlock) -> u32
+        requires chain { chain < length self.now.chains }
+        requires block { IsBlockOf (chain_at chain self.now).keys block }
+        requires within { 252 * block.index < length (chain_at chain self.now).bytes }
+        ensures { slice_get (chain_at chain self.now).keys block.index ≡ Some result }
     {
-        if mark.block == 0 {
-            self.slots[slot as usize].head
+        if block.index == 0 {
+            self.chains[chain as usize].head
         } else {
-            mark.key
+            block.key
         }
     }
 
-    /// The block after a mark's.
-    pub(super) fn next(&self, slot: u32, mark: Mark) -> Mark
-        requires slot { slot < length self.now.chains }
-        requires mark { IsMark (chain_at slot self.now).keys mark }
-        requires within { 252 * mark.block + 252 < length (chain_at slot self.now).bytes }
-        ensures mark { IsMark (chain_at slot self.now).keys result }
-        ensures block { result.block ≡ mark.block + 1 }
+    /// The block after another.
+    pub(super) fn next(&self, chain: u32, block: ChainBlock) -> ChainBlock
+        requires chain { chain < length self.now.chains }
+        requires block { IsBlockOf (chain_at chain self.now).keys block }
+        requires within { 252 * block.index + 252 < length (chain_at chain self.now).bytes }
+        ensures block { IsBlockOf (chain_at chain self.now).keys result }
+        ensures index { result.index ≡ block.index + 1 }
     {
-        let key = self.key_of(slot, mark);
+        let key = self.key_of(chain, block);
         let next = self.blocks[key as usize].next;
-        Mark {
-            block: mark.block + 1,
+        ChainBlock {
+            index: block.index + 1,
             key: next,
         }
     }
 
-    /// A block where a place lies or that ends there, looked for from a mark on, where this isn't behind it.
-    pub(super) fn seek(&self, slot: u32, from: Mark, place: usize) -> Mark
-        requires slot { slot < length self.now.chains }
-        requires mark { IsMark (chain_at slot self.now).keys from }
-        requires within { place ≤ length (chain_at slot self.now).bytes }
-        ensures mark { IsMark (chain_at slot self.now).keys result }
+    /// A block where a place lies or that ends there, looked for from a block on, where this isn't behind it.
+    pub(super) fn seek(&self, chain: u32, from: ChainBlock, place: usize) -> ChainBlock
+        requires chain { chain < length self.now.chains }
+        requires block { IsBlockOf (chain_at chain self.now).keys from }
+        requires within { place ≤ length (chain_at chain self.now).bytes }
+        ensures block { IsBlockOf (chain_at chain self.now).keys result }
         ensures near { IsNear result place }
     {
-        let mut mark = if from.block as usize * BLOCK_DATA <= place {
+        let mut block = if from.index as usize * BLOCK_DATA <= place {
             from
         } else {
             FIRST_BLOCK
         };
-        while (mark.block as usize + 1) * BLOCK_DATA < place {
-            mark = self.next(slot, mark);
+        while (block.index as usize + 1) * BLOCK_DATA < place {
+            block = self.next(chain, block);
         }
-        mark
+        block
     }
 
-    /// The block where a place lies, next to a mark.
-    pub(super) fn reach(&self, slot: u32, mark: Mark, place: usize) -> Mark
-        requires slot { slot < length self.now.chains }
-        requires mark { IsMark (chain_at slot self.now).keys mark }
-        requires near { IsNear mark place }
-        requires within { place < length (chain_at slot self.now).bytes }
-        ensures mark { IsMark (chain_at slot self.now).keys result }
-        ensures begins { 252 * result.block ≤ place }
-        ensures ends { place < 252 * result.block + 252 }
+    /// The block where a place lies: a block near it, or the next one.
+    pub(super) fn reach(&self, chain: u32, block: ChainBlock, place: usize) -> ChainBlock
+        requires chain { chain < length self.now.chains }
+        requires block { IsBlockOf (chain_at chain self.now).keys block }
+        requires near { IsNear block place }
+        requires within { place < length (chain_at chain self.now).bytes }
+        ensures block { IsBlockOf (chain_at chain self.now).keys result }
+        ensures begins { 252 * result.index ≤ place }
+        ensures ends { place < 252 * result.index + 252 }
     {
-        if (mark.block as usize + 1) * BLOCK_DATA == place {
-            self.next(slot, mark)
+        if (block.index as usize + 1) * BLOCK_DATA == place {
+            self.next(chain, block)
         } else {
-            mark
+            block
         }
     }
 
     /// Appends bytes that lie in one block to `into`.
-    pub(super) fn copy_part(&self, slot: u32, mark: Mark, place: usize, n: usize, into: &mut Record)
-        requires slot { slot < length self.now.chains }
-        requires mark { IsMark (chain_at slot self.now).keys mark }
-        requires begins { 252 * mark.block ≤ place }
-        requires ends { place + n ≤ 252 * mark.block + 252 }
-        requires within { place + n ≤ length (chain_at slot self.now).bytes }
+    pub(super) fn copy_part(
+        &self,
+        chain: u32,
+        block: ChainBlock,
+        place: usize,
+        n: usize,
+        into: &mut Record,
+    )
+        requires chain { chain < length self.now.chains }
+        requires block { IsBlockOf (chain_at chain self.now).keys block }
+        requires begins { 252 * block.index ≤ place }
+        requires ends { place + n ≤ 252 * block.index + 252 }
+        requires within { place + n ≤ length (chain_at chain self.now).bytes }
         requires some { 0 < n }
         requires short { length into.old.items + n ≤ 256 }
-        ensures { into.new.items ≡ into.old.items ++ field place n (chain_at slot self.now).bytes }
+        ensures { into.new.items ≡ into.old.items ++ field place n (chain_at chain self.now).bytes }
     {
-        let key = self.key_of(slot, mark);
-        let at = place - mark.block as usize * BLOCK_DATA;
+        let key = self.key_of(chain, block);
+        let at = place - block.index as usize * BLOCK_DATA;
         let bytes = &self.blocks[key as usize].bytes;
         into.try_extend_from_slice(&bytes[at..at + n]).unwrap();
     }
 
     /// Writes over bytes that lie in one block.
-    pub(super) fn put_part(&mut self, slot: u32, mark: Mark, place: usize, bytes: &[u8])
-        requires slot { slot < length self.old.chains }
-        requires mark { IsMark (chain_at slot self.old).keys mark }
-        requires begins { 252 * mark.block ≤ place }
-        requires ends { place + length bytes.now ≤ 252 * mark.block + 252 }
-        requires within { place + length bytes.now ≤ length (chain_at slot self.old).bytes }
+    pub(super) fn put_part(&mut self, chain: u32, block: ChainBlock, place: usize, bytes: &[u8])
+        requires chain { chain < length self.old.chains }
+        requires block { IsBlockOf (chain_at chain self.old).keys block }
+        requires begins { 252 * block.index ≤ place }
+        requires ends { place + length bytes.now ≤ 252 * block.index + 252 }
+        requires within { place + length bytes.now ≤ length (chain_at chain self.old).bytes }
         requires some { 0 < length bytes.now }
-        ensures { self.new ≡ with_bytes slot (with_field place bytes.now (chain_at slot self.old).bytes) self.old }
+        ensures { self.new ≡ with_bytes chain (with_field place bytes.now (chain_at chain self.old).bytes) self.old }
     {
-        let key = self.key_of(slot, mark);
-        let at = place - mark.block as usize * BLOCK_DATA;
+        let key = self.key_of(chain, block);
+        let at = place - block.index as usize * BLOCK_DATA;
         put(&mut self.blocks, key, at, bytes);
     }
 
-    /// Writes over bytes from the end of a mark's block on, if any are given.
-    pub(super) fn put_rest(&mut self, slot: u32, mark: Mark, place: usize, bytes: &[u8])
-        requires slot { slot < length self.old.chains }
-        requires mark { IsMark (chain_at slot self.old).keys mark }
-        requires begins { 0 < length bytes.now → place ≡ 252 * mark.block + 252 }
+    /// Writes over bytes from the end of a block on, if any are given.
+    pub(super) fn put_rest(&mut self, chain: u32, block: ChainBlock, place: usize, bytes: &[u8])
+        requires chain { chain < length self.old.chains }
+        requires block { IsBlockOf (chain_at chain self.old).keys block }
+        requires begins { 0 < length bytes.now → place ≡ 252 * block.index + 252 }
         requires short { length bytes.now ≤ 252 }
-        requires within { place + length bytes.now ≤ length (chain_at slot self.old).bytes }
-        ensures { self.new ≡ with_bytes slot (with_field place bytes.now (chain_at slot self.old).bytes) self.old }
+        requires within { place + length bytes.now ≤ length (chain_at chain self.old).bytes }
+        ensures { self.new ≡ with_bytes chain (with_field place bytes.now (chain_at chain self.old).bytes) self.old }
     {
         if !bytes.is_empty() {
-            let after = self.next(slot, mark);
-            self.put_part(slot, after, place, bytes);
+            let after = self.next(chain, block);
+            self.put_part(chain, after, place, bytes);
         }
     }
 }

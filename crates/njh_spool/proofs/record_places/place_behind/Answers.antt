@@ -18,5 +18,5 @@ pub returns-clause-place : goal.returns-clause-place
 returns-clause-place c =
     let r = in_file c.args.slot.now (chain_at c.args.at c.args.store.now) c.args.from.record_index c.requires.file c.requires.more in
     let head = rw r.1.found at c.read_head-head.ensures.head in
-    next_place c.args.slot.now (chain_at c.args.at c.args.store.now) c.args.from r.0 c.from.result c.read_head-head.result.mark
-    c.requires.place r.1 c.requires.more (head.1 ∙ sym c.from.ensures) c.read_head-head.ensures.mark
+    next_place c.args.slot.now (chain_at c.args.at c.args.store.now) c.args.from r.0 c.from.result c.read_head-head.result.block
+    c.requires.place r.1 c.requires.more (head.1 ∙ sym c.from.ensures) c.read_head-head.ensures.block

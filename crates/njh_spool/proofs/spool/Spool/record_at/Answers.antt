@@ -8,7 +8,6 @@ use Rattle.njh_spool.proofs.IndexLaws.{small_used}
 use Rattle.njh_spool.proofs.CallFinds as finds
 use Rattle.njh_spool.proofs.spool.Spool.record_at.Goals as goal
 use Rattle.njh_spool.proofs.spool.Spool.record_at.Goals.{After-is_free, After-place_of_record-begins}
-use Rattle.njh_spool.proofs.spool.Spool.record_at.Goals.{After-read_record-srcb}
 use Rattle.std.specs.Prelude.{slice_get}
 use Rattle.std.specs.Option.{option_and_then}
 use Rattle.njh_record.specs.Stored.{Stored}

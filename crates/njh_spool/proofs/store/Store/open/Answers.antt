@@ -7,4 +7,4 @@ use Rattle.njh_spool.proofs.store.Store.open.Goals as goal
 pub returns : goal.returns
 returns c =
     ap (λ (chains : List Chain). record { capacity = c.args.capacity; chains = chains })
-    (ap (chains_of c.in_ok-blocks.blocks) c.in_ok-slots.ensures ∙ chains_of-empty c.in_ok-blocks.blocks c.args.slots)
+    (ap (chains_of c.in_ok-blocks.blocks) c.in_ok-chains.ensures ∙ chains_of-empty c.in_ok-blocks.blocks c.args.chains)
