@@ -17,7 +17,9 @@ use Rattle.njh_spool.specs.code.Slots.{Content, contents, slot_of, chain_of, is_
 use Rattle.njh_spool.specs.code.Slots.{whole_file, partial_file, spools_of, IsKept}
 use Rattle.njh_spool.proofs.CostLaws.{cost_push}
 use Rattle.njh_spool.proofs.IndexLaws.{at_is, small_used}
-use Rattle.njh_spool.proofs.KeptLaws.{own_of, HasOwn, has_own, stays, used_all}
+use Rattle.njh_spool.proofs.Calls.{Call}
+use Rattle.njh_spool.proofs.Calls as calls
+use Rattle.njh_spool.proofs.KeptLaws.{own_of, HasOwn, stays, used_all}
 use Rattle.njh_spool.proofs.FileLaws.{size_is}
 use Rattle.njh_spool.proofs.ReadLaws.{has_file, has_no_file, partial_stage as stage_of}
 use Rattle.njh_spool.proofs.ReadLaws.{whole_not_partial as not_partial_of}
@@ -52,10 +54,27 @@ few_records : (records : List Stored) → length records ≤ stored_size records
 few_records [] = omega arith
 few_records (r ∷ records) = omega (arith, few_records records, sum_by-cons (λ (x : Stored). 3 + length x.bytes) r records)
 
-module _ (store : StoreValue) (slots : List FileSlot) (customers : List CustomerFiles) (c n : ℕ)
-    (kept : IsKept store slots customers) (inside : c < length (spools_of customers (contents slots store.chains))) where
+module _ (here : Call) where
+  abbrev store : StoreValue
+  store = here.spool.store
+
+  abbrev slots : List FileSlot
+  slots = here.spool.slots
+
+  abbrev customers : List CustomerFiles
+  customers = here.spool.customers.items
+
+  abbrev c : ℕ
+  c = here.customer
+
+  abbrev n : ℕ
+  n = here.number
+
+  kept : IsKept store slots customers
+  kept = here.kept
+
   pub has : HasOwn store slots customers c
-  has = has_own store slots customers c kept inside
+  has = calls.has here
 
   abbrev spools : List CustomerSpool
   spools = spools_of customers (contents slots store.chains)
@@ -81,9 +100,11 @@ module _ (store : StoreValue) (slots : List FileSlot) (customers : List Customer
       record {
         none = ap (partial_numbered n) has.part ∙ no.none;
         appends = λ r. ap (append_fault n r) has.part ∙ no.appends r;
-        abandons = stays customers (contents slots store.chains) c (without_partial n (spool_at c spools)) (has.part ∙ sym no.abandons
+        abandons = stays customers (contents slots store.chains) c (without_partial n (spool_at c spools))
+            (has.part ∙ sym no.abandons
             ∙ ap (without_partial n) (sym has.part));
-        finishes = stays customers (contents slots store.chains) c (with_finished n (spool_at c spools)) (has.part ∙ sym no.finishes
+        finishes = stays customers (contents slots store.chains) c (with_finished n (spool_at c spools))
+            (has.part ∙ sym no.finishes
             ∙ ap (with_finished n) (sym has.part));
       }
 
@@ -147,8 +168,10 @@ module _ (store : StoreValue) (slots : List FileSlot) (customers : List Customer
   -- the store has room for what the quota leaves
   pub room : (r : Stored) (keys : List ℕ) → is_partial slot.stage ≡ true → n < 1024 → own.used - blocks_of chain.bytes +
       blocks_of (chain.bytes ++ packed_record r) ≤ own.quota →
-      ((blocks : ℕ) → used_blocks (spool_at c spools) + blocks ≤ (spool_at c spools).quota → sum_by used_blocks spools + blocks ≤ store.capacity) →
-      blocks_used (with_chain (1024 * c + n) (record { keys = keys; bytes = chain.bytes ++ packed_record r }) store) ≤ store.capacity
+      ((blocks : ℕ) → used_blocks (spool_at c spools) + blocks ≤ (spool_at c spools).quota → sum_by used_blocks spools +
+      blocks ≤ store.capacity) →
+      blocks_used (with_chain (1024 * c + n) (record { keys = keys; bytes = chain.bytes ++ packed_record r }) store) ≤
+      store.capacity
   room r keys there small fits leaves =
       let more = blocks_of (chain.bytes ++ packed_record r) - blocks_of chain.bytes in
       let enough = partial.covered own files n has.own (stage_of slot.stage there) in

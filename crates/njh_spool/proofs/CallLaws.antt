@@ -28,7 +28,8 @@ use Rattle.njh_spool.specs.declared.file_headers.KeptHeaders.{KeptHeaders}
 use Rattle.njh_spool.proofs.HeaderLaws.{kept_headers-behind}
 use Rattle.njh_spool.proofs.CostLaws.{cost-rewritten, stored_size-rewritten}
 use Rattle.njh_spool.proofs.IndexLaws.{put, put_again, at_is}
-use Rattle.njh_spool.proofs.KeptLaws.{own_of, HasOwn, Moves, moves}
+use Rattle.njh_spool.proofs.Calls.{Call, MovesTo}
+use Rattle.njh_spool.proofs.KeptLaws.{own_of, HasOwn, moves}
 use Rattle.njh_spool.proofs.FileLaws.{records_are, file_of, first_are, appended-records, appended-file, size_is}
 use Rattle.njh_spool.proofs.ReadLaws.{partial_stage as stage_of, whole_not_partial as not_partial_of}
 use Rattle.njh_spool.proofs.PackingLaws.{length-packed, length-unpacked}
@@ -40,10 +41,27 @@ use Rattle.njh_spool.proofs.BeginLaws as begin
 use Rattle.njh_spool.proofs.CallFinds as finds
 use Rattle.njh_spool.proofs.CallFinds.{not_free-partial}
 
-module _ (store : StoreValue) (slots : List FileSlot) (customers : List CustomerFiles) (c n : ℕ)
-    (kept : IsKept store slots customers) (inside : c < length (spools_of customers (contents slots store.chains))) where
+module _ (here : Call) where
+  abbrev store : StoreValue
+  store = here.spool.store
+
+  abbrev slots : List FileSlot
+  slots = here.spool.slots
+
+  abbrev customers : List CustomerFiles
+  customers = here.spool.customers.items
+
+  abbrev c : ℕ
+  c = here.customer
+
+  abbrev n : ℕ
+  n = here.number
+
+  kept : IsKept store slots customers
+  kept = here.kept
+
   has : HasOwn store slots customers c
-  has = finds.has store slots customers c n kept inside
+  has = finds.has here
 
   abbrev spools : List CustomerSpool
   spools = spools_of customers (contents slots store.chains)
@@ -61,7 +79,7 @@ module _ (store : StoreValue) (slots : List FileSlot) (customers : List Customer
   chain = chain_of store.chains c n
 
   blocks_are : blocks_of chain.bytes ≡ cost (files n).records
-  blocks_are = finds.blocks_are store slots customers c n kept inside
+  blocks_are = finds.blocks_are here
 
   store_same : n < 1024 → with_chain (1024 * c + n) chain store ≡ store
   store_same small =
@@ -75,9 +93,10 @@ module _ (store : StoreValue) (slots : List FileSlot) (customers : List Customer
   -- a call that leaves the customer's file with this slot and this chain, and the customer with these lists
   goes : (call : CustomerSpool → CustomerSpool) (slot' : FileSlot) (chain' : Chain) (own' : CustomerFiles) → n < 1024 →
       own'.quota ≡ own.quota → blocks_of chain'.bytes + own.used ≡ blocks_of chain.bytes + own'.used → IsFile slot' chain' →
-      KeepsHeaders slot' chain' → IsOwn own' (put files n (content slot' chain')) × (spool_of own' (put files n (content slot' chain')) ≡ call
-      (spool_of own files)) → Moves store slots customers (with_chain (1024 * c + n) chain' store)
-      (set slots (1024 * c + n) slot') (set customers c own') c (call (spool_at c spools))
+      KeepsHeaders slot' chain' → IsOwn own' (put files n (content slot' chain')) ×
+      (spool_of own' (put files n (content slot' chain')) ≡ call
+      (spool_of own files)) → MovesTo here (with_chain (1024 * c + n) chain' store) (set slots (1024 * c + n) slot')
+      (set customers c own') call
   goes call slot' chain' own' small quota blocks file headers owns =
       moves store slots customers c n slot' chain' own' kept has small (call (spool_at c spools)) quota blocks file headers
       (owns.0, owns.1 ∙ ap call (sym has.part))
@@ -94,12 +113,16 @@ module _ (store : StoreValue) (slots : List FileSlot) (customers : List Customer
 
   pub abandons : (slot' : FileSlot) (own' : CustomerFiles) → is_partial slot.stage ≡ true → slot' ≡ free_slot →
       own' ≡ record own { used = own.used - blocks_of chain.bytes; partial = filter (λ m. not (eqb m n)) own.partial } →
-      n < 1024 → Moves store slots customers (with_chain (1024 * c + n) empty_chain store) (set slots (1024 * c + n) slot')
-      (set customers c own') c (without_partial n (spool_at c spools))
+      n < 1024 → MovesTo here (with_chain (1024 * c + n) empty_chain store) (set slots (1024 * c + n) slot')
+      (set customers c own') (without_partial n)
   abandons slot' own' there free owns small =
       let stage = stage_of slot.stage there in
       let enough = partial.covered own files n has.own stage in
-      let now = owns ∙ ap (λ (b : ℕ). record own { used = own.used - b; partial = filter (λ m. not (eqb m n)) own.partial }) blocks_are in
+      let now = owns ∙ ap (λ (b : ℕ). record own {
+        used = own.used - b;
+        partial = filter (λ m. not (eqb m n))
+            own.partial;
+      }) blocks_are in
       let left : own'.used ≡ own.used - cost (files n).records = ap (λ (o : CustomerFiles). o.used) now in
       goes (without_partial n) slot' empty_chain own' small (ap (λ (o : CustomerFiles). o.quota) owns)
       (omega (arith, left, enough, blocks_are)) (empty_file slot' [] (ap (λ (x : FileSlot). x.count) free)
@@ -108,12 +131,13 @@ module _ (store : StoreValue) (slots : List FileSlot) (customers : List Customer
 
   pub removes : (slot' : FileSlot) (own' : CustomerFiles) → is_whole_stage slot.stage ≡ true → slot' ≡ free_slot →
       own' ≡ record own { used = own.used - blocks_of chain.bytes; whole = filter (λ m. not (eqb m n)) own.whole } → n < 1024 →
-      Moves store slots customers (with_chain (1024 * c + n) empty_chain store) (set slots (1024 * c + n) slot')
-      (set customers c own') c (without_whole n (spool_at c spools))
+      MovesTo here (with_chain (1024 * c + n) empty_chain store) (set slots (1024 * c + n) slot') (set customers c own')
+      (without_whole n)
   removes slot' own' there free owns small =
       let other = not_partial_of slot.stage there in
       let enough = whole.covered own files n has.own there other in
-      let now = owns ∙ ap (λ (b : ℕ). record own { used = own.used - b; whole = filter (λ m. not (eqb m n)) own.whole }) blocks_are in
+      let now = owns ∙ ap (λ (b : ℕ). record own { used = own.used - b; whole = filter (λ m. not (eqb m n)) own.whole })
+      blocks_are in
       let left : own'.used ≡ own.used - cost (files n).records = ap (λ (o : CustomerFiles). o.used) now in
       goes (without_whole n) slot' empty_chain own' small (ap (λ (o : CustomerFiles). o.quota) owns)
       (omega (arith, left, enough, blocks_are)) (empty_file slot' [] (ap (λ (x : FileSlot). x.count) free)
@@ -121,7 +145,8 @@ module _ (store : StoreValue) (slots : List FileSlot) (customers : List Customer
       (whole.removes own files n has.own there other (content slot' empty_chain) own' (ap (λ (x : FileSlot). x.stage) free) now)
 
   -- the file has another stage, and is not free
-  restaged : (stage : Stage) (headers : KeptHeaders) → is_free stage ≡ false → IsFile (record slot { stage = stage; headers = headers }) chain
+  restaged : (stage : Stage) (headers : KeptHeaders) → is_free stage ≡ false → IsFile
+      (record slot { stage = stage; headers = headers }) chain
   restaged stage headers used' =
       let file = kept.files c n in
       record {
@@ -134,43 +159,46 @@ module _ (store : StoreValue) (slots : List FileSlot) (customers : List Customer
       }
 
   pub finishes : (own' : CustomerFiles) (headers : KeptHeaders) → headers ≡ kept_headers slot.kind (files n).records →
-      is_partial slot.stage ≡ true → own' ≡ record own { whole = own.whole ++ n ∷ []; partial = filter (λ m. not (eqb m n)) own.partial } →
-      n < 1024 → Moves store slots customers store
-      (set slots (1024 * c + n) (record slot { stage = Whole Ready; headers = headers })) (set customers c own') c
-      (with_finished n (spool_at c spools))
+      is_partial slot.stage ≡ true → own' ≡ record own {
+        whole = own.whole ++ n ∷ [];
+        partial = filter
+            (λ m. not (eqb m n)) own.partial;
+      } →
+      n < 1024 → MovesTo here store (set slots (1024 * c + n) (record slot { stage = Whole Ready; headers = headers }))
+      (set customers c own') (with_finished n)
   finishes own' headers said there owns small =
       let stage = stage_of slot.stage there in
       let slot' : FileSlot = record slot { stage = Whole Ready; headers = headers } in
       let blocks = ap (λ (o : CustomerFiles). o.used) owns in
-      subst (λ (t : StoreValue). Moves store slots customers t (set slots (1024 * c + n) slot') (set customers c own') c
-      (with_finished n (spool_at c spools))) (store_same small)
+      subst (λ (t : StoreValue). MovesTo here t (set slots (1024 * c + n) slot') (set customers c own')
+      (with_finished n)) (store_same small)
       (goes (with_finished n) slot' chain own' small (ap (λ (o : CustomerFiles). o.quota) owns) (omega arith)
       (restaged (Whole Ready) headers refl) (λ _. said)
       (partial.finishes own files n has.own stage (content slot' chain) own' refl owns))
 
-  pub restates : (state : State) → is_whole_stage slot.stage ≡ true → n < 1024 → Moves store slots customers store
-      (set slots (1024 * c + n) (record slot { stage = Whole state })) customers c (with_state n state (spool_at c spools))
+  pub restates : (state : State) → is_whole_stage slot.stage ≡ true → n < 1024 → MovesTo here store
+      (set slots (1024 * c + n) (record slot { stage = Whole state })) customers (with_state n state)
   restates state there small =
       let slot' : FileSlot = record slot { stage = Whole state } in
       let other = not_partial_of slot.stage there in
-      subst (λ (os : List CustomerFiles). Moves store slots customers store (set slots (1024 * c + n) slot') os c
-      (with_state n state (spool_at c spools))) customers_same
-      (subst (λ (t : StoreValue). Moves store slots customers t (set slots (1024 * c + n) slot') (set customers c own) c
-      (with_state n state (spool_at c spools))) (store_same small)
+      subst (λ (os : List CustomerFiles). MovesTo here store (set slots (1024 * c + n) slot') os (with_state n state))
+      customers_same
+      (subst (λ (t : StoreValue). MovesTo here t (set slots (1024 * c + n) slot') (set customers c own)
+      (with_state n state)) (store_same small)
       (goes (with_state n state) slot' chain own small refl refl (restaged (Whole state) slot.headers refl)
       (λ _. kept.headers c n there)
-      (whole.changes own files n has.own there other (λ x. record x { state = state }) (content slot' chain) refl refl refl refl)))
+      (whole.changes own files n has.own there other (λ x. record x { state = state }) (content slot' chain) refl refl
+      refl refl)))
 
   -- it is read on from elsewhere
   pub reads_on : (kept' : KeptPlaces) → is_free slot.stage ≡ false → ArePlaces (files n).records chain.keys kept' → n < 1024 →
-      Moves store slots customers store (set slots (1024 * c + n) (record slot { places = kept' })) customers c (spool_at c spools)
+      MovesTo here store (set slots (1024 * c + n) (record slot { places = kept' })) customers (λ s. s)
   reads_on kept' used' places small =
       let slot' : FileSlot = record slot { places = kept' } in
       let file = kept.files c n in
-      subst (λ (os : List CustomerFiles). Moves store slots customers store (set slots (1024 * c + n) slot') os c
-      (spool_at c spools)) customers_same
-      (subst (λ (t : StoreValue). Moves store slots customers t (set slots (1024 * c + n) slot') (set customers c own) c
-      (spool_at c spools)) (store_same small)
+      subst (λ (os : List CustomerFiles). MovesTo here store (set slots (1024 * c + n) slot') os (λ s. s)) customers_same
+      (subst (λ (t : StoreValue). MovesTo here t (set slots (1024 * c + n) slot') (set customers c own) (λ s. s))
+      (store_same small)
       (goes (λ (s : CustomerSpool). s) slot' chain own small refl refl
       (record { bytes = file.bytes; short = file.short; free = file.free; small = file.small; places = places })
       (kept.headers c n)
@@ -181,18 +209,20 @@ module _ (store : StoreValue) (slots : List FileSlot) (customers : List Customer
         stage = Partial;
         kind =
             kind;
-      } → own' ≡ record own { partial = own.partial ++ n ∷ [] } → n < 1024 → Moves store slots customers store
-      (set slots (1024 * c + n) slot') (set customers c own') c (with_new_partial kind (spool_at c spools))
+      } → own' ≡ record own { partial = own.partial ++ n ∷ [] } → n < 1024 → MovesTo here store
+      (set slots (1024 * c + n) slot') (set customers c own') (with_new_partial kind)
   begins kind slot' own' room next free is owns small =
       let file = kept.files c n in
-      let empty : chain.bytes ≡ [] = file.bytes ∙ ap (λ (count : ℕ). packed_bytes (unpacked_records count chain.bytes)) (file.free free) in
+      let empty : chain.bytes ≡ [] = file.bytes ∙ ap (λ (count : ℕ). packed_bytes (unpacked_records count chain.bytes))
+      (file.free free) in
       let none : slot'.count ≡ 0 = ap (λ (x : FileSlot). x.count) is in
       let blocks = ap (λ (o : CustomerFiles). o.used) owns in
       let made : IsFile slot' chain = file_of [] slot' chain (λ k d within. absurd (omega arith)) none empty (λ _. none)
       file.small (first_are [] chain.keys slot'.places (ap (λ (x : FileSlot). x.places) is)) in
-      let same : content slot' chain ≡ record { stage = Partial; kind = kind; records = [] } = ap (λ (x : FileSlot). content x chain) is in
-      subst (λ (t : StoreValue). Moves store slots customers t (set slots (1024 * c + n) slot') (set customers c own') c
-      (with_new_partial kind (spool_at c spools))) (store_same small)
+      let same : content slot' chain ≡ record { stage = Partial; kind = kind; records = [] } = ap
+      (λ (x : FileSlot). content x chain) is in
+      subst (λ (t : StoreValue). MovesTo here t (set slots (1024 * c + n) slot') (set customers c own')
+      (with_new_partial kind)) (store_same small)
       (goes (with_new_partial kind) slot' chain own' small (ap (λ (o : CustomerFiles). o.quota) owns) (omega arith) made
       (keeps_none slot' chain (ap (λ (x : FileSlot). is_whole_stage x.stage) is))
       (begin.begins own files has.own n kind (content slot' chain) own' room next free same owns))
@@ -200,10 +230,10 @@ module _ (store : StoreValue) (slots : List FileSlot) (customers : List Customer
   -- one record more
   pub appends : (r : Stored) (keys : List ℕ) (blocks : ℕ) → is_partial slot.stage ≡ true → IsShort r → take (length chain.keys)
       keys ≡ chain.keys → blocks ≡ own.used - blocks_of chain.bytes + blocks_of (chain.bytes ++ packed_record r) →
-      blocks ≤ own.quota → n < 1024 → Moves store slots customers
-      (with_chain (1024 * c + n) (record { keys = keys; bytes = chain.bytes ++ packed_record r }) store)
-      (set slots (1024 * c + n) (record slot { count = slot.count + 1 })) (set customers c (record own { used = blocks })) c
-      (with_appended n r (spool_at c spools))
+      blocks ≤ own.quota → n < 1024 → MovesTo here (with_chain (1024 * c + n)
+      (record { keys = keys; bytes = chain.bytes ++ packed_record r }) store)
+      (set slots (1024 * c + n) (record slot { count = slot.count + 1 }))
+      (set customers c (record own { used = blocks })) (with_appended n r)
   appends r keys blocks there short front counts fits small =
       let stage = stage_of slot.stage there in
       let file = kept.files c n in
@@ -211,7 +241,8 @@ module _ (store : StoreValue) (slots : List FileSlot) (customers : List Customer
       let slot' : FileSlot = record slot { count = slot.count + 1 } in
       let chain' : Chain = record { keys = keys; bytes = chain.bytes ++ packed_record r } in
       let limit : own.quota ≤ 65535 = has.own.sound.quota_limit in
-      let made = appended-file slot chain keys r file short front (not_free-partial slot.stage there) (omega (arith, enough, blocks_are)) in
+      let made = appended-file slot chain keys r file short front (not_free-partial slot.stage there)
+      (omega (arith, enough, blocks_are)) in
       let records = appended-records slot chain keys r file short front in
       let longer : blocks_of (chain.bytes ++ packed_record r) ≡ cost ((files n).records ++ r ∷ []) =
       ap (λ (size : ℕ). (size + 251) / 252) (size_is slot' chain' made ∙ ap stored_size records) in
@@ -222,13 +253,14 @@ module _ (store : StoreValue) (slots : List FileSlot) (customers : List Customer
       (omega (arith, blocks_are, longer)) fits)
 
   -- the same, where the code's store, its slots and its customer are these
-  pub arrives : (t store' : StoreValue) (slot' : FileSlot) (own' : CustomerFiles) (slots' : List FileSlot) (j : ℕ) (s : CustomerSpool) →
-      store' ≡ t → slots' ≡ set slots (1024 * c + n) slot' → j ≡ c → Moves store slots customers t
-      (set slots (1024 * c + n) slot') (set customers c own') c s → Moves store slots customers store' slots' (set customers j own') c s
-  arrives t store' slot' own' slots' j s same_store same_slots same_customer moved =
-      subst (λ (x : StoreValue). Moves store slots customers x slots' (set customers j own') c s) (sym same_store)
-      (subst (λ (xs : List FileSlot). Moves store slots customers t xs (set customers j own') c s) (sym same_slots)
-      (subst (λ (k : ℕ). Moves store slots customers t (set slots (1024 * c + n) slot') (set customers k own') c s)
+  pub arrives : (t store' : StoreValue) (slot' : FileSlot) (own' : CustomerFiles) (slots' : List FileSlot) (j : ℕ)
+      (call : CustomerSpool → CustomerSpool) →
+      store' ≡ t → slots' ≡ set slots (1024 * c + n) slot' → j ≡ c → MovesTo here t (set slots (1024 * c + n) slot')
+      (set customers c own') call → MovesTo here store' slots' (set customers j own') call
+  arrives t store' slot' own' slots' j call same_store same_slots same_customer moved =
+      subst (λ (x : StoreValue). MovesTo here x slots' (set customers j own') call) (sym same_store)
+      (subst (λ (xs : List FileSlot). MovesTo here t xs (set customers j own') call) (sym same_slots)
+      (subst (λ (k : ℕ). MovesTo here t (set slots (1024 * c + n) slot') (set customers k own') call)
       (sym same_customer) moved))
 
   -- a record is rewritten: the file's slot keeps what the headers say now
@@ -278,7 +310,8 @@ module _ (store : StoreValue) (slots : List FileSlot) (customers : List Customer
     pub still_file : IsFile slot chain'
     still_file = made slot.headers
 
-    keeps : (headers : KeptHeaders) → (k < slot.headers.count → headers ≡ kept_headers slot.kind (unpacked_records slot.count chain'.bytes)) →
+    keeps : (headers : KeptHeaders) → (k < slot.headers.count → headers ≡ kept_headers slot.kind
+        (unpacked_records slot.count chain'.bytes)) →
         (slot.headers.count ≤ k → headers ≡ slot.headers) → KeepsHeaders (record slot { headers = headers }) chain'
     keeps headers again same _ =
         elim (cases_lt k slot.headers.count) [
@@ -292,8 +325,8 @@ module _ (store : StoreValue) (slots : List FileSlot) (customers : List Customer
 
     pub rewrites : (headers : KeptHeaders) → (k < slot.headers.count → headers ≡ kept_headers slot.kind
         (unpacked_records slot.count chain'.bytes)) → (slot.headers.count ≤ k → headers ≡ slot.headers) →
-        Moves store slots customers (with_chain (1024 * c + n) chain' store)
-        (set slots (1024 * c + n) (record slot { headers = headers })) customers c (with_rewritten_bytes n k place new (spool_at c spools))
+        MovesTo here (with_chain (1024 * c + n) chain' store)
+        (set slots (1024 * c + n) (record slot { headers = headers })) customers (with_rewritten_bytes n k place new)
     rewrites headers again same =
         let slot' : FileSlot = record slot { headers = headers } in
         let same_content : content slot' chain' ≡ record { stage = slot.stage; kind = slot.kind; records = changed } =
@@ -304,8 +337,8 @@ module _ (store : StoreValue) (slots : List FileSlot) (customers : List Customer
         ∙ cost-rewritten k place new records fits in
         let file_same : whole_from n (content slot' chain') ≡ record (whole_file files n) { records = changed } =
         ap (whole_from n) same_content in
-        subst (λ (os : List CustomerFiles). Moves store slots customers (with_chain (1024 * c + n) chain' store)
-        (set slots (1024 * c + n) slot') os c (with_rewritten_bytes n k place new (spool_at c spools))) customers_same
+        subst (λ (os : List CustomerFiles). MovesTo here (with_chain (1024 * c + n) chain' store)
+        (set slots (1024 * c + n) slot') os (with_rewritten_bytes n k place new)) customers_same
         (goes (with_rewritten_bytes n k place new) slot' chain' own small refl (omega (arith, blocks)) (made headers)
         (keeps headers again same)
         (whole.changes own files n has.own there other

@@ -1,7 +1,7 @@
 -- The store's value with another chain in the place of one.
 use Rattle.std.proofs.Common.{◌≡◌, ℕ, ◌+◌, ◌*◌, ◌<◌, ◌≤◌, List, ◌++◌, length, take, sym, ap, ◌∙◌, arith, rules}
 use Rattle.std.proofs.Common.{append_assoc, length-append, length-take}
-use Rattle.std.proofs.lemmas.List.{same_lists, places, get_or-set_same, set-set, set-get_or, length-set, take-take}
+use Rattle.std.proofs.lemmas.List.{same_lists, places, get_or-set_same, set-set, length-set, take-take}
 use Rattle.std.proofs.lemmas.List.Sums.{sum_by-set}
 use Rattle.njh_record.specs.Bytes.{with_field}
 use Rattle.njh_spool.specs.code.Chains.{Chain, StoreValue, Grows, empty_chain, chain_at, with_chain, with_bytes}
@@ -16,22 +16,13 @@ pub with_chain-twice : (chain : ℕ) (first second : Chain) (store : StoreValue)
 with_chain-twice chain first second store = ap (λ (chains : List Chain). record store { chains = chains })
     (set-set store.chains chain first second)
 
-pub with_chain-same : (chain : ℕ) (store : StoreValue) → with_chain chain (chain_at chain store) store ≡ store
-with_chain-same chain store = ap (λ (chains : List Chain). record store { chains = chains }) (set-get_or store.chains chain empty_chain)
-
 -- no other chain has changed
 pub record Only (chain : ℕ) (old now : StoreValue) : Type 0 where
   pub is : now ≡ with_chain chain (chain_at chain now) old
 
-pub Only-same : (chain : ℕ) (store : StoreValue) → Only chain store store
-Only-same chain store = record { is = sym (with_chain-same chain store) }
-
 pub Only-within : (chain : ℕ) (old now : StoreValue) → Only chain old now → chain < length old.chains → chain < length now.chains
 Only-within chain old now only within =
     omega (arith, ap (λ (x : StoreValue). length x.chains) only.is, length-set old.chains chain (chain_at chain now))
-
-pub Only-capacity : (chain : ℕ) (old now : StoreValue) → Only chain old now → now.capacity ≡ old.capacity
-Only-capacity chain old now only = ap (λ (x : StoreValue). x.capacity) only.is
 
 pub Only-then : (chain : ℕ) (old now later : StoreValue) (changed : Chain) → Only chain old now → chain < length old.chains →
     later ≡ with_chain chain changed now → Only chain old later

@@ -1,5 +1,5 @@
 -- Blocks and the bytes that they hold.
-use Rattle.std.proofs.Common.{◌≡◌, ℕ, zero, suc, ◌+◌, ◌*◌, ◌/◌, ◌≤◌, List, [], ◌∷◌, ◌++◌, length, take, drop, refl, ap}
+use Rattle.std.proofs.Common.{◌≡◌, ℕ, zero, suc, ◌+◌, ◌/◌, ◌≤◌, List, [], ◌∷◌, ◌++◌, length, take, drop, refl, ap}
 use Rattle.std.proofs.Common.{arith, length-append, length-take, length-drop}
 use Rattle.std.specs.Prelude.{slice_get, IsSomeAnd}
 use Rattle.std.proofs.lemmas.List.Sums.{sum_by_push, sum_by-cons}
@@ -10,12 +10,6 @@ use Rattle.njh_spool.specs.CustomerSpool.{stored_size, cost, at_index, rewritten
 -- one record more
 pub cost_push : (records : List Stored) (r : Stored) → cost (records ++ r ∷ []) ≡ (stored_size records + (3 + length r.bytes) + 251) / 252
 cost_push records r = ap (λ (n : ℕ). (n + 251) / 252) (sum_by_push (λ (x : Stored). 3 + length x.bytes) records r)
-
-pub cost_push-small : (size more : ℕ) → more ≤ 256 → (size + (3 + more) + 251) / 252 ≤ (size + 251) / 252 + 2
-cost_push-small size more short = omega arith
-
-pub size_in_blocks : (size blocks : ℕ) → (size + 251) / 252 ≤ blocks → size ≤ 252 * blocks
-size_in_blocks size blocks fits = omega arith
 
 -- bytes written over others leave the length
 pub length-with_field : (place : ℕ) (new bytes : List ℕ) → place + length new ≤ length bytes →

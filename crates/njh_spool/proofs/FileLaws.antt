@@ -13,7 +13,7 @@ use Rattle.njh_spool.specs.code.Chains.{Chain, IsBlockOf}
 use Rattle.njh_spool.specs.CustomerSpool.{stored_size}
 use Rattle.njh_spool.specs.code.Packing.{packed_record, packed_bytes, unpacked_records, IsShort}
 use Rattle.njh_spool.specs.code.Slots.{is_free, first_place, first_places, IsPlace, ArePlaces, IsFile}
-use Rattle.njh_spool.proofs.PackingLaws.{length-packed_record, length-packed, packed-append, length-unpacked}
+use Rattle.njh_spool.proofs.PackingLaws.{length-packed, packed-append, length-unpacked}
 use Rattle.njh_spool.proofs.PackingLaws.{unpacked-packed}
 
 -- the records of bytes that are packed
@@ -111,9 +111,6 @@ module _ (slot : FileSlot) (chain : Chain) (keys : List ℕ) (r : Stored) (file 
         last = place-grown records r chain.keys keys slot.places.last front file.places.last;
         next = place-grown records r chain.keys keys slot.places.next front file.places.next;
       })
-
-  pub appended-size : length (chain.bytes ++ packed_record r) ≡ length chain.bytes + (3 + length r.bytes)
-  appended-size = omega (arith, length-append chain.bytes (packed_record r), length-packed_record r)
 
 pub size_is : (slot : FileSlot) (chain : Chain) → IsFile slot chain → length chain.bytes ≡ stored_size (unpacked_records slot.count chain.bytes)
 size_is slot chain file = ap length file.bytes ∙ length-packed (unpacked_records slot.count chain.bytes)

@@ -50,9 +50,6 @@ put files n x m = cond (eqb m n) x (files m)
 pub put_same : (files : ℕ → Content) (n : ℕ) (x : Content) → put files n x n ≡ x
 put_same files n x = rw (eq-eqb n n refl) refl
 
-pub put_other : (files : ℕ → Content) (n m : ℕ) (x : Content) → m ≢ n → put files n x m ≡ files m
-put_other files n m x apart = rw (ne_eqb m n apart) refl
-
 pub put_again : (files : ℕ → Content) (n : ℕ) → put files n (files n) ≡ files
 put_again files n =
     fun_ext (λ m.

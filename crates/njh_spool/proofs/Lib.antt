@@ -2,6 +2,7 @@ pub mod BeginLaws
 pub mod BegunLaws
 pub mod CallFinds
 pub mod CallLaws
+pub mod Calls
 pub mod ChainAdds
 pub mod ChainKeys
 pub mod ChainLaws

@@ -2,7 +2,7 @@
 use Rattle.std.proofs.Common.{◌≡◌, ℕ, zero, suc, ◌+◌, ◌<◌, ◌≤◌, Bool, true, false, eqb, List, [], ◌∷◌, ◌++◌, length}
 use Rattle.std.proofs.Common.{map, refl, sym, ap, ◌∙◌, inl, inr, arith, length-append}
 use Rattle.std.specs.List.{list_any}
-use Rattle.std.proofs.lemmas.Bool.{both_ways, cases_eq, cases_order, cases_lt}
+use Rattle.std.proofs.lemmas.Bool.{cases_eq, cases_lt}
 use Rattle.std.proofs.lemmas.Bool.Decides.{nat_tests}
 use Rattle.std.proofs.lemmas.List.{length-map}
 use Rattle.std.proofs.lemmas.List.Folds.{list_any-append}
@@ -45,17 +45,6 @@ least_from_is zero n s = record {
   free = λ below. absurd (omega arith);
 }
 least_from_is (suc k) n s = step k n s (is_number n s) refl (least_from_is k (n + 1) s)
-
--- a search that ends at a number ends there alone
-pub least_from-unique : (k n m : ℕ) (s : CustomerSpool) → IsLeastFrom k n m s → least_from k n s ≡ m
-least_from-unique k n m s least =
-    let found = least_from_is k n s in
-    elim (cases_order (least_from k n s) m) [
-      | inl same ↦ same
-      | inr (inl below) ↦ absurd (both_ways (is_number (least_from k n s) s) (found.free (omega (arith, least.within)))
-          (least.taken (least_from k n s) found.from below))
-      | inr (inr above) ↦ absurd (both_ways (is_number m s) (least.free (omega (arith, found.within))) (found.taken m least.from above))
-    ]
 
 pub numbers : CustomerSpool → List ℕ
 numbers s = map (λ f. f.number) s.whole ++ map (λ f. f.number) s.partial

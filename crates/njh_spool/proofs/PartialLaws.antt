@@ -107,10 +107,6 @@ module _ (own : CustomerFiles) (files : ℕ → Content) (n : ℕ) (is : IsOwn o
             (λ (o : CustomerFiles). spool_of o (put files n x)) owns_new ∙ is_now ∙ says,
       )
 
-  -- what a call makes of the customer's spool, where it is known what it makes of these files
-  abbrev with_rest : List PartialFile → CustomerSpool
-  with_rest fs = spool_with own whole fs
-
   whole_kept : (x : Content) → map (whole_file (put files n x)) own.whole ≡ whole
   whole_kept x = whole-put files n x own.whole not_whole
 

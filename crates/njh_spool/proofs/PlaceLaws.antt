@@ -1,39 +1,11 @@
 -- What a search of a list finds.
-use Rattle.std.proofs.Common.{◌≡◌, ℕ, zero, suc, ◌<◌, ◌≤◌, Bool, true, false, cond, not, ltb, List, [], ◌∷◌, ◌++◌}
-use Rattle.std.proofs.Common.{length, get_or, take, drop, map, filter, count_by, position, Some, None, refl, sym, ap}
+use Rattle.std.proofs.Common.{◌≡◌, ℕ, zero, suc, ◌<◌, ◌≤◌, Bool, true, false, cond, not, List, [], ◌∷◌, ◌++◌}
+use Rattle.std.proofs.Common.{length, get_or, take, drop, map, filter, count_by, Some, refl, sym, ap}
 use Rattle.std.proofs.Common.{inl, inr, arith}
 use Rattle.std.specs.Prelude.{slice_get, IsSomeAnd}
-use Rattle.std.specs.List.{list_any, position_or_len}
-use Rattle.std.proofs.lemmas.Bool.{ltb-true, ltb-false, cases_Bool}
-use Rattle.std.proofs.lemmas.List.Folds.{list_any_none}
-use Rattle.std.proofs.lemmas.List.Sums.{passes_at_first, fails_before_first, sum_by-cons, get_or-le-sum_by}
-use Rattle.std.proofs.lemmas.Option.{cond_some}
+use Rattle.std.proofs.lemmas.Bool.{cases_Bool}
+use Rattle.std.proofs.lemmas.List.Sums.{sum_by-cons, get_or-le-sum_by}
 use Rattle.njh_spool.proofs.OnlyOne.{filter_none, list_any-from_count}
-
-no_some : (b : Bool) (i : ℕ) → cond b (Some i) None ≡ None → b ≡ false
-no_some true i none = cc
-no_some false i none = refl
-
-pub position-none : {X : Type 0} (p : X → Bool) (xs : List X) (k : ℕ) (d : X) → position p xs ≡ None → k < length xs →
-    p (get_or xs k d) ≡ false
-position-none p xs k d none within =
-    let past = ltb-false (position_or_len p xs) (length xs) (no_some (ltb (position_or_len p xs) (length xs))
-    (position_or_len p xs) none) in
-    fails_before_first p xs k d (omega arith)
-
-pub position-some : {X : Type 0} (p : X → Bool) (xs : List X) (i : ℕ) → position p xs ≡ Some i →
-    (i < length xs) × ((d : X) → p (get_or xs i d) ≡ true) × ((k : ℕ) (d : X) → k < i → p (get_or xs k d) ≡ false)
-position-some p xs i found =
-    let parts = cond_some (ltb (position_or_len p xs) (length xs)) (position_or_len p xs) i found in
-    let within = ltb-true (position_or_len p xs) (length xs) parts.0 in (
-      rw parts.1 at within,
-      λ d. rw parts.1 at (passes_at_first p xs d within),
-      λ k d before. fails_before_first p xs k d
-          (omega (arith, parts.1)),
-    )
-
-pub position-nowhere : {X : Type 0} (p : X → Bool) (xs : List X) → position p xs ≡ None → list_any p xs ≡ false
-position-nowhere p xs none = list_any_none p xs (λ k d within. position-none p xs k d none within)
 
 -- where a test finds one element, taking it away leaves those that fail the test
 pub removed_is : {X : Type 0} (p : X → Bool) (xs : List X) (i : ℕ) (d : X) → i < length xs → p (get_or xs i d) ≡ true →

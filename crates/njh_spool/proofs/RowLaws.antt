@@ -2,21 +2,14 @@
 use Rattle.std.proofs.Common.{◌≡◌, ℕ, zero, suc, ◌+◌, ◌-◌, ◌*◌, ◌<◌, ◌≤◌, cond, ltb, List, [], ◌∷◌, ◌++◌, length}
 use Rattle.std.proofs.Common.{get_or, set, replicate, refl, sym, ap, ◌∙◌, inl, inr, arith, length-set}
 use Rattle.std.specs.Prelude.{All}
-use Rattle.std.proofs.lemmas.Bool.{cases_lt, lt-ltb, le-ltb, cases_eq}
-use Rattle.std.proofs.lemmas.List.{get_or_append_left, get_or-append_right, get_or-append-add, get_or_past}
-use Rattle.std.proofs.lemmas.List.{set-append_left, set-append_right, length-append, length-replicate, append_assoc}
-use Rattle.std.proofs.lemmas.List.{replicate-append-replicate, get_or-set_same, get_or-set_other}
+use Rattle.std.proofs.lemmas.Bool.{cases_lt, lt-ltb, le-ltb}
+use Rattle.std.proofs.lemmas.List.{get_or_append_left, get_or-append-add, get_or_past}
+use Rattle.std.proofs.lemmas.List.{set-append_left, set-append_right, length-append, append_assoc}
+use Rattle.std.proofs.lemmas.List.{replicate-append-replicate}
 use Rattle.std.proofs.Math.Nat.{mul-suc}
 use Rattle.njh_spool.specs.declared.file_slot.FileSlot.{FileSlot}
 use Rattle.njh_spool.specs.code.Slots.{free_slot}
 use Rattle.njh_spool.specs.code.SlotRows.{row_of, slots_in, IsWholeRow}
-
-pub length-row_of : (written : List FileSlot) (room : ℕ) → length written ≤ room → length (row_of written room) ≡ room
-length-row_of written room fits = omega (
-  arith,
-  length-append written (replicate (room - length written) free_slot),
-  length-replicate (room - length written) free_slot,
-)
 
 -- one more slot is written
 pub row_of-more : (written : List FileSlot) (room : ℕ) → length written < room → row_of (written ++ free_slot ∷ []) room ≡ row_of written room
@@ -32,15 +25,6 @@ get_or-free : (n i : ℕ) → get_or (replicate n free_slot) i free_slot ≡ fre
 get_or-free zero i = refl
 get_or-free (suc n) zero = refl
 get_or-free (suc n) (suc i) = get_or-free n i
-
-pub row_of-written : (written : List FileSlot) (room n : ℕ) → n < length written → get_or (row_of written room) n free_slot ≡ get_or
-    written n free_slot
-row_of-written written room n within = get_or_append_left written (replicate (room - length written) free_slot) free_slot n within
-
-pub row_of-unused : (written : List FileSlot) (room n : ℕ) → length written ≤ n → get_or (row_of written room) n free_slot ≡ free_slot
-row_of-unused written room n past =
-    get_or-append_right written (replicate (room - length written) free_slot) (length written) n free_slot refl past
-    ∙ get_or-free (room - length written) (n - length written)
 
 pub row_of-set : (written : List FileSlot) (room n : ℕ) (slot : FileSlot) → n < length written → row_of (set written n slot) room ≡ set
     (row_of written room) n slot
@@ -101,18 +85,6 @@ slots_in-set (row ∷ rows) (suc c) n slot d whole within small =
     (slots_in-set rows c n slot d (rest_whole row rows whole) (omega arith) small)
     ∙ ap (λ (i : ℕ). row ++ set (slots_in rows) i slot) (sym place)
     ∙ sym (set-append_right row (slots_in rows) (length row) (1024 * suc c + n) slot refl behind)
-
-pub whole-set : (rows : List (List FileSlot)) (c n : ℕ) (slot : FileSlot) (d : List FileSlot) → All IsWholeRow rows →
-    c < length rows → All IsWholeRow (set rows c (set (get_or rows c d) n slot))
-whole-set rows c n slot d whole within =
-    let row = set (get_or rows c d) n slot in
-    let changed : length row ≡ 1024 = length-set (get_or rows c d) n slot ∙ whole c d within in
-    λ k e inside.
-    elim (cases_eq k c) [
-      | inl same ↦ ap (λ (i : ℕ). length (get_or (set rows c row) i e)) same ∙ ap length (get_or-set_same rows c row e within) ∙ changed
-      | inr other ↦
-          ap length (get_or-set_other rows c k row e other) ∙ whole k e (omega (arith, length-set rows c row))
-    ]
 
 -- rows in which no file is
 pub slots_in-free : (count room : ℕ) → slots_in (replicate count (replicate room free_slot)) ≡ replicate (room * count) free_slot

@@ -1,5 +1,5 @@
 -- What a customer's spool is by its lists of numbers and its files.
-use Rattle.std.proofs.Common.{◌≡◌, ℕ, ◌+◌, ◌≤◌, Bool, true, false, cond, not, eqb, List, [], ◌∷◌, ◌++◌, map, filter}
+use Rattle.std.proofs.Common.{◌≡◌, ℕ, ◌+◌, Bool, true, false, cond, not, eqb, List, [], ◌∷◌, ◌++◌, map, filter}
 use Rattle.std.proofs.Common.{count_by, refl, ap, ◌∙◌, inl, inr, arith, eq-eqb, ne_eqb}
 use Rattle.std.specs.List.{list_any}
 use Rattle.std.proofs.lemmas.Bool.{cases_Bool, cases_eq, or_parts, or_from, eqb-true}
@@ -106,7 +106,3 @@ pub count-gone : (xs : List ℕ) (n m : ℕ) (split : IsSplit xs n) → count_by
 count-gone xs n m split =
     let all = ap (count_by (is_at m)) split.here in
     omega (arith, laws.sum_by_one (λ k. cond {A = ℕ} (is_at m k) 1 0) split.before split.after n)
-
-pub at_most_once : (b : Bool) (count : ℕ) → count ≡ cond b 1 0 → count ≤ 1
-at_most_once true count is = omega arith
-at_most_once false count is = omega arith

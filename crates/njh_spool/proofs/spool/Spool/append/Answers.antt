@@ -5,21 +5,21 @@ use Rattle.njh_spool.specs.declared.customer_files.CustomerFiles.{CustomerFiles}
 use Rattle.njh_spool.specs.code.Chains.{Chain, chain_at, with_chain, blocks_of}
 use Rattle.njh_spool.specs.CustomerSpool.{CustomerSpool, with_appended}
 use Rattle.njh_spool.specs.Spools.{spool_at}
-use Rattle.njh_spool.specs.code.Slots.{contents, slot_of, chain_of, is_partial, spools_of}
-use Rattle.njh_spool.proofs.KeptLaws.{own_of, own_is, Moves, within_all, quotas_fit}
+use Rattle.njh_spool.specs.code.Slots.{slot_of, chain_of, is_partial}
+use Rattle.njh_spool.proofs.KeptLaws.{own_of, own_is, within_all, quotas_fit}
 use Rattle.njh_spool.proofs.CallFinds as finds
 use Rattle.njh_spool.proofs.CallLaws as call
 use Rattle.njh_spool.specs.code.Packing.{packed_record}
 use Rattle.njh_spool.proofs.PackingLaws.{length-packed_record}
+use Rattle.njh_spool.proofs.Calls.{MovesTo, call_on, slot_at, chain_of_file, spools_in}
 use Rattle.njh_spool.proofs.spool.Spool.append.Goals as goal
 use Rattle.njh_spool.proofs.spool.Spool.append.Goals.{After-is_partial, After-blocks_for, After-blocks_for-2}
 use Rattle.njh_spool.proofs.spool.Spool.append.Goals.{After-append_both}
 
 pub slot_at-slot-requires : goal.slot_at-slot-requires
 slot_at-slot-requires c =
-    let has = finds.has c.self.inside.store c.self.inside.slots c.self.inside.customers.items c.args.customer c.args.id
-    c.self.invariant (rw c.self.view_is c.requires.range) in
-    omega (arith, has.slot_within 1023 (omega arith))
+    let here = call_on c.self.inside c.args.customer c.args.id c.self.invariant (rw c.self.view_is c.requires.range) in
+    omega (arith, (finds.has here).slot_within 1023 (omega arith))
 
 stage_is : (c : After-is_partial) → is_partial (slot_of c.self.inside.slots c.args.customer c.args.id).stage ≡ c.is_partial.result
 stage_is c = ap (λ (x : FileSlot). is_partial x.stage)
@@ -28,8 +28,8 @@ stage_is c = ap (λ (x : FileSlot). is_partial x.stage)
 
 pub returns-then-not-is_partial-clause-fault : goal.returns-then-not-is_partial-clause-fault
 returns-then-not-is_partial-clause-fault c =
-    let none = finds.finds_no_partial c.self.inside.store c.self.inside.slots c.self.inside.customers.items c.args.customer
-    c.args.id c.self.invariant (rw c.self.view_is c.requires.range)
+    let here = call_on c.self.inside c.args.customer c.args.id c.self.invariant (rw c.self.view_is c.requires.range) in
+    let none = finds.finds_no_partial here
     (stage_is (goal.at.returns-then-not-is_partial-clause-fault c).After-is_partial ∙ c.if-not-is_partial.true) in
     rw (← c.self.view_is, none.appends (record { srcb = c.args.srcb; bytes = c.args.bytes.now })) refl
 
@@ -47,38 +47,32 @@ there_is c = ap (λ (x : FileSlot). is_partial x.stage)
 
 own_same : (c : After-blocks_for) → c.index_mut-own.result.now ≡ (own_of c.self.inside.customers.items c.args.customer)
 own_same c =
-    let has = finds.has c.self.inside.store c.self.inside.slots c.self.inside.customers.items c.args.customer c.args.id
-    c.self.invariant (rw c.self.view_is c.requires.range) in
-    own_is c.self.inside.customers.items c.args.customer c.from.result c.index_mut-own.result.now has.within c.from.ensures
+    let here = call_on c.self.inside c.args.customer c.args.id c.self.invariant (rw c.self.view_is c.requires.range) in
+    own_is c.self.inside.customers.items c.args.customer c.from.result c.index_mut-own.result.now
+    (finds.has here).within c.from.ensures
     c.index_mut-own.ensures.value
 
 chain_same : (c : After-blocks_for) → chain_at c.place-at.result c.self.inside.store ≡
     (chain_of c.self.inside.store.chains c.args.customer c.args.id)
-chain_same c = ap (λ (i : ℕ). chain_at i c.self.inside.store) c.place-at.ensures ∙ finds.chain_is c.self.inside.store
-    c.self.inside.slots c.self.inside.customers.items c.args.customer c.args.id c.self.invariant
-    (rw c.self.view_is c.requires.range) (finds.small_partial c.self.inside.store c.self.inside.slots
-    c.self.inside.customers.items c.args.customer c.args.id c.self.invariant (rw c.self.view_is c.requires.range) (there_is c))
+chain_same c =
+    let here = call_on c.self.inside c.args.customer c.args.id c.self.invariant (rw c.self.view_is c.requires.range) in
+    ap (λ (i : ℕ). chain_at i c.self.inside.store) c.place-at.ensures ∙ finds.chain_is here
+    (finds.small_partial here (there_is c))
 
-size_same : (c : After-blocks_for) → c.len-size.result ≡ length (chain_of c.self.inside.store.chains c.args.customer c.args.id).bytes
+size_same : (c : After-blocks_for) → c.len-size.result ≡ length
+    (chain_of c.self.inside.store.chains c.args.customer c.args.id).bytes
 size_same c = c.len-size.ensures.bytes ∙ ap (λ (x : Chain). length x.bytes) (chain_same c)
 
 counts : (c : After-blocks_for) → Counts c.index_mut-own.result.now.used c.blocks_for.result
     (own_of c.self.inside.customers.items c.args.customer).used
     (blocks_of (chain_of c.self.inside.store.chains c.args.customer c.args.id).bytes)
 counts c =
-    let has = finds.has c.self.inside.store c.self.inside.slots c.self.inside.customers.items c.args.customer c.args.id
-    c.self.invariant (rw c.self.view_is c.requires.range) in
+    let here = call_on c.self.inside c.args.customer c.args.id c.self.invariant (rw c.self.view_is c.requires.range) in
+    let has = finds.has here in
     record {
       used_is = ap (λ (o : CustomerFiles). o.used) (own_same c);
       blocks_is = c.blocks_for.ensures ∙ ap (λ (k : ℕ). (k + 251) / 252) (size_same c);
-      enough = omega (
-        arith,
-        finds.blocks_are c.self.inside.store c.self.inside.slots c.self.inside.customers.items
-            c.args.customer c.args.id c.self.invariant (rw c.self.view_is c.requires.range),
-        finds.enough_partial
-            c.self.inside.store c.self.inside.slots c.self.inside.customers.items c.args.customer c.args.id c.self.invariant
-            (rw c.self.view_is c.requires.range) (there_is c),
-      );
+      enough = omega (arith, finds.blocks_are here, finds.enough_partial here (there_is c));
       few = omega (arith, has.own.counted, has.own.sound.within_quota, has.own.sound.quota_limit);
     }
 
@@ -107,12 +101,12 @@ overflow_sub-used c =
 
 pub overflow_add-used : goal.overflow_add-used
 overflow_add-used c =
+    let here = call_on c.self.inside c.args.customer c.args.id c.self.invariant (rw c.self.view_is c.requires.range) in
     let at = (goal.at.overflow_add-used c).After-blocks_for in
     let count = counts at in
     let longer = longer_same c in
-    let fits = (finds.has c.self.inside.store c.self.inside.slots c.self.inside.customers.items c.args.customer c.args.id
-    c.self.invariant (rw c.self.view_is c.requires.range)).own.sound in
-    let small = length-append (chain_of c.self.inside.store.chains c.args.customer c.args.id).bytes
+    let fits = (finds.has here).own.sound in
+    let small = length-append (chain_of_file here).bytes
     (packed_record (record { srcb = c.args.srcb; bytes = c.args.bytes.now })) in
     omega (
       arith,
@@ -137,67 +131,54 @@ now_used c =
 
 pub returns-then-used-own-clause-fault : goal.returns-then-used-own-clause-fault
 returns-then-used-own-clause-fault c =
+    let here = call_on c.self.inside c.args.customer c.args.id c.self.invariant (rw c.self.view_is c.requires.range) in
     let at = (goal.at.returns-then-used-own-clause-fault c).After-blocks_for-2 in
     let first = (goal.at.returns-then-used-own-clause-fault c).After-blocks_for in
     let quota = ap (λ (o : CustomerFiles). o.quota) (own_same first) in
     rw (
       ← c.self.view_is,
-      finds.append_full c.self.inside.store c.self.inside.slots c.self.inside.customers.items
-          c.args.customer c.args.id c.self.invariant (rw c.self.view_is c.requires.range)
+      finds.append_full here
           (record { srcb = c.args.srcb; bytes = c.args.bytes.now }) (there_is first)
           (omega (arith, now_used at, quota, c.if-used-own.true)),
     ) refl
 
 pub append_both-requires-clause-room : goal.append_both-requires-clause-room
 append_both-requires-clause-room c =
+    let here = call_on c.self.inside c.args.customer c.args.id c.self.invariant (rw c.self.view_is c.requires.range) in
     let at = (goal.at.append_both-requires-clause-room c).After-blocks_for-2 in
     let first = (goal.at.append_both-requires-clause-room c).After-blocks_for in
-    let has = finds.has c.self.inside.store c.self.inside.slots c.self.inside.customers.items c.args.customer c.args.id
-    c.self.invariant (rw c.self.view_is c.requires.range) in
     let quota = ap (λ (o : CustomerFiles). o.quota) (own_same first) in
-    let small = finds.small_partial c.self.inside.store c.self.inside.slots c.self.inside.customers.items c.args.customer
-    c.args.id c.self.invariant (rw c.self.view_is c.requires.range) (there_is first) in
+    let small = finds.small_partial here (there_is first) in
     let bytes : c.head_of.result ++ c.args.bytes.now ≡ packed_record (record { srcb = c.args.srcb; bytes = c.args.bytes.now }) =
     c.head_of.ensures in
-    let room = finds.room c.self.inside.store c.self.inside.slots c.self.inside.customers.items c.args.customer c.args.id
-    c.self.invariant (rw c.self.view_is c.requires.range) (record { srcb = c.args.srcb; bytes = c.args.bytes.now })
-    (chain_of c.self.inside.store.chains c.args.customer c.args.id).keys (there_is first) small
+    let room = finds.room here (record { srcb = c.args.srcb; bytes = c.args.bytes.now })
+    (chain_of_file here).keys (there_is first) small
     (omega (arith, now_used at, quota, c.if-used-own.false))
-    (λ more. c.quotas_leave_room.ensures (spools_of c.self.inside.customers.items
-    (contents c.self.inside.slots c.self.inside.store.chains)) c.self.inside.store.capacity c.args.customer more
+    (λ more. c.quotas_leave_room.ensures (spools_in c.self.inside) c.self.inside.store.capacity c.args.customer more
     (within_all c.self.inside.store c.self.inside.slots c.self.inside.customers.items c.self.invariant)
     (quotas_fit c.self.inside.store c.self.inside.slots c.self.inside.customers.items c.self.invariant)
     (rw c.self.view_is c.requires.range)) in
-    rw (
-      bytes,
-      c.place-at.ensures,
-      finds.chain_is c.self.inside.store c.self.inside.slots c.self.inside.customers.items
-          c.args.customer c.args.id c.self.invariant (rw c.self.view_is c.requires.range) small,
-    ) room
+    rw (bytes, c.place-at.ensures, finds.chain_is here small) room
 
 pub overflow_add-slot : goal.overflow_add-slot
 overflow_add-slot c =
+    let here = call_on c.self.inside c.args.customer c.args.id c.self.invariant (rw c.self.view_is c.requires.range) in
     let count = ap (λ (x : FileSlot). x.count) (c.slot_at-slot.ensures) in
-    omega (
-      arith,
-      count,
-      finds.count_small c.self.inside.store c.self.inside.slots c.self.inside.customers.items
-          c.args.customer c.args.id c.self.invariant (rw c.self.view_is c.requires.range),
-    )
+    omega (arith, count, finds.count_small here)
 
-moved : (c : After-append_both) → Moves c.self.inside.store c.self.inside.slots c.self.inside.customers.items c.append_both.new.self
-    (set c.self.inside.slots (1024 * c.args.customer + c.args.id)
-    (record c.slot_at-slot.result { count = c.slot_at-slot.result.count + 1 }))
-    (set c.self.inside.customers.items c.from.result
-    (record c.index_mut-own.result.now { used = c.index_mut-own.result.now.used - c.blocks_for.result + c.blocks_for-2.result }))
-    c.args.customer (with_appended c.args.id (record { srcb = c.args.srcb; bytes = c.args.bytes.now })
-    (spool_at c.args.customer (spools_of c.self.inside.customers.items (contents c.self.inside.slots c.self.inside.store.chains))))
+moved : (c : After-append_both) → MovesTo (call_on c.self.inside c.args.customer c.args.id c.self.invariant
+    (rw c.self.view_is c.requires.range)) c.append_both.new.self (set c.self.inside.slots (1024 * c.args.customer + c.args.id)
+    (record c.slot_at-slot.result { count = c.slot_at-slot.result.count + 1 })) (set c.self.inside.customers.items c.from.result
+    (record c.index_mut-own.result.now {
+      used = c.index_mut-own.result.now.used - c.blocks_for.result +
+          c.blocks_for-2.result;
+    })) (with_appended c.args.id (record { srcb = c.args.srcb; bytes = c.args.bytes.now }))
 moved c =
+    let here = call_on c.self.inside c.args.customer c.args.id c.self.invariant (rw c.self.view_is c.requires.range) in
     let at = (goal.at.overflow_add-slot c).After-blocks_for-2 in
     let first = (goal.at.overflow_add-slot c).After-blocks_for in
     let there = there_is first in
-    let small = finds.small_partial c.self.inside.store c.self.inside.slots c.self.inside.customers.items c.args.customer
-    c.args.id c.self.invariant (rw c.self.view_is c.requires.range) there in
+    let small = finds.small_partial here there in
     let chain = chain_same first in
     let same = c.slot_at-slot.ensures in
     let bytes : c.head_of.result ++ c.args.bytes.now ≡ packed_record (record { srcb = c.args.srcb; bytes = c.args.bytes.now }) =
@@ -205,13 +186,13 @@ moved c =
     let quota = ap (λ (o : CustomerFiles). o.quota) (own_same first) in
     let keys = (chain_at c.place-at.result c.append_both.new.self).keys in
     let blocks = c.index_mut-own.result.now.used - c.blocks_for.result + c.blocks_for-2.result in
-    let front : take (length (chain_of c.self.inside.store.chains c.args.customer c.args.id).keys) keys ≡
-    (chain_of c.self.inside.store.chains c.args.customer c.args.id).keys =
+    let front : take (length (chain_of_file here).keys) keys ≡
+    (chain_of_file here).keys =
     subst (λ (x : Chain). take (length x.keys) keys ≡ x.keys) chain c.append_both.ensures.keys in
     let store : c.append_both.new.self ≡ with_chain (1024 * c.args.customer + c.args.id)
     (record {
       keys = keys;
-      bytes = ((chain_of c.self.inside.store.chains c.args.customer c.args.id).bytes
+      bytes = ((chain_of_file here).bytes
           ++ packed_record (record { srcb = c.args.srcb; bytes = c.args.bytes.now }));
     }) c.self.inside.store =
     c.append_both.ensures.after
@@ -223,52 +204,40 @@ moved c =
     ∙ ap (λ (i : ℕ). with_chain i (record {
       keys = keys;
       bytes =
-          ((chain_of c.self.inside.store.chains c.args.customer c.args.id).bytes
+          ((chain_of_file here).bytes
           ++ packed_record (record { srcb = c.args.srcb; bytes = c.args.bytes.now }));
     }) c.self.inside.store) c.place-at.ensures in
-    call.arrives c.self.inside.store c.self.inside.slots c.self.inside.customers.items c.args.customer c.args.id
-    c.self.invariant (rw c.self.view_is c.requires.range) (with_chain (1024 * c.args.customer + c.args.id)
+    call.arrives here (with_chain (1024 * c.args.customer + c.args.id)
     (record {
       keys = keys;
-      bytes = ((chain_of c.self.inside.store.chains c.args.customer c.args.id).bytes
+      bytes = ((chain_of_file here).bytes
           ++ packed_record (record { srcb = c.args.srcb; bytes = c.args.bytes.now }));
-    }) c.self.inside.store) c.append_both.new.self
-    (record c.slot_at-slot.result { count = c.slot_at-slot.result.count + 1 })
-    (record c.index_mut-own.result.now { used = blocks }) (set c.self.inside.slots (1024 * c.args.customer + c.args.id)
-    (record c.slot_at-slot.result { count = c.slot_at-slot.result.count + 1 })) c.from.result
-    (with_appended c.args.id (record { srcb = c.args.srcb; bytes = c.args.bytes.now })
-    (spool_at c.args.customer (spools_of c.self.inside.customers.items
-    (contents c.self.inside.slots c.self.inside.store.chains)))) store refl c.from.ensures
-    (subst (λ (x : FileSlot). Moves c.self.inside.store c.self.inside.slots c.self.inside.customers.items
-    (with_chain (1024 * c.args.customer + c.args.id)
-    (record {
-      keys = keys;
-      bytes = ((chain_of c.self.inside.store.chains c.args.customer c.args.id).bytes
-          ++ packed_record (record { srcb = c.args.srcb; bytes = c.args.bytes.now }));
-    }) c.self.inside.store)
-    (set c.self.inside.slots (1024 * c.args.customer + c.args.id) (record x { count = x.count + 1 }))
-    (set c.self.inside.customers.items c.args.customer (record c.index_mut-own.result.now { used = blocks }))
-    c.args.customer (with_appended c.args.id (record { srcb = c.args.srcb; bytes = c.args.bytes.now })
-    (spool_at c.args.customer (spools_of c.self.inside.customers.items
-    (contents c.self.inside.slots c.self.inside.store.chains))))) (sym same)
-    (subst (λ (o : CustomerFiles). Moves c.self.inside.store c.self.inside.slots c.self.inside.customers.items
-    (with_chain (1024 * c.args.customer + c.args.id)
-    (record {
-      keys = keys;
-      bytes = ((chain_of c.self.inside.store.chains c.args.customer c.args.id).bytes
-          ++ packed_record (record { srcb = c.args.srcb; bytes = c.args.bytes.now }));
-    }) c.self.inside.store)
+    }) c.self.inside.store) c.append_both.new.self (record c.slot_at-slot.result
+    { count = c.slot_at-slot.result.count + 1 }) (record c.index_mut-own.result.now { used = blocks })
     (set c.self.inside.slots (1024 * c.args.customer + c.args.id)
-    (record (slot_of c.self.inside.slots c.args.customer c.args.id) {
+    (record c.slot_at-slot.result { count = c.slot_at-slot.result.count + 1 })) c.from.result
+    (with_appended c.args.id (record { srcb = c.args.srcb; bytes = c.args.bytes.now })) store refl c.from.ensures
+    (subst (λ (x : FileSlot). MovesTo here (with_chain (1024 * c.args.customer + c.args.id)
+    (record {
+      keys = keys;
+      bytes = ((chain_of_file here).bytes
+          ++ packed_record (record { srcb = c.args.srcb; bytes = c.args.bytes.now }));
+    }) c.self.inside.store) (set c.self.inside.slots (1024 * c.args.customer + c.args.id)
+    (record x { count = x.count + 1 })) (set c.self.inside.customers.items c.args.customer
+    (record c.index_mut-own.result.now { used = blocks })) (with_appended c.args.id
+    (record { srcb = c.args.srcb; bytes = c.args.bytes.now }))) (sym same)
+    (subst (λ (o : CustomerFiles). MovesTo here (with_chain (1024 * c.args.customer + c.args.id)
+    (record {
+      keys = keys;
+      bytes = ((chain_of_file here).bytes
+          ++ packed_record (record { srcb = c.args.srcb; bytes = c.args.bytes.now }));
+    }) c.self.inside.store) (set c.self.inside.slots (1024 * c.args.customer + c.args.id)
+    (record (slot_at here) {
       count =
-          (slot_of c.self.inside.slots c.args.customer c.args.id).count + 1;
-    }))
-    (set c.self.inside.customers.items c.args.customer (record o { used = blocks })) c.args.customer
-    (with_appended c.args.id (record { srcb = c.args.srcb; bytes = c.args.bytes.now })
-    (spool_at c.args.customer (spools_of c.self.inside.customers.items
-    (contents c.self.inside.slots c.self.inside.store.chains))))) (sym (own_same first))
-    (call.appends c.self.inside.store c.self.inside.slots c.self.inside.customers.items c.args.customer c.args.id
-    c.self.invariant (rw c.self.view_is c.requires.range) (record { srcb = c.args.srcb; bytes = c.args.bytes.now }) keys
+          (slot_at here).count + 1;
+    })) (set c.self.inside.customers.items c.args.customer (record o { used = blocks }))
+    (with_appended c.args.id (record { srcb = c.args.srcb; bytes = c.args.bytes.now }))) (sym (own_same first))
+    (call.appends here (record { srcb = c.args.srcb; bytes = c.args.bytes.now }) keys
     blocks there c.requires.short front (now_used at) (omega (arith, quota, c.if-used-own.false)) small)))
 
 pub invariant_of-self-2 : goal.invariant_of-self-2
@@ -276,13 +245,13 @@ invariant_of-self-2 c = rw c.set.ensures (moved (goal.at.invariant_of-self-2 c).
 
 pub returns-clause-fault : goal.returns-clause-fault
 returns-clause-fault c =
+    let here = call_on c.self.inside c.args.customer c.args.id c.self.invariant (rw c.self.view_is c.requires.range) in
     let at = (goal.at.returns-clause-fault c).After-blocks_for-2 in
     let first = (goal.at.returns-clause-fault c).After-blocks_for in
     let quota = ap (λ (o : CustomerFiles). o.quota) (own_same first) in
     rw (
       ← c.self.view_is,
-      finds.append_fits c.self.inside.store c.self.inside.slots c.self.inside.customers.items
-          c.args.customer c.args.id c.self.invariant (rw c.self.view_is c.requires.range)
+      finds.append_fits here
           (record { srcb = c.args.srcb; bytes = c.args.bytes.now }) (there_is first)
           (omega (arith, now_used at, quota, c.if-used-own.false)),
     ) refl
@@ -291,4 +260,5 @@ pub returns-clause-ok : goal.returns-clause-ok
 returns-clause-ok c =
     rw c.set.ensures ((moved (goal.at.returns-clause-ok c).After-append_both).spools
     ∙ ap (λ (old : List CustomerSpool). set old c.args.customer
-    (with_appended c.args.id (record { srcb = c.args.srcb; bytes = c.args.bytes.now }) (spool_at c.args.customer old))) c.self.view_is)
+    (with_appended c.args.id (record { srcb = c.args.srcb; bytes = c.args.bytes.now }) (spool_at c.args.customer old)))
+    c.self.view_is)

@@ -3,26 +3,26 @@ use Rattle.std.proofs.Common.{true}
 use Rattle.njh_spool.specs.declared.customer_files.CustomerFiles.{CustomerFiles}
 use Rattle.njh_spool.specs.CustomerSpool.{CustomerSpool, with_new_partial, next_number}
 use Rattle.njh_spool.specs.Spools.{spool_at}
-use Rattle.njh_spool.specs.code.Slots.{contents, spools_of, whole_file, partial_file, spool_of}
-use Rattle.njh_spool.proofs.KeptLaws.{own_of, own_is, Moves}
+use Rattle.njh_spool.specs.code.Slots.{contents, whole_file, partial_file, spool_of}
+use Rattle.njh_spool.proofs.KeptLaws.{own_of, own_is}
 use Rattle.njh_spool.proofs.CallFinds as finds
 use Rattle.njh_spool.proofs.CallLaws as call
 use Rattle.std.proofs.lemmas.List.{length-map}
 use Rattle.njh_spool.proofs.BeginLaws.{begin_fault-many, begin_fault-full, begin_fault-none, some_free, number_is-next}
+use Rattle.njh_spool.proofs.Calls.{MovesTo, call_on, own_at, files_at}
 use Rattle.njh_spool.proofs.spool.Spool.begin.Goals as goal
 use Rattle.njh_spool.proofs.spool.Spool.begin.Goals.{After-index_mut-own, After-free_number-number, After-set}
 
 pub index_mut-own-requires : goal.index_mut-own-requires
 index_mut-own-requires c =
-    let has = finds.has c.self.inside.store c.self.inside.slots c.self.inside.customers.items c.args.customer 0
-    c.self.invariant (rw c.self.view_is c.requires) in
-    omega (arith, has.within, c.from.ensures, c.self.inside.customers.ok.0)
+    let here = call_on c.self.inside c.args.customer 0 c.self.invariant (rw c.self.view_is c.requires) in
+    omega (arith, (finds.has here).within, c.from.ensures, c.self.inside.customers.ok.0)
 
 own_same : (c : After-index_mut-own) → c.index_mut-own.result.now ≡ (own_of c.self.inside.customers.items c.args.customer)
 own_same c =
-    let has = finds.has c.self.inside.store c.self.inside.slots c.self.inside.customers.items c.args.customer 0
-    c.self.invariant (rw c.self.view_is c.requires) in
-    own_is c.self.inside.customers.items c.args.customer c.from.result c.index_mut-own.result.now has.within c.from.ensures
+    let here = call_on c.self.inside c.args.customer 0 c.self.invariant (rw c.self.view_is c.requires) in
+    own_is c.self.inside.customers.items c.args.customer c.from.result c.index_mut-own.result.now
+    (finds.has here).within c.from.ensures
     c.index_mut-own.ensures.value
 
 -- how many files the customer has
@@ -36,8 +36,8 @@ record Few (c : After-index_mut-own) : Type 0 where
 
 few : (c : After-index_mut-own) → Few c
 few c =
-    let has = finds.has c.self.inside.store c.self.inside.slots c.self.inside.customers.items c.args.customer 0
-    c.self.invariant (rw c.self.view_is c.requires) in
+    let here = call_on c.self.inside c.args.customer 0 c.self.invariant (rw c.self.view_is c.requires) in
+    let has = finds.has here in
     record {
       whole = ap (λ (o : CustomerFiles). length o.whole) (own_same c);
       partial = ap (λ (o : CustomerFiles). length o.partial) (own_same c);
@@ -47,11 +47,11 @@ few c =
         has.own.sound.within_limit,
         has.own.sound.files_limit,
         length-map
-            (own_of c.self.inside.customers.items c.args.customer).whole
-            (whole_file (contents c.self.inside.slots c.self.inside.store.chains c.args.customer)),
+            (own_at here).whole
+            (whole_file (files_at here)),
         length-map
-            (own_of c.self.inside.customers.items c.args.customer).partial
-            (partial_file (contents c.self.inside.slots c.self.inside.store.chains c.args.customer)),
+            (own_at here).partial
+            (partial_file (files_at here)),
       );
       limit_bound = has.own.sound.files_limit;
     }
@@ -63,21 +63,21 @@ overflow_add-len c =
 
 pub returns-then-len-own-clause-fault : goal.returns-then-len-own-clause-fault
 returns-then-len-own-clause-fault c =
-    let has = finds.has c.self.inside.store c.self.inside.slots c.self.inside.customers.items c.args.customer 0
-    c.self.invariant (rw c.self.view_is c.requires) in
+    let here = call_on c.self.inside c.args.customer 0 c.self.invariant (rw c.self.view_is c.requires) in
+    let has = finds.has here in
     let n = few (goal.at.returns-then-len-own-clause-fault c).After-index_mut-own in
     rw (
       ← c.self.view_is,
       has.part,
-      begin_fault-many (own_of c.self.inside.customers.items c.args.customer)
-          (contents c.self.inside.slots c.self.inside.store.chains c.args.customer) has.own
+      begin_fault-many (own_at here)
+          (files_at here) has.own
           (omega (arith, n.whole, n.partial, n.limit, c.len.ensures, c.len-2.ensures, c.if-len-own.true)),
     ) refl
 
 pub returns-then-own-clause-fault : goal.returns-then-own-clause-fault
 returns-then-own-clause-fault c =
-    let has = finds.has c.self.inside.store c.self.inside.slots c.self.inside.customers.items c.args.customer 0
-    c.self.invariant (rw c.self.view_is c.requires) in
+    let here = call_on c.self.inside c.args.customer 0 c.self.invariant (rw c.self.view_is c.requires) in
+    let has = finds.has here in
     let first = (goal.at.returns-then-own-clause-fault c).After-index_mut-own in
     let n = few first in
     let quota = ap (λ (o : CustomerFiles). o.quota) (own_same first) in
@@ -85,17 +85,16 @@ returns-then-own-clause-fault c =
     rw (
       ← c.self.view_is,
       has.part,
-      begin_fault-full (own_of c.self.inside.customers.items c.args.customer)
-          (contents c.self.inside.slots c.self.inside.store.chains c.args.customer) has.own
+      begin_fault-full (own_at here)
+          (files_at here) has.own
           (omega (arith, n.whole, n.partial, n.limit, c.len.ensures, c.len-2.ensures, c.if-len-own.false))
           (omega (arith, quota, used', c.if-own.true)),
     ) refl
 
 pub free_number-number-requires-clause-all : goal.free_number-number-requires-clause-all
 free_number-number-requires-clause-all c =
-    let has = finds.has c.self.inside.store c.self.inside.slots c.self.inside.customers.items c.args.customer 0
-    c.self.invariant (rw c.self.view_is c.requires) in
-    omega (arith, has.slot_within 1023 (omega arith))
+    let here = call_on c.self.inside c.args.customer 0 c.self.invariant (rw c.self.view_is c.requires) in
+    omega (arith, (finds.has here).slot_within 1023 (omega arith))
 
 pub free_number-number-requires-clause-few : goal.free_number-number-requires-clause-few
 free_number-number-requires-clause-few c =
@@ -104,14 +103,13 @@ free_number-number-requires-clause-few c =
 
 pub free_number-number-requires-clause-some : goal.free_number-number-requires-clause-some
 free_number-number-requires-clause-some c =
-    let has = finds.has c.self.inside.store c.self.inside.slots c.self.inside.customers.items c.args.customer 0
-    c.self.invariant (rw c.self.view_is c.requires) in
+    let here = call_on c.self.inside c.args.customer 0 c.self.invariant (rw c.self.view_is c.requires) in
     let n = few (goal.at.free_number-number-requires-clause-some c).After-index_mut-own in
-    let free = some_free (own_of c.self.inside.customers.items c.args.customer)
-    (contents c.self.inside.slots c.self.inside.store.chains c.args.customer) has.own
+    let free = some_free (own_at here)
+    (files_at here) (finds.has here).own
     (omega (arith, n.whole, n.partial, n.limit, c.len.ensures, c.len-2.ensures, c.if-len-own.false)) in (
-      next_number (spool_of (own_of c.self.inside.customers.items c.args.customer)
-          (contents c.self.inside.slots c.self.inside.store.chains c.args.customer)),
+      next_number (spool_of (own_at here)
+          (files_at here)),
       omega (arith, free.0, n.limit),
       free.1,
     )
@@ -123,9 +121,8 @@ push-requires c =
 
 pub set-requires-clause-all : goal.set-requires-clause-all
 set-requires-clause-all c =
-    let has = finds.has c.self.inside.store c.self.inside.slots c.self.inside.customers.items c.args.customer 0
-    c.self.invariant (rw c.self.view_is c.requires) in
-    omega (arith, has.slot_within 1023 (omega arith))
+    let here = call_on c.self.inside c.args.customer 0 c.self.invariant (rw c.self.view_is c.requires) in
+    omega (arith, (finds.has here).slot_within 1023 (omega arith))
 
 pub set-requires-clause-number : goal.set-requires-clause-number
 set-requires-clause-number c =
@@ -137,28 +134,26 @@ next_is : (c : After-free_number-number) → length (own_of c.self.inside.custom
     → c.free_number-number.result ≡ next_number (spool_of (own_of c.self.inside.customers.items c.args.customer)
     (contents c.self.inside.slots c.self.inside.store.chains c.args.customer))
 next_is c room =
-    let has = finds.has c.self.inside.store c.self.inside.slots c.self.inside.customers.items c.args.customer 0
-    c.self.invariant (rw c.self.view_is c.requires) in
-    number_is-next (own_of c.self.inside.customers.items c.args.customer)
-    (contents c.self.inside.slots c.self.inside.store.chains c.args.customer) has.own c.free_number-number.result room
+    let here = call_on c.self.inside c.args.customer 0 c.self.invariant (rw c.self.view_is c.requires) in
+    number_is-next (own_at here)
+    (files_at here) (finds.has here).own c.free_number-number.result room
     (c.free_number-number.ensures.free)
     (λ m below. (c.free_number-number.ensures.least m below))
 
 moved : (c : After-set) → length (own_of c.self.inside.customers.items c.args.customer).whole + length
     (own_of c.self.inside.customers.items c.args.customer).partial < (own_of c.self.inside.customers.items c.args.customer).limit
-    → Moves c.self.inside.store c.self.inside.slots c.self.inside.customers.items c.self.inside.store
-    c.set.new.self (set c.self.inside.customers.items c.from.result
-    (record c.index_mut-own.result.now { partial = c.push.new.self })) c.args.customer
-    (with_new_partial c.args.kind (spool_at c.args.customer (spools_of c.self.inside.customers.items
-    (contents c.self.inside.slots c.self.inside.store.chains))))
+    → MovesTo (call_on c.self.inside c.args.customer c.free_number-number.result c.self.invariant
+    (rw c.self.view_is c.requires)) c.self.inside.store c.set.new.self (set c.self.inside.customers.items c.from.result
+    (record c.index_mut-own.result.now { partial = c.push.new.self })) (with_new_partial c.args.kind)
 moved c room =
-    let has = finds.has c.self.inside.store c.self.inside.slots c.self.inside.customers.items c.args.customer 0
-    c.self.invariant (rw c.self.view_is c.requires) in
+    let here = call_on c.self.inside c.args.customer c.free_number-number.result c.self.invariant
+    (rw c.self.view_is c.requires) in
+    let has = finds.has here in
     let own = own_is c.self.inside.customers.items c.args.customer c.from.result c.index_mut-own.result.now has.within
     c.from.ensures c.index_mut-own.ensures.value in
     let number = c.free_number-number.result in
-    let next = number_is-next (own_of c.self.inside.customers.items c.args.customer)
-    (contents c.self.inside.slots c.self.inside.store.chains c.args.customer) has.own number room
+    let next = number_is-next (own_at here)
+    (files_at here) has.own number room
     (c.free_number-number.ensures.free)
     (λ m below. (c.free_number-number.ensures.least m below)) in
     let small : number < 1024 = omega (
@@ -172,13 +167,10 @@ moved c room =
     ∙ ap (λ (o : CustomerFiles). record o { partial = o.partial ++ number ∷ [] }) own in
     let slots = c.set.ensures
     ∙ ap (λ (m : ℕ). set c.self.inside.slots (1024 * c.args.customer + m) c.empty.result) c.of-id.ensures in
-    call.arrives c.self.inside.store c.self.inside.slots c.self.inside.customers.items c.args.customer number
-    c.self.invariant (rw c.self.view_is c.requires) c.self.inside.store c.self.inside.store c.empty.result
+    call.arrives here c.self.inside.store c.self.inside.store c.empty.result
     (record c.index_mut-own.result.now { partial = c.push.new.self }) c.set.new.self c.from.result
-    (with_new_partial c.args.kind (spool_at c.args.customer (spools_of c.self.inside.customers.items
-    (contents c.self.inside.slots c.self.inside.store.chains)))) refl slots c.from.ensures
-    (call.begins c.self.inside.store c.self.inside.slots c.self.inside.customers.items c.args.customer number
-    c.self.invariant (rw c.self.view_is c.requires) c.args.kind c.empty.result
+    (with_new_partial c.args.kind) refl slots c.from.ensures
+    (call.begins here c.args.kind c.empty.result
     (record c.index_mut-own.result.now { partial = c.push.new.self }) room next
     (c.free_number-number.ensures.free) c.empty.ensures owns small)
 
@@ -190,8 +182,8 @@ invariant_of-self-2 c =
 
 pub returns-clause-fault : goal.returns-clause-fault
 returns-clause-fault c =
-    let has = finds.has c.self.inside.store c.self.inside.slots c.self.inside.customers.items c.args.customer 0
-    c.self.invariant (rw c.self.view_is c.requires) in
+    let here = call_on c.self.inside c.args.customer 0 c.self.invariant (rw c.self.view_is c.requires) in
+    let has = finds.has here in
     let first = (goal.at.returns-clause-fault c).After-index_mut-own in
     let n = few first in
     let quota = ap (λ (o : CustomerFiles). o.quota) (own_same first) in
@@ -199,20 +191,19 @@ returns-clause-fault c =
     rw (
       ← c.self.view_is,
       has.part,
-      begin_fault-none (own_of c.self.inside.customers.items c.args.customer)
-          (contents c.self.inside.slots c.self.inside.store.chains c.args.customer) has.own
+      begin_fault-none (own_at here)
+          (files_at here) has.own
           (omega (arith, n.whole, n.partial, n.limit, c.len.ensures, c.len-2.ensures, c.if-len-own.false))
           (omega (arith, quota, used', c.if-own.false)),
     ) refl
 
 pub returns-clause-number : goal.returns-clause-number
 returns-clause-number c =
-    let has = finds.has c.self.inside.store c.self.inside.slots c.self.inside.customers.items c.args.customer 0
-    c.self.invariant (rw c.self.view_is c.requires) in
+    let here = call_on c.self.inside c.args.customer 0 c.self.invariant (rw c.self.view_is c.requires) in
     let n = few (goal.at.returns-clause-number c).After-index_mut-own in
     let next = next_is (goal.at.returns-clause-number c).After-free_number-number
     (omega (arith, n.whole, n.partial, n.limit, c.len.ensures, c.len-2.ensures, c.if-len-own.false)) in
-    c.of-id.ensures ∙ next ∙ ap next_number (sym has.part)
+    c.of-id.ensures ∙ next ∙ ap next_number (sym (finds.has here).part)
     ∙ ap (λ (old : List CustomerSpool). next_number (spool_at c.args.customer old)) c.self.view_is
 
 pub returns-clause-ok : goal.returns-clause-ok
@@ -220,4 +211,5 @@ returns-clause-ok c =
     let n = few (goal.at.returns-clause-ok c).After-index_mut-own in
     (moved (goal.at.returns-clause-ok c).After-set
     (omega (arith, n.whole, n.partial, n.limit, c.len.ensures, c.len-2.ensures, c.if-len-own.false))).spools
-    ∙ ap (λ (old : List CustomerSpool). set old c.args.customer (with_new_partial c.args.kind (spool_at c.args.customer old))) c.self.view_is
+    ∙ ap (λ (old : List CustomerSpool). set old c.args.customer
+    (with_new_partial c.args.kind (spool_at c.args.customer old))) c.self.view_is

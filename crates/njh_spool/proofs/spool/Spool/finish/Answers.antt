@@ -5,41 +5,41 @@ use Rattle.njh_spool.specs.declared.file_slot.Stage.TheVariants.{Whole}
 use Rattle.njh_spool.specs.declared.customer_files.CustomerFiles.{CustomerFiles}
 use Rattle.njh_spool.specs.CustomerSpool.{CustomerSpool, with_finished}
 use Rattle.njh_spool.specs.Spools.{spool_at}
-use Rattle.njh_spool.specs.code.Slots.{contents, slot_of, is_partial, spools_of, IsFile, whole_file}
+use Rattle.njh_spool.specs.code.Slots.{slot_of, is_partial, IsFile, whole_file}
 use Rattle.njh_spool.specs.code.Slots.{partial_file}
 use Rattle.njh_spool.specs.code.Chains.{Chain, chain_at}
 use Rattle.njh_spool.specs.Headers.{kept_headers}
 use Rattle.njh_spool.specs.code.Packing.{unpacked_records}
-use Rattle.njh_spool.proofs.KeptLaws.{own_of, own_is, Moves}
+use Rattle.njh_spool.proofs.KeptLaws.{own_of, own_is}
 use Rattle.njh_spool.proofs.CallFinds as finds
 use Rattle.njh_spool.proofs.CallLaws as call
 use Rattle.std.proofs.lemmas.List.{length-map}
 use Rattle.std.proofs.lemmas.List.Sums.{count_by-le-length}
 use Rattle.njh_spool.specs.declared.State.TheVariants.{Ready}
 use Rattle.njh_spool.proofs.SlotLaws.{once_some}
+use Rattle.njh_spool.proofs.Calls.{MovesTo, call_on, own_at, files_at, slot_at}
 use Rattle.njh_spool.proofs.spool.Spool.finish.Goals as goal
 use Rattle.njh_spool.proofs.spool.Spool.finish.Goals.{After-set, After-is_partial, After-index_mut-own, After-place-at}
 
 pub slot_at-slot-requires : goal.slot_at-slot-requires
 slot_at-slot-requires c =
-    let has = finds.has c.self.inside.store c.self.inside.slots c.self.inside.customers.items c.args.customer c.args.id
-    c.self.invariant (rw c.self.view_is c.requires) in
-    omega (arith, has.slot_within 1023 (omega arith))
+    let here = call_on c.self.inside c.args.customer c.args.id c.self.invariant (rw c.self.view_is c.requires) in
+    omega (arith, (finds.has here).slot_within 1023 (omega arith))
 
 -- the file that is there
-file_is : (c : After-place-at) → c.is_partial.result ≡ true → IsFile c.slot_at-slot.result (chain_at c.place-at.result c.self.inside.store)
+file_is : (c : After-place-at) → c.is_partial.result ≡ true → IsFile c.slot_at-slot.result
+    (chain_at c.place-at.result c.self.inside.store)
 file_is c there =
+    let here = call_on c.self.inside c.args.customer c.args.id c.self.invariant (rw c.self.view_is c.requires) in
     let same = c.slot_at-slot.ensures in
     let stage = ap (λ (x : FileSlot). is_partial x.stage) (sym same) ∙ sym c.is_partial.ensures ∙ there in
-    let small = finds.small_partial c.self.inside.store c.self.inside.slots c.self.inside.customers.items c.args.customer
-    c.args.id c.self.invariant (rw c.self.view_is c.requires) stage in
-    let chain = ap (λ (i : ℕ). chain_at i c.self.inside.store) c.place-at.ensures ∙ finds.chain_is c.self.inside.store
-    c.self.inside.slots c.self.inside.customers.items c.args.customer c.args.id c.self.invariant
-    (rw c.self.view_is c.requires) small in
+    let small = finds.small_partial here stage in
+    let chain = ap (λ (i : ℕ). chain_at i c.self.inside.store) c.place-at.ensures ∙ finds.chain_is here small in
     rw (same, chain) (c.self.invariant.files c.args.customer c.args.id)
 
 pub read_headers-slot-requires-clause-file : goal.read_headers-slot-requires-clause-file
-read_headers-slot-requires-clause-file c = file_is (goal.at.read_headers-slot-requires-clause-file c).After-place-at c.if-not-is_partial.false
+read_headers-slot-requires-clause-file c = file_is (goal.at.read_headers-slot-requires-clause-file c).After-place-at
+    c.if-not-is_partial.false
 
 stage_is : (c : After-is_partial) → is_partial (slot_of c.self.inside.slots c.args.customer c.args.id).stage ≡ c.is_partial.result
 stage_is c = ap (λ (x : FileSlot). is_partial x.stage)
@@ -48,33 +48,33 @@ stage_is c = ap (λ (x : FileSlot). is_partial x.stage)
 
 pub returns-then-not-is_partial-clause-answer : goal.returns-then-not-is_partial-clause-answer
 returns-then-not-is_partial-clause-answer c =
-    let none = finds.finds_no_partial c.self.inside.store c.self.inside.slots c.self.inside.customers.items c.args.customer
-    c.args.id c.self.invariant (rw c.self.view_is c.requires)
+    let here = call_on c.self.inside c.args.customer c.args.id c.self.invariant (rw c.self.view_is c.requires) in
+    let none = finds.finds_no_partial here
     (stage_is (goal.at.returns-then-not-is_partial-clause-answer c).After-is_partial ∙ c.if-not-is_partial.true) in
     rw (← c.self.view_is, none.none) refl
 
 pub returns-then-not-is_partial-clause-after : goal.returns-then-not-is_partial-clause-after
 returns-then-not-is_partial-clause-after c =
-    let none = finds.finds_no_partial c.self.inside.store c.self.inside.slots c.self.inside.customers.items c.args.customer
-    c.args.id c.self.invariant (rw c.self.view_is c.requires)
+    let here = call_on c.self.inside c.args.customer c.args.id c.self.invariant (rw c.self.view_is c.requires) in
+    let none = finds.finds_no_partial here
     (stage_is (goal.at.returns-then-not-is_partial-clause-after c).After-is_partial ∙ c.if-not-is_partial.true) in
     subst (λ (old : List CustomerSpool). old ≡ set old c.args.customer (with_finished c.args.id (spool_at c.args.customer old)))
     c.self.view_is none.finishes
 
 own_same : (c : After-index_mut-own) → c.index_mut-own.result.now ≡ (own_of c.self.inside.customers.items c.args.customer)
 own_same c =
-    let has = finds.has c.self.inside.store c.self.inside.slots c.self.inside.customers.items c.args.customer c.args.id
-    c.self.invariant (rw c.self.view_is c.requires) in
-    own_is c.self.inside.customers.items c.args.customer c.from.result c.index_mut-own.result.now has.within c.from.ensures
+    let here = call_on c.self.inside c.args.customer c.args.id c.self.invariant (rw c.self.view_is c.requires) in
+    own_is c.self.inside.customers.items c.args.customer c.from.result c.index_mut-own.result.now
+    (finds.has here).within c.from.ensures
     c.index_mut-own.ensures.value
 
 pub push-requires : goal.push-requires
 push-requires c =
-    let has = finds.has c.self.inside.store c.self.inside.slots c.self.inside.customers.items c.args.customer c.args.id
-    c.self.invariant (rw c.self.view_is c.requires) in
+    let here = call_on c.self.inside c.args.customer c.args.id c.self.invariant (rw c.self.view_is c.requires) in
+    let has = finds.has here in
     let there = stage_is (goal.at.push-requires c).After-is_partial ∙ c.if-not-is_partial.false in
-    let one = once_some (is_partial ((contents c.self.inside.slots c.self.inside.store.chains c.args.customer)
-    c.args.id).stage) (count_by (λ m. eqb m c.args.id) (own_of c.self.inside.customers.items c.args.customer).partial)
+    let one = once_some (is_partial ((files_at here)
+    c.args.id).stage) (count_by (λ m. eqb m c.args.id) (own_at here).partial)
     (has.own.partial_once c.args.id) there in
     let own = ap (λ (o : CustomerFiles). length o.whole) (own_same (goal.at.push-requires c).After-index_mut-own) in
     omega (
@@ -82,42 +82,40 @@ push-requires c =
       own,
       one,
       count_by-le-length (λ m. eqb m c.args.id)
-          (own_of c.self.inside.customers.items c.args.customer).partial,
+          (own_at here).partial,
       has.own.sound.within_limit,
       has.own.sound.files_limit,
-      length-map (own_of c.self.inside.customers.items c.args.customer).whole
-          (whole_file (contents c.self.inside.slots c.self.inside.store.chains c.args.customer)),
+      length-map (own_at here).whole
+          (whole_file (files_at here)),
       length-map
-          (own_of c.self.inside.customers.items c.args.customer).partial
-          (partial_file (contents c.self.inside.slots c.self.inside.store.chains c.args.customer)),
+          (own_at here).partial
+          (partial_file (files_at here)),
     )
 
-moved : (c : After-set) → Moves c.self.inside.store c.self.inside.slots c.self.inside.customers.items
-    c.self.inside.store c.set.new.self
+moved : (c : After-set) → MovesTo (call_on c.self.inside c.args.customer c.args.id c.self.invariant
+    (rw c.self.view_is c.requires)) c.self.inside.store c.set.new.self
     (set c.self.inside.customers.items c.from.result (record c.index_mut-own.result.now {
       whole = c.push.new.self;
       partial =
           c.remove.new.self;
-    })) c.args.customer (with_finished c.args.id
-    (spool_at c.args.customer (spools_of c.self.inside.customers.items (contents c.self.inside.slots c.self.inside.store.chains))))
+    })) (with_finished c.args.id)
 moved c =
-    let has = finds.has c.self.inside.store c.self.inside.slots c.self.inside.customers.items c.args.customer c.args.id
-    c.self.invariant (rw c.self.view_is c.requires) in
+    let here = call_on c.self.inside c.args.customer c.args.id c.self.invariant (rw c.self.view_is c.requires) in
     let same = c.slot_at-slot.ensures in
     let there = ap (λ (x : FileSlot). is_partial x.stage) (sym same) ∙ sym c.is_partial.ensures ∙ c.if-not-is_partial.false in
-    let small = finds.small_partial c.self.inside.store c.self.inside.slots c.self.inside.customers.items c.args.customer
-    c.args.id c.self.invariant (rw c.self.view_is c.requires) there in
-    let own = own_is c.self.inside.customers.items c.args.customer c.from.result c.index_mut-own.result.now has.within
+    let small = finds.small_partial here there in
+    let own = own_is c.self.inside.customers.items c.args.customer c.from.result c.index_mut-own.result.now
+    (finds.has here).within
     c.from.ensures c.index_mut-own.ensures.value in
-    let chain = ap (λ (i : ℕ). chain_at i c.self.inside.store) c.place-at.ensures ∙ finds.chain_is c.self.inside.store
-    c.self.inside.slots c.self.inside.customers.items c.args.customer c.args.id c.self.invariant
-    (rw c.self.view_is c.requires) small in
+    let chain = ap (λ (i : ℕ). chain_at i c.self.inside.store) c.place-at.ensures ∙ finds.chain_is here small in
     let said =
     c.read_headers-slot.ensures
-    ∙ ap (λ (x : FileSlot). kept_headers x.kind (unpacked_records x.count (chain_at c.place-at.result c.self.inside.store).bytes)) same
-    ∙ ap (λ (x : Chain). kept_headers (slot_of c.self.inside.slots c.args.customer c.args.id).kind
-    (unpacked_records (slot_of c.self.inside.slots c.args.customer c.args.id).count x.bytes)) chain in
-    let list = c.remove.ensures ∙ ap (λ (k : ℕ). filter (λ m. not (eqb m k)) c.index_mut-own.result.now.partial) c.number.ensures in
+    ∙ ap (λ (x : FileSlot). kept_headers x.kind (unpacked_records x.count
+    (chain_at c.place-at.result c.self.inside.store).bytes)) same
+    ∙ ap (λ (x : Chain). kept_headers (slot_at here).kind
+    (unpacked_records (slot_at here).count x.bytes)) chain in
+    let list = c.remove.ensures ∙ ap (λ (k : ℕ). filter (λ m. not (eqb m k)) c.index_mut-own.result.now.partial)
+    c.number.ensures in
     let longer = c.push.ensures ∙ ap (λ (k : ℕ). c.index_mut-own.result.now.whole ++ k ∷ []) c.number-2.ensures in
     let owns =
     ap (λ (xs : List ℕ). record c.index_mut-own.result.now { whole = c.push.new.self; partial = xs }) list
@@ -131,20 +129,15 @@ moved c =
       partial = filter (λ m. not (eqb m c.args.id))
           o.partial;
     }) own in
-    call.arrives c.self.inside.store c.self.inside.slots c.self.inside.customers.items c.args.customer c.args.id
-    c.self.invariant (rw c.self.view_is c.requires) c.self.inside.store c.self.inside.store
+    call.arrives here c.self.inside.store c.self.inside.store
     (record c.slot_at-slot.result { stage = Whole Ready; headers = c.read_headers-slot.result })
     (record c.index_mut-own.result.now { whole = c.push.new.self; partial = c.remove.new.self }) c.set.new.self
-    c.from.result (with_finished c.args.id (spool_at c.args.customer (spools_of c.self.inside.customers.items
-    (contents c.self.inside.slots c.self.inside.store.chains)))) refl c.set.ensures c.from.ensures
-    (subst (λ (x : FileSlot). Moves c.self.inside.store c.self.inside.slots c.self.inside.customers.items
-    c.self.inside.store (set c.self.inside.slots (1024 * c.args.customer + c.args.id)
+    c.from.result (with_finished c.args.id) refl c.set.ensures c.from.ensures
+    (subst (λ (x : FileSlot). MovesTo here c.self.inside.store (set c.self.inside.slots (1024 * c.args.customer + c.args.id)
     (record x { stage = Whole Ready; headers = c.read_headers-slot.result })) (set c.self.inside.customers.items c.args.customer
-    (record c.index_mut-own.result.now { whole = c.push.new.self; partial = c.remove.new.self })) c.args.customer
-    (with_finished c.args.id (spool_at c.args.customer (spools_of c.self.inside.customers.items
-    (contents c.self.inside.slots c.self.inside.store.chains))))) (sym same)
-    (call.finishes c.self.inside.store c.self.inside.slots c.self.inside.customers.items c.args.customer c.args.id
-    c.self.invariant (rw c.self.view_is c.requires) (record c.index_mut-own.result.now {
+    (record c.index_mut-own.result.now { whole = c.push.new.self; partial = c.remove.new.self }))
+    (with_finished c.args.id)) (sym same)
+    (call.finishes here (record c.index_mut-own.result.now {
       whole = c.push.new.self;
       partial =
           c.remove.new.self;
@@ -155,14 +148,12 @@ invariant_of-self c = (moved (goal.at.invariant_of-self c).After-set).kept
 
 pub returns-clause-answer : goal.returns-clause-answer
 returns-clause-answer c =
+    let here = call_on c.self.inside c.args.customer c.args.id c.self.invariant (rw c.self.view_is c.requires) in
     let there = stage_is (goal.at.returns-clause-answer c).After-is_partial ∙ c.if-not-is_partial.false in
-    rw (
-      ← c.self.view_is,
-      finds.finds_partial c.self.inside.store c.self.inside.slots c.self.inside.customers.items
-          c.args.customer c.args.id c.self.invariant (rw c.self.view_is c.requires) there,
-    ) refl
+    rw (← c.self.view_is, finds.finds_partial here there) refl
 
 pub returns-clause-after : goal.returns-clause-after
 returns-clause-after c =
     (moved (goal.at.returns-clause-after c).After-set).spools
-    ∙ ap (λ (old : List CustomerSpool). set old c.args.customer (with_finished c.args.id (spool_at c.args.customer old))) c.self.view_is
+    ∙ ap (λ (old : List CustomerSpool). set old c.args.customer
+    (with_finished c.args.id (spool_at c.args.customer old))) c.self.view_is

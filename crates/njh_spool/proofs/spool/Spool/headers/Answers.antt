@@ -3,14 +3,14 @@ use Rattle.njh_spool.specs.declared.file_slot.FileSlot.{FileSlot}
 use Rattle.njh_spool.specs.declared.file_headers.KeptHeaders.{KeptHeaders}
 use Rattle.njh_spool.specs.code.Slots.{slot_of, is_whole_stage}
 use Rattle.njh_spool.proofs.CallFinds as finds
+use Rattle.njh_spool.proofs.Calls.{call_on}
 use Rattle.njh_spool.proofs.spool.Spool.headers.Goals as goal
 use Rattle.njh_spool.proofs.spool.Spool.headers.Goals.{After-is_whole}
 
 pub slot_at-slot-requires : goal.slot_at-slot-requires
 slot_at-slot-requires c =
-    let has = finds.has c.self.inside.store c.self.inside.slots c.self.inside.customers.items c.args.customer c.args.id
-    c.self.invariant (rw c.self.view_is c.requires) in
-    omega (arith, has.slot_within 1023 (omega arith))
+    let here = call_on c.self.inside c.args.customer c.args.id c.self.invariant (rw c.self.view_is c.requires) in
+    omega (arith, (finds.has here).slot_within 1023 (omega arith))
 
 same_slot : (c : After-is_whole) → c.slot_at-slot.result ≡ slot_of c.self.inside.slots c.args.customer c.args.id
 same_slot c = c.slot_at-slot.ensures
@@ -20,17 +20,17 @@ stage_is c = ap (λ (x : FileSlot). is_whole_stage x.stage) (sym (same_slot c)) 
 
 pub returns-then-not-is_whole : goal.returns-then-not-is_whole
 returns-then-not-is_whole c =
-    let none = finds.finds_no_whole c.self.inside.store c.self.inside.slots c.self.inside.customers.items c.args.customer
-    c.args.id c.self.invariant (rw c.self.view_is c.requires)
+    let here = call_on c.self.inside c.args.customer c.args.id c.self.invariant (rw c.self.view_is c.requires) in
+    let none = finds.finds_no_whole here
     (stage_is (goal.at.returns-then-not-is_whole c).After-is_whole ∙ c.if-not-is_whole.true) in
     rw (← c.self.view_is, none.none) refl
 
 pub returns : goal.returns
 returns c =
+    let here = call_on c.self.inside c.args.customer c.args.id c.self.invariant (rw c.self.view_is c.requires) in
     let step = (goal.at.returns c).After-is_whole in
     let there = stage_is step ∙ c.if-not-is_whole.false in
-    let found = finds.finds_whole c.self.inside.store c.self.inside.slots c.self.inside.customers.items c.args.customer
-    c.args.id c.self.invariant (rw c.self.view_is c.requires) there in
+    let found = finds.finds_whole here there in
     let said = ap (λ (x : FileSlot). x.headers.said) (same_slot step)
     ∙ ap (λ (h : KeptHeaders). h.said) (c.self.invariant.headers c.args.customer c.args.id there) in
     rw (← c.self.view_is, found) (ap Ok said)

@@ -7,8 +7,7 @@ use Rattle.std.proofs.lemmas.List.{get_or-set_same}
 use Rattle.njh_spool.specs.CustomerSpool.{CustomerSpool, with_rewritten_bytes, stored_size, whole_numbered, at_index}
 use Rattle.njh_spool.specs.CustomerSpool.{rewritten_record}
 use Rattle.njh_spool.specs.Spools.{spool_at}
-use Rattle.njh_spool.specs.code.Slots.{contents, slot_of, chain_of, is_whole_stage, spools_of, IsPlace, whole_file}
-use Rattle.njh_spool.proofs.KeptLaws.{Moves}
+use Rattle.njh_spool.specs.code.Slots.{slot_of, chain_of, is_whole_stage, IsPlace, whole_file}
 use Rattle.njh_spool.proofs.CallFinds as finds
 use Rattle.njh_spool.proofs.CallLaws as call
 use Rattle.std.specs.Prelude.{slice_get, IsSomeAnd}
@@ -17,15 +16,15 @@ use Rattle.njh_spool.specs.code.Packing.{unpacked_records}
 use Rattle.njh_spool.proofs.PackingLaws.{length-unpacked}
 use Rattle.njh_spool.proofs.PlaceLaws.{within_some}
 use Rattle.njh_spool.proofs.RecordLaws.{in_file}
+use Rattle.njh_spool.proofs.Calls.{MovesTo, call_on, files_at, slot_at, chain_of_file}
 use Rattle.njh_spool.proofs.spool.Spool.rewrite.Goals as goal
 use Rattle.njh_spool.proofs.spool.Spool.rewrite.Goals.{After-is_whole, After-place_of_record-begins, After-overwrite}
 use Rattle.njh_spool.proofs.spool.Spool.rewrite.Goals.{After-set}
 
 pub slot_at-slot-requires : goal.slot_at-slot-requires
 slot_at-slot-requires c =
-    let has = finds.has c.self.inside.store c.self.inside.slots c.self.inside.customers.items c.args.customer c.args.id
-    c.self.invariant (rw c.self.view_is c.requires.range) in
-    omega (arith, has.slot_within 1023 (omega arith))
+    let here = call_on c.self.inside c.args.customer c.args.id c.self.invariant (rw c.self.view_is c.requires.range) in
+    omega (arith, (finds.has here).slot_within 1023 (omega arith))
 
 stage_is : (c : After-is_whole) → is_whole_stage (slot_of c.self.inside.slots c.args.customer c.args.id).stage ≡ c.is_whole.result
 stage_is c = ap (λ (x : FileSlot). is_whole_stage x.stage)
@@ -34,38 +33,38 @@ stage_is c = ap (λ (x : FileSlot). is_whole_stage x.stage)
 
 pub returns-then-not-is_whole-clause-answer : goal.returns-then-not-is_whole-clause-answer
 returns-then-not-is_whole-clause-answer c =
-    let none = finds.finds_no_whole c.self.inside.store c.self.inside.slots c.self.inside.customers.items c.args.customer
-    c.args.id c.self.invariant (rw c.self.view_is c.requires.range)
+    let here = call_on c.self.inside c.args.customer c.args.id c.self.invariant (rw c.self.view_is c.requires.range) in
+    let none = finds.finds_no_whole here
     (stage_is (goal.at.returns-then-not-is_whole-clause-answer c).After-is_whole ∙ c.if-not-is_whole.true) in
     rw (← c.self.view_is, none.none) refl
 
 pub returns-then-not-is_whole-clause-after : goal.returns-then-not-is_whole-clause-after
 returns-then-not-is_whole-clause-after c =
-    let none = finds.finds_no_whole c.self.inside.store c.self.inside.slots c.self.inside.customers.items c.args.customer
-    c.args.id c.self.invariant (rw c.self.view_is c.requires.range)
+    let here = call_on c.self.inside c.args.customer c.args.id c.self.invariant (rw c.self.view_is c.requires.range) in
+    let none = finds.finds_no_whole here
     (stage_is (goal.at.returns-then-not-is_whole-clause-after c).After-is_whole ∙ c.if-not-is_whole.true) in
     rw (← c.self.view_is) (none.changes (λ x. record
     x { records = at_index c.args.n (rewritten_record c.args.place c.args.bytes) x.records }))
 
 pub place_of_record-begins-requires-clause-within : goal.place_of_record-begins-requires-clause-within
 place_of_record-begins-requires-clause-within c =
+    let here = call_on c.self.inside c.args.customer c.args.id c.self.invariant (rw c.self.view_is c.requires.range) in
     let same = c.slot_at-slot.ensures in
     let there = ap (λ (x : FileSlot). is_whole_stage x.stage) (sym same) ∙ sym c.is_whole.ensures ∙ c.if-not-is_whole.false in
-    let inner : IsSomeAnd (slice_get (unpacked_records (slot_of c.self.inside.slots c.args.customer c.args.id).count
-    (chain_of c.self.inside.store.chains c.args.customer c.args.id).bytes) c.args.n) (λ r. c.args.place + 8 ≤ length r.bytes) =
-    c.requires.within (whole_file (contents c.self.inside.slots c.self.inside.store.chains c.args.customer) c.args.id)
+    let inner : IsSomeAnd (slice_get (unpacked_records (slot_at here).count
+    (chain_of_file here).bytes) c.args.n) (λ r. c.args.place + 8 ≤ length r.bytes) =
+    c.requires.within (whole_file (files_at here) c.args.id)
     (subst (λ (old : List CustomerSpool). whole_numbered c.args.id (spool_at c.args.customer old) ≡ Some
-    (whole_file (contents c.self.inside.slots c.self.inside.store.chains c.args.customer) c.args.id)) c.self.view_is
-    (finds.finds_whole c.self.inside.store c.self.inside.slots c.self.inside.customers.items c.args.customer c.args.id
-    c.self.invariant (rw c.self.view_is c.requires.range) there)) in
-    let counted : c.args.n < (slot_of c.self.inside.slots c.args.customer c.args.id).count =
+    (whole_file (files_at here) c.args.id)) c.self.view_is
+    (finds.finds_whole here there)) in
+    let counted : c.args.n < (slot_at here).count =
     omega (
       arith,
-      within_some (unpacked_records (slot_of c.self.inside.slots c.args.customer c.args.id).count
-          (chain_of c.self.inside.store.chains c.args.customer c.args.id).bytes) c.args.n (λ r. c.args.place + 8 ≤ length r.bytes)
+      within_some (unpacked_records (slot_at here).count
+          (chain_of_file here).bytes) c.args.n (λ r. c.args.place + 8 ≤ length r.bytes)
           inner,
-      length-unpacked (slot_of c.self.inside.slots c.args.customer c.args.id).count
-          (chain_of c.self.inside.store.chains c.args.customer c.args.id).bytes,
+      length-unpacked (slot_at here).count
+          (chain_of_file here).bytes,
     ) in
     let count = ap (λ (x : FileSlot). x.count) same in
     omega (arith, count, counted)
@@ -79,44 +78,41 @@ record Goes (c : After-place_of_record-begins) : Type 0 where
 
 goes : (c : After-place_of_record-begins) → Goes c
 goes c =
+    let here = call_on c.self.inside c.args.customer c.args.id c.self.invariant (rw c.self.view_is c.requires.range) in
     let same = c.slot_at-slot.ensures in
     let there = ap (λ (x : FileSlot). is_whole_stage x.stage) (sym same) ∙ sym c.is_whole.ensures ∙ c.if-not-is_whole.false in
-    let inner : IsSomeAnd (slice_get (unpacked_records (slot_of c.self.inside.slots c.args.customer c.args.id).count
-    (chain_of c.self.inside.store.chains c.args.customer c.args.id).bytes) c.args.n) (λ r. c.args.place + 8 ≤ length r.bytes) =
-    c.requires.within (whole_file (contents c.self.inside.slots c.self.inside.store.chains c.args.customer) c.args.id)
+    let inner : IsSomeAnd (slice_get (unpacked_records (slot_at here).count
+    (chain_of_file here).bytes) c.args.n) (λ r. c.args.place + 8 ≤ length r.bytes) =
+    c.requires.within (whole_file (files_at here) c.args.id)
     (subst (λ (old : List CustomerSpool). whole_numbered c.args.id (spool_at c.args.customer old) ≡ Some
-    (whole_file (contents c.self.inside.slots c.self.inside.store.chains c.args.customer) c.args.id)) c.self.view_is
-    (finds.finds_whole c.self.inside.store c.self.inside.slots c.self.inside.customers.items c.args.customer c.args.id
-    c.self.invariant (rw c.self.view_is c.requires.range) there)) in
-    let counted : c.args.n < (slot_of c.self.inside.slots c.args.customer c.args.id).count =
+    (whole_file (files_at here) c.args.id)) c.self.view_is
+    (finds.finds_whole here there)) in
+    let counted : c.args.n < (slot_at here).count =
     omega (
       arith,
-      within_some (unpacked_records (slot_of c.self.inside.slots c.args.customer c.args.id).count
-          (chain_of c.self.inside.store.chains c.args.customer c.args.id).bytes) c.args.n (λ r. c.args.place + 8 ≤ length r.bytes)
+      within_some (unpacked_records (slot_at here).count
+          (chain_of_file here).bytes) c.args.n (λ r. c.args.place + 8 ≤ length r.bytes)
           inner,
-      length-unpacked (slot_of c.self.inside.slots c.args.customer c.args.id).count
-          (chain_of c.self.inside.store.chains c.args.customer c.args.id).bytes,
+      length-unpacked (slot_at here).count
+          (chain_of_file here).bytes,
     ) in
-    let small = finds.small_whole c.self.inside.store c.self.inside.slots c.self.inside.customers.items c.args.customer
-    c.args.id c.self.invariant (rw c.self.view_is c.requires.range) there in
-    let chain = ap (λ (i : ℕ). chain_at i c.self.inside.store) c.place-at.ensures ∙ finds.chain_is c.self.inside.store
-    c.self.inside.slots c.self.inside.customers.items c.args.customer c.args.id c.self.invariant
-    (rw c.self.view_is c.requires.range) small in
-    let place : IsPlace (unpacked_records (slot_of c.self.inside.slots c.args.customer c.args.id).count
-    (chain_of c.self.inside.store.chains c.args.customer c.args.id).bytes)
-    (chain_of c.self.inside.store.chains c.args.customer c.args.id).keys c.place_of_record-begins.result =
-    subst (λ (x : Chain). IsPlace (unpacked_records (slot_of c.self.inside.slots c.args.customer c.args.id).count x.bytes) x.keys
+    let small = finds.small_whole here there in
+    let chain = ap (λ (i : ℕ). chain_at i c.self.inside.store) c.place-at.ensures ∙ finds.chain_is here small in
+    let place : IsPlace (unpacked_records (slot_at here).count
+    (chain_of_file here).bytes)
+    (chain_of_file here).keys c.place_of_record-begins.result =
+    subst (λ (x : Chain). IsPlace (unpacked_records (slot_at here).count x.bytes) x.keys
     c.place_of_record-begins.result) chain
     (subst (λ (x : FileSlot). IsPlace (unpacked_records x.count (chain_at c.place-at.result c.self.inside.store).bytes)
     (chain_at c.place-at.result c.self.inside.store).keys c.place_of_record-begins.result) same
     c.place_of_record-begins.ensures.place) in
     let begins : c.place_of_record-begins.result.place ≡ stored_size
-    (take c.args.n (unpacked_records (slot_of c.self.inside.slots c.args.customer c.args.id).count
-    (chain_of c.self.inside.store.chains c.args.customer c.args.id).bytes)) = place.place
-    ∙ ap (λ (k : ℕ). stored_size (take k (unpacked_records (slot_of c.self.inside.slots c.args.customer c.args.id).count
-    (chain_of c.self.inside.store.chains c.args.customer c.args.id).bytes))) c.place_of_record-begins.ensures.index in
-    let r = in_file (slot_of c.self.inside.slots c.args.customer c.args.id)
-    (chain_of c.self.inside.store.chains c.args.customer c.args.id) c.args.n
+    (take c.args.n (unpacked_records (slot_at here).count
+    (chain_of_file here).bytes)) = place.place
+    ∙ ap (λ (k : ℕ). stored_size (take k (unpacked_records (slot_at here).count
+    (chain_of_file here).bytes))) c.place_of_record-begins.ensures.index in
+    let r = in_file (slot_at here)
+    (chain_of_file here) c.args.n
     (c.self.invariant.files c.args.customer c.args.id) counted in
     let eight = rw r.1.found at inner in
     record {
@@ -126,13 +122,16 @@ goes c =
     }
 
 pub overflow_add-from : goal.overflow_add-from
-overflow_add-from c = let to = goes (goal.at.overflow_add-from c).After-place_of_record-begins in omega (arith, to.within, to.bound)
+overflow_add-from c = let to = goes (goal.at.overflow_add-from c).After-place_of_record-begins in omega
+    (arith, to.within, to.bound)
 
 pub overflow_cast-from : goal.overflow_cast-from
-overflow_cast-from c = let to = goes (goal.at.overflow_cast-from c).After-place_of_record-begins in omega (arith, to.within, to.bound)
+overflow_cast-from c = let to = goes (goal.at.overflow_cast-from c).After-place_of_record-begins in omega
+    (arith, to.within, to.bound)
 
 pub overflow_add-from-2 : goal.overflow_add-from-2
-overflow_add-from-2 c = let to = goes (goal.at.overflow_add-from-2 c).After-place_of_record-begins in omega (arith, to.within, to.bound)
+overflow_add-from-2 c = let to = goes (goal.at.overflow_add-from-2 c).After-place_of_record-begins in omega
+    (arith, to.within, to.bound)
 
 pub overwrite-requires-clause-within : goal.overwrite-requires-clause-within
 overwrite-requires-clause-within c =
@@ -154,7 +153,8 @@ record Rewrites (store : StoreValue) (slots : List FileSlot) (slot : FileSlot) (
   there : is_whole_stage (slot_of slots customer id).stage ≡ true
   small : id < 1024
   counted : n < (slot_of slots customer id).count
-  begins : at ≡ stored_size (take n (unpacked_records (slot_of slots customer id).count (chain_of store.chains customer id).bytes)) + 3 + place
+  begins : at ≡ stored_size (take n (unpacked_records (slot_of slots customer id).count
+      (chain_of store.chains customer id).bytes)) + 3 + place
   fits : IsSomeAnd (slice_get (unpacked_records (slot_of slots customer id).count (chain_of store.chains customer id).bytes) n)
       (λ r. place + length bytes ≤ length r.bytes)
   after : store' ≡ with_chain (1024 * customer + id) (chain_then store customer id at bytes) store
@@ -165,66 +165,62 @@ rewrites : (c : After-overwrite) → Rewrites c.self.inside.store c.self.inside.
     c.args.id c.args.n (c.place_of_record-begins.result.place + (3 + c.args.place)) c.args.place c.place-at.result c.args.bytes
     c.overwrite.new.self
 rewrites c =
+    let here = call_on c.self.inside c.args.customer c.args.id c.self.invariant (rw c.self.view_is c.requires.range) in
     let same = c.slot_at-slot.ensures in
     let there = ap (λ (x : FileSlot). is_whole_stage x.stage) (sym same) ∙ sym c.is_whole.ensures ∙ c.if-not-is_whole.false in
-    let inner : IsSomeAnd (slice_get (unpacked_records (slot_of c.self.inside.slots c.args.customer c.args.id).count
-    (chain_of c.self.inside.store.chains c.args.customer c.args.id).bytes) c.args.n) (λ r. c.args.place + 8 ≤ length r.bytes) =
-    c.requires.within (whole_file (contents c.self.inside.slots c.self.inside.store.chains c.args.customer) c.args.id)
+    let inner : IsSomeAnd (slice_get (unpacked_records (slot_at here).count
+    (chain_of_file here).bytes) c.args.n) (λ r. c.args.place + 8 ≤ length r.bytes) =
+    c.requires.within (whole_file (files_at here) c.args.id)
     (subst (λ (old : List CustomerSpool). whole_numbered c.args.id (spool_at c.args.customer old) ≡ Some
-    (whole_file (contents c.self.inside.slots c.self.inside.store.chains c.args.customer) c.args.id)) c.self.view_is
-    (finds.finds_whole c.self.inside.store c.self.inside.slots c.self.inside.customers.items c.args.customer c.args.id
-    c.self.invariant (rw c.self.view_is c.requires.range) there)) in
-    let counted : c.args.n < (slot_of c.self.inside.slots c.args.customer c.args.id).count =
+    (whole_file (files_at here) c.args.id)) c.self.view_is
+    (finds.finds_whole here there)) in
+    let counted : c.args.n < (slot_at here).count =
     omega (
       arith,
-      within_some (unpacked_records (slot_of c.self.inside.slots c.args.customer c.args.id).count
-          (chain_of c.self.inside.store.chains c.args.customer c.args.id).bytes) c.args.n (λ r. c.args.place + 8 ≤ length r.bytes)
+      within_some (unpacked_records (slot_at here).count
+          (chain_of_file here).bytes) c.args.n (λ r. c.args.place + 8 ≤ length r.bytes)
           inner,
-      length-unpacked (slot_of c.self.inside.slots c.args.customer c.args.id).count
-          (chain_of c.self.inside.store.chains c.args.customer c.args.id).bytes,
+      length-unpacked (slot_at here).count
+          (chain_of_file here).bytes,
     ) in
-    let small = finds.small_whole c.self.inside.store c.self.inside.slots c.self.inside.customers.items c.args.customer
-    c.args.id c.self.invariant (rw c.self.view_is c.requires.range) there in
-    let chain = ap (λ (i : ℕ). chain_at i c.self.inside.store) c.place-at.ensures ∙ finds.chain_is c.self.inside.store
-    c.self.inside.slots c.self.inside.customers.items c.args.customer c.args.id c.self.invariant
-    (rw c.self.view_is c.requires.range) small in
-    let place : IsPlace (unpacked_records (slot_of c.self.inside.slots c.args.customer c.args.id).count
-    (chain_of c.self.inside.store.chains c.args.customer c.args.id).bytes)
-    (chain_of c.self.inside.store.chains c.args.customer c.args.id).keys c.place_of_record-begins.result =
-    subst (λ (x : Chain). IsPlace (unpacked_records (slot_of c.self.inside.slots c.args.customer c.args.id).count x.bytes) x.keys
+    let small = finds.small_whole here there in
+    let chain = ap (λ (i : ℕ). chain_at i c.self.inside.store) c.place-at.ensures ∙ finds.chain_is here small in
+    let place : IsPlace (unpacked_records (slot_at here).count
+    (chain_of_file here).bytes)
+    (chain_of_file here).keys c.place_of_record-begins.result =
+    subst (λ (x : Chain). IsPlace (unpacked_records (slot_at here).count x.bytes) x.keys
     c.place_of_record-begins.result) chain
     (subst (λ (x : FileSlot). IsPlace (unpacked_records x.count (chain_at c.place-at.result c.self.inside.store).bytes)
     (chain_at c.place-at.result c.self.inside.store).keys c.place_of_record-begins.result) same
     c.place_of_record-begins.ensures.place) in
     let begins : c.place_of_record-begins.result.place ≡ stored_size
-    (take c.args.n (unpacked_records (slot_of c.self.inside.slots c.args.customer c.args.id).count
-    (chain_of c.self.inside.store.chains c.args.customer c.args.id).bytes)) = place.place
-    ∙ ap (λ (k : ℕ). stored_size (take k (unpacked_records (slot_of c.self.inside.slots c.args.customer c.args.id).count
-    (chain_of c.self.inside.store.chains c.args.customer c.args.id).bytes))) c.place_of_record-begins.ensures.index in
+    (take c.args.n (unpacked_records (slot_at here).count
+    (chain_of_file here).bytes)) = place.place
+    ∙ ap (λ (k : ℕ). stored_size (take k (unpacked_records (slot_at here).count
+    (chain_of_file here).bytes))) c.place_of_record-begins.ensures.index in
     let eight : 8 ≡ length c.args.bytes = omega arith in
     let fits = subst (λ (size : ℕ). IsSomeAnd
-    (slice_get (unpacked_records (slot_of c.self.inside.slots c.args.customer c.args.id).count
-    (chain_of c.self.inside.store.chains c.args.customer c.args.id).bytes) c.args.n)
+    (slice_get (unpacked_records (slot_at here).count
+    (chain_of_file here).bytes) c.args.n)
     (λ r. c.args.place + size ≤ length r.bytes)) eight inner in
     let at = c.place_of_record-begins.result.place + (3 + c.args.place) in
     let store : c.overwrite.new.self ≡ with_chain (1024 * c.args.customer + c.args.id)
     (record {
-      keys = (chain_of c.self.inside.store.chains c.args.customer c.args.id).keys;
+      keys = (chain_of_file here).keys;
       bytes =
-          with_field at c.args.bytes (chain_of c.self.inside.store.chains c.args.customer c.args.id).bytes;
+          with_field at c.args.bytes (chain_of_file here).bytes;
     }) c.self.inside.store =
     c.overwrite.ensures
     ∙ ap (λ (x : Chain). with_chain c.place-at.result (record { keys = x.keys; bytes = with_field at c.args.bytes x.bytes })
     c.self.inside.store) chain
     ∙ ap (λ (i : ℕ). with_chain i (record {
-      keys = (chain_of c.self.inside.store.chains c.args.customer c.args.id).keys;
+      keys = (chain_of_file here).keys;
       bytes =
-          with_field at c.args.bytes (chain_of c.self.inside.store.chains c.args.customer c.args.id).bytes;
+          with_field at c.args.bytes (chain_of_file here).bytes;
     }) c.self.inside.store)
     c.place-at.ensures in
-    let has = finds.has c.self.inside.store c.self.inside.slots c.self.inside.customers.items c.args.customer c.args.id
-    c.self.invariant (rw c.self.view_is c.requires.range) in
-    let here = 1024 * c.args.customer + c.args.id in
+    let has = finds.has here in
+    let index = 1024 * c.args.customer + c.args.id in
     let then = chain_then c.self.inside.store c.args.customer c.args.id at c.args.bytes in
     record {
       same = same;
@@ -234,60 +230,58 @@ rewrites c =
       begins = omega (arith, begins);
       fits = fits;
       after = store;
-      chain = ap (λ (i : ℕ). chain_at i c.overwrite.new.self) c.place-at.ensures ∙ ap (chain_at here) store
-          ∙ get_or-set_same c.self.inside.store.chains here then empty_chain (has.chain_within c.args.id small);
+      chain = ap (λ (i : ℕ). chain_at i c.overwrite.new.self) c.place-at.ensures ∙ ap (chain_at index) store
+          ∙ get_or-set_same c.self.inside.store.chains index then empty_chain (has.chain_within c.args.id small);
       inside = omega (
         arith,
         ap (λ (t : StoreValue). length t.chains) store,
-        length-set c.self.inside.store.chains here then,
+        length-set c.self.inside.store.chains index then,
         has.chain_within c.args.id small,
         c.place-at.ensures,
       );
     }
 
 pub headers_behind-slot-requires-clause-range : goal.headers_behind-slot-requires-clause-range
-headers_behind-slot-requires-clause-range c = (rewrites (goal.at.headers_behind-slot-requires-clause-range c).After-overwrite).inside
+headers_behind-slot-requires-clause-range c = (rewrites (goal.at.headers_behind-slot-requires-clause-range
+    c).After-overwrite).inside
 
 pub headers_behind-slot-requires-clause-file : goal.headers_behind-slot-requires-clause-file
 headers_behind-slot-requires-clause-file c =
+    let here = call_on c.self.inside c.args.customer c.args.id c.self.invariant (rw c.self.view_is c.requires.range) in
     let is = rewrites (goal.at.headers_behind-slot-requires-clause-file c).After-overwrite in
-    rw (is.same, is.chain) (call.still_file c.self.inside.store c.self.inside.slots c.self.inside.customers.items
-    c.args.customer c.args.id c.self.invariant (rw c.self.view_is c.requires.range) c.args.n
+    rw (is.same, is.chain) (call.still_file here c.args.n
     (c.place_of_record-begins.result.place + (3 + c.args.place)) c.args.place c.args.bytes is.there is.small is.begins
     is.counted is.fits)
 
 moved : (c : After-set) → Rewrites c.self.inside.store c.self.inside.slots c.slot_at-slot.result c.args.customer
     c.args.id c.args.n (c.place_of_record-begins.result.place + (3 + c.args.place)) c.args.place c.place-at.result c.args.bytes
-    c.overwrite.new.self → Moves c.self.inside.store c.self.inside.slots c.self.inside.customers.items
-    c.overwrite.new.self c.set.new.self c.self.inside.customers.items c.args.customer
-    (with_rewritten_bytes c.args.id c.args.n c.args.place c.args.bytes
-    (spool_at c.args.customer (spools_of c.self.inside.customers.items (contents c.self.inside.slots c.self.inside.store.chains))))
+    c.overwrite.new.self → MovesTo (call_on c.self.inside c.args.customer c.args.id c.self.invariant
+    (rw c.self.view_is c.requires.range)) c.overwrite.new.self c.set.new.self c.self.inside.customers.items
+    (with_rewritten_bytes c.args.id c.args.n c.args.place c.args.bytes)
 moved c is =
-    let s : CustomerSpool = with_rewritten_bytes c.args.id c.args.n c.args.place c.args.bytes
-    (spool_at c.args.customer (spools_of c.self.inside.customers.items (contents c.self.inside.slots c.self.inside.store.chains))) in
+    let here = call_on c.self.inside c.args.customer c.args.id c.self.invariant (rw c.self.view_is c.requires.range) in
+    let rewritten = with_rewritten_bytes c.args.id c.args.n c.args.place c.args.bytes in
     let at = c.place_of_record-begins.result.place + (3 + c.args.place) in
     let slot : FileSlot = slot_of c.self.inside.slots c.args.customer c.args.id in
     let then : Chain = chain_then c.self.inside.store c.args.customer c.args.id at c.args.bytes in
-    let again : c.args.n < slot.headers.count → c.headers_behind-slot.result ≡ kept_headers slot.kind (unpacked_records slot.count then.bytes) =
+    let again : c.args.n < slot.headers.count → c.headers_behind-slot.result ≡ kept_headers slot.kind
+    (unpacked_records slot.count then.bytes) =
     λ before.
     c.headers_behind-slot.ensures.read (omega (arith, before, ap (λ (x : FileSlot). x.headers.count) is.same))
-    ∙ ap (λ (x : FileSlot). kept_headers x.kind (unpacked_records x.count (chain_at c.place-at.result c.overwrite.new.self).bytes)) is.same
+    ∙ ap (λ (x : FileSlot). kept_headers x.kind (unpacked_records x.count
+    (chain_at c.place-at.result c.overwrite.new.self).bytes)) is.same
     ∙ ap (λ (x : Chain). kept_headers slot.kind (unpacked_records slot.count x.bytes)) is.chain in
     let kept : slot.headers.count ≤ c.args.n → c.headers_behind-slot.result ≡ slot.headers =
     λ behind.
     c.headers_behind-slot.ensures.same (omega (arith, behind, ap (λ (x : FileSlot). x.headers.count) is.same))
     ∙ ap (λ (x : FileSlot). x.headers) is.same in
-    subst (λ (xs : List FileSlot). Moves c.self.inside.store c.self.inside.slots c.self.inside.customers.items c.overwrite.new.self
-    xs
-    c.self.inside.customers.items c.args.customer s) (sym c.set.ensures)
-    (subst (λ (x : FileSlot). Moves c.self.inside.store c.self.inside.slots c.self.inside.customers.items
-    c.overwrite.new.self (set c.self.inside.slots (1024 * c.args.customer + c.args.id)
-    (record x { headers = c.headers_behind-slot.result })) c.self.inside.customers.items c.args.customer s) (sym is.same)
-    (subst (λ (t : StoreValue). Moves c.self.inside.store c.self.inside.slots c.self.inside.customers.items t
-    (set c.self.inside.slots (1024 * c.args.customer + c.args.id) (record slot { headers = c.headers_behind-slot.result }))
-    c.self.inside.customers.items c.args.customer s) (sym is.after)
-    (call.rewrites c.self.inside.store c.self.inside.slots c.self.inside.customers.items c.args.customer c.args.id
-    c.self.invariant (rw c.self.view_is c.requires.range) c.args.n at c.args.place c.args.bytes is.there is.small is.begins
+    subst (λ (xs : List FileSlot). MovesTo here c.overwrite.new.self xs c.self.inside.customers.items rewritten)
+    (sym c.set.ensures)
+    (subst (λ (x : FileSlot). MovesTo here c.overwrite.new.self (set c.self.inside.slots (1024 * c.args.customer + c.args.id)
+    (record x { headers = c.headers_behind-slot.result })) c.self.inside.customers.items rewritten) (sym is.same)
+    (subst (λ (t : StoreValue). MovesTo here t (set c.self.inside.slots (1024 * c.args.customer + c.args.id)
+    (record slot { headers = c.headers_behind-slot.result })) c.self.inside.customers.items rewritten) (sym is.after)
+    (call.rewrites here c.args.n at c.args.place c.args.bytes is.there is.small is.begins
     is.counted is.fits c.headers_behind-slot.result again kept)))
 
 pub invariant_of-self : goal.invariant_of-self
@@ -296,12 +290,9 @@ invariant_of-self c =
 
 pub returns-clause-answer : goal.returns-clause-answer
 returns-clause-answer c =
+    let here = call_on c.self.inside c.args.customer c.args.id c.self.invariant (rw c.self.view_is c.requires.range) in
     let there = stage_is (goal.at.returns-clause-answer c).After-is_whole ∙ c.if-not-is_whole.false in
-    rw (
-      ← c.self.view_is,
-      finds.finds_whole c.self.inside.store c.self.inside.slots c.self.inside.customers.items
-          c.args.customer c.args.id c.self.invariant (rw c.self.view_is c.requires.range) there,
-    ) refl
+    rw (← c.self.view_is, finds.finds_whole here there) refl
 
 pub returns-clause-after : goal.returns-clause-after
 returns-clause-after c =

@@ -3,18 +3,17 @@ use Rattle.njh_spool.specs.declared.file_slot.FileSlot.{FileSlot}
 use Rattle.njh_spool.specs.declared.file_slot.Stage.TheVariants.{Whole}
 use Rattle.njh_spool.specs.CustomerSpool.{CustomerSpool, with_state}
 use Rattle.njh_spool.specs.Spools.{spool_at}
-use Rattle.njh_spool.specs.code.Slots.{contents, slot_of, is_whole_stage, spools_of}
-use Rattle.njh_spool.proofs.KeptLaws.{Moves}
+use Rattle.njh_spool.specs.code.Slots.{slot_of, is_whole_stage}
 use Rattle.njh_spool.proofs.CallFinds as finds
 use Rattle.njh_spool.proofs.CallLaws as call
+use Rattle.njh_spool.proofs.Calls.{MovesTo, call_on}
 use Rattle.njh_spool.proofs.spool.Spool.set_state.Goals as goal
 use Rattle.njh_spool.proofs.spool.Spool.set_state.Goals.{After-set, After-is_whole}
 
 pub slot_at-slot-requires : goal.slot_at-slot-requires
 slot_at-slot-requires c =
-    let has = finds.has c.self.inside.store c.self.inside.slots c.self.inside.customers.items c.args.customer c.args.id
-    c.self.invariant (rw c.self.view_is c.requires) in
-    omega (arith, has.slot_within 1023 (omega arith))
+    let here = call_on c.self.inside c.args.customer c.args.id c.self.invariant (rw c.self.view_is c.requires) in
+    omega (arith, (finds.has here).slot_within 1023 (omega arith))
 
 stage_is : (c : After-is_whole) → is_whole_stage (slot_of c.self.inside.slots c.args.customer c.args.id).stage ≡ c.is_whole.result
 stage_is c = ap (λ (x : FileSlot). is_whole_stage x.stage)
@@ -23,53 +22,42 @@ stage_is c = ap (λ (x : FileSlot). is_whole_stage x.stage)
 
 pub returns-then-not-is_whole-clause-answer : goal.returns-then-not-is_whole-clause-answer
 returns-then-not-is_whole-clause-answer c =
-    let none = finds.finds_no_whole c.self.inside.store c.self.inside.slots c.self.inside.customers.items c.args.customer
-    c.args.id c.self.invariant (rw c.self.view_is c.requires)
+    let here = call_on c.self.inside c.args.customer c.args.id c.self.invariant (rw c.self.view_is c.requires) in
+    let none = finds.finds_no_whole here
     (stage_is (goal.at.returns-then-not-is_whole-clause-answer c).After-is_whole ∙ c.if-not-is_whole.true) in
     rw (← c.self.view_is, none.none) refl
 
 pub returns-then-not-is_whole-clause-after : goal.returns-then-not-is_whole-clause-after
 returns-then-not-is_whole-clause-after c =
-    let none = finds.finds_no_whole c.self.inside.store c.self.inside.slots c.self.inside.customers.items c.args.customer
-    c.args.id c.self.invariant (rw c.self.view_is c.requires)
+    let here = call_on c.self.inside c.args.customer c.args.id c.self.invariant (rw c.self.view_is c.requires) in
+    let none = finds.finds_no_whole here
     (stage_is (goal.at.returns-then-not-is_whole-clause-after c).After-is_whole ∙ c.if-not-is_whole.true) in
     rw (← c.self.view_is) (none.changes (λ x. record x { state = c.args.state }))
 
-moved : (c : After-set) → Moves c.self.inside.store c.self.inside.slots c.self.inside.customers.items
-    c.self.inside.store c.set.new.self c.self.inside.customers.items c.args.customer
-    (with_state c.args.id c.args.state (spool_at c.args.customer (spools_of c.self.inside.customers.items
-    (contents c.self.inside.slots c.self.inside.store.chains))))
+moved : (c : After-set) → MovesTo (call_on c.self.inside c.args.customer c.args.id c.self.invariant
+    (rw c.self.view_is c.requires)) c.self.inside.store c.set.new.self c.self.inside.customers.items
+    (with_state c.args.id c.args.state)
 moved c =
+    let here = call_on c.self.inside c.args.customer c.args.id c.self.invariant (rw c.self.view_is c.requires) in
     let there = ap (λ (x : FileSlot). is_whole_stage x.stage)
     (sym (c.slot_at-slot.ensures))
     ∙ sym c.is_whole.ensures ∙ c.if-not-is_whole.false in
-    subst (λ (xs : List FileSlot). Moves c.self.inside.store c.self.inside.slots c.self.inside.customers.items c.self.inside.store
-    xs
-    c.self.inside.customers.items c.args.customer
-    (with_state c.args.id c.args.state (spool_at c.args.customer (spools_of c.self.inside.customers.items
-    (contents c.self.inside.slots c.self.inside.store.chains))))) (sym c.set.ensures)
-    (subst (λ (x : FileSlot). Moves c.self.inside.store c.self.inside.slots c.self.inside.customers.items
-    c.self.inside.store (set c.self.inside.slots (1024 * c.args.customer + c.args.id)
-    (record x { stage = Whole c.args.state })) c.self.inside.customers.items c.args.customer
-    (with_state c.args.id c.args.state (spool_at c.args.customer (spools_of c.self.inside.customers.items
-    (contents c.self.inside.slots c.self.inside.store.chains)))))
+    subst (λ (xs : List FileSlot). MovesTo here c.self.inside.store xs c.self.inside.customers.items
+    (with_state c.args.id c.args.state)) (sym c.set.ensures)
+    (subst (λ (x : FileSlot). MovesTo here c.self.inside.store (set c.self.inside.slots (1024 * c.args.customer + c.args.id)
+    (record x { stage = Whole c.args.state })) c.self.inside.customers.items (with_state c.args.id c.args.state))
     (sym (c.slot_at-slot.ensures))
-    (call.restates c.self.inside.store c.self.inside.slots c.self.inside.customers.items c.args.customer c.args.id
-    c.self.invariant (rw c.self.view_is c.requires) c.args.state there
-    (finds.small_whole c.self.inside.store c.self.inside.slots c.self.inside.customers.items c.args.customer c.args.id
-    c.self.invariant (rw c.self.view_is c.requires) there)))
+    (call.restates here c.args.state there
+    (finds.small_whole here there)))
 
 pub invariant_of-self : goal.invariant_of-self
 invariant_of-self c = (moved (goal.at.invariant_of-self c).After-set).kept
 
 pub returns-clause-answer : goal.returns-clause-answer
 returns-clause-answer c =
+    let here = call_on c.self.inside c.args.customer c.args.id c.self.invariant (rw c.self.view_is c.requires) in
     let there = stage_is (goal.at.returns-clause-answer c).After-is_whole ∙ c.if-not-is_whole.false in
-    rw (
-      ← c.self.view_is,
-      finds.finds_whole c.self.inside.store c.self.inside.slots c.self.inside.customers.items
-          c.args.customer c.args.id c.self.invariant (rw c.self.view_is c.requires) there,
-    ) refl
+    rw (← c.self.view_is, finds.finds_whole here there) refl
 
 pub returns-clause-after : goal.returns-clause-after
 returns-clause-after c =
