@@ -8,13 +8,13 @@ use Rattle.njh_spool.specs.declared.file_slot.Stage.{Stage}
 use Rattle.njh_spool.specs.declared.file_slot.Stage.TheVariants.{Free, Partial, Whole}
 use Rattle.njh_spool.specs.declared.file_slot.FileSlot.{FileSlot}
 use Rattle.njh_spool.specs.declared.customer_files.CustomerFiles.{CustomerFiles}
-use Rattle.njh_spool.specs.code.Chains.{Chain, StoreValue, empty_chain, chain_at, with_chain, blocks_of, blocks_used}
+use Rattle.njh_spool.specs.code.Chains.{Chain, empty_chain, chain_at, with_chain, blocks_of, blocks_used}
 use Rattle.njh_spool.specs.CustomerSpool.{CustomerSpool, WholeFile, cost, used_blocks, stored_size, partial_numbered}
 use Rattle.njh_spool.specs.CustomerSpool.{whole_numbered, without_partial, with_finished, without_whole, on_file}
 use Rattle.njh_spool.specs.Spools.{spool_at, append_fault, records_numbered}
 use Rattle.njh_spool.specs.code.Packing.{packed_record}
 use Rattle.njh_spool.specs.code.Slots.{Content, contents, slot_of, chain_of, is_free, is_partial, is_whole_stage}
-use Rattle.njh_spool.specs.code.Slots.{whole_file, partial_file, spools_of, IsKept}
+use Rattle.njh_spool.specs.code.Slots.{whole_file, partial_file, spools_of}
 use Rattle.njh_spool.proofs.CostLaws.{cost_push}
 use Rattle.njh_spool.proofs.IndexLaws.{at_is, small_used}
 use Rattle.njh_spool.proofs.Calls.{Call}
@@ -55,23 +55,7 @@ few_records [] = omega arith
 few_records (r ∷ records) = omega (arith, few_records records, sum_by-cons (λ (x : Stored). 3 + length x.bytes) r records)
 
 module _ (here : Call) where
-  abbrev store : StoreValue
-  store = here.spool.store
-
-  abbrev slots : List FileSlot
-  slots = here.spool.slots
-
-  abbrev customers : List CustomerFiles
-  customers = here.spool.customers.items
-
-  abbrev c : ℕ
-  c = here.customer
-
-  abbrev n : ℕ
-  n = here.number
-
-  kept : IsKept store slots customers
-  kept = here.kept
+  open here use {customer as c, number as n, kept, spool.{store, slots, customers.{items as customers}}}
 
   pub has : HasOwn store slots customers c
   has = calls.has here

@@ -22,7 +22,7 @@ use Rattle.njh_spool.specs.Spools.{spool_at}
 use Rattle.njh_spool.specs.code.Packing.{packed_record, packed_bytes, unpacked_records, IsShort}
 use Rattle.njh_spool.specs.code.Slots.{Content, content, contents, slot_of, chain_of, free_slot, no_files, is_free}
 use Rattle.njh_spool.specs.code.Slots.{is_partial, is_whole_stage, whole_file, spool_of, spools_of, first_places}
-use Rattle.njh_spool.specs.code.Slots.{ArePlaces, IsOwn, IsFile, KeepsHeaders, IsKept}
+use Rattle.njh_spool.specs.code.Slots.{ArePlaces, IsOwn, IsFile, KeepsHeaders}
 use Rattle.njh_spool.specs.Headers.{header_count, kept_headers}
 use Rattle.njh_spool.specs.declared.file_headers.KeptHeaders.{KeptHeaders}
 use Rattle.njh_spool.proofs.HeaderLaws.{kept_headers-behind}
@@ -42,23 +42,7 @@ use Rattle.njh_spool.proofs.CallFinds as finds
 use Rattle.njh_spool.proofs.CallFinds.{not_free-partial}
 
 module _ (here : Call) where
-  abbrev store : StoreValue
-  store = here.spool.store
-
-  abbrev slots : List FileSlot
-  slots = here.spool.slots
-
-  abbrev customers : List CustomerFiles
-  customers = here.spool.customers.items
-
-  abbrev c : ℕ
-  c = here.customer
-
-  abbrev n : ℕ
-  n = here.number
-
-  kept : IsKept store slots customers
-  kept = here.kept
+  open here use {customer as c, number as n, kept, spool.{store, slots, customers.{items as customers}}}
 
   has : HasOwn store slots customers c
   has = finds.has here

@@ -3,16 +3,19 @@ use Rattle.std.proofs.Common.{◌≡◌, ℕ, zero, suc, ◌+◌, ◌*◌, ◌<�
 use Rattle.std.proofs.Common.{◌∙◌, arith}
 use Rattle.std.specs.Prelude.{slice_get}
 use Rattle.std.proofs.lemmas.Option.{slice_get-get_or, get_or_from_slice_get}
-use Rattle.slab.specs.Slab.{Slab, get, ContainsKey}
+use Rattle.slab.specs.Slab.{Slab, get, slab_len, ContainsKey}
 use Rattle.njh_record.specs.Bytes.{field}
 use Rattle.njh_spool.specs.declared.store.block.Block.{Block}
 use Rattle.njh_spool.specs.declared.store.chain_ends.ChainEnds.{ChainEnds}
-use Rattle.njh_spool.specs.code.Chains.{StoreValue, chain_at, blocks_for}
+use Rattle.njh_spool.specs.declared.store.Store.TheInside.{Inside}
+use Rattle.njh_spool.specs.code.Chains.{StoreValue, chain_at, blocks_for, blocks_used}
 use Rattle.njh_spool.specs.code.ChainedBlocks.{link_in, data_in, next_at, keys_from, keys_of, data_of, chains_of}
-use Rattle.njh_spool.specs.code.ChainedBlocks.{IsChained}
+use Rattle.njh_spool.specs.code.ChainedBlocks.{IsChained, empty_ends}
 use Rattle.njh_spool.proofs.ChainLists.{field-take}
 use Rattle.njh_spool.proofs.ChainKeys.{length-keys_from, field-data_of}
 use Rattle.njh_spool.proofs.ChainLaws.{len_is, keys_is, bytes_is, head_here, has_here, full_here, key_lies}
+use Rattle.njh_spool.proofs.ChainLaws.{ends_within, count_within, used_is}
+use Rattle.std.proofs.lemmas.List.{get_or_default}
 
 -- the key after one of a chain's
 keys_from-next : (s : Slab Block) (n key b : ℕ) → b + 1 < n → get_or (keys_from s n key) (b + 1) 0 ≡ next_at s
@@ -24,28 +27,78 @@ keys_from-next s (suc (suc n)) key (suc b) within =
     let sum : suc b + 1 ≡ suc (b + 1) = omega arith in
     rw sum (keys_from-next s (suc n) (next_at s key) b (omega arith))
 
-module _ (s : Slab Block) (chains : List ChainEnds) (i capacity : ℕ) (ends : ChainEnds) (chained : IsChained s chains capacity)
-    (within : i < length chains) (is : get_or chains i ends ≡ ends) (store : StoreValue)
-    (view : record { capacity = capacity; chains = chains_of s chains } ≡ store) where
+-- a call on a chain: what the store has inside, what it is seen as, and the chain's ends
+pub record OnChain : Type 0 where
+  pub inside : Inside
+  pub value : StoreValue
+  pub chain : ℕ
+  pub ends : ChainEnds
+  pub chained : IsChained inside.blocks inside.chains.items inside.capacity
+  pub view : record { capacity = inside.capacity; chains = chains_of inside.blocks inside.chains.items } ≡ value
+  pub within : chain < length inside.chains.items
+  pub is : get_or inside.chains.items chain ends ≡ ends
+
+abbrev pub on_ends : (inside : Inside) (value : StoreValue) (chain : ℕ) (ends : ChainEnds) →
+    IsChained inside.blocks inside.chains.items inside.capacity →
+    record { capacity = inside.capacity; chains = chains_of inside.blocks inside.chains.items } ≡ value →
+    chain < length value.chains → get_or inside.chains.items chain ends ≡ ends → OnChain
+on_ends inside value chain ends chained view held is =
+    record {
+      inside = inside;
+      value = value;
+      chain = chain;
+      ends = ends;
+      chained = chained;
+      view = view;
+      within = ends_within inside.blocks inside.chains.items inside.capacity chain value view held;
+      is = is;
+    }
+
+abbrev pub on_chain : (inside : Inside) (value : StoreValue) (chain : ℕ) →
+    IsChained inside.blocks inside.chains.items inside.capacity →
+    record { capacity = inside.capacity; chains = chains_of inside.blocks inside.chains.items } ≡ value →
+    chain < length value.chains → OnChain
+on_chain inside value chain chained view held =
+    let chains = inside.chains.items in
+    let ends = get_or chains chain empty_ends in
+    on_ends inside value chain ends chained view held (get_or_default chains chain ends empty_ends
+    (ends_within inside.blocks chains inside.capacity chain value view held))
+
+module _ (on : OnChain) where
+  open on use {chain as i, ends, chained, within, is, view, value as store}
+  open on use {inside.{blocks as s, capacity, chains.{items as chains}}}
+
+  pub len_on : length (chain_at i store).bytes ≡ ends.len
+  len_on = len_is s chains i capacity ends chained within is store view
+
+  pub keys_on : (chain_at i store).keys ≡ keys_of s ends
+  keys_on = keys_is s chains i capacity ends chained within is store view
+
+  pub count_on : blocks_for ends.len ≤ capacity
+  count_on = count_within s chains i capacity ends chained within is
+
+  pub used_on : (blocks_used store ≡ slab_len s) × (store.capacity ≡ capacity)
+  used_on = used_is s chains capacity store chained view
+
   -- the key of a block is that of the chain's value
   module _ (b : ℕ) (inside : 252 * b < length (chain_at i store).bytes) where
     pub few : b < blocks_for ends.len
-    few = omega (arith, len_is s chains i capacity ends chained within is store view)
+    few = omega (arith, len_on)
 
     long : b < length (keys_of s ends)
     long = omega (arith, few, length-keys_from s (blocks_for ends.len) ends.head)
 
     pub first_key : b ≡ 0 → slice_get (chain_at i store).keys b ≡ Some ends.head
     first_key none =
-        ap (λ (keys : List ℕ). slice_get keys b) (keys_is s chains i capacity ends chained within is store view)
+        ap (λ (keys : List ℕ). slice_get keys b) keys_on
         ∙ slice_get-get_or (keys_of s ends) b 0 long
         ∙ ap Some (ap (λ n. get_or (keys_of s ends) n 0) none ∙ head_here s chains i capacity ends chained within is
-        (omega (arith, len_is s chains i capacity ends chained within is store view)))
+        (omega (arith, len_on)))
 
     module _ (key : ℕ) (found : slice_get (chain_at i store).keys b ≡ Some key) where
       pub key_at : get_or (keys_of s ends) b 0 ≡ key
       key_at = get_or_from_slice_get (keys_of s ends) b key 0
-          (sym (ap (λ (keys : List ℕ). slice_get keys b) (keys_is s chains i capacity ends chained within is store view)) ∙ found)
+          (sym (ap (λ (keys : List ℕ). slice_get keys b) keys_on) ∙ found)
 
       pub key_has : ContainsKey s key
       key_has = has_here s chains i capacity ends chained within is key (key_lies s chains i capacity ends chained within is b key few key_at)
@@ -54,7 +107,7 @@ module _ (s : Slab Block) (chains : List ChainEnds) (i capacity : ℕ) (ends : C
       pub part_is : (at place n : ℕ) (block : Block) → get s key ≡ Some block → 252 * b + at ≡ place → at + n ≤ 252 →
           place + n ≤ length (chain_at i store).bytes → field at n block.bytes ≡ field place n (chain_at i store).bytes
       part_is at place n block held begins fits_here inside_too =
-          let size = len_is s chains i capacity ends chained within is store view in
+          let size = len_on in
           ap (λ (o : Option Block). field at n (data_in o)) (sym held)
           ∙ sym (field-data_of s (keys_of s ends) b key at n long key_at (full_here s chains i capacity ends chained within is) fits_here)
           ∙ ap (λ p. field p n (data_of s (keys_of s ends))) begins
@@ -65,8 +118,8 @@ module _ (s : Slab Block) (chains : List ChainEnds) (i capacity : ℕ) (ends : C
       pub next_key : (block : Block) → get s key ≡ Some block → 252 * b + 252 < length (chain_at i store).bytes →
           slice_get (chain_at i store).keys (b + 1) ≡ Some block.next
       next_key block at more =
-          let size = len_is s chains i capacity ends chained within is store view in
+          let size = len_on in
           let after : b + 1 < blocks_for ends.len = omega arith in
-          ap (λ (keys : List ℕ). slice_get keys (b + 1)) (keys_is s chains i capacity ends chained within is store view)
+          ap (λ (keys : List ℕ). slice_get keys (b + 1)) keys_on
           ∙ slice_get-get_or (keys_of s ends) (b + 1) 0 (omega (arith, length-keys_from s (blocks_for ends.len) ends.head))
           ∙ ap Some (keys_from-next s (blocks_for ends.len) ends.head b after ∙ ap (next_at s) key_at ∙ ap link_in at)

@@ -7,26 +7,27 @@ use Rattle.slab.specs.Slab.{Slab, get, slab_len, ContainsKey, with_value, Update
 use Rattle.njh_record.specs.Bytes.{with_field}
 use Rattle.njh_spool.specs.declared.store.block.Block.{Block}
 use Rattle.njh_spool.specs.declared.store.chain_ends.ChainEnds.{ChainEnds}
-use Rattle.njh_spool.specs.code.Chains.{Chain, StoreValue, Grows, chain_at, with_chain, with_bytes, blocks_for}
+use Rattle.njh_spool.specs.code.Chains.{Chain, Grows, chain_at, with_chain, with_bytes, blocks_for}
 use Rattle.njh_spool.specs.code.Chains.{blocks_of}
 use Rattle.njh_spool.specs.code.ChainedBlocks.{next_at, data_at, keys_of, chain_of, chains_of, IsChained}
 use Rattle.njh_spool.proofs.ChainKeys.{length-keys_from}
 use Rattle.njh_spool.proofs.ChainMoves.{chained_moved, view_moved, grows_from}
-use Rattle.njh_spool.proofs.ChainLaws.{len_is, keys_is, chain_is, count_within, last_here}
+use Rattle.njh_spool.proofs.ChainLaws.{chain_is, count_within, last_here}
 use Rattle.njh_spool.proofs.ChainPuts.{end_in_last, has_key, moves_put, chain_extended, chain_overwritten}
 use Rattle.njh_spool.proofs.ChainPuts.{slab_len-with_value}
 use Rattle.njh_spool.proofs.ChainAdds.{block_with, moves_first, chain_first, has_last, moves_next, chain_next}
-use Rattle.njh_spool.proofs.ChainPlaces.{few, key_at}
+use Rattle.njh_spool.proofs.ChainPlaces.{OnChain, len_on, keys_on, few, key_at}
 
 -- a block with other bytes
 abbrev pub put_in : Slab Block → ℕ → ℕ → List ℕ → Slab Block
 put_in s key place bytes = with_value s key (record { bytes = with_field place bytes (data_at s key); next = next_at s key })
 
-module _ (s : Slab Block) (chains : List ChainEnds) (i capacity : ℕ) (ends : ChainEnds) (chained : IsChained s chains capacity)
-    (within : i < length chains) (is : get_or chains i ends ≡ ends) (store : StoreValue)
-    (view : record { capacity = capacity; chains = chains_of s chains } ≡ store) where
+module _ (on : OnChain) where
+  open on use {chain as i, ends, chained, within, is, view, value as store}
+  open on use {inside.{blocks as s, capacity, chains.{items as chains}}}
+
   size : length (chain_at i store).bytes ≡ ends.len
-  size = len_is s chains i capacity ends chained within is store view
+  size = len_on on
 
   old : chain_at i store ≡ chain_of s ends
   old = chain_is s chains i capacity ends chained within is store view
@@ -87,10 +88,10 @@ module _ (s : Slab Block) (chains : List ChainEnds) (i capacity : ℕ) (ends : C
     inside_string = omega arith
 
     here : get_or (keys_of s ends) b 0 ≡ key
-    here = key_at s chains i capacity ends chained within is store view b inside_string key found_key
+    here = key_at on b inside_string key found_key
 
     near : b < blocks_for ends.len
-    near = few s chains i capacity ends chained within is store view b inside_string
+    near = few on b inside_string
 
     pub overwritten : IsChained (put_in s key at bytes) chains capacity
     overwritten =
@@ -137,7 +138,7 @@ module _ (s : Slab Block) (chains : List ChainEnds) (i capacity : ℕ) (ends : C
           more room chains i capacity ends chained within is some empty) store view in
           let chain = chain_first s t1 k bytes short vacant updates more room chains i capacity ends chained within is some empty in
           let no_bytes = nil_from_length (chain_at i store).bytes (omega (arith, size)) in
-          let keys = keys_is s chains i capacity ends chained within is store view in
+          let keys = keys_on on in
           let no_keys = nil_from_length (chain_at i store).keys
           (omega (arith, ap length keys, length-keys_from s (blocks_for ends.len) ends.head)) in
           grows_from i bytes store _ (record { keys = k ∷ []; bytes = bytes }) held (now ∙ ap (λ (x : Chain). with_chain i x store) chain)
@@ -171,7 +172,7 @@ module _ (s : Slab Block) (chains : List ChainEnds) (i capacity : ℕ) (ends : C
           let now = view_moved s _ chains i capacity ends _ chained within is (moves_next s t1 k bytes short vacant updates more
           room chains i capacity ends chained within is some filled any) store view in
           let chain = chain_next s t1 k bytes short vacant updates more room chains i capacity ends chained within is some filled any in
-          let keys = keys_is s chains i capacity ends chained within is store view in
+          let keys = keys_on on in
           grows_from i bytes store _ (record { keys = keys_of s ends ++ k ∷ []; bytes = (chain_of s ends).bytes ++ bytes }) held
           (now ∙ ap (λ (x : Chain). with_chain i x store) chain)
           (ap (λ (x : Chain). x.bytes ++ bytes) (sym old))

@@ -1,12 +1,10 @@
 use Rattle.std.proofs.Common.{sym, arith}
-use Rattle.njh_spool.proofs.ChainLaws.{len_is, ends_within}
+use Rattle.njh_spool.proofs.ChainPlaces.{on_ends, len_on}
 use Rattle.njh_spool.proofs.store.Store.room_in_last.Goals as goal
 
 pub returns : goal.returns
 returns c =
-    let blocks = c.self.inside.blocks in
-    let chains = c.self.inside.chains.items in
-    let within = ends_within blocks chains c.self.inside.capacity c.args.chain c.args.self.now c.self.view_is c.requires in
-    let size = len_is blocks chains c.args.chain c.self.inside.capacity c.index.result.now c.self.invariant within
-    (sym c.index.ensures) c.args.self.now c.self.view_is in
+    let on = on_ends c.self.inside c.args.self.now c.args.chain c.index.result.now c.self.invariant c.self.view_is c.requires
+    (sym c.index.ensures) in
+    let size = len_on on in
     omega (arith, c.div_ceil.ensures)
