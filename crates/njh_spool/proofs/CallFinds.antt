@@ -1,6 +1,10 @@
 -- What a call on a customer's file finds, and what room the customer has.
 use Rattle.std.proofs.Common.{◌≡◌, ℕ, ◌+◌, ◌-◌, ◌*◌, ◌/◌, ◌<◌, ◌≤◌, true, false, List, [], ◌∷◌, ◌++◌, length}
-use Rattle.std.proofs.Common.{length-append, set, sum_by, Some, None, refl, sym, ap, ◌∙◌, arith}
+use Rattle.std.specs.Prelude.{slice_get, IsSomeAnd}
+use Rattle.std.specs.Option.{ForSome}
+use Rattle.njh_spool.specs.declared.file_slot.RecordPlace.{RecordPlace}
+use Rattle.njh_spool.proofs.PlaceLaws.{within_some}
+use Rattle.std.proofs.Common.{length-append, take, set, sum_by, Some, None, refl, sym, ap, ◌∙◌, arith}
 use Rattle.std.proofs.lemmas.List.Sums.{sum_by-set, sum_by-cons}
 use Rattle.njh_record.specs.Stored.{Stored}
 use Rattle.njh_spool.specs.declared.SpoolFault.TheVariants.{QuotaFull, NoSuchFile}
@@ -12,9 +16,9 @@ use Rattle.njh_spool.specs.code.Chains.{Chain, empty_chain, chain_at, with_chain
 use Rattle.njh_spool.specs.CustomerSpool.{CustomerSpool, WholeFile, cost, used_blocks, stored_size, partial_numbered}
 use Rattle.njh_spool.specs.CustomerSpool.{whole_numbered, without_partial, with_finished, without_whole, on_file}
 use Rattle.njh_spool.specs.Spools.{spool_at, append_fault, records_numbered}
-use Rattle.njh_spool.specs.code.Packing.{packed_record}
+use Rattle.njh_spool.specs.code.Packing.{packed_record, unpacked_records}
 use Rattle.njh_spool.specs.code.Slots.{Content, contents, slot_of, chain_of, is_free, is_partial, is_whole_stage}
-use Rattle.njh_spool.specs.code.Slots.{whole_file, partial_file, spools_of}
+use Rattle.njh_spool.specs.code.Slots.{whole_file, partial_file, IsPlace, spools_of}
 use Rattle.njh_spool.proofs.CostLaws.{cost_push}
 use Rattle.njh_spool.proofs.IndexLaws.{at_is, small_used}
 use Rattle.njh_spool.proofs.Calls.{Call}
@@ -112,6 +116,26 @@ module _ (here : Call) where
 
   pub finds_whole : is_whole_stage slot.stage ≡ true → whole_numbered n (spool_at c spools) ≡ Some (whole_file files n)
   finds_whole there = ap (whole_numbered n) has.part ∙ whole.whole_is own files n has.own there (not_partial_of slot.stage there)
+
+  -- the record that a call on a whole file names
+  pub record_fits : (value : List CustomerSpool) (k place : ℕ) → spools ≡ value → is_whole_stage slot.stage ≡ true →
+      ForSome (whole_numbered n (spool_at c value)) (λ f. IsSomeAnd (slice_get f.records k) (λ r. place + 8 ≤ length r.bytes)) →
+      IsSomeAnd (slice_get (files n).records k) (λ r. place + 8 ≤ length r.bytes)
+  record_fits value k place view there fits =
+      fits (whole_file files n) (ap (λ (all : List CustomerSpool). whole_numbered n (spool_at c all)) (sym view) ∙ finds_whole there)
+
+  pub record_within : (k : ℕ) (P : Stored → Type 0) → IsSomeAnd (slice_get (files n).records k) P → k < slot.count
+  record_within k P fits = omega (arith, within_some (files n).records k P fits, length-unpacked slot.count chain.bytes)
+
+  -- where it begins, found in the code's slot and chain
+  pub record_begins : (slot' : FileSlot) (chain' : Chain) (from : RecordPlace) (k : ℕ) → slot' ≡ slot → chain' ≡ chain →
+      IsPlace (unpacked_records slot'.count chain'.bytes) chain'.keys from → from.record_index ≡ k →
+      from.place ≡ stored_size (take k (files n).records)
+  record_begins slot' chain' from k same_slot same_chain at index =
+      at.place
+      ∙ ap (λ (x : FileSlot). stored_size (take from.record_index (unpacked_records x.count chain'.bytes))) same_slot
+      ∙ ap (λ (x : Chain). stored_size (take from.record_index (unpacked_records slot.count x.bytes))) same_chain
+      ∙ ap (λ (m : ℕ). stored_size (take m (files n).records)) index
 
   pub finds_records : is_free slot.stage ≡ false → records_numbered n (spool_at c spools) ≡ Some (files n).records
   finds_records used' = ap (records_numbered n) has.part ∙ (has_file own files n has.own used').records

@@ -54,13 +54,13 @@ overflow_sub-left c =
     let size = c.len.ensures.bytes ∙ ap (λ (x : Chain). length x.bytes) chain in
     omega (arith, own, size, c.blocks_for.ensures, finds.blocks_are here, finds.enough_partial here there)
 
+-- what the customer has then
+abbrev now : After-set → CustomerFiles
+now c = record c.index_mut-own.result.now { used = c.index_mut-own.result.now.used - c.blocks_for.result; partial = c.remove.new.self }
+
 moved : (c : After-set) → MovesTo (call_on c.self.inside c.args.customer c.args.id c.self.invariant
     (rw c.self.view_is c.requires)) c.clear.new.self c.set.new.self (set c.self.inside.customers.items c.from.result
-    (record c.index_mut-own.result.now {
-      used = c.index_mut-own.result.now.used - c.blocks_for.result;
-      partial =
-          c.remove.new.self;
-    })) (without_partial c.args.id)
+    (now c)) (without_partial c.args.id)
 moved c =
     let here = call_on c.self.inside c.args.customer c.args.id c.self.invariant (rw c.self.view_is c.requires) in
     let there = ap (λ (x : FileSlot). is_partial x.stage)
@@ -91,17 +91,9 @@ moved c =
     }) own in
     let store = c.clear.ensures ∙ ap (λ (i : ℕ). with_chain i empty_chain c.self.inside.store) c.place-at.ensures in
     call.arrives here (with_chain (1024 * c.args.customer + c.args.id) empty_chain
-    c.self.inside.store) c.clear.new.self c.empty.result (record c.index_mut-own.result.now {
-      used = c.index_mut-own.result.now.used - c.blocks_for.result;
-      partial =
-          c.remove.new.self;
-    }) c.set.new.self c.from.result (without_partial c.args.id) store c.set.ensures c.from.ensures
+    c.self.inside.store) c.clear.new.self c.empty.result (now c) c.set.new.self c.from.result (without_partial c.args.id) store c.set.ensures c.from.ensures
     (call.abandons here c.empty.result
-    (record c.index_mut-own.result.now {
-      used = c.index_mut-own.result.now.used - c.blocks_for.result;
-      partial =
-          c.remove.new.self;
-    }) there c.empty.ensures owns small)
+    (now c) there c.empty.ensures owns small)
 
 pub invariant_of-self : goal.invariant_of-self
 invariant_of-self c = (moved (goal.at.invariant_of-self c).After-set).kept

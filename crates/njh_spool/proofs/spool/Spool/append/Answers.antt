@@ -2,13 +2,14 @@ use Rattle.std.proofs.Common.{◌≡◌, ℕ, ◌+◌, ◌-◌, ◌*◌, ◌≤�
 use Rattle.std.proofs.Common.{arith, ◌/◌, take, length-append}
 use Rattle.njh_spool.specs.declared.file_slot.FileSlot.{FileSlot}
 use Rattle.njh_spool.specs.declared.customer_files.CustomerFiles.{CustomerFiles}
-use Rattle.njh_spool.specs.code.Chains.{Chain, chain_at, with_chain, blocks_of}
+use Rattle.njh_spool.specs.code.Chains.{Chain, StoreValue, chain_at, with_chain, blocks_of}
 use Rattle.njh_spool.specs.CustomerSpool.{CustomerSpool, with_appended}
 use Rattle.njh_spool.specs.Spools.{spool_at}
 use Rattle.njh_spool.specs.code.Slots.{slot_of, chain_of, is_partial}
 use Rattle.njh_spool.proofs.KeptLaws.{own_of, own_is, within_all, quotas_fit}
 use Rattle.njh_spool.proofs.CallFinds as finds
 use Rattle.njh_spool.proofs.CallLaws as call
+use Rattle.njh_record.specs.Stored.{Stored}
 use Rattle.njh_spool.specs.code.Packing.{packed_record}
 use Rattle.njh_spool.proofs.PackingLaws.{length-packed_record}
 use Rattle.njh_spool.proofs.Calls.{MovesTo, call_on, slot_at, chain_of_file, spools_in}
@@ -186,59 +187,31 @@ moved c =
     let quota = ap (λ (o : CustomerFiles). o.quota) (own_same first) in
     let keys = (chain_at c.place-at.result c.append_both.new.self).keys in
     let blocks = c.index_mut-own.result.now.used - c.blocks_for.result + c.blocks_for-2.result in
-    let front : take (length (chain_of_file here).keys) keys ≡
-    (chain_of_file here).keys =
+    let r : Stored = record { srcb = c.args.srcb; bytes = c.args.bytes.now } in
+    let longer : Chain = record { keys = keys; bytes = (chain_of_file here).bytes ++ packed_record r } in
+    let after : StoreValue = with_chain (1024 * c.args.customer + c.args.id) longer c.self.inside.store in
+    let front : take (length (chain_of_file here).keys) keys ≡ (chain_of_file here).keys =
     subst (λ (x : Chain). take (length x.keys) keys ≡ x.keys) chain c.append_both.ensures.keys in
-    let store : c.append_both.new.self ≡ with_chain (1024 * c.args.customer + c.args.id)
-    (record {
-      keys = keys;
-      bytes = ((chain_of_file here).bytes
-          ++ packed_record (record { srcb = c.args.srcb; bytes = c.args.bytes.now }));
-    }) c.self.inside.store =
+    let store : c.append_both.new.self ≡ after =
     c.append_both.ensures.after
     ∙ ap (λ (xs : List ℕ). with_chain c.place-at.result
     (record { keys = keys; bytes = (chain_at c.place-at.result c.self.inside.store).bytes ++ xs }) c.self.inside.store) bytes
     ∙ ap (λ (x : Chain). with_chain c.place-at.result
-    (record { keys = keys; bytes = x.bytes ++ packed_record (record { srcb = c.args.srcb; bytes = c.args.bytes.now }) })
-    c.self.inside.store) chain
-    ∙ ap (λ (i : ℕ). with_chain i (record {
-      keys = keys;
-      bytes =
-          ((chain_of_file here).bytes
-          ++ packed_record (record { srcb = c.args.srcb; bytes = c.args.bytes.now }));
-    }) c.self.inside.store) c.place-at.ensures in
-    call.arrives here (with_chain (1024 * c.args.customer + c.args.id)
-    (record {
-      keys = keys;
-      bytes = ((chain_of_file here).bytes
-          ++ packed_record (record { srcb = c.args.srcb; bytes = c.args.bytes.now }));
-    }) c.self.inside.store) c.append_both.new.self (record c.slot_at-slot.result
+    (record { keys = keys; bytes = x.bytes ++ packed_record r }) c.self.inside.store) chain
+    ∙ ap (λ (i : ℕ). with_chain i longer c.self.inside.store) c.place-at.ensures in
+    call.arrives here after c.append_both.new.self (record c.slot_at-slot.result
     { count = c.slot_at-slot.result.count + 1 }) (record c.index_mut-own.result.now { used = blocks })
     (set c.self.inside.slots (1024 * c.args.customer + c.args.id)
     (record c.slot_at-slot.result { count = c.slot_at-slot.result.count + 1 })) c.from.result
-    (with_appended c.args.id (record { srcb = c.args.srcb; bytes = c.args.bytes.now })) store refl c.from.ensures
-    (subst (λ (x : FileSlot). MovesTo here (with_chain (1024 * c.args.customer + c.args.id)
-    (record {
-      keys = keys;
-      bytes = ((chain_of_file here).bytes
-          ++ packed_record (record { srcb = c.args.srcb; bytes = c.args.bytes.now }));
-    }) c.self.inside.store) (set c.self.inside.slots (1024 * c.args.customer + c.args.id)
+    (with_appended c.args.id r) store refl c.from.ensures
+    (subst (λ (x : FileSlot). MovesTo here after (set c.self.inside.slots (1024 * c.args.customer + c.args.id)
     (record x { count = x.count + 1 })) (set c.self.inside.customers.items c.args.customer
-    (record c.index_mut-own.result.now { used = blocks })) (with_appended c.args.id
-    (record { srcb = c.args.srcb; bytes = c.args.bytes.now }))) (sym same)
-    (subst (λ (o : CustomerFiles). MovesTo here (with_chain (1024 * c.args.customer + c.args.id)
-    (record {
-      keys = keys;
-      bytes = ((chain_of_file here).bytes
-          ++ packed_record (record { srcb = c.args.srcb; bytes = c.args.bytes.now }));
-    }) c.self.inside.store) (set c.self.inside.slots (1024 * c.args.customer + c.args.id)
-    (record (slot_at here) {
-      count =
-          (slot_at here).count + 1;
-    })) (set c.self.inside.customers.items c.args.customer (record o { used = blocks }))
-    (with_appended c.args.id (record { srcb = c.args.srcb; bytes = c.args.bytes.now }))) (sym (own_same first))
-    (call.appends here (record { srcb = c.args.srcb; bytes = c.args.bytes.now }) keys
-    blocks there c.requires.short front (now_used at) (omega (arith, quota, c.if-used-own.false)) small)))
+    (record c.index_mut-own.result.now { used = blocks })) (with_appended c.args.id r))
+    (sym same)
+    (subst (λ (o : CustomerFiles). MovesTo here after (set c.self.inside.slots (1024 * c.args.customer + c.args.id)
+    (record (slot_at here) { count = (slot_at here).count + 1 })) (set c.self.inside.customers.items c.args.customer (record o { used = blocks }))
+    (with_appended c.args.id r)) (sym (own_same first))
+    (call.appends here r keys blocks there c.requires.short front (now_used at) (omega (arith, quota, c.if-used-own.false)) small)))
 
 pub invariant_of-self-2 : goal.invariant_of-self-2
 invariant_of-self-2 c = rw c.set.ensures (moved (goal.at.invariant_of-self-2 c).After-append_both).kept

@@ -92,13 +92,13 @@ push-requires c =
           (partial_file (files_at here)),
     )
 
+-- what the customer has then
+abbrev now : After-set → CustomerFiles
+now c = record c.index_mut-own.result.now { whole = c.push.new.self; partial = c.remove.new.self }
+
 moved : (c : After-set) → MovesTo (call_on c.self.inside c.args.customer c.args.id c.self.invariant
     (rw c.self.view_is c.requires)) c.self.inside.store c.set.new.self
-    (set c.self.inside.customers.items c.from.result (record c.index_mut-own.result.now {
-      whole = c.push.new.self;
-      partial =
-          c.remove.new.self;
-    })) (with_finished c.args.id)
+    (set c.self.inside.customers.items c.from.result (now c)) (with_finished c.args.id)
 moved c =
     let here = call_on c.self.inside c.args.customer c.args.id c.self.invariant (rw c.self.view_is c.requires) in
     let same = c.slot_at-slot.ensures in
@@ -131,17 +131,13 @@ moved c =
     }) own in
     call.arrives here c.self.inside.store c.self.inside.store
     (record c.slot_at-slot.result { stage = Whole Ready; headers = c.read_headers-slot.result })
-    (record c.index_mut-own.result.now { whole = c.push.new.self; partial = c.remove.new.self }) c.set.new.self
+    (now c) c.set.new.self
     c.from.result (with_finished c.args.id) refl c.set.ensures c.from.ensures
     (subst (λ (x : FileSlot). MovesTo here c.self.inside.store (set c.self.inside.slots (1024 * c.args.customer + c.args.id)
     (record x { stage = Whole Ready; headers = c.read_headers-slot.result })) (set c.self.inside.customers.items c.args.customer
-    (record c.index_mut-own.result.now { whole = c.push.new.self; partial = c.remove.new.self }))
+    (now c))
     (with_finished c.args.id)) (sym same)
-    (call.finishes here (record c.index_mut-own.result.now {
-      whole = c.push.new.self;
-      partial =
-          c.remove.new.self;
-    }) c.read_headers-slot.result said there owns small))
+    (call.finishes here (now c) c.read_headers-slot.result said there owns small))
 
 pub invariant_of-self : goal.invariant_of-self
 invariant_of-self c = (moved (goal.at.invariant_of-self c).After-set).kept

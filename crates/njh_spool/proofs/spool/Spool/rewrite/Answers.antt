@@ -1,22 +1,20 @@
-use Rattle.std.proofs.Common.{◌≡◌, ℕ, ◌+◌, ◌*◌, ◌<◌, ◌≤◌, List, length, set, Some, refl, sym, ap, subst, ◌∙◌, arith}
+use Rattle.std.proofs.Common.{◌≡◌, ℕ, ◌+◌, ◌*◌, ◌<◌, ◌≤◌, List, length, set, refl, sym, ap, subst, ◌∙◌, arith}
 use Rattle.std.proofs.Common.{length-set, true, take}
 use Rattle.njh_spool.specs.declared.file_slot.FileSlot.{FileSlot}
 use Rattle.njh_spool.specs.code.Chains.{Chain, StoreValue, chain_at, empty_chain, with_chain}
 use Rattle.njh_spool.specs.Headers.{kept_headers}
 use Rattle.std.proofs.lemmas.List.{get_or-set_same}
-use Rattle.njh_spool.specs.CustomerSpool.{CustomerSpool, with_rewritten_bytes, stored_size, whole_numbered, at_index}
+use Rattle.njh_spool.specs.CustomerSpool.{CustomerSpool, with_rewritten_bytes, stored_size, at_index}
 use Rattle.njh_spool.specs.CustomerSpool.{rewritten_record}
 use Rattle.njh_spool.specs.Spools.{spool_at}
-use Rattle.njh_spool.specs.code.Slots.{slot_of, chain_of, is_whole_stage, IsPlace, whole_file}
+use Rattle.njh_spool.specs.code.Slots.{slot_of, chain_of, is_whole_stage}
 use Rattle.njh_spool.proofs.CallFinds as finds
 use Rattle.njh_spool.proofs.CallLaws as call
 use Rattle.std.specs.Prelude.{slice_get, IsSomeAnd}
 use Rattle.njh_record.specs.Bytes.{with_field}
 use Rattle.njh_spool.specs.code.Packing.{unpacked_records}
-use Rattle.njh_spool.proofs.PackingLaws.{length-unpacked}
-use Rattle.njh_spool.proofs.PlaceLaws.{within_some}
 use Rattle.njh_spool.proofs.RecordLaws.{in_file}
-use Rattle.njh_spool.proofs.Calls.{MovesTo, call_on, files_at, slot_at, chain_of_file}
+use Rattle.njh_spool.proofs.Calls.{MovesTo, call_on, slot_at, chain_of_file}
 use Rattle.njh_spool.proofs.spool.Spool.rewrite.Goals as goal
 use Rattle.njh_spool.proofs.spool.Spool.rewrite.Goals.{After-is_whole, After-place_of_record-begins, After-overwrite}
 use Rattle.njh_spool.proofs.spool.Spool.rewrite.Goals.{After-set}
@@ -51,21 +49,10 @@ place_of_record-begins-requires-clause-within c =
     let here = call_on c.self.inside c.args.customer c.args.id c.self.invariant (rw c.self.view_is c.requires.range) in
     let same = c.slot_at-slot.ensures in
     let there = ap (λ (x : FileSlot). is_whole_stage x.stage) (sym same) ∙ sym c.is_whole.ensures ∙ c.if-not-is_whole.false in
-    let inner : IsSomeAnd (slice_get (unpacked_records (slot_at here).count
-    (chain_of_file here).bytes) c.args.n) (λ r. c.args.place + 8 ≤ length r.bytes) =
-    c.requires.within (whole_file (files_at here) c.args.id)
-    (subst (λ (old : List CustomerSpool). whole_numbered c.args.id (spool_at c.args.customer old) ≡ Some
-    (whole_file (files_at here) c.args.id)) c.self.view_is
-    (finds.finds_whole here there)) in
-    let counted : c.args.n < (slot_at here).count =
-    omega (
-      arith,
-      within_some (unpacked_records (slot_at here).count
-          (chain_of_file here).bytes) c.args.n (λ r. c.args.place + 8 ≤ length r.bytes)
-          inner,
-      length-unpacked (slot_at here).count
-          (chain_of_file here).bytes,
-    ) in
+    let inner : IsSomeAnd (slice_get (unpacked_records (slot_at here).count (chain_of_file here).bytes) c.args.n)
+    (λ r. c.args.place + 8 ≤ length r.bytes) =
+    finds.record_fits here c.args.self.now c.args.n c.args.place c.self.view_is there c.requires.within in
+    let counted = finds.record_within here c.args.n (λ r. c.args.place + 8 ≤ length r.bytes) inner in
     let count = ap (λ (x : FileSlot). x.count) same in
     omega (arith, count, counted)
 
@@ -81,39 +68,16 @@ goes c =
     let here = call_on c.self.inside c.args.customer c.args.id c.self.invariant (rw c.self.view_is c.requires.range) in
     let same = c.slot_at-slot.ensures in
     let there = ap (λ (x : FileSlot). is_whole_stage x.stage) (sym same) ∙ sym c.is_whole.ensures ∙ c.if-not-is_whole.false in
-    let inner : IsSomeAnd (slice_get (unpacked_records (slot_at here).count
-    (chain_of_file here).bytes) c.args.n) (λ r. c.args.place + 8 ≤ length r.bytes) =
-    c.requires.within (whole_file (files_at here) c.args.id)
-    (subst (λ (old : List CustomerSpool). whole_numbered c.args.id (spool_at c.args.customer old) ≡ Some
-    (whole_file (files_at here) c.args.id)) c.self.view_is
-    (finds.finds_whole here there)) in
-    let counted : c.args.n < (slot_at here).count =
-    omega (
-      arith,
-      within_some (unpacked_records (slot_at here).count
-          (chain_of_file here).bytes) c.args.n (λ r. c.args.place + 8 ≤ length r.bytes)
-          inner,
-      length-unpacked (slot_at here).count
-          (chain_of_file here).bytes,
-    ) in
+    let inner : IsSomeAnd (slice_get (unpacked_records (slot_at here).count (chain_of_file here).bytes) c.args.n)
+    (λ r. c.args.place + 8 ≤ length r.bytes) =
+    finds.record_fits here c.args.self.now c.args.n c.args.place c.self.view_is there c.requires.within in
+    let counted = finds.record_within here c.args.n (λ r. c.args.place + 8 ≤ length r.bytes) inner in
     let small = finds.small_whole here there in
     let chain = ap (λ (i : ℕ). chain_at i c.self.inside.store) c.place-at.ensures ∙ finds.chain_is here small in
-    let place : IsPlace (unpacked_records (slot_at here).count
-    (chain_of_file here).bytes)
-    (chain_of_file here).keys c.place_of_record-begins.result =
-    subst (λ (x : Chain). IsPlace (unpacked_records (slot_at here).count x.bytes) x.keys
-    c.place_of_record-begins.result) chain
-    (subst (λ (x : FileSlot). IsPlace (unpacked_records x.count (chain_at c.place-at.result c.self.inside.store).bytes)
-    (chain_at c.place-at.result c.self.inside.store).keys c.place_of_record-begins.result) same
-    c.place_of_record-begins.ensures.place) in
-    let begins : c.place_of_record-begins.result.place ≡ stored_size
-    (take c.args.n (unpacked_records (slot_at here).count
-    (chain_of_file here).bytes)) = place.place
-    ∙ ap (λ (k : ℕ). stored_size (take k (unpacked_records (slot_at here).count
-    (chain_of_file here).bytes))) c.place_of_record-begins.ensures.index in
-    let r = in_file (slot_at here)
-    (chain_of_file here) c.args.n
-    (c.self.invariant.files c.args.customer c.args.id) counted in
+    let begins = finds.record_begins here c.slot_at-slot.result (chain_at c.place-at.result c.self.inside.store)
+    c.place_of_record-begins.result c.args.n same chain c.place_of_record-begins.ensures.place
+    c.place_of_record-begins.ensures.index in
+    let r = in_file (slot_at here) (chain_of_file here) c.args.n (c.self.invariant.files c.args.customer c.args.id) counted in
     let eight = rw r.1.found at inner in
     record {
       chain = chain;
@@ -168,60 +132,27 @@ rewrites c =
     let here = call_on c.self.inside c.args.customer c.args.id c.self.invariant (rw c.self.view_is c.requires.range) in
     let same = c.slot_at-slot.ensures in
     let there = ap (λ (x : FileSlot). is_whole_stage x.stage) (sym same) ∙ sym c.is_whole.ensures ∙ c.if-not-is_whole.false in
-    let inner : IsSomeAnd (slice_get (unpacked_records (slot_at here).count
-    (chain_of_file here).bytes) c.args.n) (λ r. c.args.place + 8 ≤ length r.bytes) =
-    c.requires.within (whole_file (files_at here) c.args.id)
-    (subst (λ (old : List CustomerSpool). whole_numbered c.args.id (spool_at c.args.customer old) ≡ Some
-    (whole_file (files_at here) c.args.id)) c.self.view_is
-    (finds.finds_whole here there)) in
-    let counted : c.args.n < (slot_at here).count =
-    omega (
-      arith,
-      within_some (unpacked_records (slot_at here).count
-          (chain_of_file here).bytes) c.args.n (λ r. c.args.place + 8 ≤ length r.bytes)
-          inner,
-      length-unpacked (slot_at here).count
-          (chain_of_file here).bytes,
-    ) in
+    let inner : IsSomeAnd (slice_get (unpacked_records (slot_at here).count (chain_of_file here).bytes) c.args.n)
+    (λ r. c.args.place + 8 ≤ length r.bytes) =
+    finds.record_fits here c.args.self.now c.args.n c.args.place c.self.view_is there c.requires.within in
+    let counted = finds.record_within here c.args.n (λ r. c.args.place + 8 ≤ length r.bytes) inner in
     let small = finds.small_whole here there in
     let chain = ap (λ (i : ℕ). chain_at i c.self.inside.store) c.place-at.ensures ∙ finds.chain_is here small in
-    let place : IsPlace (unpacked_records (slot_at here).count
-    (chain_of_file here).bytes)
-    (chain_of_file here).keys c.place_of_record-begins.result =
-    subst (λ (x : Chain). IsPlace (unpacked_records (slot_at here).count x.bytes) x.keys
-    c.place_of_record-begins.result) chain
-    (subst (λ (x : FileSlot). IsPlace (unpacked_records x.count (chain_at c.place-at.result c.self.inside.store).bytes)
-    (chain_at c.place-at.result c.self.inside.store).keys c.place_of_record-begins.result) same
-    c.place_of_record-begins.ensures.place) in
-    let begins : c.place_of_record-begins.result.place ≡ stored_size
-    (take c.args.n (unpacked_records (slot_at here).count
-    (chain_of_file here).bytes)) = place.place
-    ∙ ap (λ (k : ℕ). stored_size (take k (unpacked_records (slot_at here).count
-    (chain_of_file here).bytes))) c.place_of_record-begins.ensures.index in
+    let begins = finds.record_begins here c.slot_at-slot.result (chain_at c.place-at.result c.self.inside.store)
+    c.place_of_record-begins.result c.args.n same chain c.place_of_record-begins.ensures.place
+    c.place_of_record-begins.ensures.index in
     let eight : 8 ≡ length c.args.bytes = omega arith in
-    let fits = subst (λ (size : ℕ). IsSomeAnd
-    (slice_get (unpacked_records (slot_at here).count
-    (chain_of_file here).bytes) c.args.n)
-    (λ r. c.args.place + size ≤ length r.bytes)) eight inner in
+    let fits = subst (λ (size : ℕ). IsSomeAnd (slice_get (unpacked_records (slot_at here).count (chain_of_file here).bytes)
+    c.args.n) (λ r. c.args.place + size ≤ length r.bytes)) eight inner in
     let at = c.place_of_record-begins.result.place + (3 + c.args.place) in
-    let store : c.overwrite.new.self ≡ with_chain (1024 * c.args.customer + c.args.id)
-    (record {
-      keys = (chain_of_file here).keys;
-      bytes =
-          with_field at c.args.bytes (chain_of_file here).bytes;
-    }) c.self.inside.store =
+    let index = 1024 * c.args.customer + c.args.id in
+    let then = chain_then c.self.inside.store c.args.customer c.args.id at c.args.bytes in
+    let store : c.overwrite.new.self ≡ with_chain index then c.self.inside.store =
     c.overwrite.ensures
     ∙ ap (λ (x : Chain). with_chain c.place-at.result (record { keys = x.keys; bytes = with_field at c.args.bytes x.bytes })
     c.self.inside.store) chain
-    ∙ ap (λ (i : ℕ). with_chain i (record {
-      keys = (chain_of_file here).keys;
-      bytes =
-          with_field at c.args.bytes (chain_of_file here).bytes;
-    }) c.self.inside.store)
-    c.place-at.ensures in
+    ∙ ap (λ (i : ℕ). with_chain i then c.self.inside.store) c.place-at.ensures in
     let has = finds.has here in
-    let index = 1024 * c.args.customer + c.args.id in
-    let then = chain_then c.self.inside.store c.args.customer c.args.id at c.args.bytes in
     record {
       same = same;
       there = there;
