@@ -209,7 +209,8 @@ moved c =
     (record c.index_mut-own.result.now { used = blocks })) (with_appended c.args.id r))
     (sym same)
     (subst (λ (o : CustomerFiles). MovesTo here after (set c.self.inside.slots (1024 * c.args.customer + c.args.id)
-    (record (slot_at here) { count = (slot_at here).count + 1 })) (set c.self.inside.customers.items c.args.customer (record o { used = blocks }))
+    (record (slot_at here) { count = (slot_at here).count + 1 }))
+    (set c.self.inside.customers.items c.args.customer (record o { used = blocks }))
     (with_appended c.args.id r)) (sym (own_same first))
     (call.appends here r keys blocks there c.requires.short front (now_used at) (omega (arith, quota, c.if-used-own.false)) small)))
 

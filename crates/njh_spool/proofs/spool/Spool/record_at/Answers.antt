@@ -1,4 +1,4 @@
-use Rattle.std.proofs.Common.{◌≡◌, ℕ, false, List, Some, refl, sym, ap, ◌∙◌, arith}
+use Rattle.std.proofs.Common.{◌≡◌, ℕ, ◌<◌, false, List, Some, refl, sym, ap, ◌∙◌, arith}
 use Rattle.njh_spool.specs.declared.file_slot.FileSlot.{FileSlot}
 use Rattle.njh_spool.specs.code.Chains.{Chain, chain_at}
 use Rattle.njh_spool.specs.CustomerSpool.{CustomerSpool}
@@ -42,35 +42,25 @@ returns-then-is_free-clause-fault c =
     (stage_is (goal.at.returns-then-is_free-clause-fault c).After-is_free ∙ c.if-is_free.true) in
     rw (← c.self.view_is, none) refl
 
-pub place_of_record-begins-requires-clause-within : goal.place_of_record-begins-requires-clause-within
-place_of_record-begins-requires-clause-within c =
-    let step = (goal.at.place_of_record-begins-requires-clause-within c).After-is_free in
-    let count = ap (λ (x : FileSlot). x.count) (same_slot step) in
-    let many = c.requires.within (unpacked_records (slot_of c.self.inside.slots c.args.customer c.args.id).count
-    (chain_of c.self.inside.store.chains c.args.customer c.args.id).bytes) (records_now step c.if-is_free.false) in
+many : (c : After-is_free) → c.is_free.result ≡ false → c.args.n < c.slot_at-slot.result.count
+many c used' =
+    let slot = slot_of c.self.inside.slots c.args.customer c.args.id in
+    let bytes = (chain_of c.self.inside.store.chains c.args.customer c.args.id).bytes in
     omega (
       arith,
-      count,
-      many,
-      length-unpacked (slot_of c.self.inside.slots c.args.customer c.args.id).count
-          (chain_of c.self.inside.store.chains c.args.customer c.args.id).bytes,
+      ap (λ (x : FileSlot). x.count) (same_slot c),
+      c.requires.within (unpacked_records slot.count bytes) (records_now c used'),
+      length-unpacked slot.count bytes,
     )
+
+pub place_of_record-begins-requires-clause-within : goal.place_of_record-begins-requires-clause-within
+place_of_record-begins-requires-clause-within c =
+    many (goal.at.place_of_record-begins-requires-clause-within c).After-is_free c.if-is_free.false
 
 pub read_record-srcb-requires-clause-more : goal.read_record-srcb-requires-clause-more
 read_record-srcb-requires-clause-more c =
-    let step = (goal.at.read_record-srcb-requires-clause-more c).After-is_free in
-    let count = ap (λ (x : FileSlot). x.count) (same_slot step) in
-    let many = c.requires.within (unpacked_records (slot_of c.self.inside.slots c.args.customer c.args.id).count
-    (chain_of c.self.inside.store.chains c.args.customer c.args.id).bytes) (records_now step c.if-is_free.false) in
-    omega (
-      arith,
-      count,
-      many,
-      c.place_of_record-begins.ensures.index,
-      length-unpacked
-          (slot_of c.self.inside.slots c.args.customer c.args.id).count (chain_of c.self.inside.store.chains c.args.customer
-          c.args.id).bytes,
-    )
+    let within = many (goal.at.read_record-srcb-requires-clause-more c).After-is_free c.if-is_free.false in
+    omega (arith, within, c.place_of_record-begins.ensures.index)
 
 pub returns-clause-fault : goal.returns-clause-fault
 returns-clause-fault c = rw (records_now (goal.at.returns-clause-fault c).After-is_free c.if-is_free.false) refl

@@ -90,7 +90,8 @@ moved c =
     }) own in
     let store = c.clear.ensures ∙ ap (λ (i : ℕ). with_chain i empty_chain c.self.inside.store) c.place-at.ensures in
     call.arrives here (with_chain (1024 * c.args.customer + c.args.id) empty_chain
-    c.self.inside.store) c.clear.new.self c.empty.result (now c) c.set.new.self c.from.result (without_whole c.args.id) store c.set.ensures c.from.ensures
+    c.self.inside.store) c.clear.new.self c.empty.result (now c) c.set.new.self c.from.result (without_whole c.args.id)
+    store c.set.ensures c.from.ensures
     (call.removes here c.empty.result
     (now c) there c.empty.ensures owns small)
 
