@@ -68,6 +68,7 @@ class Session:
             elif len(frame) < 3:
                 self.line.write(question)
             elif self.heard is not None and not wire.follows(frame[0], self.heard):
+                self.say_block(bytes([wire.OUT_OF_SEQUENCE, 0x80 + (self.heard + 1) % 16, 0x00]))
                 raise Trouble("session lost: a block of the hub is missing")
             else:
                 self.heard, self.hub_fcs = frame[0], frame[1:3]
