@@ -6,8 +6,8 @@
     python3 examples/peer.py --port 2703 --node LYON --user ANNA command LIST            prints the hub's replies
     python3 examples/peer.py --port 2704 --node METZ receive inbox                       stores the files that wait
 
-Each but `listen`, which goes on until Ctrl-C, signs off when it is done. What goes over the line is in peer_bytes.py
-beside this file; docs/PROTOCOL.md says why. `examples/letters` shows a whole session.
+Each but `listen`, which goes on until Ctrl-C, signs off when it is done. The line's role is "answer": the peer makes
+contact. Bytes are in peer_bytes.py beside this file, and docs/PROTOCOL.md says why; examples/letters is a session.
 """
 
 import argparse
