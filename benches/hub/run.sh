@@ -78,11 +78,11 @@ starting() {
 
 printf '%-9s %8s %8s %8s %8s\n' row '1 MB' '250 kB' 'at most' plain
 # A block of records on the other line; the reply of LIST; both; a block without records or ACK0; B0 to SYSIN 2.
-row cards 28 18 '^a2 1002.\{1000\}'
-row commands 280 186 d5d1c8f0f0f140
-row mixed 38 25 d5d1c8f0f0f140 '^c0x2 1002.\{300\}'
-row empty 65 43 '^a1 1070'
-row ignored 25 11 '^a1 1002.*b0a800'
+row cards 26.9 17.9 '^a2 1002.\{1000\}'
+row commands 419.9 279.9 d5d1c8f0f0f140
+row mixed 44.6 29.7 d5d1c8f0f0f140 '^c0x2 1002.\{300\}'
+row empty 70.8 47.2 '^a1 1070'
+row ignored 14.4 9.6 '^a1 1002.*b0a800'
 waiting
 printf '%-9s %12s %12s %12s\n' 'one event' 'of 1,024' 'of 512' '512 left'
 beside
