@@ -1,7 +1,7 @@
 //! Which files go by a line.
 
-ghost use Rattle.std.specs.Prelude.{◌≡◌, ◌<◌, length, slice_set, Some, List};
-ghost use Rattle.njh_spool.specs.CustomerSpool.{WholeFile, whole_numbered};
+ghost use Rattle.std.specs.Prelude.{◌≡◌, ◌<◌, length, slice_set, List};
+ghost use Rattle.njh_spool.specs.CustomerSpool.{whole_numbered};
 ghost use Rattle.njh_spool.specs.Spools.{spool_at};
 ghost use Rattle.njh_table.specs.TableFile.{entry_of};
 ghost use Rattle.njh_stream.specs.code.FileRouting.{with_retry};
@@ -12,11 +12,12 @@ use njh_header::Destination;
 use njh_spool::{FileId, Spool, State};
 use njh_table::{NamedCustomer, Route};
 
-/// Whether a customer's whole file goes by a line: by the route of its destination's node.
+/// Whether a customer's whole file goes by a line: by the route of its destination's node. A file that isn't there goes
+/// by none.
 pub fn goes_by(entry: &NamedCustomer, line: u16, customer: u16, file: FileId, spool: &Spool) -> bool
     requires { customer < length spool.now }
-    ensures { (f : WholeFile) → whole_numbered file (spool_at customer spool.now) ≡ Some f → result
-        ≡ sending.goes_by (entry_of entry.now) line f }
+    ensures { result ≡ sending.holds_of (sending.goes_by (entry_of entry.now) line)
+        (whole_numbered file (spool_at customer spool.now)) }
 {
     match spool.headers(customer, file) {
         Ok(headers) => destination_goes_by(entry, line, headers.destination),
