@@ -1,8 +1,12 @@
 -- How a stream from the hub moves.
 use Rattle.std.proofs.Common.{◌≡◌, ℕ, zero, suc, ◌+◌, Bool, true, false, ◌⊎◌, inl, inr, List, [], ◌∷◌, length, map, set}
-use Rattle.std.proofs.Common.{get_or, replicate, filter, find, not, Some, None, refl, sym, ap, subst, ◌∙◌}
+use Rattle.std.proofs.Common.{get_or, replicate, filter, find, not, cond, ◌&&◌, Option, Some, None, ◌==◌, refl, sym, ap, subst, ◌∙◌, arith}
 use Rattle.std.proofs.Math.ListN.{get_or-map}
+use Rattle.std.proofs.lemmas.Bool.{eqb-true}
+use Rattle.std.proofs.lemmas.List.Elements.{Contains-append_cases, Contains-append_right}
 use Rattle.std.specs.List.{Contains}
+use Rattle.njh_ebcdic.specs.Users.{User}
+use Rattle.njh_header.specs.FileNames.{FileName}
 use Rattle.njh_block.specs.Blocks.{Item}
 use Rattle.njh_block.specs.Codes.{kind_of}
 use Rattle.njh_spool.specs.CustomerSpool.{WholeFile}
@@ -10,17 +14,18 @@ use Rattle.njh_spool.specs.declared.State.TheVariants as state
 use Rattle.njh_table.specs.Entries.{CustomerEntry}
 use Rattle.njh_stream.specs.declared.sender.Sender.{Sender}
 use Rattle.njh_stream.specs.declared.sender.Sender.TheVariants.{Idle, Requested, Sending, EofSent, Aborting}
-use Rattle.njh_stream.specs.Sending.{file_in, goes_by}
+use Rattle.njh_stream.specs.Sending.{after_abort, file_in, goes_by}
 use Rattle.njh_sched.specs.NextBlock.{may_go}
-use Rattle.njh_command.specs.Commands.{aborted_where, is_of_name, is_about, without_file}
+use Rattle.njh_command.specs.declared.command.Command.TheVariants.{Cancel}
+use Rattle.njh_command.specs.Commands.{aborted_where, is_of_name, is_about, is_busy, is_sending, without_file}
 use Rattle.njh_customer.specs.OutgoingFiles.{Outgoing, each_stream, with_file_state, sender_on, streams_of, with_files}
 use Rattle.njh_customer.specs.OutgoingFiles.{with_sender_on, without_numbered}
 use Rattle.njh_customer.specs.Customer.{with_marks}
 use Rattle.njh_customer.specs.Moves as moves
 use Rattle.njh_customer.specs.Moves.{Acts, Records, Routes, Moves, by_record, by_sending, by_end, Sends, Tells}
-use Rattle.njh_customer.specs.Moves.{without_files}
+use Rattle.njh_customer.specs.Moves.{Commands, Over, busy_numbers, without_files}
 use Rattle.njh_customer.specs.MovingLaws as laws
-use Rattle.njh_customer.specs.MovingLaws.{StreamMoves, StreamsMoveSo, IdleStreamsTakeFiles}
+use Rattle.njh_customer.specs.MovingLaws.{StreamMoves, StreamsMoveSo, IdleStreamsTakeFiles, IsMovedAlone}
 
 -- ---- where another stands in a list
 
@@ -66,36 +71,96 @@ was j k l m s x e line stream = ap (λ n. sender_on n k x) line ∙ ap (λ n. se
 
 -- ---- by a command
 
-gives_up_or_stays : (n : ℕ) (s : Sender) → (without_file n s ≡ s) ⊎ (file_in (without_file n s) ≡ None)
-gives_up_or_stays n s = at_test (is_about n (file_in s)) s
+-- it stays, or it was about the file and gives it up
+abbrev GivesUp : List ℕ → Sender → Sender → Type 0
+GivesUp ns s t = (n : ℕ) × Contains ns n × (file_in s ≡ Some n) × (t ≡ after_abort s)
+
+aborted_none : (s : Sender) → file_in (after_abort s) ≡ None
+aborted_none Idle = refl
+aborted_none (Requested m) = refl
+aborted_none (Sending m place) = refl
+aborted_none (EofSent m) = refl
+aborted_none Aborting = refl
+
+gives_up_or_stays : (n : ℕ) (s : Sender) → (without_file n s ≡ s) ⊎ ((file_in s ≡ Some n) × (without_file n s ≡ after_abort s))
+gives_up_or_stays n s = at_file (file_in s) refl
   where
-    at_test : (b : Bool) (s : Sender) → (aborted_where b s ≡ s) ⊎ (file_in (aborted_where b s) ≡ None)
-    at_test false s = inl refl
-    at_test true Idle = inl refl
-    at_test true (Requested m) = inr refl
-    at_test true (Sending m place) = inr refl
-    at_test true (EofSent m) = inr refl
-    at_test true Aborting = inl refl
+    at_test :
+        (m : ℕ) (b : Bool) → file_in s ≡ Some m → (m == n) ≡ b
+        → (aborted_where b s ≡ s) ⊎ ((file_in s ≡ Some n) × (aborted_where b s ≡ after_abort s))
+    at_test m true e same = inr (e ∙ ap Some (eqb-true m n same), refl)
+    at_test m false e same = inl refl
+
+    at_file :
+        (o : Option ℕ) → file_in s ≡ o
+        → (aborted_where (is_about n o) s ≡ s) ⊎ ((file_in s ≡ Some n) × (aborted_where (is_about n o) s ≡ after_abort s))
+    at_file None e = inl refl
+    at_file (Some m) e = at_test m (m == n) e refl
 
 each_at : (j k n : ℕ) (x : Outgoing) → sender_on j k (each_stream (without_file n) x) ≡ without_file n (sender_on j k x)
 each_at j k n x =
     ap (λ senders. get_or senders k Idle) (get_or-map (λ senders. map (without_file n) senders) x.streams j [])
     ∙ get_or-map (without_file n) (get_or x.streams j []) k Idle
 
-abbrev StaysOrNone : ℕ → ℕ → Outgoing → Outgoing → Type 0
-StaysOrNone j k x y = (sender_on j k y ≡ sender_on j k x) ⊎ (file_in (sender_on j k y) ≡ None)
+abbrev StaysOrGivesUp : ℕ → ℕ → List ℕ → Outgoing → Outgoing → Type 0
+StaysOrGivesUp j k ns x y = (sender_on j k y ≡ sender_on j k x) ⊎ GivesUp ns (sender_on j k x) (sender_on j k y)
 
-all_give_up : (j k : ℕ) (ns : List ℕ) (x : Outgoing) → StaysOrNone j k x (without_files ns x)
+all_give_up : (j k : ℕ) (ns : List ℕ) (x : Outgoing) → StaysOrGivesUp j k ns x (without_files ns x)
 all_give_up j k [] x = inl refl
-all_give_up j k (n ∷ ns) x = at_rest (all_give_up j k ns (each_stream (without_file n) x)) (gives_up_or_stays n (sender_on j k x))
+all_give_up j k (n ∷ ns) x =
+    at_rest (all_give_up j k ns (each_stream (without_file n) x)) (gives_up_or_stays n (sender_on j k x))
   where
+    next : Outgoing
+    next = each_stream (without_file n) x
+
+    first : Contains (n ∷ ns) n
+    first = (0, omega arith, refl)
+
     at_rest :
-        StaysOrNone j k (each_stream (without_file n) x) (without_files ns (each_stream (without_file n) x))
-        → (without_file n (sender_on j k x) ≡ sender_on j k x) ⊎ (file_in (without_file n (sender_on j k x)) ≡ None)
-        → StaysOrNone j k x (without_files ns (each_stream (without_file n) x))
-    at_rest (inr none) first = inr none
-    at_rest (inl same) (inl first) = inl (same ∙ each_at j k n x ∙ first)
-    at_rest (inl same) (inr none) = inr (ap (λ s. file_in s) (same ∙ each_at j k n x) ∙ none)
+        StaysOrGivesUp j k ns next (without_files ns next)
+        → (without_file n (sender_on j k x) ≡ sender_on j k x)
+        ⊎ ((file_in (sender_on j k x) ≡ Some n) × (without_file n (sender_on j k x) ≡ after_abort (sender_on j k x)))
+        → StaysOrGivesUp j k (n ∷ ns) x (without_files ns next)
+    at_rest (inl same) (inl stays) = inl (same ∙ each_at j k n x ∙ stays)
+    at_rest (inl same) (inr gives) = inr (n, first, gives.0, same ∙ each_at j k n x ∙ gives.1)
+    at_rest (inr later) (inl stays) =
+        let before = each_at j k n x ∙ stays in
+        inr (later.0, Contains-append_right (n ∷ []) ns later.0 later.1, sym (ap (λ s. file_in s) before) ∙ later.2, later.3 ∙ ap (λ s. after_abort s) before)
+    at_rest (inr later) (inr gives) =
+        absurd (cc (sym later.2 ∙ ap (λ s. file_in s) (each_at j k n x ∙ gives.1) ∙ aborted_none (sender_on j k x)))
+
+-- the one element of a list
+the_one : (m n : ℕ) → Contains (m ∷ []) n → n ≡ m
+the_one m n (zero, inside, e) = sym e
+the_one m n (suc i, inside, e) = absurd (omega (arith, inside))
+
+-- the number of one that is being sent is that of a file that passes the test
+busy_one :
+    (p : WholeFile → Bool) (files : List WholeFile) (n : ℕ) → Contains (busy_numbers p files) n
+    → (f : WholeFile) × Contains files f × (p f ≡ true) × (n ≡ f.number)
+busy_one p [] n at = absurd (omega (arith, at.1))
+busy_one p (g ∷ files) n at = at_tests (p g) (is_sending g.state) refl at (busy_one p files n)
+  where
+    IsFoundIn : List WholeFile → Type 0
+    IsFoundIn fs = (f : WholeFile) × Contains fs f × (p f ≡ true) × (n ≡ f.number)
+
+    later : IsFoundIn files → IsFoundIn (g ∷ files)
+    later found = (found.0, Contains-append_right (g ∷ []) files found.0 found.1, found.2, found.3)
+
+    at_first :
+        p g ≡ true → Contains (g.number ∷ []) n ⊎ Contains (busy_numbers p files) n
+        → (Contains (busy_numbers p files) n → IsFoundIn files) → IsFoundIn (g ∷ files)
+    at_first passes (inl first) rest = (g, (0, omega arith, refl), passes, the_one g.number n first)
+    at_first passes (inr there) rest = later (rest there)
+
+    at_tests :
+        (a b : Bool) → p g ≡ a
+        → Contains (map (λ f. f.number) (cond (a && b) (g ∷ filter (is_busy p) files) (filter (is_busy p) files))) n
+        → (Contains (busy_numbers p files) n → IsFoundIn files) → IsFoundIn (g ∷ files)
+    at_tests true true passes there rest =
+        at_first passes (Contains-append_cases (g.number ∷ []) (busy_numbers p files) n there) rest
+    at_tests true false passes there rest = later (rest there)
+    at_tests false b passes there rest = later (rest there)
 
 -- ---- by the end of a session
 
@@ -110,68 +175,81 @@ module _ (entry : CustomerEntry) (l : ℕ) (items : List Item) (j k : ℕ) (x y 
   -- as the moved one is, or stays
   moved_so :
       (m : ℕ) (s : Sender) (files : List WholeFile) → y ≡ with_sender_on l m s (with_files files x)
-      → (j ≡ l → k ≡ m → sender_on j k y ≡ s → StreamMoves entry l items j k x y) → StreamMoves entry l items j k x y
+      → (j ≡ l → k ≡ m → IsMovedAlone j k s x y → StreamMoves entry l items j k x y) → StreamMoves entry l items j k x y
   moved_so m s files e there = at_one (moved_one j k l m s (with_files files x))
     where
       at_one : IsOne j k l m s (with_files files x) (with_sender_on l m s (with_files files x)) → StreamMoves entry l items j k x y
       at_one (inl same) = laws.stays (ap (sender_on j k) e ∙ same)
-      at_one (inr one) = there one.0 one.1 (ap (sender_on j k) e ∙ one.2)
+      at_one (inr one) =
+          there one.0 one.1 (
+            ap (sender_on j k) e ∙ one.2,
+            ap (λ z. z.streams) e ∙ sym (ap (λ n. (with_sender_on n k s x).streams) one.0 ∙ ap (λ n. (with_sender_on l n s x).streams) one.1),
+          )
 
-  stays_or_none : StaysOrNone j k x y → StreamMoves entry l items j k x y
-  stays_or_none (inl same) = laws.stays same
-  stays_or_none (inr none) = laws.has_none none
+  cancelling_moves :
+      (i : Item) (who : User) (name : FileName) → Contains items i → Commands entry who (Cancel name) i
+      → StaysOrGivesUp j k (busy_numbers (is_of_name who name) x.files) x y → StreamMoves entry l items j k x y
+  cancelling_moves i who name at given (inl same) = laws.stays same
+  cancelling_moves i who name at given (inr gives) =
+      let f = busy_one (is_of_name who name) x.files gives.0 gives.1 in
+      laws.cancelled i who name f.0 at given f.1 f.2 (gives.2 ∙ ap Some f.3) gives.3
 
   record_moves : (i : Item) → Contains items i → Acts entry l i x y → StreamMoves entry l items j k x y
   record_moves i at (moves.comes rcb srcb f is ready whole e) = laws.stays (ap (sender_on j k) e)
   record_moves i at (moves.permitted streams m n told before e) =
       moved_so m (Sending n 0) x.files e
-      (λ line stream now. laws.permitted i streams n at (subst (λ t. Tells 0xa0 streams t i) (sym stream) told) (was j k l m (Requested n) x before line stream) now)
+      (λ line stream now. laws.permitted i streams n line at (subst (λ t. Tells 0xa0 streams t i) (sym stream) told) (was j k l m (Requested n) x before line stream) now)
   record_moves i at (moves.refused streams m n after told before none e) =
-      moved_so m after (with_file_state n state.Refused x.files) e (λ line stream now. laws.has_none (ap (λ s. file_in s) now ∙ none))
+      moved_so m after (with_file_state n state.Refused x.files) e
+      (λ line stream now. laws.refused i streams n after line at (subst (λ t. Tells 0xb0 streams t i) (sym stream) told)
+      (ap (λ s. file_in s) (was j k l m (sender_on l m x) x refl line stream) ∙ before) none now)
   record_moves i at (moves.completed streams m n told before e) =
-      moved_so m Idle (without_numbered n x.files) e (λ line stream now. laws.has_none (ap (λ s. file_in s) now))
+      moved_so m Idle (without_numbered n x.files) e
+      (λ line stream now. laws.completed i streams n line at (subst (λ t. Tells 0xc0 streams t i) (sym stream) told) (was j k l m (EofSent n) x before line stream) now)
   record_moves i at (moves.holds who name given e) = laws.stays (ap (sender_on j k) e)
   record_moves i at (moves.releases who name given e) = laws.stays (ap (sender_on j k) e)
   record_moves i at (moves.reroutes who name node line given route e) = laws.stays (ap (sender_on j k) e)
   record_moves i at (moves.cancels who name given e) =
       let kept = filter (λ f. not (is_of_name who name f)) x.files in
-      let numbers = moves.busy_numbers (is_of_name who name) x.files in
-      stays_or_none (subst (StaysOrNone j k x) (sym e) (all_give_up j k numbers (with_files kept x)))
+      let ns = busy_numbers (is_of_name who name) x.files in
+      cancelling_moves i who name at given (subst (StaysOrGivesUp j k ns x) (sym e) (all_give_up j k ns (with_files kept x)))
 
   sending_moves : Sends entry l x y → StreamMoves entry l items j k x y
-  sending_moves (moves.gives_up m before e) = moved_so m Idle x.files e (λ line stream now. laws.has_none (ap (λ s. file_in s) now))
+  sending_moves (moves.gives_up m before e) =
+      moved_so m Idle x.files e
+      (λ line stream now. laws.gives_up line (moves.gives_up m before e) (was j k l m Aborting x before line stream) now)
   sending_moves (moves.asks m f before found e) =
       moved_so m (Requested f.number) (with_file_state f.number state.Sending x.files) e
-      (λ line stream now. laws.asks f (moves.asks m f before found e) (was j k l m Idle x before line stream)
+      (λ line stream now. laws.asks f line (moves.asks m f before found e) (was j k l m Idle x before line stream)
       (ap (λ t. find (may_go (goes_by entry l) (kind_of t)) x.files) stream ∙ found) now)
   sending_moves (moves.goes_on m n place r before found e) =
       moved_so m (Sending n (place + 1)) x.files e
-      (λ line stream now. laws.goes_on n place r (moves.goes_on m n place r before found e) (was j k l m (Sending n place) x before line stream) found now)
+      (λ line stream now. laws.goes_on n place r line (moves.goes_on m n place r before found e) (was j k l m (Sending n place) x before line stream) found now)
   sending_moves (moves.ends m n place before found e) =
       moved_so m (EofSent n) x.files e
-      (λ line stream now. laws.ends n place (moves.ends m n place before found e) (was j k l m (Sending n place) x before line stream) found now)
+      (λ line stream now. laws.ends n place line (moves.ends m n place before found e) (was j k l m (Sending n place) x before line stream) found now)
 
-  end_moves : (streams : List (List Sender)) → streams ≡ set x.streams l (replicate (length (streams_of l x)) Idle) → y.streams ≡ streams
-      → StreamMoves entry l items j k x y
-  end_moves streams e now = at_line (set_one x.streams l j (replicate (length (streams_of l x)) Idle) [])
+  end_moves : Over l x y → StreamMoves entry l items j k x y
+  end_moves gone = at_line (set_one x.streams l j idles [])
     where
+      idles : List Sender
+      idles = replicate (length (streams_of l x)) Idle
+
+      now : sender_on j k y ≡ get_or (get_or (set x.streams l idles) j []) k Idle
+      now = ap (λ lines. get_or (get_or lines j []) k Idle) gone.streams
+
       at_line :
-          (get_or (set x.streams l (replicate (length (streams_of l x)) Idle)) j [] ≡ get_or x.streams j [])
-          ⊎ ((j ≡ l) × (get_or (set x.streams l (replicate (length (streams_of l x)) Idle)) j [] ≡ replicate (length (streams_of l x)) Idle))
+          (get_or (set x.streams l idles) j [] ≡ get_or x.streams j []) ⊎ ((j ≡ l) × (get_or (set x.streams l idles) j [] ≡ idles))
           → StreamMoves entry l items j k x y
-      at_line (inl same) = laws.stays (ap (λ lines. get_or (get_or lines j []) k Idle) (now ∙ e) ∙ ap (λ senders. get_or senders k Idle) same)
+      at_line (inl same) = laws.stays (now ∙ ap (λ senders. get_or senders k Idle) same)
       at_line (inr there) =
-          laws.has_none
-          (ap (λ s. file_in s)
-          (ap (λ lines. get_or (get_or lines j []) k Idle) (now ∙ e)
-          ∙ ap (λ senders. get_or senders k Idle) there.1
-          ∙ all_idle (length (streams_of l x)) k))
+          laws.over there.0 gone (now ∙ ap (λ senders. get_or senders k Idle) there.1 ∙ all_idle (length (streams_of l x)) k)
 
 moves_on_line :
     (entry : CustomerEntry) (l : ℕ) (items : List Item) (x y : Outgoing) (j k : ℕ) → Moves entry l items x y → StreamMoves entry l items j k x y
 moves_on_line entry l items x y j k (by_record (i, at, acts)) = record_moves entry l items j k x y i at acts
 moves_on_line entry l items x y j k (by_sending sends) = sending_moves entry l items j k x y sends
-moves_on_line entry l items x y j k (by_end over) = end_moves entry l items j k x y y.streams over.streams refl
+moves_on_line entry l items x y j k (by_end over) = end_moves entry l items j k x y over
 
 pub streams_move : StreamsMoveSo
 streams_move entry (Records l items) x y j k (up, move) = (up, moves_on_line (with_marks up entry) l items x y j k move)
@@ -181,10 +259,24 @@ pub idle_take : IdleStreamsTakeFiles
 idle_take entry (Routes routes) x y j k n given has = inl (sym (ap (λ s. file_in (sender_on j k s)) given.holds) ∙ has)
 idle_take entry (Records l items) x y j k n (up, move) has = at_move (moves_on_line (with_marks up entry) l items x y j k move)
   where
+    -- as it was, about the same file
+    same_file : (b s : Sender) → sender_on j k x ≡ b → sender_on j k y ≡ s → file_in b ≡ file_in s → file_in (sender_on j k x) ≡ Some n
+    same_file b s before now same = ap (λ t. file_in t) before ∙ same ∙ sym (ap (λ t. file_in t) now) ∙ has
+
+    -- about none
+    about_none : {A : Type 0} (s : Sender) → sender_on j k y ≡ s → file_in s ≡ None → A
+    about_none s now none = absurd (cc (sym has ∙ ap (λ t. file_in t) now ∙ none))
+
     at_move : StreamMoves (with_marks up entry) l items j k x y → (file_in (sender_on j k x) ≡ Some n) ⊎ (sender_on j k x ≡ Idle)
     at_move (laws.stays same) = inl (sym (ap (λ s. file_in s) same) ∙ has)
-    at_move (laws.has_none none) = absurd (cc (sym none ∙ has))
-    at_move (laws.asks f sends idle found now) = inr idle
-    at_move (laws.permitted i streams m at told before now) = inl (ap (λ s. file_in s) before ∙ sym (ap (λ s. file_in s) now) ∙ has)
-    at_move (laws.goes_on m place r sends before found now) = inl (ap (λ s. file_in s) before ∙ sym (ap (λ s. file_in s) now) ∙ has)
-    at_move (laws.ends m place sends before found now) = inl (ap (λ s. file_in s) before ∙ sym (ap (λ s. file_in s) now) ∙ has)
+    at_move (laws.asks f line sends idle found now) = inr idle
+    at_move (laws.permitted i streams m line at told before now) = inl (same_file (Requested m) (Sending m 0) before now.0 refl)
+    at_move (laws.goes_on m place r line sends before found now) =
+        inl (same_file (Sending m place) (Sending m (place + 1)) before now.0 refl)
+    at_move (laws.ends m place line sends before found now) = inl (same_file (Sending m place) (EofSent m) before now.0 refl)
+    at_move (laws.refused i streams m after line at told before none now) = about_none after now.0 none
+    at_move (laws.completed i streams m line at told before now) = about_none Idle now.0 refl
+    at_move (laws.gives_up line sends before now) = about_none Idle now.0 refl
+    at_move (laws.cancelled i who name f at given there mine before now) =
+        about_none (after_abort (sender_on j k x)) now (aborted_none (sender_on j k x))
+    at_move (laws.over line gone now) = about_none Idle now refl

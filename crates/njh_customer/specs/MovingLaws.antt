@@ -15,9 +15,10 @@ use Rattle.njh_spool.specs.declared.State.TheVariants.{Ready}
 use Rattle.njh_table.specs.Entries.{CustomerEntry}
 use Rattle.njh_table.specs.NewRoutes.{NewRoute, routes_checked, entries_of_routes}
 use Rattle.njh_table.specs.declared.fault.TableFault.{TableFault}
-use Rattle.njh_stream.specs.declared.sender.Sender.TheVariants.{Idle, Requested, Sending, EofSent}
+use Rattle.njh_stream.specs.declared.sender.Sender.{Sender}
+use Rattle.njh_stream.specs.declared.sender.Sender.TheVariants.{Idle, Requested, Sending, EofSent, Aborting}
 use Rattle.njh_stream.specs.Holding.{has_lost_route, held_file}
-use Rattle.njh_stream.specs.Sending.{file_in, goes_by}
+use Rattle.njh_stream.specs.Sending.{after_abort, file_in, goes_by}
 use Rattle.njh_stream.specs.Transmissions.{is_whole}
 use Rattle.njh_sched.specs.NextBlock.{may_go}
 use Rattle.njh_command.specs.declared.command.Command.TheVariants.{Cancel, Reroute}
@@ -29,7 +30,8 @@ use Rattle.njh_customer.specs.Part.{Part, part_after_bytes, rest_on}
 use Rattle.njh_customer.specs.NewRoutes.{entry_with}
 use Rattle.njh_customer.specs.Runs.{OwnEvent, OwnBytes, OwnSignal, OwnRoutes, Run, event_run}
 use Rattle.njh_customer.specs.OutgoingFiles.{Outgoing, outgoing, has_file, record_numbered, sender_on}
-use Rattle.njh_customer.specs.Moves.{Coming, Records, Routes, Commands, LeadsByMoves, MovesBy, Sends, Tells}
+use Rattle.njh_customer.specs.OutgoingFiles.{with_sender_on}
+use Rattle.njh_customer.specs.Moves.{Coming, Records, Routes, Commands, LeadsByMoves, MovesBy, Over, Sends, Tells}
 use Rattle.njh_customer.specs.FrameEffects.{Does, records_of_frame}
 
 -- ---- what comes
@@ -111,29 +113,51 @@ FilesLeaveSoBetween =
 
 -- ---- how a stream moves
 
--- What a move does to stream k of line j.
+-- Stream k of line j is this from then on, and no other stream moves.
+abbrev pub IsMovedAlone : (j k : ℕ) → Sender → Outgoing → Outgoing → Type 0
+IsMovedAlone j k s x y = (sender_on j k y ≡ s) × (y.streams ≡ (with_sender_on j k s x).streams)
+
+-- What a move on line l does to stream k of line j: it stays, or it moves for one of these causes. But for the end of
+-- line l's session and for CANCEL, it is a stream of line l, and moves alone.
 pub data StreamMoves (entry : CustomerEntry) (l : ℕ) (items : List Item) (j k : ℕ) (x y : Outgoing) : Type 0 where
   stays : sender_on j k y ≡ sender_on j k x → StreamMoves entry l items j k x y
-  -- it is about no file then
-  has_none : file_in (sender_on j k y) ≡ None → StreamMoves entry l items j k x y
   -- an idle one asks for the oldest file that may go
   asks :
-      (f : WholeFile) → Sends entry l x y → sender_on j k x ≡ Idle
-      → find (may_go (goes_by entry l) (kind_of k)) x.files ≡ Some f
-      → sender_on j k y ≡ Requested f.number → StreamMoves entry l items j k x y
+      (f : WholeFile) → j ≡ l → Sends entry l x y → sender_on j k x ≡ Idle
+      → find (may_go (goes_by entry l) (kind_of k)) x.files ≡ Some f → IsMovedAlone j k (Requested f.number) x y
+      → StreamMoves entry l items j k x y
   -- A0 to one that asked: its place is 0
   permitted :
-      (i : Item) (streams n : ℕ) → Contains items i → Tells 0xa0 streams k i → sender_on j k x ≡ Requested n
-      → sender_on j k y ≡ Sending n 0 → StreamMoves entry l items j k x y
+      (i : Item) (streams n : ℕ) → j ≡ l → Contains items i → Tells 0xa0 streams k i → sender_on j k x ≡ Requested n
+      → IsMovedAlone j k (Sending n 0) x y → StreamMoves entry l items j k x y
   -- the record at its place goes out, and the next is behind it
   goes_on :
-      (n place : ℕ) (r : Stored) → Sends entry l x y → sender_on j k x ≡ Sending n place
-      → record_numbered n place x ≡ Some r
-      → sender_on j k y ≡ Sending n (place + 1) → StreamMoves entry l items j k x y
+      (n place : ℕ) (r : Stored) → j ≡ l → Sends entry l x y → sender_on j k x ≡ Sending n place
+      → record_numbered n place x ≡ Some r → IsMovedAlone j k (Sending n (place + 1)) x y
+      → StreamMoves entry l items j k x y
   -- there is none at its place: the end of file goes out
   ends :
-      (n place : ℕ) → Sends entry l x y → sender_on j k x ≡ Sending n place → record_numbered n place x ≡ None
-      → sender_on j k y ≡ EofSent n → StreamMoves entry l items j k x y
+      (n place : ℕ) → j ≡ l → Sends entry l x y → sender_on j k x ≡ Sending n place → record_numbered n place x ≡ None
+      → IsMovedAlone j k (EofSent n) x y → StreamMoves entry l items j k x y
+  -- B0 to one that is about a file: it is about none then
+  refused :
+      (i : Item) (streams n : ℕ) (after : Sender) → j ≡ l → Contains items i → Tells 0xb0 streams k i
+      → file_in (sender_on j k x) ≡ Some n → file_in after ≡ None → IsMovedAlone j k after x y
+      → StreamMoves entry l items j k x y
+  -- C0 to one that sent its end of file
+  completed :
+      (i : Item) (streams n : ℕ) → j ≡ l → Contains items i → Tells 0xc0 streams k i → sender_on j k x ≡ EofSent n
+      → IsMovedAlone j k Idle x y → StreamMoves entry l items j k x y
+  -- the abort of one whose file was given up goes out
+  gives_up : j ≡ l → Sends entry l x y → sender_on j k x ≡ Aborting → IsMovedAlone j k Idle x y
+      → StreamMoves entry l items j k x y
+  -- CANCEL of the owner of its file by the file's name: it gives the file up
+  cancelled :
+      (i : Item) (who : User) (name : FileName) (f : WholeFile) → Contains items i → Commands entry who (Cancel name) i
+      → Contains x.files f → is_of_name who name f ≡ true → file_in (sender_on j k x) ≡ Some f.number
+      → sender_on j k y ≡ after_abort (sender_on j k x) → StreamMoves entry l items j k x y
+  -- the session of its line ends
+  over : j ≡ l → Over l x y → sender_on j k y ≡ Idle → StreamMoves entry l items j k x y
 
 -- by new routes none moves
 abbrev pub StreamMovesBy : CustomerEntry → Coming → ℕ → ℕ → Outgoing → Outgoing → Type 0
