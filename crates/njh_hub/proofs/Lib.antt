@@ -5,6 +5,7 @@ pub mod RunLaws
 pub mod OrderLaws
 pub mod RunningLaws
 pub mod NamedLaws
+pub mod StopLaws
 pub mod WireLaws
 pub mod TurnLaws
 pub mod RoundLaws

@@ -1,6 +1,6 @@
 -- How far a run came, and why it stopped.
-use Rattle.std.specs.Prelude.{◌≡◌, ℕ, ◌<◌, ◌≤◌, ◌⊎◌, List, [], ◌∷◌, ◌++◌, length, Result, Ok, Err, OnOk, IfErr, Vec}
-use Rattle.std.specs.Prelude.{vec_capacity, ⊤, IsSome, IsSomeAnd}
+use Rattle.std.specs.Prelude.{◌≡◌, ℕ, ◌+◌, ◌<◌, ◌≤◌, ◌⊎◌, List, [], ◌∷◌, ◌++◌, length, Result, Ok, Err, OnOk, IfErr}
+use Rattle.std.specs.Prelude.{Vec, vec_capacity, ⊤, IsSome, IsSomeAnd}
 use Rattle.njh_bisync.specs.Limits.{longest_frame}
 use Rattle.njh_table.specs.declared.LineId.{LineId}
 use Rattle.njh_table.specs.NewRoutes.{new_routes_of, routes_checked}
@@ -12,6 +12,7 @@ use Rattle.njh_hub.specs.declared.fault.Cause.TheVariants.{Hub, Sink}
 use Rattle.njh_hub.specs.declared.fault.RunFault.{RunFault}
 use Rattle.njh_hub.specs.OwnEvents.{line_of_event, routes_of, first_events, bytes_in_event}
 use Rattle.njh_hub.specs.Sent.{IsCounted}
+use Rattle.njh_hub.specs.Wires.{SendsAt}
 use Rattle.njh_hub.specs.WholeHub.{Part, part, HasLine, IsNamed, SameLines, hub_run}
 
 -- the events that happened: all, or up to where the run stopped
@@ -66,6 +67,20 @@ abbrev pub IsWithinOne : Event → RunFault → Type 0
 IsWithinOne event fault = (0 < fault.bytes → (fault.events ≡ 0) × (fault.bytes < bytes_in_event event)) ×
     ((fault.events ≡ 0) ⊎ ((fault.events ≡ 1) × (fault.bytes ≡ 0)))
 
+-- A stop when so many events were whole and so many bytes of the next one were used: right behind that one where these
+-- were all its bytes.
+abbrev pub StopsAt : ℕ → ℕ → Event → RunFault → Type 0
+StopsAt whole used event fault =
+    ((used < bytes_in_event event) × (fault.events ≡ whole) × (fault.bytes ≡ used))
+    ⊎ ((used ≡ bytes_in_event event) × (fault.events ≡ whole + 1) × (fault.bytes ≡ 0))
+
+-- A stop right behind the byte of an event that sent a frame, or behind a signal that sent one. So many events were
+-- whole before it.
+pub record IsBehindFrame (parts : List Part) (whole : ℕ) (event : Event) (fault : RunFault) : Type 0 where
+  pub used : ℕ
+  pub sends : SendsAt parts event used
+  pub stops : StopsAt whole used event fault
+
 -- One event of a run. A fault speaks of it as of the only one.
 pub record IsEventRun {S A Z : Type 0} (took : S → S → List (LineId × List ℕ) → Type 0)
     (refused : S → S → LineId × List ℕ → Type 0) (count : S → ℕ) (parts : List Part) (event : Event) (out : Vec ℕ Z)
@@ -82,5 +97,7 @@ pub record IsEventRun {S A Z : Type 0} (took : S → S → List (LineId × List 
   pub causes : IfErr result (λ fault. IfHub fault.cause (λ why. (fault.events ≡ 0) × IsRefused parts event why))
   pub memory : IfErr result (λ fault. fault.cause ≡ Hub Memory → (fault.events ≡ 0) × (fault.bytes ≡ 0) ×
       (IsRoutes event ⊎ (vec_capacity out < longest_frame)))
+  pub begun : IfErr result (λ fault. IfHub fault.cause (λ why. fault.bytes ≡ 0))
+  pub behind_frame : IfErr result (λ fault. fault.cause ≡ Sink → IsBehindFrame parts 0 event fault)
   pub counts : count sink ≤ count new_sink
   pub counted : IfErr result (λ fault. fault.cause ≡ Sink → IsCounted (count sink) (count new_sink))

@@ -6,7 +6,7 @@ ghost use Rattle.njh_customer.specs.Feeding.{sent_on};
 ghost use Rattle.njh_customer.specs.Runs.{alone_run};
 ghost use Rattle.njh_hub.specs.OwnEvents.{events_of, event_by, sent_to, bytes_in_event};
 ghost use Rattle.njh_hub.specs.Sent.{IsCounted};
-ghost use Rattle.njh_hub.specs.RunStops.{done, Handed, IfHub, IsEventRun, IsRefused, IsRoutes};
+ghost use Rattle.njh_hub.specs.RunStops.{done, Handed, IfHub, IsBehindFrame, IsEventRun, IsRefused, IsRoutes};
 ghost use Rattle.njh_hub.specs.WholeHub.{part, IsNamed, SameLines, sent_by, hub_run};
 ghost use Rattle.njh_hub.specs.declared.event.Event.TheVariants.{Bytes};
 
@@ -14,7 +14,9 @@ use crate::event::Event;
 use crate::fault::{Cause, HubFault, RunFault};
 use crate::hub::Hub;
 use crate::sink::{Sink, SinkFault};
-use njh_customer::{Signal, events_keep_entries, no_bytes_do_nothing, steps_follow_bytes};
+use njh_customer::{
+    Signal, cuts_are_like, events_keep_entries, no_bytes_do_nothing, steps_follow_bytes,
+};
 use njh_table::LineId;
 
 impl Hub {
@@ -53,6 +55,12 @@ impl Hub {
             IsSomeAnd (slice_get events.now fault.events) (λ event. IsRefused self.old event why))) }
         ensures memory { IfErr result (λ fault. fault.cause ≡ Cause.Hub HubFault.Memory → (fault.bytes ≡ 0) ×
             (IsSomeAnd (slice_get events.now fault.events) IsRoutes ⊎ All IsRoutes (take fault.events events.now))) }
+        // Where the hub refused an event, none of its bytes are done; where the sink refused a frame, the stop is right
+        // behind the byte, or the signal, that sent it.
+        ensures begun { IfErr result (λ fault. IfHub fault.cause (λ why. fault.bytes ≡ 0)) }
+        ensures behind { IfErr result (λ fault. fault.cause ≡ Cause.Sink → (whole : ℕ) ×
+            IsSomeAnd (slice_get events.now whole) (λ event.
+            IsBehindFrame (hub_run self.old (take whole events.now)).parts whole event fault)) }
         ensures counted { IfErr result (λ fault. fault.cause ≡ Cause.Sink
             → IsCounted (S.count sink.old) (S.count sink.new)) }
     {
@@ -136,6 +144,7 @@ impl Hub {
     {
         no_bytes_do_nothing();
         steps_follow_bytes();
+        cuts_are_like();
         let mut taken = 0;
         loop {
             let (_, left) = piece.split_at(taken);

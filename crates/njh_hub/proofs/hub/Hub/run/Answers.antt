@@ -14,6 +14,7 @@ use Rattle.njh_hub.proofs.RunLaws.{each_is_alone}
 use Rattle.njh_hub.proofs.RunningLaws.{stopped_in, went_on, HandedUntil-after, HandedUntil-some}
 use Rattle.njh_hub.proofs.NamedLaws.{All-more, LedOn, behind-known, either_event, found_at, hub_run-length, led_on}
 use Rattle.njh_hub.proofs.NamedLaws.{named-before, refused_at}
+use Rattle.njh_hub.proofs.StopLaws.{stop_later}
 use Rattle.njh_hub.proofs.hub.Hub.run.Goals as goal
 
 pub returns-in-Err-clause-parts : goal.returns-in-Err-clause-parts
@@ -144,6 +145,20 @@ returns-in-Err-clause-memory g c = λ memory.
           (λ (all : Q k). inr (subst Q here all))
           (λ (enough : longest_frame ≤ vec_capacity c.loop-index.out). absurd (omega arith)) c.loop-index.invariant.room) told.2,
     )
+
+pub returns-in-Err-clause-begun : goal.returns-in-Err-clause-begun
+returns-in-Err-clause-begun g c =
+    let P : RunFault → Type 0 = λ f. IfHub f.cause (λ why. f.bytes ≡ 0) in
+    subst P (sym c.after.ensures) c.in-Err.ensures.begun
+
+pub returns-in-Err-clause-behind : goal.returns-in-Err-clause-behind
+returns-in-Err-clause-behind g c = λ sink.
+    let events = c.args.events.now in
+    let k = c.loop-index.index in
+    let within : k < length events = omega arith in
+    stop_later c.args.self.now c.loop-index.self events k c.index-events-index.result c.in-Err.fault c.after.result within
+    c.index-events-index.is c.loop-index.invariant.parts c.after.ensures
+    (c.in-Err.ensures.behind_frame (sym (ap (λ (f : RunFault). f.cause) c.after.ensures) ∙ sink))
 
 pub loop-index-preserved : goal.loop-index-preserved
 loop-index-preserved g c =

@@ -1,4 +1,4 @@
-use Rattle.std.proofs.Common.{◌≡◌, ℕ, ◌+◌, ◌<◌, List, [], ◌∷◌, ◌++◌, length, take, ap, sym, subst, ◌∙◌, arith, rules}
+use Rattle.std.proofs.Common.{◌≡◌, ℕ, ◌+◌, ◌<◌, ◌≤◌, List, [], ◌∷◌, ◌++◌, length, take, ap, sym, subst, ◌∙◌, arith, rules}
 use Rattle.std.proofs.lemmas.List.{take_all}
 use Rattle.njh_table.specs.declared.LineId.{LineId}
 use Rattle.njh_customer.specs.Feeding.{sent_on}
@@ -6,9 +6,11 @@ use Rattle.njh_hub.specs.declared.event.Event.TheVariants.{Bytes}
 use Rattle.njh_hub.specs.declared.fault.Cause.{Cause}
 use Rattle.njh_hub.specs.OwnEvents.{first_events}
 use Rattle.njh_hub.specs.RunStops.{HandedUntil, IfHub, IsRefused}
-use Rattle.njh_hub.specs.WholeHub.{HubRun, HasLine, sent_by, hub_run}
+use Rattle.njh_hub.specs.WholeHub.{HubRun, HasLine, part, sent_by, hub_run}
 use Rattle.njh_hub.proofs.PieceLaws.{after_bytes}
 use Rattle.njh_hub.proofs.RunningLaws.{GoesOn, step_done, sink_done, whole_done, sent_pair, is_within_one, counted_from}
+use Rattle.njh_hub.proofs.StopLaws.{bytes_stop, some_taken}
+use Rattle.njh_hub.proofs.WireLaws.{step_stops}
 use Rattle.njh_hub.proofs.hub.Hub.run_bytes.Goals as goal
 
 pub loop-used-preserved : goal.loop-used-preserved
@@ -82,6 +84,8 @@ returns-then-taken-piece g c =
       behind = search rules;
       causes = search rules;
       memory = search rules;
+      begun = search rules;
+      behind_frame = search rules;
       counts = omega (arith, c.in-Ok-hand_over.ensures.counts);
       counted = search rules;
     }
@@ -112,6 +116,13 @@ returns-in-Err-hand_over g c =
     let sent = (after_bytes start id (take c.loop-used.taken c.args.piece.now)).sent in
     let all = (hub_run start (first_events (Bytes id c.args.piece.now ∷ []) fault.events fault.bytes)).sent in
     let Q : Cause → Type 0 = λ cause. HandedUntil g.S.Sink.took g.S.Sink.refused cause c.args.sink.now c.hand_over.new.sink all in
+    let some : 0 < length c.take.new.out.items =
+    omega (arith, c.in-Err-hand_over.ensures.err.1, ap (λ (b : List ℕ). length b) c.deref.ensures.value) in
+    let left : 0 < length c.split_at.result.1.now = some_taken (part id.customer c.loop-used.self) id.number c.split_at.result.1.now
+    (omega (arith, some, ap (λ (b : List ℕ). length b) did.frame)) in
+    let any : 0 < c.in-Ok.used = c.in-Ok.ensures.progress.0 left in
+    let inside : taken ≤ length c.args.piece.now = omega (arith, c.in-Ok.ensures.progress.1, c.split_at.ensures.back_len) in
+    let B : Cause → Type 0 = λ cause. IfHub cause (λ why. fault.bytes ≡ 0) in
     let C : Cause → Type 0 = λ cause. IfHub cause (λ why. (fault.events ≡ 0) × IsRefused start (Bytes id c.args.piece.now) why) in
     record {
       leads = sym (ap (λ (h : HubRun). h.parts) (stop ∙ there));
@@ -133,6 +144,9 @@ returns-in-Err-hand_over g c =
       behind = λ _. known;
       causes = subst C (sym c.after_sink.ensures.cause) tt;
       memory = λ is. cc (is, c.after_sink.ensures.cause);
+      begun = subst B (sym c.after_sink.ensures.cause) tt;
+      behind_frame = λ _. bytes_stop start id c.args.piece.now taken fault
+          (step_stops c.cuts_are_like.ensures step some any inside) c.after_sink.ensures.whole c.after_sink.ensures.part;
       counts = omega (arith, c.in-Err-hand_over.ensures.counts);
       counted = λ _. counted_from (g.S.Sink.count c.args.sink.now) (g.S.Sink.count c.loop-used.sink)
           (g.S.Sink.count c.hand_over.new.sink) c.loop-used.invariant.counts c.in-Err-hand_over.ensures.counted;

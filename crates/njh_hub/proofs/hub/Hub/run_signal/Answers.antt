@@ -1,7 +1,9 @@
-use Rattle.std.proofs.Common.{◌≡◌, ◌∙◌, sym, List, [], ℕ, ap, rules}
+use Rattle.std.proofs.Common.{◌≡◌, ◌∙◌, sym, List, [], ℕ, ap, inr, refl, rules}
 use Rattle.njh_customer.specs.Feeding.{sent_on}
 use Rattle.njh_hub.specs.WholeHub.{HubRun, sent_by}
 use Rattle.njh_hub.proofs.RunningLaws.{named-event_by, sent_pair, signal_done}
+use Rattle.njh_hub.proofs.StopLaws.{signal-bytes}
+use Rattle.njh_hub.proofs.WireLaws.{signal_stops}
 use Rattle.njh_hub.proofs.hub.Hub.run_signal.Goals as goal
 
 pub returns-in-Err-hand_over : goal.returns-in-Err-hand_over
@@ -30,6 +32,12 @@ returns-in-Err-hand_over g c =
       behind = λ _. named-event_by start c.args.signal id c.in-Ok.ensures.known;
       causes = search rules;
       memory = search rules;
+      begun = search rules;
+      behind_frame = λ _. record {
+        used = 0;
+        sends = signal_stops start c.args.signal id frame (sym same ∙ c.in-Ok.ensures.frame) c.in-Err-hand_over.ensures.err.1;
+        stops = inr (sym (signal-bytes c.args.signal id), refl, refl);
+      };
       counts = c.in-Err-hand_over.ensures.counts;
       counted = λ _. c.in-Err-hand_over.ensures.counted;
     }
