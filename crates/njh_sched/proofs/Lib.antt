@@ -5,6 +5,7 @@ pub mod KeptLaws
 pub mod RequestLaws
 pub mod SourceLists
 pub mod SpoolLaws
+pub mod FrontLaws
 pub mod StreamLaws
 pub mod TurnLaws
 pub mod CarryingLaws

@@ -1,5 +1,6 @@
 pub mod Tight
 pub mod NextBlock
+pub mod Fronts
 pub mod Laws
 pub mod Carrying
 pub mod code

@@ -6,6 +6,7 @@ ghost use Rattle.njh_spool.specs.CustomerSpool.{WholeFile};
 ghost use Rattle.njh_sched.specs.NextBlock.{Filling, Source, after_source, after_sources, filled_block, sends_file};
 ghost use Rattle.njh_sched.specs.NextBlock.{sender_at, sources};
 ghost use Rattle.njh_sched.specs.Laws.{Does, EachDoes, records_under};
+ghost use Rattle.njh_sched.specs.Fronts.{LongestFrontsFill};
 ghost use Rattle.njh_sched.specs.Carrying.{Carries, file_records};
 
 use njh_stream::Sender;
@@ -35,6 +36,12 @@ pub fn sources_move_streams_so()
 pub fn sources_fill_the_block()
     ensures { (goes : WholeFile → Bool) (x : Filling) → all_suspended x.outlet.peer_fcs ≡ false
         → filled_block goes x ≡ after_sources goes (sources x.block.limit x.outlet) x }
+{}
+
+/// What goes into a block is the longest front that has room of all that may come from the sources, in their order:
+/// each of it has room behind those before it, and with the next one the block wouldn't fit.
+pub fn longest_fronts_fill()
+    ensures { LongestFrontsFill }
 {}
 
 /// What a block carries under a stream's RCB. Of a stream that sends a file: the file's records from the place before

@@ -16,8 +16,8 @@ mod waiting_peers;
 
 pub use filling::fill;
 pub use laws::{
-    blocks_carry_files_in_order, nothing_where_all_is_suspended, sources_fill_the_block,
-    sources_move_streams_so,
+    blocks_carry_files_in_order, longest_fronts_fill, nothing_where_all_is_suspended,
+    sources_fill_the_block, sources_move_streams_so,
 };
 pub use outgoing::Outgoing;
 pub use waiting_peers::own_fcs;
