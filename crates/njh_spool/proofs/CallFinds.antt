@@ -64,6 +64,10 @@ module _ (here : Call) where
   pub has : HasOwn store slots customers c
   has = calls.has here
 
+  -- the customer has a slot for each number
+  pub row_fits : 1024 * c + 1024 ≤ length slots
+  row_fits = omega (arith, has.slot_within 1023 (omega arith))
+
   abbrev spools : List CustomerSpool
   spools = spools_of customers (contents slots store.chains)
 

@@ -52,11 +52,7 @@ impl Spool {
         ensures { result ≡ or_no_file (option_map (λ f. headers_of f.kind f.records)
             (whole_numbered id (spool_at customer self.now))) }
     {
-        let slot = slot_at(&self.slots, customer, id);
-        if !slot.is_whole() {
-            return Err(SpoolFault::NoSuchFile);
-        }
-        Ok(slot.headers.said)
+        Ok(self.summary(customer, id)?.headers)
     }
 
     /// What is known of a whole file without a look at its records. S3 where the number is no whole file's.

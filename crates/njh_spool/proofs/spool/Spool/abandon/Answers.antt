@@ -14,9 +14,8 @@ use Rattle.njh_spool.proofs.spool.Spool.abandon.Goals as goal
 use Rattle.njh_spool.proofs.spool.Spool.abandon.Goals.{After-set, After-is_partial, After-index_mut-own}
 
 pub slot_at-requires : goal.slot_at-requires
-slot_at-requires c =
-    let here = call_on c.self.inside c.args.customer c.args.id c.self.invariant (rw c.self.view_is c.requires) in
-    omega (arith, (finds.has here).slot_within 1023 (omega arith))
+slot_at-requires c = finds.row_fits
+    (call_on c.self.inside c.args.customer c.args.id c.self.invariant (rw c.self.view_is c.requires))
 
 stage_is : (c : After-is_partial) → is_partial (slot_of c.self.inside.slots c.args.customer c.args.id).stage ≡ c.is_partial.result
 stage_is c = ap (λ (x : FileSlot). is_partial x.stage)

@@ -91,9 +91,8 @@ returns-then-own-clause-fault c =
     ) refl
 
 pub free_number-number-requires-clause-all : goal.free_number-number-requires-clause-all
-free_number-number-requires-clause-all c =
-    let here = call_on c.self.inside c.args.customer 0 c.self.invariant (rw c.self.view_is c.requires) in
-    omega (arith, (finds.has here).slot_within 1023 (omega arith))
+free_number-number-requires-clause-all c = finds.row_fits
+    (call_on c.self.inside c.args.customer 0 c.self.invariant (rw c.self.view_is c.requires))
 
 pub free_number-number-requires-clause-few : goal.free_number-number-requires-clause-few
 free_number-number-requires-clause-few c =
@@ -119,9 +118,8 @@ push-requires c =
     omega (arith, n.whole, n.partial, n.limit, n.limit_bound, c.len.ensures, c.len-2.ensures, c.if-len-own.false)
 
 pub set-requires-clause-all : goal.set-requires-clause-all
-set-requires-clause-all c =
-    let here = call_on c.self.inside c.args.customer 0 c.self.invariant (rw c.self.view_is c.requires) in
-    omega (arith, (finds.has here).slot_within 1023 (omega arith))
+set-requires-clause-all c = finds.row_fits
+    (call_on c.self.inside c.args.customer 0 c.self.invariant (rw c.self.view_is c.requires))
 
 pub set-requires-clause-number : goal.set-requires-clause-number
 set-requires-clause-number c =

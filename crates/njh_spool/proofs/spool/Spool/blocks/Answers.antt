@@ -1,4 +1,4 @@
-use Rattle.std.proofs.Common.{◌≡◌, ℕ, Ok, length, refl, sym, ap, ◌∙◌, ◌+◌, ◌/◌, arith}
+use Rattle.std.proofs.Common.{◌≡◌, ℕ, Ok, length, refl, sym, ap, ◌∙◌, ◌+◌, ◌/◌}
 use Rattle.njh_spool.specs.declared.file_slot.FileSlot.{FileSlot}
 use Rattle.njh_spool.specs.code.Chains.{Chain, chain_at}
 use Rattle.njh_spool.specs.code.Slots.{slot_of, is_whole_stage}
@@ -8,9 +8,8 @@ use Rattle.njh_spool.proofs.spool.Spool.blocks.Goals as goal
 use Rattle.njh_spool.proofs.spool.Spool.blocks.Goals.{After-is_whole}
 
 pub slot_at-requires : goal.slot_at-requires
-slot_at-requires c =
-    let here = call_on c.self.inside c.args.customer c.args.id c.self.invariant (rw c.self.view_is c.requires) in
-    omega (arith, (finds.has here).slot_within 1023 (omega arith))
+slot_at-requires c = finds.row_fits
+    (call_on c.self.inside c.args.customer c.args.id c.self.invariant (rw c.self.view_is c.requires))
 
 stage_is : (c : After-is_whole) → is_whole_stage (slot_of c.self.inside.slots c.args.customer c.args.id).stage ≡ c.is_whole.result
 stage_is c = ap (λ (x : FileSlot). is_whole_stage x.stage) (sym c.slot_at.ensures) ∙ sym c.is_whole.ensures

@@ -22,9 +22,8 @@ use Rattle.njh_spool.proofs.spool.Spool.finish.Goals as goal
 use Rattle.njh_spool.proofs.spool.Spool.finish.Goals.{After-set, After-is_partial, After-index_mut-own, After-place-at}
 
 pub slot_at-slot-requires : goal.slot_at-slot-requires
-slot_at-slot-requires c =
-    let here = call_on c.self.inside c.args.customer c.args.id c.self.invariant (rw c.self.view_is c.requires) in
-    omega (arith, (finds.has here).slot_within 1023 (omega arith))
+slot_at-slot-requires c = finds.row_fits
+    (call_on c.self.inside c.args.customer c.args.id c.self.invariant (rw c.self.view_is c.requires))
 
 -- the file that is there
 file_is : (c : After-place-at) → c.is_partial.result ≡ true → IsFile c.slot_at-slot.result

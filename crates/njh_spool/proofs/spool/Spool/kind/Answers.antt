@@ -1,4 +1,4 @@
-use Rattle.std.proofs.Common.{Ok, refl, sym, ap, ◌∙◌, arith}
+use Rattle.std.proofs.Common.{Ok, refl, sym, ap, ◌∙◌}
 use Rattle.njh_spool.specs.declared.file_slot.FileSlot.{FileSlot}
 use Rattle.njh_spool.specs.code.Slots.{is_free}
 use Rattle.njh_spool.proofs.ReadLaws.{has_file, has_no_file}
@@ -7,9 +7,8 @@ use Rattle.njh_spool.proofs.CallFinds as finds
 use Rattle.njh_spool.proofs.spool.Spool.kind.Goals as goal
 
 pub slot_at-slot-requires : goal.slot_at-slot-requires
-slot_at-slot-requires c =
-    let here = call_on c.self.inside c.args.customer c.args.id c.self.invariant (rw c.self.view_is c.requires) in
-    omega (arith, (finds.has here).slot_within 1023 (omega arith))
+slot_at-slot-requires c = finds.row_fits
+    (call_on c.self.inside c.args.customer c.args.id c.self.invariant (rw c.self.view_is c.requires))
 
 pub returns-then-is_free : goal.returns-then-is_free
 returns-then-is_free c =

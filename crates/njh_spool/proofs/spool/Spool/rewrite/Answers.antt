@@ -20,9 +20,8 @@ use Rattle.njh_spool.proofs.spool.Spool.rewrite.Goals.{After-is_whole, After-pla
 use Rattle.njh_spool.proofs.spool.Spool.rewrite.Goals.{After-set}
 
 pub slot_at-slot-requires : goal.slot_at-slot-requires
-slot_at-slot-requires c =
-    let here = call_on c.self.inside c.args.customer c.args.id c.self.invariant (rw c.self.view_is c.requires.range) in
-    omega (arith, (finds.has here).slot_within 1023 (omega arith))
+slot_at-slot-requires c = finds.row_fits
+    (call_on c.self.inside c.args.customer c.args.id c.self.invariant (rw c.self.view_is c.requires.range))
 
 stage_is : (c : After-is_whole) → is_whole_stage (slot_of c.self.inside.slots c.args.customer c.args.id).stage ≡ c.is_whole.result
 stage_is c = ap (λ (x : FileSlot). is_whole_stage x.stage)

@@ -1,4 +1,4 @@
-use Rattle.std.proofs.Common.{◌≡◌, Ok, refl, sym, ap, ◌∙◌, arith}
+use Rattle.std.proofs.Common.{◌≡◌, Ok, refl, sym, ap, ◌∙◌}
 use Rattle.njh_spool.specs.declared.file_slot.FileSlot.{FileSlot}
 use Rattle.njh_spool.specs.code.Slots.{slot_of, is_whole_stage}
 use Rattle.njh_spool.proofs.CallFinds as finds
@@ -8,9 +8,8 @@ use Rattle.njh_spool.proofs.spool.Spool.summary.Goals as goal
 use Rattle.njh_spool.proofs.spool.Spool.summary.Goals.{After-is_whole}
 
 pub slot_at-slot-requires : goal.slot_at-slot-requires
-slot_at-slot-requires c =
-    let here = call_on c.self.inside c.args.customer c.args.id c.self.invariant (rw c.self.view_is c.requires) in
-    omega (arith, (finds.has here).slot_within 1023 (omega arith))
+slot_at-slot-requires c = finds.row_fits
+    (call_on c.self.inside c.args.customer c.args.id c.self.invariant (rw c.self.view_is c.requires))
 
 same_slot : (c : After-is_whole) → c.slot_at-slot.result ≡ slot_of c.self.inside.slots c.args.customer c.args.id
 same_slot c = c.slot_at-slot.ensures

@@ -1,4 +1,4 @@
-use Rattle.std.proofs.Common.{Some, sym, ap, ◌∙◌, arith}
+use Rattle.std.proofs.Common.{Some, sym, ap, ◌∙◌}
 use Rattle.njh_spool.specs.declared.file_slot.FileSlot.{FileSlot}
 use Rattle.njh_spool.proofs.SummaryLaws.{summary_is, slot_summary}
 use Rattle.njh_spool.proofs.Calls.{call_on}
@@ -6,9 +6,8 @@ use Rattle.njh_spool.proofs.CallFinds as finds
 use Rattle.njh_spool.proofs.spool.Spool.summary_at.Goals as goal
 
 pub slot_at-requires : goal.slot_at-requires
-slot_at-requires c =
-    let here = call_on c.self.inside c.args.customer 0 c.self.invariant (rw c.self.view_is c.requires.range) in
-    omega (arith, (finds.has here).slot_within 1023 (omega arith))
+slot_at-requires c = finds.row_fits
+    (call_on c.self.inside c.args.customer 0 c.self.invariant (rw c.self.view_is c.requires.range))
 
 pub returns : goal.returns
 returns c =
