@@ -46,6 +46,7 @@ fn names_of_texts(rt: HostRuntime) {
     check_name(&rt, "$#@0ISZ", Ok(b"\x5b\x7b\x7c\xf0\xc9\xe2\xe9\x40"));
     check_name(&rt, "", Err(NameFault::Empty));
     check_name(&rt, "ABCDEFGHI", Err(NameFault::TooLong));
+    check_name(&rt, "ABCDEFGH!", Err(NameFault::TooLong));
     check_name(&rt, "lyon", Err(NameFault::BadCharacter));
     check_name(&rt, "LY ON", Err(NameFault::BadCharacter));
 }
