@@ -8,6 +8,7 @@ pub mod EndingLaws
 pub mod RoutingLaws
 pub mod OnlyOneLaws
 pub mod OutcomeLaws
+pub mod HeadersCome
 pub mod FollowingLaws
 pub mod PartialLaws
 pub mod MoveLaws

@@ -6,6 +6,7 @@ pub mod Holding
 pub mod Arrivals
 pub mod Steps
 pub mod Outcomes
+pub mod WholeFiles
 pub mod Following
 pub mod Streams
 pub mod code

@@ -6,12 +6,14 @@ ghost use Rattle.njh_record.specs.declared.Kind.{Kind};
 ghost use Rattle.njh_table.specs.Entries.{CustomerEntry};
 ghost use Rattle.njh_spool.specs.CustomerSpool.{CustomerSpool, without_partial, has_block, has_file_room, next_number};
 ghost use Rattle.njh_stream.specs.Following.{Moment, coming_at, outcome_of_moments, following_from, IsUntouched};
-ghost use Rattle.njh_stream.specs.Outcomes.{Becomes, Ending, TransmissionOutcome, records_of};
+ghost use Rattle.njh_stream.specs.Outcomes.{AFile, Becomes, Ending, TransmissionOutcome, records_of};
 ghost use Rattle.njh_stream.specs.Receiving.{Arrival, Request, received_arrival, received_request, without_all_open};
 ghost use Rattle.njh_stream.specs.Receiving.{without_open};
 ghost use Rattle.njh_stream.specs.Streams.{stream_at, streams_at, with_stream, without_streams};
 ghost use Rattle.njh_stream.specs.code.Agreement.{AreTied};
 ghost use Rattle.njh_stream.specs.Transmissions.{ComingRecord};
+ghost use Rattle.njh_stream.specs.WholeFiles.{HasHeaders};
+ghost use Rattle.njh_record.specs.Stored.{Stored};
 
 use crate::receiver::{Progress, Receiver};
 use njh_spool::next_number_is_least;
@@ -23,6 +25,12 @@ pub fn one_outcome()
     ensures one { (entry : CustomerEntry) (l : ℕ) (kind : Kind) (cs : List ComingRecord) (ending : Ending)
         (a b : TransmissionOutcome)
         → Becomes entry l kind cs ending a → Becomes entry l kind cs ending b → a ≡ b }
+{}
+
+/// A transmission that becomes a file has headers that read: they say its name, its owner and its destination.
+pub fn files_have_headers()
+    ensures come { (entry : CustomerEntry) (l : ℕ) (kind : Kind) (cs : List ComingRecord) (ending : Ending)
+        (records : List Stored) → Becomes entry l kind cs ending (AFile records) → HasHeaders kind records }
 {}
 
 /// A stream that is followed from a permitted request on, arrival by arrival, answers, tells and leaves what the whole
