@@ -156,6 +156,9 @@ module _ (here : Call) where
   pub enough_partial : is_partial slot.stage ≡ true → cost (files n).records ≤ own.used
   enough_partial there = partial.covered own files n has.own (stage_of slot.stage there)
 
+  pub whole_few : is_partial slot.stage ≡ true → length own.whole < 1024
+  whole_few there = omega (arith, partial.few_whole own files n has.own (stage_of slot.stage there), has.own.sound.files_limit)
+
   pub enough_whole : is_whole_stage slot.stage ≡ true → cost (files n).records ≤ own.used
   enough_whole there = whole.covered own files n has.own there (not_partial_of slot.stage there)
 

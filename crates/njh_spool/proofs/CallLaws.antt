@@ -34,7 +34,7 @@ use Rattle.njh_spool.proofs.FileLaws.{records_are, file_of, first_are, appended-
 use Rattle.njh_spool.proofs.ReadLaws.{partial_stage as stage_of, whole_not_partial as not_partial_of}
 use Rattle.njh_spool.proofs.PackingLaws.{length-packed, length-unpacked}
 use Rattle.njh_spool.proofs.RewriteLaws.{packed-at_index, short-at_index, length-at_index, place-rewritten}
-use Rattle.njh_spool.proofs.SlotLaws.{whole_from}
+use Rattle.njh_spool.proofs.OwnLaws.{whole_from}
 use Rattle.njh_spool.proofs.PartialLaws as partial
 use Rattle.njh_spool.proofs.WholeLaws as whole
 use Rattle.njh_spool.proofs.BeginLaws as begin

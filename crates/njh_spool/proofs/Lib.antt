@@ -1,5 +1,4 @@
 pub mod BeginLaws
-pub mod BegunLaws
 pub mod CallFinds
 pub mod CallLaws
 pub mod Calls
@@ -14,6 +13,7 @@ pub mod ChainRemoves
 pub mod ChainValues
 pub mod ChainWrites
 pub mod CostLaws
+pub mod CountLaws
 pub mod FileLaws
 pub mod HeaderLaws
 pub mod IndexLaws
@@ -21,6 +21,7 @@ pub mod KeptLaws
 pub mod NumberLaws
 pub mod OnlyOne
 pub mod OpenLaws
+pub mod OwnLaws
 pub mod PackingLaws
 pub mod PartialLaws
 pub mod PlaceLaws
@@ -30,7 +31,5 @@ pub mod ReaderLaws
 pub mod RecordLaws
 pub mod RewriteLaws
 pub mod RowLaws
-pub mod SlotLaws
-pub mod SpoolLaws
 pub mod SummaryLaws
 pub mod WholeLaws

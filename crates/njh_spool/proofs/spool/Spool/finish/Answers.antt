@@ -1,23 +1,19 @@
 use Rattle.std.proofs.Common.{◌≡◌, ℕ, ◌+◌, ◌*◌, true, not, eqb, List, [], ◌∷◌, ◌++◌, length, set, filter, refl, sym, ap}
-use Rattle.std.proofs.Common.{subst, ◌∙◌, arith, count_by}
+use Rattle.std.proofs.Common.{subst, ◌∙◌, arith}
 use Rattle.njh_spool.specs.declared.file_slot.FileSlot.{FileSlot}
 use Rattle.njh_spool.specs.declared.file_slot.Stage.TheVariants.{Whole}
 use Rattle.njh_spool.specs.declared.customer_files.CustomerFiles.{CustomerFiles}
 use Rattle.njh_spool.specs.CustomerSpool.{CustomerSpool, with_finished}
 use Rattle.njh_spool.specs.Spools.{spool_at}
-use Rattle.njh_spool.specs.code.Slots.{slot_of, is_partial, IsFile, whole_file}
-use Rattle.njh_spool.specs.code.Slots.{partial_file}
+use Rattle.njh_spool.specs.code.Slots.{slot_of, is_partial, IsFile}
 use Rattle.njh_spool.specs.code.Chains.{Chain, chain_at}
 use Rattle.njh_spool.specs.Headers.{kept_headers}
 use Rattle.njh_spool.specs.code.Packing.{unpacked_records}
 use Rattle.njh_spool.proofs.KeptLaws.{own_of, own_is}
 use Rattle.njh_spool.proofs.CallFinds as finds
 use Rattle.njh_spool.proofs.CallLaws as call
-use Rattle.std.proofs.lemmas.List.{length-map}
-use Rattle.std.proofs.lemmas.List.Sums.{count_by-le-length}
 use Rattle.njh_spool.specs.declared.State.TheVariants.{Ready}
-use Rattle.njh_spool.proofs.SlotLaws.{once_some}
-use Rattle.njh_spool.proofs.Calls.{MovesTo, call_on, own_at, files_at, slot_at}
+use Rattle.njh_spool.proofs.Calls.{MovesTo, call_on, slot_at}
 use Rattle.njh_spool.proofs.spool.Spool.finish.Goals as goal
 use Rattle.njh_spool.proofs.spool.Spool.finish.Goals.{After-set, After-is_partial, After-index_mut-own, After-place-at}
 
@@ -70,26 +66,9 @@ own_same c =
 pub push-requires : goal.push-requires
 push-requires c =
     let here = call_on c.self.inside c.args.customer c.args.id c.self.invariant (rw c.self.view_is c.requires) in
-    let has = finds.has here in
     let there = stage_is (goal.at.push-requires c).After-is_partial ∙ c.if-not-is_partial.false in
-    let one = once_some (is_partial ((files_at here)
-    c.args.id).stage) (count_by (λ m. eqb m c.args.id) (own_at here).partial)
-    (has.own.partial_once c.args.id) there in
     let own = ap (λ (o : CustomerFiles). length o.whole) (own_same (goal.at.push-requires c).After-index_mut-own) in
-    omega (
-      arith,
-      own,
-      one,
-      count_by-le-length (λ m. eqb m c.args.id)
-          (own_at here).partial,
-      has.own.sound.within_limit,
-      has.own.sound.files_limit,
-      length-map (own_at here).whole
-          (whole_file (files_at here)),
-      length-map
-          (own_at here).partial
-          (partial_file (files_at here)),
-    )
+    omega (arith, own, finds.whole_few here there)
 
 -- what the customer has then
 abbrev now : After-set → CustomerFiles
