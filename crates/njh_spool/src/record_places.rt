@@ -23,7 +23,13 @@ pub struct Head {
 }
 
 /// Reads the head of the record at a place. `into` is room for it.
-fn read_head(store: &Store, at: u32, slot: &FileSlot, from: RecordPlace, into: &mut Record) -> Head
+pub fn read_head(
+    store: &Store,
+    at: u32,
+    slot: &FileSlot,
+    from: RecordPlace,
+    into: &mut Record,
+) -> Head
     requires range { at < length store.now.chains }
     requires file { IsFile slot.now (chain_at at store.now) }
     requires place { IsPlace (unpacked_records slot.now.count (chain_at at store.now).bytes)

@@ -2,6 +2,7 @@
 
 mod partial;
 mod reads;
+mod srcbs;
 mod whole;
 
 ghost use Rattle.std.specs.Prelude.{◌≡◌, ℕ, ◌+◌, ◌*◌, ◌<◌, ◌≤◌, length, map, IfOk, IsOkUnless, IsSomeAnd, All, Some};
