@@ -6,3 +6,4 @@ mod ReplyLaws
 mod WalkLaws
 mod CommandMoves
 mod RerouteNodes
+mod LookingLaws

@@ -10,7 +10,7 @@ ghost use Rattle.njh_spool.specs.CustomerSpool.{rewritten_record};
 ghost use Rattle.njh_spool.specs.Headers.{summary};
 ghost use Rattle.njh_spool.specs.Spools.{spool_at};
 ghost use Rattle.njh_command.specs.Commands as commands;
-ghost use Rattle.njh_command.specs.Files.{file_at, with_file, with_records, without_at};
+ghost use Rattle.njh_command.specs.Files.{file_at, stored_at, with_file, with_records, without_at};
 
 use njh_record::{Kind, Record};
 use njh_spool::{FileId, FileSummary, Spool, State};
@@ -86,6 +86,18 @@ pub(crate) fn read_record(
 {
     let file = number_of(spool, customer, index);
     spool.read_on(customer, file, n, into).unwrap_or(0)
+}
+
+/// The SRCB of the file's n-th record. The next record is read on from there.
+pub(crate) fn read_srcb(spool: &mut Spool, customer: u16, index: u32, n: u32) -> u8
+    requires range { customer < length spool.old }
+    requires within { index < length (spool_at customer spool.old).whole }
+    requires known { n < length (file_at index (spool_at customer spool.old)).records }
+    ensures srcb { result ≡ (stored_at n (file_at index (spool_at customer spool.old)).records).srcb }
+    ensures same { spool.new ≡ spool.old }
+{
+    let file = number_of(spool, customer, index);
+    spool.srcb_on(customer, file, n).unwrap_or(0)
 }
 
 /// Writes eight bytes over those from a place on of the file's n-th record.

@@ -4,11 +4,14 @@ ghost use Rattle.std.specs.Prelude.{◌≡◌, ◌<◌, length, slice_set, None}
 ghost use Rattle.njh_spool.specs.Spools.{spool_at};
 ghost use Rattle.njh_header.specs.Redirecting.{records_to_node};
 ghost use Rattle.njh_command.specs.Commands.{with_new_destination, state_after_reroute, file_in_state};
+ghost use Rattle.njh_command.specs.code.Looking.{looked_at, may_name};
 ghost use Rattle.njh_command.specs.Files.{file_at, stored_at, with_file, with_records, with_redirected};
 
-use crate::files::{count_records, kind_of, read_record, rewrite_record, set_state, state_of};
+use crate::files::{
+    count_records, kind_of, read_record, read_srcb, rewrite_record, set_state, state_of,
+};
 use njh_ebcdic::Name;
-use njh_header::{destination_place, redirected_by_records};
+use njh_header::{destination_place, redirected_by_records, srcb};
 use njh_record::{Kind, Record};
 use njh_spool::{Spool, State};
 
@@ -32,7 +35,7 @@ pub(crate) fn reroute(node: Name, spool: &mut Spool, customer: u16, index: u32)
     try_again(spool, customer, index);
 }
 
-/// The headers of the file at a place name another node. Each of its records is read once, in order.
+/// The headers of the file at a place name another node. Each record is gone past by its SRCB, in order.
 fn redirect(node: Name, spool: &mut Spool, customer: u16, index: u32)
     requires range { customer < length spool.old }
     requires within { index < length (spool_at customer spool.old).whole }
@@ -44,13 +47,27 @@ fn redirect(node: Name, spool: &mut Spool, customer: u16, index: u32)
     let kind = kind_of(spool, customer, index);
     let to = Redirection { kind, node };
     let mut before = None;
-    for n in 0..count_records(spool, customer, index) {
-        before = Some(redirect_record(&to, before, spool, customer, index, n));
+    for n in 0..count_looked_at(kind, spool, customer, index) {
+        before = Some(redirect_by_srcb(&to, before, spool, customer, index, n));
     }
 }
 
-/// The n-th record of the file at a place names another node, where it names one. It gives the record's SRCB.
-fn redirect_record(
+/// How many of the file's records are looked at: of a job's file its first, of an output file all.
+fn count_looked_at(kind: Kind, spool: &Spool, customer: u16, index: u32) -> u32
+    requires range { customer < length spool.now }
+    requires within { index < length (spool_at customer spool.now).whole }
+    ensures { result ≡ looked_at kind (length (file_at index (spool_at customer spool.now)).records) }
+{
+    match (kind, count_records(spool, customer, index)) {
+        (Kind::In, 0) => 0,
+        (Kind::In, _) => 1,
+        (Kind::Out, count) => count,
+    }
+}
+
+/// The n-th record of the file at a place names another node, where it names one. It gives the record's SRCB, and
+/// reads the record itself only where its SRCB is that of such a header.
+fn redirect_by_srcb(
     to: &Redirection,
     before: Option<u8>,
     spool: &mut Spool,
@@ -67,12 +84,46 @@ fn redirect_record(
         (file_at index (spool_at customer spool.old)).records)
         (file_at index (spool_at customer spool.old))) (spool_at customer spool.old)) }
 {
+    let srcb = read_srcb(spool, customer, index, n);
+    if may_name_node(to.kind, before, srcb) {
+        redirect_record(to, before, spool, customer, index, n);
+    }
+    srcb
+}
+
+/// Whether a record may name the file's destination, by its SRCB and that of the record before it.
+fn may_name_node(kind: Kind, before: Option<u8>, srcb: u8) -> bool
+    ensures { result ≡ may_name kind before srcb }
+{
+    match (kind, before) {
+        (Kind::In, None) => true,
+        (Kind::In, Some(_)) | (Kind::Out, Some(srcb::DATA_SET_HEADER)) => false,
+        (Kind::Out, _) => srcb == srcb::DATA_SET_HEADER,
+    }
+}
+
+/// The n-th record of the file at a place names another node, where it names one.
+fn redirect_record(
+    to: &Redirection,
+    before: Option<u8>,
+    spool: &mut Spool,
+    customer: u16,
+    index: u32,
+    n: u32,
+)
+    requires range { customer < length spool.old }
+    requires within { index < length (spool_at customer spool.old).whole }
+    requires known { n < length (file_at index (spool_at customer spool.old)).records }
+    ensures spool { spool.new ≡ slice_set spool.old customer (with_file index
+        (with_records (with_redirected to.now.kind before to.now.node n
+        (file_at index (spool_at customer spool.old)).records)
+        (file_at index (spool_at customer spool.old))) (spool_at customer spool.old)) }
+{
     let mut record = Record::new();
     let srcb = read_record(spool, customer, index, n, &mut record);
     if let Some(place) = destination_place(to.kind, before, srcb, &record) {
         rewrite_record(spool, customer, index, n, place, to.node.bytes());
     }
-    srcb
 }
 
 /// The file at a place is Ready where it was Refused.

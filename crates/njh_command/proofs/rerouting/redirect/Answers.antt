@@ -1,13 +1,15 @@
 -- One record more of the file.
 use Rattle.std.proofs.Common.{◌≡◌, ◌<◌, ◌+◌, ℕ, List, Option, None, Some, length, slice_set, sym, ap, ap₂, subst, ◌∙◌}
-use Rattle.std.proofs.Common.{add-one}
+use Rattle.std.proofs.Common.{add-one, arith}
 use Rattle.njh_record.specs.Stored.{Stored}
 use Rattle.njh_record.specs.declared.Kind.{Kind}
 use Rattle.njh_spool.specs.CustomerSpool.{CustomerSpool, WholeFile}
 use Rattle.njh_spool.specs.Spools.{spool_at}
 use Rattle.njh_command.specs.Files.{file_at, stored_at, with_file, with_records, with_redirected}
+use Rattle.njh_command.specs.code.Looking.{looked_at}
 use Rattle.njh_command.proofs.UpTo.{redirected_up_to, srcb_before}
 use Rattle.njh_command.proofs.RecordLaws.{as_long, not_yet, one_more}
+use Rattle.njh_command.proofs.LookingLaws.{looked_within, all_looked_at}
 use Rattle.njh_command.proofs.WalkLaws.{part_of, file_is, file_twice, moved_twice}
 use Rattle.njh_command.proofs.rerouting.redirect.Goals as goal
 
@@ -42,11 +44,12 @@ stepped kind before node i n s within inside kind_is before_is =
     ∙ one_more (file_at i s).kind node n (file_at i s).records inside
     ∙ ap (λ (m : ℕ). redirected_up_to (file_at i s).kind node m (file_at i s).records) (sym (add-one n)))
 
-pub redirect_record-requires-clause-known : goal.redirect_record-requires-clause-known
-redirect_record-requires-clause-known c =
+pub redirect_by_srcb-requires-clause-known : goal.redirect_by_srcb-requires-clause-known
+redirect_by_srcb-requires-clause-known c =
     let s = spool_at c.args.customer c.args.spool.now in
     let f = file_at c.args.index s in
-    let inside : c.loop-n.n < length f.records = subst (λ (m : ℕ). c.loop-n.n < m) c.count_records-n-end.ensures c.loop-n-test.true in
+    let inside : c.loop-n.n < length f.records = looked_within c.kind_of-kind.result c.loop-n.n (length f.records) (subst (λ (m : ℕ). c.loop-n.n < m)
+    c.count_looked_at-n-end.ensures c.loop-n-test.true) in
     subst (λ (m : ℕ). c.loop-n.n < m) (sym (as_long f.kind None c.args.node c.loop-n.n f.records)
     ∙ sym (ap (λ (x : WholeFile). length x.records) (known c.args.spool.now c.loop-n.spool c.args.customer c.args.index c.loop-n.n
     c.args.node
@@ -56,21 +59,35 @@ pub loop-n-preserved : goal.loop-n-preserved
 loop-n-preserved c =
     let s = spool_at c.args.customer c.args.spool.now in
     let f = file_at c.args.index s in
-    let inside : c.loop-n.n < length f.records = subst (λ (m : ℕ). c.loop-n.n < m) c.count_records-n-end.ensures c.loop-n-test.true in
+    let inside : c.loop-n.n < length f.records = looked_within c.kind_of-kind.result c.loop-n.n (length f.records) (subst (λ (m : ℕ). c.loop-n.n < m)
+    c.count_looked_at-n-end.ensures c.loop-n-test.true) in
     record {
       before =
-          ap Some (c.redirect_record.ensures.srcb
+          ap Some (c.redirect_by_srcb.ensures.srcb
           ∙ ap (λ (x : WholeFile). (stored_at c.loop-n.n x.records).srcb) (known c.args.spool.now c.loop-n.spool c.args.customer
           c.args.index c.loop-n.n
           c.args.node c.requires.range c.requires.within inside c.loop-n.invariant.spool)
           ∙ ap (λ (r : Stored). r.srcb) (not_yet f.kind c.args.node c.loop-n.n f.records inside))
           ∙ ap (λ (m : ℕ). srcb_before m f.records) (sym (add-one c.loop-n.n));
       spool =
-          moved_twice c.args.spool.now c.loop-n.spool c.redirect_record.new.spool c.args.customer
+          moved_twice c.args.spool.now c.loop-n.spool c.redirect_by_srcb.new.spool c.args.customer
           (with_file c.args.index (so_far c.args.node c.loop-n.n f) s)
           (step c.kind_of-kind.result c.loop-n.before c.args.node c.args.index c.loop-n.n)
-          c.requires.range c.loop-n.invariant.spool c.redirect_record.ensures.spool
+          c.requires.range c.loop-n.invariant.spool c.redirect_by_srcb.ensures.spool
           ∙ ap (slice_set c.args.spool.now c.args.customer) (stepped c.kind_of-kind.result c.loop-n.before c.args.node c.args.index
           c.loop-n.n s
           c.requires.within inside c.kind_of-kind.ensures c.loop-n.invariant.before);
     }
+
+pub returns : goal.returns
+returns c =
+    let s = spool_at c.args.customer c.args.spool.now in
+    let f = file_at c.args.index s in
+    let ended : c.loop-n.n ≡ c.count_looked_at-n-end.result = omega (arith, c.loop-n.auto.n-end, c.loop-n-test.false) in
+    let all : c.loop-n.n ≡ looked_at f.kind (length f.records) =
+    ended ∙ c.count_looked_at-n-end.ensures
+    ∙ ap (λ (k : Kind). looked_at k (length f.records)) c.kind_of-kind.ensures in
+    c.loop-n.invariant.spool
+    ∙ ap (λ (records : List Stored). slice_set c.args.spool.now c.args.customer (with_file c.args.index (with_records records f) s))
+    (ap (λ (n : ℕ). redirected_up_to f.kind c.args.node n f.records) all
+    ∙ all_looked_at f.kind c.args.node f.records)

@@ -5,37 +5,34 @@ use Rattle.njh_spool.specs.CustomerSpool.{WholeFile}
 use Rattle.njh_spool.specs.Spools.{spool_at}
 use Rattle.njh_header.specs.Redirecting.{destination_place}
 use Rattle.njh_command.specs.Files.{file_at, with_file, with_records}
-use Rattle.njh_command.proofs.RecordLaws.{record_is, redirected_here, redirected_nowhere}
+use Rattle.njh_command.proofs.RecordLaws.{redirected_here, redirected_nowhere}
 use Rattle.njh_command.proofs.WalkLaws.{unmoved, same_file}
 use Rattle.njh_command.proofs.rerouting.redirect_record.Goals as goal
 
-pub returns-in-Some-clause-spool : goal.returns-in-Some-clause-spool
-returns-in-Some-clause-spool c =
+pub returns-in-Some : goal.returns-in-Some
+returns-in-Some c =
     let r : Stored = record { srcb = c.read_record-srcb.result; bytes = c.read_record-srcb.new.into.items } in
     let of : List ℕ → Stored = λ (b : List ℕ). record { srcb = c.read_record-srcb.result; bytes = b } in
     let e = redirected_here c.args.to.now.kind c.args.before c.args.to.now.node c.args.n c.in-Some.place
     (file_at c.args.index (spool_at c.args.customer c.args.spool.now)).records r c.read_record-srcb.ensures.record
     (ap (λ b. destination_place c.args.to.now.kind c.args.before (of b)) (sym c.deref.ensures.0) ∙ sym c.destination_place.ensures.place ∙
     c.in-Some.is) in
-    cc (e, c.rewrite_record.ensures, c.read_record-srcb.ensures.same, c.bytes.ensures.same)
+    record { spool = cc (e, c.rewrite_record.ensures, c.read_record-srcb.ensures.same, c.bytes.ensures.same) }
 
-pub returns-in_default-clause-srcb : goal.returns-in_default-clause-srcb
-returns-in_default-clause-srcb c =
-    let r : Stored = record { srcb = c.read_record-srcb.result; bytes = c.read_record-srcb.new.into.items } in
-    sym (ap (λ x. x.srcb) (record_is (file_at c.args.index (spool_at c.args.customer c.args.spool.now)).records c.args.n r
-    c.read_record-srcb.ensures.record))
-
-pub returns-in_default-clause-spool : goal.returns-in_default-clause-spool
-returns-in_default-clause-spool c =
+pub returns-in_default : goal.returns-in_default
+returns-in_default c =
     let r : Stored = record { srcb = c.read_record-srcb.result; bytes = c.read_record-srcb.new.into.items } in
     let of : List ℕ → Stored = λ (b : List ℕ). record { srcb = c.read_record-srcb.result; bytes = b } in
     let f : WholeFile = file_at c.args.index (spool_at c.args.customer c.args.spool.now) in
     let e = redirected_nowhere c.args.to.now.kind c.args.before c.args.to.now.node c.args.n f.records r c.read_record-srcb.ensures.record
     (ap (λ b. destination_place c.args.to.now.kind c.args.before (of b)) (sym c.deref.ensures.0) ∙ sym c.destination_place.ensures.place ∙
     c.in_default.is) in
-    c.read_record-srcb.ensures.same
-    ∙ unmoved c.args.spool.now c.args.customer
-    ∙ ap (slice_set c.args.spool.now c.args.customer) (
-    same_file (spool_at c.args.customer c.args.spool.now) c.args.index
-    ∙ ap (λ records. with_file c.args.index (with_records records f) (spool_at c.args.customer c.args.spool.now)) e
-    )
+    record {
+      spool =
+          c.read_record-srcb.ensures.same
+          ∙ unmoved c.args.spool.now c.args.customer
+          ∙ ap (slice_set c.args.spool.now c.args.customer) (
+          same_file (spool_at c.args.customer c.args.spool.now) c.args.index
+          ∙ ap (λ records. with_file c.args.index (with_records records f) (spool_at c.args.customer c.args.spool.now)) e
+          );
+    }
