@@ -1,6 +1,6 @@
 -- The parts that a table, the files of all customers and their lines make.
-use Rattle.std.proofs.Common.{◌≡◌, ◌≢◌, ℕ, eqb, true, false, ◌<◌, ◌≤◌, List, length, set, get_or, slice_set, refl, ap}
-use Rattle.std.proofs.Common.{ap₂, sym, subst, ◌∙◌, ⊎_elim, arith}
+use Rattle.std.proofs.Common.{◌≡◌, ◌≢◌, ℕ, zero, suc, eqb, true, false, ◌<◌, ◌≤◌, List, length, set, get_or, slice_set, refl, ap}
+use Rattle.std.proofs.Common.{ap₂, sym, subst, ◌∙◌, ⊎_elim, [], ◌∷◌, arith}
 use Rattle.std.proofs.lemmas.List.{get_or_read, get_or_past, get_or-set_same, get_or-set_other, length-set, ext_get_or}
 use Rattle.std.proofs.lemmas.List.FromFn.{length-map-range_with_len, get_or-map-range_with_len}
 use Rattle.std.proofs.lemmas.Bool.{cases_lt}
@@ -144,6 +144,13 @@ pub customer-known : (table : TableFile) (files : List CustomerSpool) (lines : L
     → parts_of table files lines ≡ parts → c < length table.customers → c < length parts
 customer-known table files lines parts c are there =
     omega (arith, there, length-parts_of table files lines, ap (λ (ps : List Part). length ps) are)
+
+-- a customer that has a file is one of the hub's
+pub whole-there : (parts : List Part) (c i : ℕ) → i < length (part c parts).customer.spool.whole → c < length parts
+whole-there [] zero i within = absurd (omega (arith, within))
+whole-there [] (suc c) i within = absurd (omega (arith, within))
+whole-there (p ∷ parts) zero i within = omega arith
+whole-there (p ∷ parts) (suc c) i within = omega (arith, whole-there parts c i within)
 
 pub entry-there : (table : TableFile) (files : List CustomerSpool) (lines : List Lines) (parts : List Part) (c : ℕ)
     → parts_of table files lines ≡ parts → c < length table.customers → (part c parts).customer.entry ≡ entry_of (customer_at table c)

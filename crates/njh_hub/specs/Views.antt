@@ -3,7 +3,9 @@ use Rattle.std.specs.Prelude.{◌≡◌, ℕ, List, length, Option}
 use Rattle.njh_header.specs.FileHeaders.{name_of, file_owner, destination_of}
 use Rattle.njh_line.specs.declared.Phase.TheVariants.{Down}
 use Rattle.njh_line.specs.declared.session.Session.{Session}
+use Rattle.njh_spool.specs.declared.file_headers.FileSummary.{FileSummary}
 use Rattle.njh_spool.specs.CustomerSpool.{WholeFile, cost, whole_numbered}
+use Rattle.njh_texts.specs.Texts.{file_text}
 use Rattle.njh_table.specs.declared.LineId.{LineId}
 use Rattle.njh_customer.specs.Customer.{CustomerLine, line_at}
 use Rattle.njh_hub.specs.declared.file_summary.FileSummaryView.{FileSummaryView}
@@ -37,3 +39,19 @@ file_summary f = record {
   records = length f.records;
   blocks = cost f.records;
 }
+
+-- the same by what the spool knows of the file and of its blocks
+abbrev pub view_of_summary : FileSummary → ℕ → FileSummaryView
+view_of_summary s blocks = record {
+  name = s.headers.name;
+  owner = s.headers.owner;
+  destination = s.headers.destination;
+  kind = s.kind;
+  state = s.state;
+  records = s.records;
+  blocks = blocks;
+}
+
+-- what NJH001 says of a file, behind its number
+abbrev pub summary_line : FileSummaryView → List ℕ
+summary_line f = file_text f.name f.destination f.kind f.records f.state

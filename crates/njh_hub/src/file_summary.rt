@@ -1,14 +1,17 @@
 //! What is shown of a whole file without its records.
 
-ghost use Rattle.std.specs.Prelude.{◌≡◌, ◌<◌, length};
+ghost use Rattle.std.specs.Prelude.{◌≡◌, ◌<◌, ◌≤◌, length};
 ghost use Rattle.std.specs.Option.{option_map};
+ghost use Rattle.njh_command.specs.Files.{file_at};
 ghost use Rattle.njh_spool.specs.CustomerSpool.{whole_numbered};
 ghost use Rattle.njh_spool.specs.Spools.{spool_at};
-ghost use Rattle.njh_hub.specs.Views.{file_summary};
+ghost use Rattle.njh_hub.specs.Views.{file_summary, summary_line, view_of_summary};
 
+use njh_command::number_of;
 use njh_header::{Destination, FileName, User};
 use njh_record::Kind;
-use njh_spool::{FileId, Spool, State};
+use njh_spool::{FileId, FileSummary, Spool, State};
+use njh_texts::{MessageText, file_text};
 
 /// A whole file, as it is shown without its records.
 ///
@@ -31,6 +34,37 @@ pub struct FileSummaryView {
     pub blocks: u32,
 }
 
+impl FileSummaryView {
+    /// What is known of a file, and how many blocks it takes.
+    fn of(summary: &FileSummary, blocks: u32) -> FileSummaryView
+        ensures { result ≡ view_of_summary summary.now blocks }
+    {
+        FileSummaryView {
+            name: summary.headers.name,
+            owner: summary.headers.owner,
+            destination: summary.headers.destination,
+            kind: summary.kind,
+            state: summary.state,
+            records: summary.records,
+            blocks,
+        }
+    }
+
+    /// What NJH001 says of it behind its number, in EBCDIC.
+    pub fn line(&self) -> MessageText
+        ensures text { result.items ≡ summary_line self.now }
+        ensures few { length result.items ≤ 72 }
+    {
+        file_text(
+            self.name,
+            self.destination,
+            self.kind,
+            self.records,
+            self.state,
+        )
+    }
+}
+
 /// What is shown of a customer's whole file; none where the number is no whole file's.
 pub(crate) fn file_summary(spool: &Spool, customer: u16, file: FileId) -> Option<FileSummaryView>
     requires { customer < length spool.now }
@@ -47,4 +81,16 @@ pub(crate) fn file_summary(spool: &Spool, customer: u16, file: FileId) -> Option
         records: summary.records,
         blocks,
     })
+}
+
+/// What is shown of a customer's whole file, by its index in order of arrival.
+pub(crate) fn summary_at(spool: &Spool, customer: u16, index: u32) -> FileSummaryView
+    requires range { customer < length spool.now }
+    requires within { index < length (spool_at customer spool.now).whole }
+    ensures { result ≡ file_summary (file_at index (spool_at customer spool.now)) }
+{
+    let summary = spool.summary_at(customer, index);
+    let file = number_of(spool, customer, index);
+    let blocks = spool.blocks(customer, file).unwrap_or(0);
+    FileSummaryView::of(&summary, blocks)
 }

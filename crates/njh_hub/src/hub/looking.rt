@@ -2,12 +2,13 @@
 
 ghost use Rattle.std.specs.Prelude.{◌≡◌, ◌<◌, ◌↔◌, length, IsTrue, IfOk, IsOk, OnErr, Err};
 ghost use Rattle.std.specs.Option.{option_map};
+ghost use Rattle.njh_command.specs.Files.{file_at};
 ghost use Rattle.njh_customer.specs.Customer.{IsMarked};
 ghost use Rattle.njh_hub.specs.Views.{HasGivenUp, whole_file_on, file_summary, hub_line, session_view};
 ghost use Rattle.njh_hub.specs.WholeHub.{part, HasLine};
 
 use crate::fault::HubFault;
-use crate::file_summary::{FileSummaryView, file_summary};
+use crate::file_summary::{FileSummaryView, file_summary, summary_at};
 use crate::hub::Hub;
 use crate::session_view::SessionView;
 use njh_customer::Lines;
@@ -105,6 +106,24 @@ impl Hub {
             return None;
         }
         file_summary(&self.shared.spool, customer, file)
+    }
+
+    /// How many whole files a customer has; none where the hub has no such customer.
+    pub fn file_count(&self, customer: u16) -> u32
+        ensures { result ≡ length (part customer self.now).customer.spool.whole }
+    {
+        if usize::from(customer) >= self.lines.len() {
+            return 0;
+        }
+        self.shared.spool.files(customer)
+    }
+
+    /// A customer's whole file without its records, by its index in order of arrival, from 0 on.
+    pub fn summary_at(&self, customer: u16, index: u32) -> FileSummaryView
+        requires { index < length (part customer self.now).customer.spool.whole }
+        ensures { result ≡ file_summary (file_at index (part customer self.now).customer.spool) }
+    {
+        summary_at(&self.shared.spool, customer, index)
     }
 
     /// How many blocks a customer's files may take. `UnknownCustomer` comes where the hub has no such customer.
