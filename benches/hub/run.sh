@@ -87,4 +87,7 @@ waiting
 printf '%-9s %12s %12s %12s\n' 'one event' 'of 1,024' 'of 512' '512 left'
 beside
 echo "an event of 512 new routes: $(event routes 20000 60000) instructions"
+for kind in job output; do
+  echo "REROUTE of one $kind file of 3,000 cards: $(event "reroute-$kind" 520000 540000) instructions"
+done
 starting 2>&1

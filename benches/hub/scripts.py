@@ -6,7 +6,7 @@ that are asked for, to within a line. Of the row `largest` there is a table file
 """
 import sys
 
-ROWS = ["cards", "commands", "mixed", "empty", "ignored", "waiting", "routes"]
+ROWS = ["cards", "commands", "mixed", "empty", "ignored", "waiting", "routes", "reroute-job", "reroute-output"]
 
 # The rows of which the cost of one event is asked for, beside the files of one user: for a line that is down, all of
 # those that a customer may have, or half of them, or what is left where every other one was removed.
@@ -14,6 +14,9 @@ BESIDE = ["all", "half", "left"]
 
 # How many files wait for a line that is down, in the row `waiting`.
 WAITING = 1024
+
+# How many cards the one file has that REROUTE is for, in `reroute-job` and `reroute-output`.
+REROUTED = 3000
 
 LETTERS = {"@": 0x7C, "#": 0x7B, "$": 0x5B, " ": 0x40, ".": 0x4B}
 LETTERS.update({chr(65 + n): 0xC1 + n for n in range(9)})
@@ -23,8 +26,9 @@ LETTERS.update({chr(48 + n): 0xF0 + n for n in range(10)})
 
 QUOTA = 2000
 
-HEADER, CARD, TRAILER = 0xC0, 0x80, 0xD0
+HEADER, DATA_SET, CARD, TRAILER = 0xC0, 0xE0, 0x80, 0xD0
 SYSIN = [0x98, 0xA8, 0xB8, 0xC8]
+SYSOUT = 0x99
 MESSAGE = 0x9A
 
 
@@ -73,6 +77,10 @@ def job_header(number, origin, user, node):
     section = bytes([0, 0x60, 0, 0]) + number.to_bytes(2, "big") + bytes(18) + name("PAYROLL") + name(user)
     section += bytes(24) + name(origin) + name(user) + name(node) + name("")
     return bytes([0, 0x64, 0, 0]) + section
+
+
+def data_set_header(node, user):
+    return bytes([0, 0x18, 0, 0, 0, 0x14, 0, 0]) + name(node) + name(user)
 
 
 def card(number):
@@ -184,6 +192,22 @@ def stored(line, user, node, count):
     return list(blocks(line, records))
 
 
+def long_file(line, stream):
+    """One file of many cards for METZ, a job on SYSIN 1, or output on SYSOUT 1."""
+    records = [bytes([0x90, stream, 0]), spelled(stream, HEADER, job_header(1, line.node, "ANNA", "METZ"))]
+    if stream == SYSOUT:
+        records.append(spelled(stream, DATA_SET, data_set_header("METZ", "")))
+    records += [spelled(stream, CARD, card(n)) for n in range(REROUTED)]
+    return list(blocks(line, records + [spelled(stream, TRAILER, bytes([0, 4, 0, 0])), spelled(stream, CARD, b"")]))
+
+
+def reroutes(line):
+    """REROUTE of that file to one node and to another in turn, each of a line that is down."""
+    while True:
+        for node in ["PARIS", "NICE"]:
+            yield line.block(message("BUREAU", "ANNA", "LYON", f"REROUTE LYON.1 {node}"))
+
+
 def new_routes(lines):
     """The most routes that a customer may be given, again and again."""
     while True:
@@ -283,6 +307,9 @@ def script(row):
         return one, a[0].sign_on() + stored(a[0], "ANNA", "METZ", WAITING), empty(a[0])
     if row == "routes":
         return one, [], new_routes(a)
+    if row in ["reroute-job", "reroute-output"]:
+        stream = SYSIN[0] if row == "reroute-job" else SYSOUT
+        return one, a[0].sign_on() + long_file(a[0], stream), reroutes(a[0])
     what, _, which = row.partition("-")
     if what in ["block", "list", "hold"] and which in BESIDE:
         return one, beside(a, which), one_event(a[0], what)
