@@ -7,8 +7,8 @@ use njh_hub::HubFault;
 use std::alloc::Global;
 use std::io::{ErrorKind, Read};
 
-/// How many bytes are asked for at once.
-const PIECE: usize = 4096;
+/// How many bytes are asked for at once: 64 kB.
+const PIECE: usize = 65_536;
 
 /// All that a reader has left, which is at most so many bytes.
 ///

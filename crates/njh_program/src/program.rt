@@ -20,6 +20,9 @@ use std::process::ExitCode;
 use std::rt::{Clock, Env, Files};
 use std::{env, io};
 
+/// How many bytes are written at once, at most: 64 kB.
+const WRITTEN_AT_ONCE: usize = 65_536;
+
 /// Runs the program, and answers the status to end with. Why it failed, if it did, goes to `errors`.
 pub fn run<R: Env + Files + Net + Clock + Input + Print + AllocGlobal, E: Print>(
     rt: &R,
@@ -50,7 +53,7 @@ fn outcome_of<R: Env + Files + Net + Clock + Input + Print + AllocGlobal, E: Pri
     errors: &E,
 ) -> Result<(), Failure> {
     let arguments = arguments_of(rt)?;
-    let mut out = BufWriter::new(rt.alloc(), io::writer(rt))?;
+    let mut out = BufWriter::with_capacity(rt.alloc(), WRITTEN_AT_ONCE, io::writer(rt))?;
     let log = StandardError::new(errors);
     carry_out(rt, &arguments, &mut rt.reader(), &mut out, log)
 }
