@@ -1,6 +1,6 @@
 -- The lines of files, one after another.
 use Rattle.std.proofs.Common.{◌≡◌, ◌+◌, ◌<◌, ◌≤◌, ℕ, zero, suc, true, List, [], ◌∷◌, ◌++◌, length, get_or, take, drop}
-use Rattle.std.proofs.Common.{Option, Some, refl, sym, ap, ◌∙◌, append_assoc, append-nil, arith, length-take, ltb}
+use Rattle.std.proofs.Common.{Option, Some, refl, sym, ap, ◌∙◌, append_assoc, append-nil, arith, map, ltb}
 use Rattle.std.proofs.Common.{ltb-true, eqb, find, unwrap_or}
 use Rattle.std.specs.List.{flat_map, list_all}
 use Rattle.std.specs.Option.{option_map}
@@ -8,10 +8,12 @@ use Rattle.std.specs.Io.KnownBytes.{Appends}
 use Rattle.std.proofs.KnownBytes.{Appends-trans}
 use Rattle.std.proofs.lemmas.Bool.{and_parts, cond_both}
 use Rattle.njh_ebcdic.specs.Characters.{character_of, printed_character, table}
+use Rattle.njh_spool.specs.CustomerSpool.{WholeFile}
 use Rattle.njh_hub.specs.declared.event.Event.{Event}
-use Rattle.njh_hub.specs.Files.{files_at, files_of}
+use Rattle.njh_hub.specs.Files.{files_at, files_of, view_of_file}
+use Rattle.njh_hub.specs.Views.{file_summary}
 use Rattle.njh_hub.specs.WholeHub.{Part, hub_run}
-use Rattle.njh_program.specs.Printed.{files_from, files_text, frames_text, AppendsBeginning, IsPrintedUpTo}
+use Rattle.njh_program.specs.Printed.{file_text, files_from, files_text, frames_text, summary_text, AppendsBeginning}
 use Rattle.njh_program.specs.Replayed.{text_by, SameParts}
 use Rattle.njh_program.proofs.PrintedParts.{beginning-after}
 
@@ -30,13 +32,37 @@ unfolding character_of
 shown-ascii byte = found-ascii byte table refl
 
 -- the items before one, that one, and those behind it
-pub flat_map-split : {X : Type 0} (f : X → List ℕ) (xs : List X) (i : ℕ) (x : X) → i < length xs → x ≡ get_or xs i x
-    → flat_map f (take i xs) ++ (f x ++ flat_map f (drop (suc i) xs)) ≡ flat_map f xs
-flat_map-split f [] i x within is = absurd (omega (arith, within))
-flat_map-split f (y ∷ xs) zero x within is = ap (λ z. f z ++ flat_map f xs) is
-flat_map-split f (y ∷ xs) (suc i) x within is =
-    append_assoc (f y) (flat_map f (take i xs)) (f x ++ flat_map f (drop (suc i) xs))
-    ∙ ap (λ text. f y ++ text) (flat_map-split f xs i x (omega (arith, within)) is)
+pub flat_map-split : {X : Type 0} (f : X → List ℕ) (xs : List X) (i : ℕ) (none : X) → i < length xs
+    → flat_map f (take i xs) ++ (f (get_or xs i none) ++ flat_map f (drop (suc i) xs)) ≡ flat_map f xs
+flat_map-split f [] i none within = absurd (omega (arith, within))
+flat_map-split f (y ∷ xs) zero none within = refl
+flat_map-split f (y ∷ xs) (suc i) none within =
+    append_assoc (f y) (flat_map f (take i xs)) (f (get_or xs i none) ++ flat_map f (drop (suc i) xs))
+    ∙ ap (λ text. f y ++ text) (flat_map-split f xs i none (omega (arith, within)))
+
+-- the items before one, and that one
+pub flat_map-more : {X : Type 0} (f : X → List ℕ) (xs : List X) (i : ℕ) (none : X) → i < length xs
+    → flat_map f (take i xs) ++ f (get_or xs i none) ≡ flat_map f (take (suc i) xs)
+flat_map-more f [] i none within = absurd (omega (arith, within))
+flat_map-more f (y ∷ xs) zero none within = sym (append-nil (f y))
+flat_map-more f (y ∷ xs) (suc i) none within =
+    append_assoc (f y) (flat_map f (take i xs)) (f (get_or xs i none))
+    ∙ ap (λ text. f y ++ text) (flat_map-more f xs i none (omega (arith, within)))
+
+-- a file's line, by what is shown of it without its records
+abbrev pub line_text : List ℕ → WholeFile → List ℕ
+line_text name f = summary_text name (file_summary f)
+
+line-same : (name : List ℕ) (f : WholeFile) → line_text name f ≡ file_text name (view_of_file f)
+unfolding summary_text file_text
+line-same name f = refl
+
+pub lines-same : (name : List ℕ) (whole : List WholeFile)
+    → flat_map (line_text name) whole ≡ files_text name (map view_of_file whole)
+lines-same name [] = refl
+lines-same name (f ∷ whole) =
+    ap (λ (text : List ℕ). text ++ flat_map (line_text name) whole) (line-same name f)
+    ∙ ap (λ (text : List ℕ). file_text name (view_of_file f) ++ text) (lines-same name whole)
 
 -- the same of customers, the first of which has the number c
 pub files_from-more : (c k : ℕ) (names : List (List ℕ)) (parts : List Part) (i : ℕ) (name : List ℕ) → i < length names
@@ -89,18 +115,6 @@ module _ (names : List (List (List ℕ))) (parts after : List Part) (events : Li
   files_begun frames files =
       beginning-after a b c (frames_text names (hub_run parts events).sent) (files_from 0 shown after) [] (text_by names parts events shown)
       frames files (ap (λ text. frames_text names (hub_run parts events).sent ++ text) (append-nil (files_from 0 shown after) ∙ files-after))
-
--- but for the files of some customers
-pub up_to_printed : (names : List (List (List ℕ))) (parts after : List Part) (events : List Event) (customers : List (List ℕ))
-    (a b c : Option (List ℕ)) → SameParts (hub_run parts events).parts after (length parts) → length customers ≤ length parts
-    → Appends a b (frames_text names (hub_run parts events).sent)
-    → IsPrintedUpTo customers b c (λ before. files_from 0 before after) → IsPrintedUpTo customers a c (text_by names parts events)
-up_to_printed names parts after events customers a b c same few frames files = (
-  files.0,
-  files.1,
-  all_printed names parts after events (take files.0 customers) a b c same
-      (omega (arith, few, length-take files.0 customers)) frames files.2,
-)
 
 pub frames_begun : (names : List (List (List ℕ))) (parts : List Part) (events : List Event) (shown : List (List ℕ)) (a b : Option (List ℕ))
     → AppendsBeginning a b (frames_text names (hub_run parts events).sent) → AppendsBeginning a b (text_by names parts events shown)

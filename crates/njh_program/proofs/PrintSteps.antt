@@ -1,7 +1,7 @@
 -- What steps that print have done, one after another.
 use Rattle.std.proofs.Common.{◌≡◌, ℕ, List, map, Option, ◌⊎◌, inl, inr, sym, subst, ◌∙◌}
 use Rattle.std.specs.Prelude.{Result, Ok, Err, IsErrAnd, OnOk, OnErr}
-use Rattle.std.specs.Io.KnownBytes.{Appends, Keeps}
+use Rattle.std.specs.Io.KnownBytes.{Keeps}
 use Rattle.njh_table.specs.TableFile.{TableFile}
 use Rattle.njh_hub.specs.declared.event.Event.{Event}
 use Rattle.njh_hub.specs.declared.fault.HubFault.TheVariants.{Memory}
@@ -11,8 +11,8 @@ use Rattle.njh_program.specs.LineNames.{customers_of, names_of}
 use Rattle.njh_program.specs.declared.fault.ReplayFault.{ReplayFault}
 use Rattle.njh_program.specs.declared.fault.ReplayFault.TheVariants.{Hub}
 use Rattle.njh_program.specs.Printed.{AppendsBeginning}
-use Rattle.njh_program.specs.Replayed.{text_by, text_of_run, HasScript, IsBegun, IsReplayed, IsReplayedToRoutes, IsReplayedUpTo}
-use Rattle.njh_program.specs.Replayed.{IsTextShort, MayStop, Prints}
+use Rattle.njh_program.specs.Replayed.{text_by, text_of_run, HasScript, IsBegun, IsReplayed, IsReplayedToRoutes, IsRunShort}
+use Rattle.njh_program.specs.Replayed.{MayStop, Prints}
 
 -- a step that a fault stopped
 pub prints_stopped : {A : Type 0} (r : Result A ReplayFault) (fault : ReplayFault) (old new : Option (List ℕ)) (text : List ℕ)
@@ -25,18 +25,18 @@ prints_stopped (Err e) fault old new text short same begun may memory =
 -- what a run over events of a hub of these tables, which was just opened, prints with the customers' files
 abbrev pub PrintsRun : {A : Type 0} → TableFile → List Event → Result A ReplayFault → (old new : Option (List ℕ)) → Type 0
 PrintsRun t events r old new =
-    Prints r old new (text_of_run t events) (IsTextShort (names_of t) (map part_at_open (entries_of t)) events (customers_of t))
+    Prints r old new (text_of_run t events) (IsRunShort (names_of t) (map part_at_open (entries_of t)) events)
 
 pub fresh_prints : {A : Type 0} (t : TableFile) (names : List (List (List ℕ))) (parts : List Part) (events : List Event)
     (customers : List (List ℕ)) (r : Result A ReplayFault) (old new : Option (List ℕ))
     → names ≡ names_of t → parts ≡ map part_at_open (entries_of t) → customers ≡ customers_of t
-    → Prints r old new (text_by names parts events customers) (IsTextShort names parts events customers) → PrintsRun t events r old new
+    → Prints r old new (text_by names parts events customers) (IsRunShort names parts events) → PrintsRun t events r old new
 fresh_prints t names parts events customers r old new named fresh called so =
-    let first = subst (λ ns. Prints r old new (text_by ns parts events customers) (IsTextShort ns parts events customers)) named so in
+    let first = subst (λ ns. Prints r old new (text_by ns parts events customers) (IsRunShort ns parts events)) named so in
     let second = subst (λ (ps : List Part). Prints r old new (text_by (names_of t) ps events customers)
-    (IsTextShort (names_of t) ps events customers)) fresh first in
+    (IsRunShort (names_of t) ps events)) fresh first in
     subst (λ cs. Prints r old new (text_by (names_of t) (map part_at_open (entries_of t)) events cs)
-    (IsTextShort (names_of t) (map part_at_open (entries_of t)) events cs)) called second
+    (IsRunShort (names_of t) (map part_at_open (entries_of t)) events)) called second
 
 -- what that is of a replay whose script has these events
 module _ {A : Type 0} (t : TableFile) (left old new : Option (List ℕ)) (events : List Event) (good : HasScript t left events) where
@@ -49,14 +49,11 @@ module _ {A : Type 0} (t : TableFile) (left old new : Option (List ℕ)) (events
   replayed-begun (Err e) printed = inr (events, good, printed.0)
 
   pub replayed-memory : (r : Result A ReplayFault) → PrintsRun t events r old new → r ≡ Err (Hub Memory)
-      → Keeps old new ⊎ IsReplayedToRoutes t left old new ⊎ IsReplayedUpTo t left old new
+      → Keeps old new ⊎ IsReplayedToRoutes t left old new
   replayed-memory (Ok x) printed memory = absurd (cc memory)
   replayed-memory (Err e) printed memory =
       let same : e ≡ Hub Memory = cc memory in
       elim (printed.2 same) [
         | inl kept ↦ inl kept
-        | inr later ↦ inr (elim later [
-          | inl sent ↦ inl (events, good, sent)
-          | inr files ↦ inr (events, good, files)
-        ])
+        | inr sent ↦ inr (events, good, sent)
       ]

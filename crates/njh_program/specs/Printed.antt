@@ -1,5 +1,5 @@
 -- What is printed.
-use Rattle.std.specs.Prelude.{◌≡◌, ℕ, ◌+◌, ◌<◌, List, [], ◌∷◌, ◌++◌, length, take, Option, unwrap_or}
+use Rattle.std.specs.Prelude.{◌≡◌, ℕ, ◌+◌, List, [], ◌∷◌, ◌++◌, Option, unwrap_or}
 use Rattle.std.specs.List.{flat_map}
 use Rattle.std.specs.Io.KnownBytes.{Appends}
 use Rattle.hex.specs.Hex.{encode_lower}
@@ -7,6 +7,8 @@ use Rattle.njh_table.specs.declared.LineId.{LineId}
 use Rattle.njh_ebcdic.specs.Characters.{shown_text}
 use Rattle.njh_ebcdic.specs.Names.{without_end_blanks}
 use Rattle.njh_hub.specs.Files.{FileView, files_at, printed_file_line}
+use Rattle.njh_hub.specs.Views.{summary_line}
+use Rattle.njh_hub.specs.declared.file_summary.FileSummaryView.{FileSummaryView}
 use Rattle.njh_hub.specs.WholeHub.{Part}
 use Rattle.njh_program.specs.LineNames.{name_at}
 
@@ -27,6 +29,10 @@ frames_text names (pair ∷ pairs) = pair_text names pair ++ frames_text names p
 unfoldable pub file_text : List ℕ → FileView → List ℕ
 file_text name file = shown_text (without_end_blanks name) ++ 32 ∷ [] ++ shown_text (printed_file_line file) ++ 10 ∷ []
 
+-- the same of a file as it is shown without its records
+unfoldable pub summary_text : List ℕ → FileSummaryView → List ℕ
+summary_text name file = shown_text (without_end_blanks name) ++ 32 ∷ [] ++ shown_text (summary_line file) ++ 10 ∷ []
+
 -- files of one customer
 abbrev pub files_text : List ℕ → List FileView → List ℕ
 files_text name files = flat_map (file_text name) files
@@ -39,12 +45,6 @@ files_from c (name ∷ names) parts = files_text name (files_at c parts) ++ file
 -- A beginning of this text came after what had been written, where that is known.
 abbrev pub AppendsBeginning : (old new : Option (List ℕ)) (whole : List ℕ) → Type 0
 AppendsBeginning old new whole = (text : List ℕ) × (rest : List ℕ) × (text ++ rest ≡ whole) × Appends old new text
-
--- A text with the files of customers came after what had been written, but for the files from some customer on.
-abbrev pub IsPrintedUpTo : (customers : List (List ℕ)) (old new : Option (List ℕ)) (text : List (List ℕ) → List ℕ)
-    → Type 0
-IsPrintedUpTo customers old new text =
-    (count : ℕ) × (count < length customers) × Appends old new (text (take count customers))
 
 -- The text of these frames came after what had been written; the names of the lines stayed.
 abbrev pub IsPrinted : (names later : List (List (List ℕ))) (old new : Option (List ℕ)) (pairs : List (LineId × List ℕ))

@@ -13,7 +13,7 @@ use Rattle.njh_program.specs.declared.fault.ReplayFault.{ReplayFault}
 use Rattle.njh_program.specs.declared.fault.ReplayFault.TheVariants.{TooLong, Script, Device, Hub}
 use Rattle.njh_hub.specs.declared.fault.HubFault.TheVariants.{Memory}
 use Rattle.njh_program.specs.LineNames.{customers_of, names_of}
-use Rattle.njh_program.specs.Printed.{files_from, frames_text, AppendsBeginning, IsPrintedUpTo}
+use Rattle.njh_program.specs.Printed.{files_from, frames_text, AppendsBeginning}
 use Rattle.njh_program.specs.Script.{max_script_bytes, script_of}
 
 -- what a reader has left, where that is known, is a good script of these events
@@ -36,13 +36,10 @@ abbrev pub text_by : List (List (List ℕ)) → List Part → List Event → Lis
 text_by names parts events customers =
     let x = hub_run parts events in frames_text names x.sent ++ files_from 0 customers x.parts
 
--- of a hub of these tables that was just opened
-abbrev pub text_with : TableFile → List Event → List (List ℕ) → List ℕ
-text_with tables events customers = text_by (names_of tables) (map part_at_open (entries_of tables)) events customers
-
--- with the files of all customers
+-- of a hub of these tables that was just opened, with the files of all customers
 abbrev pub text_of_run : TableFile → List Event → List ℕ
-text_of_run tables events = text_with tables events (customers_of tables)
+text_of_run tables events =
+    text_by (names_of tables) (map part_at_open (entries_of tables)) events (customers_of tables)
 
 -- the customers of numbers below a count stand alike
 abbrev pub SameParts : (parts others : List Part) → ℕ → Type 0
@@ -71,12 +68,6 @@ IsSentUpTo names parts events old new = (count : ℕ) × IsSomeAnd (slice_get ev
 abbrev pub IsReplayedToRoutes : (tables : TableFile) (left old new : Option (List ℕ)) → Type 0
 IsReplayedToRoutes tables left old new = (events : List Event) × HasScript tables left events
     × IsSentUpTo (names_of tables) (map part_at_open (entries_of tables)) events old new
-
--- A script was replayed up to a customer's files: it is a good script, and the text of the run over its events came
--- after what had been written, with the files of the customers before that one; each where that is known.
-abbrev pub IsReplayedUpTo : (tables : TableFile) (left old new : Option (List ℕ)) → Type 0
-IsReplayedUpTo tables left old new = (events : List Event) × HasScript tables left events
-    × IsPrintedUpTo (customers_of tables) old new (text_with tables events)
 
 -- the faults by which a script is refused
 abbrev pub IsRefusal : ReplayFault → Type 0
@@ -113,9 +104,3 @@ Prints (Err fault) old new text short =
 abbrev pub IsRunShort : (names : List (List (List ℕ))) (parts : List Part) (events : List Event)
     (old new : Option (List ℕ)) → Type 0
 IsRunShort names parts events old new = Keeps old new ⊎ IsSentUpTo names parts events old new
-
--- And where the files of customers are printed behind it: or the text up to the files of some customer.
-abbrev pub IsTextShort : (names : List (List (List ℕ))) (parts : List Part) (events : List Event)
-    (customers : List (List ℕ)) (old new : Option (List ℕ)) → Type 0
-IsTextShort names parts events customers old new = Keeps old new ⊎ IsSentUpTo names parts events old new
-    ⊎ IsPrintedUpTo customers old new (text_by names parts events)

@@ -1,9 +1,10 @@
 //! Why a replay ends early.
 
 ghost use Rattle.std.specs.Prelude.{◌≡◌};
-ghost use Rattle.njh_program.specs.declared.fault.ReplayFault.TheVariants.{Hub};
+ghost use Rattle.njh_program.specs.declared.fault.ReplayFault.TheVariants.{Device, Hub};
 ghost use Rattle.njh_hub.specs.declared.fault.HubFault.TheVariants.{Memory};
 
+use crate::print::WriteFault;
 use njh_hub::HubFault;
 use std::alloc::{AllocError, AllocFailed};
 use thiserror::Error;
@@ -12,7 +13,7 @@ use thiserror::Error;
 ///
 /// `TooLong` comes before `Script`, and nothing was written then. After `Device` a beginning of the whole output was
 /// written, or nothing. Where memory ran out, nothing was written, or the frames of all events before one that gives
-/// routes, or all up to the files of some customer.
+/// routes.
 #[derive(Clone, Copy, Debug, PartialEq, Eq, Error)]
 pub enum ReplayFault {
     /// The script has more bytes than its limit.
@@ -37,6 +38,14 @@ impl From<HubFault> for ReplayFault {
 
     fn from(fault: HubFault) -> ReplayFault {
         ReplayFault::Hub(fault)
+    }
+}
+
+impl From<WriteFault> for ReplayFault {
+    ghost from_gives = { λ _ fault. fault ≡ Device };
+
+    fn from(_fault: WriteFault) -> ReplayFault {
+        ReplayFault::Device
     }
 }
 

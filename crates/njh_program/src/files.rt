@@ -1,18 +1,16 @@
 //! Prints the files that a hub holds.
 
 ghost use Rattle.std.specs.Prelude.{◌≡◌, ◌+◌, ◌<◌, ◌≤◌, ◌++◌, length, IfOk, OnOk, OnErr};
-ghost use Rattle.std.specs.Io.KnownBytes.{Appends, Keeps};
+ghost use Rattle.std.specs.Io.KnownBytes.{Appends};
 ghost use Rattle.njh_ebcdic.specs.Characters.{shown_text};
 ghost use Rattle.njh_hub.specs.Files.{files_at};
 ghost use Rattle.njh_program.specs.LineNames.{customers_of};
-ghost use Rattle.njh_program.specs.Printed.{file_text, files_from, files_text, AppendsBeginning, IsPrintedUpTo};
-ghost use Rattle.njh_program.specs.Replayed.{Prints};
+ghost use Rattle.njh_program.specs.Printed.{files_from, files_text, summary_text, AppendsBeginning};
 
-use crate::fault::ReplayFault;
 use crate::print::{WriteFault, write_bytes};
 use arrayvec::ArrayVec;
 use njh_ebcdic::{Name, text_of};
-use njh_hub::{FileView, Hub};
+use njh_hub::{FileSummaryView, Hub};
 use njh_table::Tables;
 use std::alloc::{AllocError, Global};
 use std::io::Write;
@@ -33,14 +31,15 @@ pub fn customer_names(alloc: Global, tables: &Tables) -> Result<Vec<Name>, Alloc
     Ok(names)
 }
 
-/// Prints the files of each customer, in the customers' order and then in order of arrival.
-///
-/// The files of one customer at a time are in memory. Where this runs out, those of the customers before are printed.
-pub fn print_files<W: Write>(hub: &Hub, customers: &[Name], out: &mut W) -> Result<(), ReplayFault>
+/// Prints the files of each customer, in the customers' order and then in order of arrival. It copies no record and
+/// takes no memory. After a fault a beginning of them was printed.
+pub fn print_files<W: Write>(hub: &Hub, customers: &[Name], out: &mut W) -> Result<(), WriteFault>
     requires all { length customers.now ≡ length hub.now }
     requires few { length customers.now ≤ 64 }
-    ensures { Prints result (W.contents out.old) (W.contents out.new) (files_from 0 customers.now hub.now)
-        (λ old new. IsPrintedUpTo customers.now old new (λ before. files_from 0 before hub.now)) }
+    ensures ok { OnOk result (Appends (W.contents out.old) (W.contents out.new)
+        (files_from 0 customers.now hub.now)) }
+    ensures err { OnErr result (AppendsBeginning (W.contents out.old) (W.contents out.new)
+        (files_from 0 customers.now hub.now)) }
 {
     for (customer, name) in customers.iter().enumerate() {
         print_customer(hub, customer as u16, *name, out)?;
@@ -48,40 +47,30 @@ pub fn print_files<W: Write>(hub: &Hub, customers: &[Name], out: &mut W) -> Resu
     Ok(())
 }
 
-/// Prints a customer's files.
+/// Prints a customer's files. After a fault a beginning of them was printed.
 fn print_customer<W: Write>(
     hub: &Hub,
     customer: u16,
     name: Name,
     out: &mut W,
-) -> Result<(), ReplayFault>
+) -> Result<(), WriteFault>
     requires { customer < length hub.now }
-    ensures { Prints result (W.contents out.old) (W.contents out.new) (files_text name (files_at customer hub.now))
-        Keeps }
-{
-    let files = hub.files(customer)?;
-    match print_each(&files, name, out) {
-        Ok(()) => Ok(()),
-        Err(_) => Err(ReplayFault::Device),
-    }
-}
-
-/// Prints files of a customer of this name. After a fault a beginning of them was printed.
-fn print_each<W: Write>(files: &[FileView], name: Name, out: &mut W) -> Result<(), WriteFault>
-    ensures ok { OnOk result (Appends (W.contents out.old) (W.contents out.new) (files_text name files.now)) }
+    ensures ok { OnOk result (Appends (W.contents out.old) (W.contents out.new)
+        (files_text name (files_at customer hub.now))) }
     ensures err { OnErr result (AppendsBeginning (W.contents out.old) (W.contents out.new)
-        (files_text name files.now)) }
+        (files_text name (files_at customer hub.now))) }
 {
-    for file in files {
-        write_bytes(out, &line_of(name, file))?;
+    for index in 0..hub.file_count(customer) {
+        let file = hub.summary_at(customer, index);
+        write_bytes(out, &line_of(name, &file))?;
     }
     Ok(())
 }
 
 /// The line of a file whose customer has this name.
-#[tactic(auto, unfolding(crate::specs::Printed::file_text))]
-fn line_of(name: Name, file: &FileView) -> FileLine
-    ensures { result.items ≡ file_text name file.now }
+#[tactic(auto, unfolding(crate::specs::Printed::summary_text))]
+fn line_of(name: Name, file: &FileSummaryView) -> FileLine
+    ensures { result.items ≡ summary_text name file.now }
 {
     let mut line = FileLine::new();
     push_shown(&mut line, name.trimmed());

@@ -2,11 +2,11 @@
 
 ghost use Rattle.std.specs.Prelude.{◌≡◌, ◌≤◌, ◌⊎◌, ℕ, length, map, All, IfOk, IfErr, OnOk, OnErr};
 ghost use Rattle.std.specs.Io.KnownBytes.{Keeps};
-ghost use Rattle.njh_program.specs.LineNames.{customers_of, names_of};
+ghost use Rattle.njh_program.specs.LineNames.{names_of};
 ghost use Rattle.njh_program.specs.Printed.{frames_text};
 ghost use Rattle.njh_program.specs.Replayed.{fault_after, text_by, text_of_run, HasBadLine, HasScript, HasTooLong};
-ghost use Rattle.njh_program.specs.Replayed.{IsBegun, IsRefusal, IsReplayed, IsReplayedToRoutes, IsReplayedUpTo};
-ghost use Rattle.njh_program.specs.Replayed.{IsRunShort, IsTextShort, MayEnd, Prints, SameParts};
+ghost use Rattle.njh_program.specs.Replayed.{IsBegun, IsRefusal, IsReplayed, IsReplayedToRoutes, IsRunShort, MayEnd};
+ghost use Rattle.njh_program.specs.Replayed.{Prints, SameParts};
 ghost use Rattle.njh_program.specs.ScriptRoutes.{IsNamedIn};
 ghost use Rattle.njh_hub.specs.Parts.{entries_of};
 ghost use Rattle.njh_hub.specs.WholeHub.{hub_run, part_at_open, IsNamed};
@@ -44,14 +44,12 @@ pub fn replay<R: Read, W: Write>(
     ensures silent { IfErr result (λ fault. IsRefusal fault → out.new ≡ out.old) }
 
     // Else a device failed, and a beginning of that text is written, or nothing; or memory ran out: before anything was
-    // written, at an event that gives routes, with the frames of those before it written, or with the text written up
-    // to the files of some customer.
+    // written, or at an event that gives routes, with the frames of those before it written.
     ensures faults { IfErr result MayEnd }
     ensures begun { OnErr result (Keeps (W.contents out.old) (W.contents out.new)
         ⊎ IsBegun tables (R.remaining script.old) (W.contents out.old) (W.contents out.new)) }
     ensures memory { result ≡ Err (ReplayFault.Hub HubFault.Memory) → Keeps (W.contents out.old) (W.contents out.new)
-        ⊎ IsReplayedToRoutes tables (R.remaining script.old) (W.contents out.old) (W.contents out.new)
-        ⊎ IsReplayedUpTo tables (R.remaining script.old) (W.contents out.old) (W.contents out.new) }
+        ⊎ IsReplayedToRoutes tables (R.remaining script.old) (W.contents out.old) (W.contents out.new) }
 {
     let events = read_events(alloc, &tables, script)?;
     print_events(alloc, tables, &events, out)
@@ -66,7 +64,7 @@ fn print_events<W: Write>(
 ) -> Result<(), ReplayFault>
     requires { All (IsNamedIn tables) events.now }
     ensures { Prints result (W.contents out.old) (W.contents out.new) (text_of_run tables events.now)
-        (IsTextShort (names_of tables) (map part_at_open (entries_of tables)) events.now (customers_of tables)) }
+        (IsRunShort (names_of tables) (map part_at_open (entries_of tables)) events.now) }
 {
     let names = LineNames::of(alloc, &tables)?;
     let customers = customer_names(alloc, &tables)?;
@@ -86,8 +84,7 @@ fn print_all<W: Write>(
     requires all { length customers.now ≡ length hub.old }
     requires few { length customers.now ≤ 64 }
     ensures { Prints result (W.contents out.old) (W.contents out.new)
-        (text_by names.now hub.old events.now customers.now)
-        (IsTextShort names.now hub.old events.now customers.now) }
+        (text_by names.now hub.old events.now customers.now) (IsRunShort names.now hub.old events.now) }
 {
     print_run(hub, events, names, out)?;
     print_files(hub, customers, out)?;

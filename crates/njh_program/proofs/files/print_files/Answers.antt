@@ -1,14 +1,13 @@
 use Rattle.std.proofs.Common.{ℕ, List, ◌++◌, suc, take, sym, ap, ◌∙◌, add-one, append_assoc, arith}
-use Rattle.std.proofs.KnownBytes.{Appends-kept, Appends-trans}
+use Rattle.std.proofs.KnownBytes.{Appends-trans}
 use Rattle.njh_hub.specs.Files.{files_at}
 use Rattle.njh_program.specs.Printed.{files_from, files_text}
 use Rattle.njh_program.proofs.FileLaws.{files_from-more, files_from-split}
-use Rattle.njh_program.proofs.PrintSteps.{prints_stopped}
-use Rattle.njh_program.proofs.PrintedParts.{beginning-after}
+use Rattle.njh_program.proofs.PrintedParts.{beginning-after, on_err_of}
 use Rattle.njh_program.proofs.files.print_files.Goals as goal
 
-pub returns-in_err-print_customer : goal.returns-in_err-print_customer
-returns-in_err-print_customer g c =
+pub returns-in_err-print_customer-clause-err : goal.returns-in_err-print_customer-clause-err
+returns-in_err-print_customer-clause-err g c =
     let names = c.args.customers.now in
     let parts = c.args.hub.now in
     let i = c.loop-customer.customer in
@@ -17,11 +16,9 @@ returns-in_err-print_customer g c =
     let own = files_text name (files_at i parts) in
     let back = files_from-split 0 names parts (suc i) in
     let more = files_from-more 0 i names parts i name (omega arith) c.index-customers-customer.is (omega arith) in
-    let stopped = c.in_err-print_customer.ensures in
-    prints_stopped c.from_residual.result _ _ _ _ _ c.from_residual.ensures.1
-    (beginning-after _ _ _ front own back.0 (files_from 0 names parts) c.loop-customer.invariant stopped.0
+    on_err_of c.from_residual.result _
+    (beginning-after _ _ _ front own back.0 (files_from 0 names parts) c.loop-customer.invariant c.in_err-print_customer.ensures.err
     (sym (append_assoc front own back.0) ∙ ap (λ (text : List ℕ). text ++ back.0) more ∙ back.1))
-    stopped.1 (λ memory. (i, omega arith, Appends-kept _ _ _ front c.loop-customer.invariant (stopped.2 memory)))
 
 pub loop-customer-preserved : goal.loop-customer-preserved
 loop-customer-preserved g c =
@@ -33,4 +30,4 @@ loop-customer-preserved g c =
     let own = files_text name (files_at i parts) in
     let more = files_from-more 0 i names parts i name (omega arith) c.index-customers-customer.is (omega arith)
     ∙ ap (λ (n : ℕ). files_from 0 (take n names) parts) (sym (add-one i)) in
-    rw (← more) (Appends-trans _ _ _ front own c.loop-customer.invariant c.in_ok-print_customer.ensures)
+    rw (← more) (Appends-trans _ _ _ front own c.loop-customer.invariant c.in_ok-print_customer.ensures.ok)

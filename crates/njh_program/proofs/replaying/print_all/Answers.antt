@@ -1,6 +1,6 @@
-use Rattle.std.proofs.Common.{inl, inr, arith}
+use Rattle.std.proofs.Common.{arith}
 use Rattle.std.proofs.KnownBytes.{Appends-kept}
-use Rattle.njh_program.proofs.FileLaws.{all_printed, files_begun, frames_begun, up_to_printed}
+use Rattle.njh_program.proofs.FileLaws.{all_printed, files_begun, frames_begun}
 use Rattle.njh_program.proofs.PrintSteps.{prints_stopped}
 use Rattle.njh_program.proofs.PrintedParts.{beginning-all}
 use Rattle.njh_program.proofs.replaying.print_all.Goals as goal
@@ -10,33 +10,28 @@ returns-in_err-print_run g c =
     let stopped = c.in_err-print_run.ensures.printed in
     prints_stopped c.from_residual.result _ _ _ _ _ c.from_residual.ensures.1
     (frames_begun c.args.names.now c.args.hub.now c.args.events.now c.args.customers.now _ _ stopped.0) stopped.1
-    (λ memory. elim (stopped.2 memory) [
-      | inl kept ↦ inl kept
-      | inr sent ↦ inr (inl sent)
-    ])
+    stopped.2
 
 pub returns-in_err-print_files : goal.returns-in_err-print_files
 returns-in_err-print_files g c =
-    let stopped = c.in_err-print_files.ensures in
     let same = c.in_ok-print_run.ensures.after in
     let frames = c.in_ok-print_run.ensures.printed in
     prints_stopped c.from_residual-in_err-print_files.result _ _ _ _ _ c.from_residual-in_err-print_files.ensures.1
     (files_begun c.args.names.now c.args.hub.now c.print_run.new.hub c.args.events.now c.args.customers.now _ _ _
-    same (omega (arith, c.requires.all)) frames stopped.0) stopped.1
-    (λ memory. inr (inr (up_to_printed c.args.names.now c.args.hub.now c.print_run.new.hub c.args.events.now c.args.customers.now
-    _ _ _ same (omega (arith, c.requires.all)) frames (stopped.2 memory))))
+    same (omega (arith, c.requires.all)) frames c.in_err-print_files.ensures.err) (tt, λ refusal. refusal)
+    (λ memory. absurd (cc memory))
 
 pub returns-in-Ok : goal.returns-in-Ok
 returns-in-Ok g c =
     Appends-kept _ _ _ _ (all_printed c.args.names.now c.args.hub.now c.print_run.new.hub c.args.events.now c.args.customers.now _ _ _
-    c.in_ok-print_run.ensures.after (omega (arith, c.requires.all)) c.in_ok-print_run.ensures.printed c.in_ok-print_files.ensures)
+    c.in_ok-print_run.ensures.after (omega (arith, c.requires.all)) c.in_ok-print_run.ensures.printed c.in_ok-print_files.ensures.ok)
     c.in-Ok.ensures.bytes
 
 pub returns-in-Err : goal.returns-in-Err
 returns-in-Err g c = (
   beginning-all _ _ _ (Appends-kept _ _ _ _
       (all_printed c.args.names.now c.args.hub.now c.print_run.new.hub c.args.events.now c.args.customers.now _ _ _
-      c.in_ok-print_run.ensures.after (omega (arith, c.requires.all)) c.in_ok-print_run.ensures.printed c.in_ok-print_files.ensures)
+      c.in_ok-print_run.ensures.after (omega (arith, c.requires.all)) c.in_ok-print_run.ensures.printed c.in_ok-print_files.ensures.ok)
       c.in-Err.ensures.bytes),
   (tt, λ refusal. refusal),
   λ memory. absurd (cc memory),
