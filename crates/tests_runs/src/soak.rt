@@ -23,7 +23,7 @@ use std::rt::Files;
 use std::{fs, io};
 
 /// How many runs, and how many events in each.
-const RUNS: u64 = 20;
+const RUNS: u64 = 6;
 
 const EVENTS: u64 = 10_000;
 
