@@ -21,7 +21,7 @@ use Rattle.njh_spool.specs.CustomerSpool.{partial_numbered, partial_records, wit
 use Rattle.njh_table.specs.Entries.{CustomerEntry}
 use Rattle.njh_customer.specs.Customer.{Customer, CustomerLine, no_customer_line, line_at, on_line, with_notice}
 use Rattle.njh_customer.specs.Customer.{receiver_at, with_receiver}
-use Rattle.njh_customer.specs.code.Coherence.{streams_to_hub, HasStreams, IsCoherent}
+use Rattle.njh_customer.specs.code.Coherence.{streams_to_hub, limits_of, HasStreams, IsCoherent}
 use Rattle.njh_customer.specs.Waiting.{with_answer_on, with_notice_to}
 use Rattle.njh_customer.specs.Acting.{after_arrival, after_stream_arrival}
 use Rattle.njh_customer.proofs.ShapeLaws.{shapes, same_streams, streamed_still, on_line_shapes, answered_shapes}
@@ -43,12 +43,12 @@ EndsTie =
     (l : ℕ) (lines : List (List Receiver)) (s : CustomerSpool) → l < length lines → AreTied lines s
     → AreTied (without_streams l lines) (without_all_open (streams_at l lines) s)
 
--- the streams are the same, and so are the partial files and the quota
+-- the streams are the same, and so are the partial files, the quota and the limit of files
 pub record IsLike (d c : Customer) : Type 0 where
   pub entry : d.entry ≡ c.entry
   pub lines : shapes d.lines ≡ shapes c.lines
   pub partial : d.spool.partial ≡ c.spool.partial
-  pub quota : d.spool.quota ≡ c.spool.quota
+  pub limits : limits_of d.spool ≡ limits_of c.spool
 
 -- as many lines
 pub as_many : (xs ys : List CustomerLine) → shapes xs ≡ shapes ys → length xs ≡ length ys
@@ -59,7 +59,8 @@ coherent_still d c untied like coherent = record {
   tied = subst (λ lines. AreTied lines d.spool) (sym (same_streams d.lines c.lines like.lines))
       (untied (streams_to_hub c.lines) c.spool d.spool like.partial coherent.tied);
   streamed = streamed_still d.lines c.lines like.lines coherent.streamed;
-  quota = like.quota ∙ coherent.quota ∙ ap (λ e. e.quota) (sym like.entry);
+  quota = ap (λ (l : ℕ × ℕ). l.0) like.limits ∙ coherent.quota ∙ ap (λ e. e.quota) (sym like.entry);
+  limit = ap (λ (l : ℕ × ℕ). l.1) like.limits ∙ coherent.limit ∙ ap (λ e. e.files) (sym like.entry);
   marks = ap (λ e. length e.up) like.entry ∙ coherent.marks ∙ sym (as_many d.lines c.lines like.lines);
 }
 
@@ -73,48 +74,48 @@ agrees_there l k c coherent = subst (λ r. Agrees (kind_of k) r c.spool) (stream
 
 -- ---- an arrival
 
-requested_quota : (kind : Kind) (s : CustomerSpool) → (received_request kind s).spool.quota ≡ s.quota
-requested_quota kind s = at_room (has_file_room s && has_block s)
+requested_limits : (kind : Kind) (s : CustomerSpool) → limits_of (received_request kind s).spool ≡ limits_of s
+requested_limits kind s = at_room (has_file_room s && has_block s)
   where
-    at_room : (b : Bool) → (requested_where b kind s).spool.quota ≡ s.quota
+    at_room : (b : Bool) → limits_of (requested_where b kind s).spool ≡ limits_of s
     at_room true = refl
     at_room false = refl
 
 abbrev finished_where : ℕ → CustomerSpool → Option PartialFile → CustomerSpool
 finished_where n s o = elim o [ None ↦ s | Some f ↦ record (without_partial n s) { whole = s.whole ++ as_whole f ∷ [] } ]
 
-closed_quota : (b : Bool) (n : ℕ) (s : CustomerSpool) → (closed_by b n s).spool.quota ≡ s.quota
-closed_quota false n s = refl
-closed_quota true n s = at_file (partial_numbered n s)
+closed_limits : (b : Bool) (n : ℕ) (s : CustomerSpool) → limits_of (closed_by b n s).spool ≡ limits_of s
+closed_limits false n s = refl
+closed_limits true n s = at_file (partial_numbered n s)
   where
-    at_file : (o : Option PartialFile) → (finished_where n s o).quota ≡ s.quota
+    at_file : (o : Option PartialFile) → limits_of (finished_where n s o) ≡ limits_of s
     at_file None = refl
     at_file (Some f) = refl
 
-stored_quota : (v : Verdict) (kind : Kind) (n : ℕ) (r : Stored) (more : List Stored) (s : CustomerSpool)
-    → (stored_by v kind n r more s).spool.quota ≡ s.quota
-stored_quota Taken kind n r more s = refl
-stored_quota (Cancelled text) kind n r more s = refl
+stored_limits : (v : Verdict) (kind : Kind) (n : ℕ) (r : Stored) (more : List Stored) (s : CustomerSpool)
+    → limits_of (stored_by v kind n r more s).spool ≡ limits_of s
+stored_limits Taken kind n r more s = refl
+stored_limits (Cancelled text) kind n r more s = refl
 
-received_quota : (entry : CustomerEntry) (l : ℕ) (kind : Kind) (r : Receiver) (a : Arrival) (s : CustomerSpool)
-    → (received_arrival entry l kind r a s).spool.quota ≡ s.quota
-received_quota entry l kind Idle Request s = requested_quota kind s
-received_quota entry l kind Idle (Data srcb bytes) s = refl
-received_quota entry l kind Idle Long s = refl
-received_quota entry l kind Idle Abort s = refl
-received_quota entry l kind Draining Request s = requested_quota kind s
-received_quota entry l kind Draining (Data srcb []) s = refl
-received_quota entry l kind Draining (Data srcb (b ∷ bytes)) s = refl
-received_quota entry l kind Draining Long s = refl
-received_quota entry l kind Draining Abort s = refl
-received_quota entry l kind (Open n progress) Request s = requested_quota kind (without_partial n s)
-received_quota entry l kind (Open n progress) (Data srcb []) s = closed_quota (is_whole (partial_records n s)) n s
-received_quota entry l kind (Open n progress) (Data srcb (b ∷ bytes)) s =
+received_limits : (entry : CustomerEntry) (l : ℕ) (kind : Kind) (r : Receiver) (a : Arrival) (s : CustomerSpool)
+    → limits_of (received_arrival entry l kind r a s).spool ≡ limits_of s
+received_limits entry l kind Idle Request s = requested_limits kind s
+received_limits entry l kind Idle (Data srcb bytes) s = refl
+received_limits entry l kind Idle Long s = refl
+received_limits entry l kind Idle Abort s = refl
+received_limits entry l kind Draining Request s = requested_limits kind s
+received_limits entry l kind Draining (Data srcb []) s = refl
+received_limits entry l kind Draining (Data srcb (b ∷ bytes)) s = refl
+received_limits entry l kind Draining Long s = refl
+received_limits entry l kind Draining Abort s = refl
+received_limits entry l kind (Open n progress) Request s = requested_limits kind (without_partial n s)
+received_limits entry l kind (Open n progress) (Data srcb []) s = closed_limits (is_whole (partial_records n s)) n s
+received_limits entry l kind (Open n progress) (Data srcb (b ∷ bytes)) s =
     let r : Stored = record { srcb = srcb; bytes = b ∷ bytes } in
     let earlier = partial_records n s in
-    stored_quota (judged_coming entry l kind earlier (Fitting r (has_room_for n r s))) kind n r (earlier ++ r ∷ []) s
-received_quota entry l kind (Open n progress) Long s = refl
-received_quota entry l kind (Open n progress) Abort s = refl
+    stored_limits (judged_coming entry l kind earlier (Fitting r (has_room_for n r s))) kind n r (earlier ++ r ∷ []) s
+received_limits entry l kind (Open n progress) Long s = refl
+received_limits entry l kind (Open n progress) Abort s = refl
 
 with_streams : (l k : ℕ) (r : Receiver) (lines : List CustomerLine) → streams_to_hub (on_line l (with_receiver k r) lines) ≡ with_stream l k r (streams_to_hub lines)
 with_streams l k r lines =
@@ -144,7 +145,8 @@ keeps_moved l k a c arrivals line_there stream_there coherent =
       tied = subst (λ rs. AreTied rs done.spool) (sym (with_streams l k done.receiver c.lines)) now;
       streamed = All-set HasStreams c.lines l (with_receiver k done.receiver (line_at l c.lines))
           (length-set (line_at l c.lines).receivers k done.receiver ∙ eight.0, eight.1) coherent.streamed;
-      quota = received_quota c.entry l (kind_of k) r a c.spool ∙ coherent.quota;
+      quota = ap (λ (l : ℕ × ℕ). l.0) (received_limits c.entry l (kind_of k) r a c.spool) ∙ coherent.quota;
+      limit = ap (λ (l : ℕ × ℕ). l.1) (received_limits c.entry l (kind_of k) r a c.spool) ∙ coherent.limit;
       marks = coherent.marks ∙ sym (length-set c.lines l (with_receiver k done.receiver (line_at l c.lines)));
     }
 
@@ -163,6 +165,6 @@ keeps_arrived l k a c arrivals untied line_there stream_there coherent =
           ∙ notified_shapes c.entry done.notice (with_answer_on l answer lines)
           ∙ answered_shapes l answer lines;
       partial = refl;
-      quota = refl;
+      limits = refl;
     })
     (keeps_moved l k a c arrivals line_there stream_there coherent)

@@ -1,4 +1,5 @@
--- What filling a block leaves alone: the block's function control sequence, the partial files and the quota.
+-- What filling a block leaves alone: the block's function control sequence, the partial files, the quota and the limit
+-- of files.
 use Rattle.std.proofs.Common.{◌≡◌, ℕ, Bool, true, false, List, [], ◌∷◌, Option, Some, None, refl, ◌∙◌}
 use Rattle.std.specs.Prelude.{slice_get, option_map}
 use Rattle.njh_block.specs.Blocks.{all_suspended}
@@ -13,22 +14,23 @@ use Rattle.njh_sched.specs.NextBlock.{WaitingMessage, StreamTurn, answering, abo
 use Rattle.njh_sched.specs.NextBlock.{oldest, request_of, telling, serving, next_served, candidate, added_where}
 use Rattle.njh_sched.specs.NextBlock.{after_candidate, after_source_where, after_source, after_sources, filled_where}
 use Rattle.njh_sched.specs.NextBlock.{filled_block, sources}
+use Rattle.njh_customer.specs.code.Coherence.{limits_of}
 
 pub record Kept (y x : Filling) : Type 0 where
   pub fcs : y.block.fcs ≡ x.block.fcs
   pub partial : y.spool.partial ≡ x.spool.partial
-  pub quota : y.spool.quota ≡ x.spool.quota
+  pub limits : limits_of y.spool ≡ limits_of x.spool
 
--- a record that may come leaves the partial files and the quota
+-- a record that may come leaves the partial files, the quota and the limit of files
 abbrev IsHarmless : CustomerSpool → Option Candidate → Type 0
 IsHarmless s None = Unit {0}
-IsHarmless s (Some c) = (c.spool.partial ≡ s.partial) × (c.spool.quota ≡ s.quota)
+IsHarmless s (Some c) = (c.spool.partial ≡ s.partial) × (limits_of c.spool ≡ limits_of s)
 
 harmless_map :
     {A : Type 0} (s : CustomerSpool) (f : A → Candidate) (o : Option A)
-    → ((x : A) → (f x).spool.partial ≡ s.partial) → ((x : A) → (f x).spool.quota ≡ s.quota) → IsHarmless s (option_map f o)
-harmless_map s f None partial quota = tt
-harmless_map s f (Some x) partial quota = (partial x, quota x)
+    → ((x : A) → (f x).spool.partial ≡ s.partial) → ((x : A) → limits_of (f x).spool ≡ limits_of s) → IsHarmless s (option_map f o)
+harmless_map s f None partial limits = tt
+harmless_map s f (Some x) partial limits = (partial x, limits x)
 
 harmless_abort : (x : Sender) (o : Outlet) (s : CustomerSpool) (k : ℕ) → IsHarmless s (abort_where x o s k)
 harmless_abort sender.Idle o s k = tt
@@ -56,15 +58,15 @@ harmless goes WaitingMessage o s = harmless_map s (telling o s) (slice_get o.mes
 harmless goes StreamTurn o s = harmless_map s (λ k. serving o s k (next_of (sender_at k o) s)) (next_served o) (λ k. refl) (λ k. refl)
 
 same : (x : Filling) → Kept x x
-same x = record { fcs = refl; partial = refl; quota = refl }
+same x = record { fcs = refl; partial = refl; limits = refl }
 
 after_candidate_kept : (o : Option Candidate) (x : Filling) → IsHarmless x.spool o → Kept (after_candidate o x) x
 after_candidate_kept None x h = same x
 after_candidate_kept (Some c) x h = at_room (has_room x.block c.item)
   where
     at_room : (b : Bool) → Kept (added_where b c x) x
-    at_room true = record { fcs = refl; partial = h.0; quota = h.1 }
-    at_room false = record { fcs = refl; partial = refl; quota = refl }
+    at_room true = record { fcs = refl; partial = h.0; limits = h.1 }
+    at_room false = record { fcs = refl; partial = refl; limits = refl }
 
 after_source_kept : (goes : WholeFile → Bool) (source : Source) (x : Filling) → Kept (after_source goes source x) x
 unfolding after_source
@@ -80,7 +82,7 @@ after_sources_kept goes [] x = same x
 after_sources_kept goes (source ∷ more) x =
     let one = after_source_kept goes source x in
     let rest = after_sources_kept goes more (after_source goes source x) in
-    record { fcs = rest.fcs ∙ one.fcs; partial = rest.partial ∙ one.partial; quota = rest.quota ∙ one.quota }
+    record { fcs = rest.fcs ∙ one.fcs; partial = rest.partial ∙ one.partial; limits = rest.limits ∙ one.limits }
 
 pub filled_kept : (goes : WholeFile → Bool) (x : Filling) → Kept (filled_block goes x) x
 unfolding filled_block

@@ -1,5 +1,5 @@
 -- A customer that is given new routes.
-use Rattle.std.proofs.Common.{◌≡◌, ℕ, Bool, true, false, not, ◌&&◌, ◌||◌, List, Option, Some, None, refl}
+use Rattle.std.proofs.Common.{◌≡◌, ℕ, Bool, true, false, not, ◌&&◌, ◌||◌, Option, Some, None, refl}
 use Rattle.njh_ebcdic.specs.Users.{User}
 use Rattle.njh_ebcdic.specs.Names.{is_name}
 use Rattle.njh_header.specs.FileHeaders.{destination_of}
@@ -17,6 +17,7 @@ coherent_given untied routes c coherent = record {
   tied = untied (streams_to_hub c.lines) c.spool (customer_with_routes routes c).spool refl coherent.tied;
   streamed = coherent.streamed;
   quota = coherent.quota;
+  limit = coherent.limit;
   marks = coherent.marks;
 }
 

@@ -41,5 +41,6 @@ fresh_coherent entry few at_rest = record {
   tied = at_rest (streams_to_hub (fresh_customer entry).lines) (empty_spool entry.quota entry.files) (no_stream entry entry.lines) refl;
   streamed = streamed entry entry.lines few;
   quota = refl;
+  limit = refl;
   marks = length-map entry.lines (λ _. false) ∙ sym (length-map entry.lines (λ line. idle_line (config_of entry line) line.streams));
 }

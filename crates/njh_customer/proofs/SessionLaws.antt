@@ -1,5 +1,5 @@
 -- What a line sends, the end of its session, and all that comes on it leave a customer coherent.
-use Rattle.std.proofs.Common.{◌≡◌, ℕ, ◌<◌, Bool, true, false, List, [], ◌∷◌, length, set, replicate, Option, Some, None}
+use Rattle.std.proofs.Common.{ap, ◌≡◌, ℕ, ◌<◌, Bool, true, false, List, [], ◌∷◌, length, set, replicate, Option, Some, None}
 use Rattle.std.proofs.Common.{refl, sym, subst, ◌∙◌, arith}
 use Rattle.std.proofs.Math.ListN.{get_or-map}
 use Rattle.std.proofs.Math.Seq.{map-set_same}
@@ -23,7 +23,7 @@ use Rattle.njh_line.specs.declared.verdict.LineReply.{LineReply}
 use Rattle.njh_line.specs.declared.verdict.LineReply.TheVariants as reply
 use Rattle.njh_line.specs.declared.verdict.Verdict.{Verdict}
 use Rattle.njh_customer.specs.Customer.{Customer, no_customer_line, line_at, on_line, in_state}
-use Rattle.njh_customer.specs.code.Coherence.{streams_to_hub, HasStreams, IsCoherent}
+use Rattle.njh_customer.specs.code.Coherence.{streams_to_hub, limits_of, HasStreams, IsCoherent}
 use Rattle.njh_customer.specs.Sending.{LineSent, outlet_of, own_block, sending_of_reply}
 use Rattle.njh_customer.specs.Acting.{acted_where}
 use Rattle.njh_customer.specs.Alone.{after_reply, replied_to, with_idle_streams, session_over, session_over_where}
@@ -50,10 +50,10 @@ ended_partial x s = at_file (file_in x)
     at_file None = refl
     at_file (Some n) = refl
 
-ended_quota : (x : Sender) (s : CustomerSpool) → (spool_after_session x s).quota ≡ s.quota
-ended_quota x s = at_file (file_in x)
+ended_limits : (x : Sender) (s : CustomerSpool) → limits_of (spool_after_session x s) ≡ limits_of s
+ended_limits x s = at_file (file_in x)
   where
-    at_file : (o : Option ℕ) → (ended_where o s).quota ≡ s.quota
+    at_file : (o : Option ℕ) → limits_of (ended_where o s) ≡ limits_of s
     at_file None = refl
     at_file (Some n) = refl
 
@@ -61,27 +61,27 @@ all_ended_partial : (xs : List Sender) (s : CustomerSpool) → (all_ended xs s).
 all_ended_partial [] s = refl
 all_ended_partial (x ∷ xs) s = all_ended_partial xs (spool_after_session x s) ∙ ended_partial x s
 
-all_ended_quota : (xs : List Sender) (s : CustomerSpool) → (all_ended xs s).quota ≡ s.quota
-all_ended_quota [] s = refl
-all_ended_quota (x ∷ xs) s = all_ended_quota xs (spool_after_session x s) ∙ ended_quota x s
+all_ended_limits : (xs : List Sender) (s : CustomerSpool) → limits_of (all_ended xs s) ≡ limits_of s
+all_ended_limits [] s = refl
+all_ended_limits (x ∷ xs) s = all_ended_limits xs (spool_after_session x s) ∙ ended_limits x s
 
-without_open_quota : (r : Receiver) (s : CustomerSpool) → (without_open r s).quota ≡ s.quota
-without_open_quota receiver.Idle s = refl
-without_open_quota (receiver.Open n progress) s = refl
-without_open_quota receiver.Draining s = refl
+without_open_limits : (r : Receiver) (s : CustomerSpool) → limits_of (without_open r s) ≡ limits_of s
+without_open_limits receiver.Idle s = refl
+without_open_limits (receiver.Open n progress) s = refl
+without_open_limits receiver.Draining s = refl
 
-without_all_quota : (rs : List Receiver) (s : CustomerSpool) → (without_all_open rs s).quota ≡ s.quota
-without_all_quota [] s = refl
-without_all_quota (r ∷ rs) s = without_all_quota rs (without_open r s) ∙ without_open_quota r s
+without_all_limits : (rs : List Receiver) (s : CustomerSpool) → limits_of (without_all_open rs s) ≡ limits_of s
+without_all_limits [] s = refl
+without_all_limits (r ∷ rs) s = without_all_limits rs (without_open r s) ∙ without_open_limits r s
 
 module _ (untied : NothingUnties) (ends : EndsTie) where
   -- ---- what a line sends
 
   sent_stays : (l : ℕ) (x : LineSent) (c : Customer) → shape x.line ≡ shape (line_at l c.lines) → x.spool.partial ≡ c.spool.partial
-      → x.spool.quota ≡ c.spool.quota → IsCoherent c → Stays (after_reply l x c).after c
-  sent_stays l x c same partial quota coherent =
+      → limits_of x.spool ≡ limits_of c.spool → IsCoherent c → Stays (after_reply l x c).after c
+  sent_stays l x c same partial limits coherent =
       stays_like untied (after_reply l x c).after c
-      (record { entry = refl; lines = map-set_same shape c.lines l x.line no_customer_line same; partial = partial; quota = quota }) coherent
+      (record { entry = refl; lines = map-set_same shape c.lines l x.line no_customer_line same; partial = partial; limits = limits }) coherent
 
   reply_stays : (l : ℕ) (r : LineReply) (c : Customer) → IsCoherent c → Stays (replied_to l r c).after c
   reply_stays l reply.Nothing c coherent = sent_stays l (sending_of_reply c.entry l reply.Nothing c.spool (line_at l c.lines)) c refl refl refl coherent
@@ -95,7 +95,7 @@ module _ (untied : NothingUnties) (ends : EndsTie) where
   reply_stays l (reply.Next or_ack0) c coherent =
       let x = line_at l c.lines in
       let kept = filled_kept (goes_by c.entry l) (filling (own_block (own_fcs c.spool) x.state) (outlet_of x) c.spool) in
-      sent_stays l (sending_of_reply c.entry l (reply.Next or_ack0) c.spool x) c refl kept.partial kept.quota coherent
+      sent_stays l (sending_of_reply c.entry l (reply.Next or_ack0) c.spool x) c refl kept.partial kept.limits coherent
 
   -- ---- the end of a session
 
@@ -114,7 +114,8 @@ module _ (untied : NothingUnties) (ends : EndsTie) where
         coherent = record {
           tied = subst (λ rs. AreTied rs (without_all_open x.receivers sent)) (sym (map-set (λ y. y.receivers) c.lines l (with_idle_streams x))) after;
           streamed = All-set HasStreams c.lines l (with_idle_streams x) (length-replicate (length x.receivers) receiver.Idle ∙ eight.0, eight.1) coherent.streamed;
-          quota = without_all_quota x.receivers sent ∙ all_ended_quota x.senders c.spool ∙ coherent.quota;
+          quota = ap (λ (l : ℕ × ℕ). l.0) (without_all_limits x.receivers sent ∙ all_ended_limits x.senders c.spool) ∙ coherent.quota;
+          limit = ap (λ (l : ℕ × ℕ). l.1) (without_all_limits x.receivers sent ∙ all_ended_limits x.senders c.spool) ∙ coherent.limit;
           marks = length-set c.entry.up l false ∙ coherent.marks ∙ sym (length-set c.lines l (with_idle_streams x));
         };
         lines = length-set c.lines l (with_idle_streams x);

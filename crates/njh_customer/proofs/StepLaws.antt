@@ -10,8 +10,7 @@ use Rattle.njh_block.specs.Codes.{kind_of}
 use Rattle.njh_nmr.specs.declared.fault.NmrFault.{NmrFault}
 use Rattle.njh_nmr.specs.Nodal.{Nodal, nodal_of, is_user_command, cut_after_message, sender_of}
 use Rattle.njh_texts.specs.Texts.{node_unknown}
-use Rattle.njh_spool.specs.CustomerSpool.{CustomerSpool}
-use Rattle.njh_table.specs.Entries.{CustomerEntry, route_of}
+use Rattle.njh_table.specs.Entries.{route_of}
 use Rattle.njh_table.specs.declared.Route.{Route}
 use Rattle.njh_table.specs.declared.Route.TheVariants.{Here, Line, Unknown}
 use Rattle.njh_stream.specs.Arrivals.{answer_on}
@@ -26,7 +25,7 @@ use Rattle.njh_line.specs.Lines.{after_input}
 use Rattle.njh_customer.specs.Alone.{accepted_on, goes_up_by, with_raised_line}
 use Rattle.njh_customer.specs.Customer.{Customer, CustomerLine, no_customer_line, line_at, on_line, in_state, sender_at}
 use Rattle.njh_customer.specs.Customer.{with_sender, with_notice, with_receiver, receiver_at}
-use Rattle.njh_customer.specs.code.Coherence.{IsCoherent}
+use Rattle.njh_customer.specs.code.Coherence.{limits_of, IsCoherent}
 use Rattle.njh_customer.specs.Waiting.{with_answer_on, with_waiting, with_message_to, with_notice_to}
 use Rattle.njh_customer.specs.Acting.{after_stream_arrival, after_stream_record, with_sender_outcome, after_permission}
 use Rattle.njh_customer.specs.Acting.{after_peer_answer, refusal_of, after_stream_request, peer_answered}
@@ -52,7 +51,7 @@ module _ (untied : NothingUnties) where
   -- only its lines changed, and no stream to the hub
   pub stays_lines : (lines : List CustomerLine) (c : Customer) → shapes lines ≡ shapes c.lines → IsCoherent c → Stays (record c { lines = lines }) c
   stays_lines lines c same coherent =
-      stays_like (record c { lines = lines }) c (record { entry = refl; lines = same; partial = refl; quota = refl }) coherent
+      stays_like (record c { lines = lines }) c (record { entry = refl; lines = same; partial = refl; limits = refl }) coherent
 
   pub stays_where : (b : Bool) (x y c : Customer) → Stays x c → Stays y c → Stays (cond b x y) c
   stays_where true x y c first second = first
@@ -65,6 +64,7 @@ module _ (untied : NothingUnties) where
       tied = coherent.tied;
       streamed = coherent.streamed;
       quota = coherent.quota;
+      limit = coherent.limit;
       marks = length-set c.entry.up l true ∙ coherent.marks;
     };
     lines = refl;
@@ -84,10 +84,10 @@ module _ (untied : NothingUnties) where
       stays_lines (on_line l (with_sender k (after_grant (sender_at k (line_at l c.lines)))) c.lines) c
       (on_line_shapes l (with_sender k (after_grant (sender_at k (line_at l c.lines)))) c.lines (λ x. refl)) coherent
 
-  sent_stays : (l k : ℕ) (sent : SenderOutcome) (c : Customer) → sent.spool.partial ≡ c.spool.partial → sent.spool.quota ≡ c.spool.quota → IsCoherent c → Stays (with_sender_outcome l k sent c) c
-  sent_stays l k sent c partial quota coherent =
+  sent_stays : (l k : ℕ) (sent : SenderOutcome) (c : Customer) → sent.spool.partial ≡ c.spool.partial → limits_of sent.spool ≡ limits_of c.spool → IsCoherent c → Stays (with_sender_outcome l k sent c) c
+  sent_stays l k sent c partial limits coherent =
       stays_like (with_sender_outcome l k sent c) c
-      (record { entry = refl; lines = on_line_shapes l (with_sender k sent.sender) c.lines (λ x. refl); partial = partial; quota = quota }) coherent
+      (record { entry = refl; lines = on_line_shapes l (with_sender k sent.sender) c.lines (λ x. refl); partial = partial; limits = limits }) coherent
 
   refused_stays : (l k : ℕ) (x : Sender) (c : Customer) → IsCoherent c → Stays (with_sender_outcome l k (after_refusal x c.spool) c) c
   refused_stays l k sender.Idle c coherent = sent_stays l k (after_refusal sender.Idle c.spool) c refl refl coherent
@@ -121,7 +121,7 @@ module _ (untied : NothingUnties) where
         entry = refl;
         lines = all_said_shapes c.entry (sender_of n) done.replies (fold without_sending c.lines done.cancelled) ∙ all_given_up_shapes done.cancelled c.lines;
         partial = refl;
-        quota = refl;
+        limits = refl;
       })
       coherent
 

@@ -98,11 +98,14 @@ impl Hub {
         Ok(files)
     }
 
-    /// How many blocks a customer's files take, partial ones too: at most its quota. `UnknownCustomer` where the hub
-    /// has no such customer.
+    /// How many blocks a customer's files take, partial ones too: at most its quota. Nor has it more files than its
+    /// entry allows. `UnknownCustomer` where the hub has no such customer.
     pub fn used(&self, customer: u16) -> Result<u32, HubFault>
         ensures used { IfOk result (λ blocks. blocks ≡ used_blocks (part customer self.now).customer.spool) }
         ensures quota { IfOk result (λ blocks. blocks ≤ (part customer self.now).customer.entry.quota) }
+        ensures files { IfOk result (λ _. length (part customer self.now).customer.spool.whole
+            + length (part customer self.now).customer.spool.partial
+            ≤ (part customer self.now).customer.entry.files) }
         ensures known { IsOk result ↔ (customer < length self.now) }
         ensures unknown { OnErr result (result ≡ Err HubFault.UnknownCustomer) }
     {
