@@ -1,6 +1,7 @@
 -- All moves of a step, and of an event.
 use Rattle.std.proofs.Common.{◌≡◌, ℕ, Bool, true, false, List, [], ◌∷◌, ◌++◌, Option, Some, None, length, set, take}
-use Rattle.std.proofs.Common.{refl, sym, ap, subst, ◌∙◌, arith}
+use Rattle.std.proofs.Common.{refl, sym, ap, subst, ◌∙◌, arith, get_or, set-set}
+use Rattle.std.proofs.lemmas.List.{set-get_or}
 use Rattle.std.proofs.lemmas.List.Elements.{Contains-append_left, Contains-append_right}
 use Rattle.std.specs.Prelude.{flat_map}
 use Rattle.std.specs.List.{Contains, cons_option}
@@ -64,24 +65,45 @@ does_moves l items c s does =
 
 -- ---- of an entry the marks alone are changed
 
-raised_is : (up : Bool) (l : ℕ) (entry : CustomerEntry) → with_raised_line up l entry ≡ with_marks (with_raised_line up l entry).up entry
-raised_is true l entry = refl
-raised_is false l entry = refl
+-- an entry as it is, or with a line raised, is one with that line's mark set
+abbrev pub IsMarkedAt : ℕ → (new old : CustomerEntry) → Type 0
+IsMarkedAt l new old = (up : Bool) × (new ≡ entry_marked l up old)
+
+unmarked_at : (l : ℕ) (entry : CustomerEntry) → IsMarkedAt l entry entry
+unmarked_at l entry = (get_or entry.up l false, sym (ap (λ (up : List Bool). record entry { up = up }) (set-get_or entry.up l false)))
+
+raised_at : (up : Bool) (l : ℕ) (entry : CustomerEntry) → IsMarkedAt l (with_raised_line up l entry) entry
+raised_at true l entry = (true, refl)
+raised_at false l entry = unmarked_at l entry
+
+-- and the last that is set holds
+marked_again : (l : ℕ) (a b : Bool) (entry : CustomerEntry) → entry_marked l b (entry_marked l a entry) ≡ entry_marked l b entry
+marked_again l a b entry = ap (λ (up : List Bool). record entry { up = up }) (set-set entry.up l a b)
+
+marked_behind : (l : ℕ) (old between new : CustomerEntry) → IsMarkedAt l between old → (b : Bool) → new ≡ entry_marked l b between → new ≡ entry_marked l b old
+marked_behind l old between new first b second = second ∙ ap (entry_marked l b) first.1 ∙ marked_again l first.0 b old
 
 -- what is an entry with some marks is so with its own
 own_marks : (new old : CustomerEntry) (up : List Bool) → new ≡ with_marks up old → new ≡ with_marks new.up old
 own_marks new old up e = e ∙ sym (ap (λ (x : CustomerEntry). with_marks x.up old) e)
 
-pub does_entry : (l : ℕ) (items : List Item) (c : Customer) (s : CustomerStep) → Does l items c s → s.after.entry ≡ with_marks s.after.entry.up c.entry
-does_entry l items c s does = at_end does.end
+does_mark : (l : ℕ) (items : List Item) (c : Customer) (s : CustomerStep) → Does l items c s → IsMarkedAt l s.after.entry c.entry
+does_mark l items c s does = at_end does.end
   where
     judged : CustomerEntry
     judged = with_raised_line does.up l c.entry
 
-    at_end : Ends judged l does.answered s.after → s.after.entry ≡ with_marks s.after.entry.up c.entry
-    at_end (still_on same kept) = own_marks s.after.entry c.entry judged.up (kept ∙ raised_is does.up l c.entry)
-    at_end (over_now gone lowered) =
-        own_marks s.after.entry c.entry (set judged.up l false) (lowered ∙ ap (entry_marked l false) (raised_is does.up l c.entry))
+    raised : IsMarkedAt l judged c.entry
+    raised = raised_at does.up l c.entry
+
+    at_end : Ends judged l does.answered s.after → IsMarkedAt l s.after.entry c.entry
+    at_end (still_on same kept) = (raised.0, kept ∙ raised.1)
+    at_end (over_now gone lowered) = (false, marked_behind l c.entry judged s.after.entry raised false lowered)
+
+pub does_entry : (l : ℕ) (items : List Item) (c : Customer) (s : CustomerStep) → Does l items c s → s.after.entry ≡ with_marks s.after.entry.up c.entry
+does_entry l items c s does =
+    let mark = does_mark l items c s does in
+    own_marks s.after.entry c.entry (set c.entry.up l mark.0) mark.1
 
 -- the moves of a step, by the marks of their moments
 pub does_moves_by :
@@ -89,19 +111,20 @@ pub does_moves_by :
     → LeadsByMoves (MovesBy c.entry (Records l more)) (outgoing c) (outgoing s.after)
 does_moves_by l items more c s among does =
     let entry = with_raised_line does.up l c.entry in
+    let raised = raised_at does.up l c.entry in
     leads_as (Moves entry l items) (MovesBy c.entry (Records l more)) (outgoing c) (outgoing s.after)
-    (λ u v move. (entry.up, subst (λ x. Moves x l more u v) (raised_is does.up l c.entry) (more_records entry l items more u v among move)))
+    (λ u v move. (raised.0, subst (λ x. Moves x l more u v) raised.1 (more_records entry l items more u v among move)))
     (does_moves l items c s does)
 
--- a customer has come from another by moves, with the marks of its entry alone changed, and with as many lines
+-- a customer has come from another by moves, with the line's mark in its entry alone changed, and with as many lines
 pub record Moved (l : ℕ) (items : List Item) (c d : Customer) : Type 0 where
-  pub entry : d.entry ≡ with_marks d.entry.up c.entry
+  pub mark : IsMarkedAt l d.entry c.entry
   pub lines : length d.lines ≡ length c.lines
   pub moves : LeadsByMoves (MovesBy c.entry (Records l items)) (outgoing c) (outgoing d)
 
 module _ (frames : FramesDoSo) where
   pub bytes_move : (rest : Rest) (c : Customer) (l : ℕ) (bytes : List ℕ) → Moved l (flat_map records_of_frame (frames_after rest bytes)) c (bytes_run rest c l bytes).after
-  bytes_move rest c l [] = record { entry = refl; lines = refl; moves = nowhere (outgoing c) }
+  bytes_move rest c l [] = record { mark = unmarked_at l c.entry; lines = refl; moves = nowhere (outgoing c) }
   bytes_move rest c l (byte ∷ bytes) = at_frame (rest_step rest byte).frame (λ d. bytes_move (rest_step rest byte).rest d l bytes)
     where
       next : Rest
@@ -120,20 +143,27 @@ module _ (frames : FramesDoSo) where
           let does = frames l received c in
           let behind = rest_moves step.after in
           let end = (bytes_run next step.after l bytes).after in
-          let entry = does_entry l (records_of_frame received) c step does in
+          let mark = does_mark l (records_of_frame received) c step does in
           record {
-            entry = behind.entry ∙ ap (with_marks end.entry.up) entry;
+            mark = (behind.mark.0, marked_behind l c.entry step.after.entry end.entry mark behind.mark.0 behind.mark.1);
             lines = behind.lines ∙ does.lines;
             moves = leads_then (MovesBy c.entry (Records l items)) (outgoing c) (outgoing step.after) (outgoing end)
                 (does_moves_by l (records_of_frame received) items c step (λ i. Contains-append_left (records_of_frame received) later i) does)
                 (leads_as (MovesBy step.after.entry (Records l later)) (MovesBy c.entry (Records l items)) (outgoing step.after) (outgoing end)
                 (λ u v move. (
                   move.0,
-                  subst (λ x. Moves x l items u v) (ap (with_marks move.0) entry)
-                      (more_records (with_marks move.0 step.after.entry) l later items u v (λ i. Contains-append_right (records_of_frame received) later i) move.1),
+                  subst (λ x. Moves x l items u v) (marked_behind l c.entry step.after.entry (entry_marked l move.0 step.after.entry) mark move.0 refl)
+                      (more_records (entry_marked l move.0 step.after.entry) l later items u v (λ i. Contains-append_right (records_of_frame received) later i) move.1),
                 ))
                 behind.moves);
           }
+
+  -- its marks alone are other ones
+  pub bytes_keep_entry : (rest : Rest) (c : Customer) (l : ℕ) (bytes : List ℕ)
+      → (bytes_run rest c l bytes).after.entry ≡ with_marks (bytes_run rest c l bytes).after.entry.up c.entry
+  bytes_keep_entry rest c l bytes =
+      let mark = (bytes_move rest c l bytes).mark in
+      own_marks (bytes_run rest c l bytes).after.entry c.entry (set c.entry.up l mark.0) mark.1
 
   pub events_move : SignalsDoSo → EventsMoveSo
   events_move signals p (OwnBytes l piece) = (bytes_move (rest_on l p) p.customer l piece).moves

@@ -14,7 +14,7 @@ use Rattle.njh_customer.specs.Alone.{after_signal}
 use Rattle.njh_customer.specs.Feeding.{acted_on, byte_step, or_later, take_step, Taking}
 use Rattle.njh_customer.specs.FrameEffects.{records_of_frame}
 use Rattle.njh_customer.specs.Laws.{EventsKeepEntries, EventsKeepFaults, EventsKeepLines, TakesKeepEntries}
-use Rattle.njh_customer.proofs.EventMoves.{bytes_move, does_entry}
+use Rattle.njh_customer.proofs.EventMoves.{bytes_keep_entry, bytes_move, does_entry}
 use Rattle.njh_customer.proofs.RoutesMoves.{routes_do, routes_keep_entry}
 
 -- with the same routes it is the same but for its marks
@@ -24,7 +24,7 @@ same_routes new old e = e ∙ sym (ap (λ (x : CustomerEntry). entry_with x.rout
 module _ (frames : FramesDoSo) (signals : SignalsDoSo) where
   pub events_keep_entries : EventsKeepEntries
   events_keep_entries p (OwnBytes l piece) =
-      same_routes (event_run p (OwnBytes l piece)).after.customer.entry p.customer.entry (bytes_move frames (rest_on l p) p.customer l piece).entry
+      same_routes (event_run p (OwnBytes l piece)).after.customer.entry p.customer.entry (bytes_keep_entry frames (rest_on l p) p.customer l piece)
   events_keep_entries p (OwnSignal signal l) =
       same_routes (event_run p (OwnSignal signal l)).after.customer.entry p.customer.entry
       (does_entry l [] p.customer (after_signal l signal p.customer) (signals l signal p.customer))

@@ -7,11 +7,11 @@ use Rattle.std.specs.List.{Contains}
 use Rattle.njh_block.specs.Blocks.{Item}
 use Rattle.njh_spool.specs.CustomerSpool.{WholeFile}
 use Rattle.njh_spool.specs.declared.State.TheVariants.{Held, Ready, Refused, Sending}
+use Rattle.njh_table.specs.Marks.{entry_marked}
 use Rattle.njh_table.specs.Entries.{CustomerEntry}
 use Rattle.njh_table.specs.NewRoutes.{entries_of_routes}
 use Rattle.njh_stream.specs.declared.sender.Sender.TheVariants.{EofSent}
 use Rattle.njh_command.specs.Commands.{is_of_name, with_new_destination, file_in_state, without_file}
-use Rattle.njh_customer.specs.Customer.{with_marks}
 use Rattle.njh_customer.specs.NewRoutes.{entry_with}
 use Rattle.njh_customer.specs.OutgoingFiles.{Outgoing, each_stream, has_file, with_files}
 use Rattle.njh_customer.specs.Moves as moves
@@ -75,7 +75,7 @@ leaves_on_line entry l items x y n (by_sending (moves.ends k m place before foun
 leaves_on_line entry l items x y n (by_end over) there gone = stayed_all n x y (but_states y.files x.files over.files) there gone
 
 pub leaves_so : FilesLeaveSo
-leaves_so entry (Records l items) x y n (up, move) there gone = (up, leaves_on_line (with_marks up entry) l items x y n move there gone)
+leaves_so entry (Records l items) x y n (up, move) there gone = (up, leaves_on_line (entry_marked l up entry) l items x y n move there gone)
 leaves_so entry (Routes routes) x y n given there gone =
     stayed_all n x y (ap (λ z. numbers z.files) given.holds ∙ held_numbers (entry_with (entries_of_routes routes) entry) x.files) there gone
 

@@ -13,6 +13,7 @@ use Rattle.njh_record.specs.declared.Kind.{Kind}
 use Rattle.njh_spool.specs.CustomerSpool.{WholeFile}
 use Rattle.njh_spool.specs.declared.State.{State}
 use Rattle.njh_spool.specs.declared.State.TheVariants as state
+use Rattle.njh_table.specs.Marks.{entry_marked}
 use Rattle.njh_table.specs.Entries.{CustomerEntry}
 use Rattle.njh_table.specs.NewRoutes.{entries_of_routes}
 use Rattle.njh_stream.specs.Sending.{ready}
@@ -22,7 +23,6 @@ use Rattle.njh_command.specs.Commands.{changed_file, is_of_name, may_change, is_
 use Rattle.njh_command.specs.Commands.{file_in_state}
 use Rattle.njh_command.specs.CommandLaws.{ReroutesNameFields}
 use Rattle.njh_command.specs.Files.{no_file}
-use Rattle.njh_customer.specs.Customer.{with_marks}
 use Rattle.njh_customer.specs.NewRoutes.{entry_with}
 use Rattle.njh_customer.specs.OutgoingFiles.{Outgoing, with_file_state, with_files}
 use Rattle.njh_customer.specs.Moves as moves
@@ -140,6 +140,6 @@ module _ (by_records : (kind : Kind) (node : List ℕ) (records : List Stored) �
     changes (by_end over) there = was_there (but_state x.files y.files g over.files there)
 
   pub records_change : RecordsChangeSo
-  records_change entry (Records l items) x y g (up, move) there = (up, changes (with_marks up entry) l items x y g move there)
+  records_change entry (Records l items) x y g (up, move) there = (up, changes (entry_marked l up entry) l items x y g move there)
   records_change entry (Routes routes) x y g given there =
       held_so (entry_with (entries_of_routes routes) entry) x g (subst (λ z. Contains z.files g) given.holds there)

@@ -11,6 +11,7 @@ use Rattle.njh_block.specs.Blocks.{Item}
 use Rattle.njh_block.specs.Codes.{kind_of}
 use Rattle.njh_spool.specs.CustomerSpool.{WholeFile}
 use Rattle.njh_spool.specs.declared.State.TheVariants as state
+use Rattle.njh_table.specs.Marks.{entry_marked}
 use Rattle.njh_table.specs.Entries.{CustomerEntry}
 use Rattle.njh_stream.specs.declared.sender.Sender.{Sender}
 use Rattle.njh_stream.specs.declared.sender.Sender.TheVariants.{Idle, Requested, Sending, EofSent, Aborting}
@@ -20,7 +21,6 @@ use Rattle.njh_command.specs.declared.command.Command.TheVariants.{Cancel}
 use Rattle.njh_command.specs.Commands.{aborted_where, is_of_name, is_about, is_busy, is_sending, without_file}
 use Rattle.njh_customer.specs.OutgoingFiles.{Outgoing, each_stream, with_file_state, sender_on, streams_of, with_files}
 use Rattle.njh_customer.specs.OutgoingFiles.{with_sender_on, without_numbered}
-use Rattle.njh_customer.specs.Customer.{with_marks}
 use Rattle.njh_customer.specs.Moves as moves
 use Rattle.njh_customer.specs.Moves.{Acts, Records, Routes, Moves, by_record, by_sending, by_end, Sends, Tells}
 use Rattle.njh_customer.specs.Moves.{Commands, Over, busy_numbers, without_files}
@@ -252,12 +252,12 @@ moves_on_line entry l items x y j k (by_sending sends) = sending_moves entry l i
 moves_on_line entry l items x y j k (by_end over) = end_moves entry l items j k x y over
 
 pub streams_move : StreamsMoveSo
-streams_move entry (Records l items) x y j k (up, move) = (up, moves_on_line (with_marks up entry) l items x y j k move)
+streams_move entry (Records l items) x y j k (up, move) = (up, moves_on_line (entry_marked l up entry) l items x y j k move)
 streams_move entry (Routes routes) x y j k given = ap (sender_on j k) given.holds
 
 pub idle_take : IdleStreamsTakeFiles
 idle_take entry (Routes routes) x y j k n given has = inl (sym (ap (λ s. file_in (sender_on j k s)) given.holds) ∙ has)
-idle_take entry (Records l items) x y j k n (up, move) has = at_move (moves_on_line (with_marks up entry) l items x y j k move)
+idle_take entry (Records l items) x y j k n (up, move) has = at_move (moves_on_line (entry_marked l up entry) l items x y j k move)
   where
     -- as it was, about the same file
     same_file : (b s : Sender) → sender_on j k x ≡ b → sender_on j k y ≡ s → file_in b ≡ file_in s → file_in (sender_on j k x) ≡ Some n
@@ -267,7 +267,7 @@ idle_take entry (Records l items) x y j k n (up, move) has = at_move (moves_on_l
     about_none : {A : Type 0} (s : Sender) → sender_on j k y ≡ s → file_in s ≡ None → A
     about_none s now none = absurd (cc (sym has ∙ ap (λ t. file_in t) now ∙ none))
 
-    at_move : StreamMoves (with_marks up entry) l items j k x y → (file_in (sender_on j k x) ≡ Some n) ⊎ (sender_on j k x ≡ Idle)
+    at_move : StreamMoves (entry_marked l up entry) l items j k x y → (file_in (sender_on j k x) ≡ Some n) ⊎ (sender_on j k x ≡ Idle)
     at_move (laws.stays same) = inl (sym (ap (λ s. file_in s) same) ∙ has)
     at_move (laws.asks f line sends idle found now) = inr idle
     at_move (laws.permitted i streams m line at told before now) = inl (same_file (Requested m) (Sending m 0) before now.0 refl)

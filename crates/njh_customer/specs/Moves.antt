@@ -11,6 +11,7 @@ use Rattle.njh_nmr.specs.Nodal.{Nodal, nodal_of, is_user_command, sender_of}
 use Rattle.njh_record.specs.Stored.{Stored}
 use Rattle.njh_spool.specs.CustomerSpool.{WholeFile}
 use Rattle.njh_spool.specs.declared.State.TheVariants as state
+use Rattle.njh_table.specs.Marks.{entry_marked}
 use Rattle.njh_table.specs.Entries.{CustomerEntry, route_of}
 use Rattle.njh_table.specs.NewRoutes.{NewRoute, routes_checked, entries_of_routes}
 use Rattle.njh_table.specs.declared.Route.TheVariants.{Here, Line}
@@ -25,7 +26,6 @@ use Rattle.njh_command.specs.declared.command.Command.TheVariants.{Hold, Release
 use Rattle.njh_command.specs.Words.{command_of}
 use Rattle.njh_command.specs.Commands.{changed_file, is_of_name, is_busy, with_new_destination, file_in_state}
 use Rattle.njh_command.specs.Commands.{without_file}
-use Rattle.njh_customer.specs.Customer.{with_marks}
 use Rattle.njh_customer.specs.NewRoutes.{entry_with}
 use Rattle.njh_customer.specs.OutgoingFiles.{Outgoing, each_stream, with_file_state, record_numbered, sender_on}
 use Rattle.njh_customer.specs.OutgoingFiles.{streams_of, with_files, with_sender_on, with_streams, without_numbered}
@@ -157,9 +157,10 @@ pub data Coming : Type 0 where
   Records : (line : ℕ) (items : List Item) → Coming
   Routes : (routes : List NewRoute) → Coming
 
--- a move by what comes; it is judged by the marks of its moment
+-- A move by what comes. It is judged by the marks of its moment: the line on which records come counts as up or not,
+-- and every other line as in the entry.
 abbrev pub MovesBy : CustomerEntry → Coming → Outgoing → Outgoing → Type 0
-MovesBy entry (Records l items) x y = (up : List Bool) × Moves (with_marks up entry) l items x y
+MovesBy entry (Records l items) x y = (up : Bool) × Moves (entry_marked l up entry) l items x y
 MovesBy entry (Routes routes) x y = RoutesMove entry routes x y
 
 -- Moves of a kind lead from one to the other.

@@ -12,6 +12,7 @@ use Rattle.njh_header.specs.Redirecting.{records_to_node}
 use Rattle.njh_record.specs.Stored.{Stored}
 use Rattle.njh_spool.specs.CustomerSpool.{WholeFile}
 use Rattle.njh_spool.specs.declared.State.TheVariants.{Ready}
+use Rattle.njh_table.specs.Marks.{entry_marked}
 use Rattle.njh_table.specs.Entries.{CustomerEntry}
 use Rattle.njh_table.specs.NewRoutes.{NewRoute, routes_checked, entries_of_routes}
 use Rattle.njh_table.specs.declared.fault.TableFault.{TableFault}
@@ -24,7 +25,7 @@ use Rattle.njh_sched.specs.NextBlock.{may_go}
 use Rattle.njh_command.specs.declared.command.Command.TheVariants.{Cancel, Reroute}
 use Rattle.njh_command.specs.Commands.{is_of_name, is_sending}
 use Rattle.njh_customer.specs.declared.signal.Signal.{Signal}
-use Rattle.njh_customer.specs.Customer.{Customer, with_marks}
+use Rattle.njh_customer.specs.Customer.{Customer}
 use Rattle.njh_customer.specs.Alone.{after_frame, after_signal}
 use Rattle.njh_customer.specs.Part.{Part, part_after_bytes, rest_on}
 use Rattle.njh_customer.specs.NewRoutes.{entry_with}
@@ -93,7 +94,7 @@ pub data Leaves (entry : CustomerEntry) (l : ℕ) (items : List Item) (n : ℕ) 
 
 -- by new routes none leaves
 abbrev pub LeavesBy : CustomerEntry → Coming → ℕ → Outgoing → Type 0
-LeavesBy entry (Records l items) n x = (up : List Bool) × Leaves (with_marks up entry) l items n x
+LeavesBy entry (Records l items) n x = (up : Bool) × Leaves (entry_marked l up entry) l items n x
 LeavesBy entry (Routes routes) n x = ⊥
 
 abbrev pub FilesLeaveSo : Type 0
@@ -161,7 +162,7 @@ pub data StreamMoves (entry : CustomerEntry) (l : ℕ) (items : List Item) (j k 
 
 -- by new routes none moves
 abbrev pub StreamMovesBy : CustomerEntry → Coming → ℕ → ℕ → Outgoing → Outgoing → Type 0
-StreamMovesBy entry (Records l items) j k x y = (up : List Bool) × StreamMoves (with_marks up entry) l items j k x y
+StreamMovesBy entry (Records l items) j k x y = (up : Bool) × StreamMoves (entry_marked l up entry) l items j k x y
 StreamMovesBy entry (Routes routes) j k x y = sender_on j k y ≡ sender_on j k x
 
 abbrev pub StreamsMoveSo : Type 0
@@ -201,7 +202,7 @@ pub data RoutesMoveFile (entry : CustomerEntry) (x : Outgoing) (g : WholeFile) :
       → RoutesMoveFile entry x g
 
 abbrev pub FileMovesBy : CustomerEntry → Coming → Outgoing → WholeFile → Type 0
-FileMovesBy entry (Records l items) x g = (up : List Bool) × FileMoves (with_marks up entry) items x g
+FileMovesBy entry (Records l items) x g = (up : Bool) × FileMoves (entry_marked l up entry) items x g
 FileMovesBy entry (Routes routes) x g = RoutesMoveFile (entry_with (entries_of_routes routes) entry) x g
 
 abbrev pub RecordsChangeSo : Type 0
