@@ -1,6 +1,7 @@
 -- What a caller has of one customer when a run is over.
 use Rattle.std.specs.Prelude.{◌≡◌, ℕ, List, map, slice_index_or}
 use Rattle.njh_table.specs.Entries.{CustomerEntry}
+use Rattle.njh_table.specs.Marks.{entry_unmarked}
 use Rattle.njh_table.specs.declared.LineId.{LineId}
 use Rattle.njh_customer.specs.Runs.{OwnEvent, alone_run}
 use Rattle.njh_hub.specs.declared.event.Event.{Event}
@@ -26,6 +27,10 @@ outcome_of c entries events =
 -- a customer's entry in a table
 abbrev pub entry_at : ℕ → List CustomerEntry → CustomerEntry
 entry_at c entries = slice_index_or entries c no_entry
+
+-- Two entries are the same but for which lines count as up. A hub that is opened wipes that.
+abbrev pub AgreeButForMarks : (a b : CustomerEntry) → Type 0
+AgreeButForMarks a b = entry_unmarked a ≡ entry_unmarked b
 
 -- Frames that a sink took, and files that the hub answered, are this outcome of customer c.
 pub record IsOutcome {S : Type 0} (took : S → S → List (LineId × List ℕ) → Type 0) (c : ℕ) (before after : S)

@@ -28,7 +28,7 @@ pub use fault::{Cause, HubFault, RunFault};
 pub use file_summary::FileSummaryView;
 pub use file_view::{FileRecord, FileView};
 pub use given_routes::GivenRoutes;
-pub use headline::{outcome, two_runs};
+pub use headline::{Trial, outcome, two_runs};
 pub use hub::Hub;
 pub use laws::{
     customers_never_meet, each_is_alone, others_stay, own_step_is_own, sent_in_order,

@@ -3,7 +3,7 @@
 use crate::random_events::{ACME, Texts, among_others, own_events};
 use crate::second_lines;
 use crate::steps::of_hub;
-use njh_hub::{Cause, Event, FileView, Sink, SinkFault, outcome, two_runs};
+use njh_hub::{Cause, Event, FileView, Sink, SinkFault, Trial, outcome, two_runs};
 use njh_program::Failure;
 use njh_table::{LineId, Tables};
 use std::alloc::{AllocError, Global};
@@ -98,7 +98,12 @@ fn keep_files(kept: &mut Kept, views: &[FileView]) -> Result<(), AllocError> {
 
 /// How ACME ends where these events come.
 fn end_run(alloc: Global, tables: &str, events: &[Event], kept: &mut Kept) -> Result<(), Failure> {
-    match outcome(alloc, Tables::read(alloc, tables)?, ACME, events, kept) {
+    let trial = Trial {
+        tables: Tables::read(alloc, tables)?,
+        customer: ACME,
+        events,
+    };
+    match outcome(alloc, trial, kept) {
         Ok(views) => Ok(keep_files(kept, &views)?),
         Err(cause) => Err(of_cause(cause)),
     }
@@ -113,9 +118,17 @@ fn end_both(
     others: &mut Kept,
 ) -> Result<(), Failure> {
     let [first, second] = events;
-    let one = Tables::read(alloc, tables)?;
-    let two = Tables::read(alloc, tables)?;
-    match two_runs(alloc, one, ACME, first, kept, two, ACME, second, others) {
+    let one = Trial {
+        tables: Tables::read(alloc, tables)?,
+        customer: ACME,
+        events: first,
+    };
+    let other = Trial {
+        tables: Tables::read(alloc, tables)?,
+        customer: ACME,
+        events: second,
+    };
+    match two_runs(alloc, one, kept, other, others) {
         Ok((views, other_views)) => {
             keep_files(kept, &views)?;
             Ok(keep_files(others, &other_views)?)
