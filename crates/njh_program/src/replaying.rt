@@ -9,6 +9,7 @@ ghost use Rattle.njh_program.specs.Replayed.{IsBegun, IsRefusal, IsReplayed, IsR
 ghost use Rattle.njh_program.specs.Replayed.{Prints, SameParts};
 ghost use Rattle.njh_program.specs.ScriptRoutes.{IsNamedIn};
 ghost use Rattle.njh_hub.specs.Parts.{entries_of};
+ghost use Rattle.njh_hub.specs.Sent.{IsCounted};
 ghost use Rattle.njh_hub.specs.WholeHub.{hub_run, part_at_open, IsNamed};
 
 use crate::fault::ReplayFault;
@@ -86,7 +87,13 @@ fn print_all<W: Write>(
     ensures { Prints result (W.contents out.old) (W.contents out.new)
         (text_by names.now hub.old events.now customers.now) (IsRunShort names.now hub.old events.now) }
 {
-    print_run(hub, events, names, out)?;
+    let mut printer = Printer {
+        out: &mut *out,
+        names,
+        room: FrameRoom::new(),
+        failures: 0,
+    };
+    print_run(hub, events, &mut printer)?;
     print_files(hub, customers, out)?;
     match out.flush() {
         Ok(()) => Ok(()),
@@ -94,26 +101,23 @@ fn print_all<W: Write>(
     }
 }
 
-/// Runs events through a hub, and prints each frame that it sends.
+/// Runs events through a hub, and prints each frame that it sends. A frame that couldn't be printed is counted, and that
+/// alone is `Device`.
 fn print_run<W: Write>(
     hub: &mut Hub,
     events: &[Event],
-    names: &LineNames,
-    out: &mut W,
+    printer: &mut Printer<'_, W>,
 ) -> Result<(), ReplayFault>
     requires { All (IsNamed hub.old) events.now }
-    ensures printed { Prints result (W.contents out.old) (W.contents out.new)
-        (frames_text names.now (hub_run hub.old events.now).sent) (IsRunShort names.now hub.old events.now) }
+    ensures printed { Prints result (W.contents printer.old.out.now) (W.contents printer.new.out.now)
+        (frames_text printer.old.names.now (hub_run hub.old events.now).sent)
+        (IsRunShort printer.old.names.now hub.old events.now) }
+    ensures same_reference { printer.new.out.ghost_name ≡ printer.old.out.ghost_name }
+    ensures counted { result ≡ Err ReplayFault.Device → IsCounted printer.old.failures printer.new.failures }
     ensures after { OnOk result (SameParts (hub_run hub.old events.now).parts hub.new (length hub.old)) }
     ensures customers { length hub.new ≡ length hub.old }
 {
-    let mut printer = Printer {
-        out,
-        names,
-        room: FrameRoom::new(),
-        failures: 0,
-    };
-    match hub.run(events, &mut printer) {
+    match hub.run(events, printer) {
         Ok(()) => {
             each_is_alone();
             Ok(())
