@@ -7,6 +7,7 @@ use Rattle.njh_hub.specs.Parts.{entries_of}
 use Rattle.njh_hub.specs.Turns.{no_quiets}
 use Rattle.njh_hub.specs.WholeHub.{Part, part_at_open}
 use Rattle.njh_hub.specs.Wires.{WireAct}
+use Rattle.njh_serve.specs.declared.endpoints.Endpoint.{Endpoint}
 use Rattle.njh_serve.specs.Endpoints.{endpoints_of, lines_of}
 use Rattle.njh_serve.specs.Opened.{IsApart}
 
@@ -29,13 +30,16 @@ pub record HasServed {W : Type 0} (passed : W → W → List WireAct → Type 0)
   pub attended : IsAttended passed count old.lines turns old.hub old.quiets old.wires new.hub new.quiets new.wires
   pub lines : new.lines ≡ old.lines
 
--- A service that was just opened on tables: a hub of these, and its lines that have a port or a peer, no two on one
--- port.
-pub record IsOpened {W : Type 0} (tables : TableFile) (service : Served W) : Type 0 where
-  pub apart : IsApart (endpoints_of tables)
+-- A service that was just opened: a hub of these tables, and these lines of it, no two on one port.
+pub record IsOpenedOn {W : Type 0} (tables : TableFile) (endpoints : List Endpoint) (service : Served W) : Type 0 where
+  pub apart : IsApart endpoints
   pub hub : service.hub ≡ map part_at_open (entries_of tables)
-  pub lines : service.lines ≡ lines_of (endpoints_of tables)
-  pub calm : service.quiets ≡ no_quiets (lines_of (endpoints_of tables))
+  pub lines : service.lines ≡ lines_of endpoints
+  pub calm : service.quiets ≡ no_quiets (lines_of endpoints)
+
+-- One that was just opened on tables: its lines are those that have a port or a peer.
+abbrev pub IsOpened : {W : Type 0} → TableFile → Served W → Type 0
+IsOpened tables service = IsOpenedOn tables (endpoints_of tables) service
 
 -- The lines of tables that have a port or a peer had so many turns each, and a hub of these tables was told of these,
 -- of new routes and of nothing else. Of what a socket gave and took nothing is known.

@@ -7,7 +7,7 @@ ghost use Rattle.njh_hub.specs.WholeHub.{part_at_open};
 ghost use Rattle.njh_table.specs.TableFile.{HasLine};
 ghost use Rattle.njh_serve.specs.Endpoints.{endpoints_of, lines_of};
 ghost use Rattle.njh_serve.specs.Opened.{IsApart};
-ghost use Rattle.njh_serve.specs.Serving.{AreServed, IsOpened};
+ghost use Rattle.njh_serve.specs.Serving.{AreServed, IsOpened, IsOpenedOn};
 
 use crate::endpoints::{Endpoint, endpoints_of};
 use crate::fault::ServeFault;
@@ -54,14 +54,13 @@ pub fn serve<R: Net + Clock + AllocGlobal, L: Write + Drop, S: TableSource + Dro
     ensures { OnOk result (AreServed tables turns) }
 {
     let mut log = log;
-    let network = match MioNetwork::new(rt) {
+    let network = match network_on(rt, &mut log) {
         Ok(network) => network,
-        Err(error) => {
-            log.write(
-                utc_seconds(rt),
-                &"the sockets of this machine can't be waited for",
-            );
-            return Err(ServeFault::from(error));
+        Err(fault) => {
+            drop(log);
+            drop(revision);
+            drop(tables);
+            return Err(fault);
         }
     };
     let station = Station {
@@ -70,8 +69,38 @@ pub fn serve<R: Net + Clock + AllocGlobal, L: Write + Drop, S: TableSource + Dro
         log,
         revision,
     };
-    let mut service = service_on(rt.alloc(), tables, station, turns.is_none())?;
+    serve_on(rt.alloc(), tables, station, turns)
+}
+
+/// The sockets of this machine. Where they can't be waited for the log says so.
+fn network_on<'a, R: Net + Clock + AllocGlobal, L: Write + Drop>(
+    rt: &'a R,
+    log: &mut Log<L>,
+) -> Result<MioNetwork<'a, R>, ServeFault> {
+    match MioNetwork::new(rt) {
+        Ok(network) => Ok(network),
+        Err(error) => {
+            log.write(
+                utc_seconds(rt),
+                &"the sockets of this machine can't be waited for",
+            );
+            Err(ServeFault::from(error))
+        }
+    }
+}
+
+/// Serves the lines of tables at a station.
+fn serve_on<N: Network + Drop, L: Write + Drop, S: TableSource + Drop>(
+    alloc: Global,
+    tables: Tables,
+    station: Station<N, L, S>,
+    turns: Option<u32>,
+) -> Result<(), ServeFault>
+    ensures { OnOk result (AreServed tables turns) }
+{
+    let mut service = service_on(alloc, tables, station, turns.is_none())?;
     service.run(turns);
+    drop(service);
     Ok(())
 }
 
@@ -86,10 +115,43 @@ pub fn service_on<N: Network + Drop, L: Write + Drop, S: TableSource + Drop>(
 ) -> Result<Service<LineWire<N::Connection>, Exchange<N, L, S>>, ServeFault>
     ensures { IfOk result (IsOpened tables) }
 {
-    let endpoints = endpoints_of(alloc, &tables)?;
-    let exchange = exchange_on(alloc, &tables, &endpoints, station, needed)?;
-    let wires = wires_for(alloc, &endpoints)?;
-    match Service::new(alloc, tables, &endpoints, wires, exchange) {
+    match endpoints_of(alloc, &tables) {
+        Ok(endpoints) => service_of(alloc, tables, &endpoints, station, needed),
+        Err(_) => {
+            drop(station);
+            drop(tables);
+            Err(ServeFault::Memory)
+        }
+    }
+}
+
+/// A service of lines of tables.
+fn service_of<N: Network + Drop, L: Write + Drop, S: TableSource + Drop>(
+    alloc: Global,
+    tables: Tables,
+    endpoints: &[Endpoint],
+    station: Station<N, L, S>,
+    needed: bool,
+) -> Result<Service<LineWire<N::Connection>, Exchange<N, L, S>>, ServeFault>
+    requires { All (λ endpoint. HasLine tables endpoint.line) endpoints.now }
+    ensures { IfOk result (IsOpenedOn tables endpoints.now) }
+{
+    let exchange = match exchange_on(alloc, &tables, endpoints, station, needed) {
+        Ok(exchange) => exchange,
+        Err(fault) => {
+            drop(tables);
+            return Err(fault);
+        }
+    };
+    let wires = match wires_for(alloc, endpoints) {
+        Ok(wires) => wires,
+        Err(_) => {
+            drop(exchange);
+            drop(tables);
+            return Err(ServeFault::Memory);
+        }
+    };
+    match Service::new(alloc, tables, endpoints, wires, exchange) {
         Ok(service) => Ok(service),
         Err(_) => Err(ServeFault::Memory),
     }
@@ -120,27 +182,65 @@ fn exchange_on<N: Network + Drop, L: Write + Drop, S: TableSource + Drop>(
     requires { All (λ endpoint. HasLine tables.now endpoint.line) endpoints.now }
     ensures { OnOk result (IsApart endpoints.now) }
 {
-    let Station {
-        mut network,
-        address,
-        mut log,
-        revision,
-    } = station;
+    let mut station = station;
+    let ways = match ways_on(alloc, tables, endpoints, &mut station, needed) {
+        Ok(ways) => ways,
+        Err(fault) => {
+            drop(station);
+            return Err(fault);
+        }
+    };
+    let mut exchange = exchange_of(alloc, station);
+    match add_lines(&mut exchange, tables, endpoints, ways) {
+        Ok(()) => Ok(exchange),
+        Err(_) => {
+            drop(exchange);
+            Err(ServeFault::Memory)
+        }
+    }
+}
+
+/// The sockets of lines. Where one can't be opened the log says why.
+fn ways_on<N: Network + Drop, L: Write + Drop, S: TableSource + Drop>(
+    alloc: Global,
+    tables: &Tables,
+    endpoints: &[Endpoint],
+    station: &mut Station<N, L, S>,
+    needed: bool,
+) -> Result<Vec<Way<N::Listener>>, ServeFault>
+    ensures { OnOk result (IsApart endpoints.now) }
+{
     if needed && endpoints.is_empty() {
-        log.write(network.utc(), &"no line of the tables has a port or a peer");
+        station.log.write(
+            station.network.utc(),
+            &"no line of the tables has a port or a peer",
+        );
         return Err(ServeFault::Device);
     }
-    match open(alloc, &mut network, address, endpoints) {
-        Ok(ways) => {
-            let mut exchange = Exchange::new(alloc, network, log, revision);
-            add_lines(&mut exchange, tables, endpoints, ways)?;
-            Ok(exchange)
-        }
+    match open(alloc, &mut station.network, station.address, endpoints) {
+        Ok(ways) => Ok(ways),
         Err(fault) => {
-            log.write(network.utc(), &Refusal::of(tables, endpoints, fault));
+            station.log.write(
+                station.network.utc(),
+                &Refusal::of(tables, endpoints, fault),
+            );
             Err(fault_of(fault.cause))
         }
     }
+}
+
+/// An attendant of no line yet.
+fn exchange_of<N: Network + Drop, L: Write + Drop, S: TableSource + Drop>(
+    alloc: Global,
+    station: Station<N, L, S>,
+) -> Exchange<N, L, S> {
+    let Station {
+        network,
+        log,
+        revision,
+        address: _,
+    } = station;
+    Exchange::new(alloc, network, log, revision)
 }
 
 /// Why lines aren't served where a socket can't be opened.

@@ -1,4 +1,4 @@
-use Rattle.njh_serve.proofs.serving.serve.Goals as goal
+use Rattle.njh_serve.proofs.serving.serve_on.Goals as goal
 
 -- the story of the service that was opened
 pub returns : goal.returns
