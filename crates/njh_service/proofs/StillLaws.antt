@@ -1,8 +1,16 @@
 -- Between rounds each wire stays that of its line, and none fails less often.
-use Rattle.std.proofs.Common.{◌≡◌, ◌≢◌, ℕ, ◌<◌, ◌≤◌, List, length, set, get_or, sym, ap, ◌∙◌, arith, ⊎_elim}
+use Rattle.std.proofs.Common.{◌≡◌, ◌≢◌, ℕ, ◌<◌, ◌≤◌, List, length, set, get_or, refl, sym, ap, ◌∙◌, arith, ⊎_elim}
 use Rattle.std.proofs.lemmas.Bool.{cases_eq}
 use Rattle.std.proofs.lemmas.List.{get_or-set_same, get_or-set_other, get_or_read}
 use Rattle.njh_hub.specs.Service.{AreStill}
+
+-- nothing changed
+pub still_same : {S : Type 0} (place count : S → ℕ) (wires : List S)
+    → AreStill (λ a b acts. place a ≡ place b) count wires wires
+still_same place count wires = record {
+  passed_none = λ k d w. refl;
+  counts = λ k d w. omega arith;
+}
 
 -- what stays of each, as one of them changes and this of it stays
 same_more : {S : Type 0} (place : S → ℕ) (now : List S) (i : ℕ) (was new : S) → i < length now → was ≡ get_or now i was →
