@@ -5,3 +5,4 @@ pub mod Redirected
 pub mod SectionsLaw
 pub mod HeadersLaw
 pub mod SignOnBack
+pub mod RedirectedHeaders

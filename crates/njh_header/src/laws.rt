@@ -1,6 +1,7 @@
 //! Laws of the definitions. Each function does nothing: its contract is the law.
 
-ghost use Rattle.std.specs.Prelude.{◌≡◌, ◌↔◌, ℕ, List, Ok, Err, None};
+ghost use Rattle.std.specs.Prelude.{◌≡◌, ◌↔◌, ℕ, List, Ok, Err, None, true};
+ghost use Rattle.njh_ebcdic.specs.Names.{is_name};
 ghost use Rattle.njh_record.specs.declared.Kind.{Kind};
 ghost use Rattle.njh_record.specs.Stored.{Stored};
 ghost use Rattle.njh_header.specs.FileHeaders.{with_destination};
@@ -9,6 +10,7 @@ ghost use Rattle.njh_header.specs.Headers.{IsJobHeader, JobHeader, job_header};
 ghost use Rattle.njh_header.specs.Redirecting.{records_to_node};
 ghost use Rattle.njh_header.specs.Sections.{HasGeneral, LacksGeneral};
 ghost use Rattle.njh_header.specs.Walk.{general_section};
+ghost use Rattle.njh_header.specs.WholeFiles.{HasHeaders};
 
 use crate::fault::HeaderFault;
 
@@ -38,4 +40,10 @@ pub fn one_data_set_header()
 pub fn redirected_by_records()
     ensures { (kind : Kind) (node : List ℕ) (records : List Stored) →
         records_to_node kind node None records ≡ with_destination kind node records }
+{}
+
+/// A file whose headers read is still one with another destination, whose node is a name.
+pub fn redirected_files_have_headers()
+    ensures { (kind : Kind) (node : List ℕ) (records : List Stored)
+        → is_name node ≡ true → HasHeaders kind records → HasHeaders kind (with_destination kind node records) }
 {}

@@ -16,10 +16,12 @@ use Rattle.njh_stream.specs.declared.receiver.Progress.{Progress}
 use Rattle.njh_stream.specs.declared.receiver.Progress.TheVariants.{Beginning}
 use Rattle.njh_stream.specs.declared.receiver.Receiver.{Receiver}
 use Rattle.njh_stream.specs.declared.receiver.Receiver.TheVariants.{Idle, Open, Draining}
-use Rattle.njh_stream.specs.Transmissions.{Verdict, Taken, Cancelled, is_whole, judged_coming, Fitting}
+use Rattle.njh_stream.specs.Transmissions.{Verdict, Taken, Cancelled, is_whole, judged_coming, verdict_of, Fitting}
 use Rattle.njh_stream.specs.Receiving.{Arrival, Request, Data, Long, Abort, progress_of, received_request}
 use Rattle.njh_stream.specs.Receiving.{requested_where, closed_by, stored_by, received_arrival}
 use Rattle.njh_stream.specs.code.Agreement.{Agrees, AgreesWith}
+use Rattle.njh_stream.specs.code.HeadersSoFar.{ReadsSoFar}
+use Rattle.njh_stream.proofs.HeadersCome.{one_more, was_taken}
 
 -- the next number is no file's, where there may be one file more
 abbrev pub IsFree : CustomerSpool → Type 0
@@ -60,7 +62,7 @@ begun_agrees kind s free =
     subst (AgreesWith kind Beginning)
     (sym (found_last (next_number s) new s.partial (eq-eqb (next_number s) (next_number s) refl)
     (or_right (list_any (λ f. f.number == next_number s) s.whole) (list_any (λ f. f.number == next_number s) s.partial) free)))
-    (refl, nothing_yet kind)
+    (refl, nothing_yet kind, tt)
 
 pub requested_agrees : (kind : Kind) (s : CustomerSpool) → IsFree s → Agrees kind (received_request kind s).receiver (received_request kind s).spool
 requested_agrees kind s free = at_room (has_file_room s && has_block s) refl
@@ -98,22 +100,28 @@ records_or_none o = elim o [ Some f ↦ f.records | None ↦ [] ]
 
 pub appended_agrees :
     (kind : Kind) (progress : Progress) (n : ℕ) (r : Stored) (s : CustomerSpool) → AgreesWith kind progress (partial_numbered n s)
+    → (ReadsSoFar kind (partial_records n s) → ReadsSoFar kind (partial_records n s ++ r ∷ []))
     → AgreesWith kind (progress_of kind (partial_records n s ++ r ∷ [])) (partial_numbered n (with_appended n r s))
-appended_agrees kind progress n r s agrees = at_file (partial_numbered n s) refl agrees
+appended_agrees kind progress n r s agrees reads = at_file (partial_numbered n s) refl agrees
   where
     at_file :
         (o : Option PartialFile) → partial_numbered n s ≡ o → AgreesWith kind progress o
         → AgreesWith kind (progress_of kind (partial_records n s ++ r ∷ [])) (partial_numbered n (with_appended n r s))
     at_file None e agrees = absurd agrees
     at_file (Some f) e agrees =
-        subst (AgreesWith kind (progress_of kind (partial_records n s ++ r ∷ []))) (sym (found_with_record n r s.partial f e))
-        (agrees.0, ap (λ o. progress_of kind (records_or_none o ++ r ∷ [])) e)
+        subst (AgreesWith kind (progress_of kind (partial_records n s ++ r ∷ []))) (sym (found_with_record n r s.partial f e)) (
+          agrees.0,
+          ap (λ o. progress_of kind (records_or_none o ++ r ∷ [])) e,
+          subst (λ o. ReadsSoFar kind (records_or_none o ++ r ∷ [])) e
+              (reads (subst (λ o. ReadsSoFar kind (records_or_none o)) (sym e) agrees.2)),
+        )
 
 pub stored_agrees :
     (v : Verdict) (kind : Kind) (progress : Progress) (n : ℕ) (r : Stored) (s : CustomerSpool) → AgreesWith kind progress (partial_numbered n s)
+    → (v ≡ Taken → ReadsSoFar kind (partial_records n s) → ReadsSoFar kind (partial_records n s ++ r ∷ []))
     → Agrees kind (stored_by v kind n r (partial_records n s ++ r ∷ []) s).receiver (stored_by v kind n r (partial_records n s ++ r ∷ []) s).spool
-stored_agrees Taken kind progress n r s agrees = appended_agrees kind progress n r s agrees
-stored_agrees (Cancelled text) kind progress n r s agrees = tt
+stored_agrees Taken kind progress n r s agrees reads = appended_agrees kind progress n r s agrees (reads refl)
+stored_agrees (Cancelled text) kind progress n r s agrees reads = tt
 
 pub closed_agrees : (b : Bool) (kind : Kind) (n : ℕ) (s : CustomerSpool) → Agrees kind (closed_by b n s).receiver (closed_by b n s).spool
 closed_agrees true kind n s = tt
@@ -137,7 +145,10 @@ received_agrees entry l kind (Open n progress) Request s free agrees = requested
 received_agrees entry l kind (Open n progress) (Data srcb []) s free agrees = closed_agrees (is_whole (partial_records n s)) kind n s
 received_agrees entry l kind (Open n progress) (Data srcb (b ∷ bytes)) s free agrees =
     let r : Stored = record { srcb = srcb; bytes = b ∷ bytes } in
-    stored_agrees (judged_coming entry l kind (partial_records n s) (Fitting r (has_room_for n r s))) kind progress n r s agrees
+    let earlier = partial_records n s in
+    stored_agrees (judged_coming entry l kind earlier (Fitting r (has_room_for n r s))) kind progress n r s agrees
+    (λ taken so_far. one_more entry l kind earlier r so_far
+    (was_taken entry l (has_room_for n r s) (earlier ++ r ∷ []) (verdict_of entry l kind earlier r) taken))
 received_agrees entry l kind (Open n progress) Long s free agrees = tt
 received_agrees entry l kind (Open n progress) Abort s free agrees = tt
 

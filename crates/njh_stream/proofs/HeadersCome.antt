@@ -1,6 +1,6 @@
 -- A transmission that becomes a file has headers that read.
 use Rattle.std.proofs.Common.{◌≡◌, ℕ, Bool, true, false, List, [], ◌∷◌, ◌++◌, Option, Some, None, Result, Ok, Err, ◌==◌}
-use Rattle.std.proofs.Common.{◌&&◌, not, cond, refl, sym, ap, subst, ◌∙◌, ◌⊎◌, inl, inr, true≢false, eqb-true}
+use Rattle.std.proofs.Common.{◌&&◌, not, cond, refl, sym, ap, subst, ◌∙◌, inl, inr, true≢false, eqb-true}
 use Rattle.std.specs.Option.{option_map}
 use Rattle.std.specs.Result.{result_ok}
 use Rattle.std.proofs.lemmas.List.{append-nil, append_assoc}
@@ -9,30 +9,15 @@ use Rattle.njh_record.specs.Stored.{Stored, has_srcb}
 use Rattle.njh_record.specs.declared.Kind.{Kind}
 use Rattle.njh_record.specs.declared.Kind.TheVariants.{In, Out}
 use Rattle.njh_header.specs.Headers.{JobHeader, job_header, DataSetHeader, data_set_header, job_name}
-use Rattle.njh_header.specs.FileHeaders.{data_set_header_of, job_header_of, name_of}
+use Rattle.njh_header.specs.FileHeaders.{name_of}
 use Rattle.njh_header.specs.declared.fault.HeaderFault.{HeaderFault}
 use Rattle.njh_table.specs.Entries.{CustomerEntry}
 use Rattle.njh_stream.specs.Transmissions.{Verdict, Taken, Cancelled, ComingRecord, Fitting, TooLong, is_whole}
 use Rattle.njh_stream.specs.Transmissions.{judged_node, judged_job, judged_later, is_continuation, with_room, verdict_of}
 use Rattle.njh_stream.specs.Outcomes.{AreTaken, Becomes, records_of, Ending, EndOfFile, GivenUp, CutOff, AFile}
-use Rattle.njh_stream.specs.WholeFiles.{HasHeaders}
+use Rattle.njh_header.specs.WholeFiles.{HasHeaders}
+use Rattle.njh_stream.specs.code.HeadersSoFar.{DataSetReads, DestinationReads, ReadsSoFar}
 use Rattle.njh_stream.proofs.ProgressLaws.{all_job_headers, header_stays, header_comes, first_header}
-
--- ---- what is known of the records that were taken so far
-
-abbrev pub JobReads : List Stored → Type 0
-JobReads records = (h : JobHeader) × (job_header_of records ≡ Some h)
-
-abbrev pub DataSetReads : List Stored → Type 0
-DataSetReads records = (h : DataSetHeader) × (data_set_header_of records ≡ Some h)
-
-abbrev pub DestinationReads : Kind → List Stored → Type 0
-DestinationReads In records = Unit {0}
-DestinationReads Out records = (all_job_headers records ≡ true) ⊎ DataSetReads records
-
-abbrev pub ReadsSoFar : Kind → List Stored → Type 0
-ReadsSoFar kind [] = Unit {0}
-ReadsSoFar kind (r ∷ rs) = JobReads (r ∷ rs) × DestinationReads kind (r ∷ rs)
 
 module _ (entry : CustomerEntry) (l : ℕ) where
   -- ---- the first record
@@ -129,14 +114,14 @@ module _ (entry : CustomerEntry) (l : ℕ) where
 
   -- ---- all records
 
-  one_more :
+  pub one_more :
       (kind : Kind) (earlier : List Stored) (r : Stored) → ReadsSoFar kind earlier → verdict_of entry l kind earlier r ≡ Taken
       → ReadsSoFar kind (earlier ++ r ∷ [])
   one_more kind [] r so_far v = first_so kind r v
   one_more In (x ∷ xs) r so_far v = (so_far.0, tt)
   one_more Out (x ∷ xs) r so_far v = (so_far.0, output_so x xs r (all_job_headers (x ∷ xs)) refl so_far.1 v)
 
-  was_taken : (room : Bool) (more : List Stored) (v : Verdict) → with_room room more v ≡ Taken → v ≡ Taken
+  pub was_taken : (room : Bool) (more : List Stored) (v : Verdict) → with_room room more v ≡ Taken → v ≡ Taken
   was_taken room more (Cancelled text) e = absurd (cc e)
   was_taken true more Taken e = refl
   was_taken false more Taken e = refl
@@ -168,7 +153,7 @@ no_trailer (r ∷ s ∷ rs) all = at_first (has_srcb 0xc0 r) (no_trailer (s ∷ 
     at_first true more h = more h
     at_first false more h = absurd (cc h)
 
-whole_headers : (kind : Kind) (records : List Stored) → ReadsSoFar kind records → is_whole records ≡ true → HasHeaders kind records
+pub whole_headers : (kind : Kind) (records : List Stored) → ReadsSoFar kind records → is_whole records ≡ true → HasHeaders kind records
 whole_headers kind [] so_far whole = absurd (cc whole)
 whole_headers In (r ∷ rs) (job, place) whole =
     record {

@@ -3,12 +3,13 @@ pub mod UnreadLaws
 pub mod ReceivingLaws
 pub mod StoringLaws
 pub mod ClassLaws
+pub mod HeadersCome
 pub mod AgreesLaws
+pub mod HeadersKept
 pub mod EndingLaws
 pub mod RoutingLaws
 pub mod OnlyOneLaws
 pub mod OutcomeLaws
-pub mod HeadersCome
 pub mod FollowingLaws
 pub mod PartialLaws
 pub mod MoveLaws

@@ -1,15 +1,8 @@
--- What the headers of a whole file say: each of them reads, so the file has a name, an owner and a destination.
-use Rattle.std.specs.Prelude.{◌≡◌, List, Some}
-use Rattle.njh_ebcdic.specs.Users.{User}
-use Rattle.njh_header.specs.FileHeaders.{name_of, file_owner, destination_of}
-use Rattle.njh_header.specs.FileNames.{FileName}
-use Rattle.njh_record.specs.Stored.{Stored}
-use Rattle.njh_record.specs.declared.Kind.{Kind}
+-- What is known of a customer's whole files.
+use Rattle.std.specs.Prelude.{All, List}
+use Rattle.njh_header.specs.WholeFiles.{HasHeaders}
+use Rattle.njh_spool.specs.CustomerSpool.{WholeFile}
 
-pub record HasHeaders (kind : Kind) (records : List Stored) : Type 0 where
-  pub name : FileName
-  pub owner : User
-  pub destination : User
-  pub named : name_of records ≡ Some name
-  pub owned : file_owner records ≡ Some owner
-  pub goes : destination_of kind records ≡ Some destination
+-- each has headers that read: a name, an owner and a destination
+abbrev pub HaveHeaders : List WholeFile → Type 0
+HaveHeaders files = All (λ f. HasHeaders f.kind f.records) files

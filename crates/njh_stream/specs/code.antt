@@ -1,4 +1,5 @@
 -- What only bodies and proofs speak of.
+pub mod HeadersSoFar
 pub mod Agreement
 pub mod Classes
 pub mod FileRouting

@@ -10,9 +10,10 @@ ghost use Rattle.njh_stream.specs.Outcomes.{AFile, Becomes, Ending, Transmission
 ghost use Rattle.njh_stream.specs.Receiving.{Arrival, Request, received_arrival, received_request, without_all_open};
 ghost use Rattle.njh_stream.specs.Receiving.{without_open};
 ghost use Rattle.njh_stream.specs.Streams.{stream_at, streams_at, with_stream, without_streams};
-ghost use Rattle.njh_stream.specs.code.Agreement.{AreTied};
+ghost use Rattle.njh_stream.specs.code.Agreement.{Agrees, AreTied};
+ghost use Rattle.njh_stream.specs.WholeFiles.{HaveHeaders};
 ghost use Rattle.njh_stream.specs.Transmissions.{ComingRecord};
-ghost use Rattle.njh_stream.specs.WholeFiles.{HasHeaders};
+ghost use Rattle.njh_header.specs.WholeFiles.{HasHeaders};
 ghost use Rattle.njh_record.specs.Stored.{Stored};
 
 use crate::receiver::{Progress, Receiver};
@@ -31,6 +32,13 @@ pub fn one_outcome()
 pub fn files_have_headers()
     ensures come { (entry : CustomerEntry) (l : ℕ) (kind : Kind) (cs : List ComingRecord) (ending : Ending)
         (records : List Stored) → Becomes entry l kind cs ending (AFile records) → HasHeaders kind records }
+{}
+
+/// What comes on a stream leaves a customer's whole files with headers that read.
+pub fn whole_files_have_headers()
+    ensures { (entry : CustomerEntry) (l : ℕ) (kind : Kind) (receiver : Receiver) (a : Arrival) (s : CustomerSpool)
+        → Agrees kind receiver s → HaveHeaders s.whole
+        → HaveHeaders (received_arrival entry l kind receiver a s).spool.whole }
 {}
 
 /// A stream that is followed from a permitted request on, arrival by arrival, answers, tells and leaves what the whole

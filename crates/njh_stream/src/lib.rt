@@ -19,7 +19,9 @@ mod storing;
 pub use arrival::Arrival;
 pub use ending::{end_receivers, end_senders};
 pub use holding::hold_unrouted;
-pub use laws::{files_have_headers, one_outcome, streams_end_so, streams_stay_tied};
+pub use laws::{
+    files_have_headers, one_outcome, streams_end_so, streams_stay_tied, whole_files_have_headers,
+};
 pub use notice::Notice;
 pub use receiver::{Progress, Receiver, StreamStep};
 pub use routing::{goes_by, node_goes_by, retry_refused};

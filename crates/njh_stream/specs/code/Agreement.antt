@@ -9,11 +9,13 @@ use Rattle.njh_stream.specs.declared.receiver.Receiver.TheVariants.{Idle, Open, 
 use Rattle.njh_block.specs.Codes.{kind_of}
 use Rattle.njh_stream.specs.Receiving.{progress_of}
 use Rattle.njh_stream.specs.Streams.{stream_at, coming_file}
+use Rattle.njh_stream.specs.code.HeadersSoFar.{ReadsSoFar}
 
--- there is a partial file of this kind, and what is kept is what its records say
+-- there is a partial file of this kind, what is kept is what its records say, and their headers read
 abbrev pub AgreesWith : Kind → Progress → Option PartialFile → Type 0
 AgreesWith kind progress None = ⊥
-AgreesWith kind progress (Some f) = (f.kind ≡ kind) × (progress ≡ progress_of kind f.records)
+AgreesWith kind progress (Some f) =
+    (f.kind ≡ kind) × (progress ≡ progress_of kind f.records) × ReadsSoFar kind f.records
 
 -- whether the last record that came is a trailer
 abbrev pub ends_whole : Progress → Bool
