@@ -6,4 +6,5 @@ mod ReplyLaws
 mod WalkLaws
 mod CommandMoves
 mod RerouteNodes
+mod HeadersKept
 mod LookingLaws

@@ -1,12 +1,14 @@
 -- What holds of every command, whoever says it. That nothing in the spool but the whole files is touched, `spool_after`
 -- says.
-use Rattle.std.specs.Prelude.{◌≡◌, ℕ, List, [], length, map, filter, Some, not}
+use Rattle.std.specs.Prelude.{◌≡◌, ℕ, true, List, [], map, filter, Some, not}
+use Rattle.njh_ebcdic.specs.Names.{is_name}
 use Rattle.njh_ebcdic.specs.Users.{User}
 use Rattle.njh_header.specs.FileNames.{FileName}
 use Rattle.njh_spool.specs.declared.State.TheVariants.{Ready, Held}
 use Rattle.njh_spool.specs.CustomerSpool.{CustomerSpool, WholeFile}
 use Rattle.njh_table.specs.Entries.{CustomerEntry, route_of}
 use Rattle.njh_table.specs.declared.Route.TheVariants.{Line}
+use Rattle.njh_stream.specs.WholeFiles.{HaveHeaders}
 use Rattle.njh_command.specs.declared.command.Command.TheVariants.{Hold, Release, Cancel, Reroute}
 use Rattle.njh_command.specs.Words.{command_of}
 use Rattle.njh_command.specs.Commands.{CommandOutcome, changed_file, file_in_state, is_busy, is_of_name}
@@ -46,8 +48,14 @@ CommandsMoveFilesSo =
     (entry : CustomerEntry) (who : User) (message : List ℕ) (s : CustomerSpool)
     → FilesMove entry who message s.whole (message_outcome entry who message s)
 
--- The node that files are rerouted to has the eight bytes of a field.
-abbrev pub ReroutesNameFields : Type 0
-ReroutesNameFields =
+-- The node that files are rerouted to is a name.
+abbrev pub ReroutesNameNodes : Type 0
+ReroutesNameNodes =
     (message : List ℕ) (name : FileName) (node : List ℕ) → command_of message ≡ Some (Reroute name node)
-    → length node ≡ 8
+    → is_name node ≡ true
+
+-- No message leaves a whole file without headers that read.
+abbrev pub CommandsKeepHeaders : Type 0
+CommandsKeepHeaders =
+    (entry : CustomerEntry) (who : User) (message : List ℕ) (s : CustomerSpool) → HaveHeaders s.whole
+    → HaveHeaders (message_outcome entry who message s).files

@@ -17,7 +17,7 @@ mod words;
 
 pub use command::{BadCommand, Command};
 pub use files::number_of;
-pub use laws::{commands_move_files_so, reroutes_name_fields};
+pub use laws::{commands_keep_headers, commands_move_files_so, reroutes_name_nodes};
 pub use replies::{MAX_REPLIES, Replies};
 pub use running::{Originator, obey, run};
 pub use senders::{Senders, give_up};

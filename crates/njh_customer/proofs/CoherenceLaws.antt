@@ -13,7 +13,9 @@ use Rattle.njh_stream.specs.declared.receiver.Receiver.TheVariants.{Idle, Open, 
 use Rattle.njh_stream.specs.Arrivals.{answer_on}
 use Rattle.njh_stream.specs.Receiving.{Arrival, Request, Data, Long, Abort, Received, received_arrival}
 use Rattle.njh_stream.specs.Receiving.{without_all_open, received_request, requested_where, closed_by, stored_by}
+use Rattle.njh_stream.specs.WholeFiles.{HaveHeaders}
 use Rattle.njh_stream.specs.code.Agreement.{Agrees, AreTied}
+use Rattle.njh_command.specs.CommandLaws.{CommandsKeepHeaders}
 use Rattle.njh_stream.specs.Transmissions.{Verdict, Taken, Cancelled, Fitting, is_whole, judged_coming}
 use Rattle.njh_stream.specs.Streams.{streams_at, stream_at, with_stream, without_streams}
 use Rattle.njh_spool.specs.CustomerSpool.{CustomerSpool, PartialFile, has_file_room, has_block, has_room_for}
@@ -38,17 +40,30 @@ ArrivalsTie =
 abbrev pub NothingUnties : Type 0
 NothingUnties = (lines : List (List Receiver)) (s t : CustomerSpool) → t.partial ≡ s.partial → AreTied lines s → AreTied lines t
 
+abbrev pub ArrivalsKeepHeaders : Type 0
+ArrivalsKeepHeaders =
+    (entry : CustomerEntry) (l : ℕ) (kind : Kind) (r : Receiver) (a : Arrival) (s : CustomerSpool) → Agrees kind r s
+    → HaveHeaders s.whole → HaveHeaders (received_arrival entry l kind r a s).spool.whole
+
+-- what the crates of streams and of commands say of the records that come
+pub record RecordsKeep : Type 0 where
+  pub tied : ArrivalsTie
+  pub headers : ArrivalsKeepHeaders
+  pub commands : CommandsKeepHeaders
+
 abbrev pub EndsTie : Type 0
 EndsTie =
     (l : ℕ) (lines : List (List Receiver)) (s : CustomerSpool) → l < length lines → AreTied lines s
     → AreTied (without_streams l lines) (without_all_open (streams_at l lines) s)
 
--- the streams are the same, and so are the partial files, the quota and the limit of files
+-- the streams are the same, and so are the partial files, the quota and the limit of files; whole files whose headers
+-- read still have them
 pub record IsLike (d c : Customer) : Type 0 where
   pub entry : d.entry ≡ c.entry
   pub lines : shapes d.lines ≡ shapes c.lines
   pub partial : d.spool.partial ≡ c.spool.partial
   pub limits : limits_of d.spool ≡ limits_of c.spool
+  pub headers : HaveHeaders c.spool.whole → HaveHeaders d.spool.whole
 
 -- as many lines
 pub as_many : (xs ys : List CustomerLine) → shapes xs ≡ shapes ys → length xs ≡ length ys
@@ -59,6 +74,7 @@ coherent_still d c untied like coherent = record {
   tied = subst (λ lines. AreTied lines d.spool) (sym (same_streams d.lines c.lines like.lines))
       (untied (streams_to_hub c.lines) c.spool d.spool like.partial coherent.tied);
   streamed = streamed_still d.lines c.lines like.lines coherent.streamed;
+  headers = like.headers coherent.headers;
   quota = ap (λ (l : ℕ × ℕ). l.0) like.limits ∙ coherent.quota ∙ ap (λ e. e.quota) (sym like.entry);
   limit = ap (λ (l : ℕ × ℕ). l.1) like.limits ∙ coherent.limit ∙ ap (λ e. e.files) (sym like.entry);
   marks = ap (λ e. length e.up) like.entry ∙ coherent.marks ∙ sym (as_many d.lines c.lines like.lines);
@@ -127,9 +143,9 @@ abbrev moved : ℕ → ℕ → Received → Customer → Customer
 moved l k done c = record c { spool = done.spool; lines = on_line l (with_receiver k done.receiver) c.lines }
 
 keeps_moved :
-    (l k : ℕ) (a : Arrival) (c : Customer) → ArrivalsTie → l < length c.lines → k < 8 → IsCoherent c
+    (l k : ℕ) (a : Arrival) (c : Customer) → RecordsKeep → l < length c.lines → k < 8 → IsCoherent c
     → IsCoherent (moved l k (received_arrival c.entry l (kind_of k) (receiver_at k (line_at l c.lines)) a c.spool) c)
-keeps_moved l k a c arrivals line_there stream_there coherent =
+keeps_moved l k a c records line_there stream_there coherent =
     let lines = streams_to_hub c.lines in
     let r = receiver_at k (line_at l c.lines) in
     let done = received_arrival c.entry l (kind_of k) r a c.spool in
@@ -137,7 +153,7 @@ keeps_moved l k a c arrivals line_there stream_there coherent =
     let at : streams_at l lines ≡ (line_at l c.lines).receivers = get_or-map (λ x. x.receivers) c.lines l no_customer_line in
     let there : l < length lines = omega (arith, line_there, length-map c.lines (λ x. x.receivers)) in
     let in_line : k < length (streams_at l lines) = omega (arith, stream_there, eight.0, ap length at) in
-    let tied = arrivals c.entry l k a lines c.spool there in_line coherent.tied in
+    let tied = records.tied c.entry l k a lines c.spool there in_line coherent.tied in
     let now : AreTied (with_stream l k done.receiver lines) done.spool =
     subst (λ x. let d = received_arrival c.entry l (kind_of k) x a c.spool in AreTied (with_stream l k d.receiver lines) d.spool)
     (stream_is l k c.lines) tied in
@@ -145,15 +161,16 @@ keeps_moved l k a c arrivals line_there stream_there coherent =
       tied = subst (λ rs. AreTied rs done.spool) (sym (with_streams l k done.receiver c.lines)) now;
       streamed = All-set HasStreams c.lines l (with_receiver k done.receiver (line_at l c.lines))
           (length-set (line_at l c.lines).receivers k done.receiver ∙ eight.0, eight.1) coherent.streamed;
+      headers = records.headers c.entry l (kind_of k) r a c.spool (agrees_there l k c coherent) coherent.headers;
       quota = ap (λ (l : ℕ × ℕ). l.0) (received_limits c.entry l (kind_of k) r a c.spool) ∙ coherent.quota;
       limit = ap (λ (l : ℕ × ℕ). l.1) (received_limits c.entry l (kind_of k) r a c.spool) ∙ coherent.limit;
       marks = coherent.marks ∙ sym (length-set c.lines l (with_receiver k done.receiver (line_at l c.lines)));
     }
 
 pub keeps_arrived :
-    (l k : ℕ) (a : Arrival) (c : Customer) → ArrivalsTie → NothingUnties → l < length c.lines → k < 8 → IsCoherent c
+    (l k : ℕ) (a : Arrival) (c : Customer) → RecordsKeep → NothingUnties → l < length c.lines → k < 8 → IsCoherent c
     → IsCoherent (after_stream_arrival l k a c)
-keeps_arrived l k a c arrivals untied line_there stream_there coherent =
+keeps_arrived l k a c records untied line_there stream_there coherent =
     let done = received_arrival c.entry l (kind_of k) (receiver_at k (line_at l c.lines)) a c.spool in
     let lines = on_line l (with_receiver k done.receiver) c.lines in
     let answer = option_map (answer_on k) done.answer in
@@ -166,5 +183,6 @@ keeps_arrived l k a c arrivals untied line_there stream_there coherent =
           ∙ answered_shapes l answer lines;
       partial = refl;
       limits = refl;
+      headers = λ have. have;
     })
-    (keeps_moved l k a c arrivals line_there stream_there coherent)
+    (keeps_moved l k a c records line_there stream_there coherent)

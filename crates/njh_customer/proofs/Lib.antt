@@ -1,4 +1,5 @@
 pub mod ShapeLaws
+pub mod HeaderLaws
 pub mod CoherenceLaws
 pub mod StepLaws
 pub mod ReadyLaws

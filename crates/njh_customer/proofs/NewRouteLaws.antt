@@ -9,13 +9,15 @@ use Rattle.njh_table.specs.Entries.{route_of}
 use Rattle.njh_table.specs.declared.Route.{Route}
 use Rattle.njh_table.specs.declared.Route.TheVariants.{Here, Line, Unknown}
 use Rattle.njh_customer.specs.code.Coherence.{streams_to_hub, RoutesKeepCoherent}
-use Rattle.njh_customer.specs.NewRoutes.{UnroutedFilesStay, customer_with_routes}
+use Rattle.njh_customer.specs.NewRoutes.{UnroutedFilesStay, customer_with_routes, entry_with}
 use Rattle.njh_customer.proofs.CoherenceLaws.{NothingUnties}
+use Rattle.njh_customer.proofs.HeaderLaws.{held}
 
 pub coherent_given : NothingUnties → RoutesKeepCoherent
 coherent_given untied routes c coherent = record {
   tied = untied (streams_to_hub c.lines) c.spool (customer_with_routes routes c).spool refl coherent.tied;
   streamed = coherent.streamed;
+  headers = held (entry_with routes c.entry) c.spool coherent.headers;
   quota = coherent.quota;
   limit = coherent.limit;
   marks = coherent.marks;

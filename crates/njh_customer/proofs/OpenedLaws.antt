@@ -2,12 +2,13 @@
 use Rattle.std.proofs.Common.{◌≡◌, ℕ, zero, suc, ◌≤◌, false, List, [], ◌∷◌, map, replicate, get_or, refl, sym, ◌∙◌}
 use Rattle.std.proofs.lemmas.List.{length-map}
 use Rattle.std.specs.List.{All}
-use Rattle.std.proofs.lemmas.List.Elements.{All-map}
+use Rattle.std.proofs.lemmas.List.Elements.{All-map, All-nil}
 use Rattle.njh_stream.specs.declared.receiver.Receiver.{Receiver}
 use Rattle.njh_stream.specs.declared.receiver.Receiver.TheVariants as receiver
 use Rattle.njh_stream.specs.Streams.{stream_at}
 use Rattle.njh_stream.specs.code.Agreement.{AreTied}
-use Rattle.njh_spool.specs.CustomerSpool.{CustomerSpool, empty_spool}
+use Rattle.njh_header.specs.WholeFiles.{HasHeaders}
+use Rattle.njh_spool.specs.CustomerSpool.{CustomerSpool, WholeFile, empty_spool}
 use Rattle.njh_table.specs.Entries.{CustomerEntry, LineEntry}
 use Rattle.njh_customer.specs.Customer.{config_of, fresh_customer, idle_line}
 use Rattle.njh_customer.specs.code.Coherence.{IsCoherent, HasStreams, streams_to_hub}
@@ -40,6 +41,7 @@ pub fresh_coherent : (entry : CustomerEntry) → All (λ line. line.streams ≤ 
 fresh_coherent entry few at_rest = record {
   tied = at_rest (streams_to_hub (fresh_customer entry).lines) (empty_spool entry.quota entry.files) (no_stream entry entry.lines) refl;
   streamed = streamed entry entry.lines few;
+  headers = All-nil (λ (f : WholeFile). HasHeaders f.kind f.records);
   quota = refl;
   limit = refl;
   marks = length-map entry.lines (λ _. false) ∙ sym (length-map entry.lines (λ line. idle_line (config_of entry line) line.streams));

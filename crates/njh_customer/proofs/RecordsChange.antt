@@ -21,7 +21,7 @@ use Rattle.njh_stream.specs.Transmissions.{is_whole}
 use Rattle.njh_command.specs.declared.command.Command.TheVariants as commands
 use Rattle.njh_command.specs.Commands.{changed_file, is_of_name, may_change, is_sending, with_new_destination}
 use Rattle.njh_command.specs.Commands.{file_in_state}
-use Rattle.njh_command.specs.CommandLaws.{ReroutesNameFields}
+use Rattle.njh_command.specs.CommandLaws.{ReroutesNameNodes}
 use Rattle.njh_command.specs.Files.{no_file}
 use Rattle.njh_customer.specs.NewRoutes.{entry_with}
 use Rattle.njh_customer.specs.OutgoingFiles.{Outgoing, with_file_state, with_files}
@@ -75,7 +75,7 @@ both_are true false e = (refl, refl)
 both_are false b e = absurd (cc e)
 
 module _ (by_records : (kind : Kind) (node : List ℕ) (records : List Stored) → records_to_node kind node None records ≡ with_destination kind node records)
-    (fields : ReroutesNameFields) where
+    (names : ReroutesNameNodes) where
   module _ (entry : CustomerEntry) (l : ℕ) (items : List Item) (x y : Outgoing) (g : WholeFile) where
     was_there : IsOneOf x.files g → FileMoves entry items x g
     was_there one = laws.stays one.0 one.1 one.2 one.3 one.4
@@ -93,7 +93,7 @@ module _ (by_records : (kind : Kind) (node : List ℕ) (records : List Stored) �
         by_test true f found e is =
             let idle = both_are (is_of_name who name f) (is_sending f.state) e in
             laws.rerouted i who name node f at given found idle.0 idle.1 (ap (λ h. h.number) is) (ap (λ h. h.kind) is)
-            (fields given.nodal.message name node given.says) (ap (λ h. h.records) is ∙ sym (by_records f.kind node f.records))
+            (names given.nodal.message name node given.says) (ap (λ h. h.records) is ∙ sym (by_records f.kind node f.records))
         by_test false f found e is = laws.stays f found (ap (λ h. h.number) is) (ap (λ h. h.kind) is) (ap (λ h. h.records) is)
 
         at_change : (f : WholeFile) × Contains x.files f × (g ≡ changed_file (is_of_name who name) (with_new_destination node) f) → FileMoves entry items x g

@@ -4,7 +4,7 @@ use Rattle.std.proofs.Common.{refl, sym, subst, ◌∙◌, arith}
 use Rattle.std.proofs.Math.ListN.{get_or-map}
 use Rattle.std.proofs.Math.Seq.{map-set_same}
 use Rattle.std.proofs.lemmas.List.{map-set, length-map, length-set, length-replicate}
-use Rattle.std.proofs.lemmas.List.Elements.{All-set}
+use Rattle.std.proofs.lemmas.List.Elements.{All-same, All-set}
 use Rattle.njh_block.specs.Blocks.{Block}
 use Rattle.njh_spool.specs.CustomerSpool.{CustomerSpool, with_state}
 use Rattle.njh_spool.specs.declared.State.TheVariants.{Ready}
@@ -14,6 +14,7 @@ use Rattle.njh_stream.specs.declared.sender.Sender.{Sender}
 use Rattle.njh_stream.specs.Receiving.{without_open, without_all_open}
 use Rattle.njh_stream.specs.Sending.{all_ended, spool_after_session, file_in, goes_by, tried_again}
 use Rattle.njh_stream.specs.Streams.{streams_at}
+use Rattle.njh_stream.specs.WholeFiles.{HaveHeaders}
 use Rattle.njh_stream.specs.code.Agreement.{AreTied}
 use Rattle.njh_sched.specs.NextBlock.{filling}
 use Rattle.njh_sched.specs.Tight.{own_fcs}
@@ -30,9 +31,10 @@ use Rattle.njh_customer.specs.Alone.{after_reply, replied_to, with_idle_streams,
 use Rattle.njh_customer.specs.Alone.{session_ended, carried_out, verdict_on, accepted_on, after_line_input, block_input}
 use Rattle.njh_customer.specs.Alone.{behind_records, after_block}
 use Rattle.njh_customer.proofs.ShapeLaws.{shape, on_line_shapes}
-use Rattle.njh_customer.proofs.CoherenceLaws.{ArrivalsTie, NothingUnties, EndsTie}
+use Rattle.njh_customer.proofs.CoherenceLaws.{NothingUnties, EndsTie, RecordsKeep}
 use Rattle.njh_customer.proofs.StepLaws.{Stays, stays, stays_like, stays_lines, accepted_stays, acted_where_stays}
 use Rattle.njh_customer.proofs.FilledLaws.{filled_kept}
+use Rattle.njh_customer.proofs.HeaderLaws.{Reads, again, restated}
 
 -- two steps
 onward : (e d c : Customer) → Stays e d → Stays d c → Stays e c
@@ -65,6 +67,26 @@ all_ended_limits : (xs : List Sender) (s : CustomerSpool) → limits_of (all_end
 all_ended_limits [] s = refl
 all_ended_limits (x ∷ xs) s = all_ended_limits xs (spool_after_session x s) ∙ ended_limits x s
 
+ended_headers : (x : Sender) (s : CustomerSpool) → HaveHeaders s.whole → HaveHeaders (spool_after_session x s).whole
+ended_headers x s have = at_file (file_in x)
+  where
+    at_file : (o : Option ℕ) → HaveHeaders (ended_where o s).whole
+    at_file None = have
+    at_file (Some n) = restated n Ready s have
+
+all_ended_headers : (xs : List Sender) (s : CustomerSpool) → HaveHeaders s.whole → HaveHeaders (all_ended xs s).whole
+all_ended_headers [] s have = have
+all_ended_headers (x ∷ xs) s have = all_ended_headers xs (spool_after_session x s) (ended_headers x s have)
+
+without_open_whole : (r : Receiver) (s : CustomerSpool) → (without_open r s).whole ≡ s.whole
+without_open_whole receiver.Idle s = refl
+without_open_whole (receiver.Open n progress) s = refl
+without_open_whole receiver.Draining s = refl
+
+without_all_whole : (rs : List Receiver) (s : CustomerSpool) → (without_all_open rs s).whole ≡ s.whole
+without_all_whole [] s = refl
+without_all_whole (r ∷ rs) s = without_all_whole rs (without_open r s) ∙ without_open_whole r s
+
 without_open_limits : (r : Receiver) (s : CustomerSpool) → limits_of (without_open r s) ≡ limits_of s
 without_open_limits receiver.Idle s = refl
 without_open_limits (receiver.Open n progress) s = refl
@@ -78,24 +100,25 @@ module _ (untied : NothingUnties) (ends : EndsTie) where
   -- ---- what a line sends
 
   sent_stays : (l : ℕ) (x : LineSent) (c : Customer) → shape x.line ≡ shape (line_at l c.lines) → x.spool.partial ≡ c.spool.partial
-      → limits_of x.spool ≡ limits_of c.spool → IsCoherent c → Stays (after_reply l x c).after c
-  sent_stays l x c same partial limits coherent =
+      → limits_of x.spool ≡ limits_of c.spool → (HaveHeaders c.spool.whole → HaveHeaders x.spool.whole) → IsCoherent c
+      → Stays (after_reply l x c).after c
+  sent_stays l x c same partial limits headers coherent =
       stays_like untied (after_reply l x c).after c
-      (record { entry = refl; lines = map-set_same shape c.lines l x.line no_customer_line same; partial = partial; limits = limits }) coherent
+      (record { entry = refl; lines = map-set_same shape c.lines l x.line no_customer_line same; partial = partial; limits = limits; headers = headers }) coherent
 
   reply_stays : (l : ℕ) (r : LineReply) (c : Customer) → IsCoherent c → Stays (replied_to l r c).after c
-  reply_stays l reply.Nothing c coherent = sent_stays l (sending_of_reply c.entry l reply.Nothing c.spool (line_at l c.lines)) c refl refl refl coherent
+  reply_stays l reply.Nothing c coherent = sent_stays l (sending_of_reply c.entry l reply.Nothing c.spool (line_at l c.lines)) c refl refl refl (λ have. have) coherent
   reply_stays l (reply.Control control) c coherent =
-      sent_stays l (sending_of_reply c.entry l (reply.Control control) c.spool (line_at l c.lines)) c refl refl refl coherent
-  reply_stays l reply.Again c coherent = sent_stays l (sending_of_reply c.entry l reply.Again c.spool (line_at l c.lines)) c refl refl refl coherent
+      sent_stays l (sending_of_reply c.entry l (reply.Control control) c.spool (line_at l c.lines)) c refl refl refl (λ have. have) coherent
+  reply_stays l reply.Again c coherent = sent_stays l (sending_of_reply c.entry l reply.Again c.spool (line_at l c.lines)) c refl refl refl (λ have. have) coherent
   reply_stays l (reply.SignOn kind) c coherent =
-      sent_stays l (sending_of_reply c.entry l (reply.SignOn kind) c.spool (line_at l c.lines)) c refl refl refl coherent
+      sent_stays l (sending_of_reply c.entry l (reply.SignOn kind) c.spool (line_at l c.lines)) c refl refl refl (λ have. have) coherent
   reply_stays l (reply.Sequence expected) c coherent =
-      sent_stays l (sending_of_reply c.entry l (reply.Sequence expected) c.spool (line_at l c.lines)) c refl refl refl coherent
+      sent_stays l (sending_of_reply c.entry l (reply.Sequence expected) c.spool (line_at l c.lines)) c refl refl refl (λ have. have) coherent
   reply_stays l (reply.Next or_ack0) c coherent =
       let x = line_at l c.lines in
       let kept = filled_kept (goes_by c.entry l) (filling (own_block (own_fcs c.spool) x.state) (outlet_of x) c.spool) in
-      sent_stays l (sending_of_reply c.entry l (reply.Next or_ack0) c.spool x) c refl kept.partial kept.limits coherent
+      sent_stays l (sending_of_reply c.entry l (reply.Next or_ack0) c.spool x) c refl kept.partial kept.limits kept.headers coherent
 
   -- ---- the end of a session
 
@@ -114,6 +137,9 @@ module _ (untied : NothingUnties) (ends : EndsTie) where
         coherent = record {
           tied = subst (λ rs. AreTied rs (without_all_open x.receivers sent)) (sym (map-set (λ y. y.receivers) c.lines l (with_idle_streams x))) after;
           streamed = All-set HasStreams c.lines l (with_idle_streams x) (length-replicate (length x.receivers) receiver.Idle ∙ eight.0, eight.1) coherent.streamed;
+          headers =
+              All-same Reads (without_all_open x.receivers sent).whole sent.whole (without_all_whole x.receivers sent)
+              (again c.entry l (all_ended x.senders c.spool) (all_ended_headers x.senders c.spool coherent.headers));
           quota = ap (λ (l : ℕ × ℕ). l.0) (without_all_limits x.receivers sent ∙ all_ended_limits x.senders c.spool) ∙ coherent.quota;
           limit = ap (λ (l : ℕ × ℕ). l.1) (without_all_limits x.receivers sent ∙ all_ended_limits x.senders c.spool) ∙ coherent.limit;
           marks = length-set c.entry.up l false ∙ coherent.marks ∙ sym (length-set c.lines l (with_idle_streams x));
@@ -145,7 +171,7 @@ module _ (untied : NothingUnties) (ends : EndsTie) where
       let first = accepted_stays untied l came c coherent in
       onward (carried_out l (verdict_on l came c) d).after d c (carried_stays l (verdict_on l came c) d (omega (arith, line_there, first.lines)) first.coherent) first
 
-  module _ (arrivals : ArrivalsTie) where
+  module _ (records : RecordsKeep) where
     behind_stays : (b : Bool) (l : ℕ) (v : Verdict) (c : Customer) → l < length c.lines → IsCoherent c → Stays (behind_records b l v c).after c
     behind_stays true l v c line_there coherent = ended_stays l c line_there coherent
     behind_stays false l v c line_there coherent = carried_stays l v c line_there coherent
@@ -156,7 +182,7 @@ module _ (untied : NothingUnties) (ends : EndsTie) where
         let d = accepted_on l (block_input b) c in
         let a = acted_where v.acts l b.items d in
         let first = accepted_stays untied l (block_input b) c coherent in
-        let acted = acted_where_stays untied arrivals v.acts l b.items d (omega (arith, line_there, first.lines)) first.coherent in
+        let acted = acted_where_stays untied records v.acts l b.items d (omega (arith, line_there, first.lines)) first.coherent in
         onward (behind_records a.ended l v a.customer).after a.customer c
         (behind_stays a.ended l v a.customer (omega (arith, line_there, first.lines, acted.lines)) acted.coherent)
         (onward a.customer d c acted first)

@@ -13,7 +13,9 @@ use Rattle.njh_texts.specs.Texts.{node_unknown}
 use Rattle.njh_table.specs.Entries.{route_of}
 use Rattle.njh_table.specs.declared.Route.{Route}
 use Rattle.njh_table.specs.declared.Route.TheVariants.{Here, Line, Unknown}
+use Rattle.njh_spool.specs.declared.State.TheVariants.{Refused}
 use Rattle.njh_stream.specs.Arrivals.{answer_on}
+use Rattle.njh_stream.specs.WholeFiles.{HaveHeaders}
 use Rattle.njh_stream.specs.Receiving as receiving
 use Rattle.njh_stream.specs.Receiving.{Arrival, received_arrival}
 use Rattle.njh_stream.specs.Sending.{SenderOutcome, after_grant, after_refusal, after_completion}
@@ -34,8 +36,9 @@ use Rattle.njh_customer.specs.Acting.{message_routed, message_read, after_messag
 use Rattle.njh_customer.specs.Acting.{all_acted, acted_where}
 use Rattle.njh_customer.proofs.ShapeLaws.{shapes, on_line_shapes, answered_shapes, waits_shapes, said_shapes}
 use Rattle.njh_customer.proofs.ShapeLaws.{all_said_shapes, notified_shapes, all_given_up_shapes}
-use Rattle.njh_customer.proofs.CoherenceLaws.{as_many, ArrivalsTie, NothingUnties, IsLike, coherent_still}
+use Rattle.njh_customer.proofs.CoherenceLaws.{as_many, NothingUnties, IsLike, RecordsKeep, coherent_still}
 use Rattle.njh_customer.proofs.CoherenceLaws.{keeps_arrived}
+use Rattle.njh_customer.proofs.HeaderLaws.{restated, left}
 
 pub record Stays (d c : Customer) : Type 0 where
   pub coherent : IsCoherent d
@@ -51,7 +54,7 @@ module _ (untied : NothingUnties) where
   -- only its lines changed, and no stream to the hub
   pub stays_lines : (lines : List CustomerLine) (c : Customer) → shapes lines ≡ shapes c.lines → IsCoherent c → Stays (record c { lines = lines }) c
   stays_lines lines c same coherent =
-      stays_like (record c { lines = lines }) c (record { entry = refl; lines = same; partial = refl; limits = refl }) coherent
+      stays_like (record c { lines = lines }) c (record { entry = refl; lines = same; partial = refl; limits = refl; headers = λ have. have }) coherent
 
   pub stays_where : (b : Bool) (x y c : Customer) → Stays x c → Stays y c → Stays (cond b x y) c
   stays_where true x y c first second = first
@@ -63,6 +66,7 @@ module _ (untied : NothingUnties) where
     coherent = record {
       tied = coherent.tied;
       streamed = coherent.streamed;
+      headers = coherent.headers;
       quota = coherent.quota;
       limit = coherent.limit;
       marks = length-set c.entry.up l true ∙ coherent.marks;
@@ -84,24 +88,25 @@ module _ (untied : NothingUnties) where
       stays_lines (on_line l (with_sender k (after_grant (sender_at k (line_at l c.lines)))) c.lines) c
       (on_line_shapes l (with_sender k (after_grant (sender_at k (line_at l c.lines)))) c.lines (λ x. refl)) coherent
 
-  sent_stays : (l k : ℕ) (sent : SenderOutcome) (c : Customer) → sent.spool.partial ≡ c.spool.partial → limits_of sent.spool ≡ limits_of c.spool → IsCoherent c → Stays (with_sender_outcome l k sent c) c
-  sent_stays l k sent c partial limits coherent =
+  sent_stays : (l k : ℕ) (sent : SenderOutcome) (c : Customer) → sent.spool.partial ≡ c.spool.partial → limits_of sent.spool ≡ limits_of c.spool
+      → (HaveHeaders c.spool.whole → HaveHeaders sent.spool.whole) → IsCoherent c → Stays (with_sender_outcome l k sent c) c
+  sent_stays l k sent c partial limits headers coherent =
       stays_like (with_sender_outcome l k sent c) c
-      (record { entry = refl; lines = on_line_shapes l (with_sender k sent.sender) c.lines (λ x. refl); partial = partial; limits = limits }) coherent
+      (record { entry = refl; lines = on_line_shapes l (with_sender k sent.sender) c.lines (λ x. refl); partial = partial; limits = limits; headers = headers }) coherent
 
   refused_stays : (l k : ℕ) (x : Sender) (c : Customer) → IsCoherent c → Stays (with_sender_outcome l k (after_refusal x c.spool) c) c
-  refused_stays l k sender.Idle c coherent = sent_stays l k (after_refusal sender.Idle c.spool) c refl refl coherent
-  refused_stays l k (sender.Requested n) c coherent = sent_stays l k (after_refusal (sender.Requested n) c.spool) c refl refl coherent
-  refused_stays l k (sender.Sending n p) c coherent = sent_stays l k (after_refusal (sender.Sending n p) c.spool) c refl refl coherent
-  refused_stays l k (sender.EofSent n) c coherent = sent_stays l k (after_refusal (sender.EofSent n) c.spool) c refl refl coherent
-  refused_stays l k sender.Aborting c coherent = sent_stays l k (after_refusal sender.Aborting c.spool) c refl refl coherent
+  refused_stays l k sender.Idle c coherent = sent_stays l k (after_refusal sender.Idle c.spool) c refl refl (λ have. have) coherent
+  refused_stays l k (sender.Requested n) c coherent = sent_stays l k (after_refusal (sender.Requested n) c.spool) c refl refl (restated n Refused c.spool) coherent
+  refused_stays l k (sender.Sending n p) c coherent = sent_stays l k (after_refusal (sender.Sending n p) c.spool) c refl refl (restated n Refused c.spool) coherent
+  refused_stays l k (sender.EofSent n) c coherent = sent_stays l k (after_refusal (sender.EofSent n) c.spool) c refl refl (restated n Refused c.spool) coherent
+  refused_stays l k sender.Aborting c coherent = sent_stays l k (after_refusal sender.Aborting c.spool) c refl refl (λ have. have) coherent
 
   completed_stays : (l k : ℕ) (x : Sender) (c : Customer) → IsCoherent c → Stays (with_sender_outcome l k (after_completion x c.spool) c) c
-  completed_stays l k sender.Idle c coherent = sent_stays l k (after_completion sender.Idle c.spool) c refl refl coherent
-  completed_stays l k (sender.Requested n) c coherent = sent_stays l k (after_completion (sender.Requested n) c.spool) c refl refl coherent
-  completed_stays l k (sender.Sending n p) c coherent = sent_stays l k (after_completion (sender.Sending n p) c.spool) c refl refl coherent
-  completed_stays l k (sender.EofSent n) c coherent = sent_stays l k (after_completion (sender.EofSent n) c.spool) c refl refl coherent
-  completed_stays l k sender.Aborting c coherent = sent_stays l k (after_completion sender.Aborting c.spool) c refl refl coherent
+  completed_stays l k sender.Idle c coherent = sent_stays l k (after_completion sender.Idle c.spool) c refl refl (λ have. have) coherent
+  completed_stays l k (sender.Requested n) c coherent = sent_stays l k (after_completion (sender.Requested n) c.spool) c refl refl (λ have. have) coherent
+  completed_stays l k (sender.Sending n p) c coherent = sent_stays l k (after_completion (sender.Sending n p) c.spool) c refl refl (λ have. have) coherent
+  completed_stays l k (sender.EofSent n) c coherent = sent_stays l k (after_completion (sender.EofSent n) c.spool) c refl refl (left n c.spool) coherent
+  completed_stays l k sender.Aborting c coherent = sent_stays l k (after_completion sender.Aborting c.spool) c refl refl (λ have. have) coherent
 
   answer_stays : (l rcb k : ℕ) (c : Customer) → IsCoherent c → Stays (after_peer_answer l rcb k c) c
   answer_stays l rcb k c coherent =
@@ -114,41 +119,44 @@ module _ (untied : NothingUnties) where
 
   -- ---- messages
 
-  outcome_stays : (n : Nodal) (done : CommandOutcome) (c : Customer) → IsCoherent c → Stays (with_outcome n done c) c
-  outcome_stays n done c coherent =
+  outcome_stays : (n : Nodal) (done : CommandOutcome) (c : Customer) → (HaveHeaders c.spool.whole → HaveHeaders done.files)
+      → IsCoherent c → Stays (with_outcome n done c) c
+  outcome_stays n done c headers coherent =
       stays_like (with_outcome n done c) c
       (record {
         entry = refl;
         lines = all_said_shapes c.entry (sender_of n) done.replies (fold without_sending c.lines done.cancelled) ∙ all_given_up_shapes done.cancelled c.lines;
         partial = refl;
         limits = refl;
+        headers = headers;
       })
       coherent
 
-  command_stays : (n : Nodal) (c : Customer) → IsCoherent c → Stays (after_user_command n c) c
-  command_stays n c coherent = outcome_stays n (message_outcome c.entry (sender_of n) n.message c.spool) c coherent
+  module _ (records : RecordsKeep) where
+    command_stays : (n : Nodal) (c : Customer) → IsCoherent c → Stays (after_user_command n c) c
+    command_stays n c coherent = outcome_stays n (message_outcome c.entry (sender_of n) n.message c.spool) c
+        (records.commands c.entry (sender_of n) n.message c.spool) coherent
 
-  routed_stays : (l : ℕ) (n : Nodal) (bytes : List ℕ) (r : Route) (c : Customer) → IsCoherent c → Stays (message_routed l n bytes r c) c
-  routed_stays l n bytes Here c coherent = stays_where (is_user_command n) (after_user_command n c) c c (command_stays n c coherent) (stays c coherent)
-  routed_stays l n bytes (Line k) c coherent =
-      let m = cut_after_message bytes in
-      stays_where (k == l) c (record c { lines = with_waiting k m c.lines }) c (stays c coherent)
-      (stays_lines (with_waiting k m c.lines) c (waits_shapes k m c.lines) coherent)
-  routed_stays l n bytes Unknown c coherent =
-      let whom : User = sender_of n in
-      stays_where (is_user_command n) (after_unknown_node n c) c c
-      (stays_lines (with_message_to c.entry whom (node_unknown n.to) c.lines) c (said_shapes c.entry whom (node_unknown n.to) c.lines) coherent) (stays c coherent)
+    routed_stays : (l : ℕ) (n : Nodal) (bytes : List ℕ) (r : Route) (c : Customer) → IsCoherent c → Stays (message_routed l n bytes r c) c
+    routed_stays l n bytes Here c coherent = stays_where (is_user_command n) (after_user_command n c) c c (command_stays n c coherent) (stays c coherent)
+    routed_stays l n bytes (Line k) c coherent =
+        let m = cut_after_message bytes in
+        stays_where (k == l) c (record c { lines = with_waiting k m c.lines }) c (stays c coherent)
+        (stays_lines (with_waiting k m c.lines) c (waits_shapes k m c.lines) coherent)
+    routed_stays l n bytes Unknown c coherent =
+        let whom : User = sender_of n in
+        stays_where (is_user_command n) (after_unknown_node n c) c c
+        (stays_lines (with_message_to c.entry whom (node_unknown n.to) c.lines) c (said_shapes c.entry whom (node_unknown n.to) c.lines) coherent) (stays c coherent)
 
-  message_stays : (l : ℕ) (bytes : List ℕ) (c : Customer) → IsCoherent c → Stays (after_message l bytes c) c
-  message_stays l bytes c coherent = at_nodal (nodal_of bytes)
-    where
-      at_nodal : (n : Result Nodal NmrFault) → Stays (message_read l bytes n c) c
-      at_nodal (Err e) = stays c coherent
-      at_nodal (Ok n) = routed_stays l n bytes (route_of c.entry n.to) c coherent
+    message_stays : (l : ℕ) (bytes : List ℕ) (c : Customer) → IsCoherent c → Stays (after_message l bytes c) c
+    message_stays l bytes c coherent = at_nodal (nodal_of bytes)
+      where
+        at_nodal : (n : Result Nodal NmrFault) → Stays (message_read l bytes n c) c
+        at_nodal (Err e) = stays c coherent
+        at_nodal (Ok n) = routed_stays l n bytes (route_of c.entry n.to) c coherent
 
-  -- ---- every record
+    -- ---- every record
 
-  module _ (arrivals : ArrivalsTie) where
     arrived_stays : (l k : ℕ) (a : Arrival) (c : Customer) → l < length c.lines → k < 8 → IsCoherent c → Stays (after_stream_arrival l k a c) c
     arrived_stays l k a c line_there stream_there coherent =
         let done = received_arrival c.entry l (kind_of k) (receiver_at k (line_at l c.lines)) a c.spool in
@@ -156,7 +164,7 @@ module _ (untied : NothingUnties) where
         let answer = option_map (answer_on k) done.answer in
         let told = with_notice_to c.entry done.notice (with_answer_on l answer lines) in
         record {
-          coherent = keeps_arrived l k a c arrivals untied line_there stream_there coherent;
+          coherent = keeps_arrived l k a c records untied line_there stream_there coherent;
           lines =
               as_many (on_line l (with_notice k done.receiver done.notice) told) lines
               (on_line_shapes l (with_notice k done.receiver done.notice) told (λ x. refl)

@@ -13,11 +13,11 @@ ghost use Rattle.njh_customer.specs.Waiting.{with_message_to, with_waiting};
 use crate::customer_lines::CustomerLines;
 use crate::shared::Shared;
 use njh_block::{Answer, Block, ControlRcb, Item, Rcb, Stream};
-use njh_command::{Originator, obey};
+use njh_command::{Originator, commands_keep_headers, obey};
 use njh_header::User;
 use njh_nmr::Nmr;
 use njh_record::Record;
-use njh_stream::{Arrival, streams_stay_tied};
+use njh_stream::{Arrival, streams_stay_tied, whole_files_have_headers};
 use njh_table::{LineId, NamedCustomer, Route};
 use njh_texts::node_unknown;
 
@@ -36,6 +36,8 @@ impl Shared {
             (acting.all_acted id.number block.entry.items) }
     {
         streams_stay_tied();
+        whole_files_have_headers();
+        commands_keep_headers();
         let mut block = block;
         let mut record = Record::new();
         'records: while let Some(item) = block.next(&mut record) {

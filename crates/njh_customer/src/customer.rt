@@ -16,8 +16,9 @@ use crate::shared::Shared;
 use crate::signal::Signal;
 use njh_bisync::Frame;
 use njh_block::Block;
+use njh_command::commands_keep_headers;
 use njh_line::{Input, Verdict};
-use njh_stream::streams_stay_tied;
+use njh_stream::{streams_stay_tied, whole_files_have_headers};
 use njh_table::{LineId, Tables, marks_change_one_entry};
 
 impl Shared {
@@ -99,6 +100,8 @@ impl Shared {
         ensures { Makes id self.old lines.old self.new lines.new out.new (alone.after_block id.number read.entry) }
     {
         streams_stay_tied();
+        whole_files_have_headers();
+        commands_keep_headers();
         let input = Input::Block {
             bcb: read.bcb(),
             fcs: read.fcs(),

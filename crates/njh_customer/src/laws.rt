@@ -12,7 +12,7 @@ ghost use Rattle.njh_customer.specs.MovingLaws.{EventsMoveSo, FilesLeaveSo, File
 ghost use Rattle.njh_customer.specs.MovingLaws.{IdleStreamsTakeFiles, RecordsChangeSo, RoutesDoSo, SignalsDoSo};
 ghost use Rattle.njh_customer.specs.MovingLaws.{StreamsMoveSo, TakesMoveSo};
 
-use njh_command::{commands_move_files_so, reroutes_name_fields};
+use njh_command::{commands_move_files_so, reroutes_name_nodes};
 use njh_header::redirected_by_records;
 use njh_line::inputs_keep_up;
 use njh_sched::{
@@ -117,7 +117,7 @@ pub fn records_change_so()
     ensures { RecordsChangeSo }
 {
     redirected_by_records();
-    reroutes_name_fields();
+    reroutes_name_nodes();
 }
 
 /// A text that is spoiled or is no block, and a block whose check failed, change no file, no stream and nothing that

@@ -1,6 +1,7 @@
 -- What ties a customer's lines, streams and files to each other: the invariant of all that it goes through.
 use Rattle.std.specs.Prelude.{◌≡◌, ℕ, ◌≤◌, All, length, List, map}
 use Rattle.njh_stream.specs.declared.receiver.Receiver.{Receiver}
+use Rattle.njh_stream.specs.WholeFiles.{HaveHeaders}
 use Rattle.njh_stream.specs.code.Agreement.{AreTied}
 use Rattle.njh_spool.specs.CustomerSpool.{CustomerSpool}
 use Rattle.njh_table.specs.Entries.{RouteEntry}
@@ -19,11 +20,12 @@ HasStreams x = (length x.receivers ≡ 8) × (x.streams ≤ 4)
 abbrev pub limits_of : CustomerSpool → ℕ × ℕ
 limits_of s = (s.quota, s.limit)
 
--- What a customer's streams keep of its partial files is what those are, its files stand under its own quota and its
--- own limit, and each of its lines has a mark.
+-- What a customer's streams keep of its partial files is what those are, each of its whole files has headers that read,
+-- its files stand under its own quota and its own limit, and each of its lines has a mark.
 pub record IsCoherent (c : Customer) : Type 0 where
   pub tied : AreTied (streams_to_hub c.lines) c.spool
   pub streamed : All HasStreams c.lines
+  pub headers : HaveHeaders c.spool.whole
   pub quota : c.spool.quota ≡ c.entry.quota
   pub limit : c.spool.limit ≡ c.entry.files
   pub marks : length c.entry.up ≡ length c.lines

@@ -3,6 +3,7 @@ use Rattle.std.proofs.Common.{◌≡◌, Some, slice_get, drop, ap, ◌∙◌, r
 use Rattle.njh_block.specs.ItemViews.{given_item}
 use Rattle.njh_customer.specs.Acting.{after_record, all_acted}
 use Rattle.njh_customer.specs.CustomerSteps.{customer_of}
+use Rattle.njh_customer.proofs.CoherenceLaws.{RecordsKeep}
 use Rattle.njh_customer.proofs.ReadyLaws.{next_ready, others_twice, one_acted}
 use Rattle.njh_customer.proofs.StepLaws.{acted_stays}
 use Rattle.njh_customer.proofs.shared.Shared.all_act.Goals as goal
@@ -12,6 +13,11 @@ records-preserved c =
     let id = c.args.id in
     let r = c.records in
     let law = c.streams_stay_tied.ensures in
+    let records : RecordsKeep = record {
+      tied = law.arrival;
+      headers = c.whole_files_have_headers.ensures;
+      commands = c.commands_keep_headers.ensures;
+    } in
     let before = customer_of id.customer r.self r.lines in
     let item = given_item c.deref.result.now c.in-Some.item in
     let first : Some item ≡ slice_get r.block.items 0 = search rules in
@@ -23,5 +29,5 @@ records-preserved c =
       others = others_twice c.args.self.now.spool r.self.spool c.act.new.self.spool id.customer r.invariant.others c.act.ensures.others;
       tables = c.act.ensures.tables ∙ r.invariant.tables;
       ready = next_ready id r.self c.act.new.self r.lines c.act.new.lines (after_record id.number item before) r.invariant.ready c.act.ensures
-          (acted_stays law.untouched law.arrival id.number item before r.invariant.ready.there r.invariant.ready.coherent);
+          (acted_stays law.untouched records id.number item before r.invariant.ready.there r.invariant.ready.coherent);
     }

@@ -4,6 +4,7 @@ use Rattle.njh_line.specs.LineTable.{Block}
 use Rattle.njh_line.specs.Openings.{shown_first}
 use Rattle.njh_customer.specs.Alone.{accepted_on, after_block, block_input, verdict_on}
 use Rattle.njh_customer.specs.CustomerSteps.{Brings, customer_of}
+use Rattle.njh_customer.proofs.CoherenceLaws.{RecordsKeep}
 use Rattle.njh_customer.proofs.ReadyLaws.{made_by, sent_by_block}
 use Rattle.njh_customer.proofs.SessionLaws.{block_stays}
 use Rattle.njh_customer.proofs.shared.Shared.take_block.Goals as goal
@@ -14,6 +15,11 @@ returns-then-act_where c =
     let old = customer_of id.customer c.args.self.now c.args.lines.now in
     let accepted = c.accept-verdict in
     let law = c.streams_stay_tied.ensures in
+    let records : RecordsKeep = record {
+      tied = law.arrival;
+      headers = c.whole_files_have_headers.ensures;
+      commands = c.commands_keep_headers.ensures;
+    } in
     let input : Block c.bcb.result c.fcs.result (shown_first c.first_general.result) ≡ block_input c.args.read = search rules in
     made_by id c.args.self.now c.args.lines.now c.end_session.new.self c.end_session.new.lines c.clear.new.self (after_block id.number c.args.read old)
     c.requires.ready
@@ -23,7 +29,7 @@ returns-then-act_where c =
     (subst (λ i. Brings id.customer c.args.self.now accepted.new.self accepted.new.lines (accepted_on id.number i old)) input accepted.ensures.after)
     (sym c.if-act_where.true ∙ c.act_where.ensures.is_ended) c.act_where.ensures.after
     (record { after = c.end_session.ensures; frame = c.clear.ensures }))
-    (block_stays law.untouched law.ended law.arrival id.number c.args.read old c.requires.ready.there c.requires.ready.coherent)
+    (block_stays law.untouched law.ended records id.number c.args.read old c.requires.ready.there c.requires.ready.coherent)
 
 pub returns-else-act_where : goal.returns-else-act_where
 returns-else-act_where c =
@@ -31,6 +37,11 @@ returns-else-act_where c =
     let old = customer_of id.customer c.args.self.now c.args.lines.now in
     let accepted = c.accept-verdict in
     let law = c.streams_stay_tied.ensures in
+    let records : RecordsKeep = record {
+      tied = law.arrival;
+      headers = c.whole_files_have_headers.ensures;
+      commands = c.commands_keep_headers.ensures;
+    } in
     let input : Block c.bcb.result c.fcs.result (shown_first c.first_general.result) ≡ block_input c.args.read = search rules in
     made_by id c.args.self.now c.args.lines.now c.carry_out.new.self c.carry_out.new.lines c.carry_out.new.out (after_block id.number c.args.read old)
     c.requires.ready
@@ -39,4 +50,4 @@ returns-else-act_where c =
     (accepted.ensures.verdict ∙ ap (λ i. verdict_on id.number i old) input)
     (subst (λ i. Brings id.customer c.args.self.now accepted.new.self accepted.new.lines (accepted_on id.number i old)) input accepted.ensures.after)
     (sym c.if-act_where.false ∙ c.act_where.ensures.is_ended) c.act_where.ensures.after c.carry_out.ensures)
-    (block_stays law.untouched law.ended law.arrival id.number c.args.read old c.requires.ready.there c.requires.ready.coherent)
+    (block_stays law.untouched law.ended records id.number c.args.read old c.requires.ready.there c.requires.ready.coherent)
