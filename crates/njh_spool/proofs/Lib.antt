@@ -33,3 +33,4 @@ pub mod RewriteLaws
 pub mod RowLaws
 pub mod SummaryLaws
 pub mod WholeLaws
+pub mod BlocksOfFiles

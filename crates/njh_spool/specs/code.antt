@@ -5,3 +5,4 @@ pub mod Packing
 pub mod RecordReader
 pub mod SlotRows
 pub mod Slots
+pub mod BlocksOfFiles
