@@ -1,4 +1,5 @@
 pub mod OpenLaws
+pub mod ShownLaws
 pub mod PartsLaws
 pub mod PieceLaws
 pub mod RunLaws

@@ -7,6 +7,7 @@ use Rattle.std.proofs.lemmas.Bool.{cases_lt}
 use Rattle.std.proofs.lemmas.Bool.Decides.{eqb_tells}
 use Rattle.njh_spool.specs.CustomerSpool.{CustomerSpool}
 use Rattle.njh_spool.specs.Spools as spools
+use Rattle.njh_stream.specs.WholeFiles.{HaveHeaders}
 use Rattle.njh_table.specs.declared.LineId.{LineId}
 use Rattle.njh_table.specs.TableFile.{NamedCustomer, TableFile, customer_at, entry_of, no_customer}
 use Rattle.njh_customer.specs.Customer.{IsMarked}
@@ -27,6 +28,12 @@ pub part-there : (table : TableFile) (files : List CustomerSpool) (lines : List 
     → part c (parts_of table files lines) ≡ part_held table files lines c
 part-there table files lines c there =
     get_or-map-range_with_len (part_held table files lines) 0 (length table.customers) c c no_part there (omega arith)
+
+-- the whole files of a customer that is there have headers that read
+pub headers-there : (table : TableFile) (files : List CustomerSpool) (lines : List Lines) (c : ℕ) → IsHub table files lines
+    → c < length table.customers → HaveHeaders (part c (parts_of table files lines)).customer.spool.whole
+headers-there table files lines c hub there =
+    subst (λ (p : Part). HaveHeaders p.customer.spool.whole) (sym (part-there table files lines c there)) (hub.coherent c there).headers
 
 -- a line stands with a customer that is there
 pub line-there : (table : TableFile) (files : List CustomerSpool) (lines : List Lines) (id : LineId)

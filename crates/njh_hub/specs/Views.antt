@@ -1,6 +1,5 @@
 -- What is seen of a hub while it runs: of a line, and of a whole file without its records.
-use Rattle.std.specs.Prelude.{◌≡◌, ℕ, List, length, Option}
-use Rattle.njh_header.specs.FileHeaders.{name_of, file_owner, destination_of}
+use Rattle.std.specs.Prelude.{◌≡◌, ℕ, List, [], length, Option, Some, unwrap_or}
 use Rattle.njh_line.specs.declared.Phase.TheVariants.{Down}
 use Rattle.njh_line.specs.declared.session.Session.{Session}
 use Rattle.njh_spool.specs.declared.file_headers.FileSummary.{FileSummary}
@@ -8,6 +7,7 @@ use Rattle.njh_spool.specs.CustomerSpool.{WholeFile, cost, whole_numbered}
 use Rattle.njh_texts.specs.Texts.{file_text}
 use Rattle.njh_table.specs.declared.LineId.{LineId}
 use Rattle.njh_customer.specs.Customer.{CustomerLine, line_at}
+use Rattle.njh_hub.specs.Files.{said_name, said_owner, said_destination}
 use Rattle.njh_hub.specs.declared.file_summary.FileSummaryView.{FileSummaryView}
 use Rattle.njh_hub.specs.declared.session_view.SessionView.{SessionView}
 use Rattle.njh_hub.specs.WholeHub.{Part, part, HasLine}
@@ -31,21 +31,21 @@ whole_file_on c n parts = whole_numbered n (part c parts).customer.spool
 
 abbrev pub file_summary : WholeFile → FileSummaryView
 file_summary f = record {
-  name = name_of f.records;
-  owner = file_owner f.records;
-  destination = destination_of f.kind f.records;
+  name = said_name f.records;
+  owner = said_owner f.records;
+  destination = said_destination f.kind f.records;
   kind = f.kind;
   state = f.state;
   records = length f.records;
   blocks = cost f.records;
 }
 
--- the same by what the spool knows of the file and of its blocks
+-- the same by what the spool knows of a file whose headers read, and of its blocks
 abbrev pub view_of_summary : FileSummary → ℕ → FileSummaryView
 view_of_summary s blocks = record {
-  name = s.headers.name;
-  owner = s.headers.owner;
-  destination = s.headers.destination;
+  name = unwrap_or s.headers.name (record { node = []; number = 0 });
+  owner = unwrap_or s.headers.owner (record { node = []; user = [] });
+  destination = unwrap_or s.headers.destination (record { node = []; user = [] });
   kind = s.kind;
   state = s.state;
   records = s.records;
@@ -54,4 +54,4 @@ view_of_summary s blocks = record {
 
 -- what NJH001 says of a file, behind its number
 abbrev pub summary_line : FileSummaryView → List ℕ
-summary_line f = file_text f.name f.destination f.kind f.records f.state
+summary_line f = file_text (Some f.name) (Some f.destination) f.kind f.records f.state

@@ -1,10 +1,11 @@
 //! What is shown of a whole file without its records.
 
-ghost use Rattle.std.specs.Prelude.{◌≡◌, ◌<◌, ◌≤◌, length};
+ghost use Rattle.std.specs.Prelude.{◌≡◌, ◌<◌, ◌≤◌, length, IsSome};
 ghost use Rattle.std.specs.Option.{option_map};
 ghost use Rattle.njh_command.specs.Files.{file_at};
 ghost use Rattle.njh_spool.specs.CustomerSpool.{whole_numbered};
 ghost use Rattle.njh_spool.specs.Spools.{spool_at};
+ghost use Rattle.njh_stream.specs.WholeFiles.{HaveHeaders};
 ghost use Rattle.njh_hub.specs.Views.{file_summary, summary_line, view_of_summary};
 
 use njh_command::number_of;
@@ -14,16 +15,14 @@ use njh_spool::{FileId, FileSummary, Spool, State};
 use njh_texts::{MessageText, file_text};
 
 /// A whole file, as it is shown without its records.
-///
-/// What its headers don't say, since one of them doesn't read, is none. The hub stores no such file.
 #[derive(Clone, Copy, Debug, PartialEq, Eq)]
 pub struct FileSummaryView {
     /// What it is called: the node that it comes from, and its job number there.
-    pub name: Option<FileName>,
+    pub name: FileName,
     /// Whose it is: the node that it comes from, and the user there.
-    pub owner: Option<User>,
+    pub owner: User,
     /// The node that it goes to, and the user there.
-    pub destination: Option<Destination>,
+    pub destination: Destination,
     /// SYSIN or SYSOUT.
     pub kind: Kind,
     /// What it waits for.
@@ -35,14 +34,17 @@ pub struct FileSummaryView {
 }
 
 impl FileSummaryView {
-    /// What is known of a file, and how many blocks it takes.
-    fn of(summary: &FileSummary, blocks: u32) -> FileSummaryView
-        ensures { result ≡ view_of_summary summary.now blocks }
+    /// What is known of a file whose headers read, and how many blocks it takes.
+    fn of(summary: FileSummary, blocks: u32) -> FileSummaryView
+        requires name { IsSome summary.headers.name }
+        requires owner { IsSome summary.headers.owner }
+        requires destination { IsSome summary.headers.destination }
+        ensures { result ≡ view_of_summary summary blocks }
     {
         FileSummaryView {
-            name: summary.headers.name,
-            owner: summary.headers.owner,
-            destination: summary.headers.destination,
+            name: summary.headers.name.unwrap(),
+            owner: summary.headers.owner.unwrap(),
+            destination: summary.headers.destination.unwrap(),
             kind: summary.kind,
             state: summary.state,
             records: summary.records,
@@ -56,8 +58,8 @@ impl FileSummaryView {
         ensures few { length result.items ≤ 72 }
     {
         file_text(
-            self.name,
-            self.destination,
+            Some(self.name),
+            Some(self.destination),
             self.kind,
             self.records,
             self.state,
@@ -67,15 +69,16 @@ impl FileSummaryView {
 
 /// What is shown of a customer's whole file; none where the number is no whole file's.
 pub(crate) fn file_summary(spool: &Spool, customer: u16, file: FileId) -> Option<FileSummaryView>
-    requires { customer < length spool.now }
+    requires range { customer < length spool.now }
+    requires headers { HaveHeaders (spool_at customer spool.now).whole }
     ensures { result ≡ option_map file_summary (whole_numbered file (spool_at customer spool.now)) }
 {
     let summary = spool.summary(customer, file).ok()?;
     let blocks = spool.blocks(customer, file).ok()?;
     Some(FileSummaryView {
-        name: summary.headers.name,
-        owner: summary.headers.owner,
-        destination: summary.headers.destination,
+        name: summary.headers.name.unwrap(),
+        owner: summary.headers.owner.unwrap(),
+        destination: summary.headers.destination.unwrap(),
         kind: summary.kind,
         state: summary.state,
         records: summary.records,
@@ -87,10 +90,11 @@ pub(crate) fn file_summary(spool: &Spool, customer: u16, file: FileId) -> Option
 pub(crate) fn summary_at(spool: &Spool, customer: u16, index: u32) -> FileSummaryView
     requires range { customer < length spool.now }
     requires within { index < length (spool_at customer spool.now).whole }
+    requires headers { HaveHeaders (spool_at customer spool.now).whole }
     ensures { result ≡ file_summary (file_at index (spool_at customer spool.now)) }
 {
     let summary = spool.summary_at(customer, index);
     let file = number_of(spool, customer, index);
     let blocks = spool.blocks(customer, file).unwrap_or(0);
-    FileSummaryView::of(&summary, blocks)
+    FileSummaryView::of(summary, blocks)
 }

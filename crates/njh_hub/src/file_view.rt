@@ -4,6 +4,7 @@ ghost use Rattle.std.specs.Prelude.{◌≡◌, ◌<◌, ◌≤◌, length, IfOk,
 ghost use Rattle.njh_command.specs.Files.{file_at};
 ghost use Rattle.njh_spool.specs.Spools.{spool_at};
 ghost use Rattle.njh_stream.specs.SpoolFiles.{records_in};
+ghost use Rattle.njh_stream.specs.WholeFiles.{HaveHeaders};
 ghost use Rattle.njh_hub.specs.Files.{files_of, printed_file_line, view_of_file};
 
 use crate::fault::HubFault;
@@ -127,14 +128,12 @@ impl FileRecords for Records {
 }
 
 /// A whole file, as its customer is shown it.
-///
-/// What its headers don't say, since one of them doesn't read, is none. The hub stores no such file.
 #[derive(Drop)]
 pub struct FileView {
-    name: Option<FileName>,
-    owner: Option<User>,
+    name: FileName,
+    owner: User,
     kind: Kind,
-    destination: Option<Destination>,
+    destination: Destination,
     state: State,
     records: Records,
 }
@@ -156,14 +155,14 @@ impl Model for FileView {
 
 impl FileView {
     /// The node that it comes from, and its job number there.
-    pub fn name(&self) -> Option<FileName>
+    pub fn name(&self) -> FileName
         ensures { result ≡ self.now.name }
     {
         self.name
     }
 
     /// Whose it is: the node that it comes from, and the user there.
-    pub fn owner(&self) -> Option<User>
+    pub fn owner(&self) -> User
         ensures { result ≡ self.now.owner }
     {
         self.owner
@@ -177,7 +176,7 @@ impl FileView {
     }
 
     /// The node that it goes to, and the user there.
-    pub fn destination(&self) -> Option<Destination>
+    pub fn destination(&self) -> Destination
         ensures { result ≡ self.now.destination }
     {
         self.destination
@@ -202,8 +201,8 @@ impl FileView {
         ensures { result.items ≡ printed_file_line self.now }
     {
         file_text(
-            self.name,
-            self.destination,
+            Some(self.name),
+            Some(self.destination),
             self.kind,
             self.records.count(),
             self.state,
@@ -215,16 +214,17 @@ impl FileView {
 fn view_of(alloc: Global, spool: &Spool, customer: u16, index: u32) -> Result<FileView, AllocError>
     requires range { customer < length spool.now }
     requires within { index < length (spool_at customer spool.now).whole }
+    requires headers { HaveHeaders (spool_at customer spool.now).whole }
     ensures { IfOk result (λ view. view ≡ view_of_file (file_at index (spool_at customer spool.now))) }
 {
     let file = number_of(spool, customer, index);
     let kind = spool.kind(customer, file).unwrap_or(Kind::In);
     let records = Records::of(alloc, spool, customer, file)?;
     Ok(FileView {
-        name: name_of(&records),
-        owner: owner_of(&records),
+        name: name_of(&records).unwrap(),
+        owner: owner_of(&records).unwrap(),
         kind,
-        destination: destination_of(&records, kind),
+        destination: destination_of(&records, kind).unwrap(),
         state: spool.state(customer, file).unwrap_or(State::Ready),
         records,
     })
@@ -236,7 +236,8 @@ pub(crate) fn files_of(
     spool: &Spool,
     customer: u16,
 ) -> Result<Vec<FileView>, HubFault>
-    requires { customer < length spool.now }
+    requires range { customer < length spool.now }
+    requires headers { HaveHeaders (spool_at customer spool.now).whole }
     ensures files { IfOk result (λ files. files.items ≡ files_of (spool_at customer spool.now)) }
     ensures memory { OnErr result (result ≡ Err HubFault.Memory) }
 {

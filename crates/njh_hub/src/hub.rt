@@ -6,6 +6,7 @@ ghost use Rattle.njh_bisync.specs.Limits.{longest_frame};
 ghost use Rattle.njh_customer.specs.Customer.{IsMarked};
 ghost use Rattle.njh_customer.specs.Part.{part_after_bytes, part_after_signal};
 ghost use Rattle.njh_spool.specs.CustomerSpool.{used_blocks};
+ghost use Rattle.njh_stream.specs.WholeFiles.{HaveHeaders};
 ghost use Rattle.njh_hub.specs.Files.{files_at};
 ghost use Rattle.njh_hub.specs.Steps.{IsStep};
 ghost use Rattle.njh_hub.specs.WholeHub.{part, HasLine};
@@ -87,6 +88,7 @@ impl Hub {
     /// `UnknownCustomer` comes where the hub has no such customer, else `Memory` where there was none for the copies.
     pub fn files(&self, customer: u16) -> Result<Vec<FileView>, HubFault>
         ensures files { IfOk result (λ files. files.items ≡ files_at customer self.now) }
+        ensures headers { OnOk result (HaveHeaders (part customer self.now).customer.spool.whole) }
         ensures known { OnOk result (customer < length self.now) }
         ensures unknown { ¬ (customer < length self.now) → result ≡ Err HubFault.UnknownCustomer }
         ensures memory { customer < length self.now → OnErr result (result ≡ Err HubFault.Memory) }

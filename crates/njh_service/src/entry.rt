@@ -96,11 +96,11 @@ pub enum Ending {
 #[derive(Clone, Copy, Drop)]
 pub struct FileLine {
     /// What it is called.
-    pub name: Option<FileName>,
+    pub name: FileName,
     /// Whose it is.
-    pub owner: Option<User>,
+    pub owner: User,
     /// Where it goes.
-    pub destination: Option<Destination>,
+    pub destination: Destination,
     /// How many records it has.
     pub records: u32,
     /// How many blocks it takes.
@@ -214,34 +214,21 @@ impl FileLine {
 
     /// Writes what it is called.
     fn write_name<W: fmt::Write>(&self, f: &mut fmt::Formatter<W>) -> fmt::Result {
-        match self.name {
-            Some(name) => write!(f, "{}.{}", name.node, name.number),
-            None => f.write_str("?"),
-        }
+        write!(f, "{}.{}", self.name.node, self.name.number)
     }
 
     /// Writes whose it is.
     fn write_owner<W: fmt::Write>(&self, f: &mut fmt::Formatter<W>) -> fmt::Result {
         f.write_str(" of ")?;
-        match self.owner {
-            Some(owner) => {
-                write!(f, "{}", owner.node)?;
-                write_user(f, &owner.user)
-            }
-            None => f.write_str("?"),
-        }
+        write!(f, "{}", self.owner.node)?;
+        write_user(f, &self.owner.user)
     }
 
     /// Writes where it goes.
     fn write_destination<W: fmt::Write>(&self, f: &mut fmt::Formatter<W>) -> fmt::Result {
         f.write_str(" for ")?;
-        match self.destination {
-            Some(destination) => {
-                write_field(f, &destination.node)?;
-                write_user(f, &destination.user)
-            }
-            None => f.write_str("?"),
-        }
+        write_field(f, &self.destination.node)?;
+        write_user(f, &self.destination.user)
     }
 }
 

@@ -1,9 +1,10 @@
 //! What is seen of a hub while it runs: of a line and of a file, without a copy of any record.
 
-ghost use Rattle.std.specs.Prelude.{◌≡◌, ◌<◌, ◌↔◌, length, IsTrue, IfOk, IsOk, OnErr, Err};
+ghost use Rattle.std.specs.Prelude.{◌≡◌, ◌<◌, ◌↔◌, length, IsTrue, IfOk, IsOk, OnErr, OnSome, Err};
 ghost use Rattle.std.specs.Option.{option_map};
 ghost use Rattle.njh_command.specs.Files.{file_at};
 ghost use Rattle.njh_customer.specs.Customer.{IsMarked};
+ghost use Rattle.njh_stream.specs.WholeFiles.{HaveHeaders};
 ghost use Rattle.njh_hub.specs.Views.{HasGivenUp, whole_file_on, file_summary, hub_line, session_view};
 ghost use Rattle.njh_hub.specs.WholeHub.{part, HasLine};
 
@@ -98,9 +99,10 @@ impl Hub {
     }
 
     /// A customer's whole file of a number, without its records; none where it has none of that number, or the hub has
-    /// no such customer.
+    /// no such customer. Its headers read.
     pub fn file_summary(&self, customer: u16, file: FileId) -> Option<FileSummaryView>
-        ensures { result ≡ option_map file_summary (whole_file_on customer file self.now) }
+        ensures summary { result ≡ option_map file_summary (whole_file_on customer file self.now) }
+        ensures headers { OnSome result (HaveHeaders (part customer self.now).customer.spool.whole) }
     {
         if usize::from(customer) >= self.lines.len() {
             return None;
@@ -118,10 +120,11 @@ impl Hub {
         self.shared.spool.files(customer)
     }
 
-    /// A customer's whole file without its records, by its index in order of arrival, from 0 on.
+    /// A customer's whole file without its records, by its index in order of arrival, from 0 on. Its headers read.
     pub fn summary_at(&self, customer: u16, index: u32) -> FileSummaryView
         requires { index < length (part customer self.now).customer.spool.whole }
-        ensures { result ≡ file_summary (file_at index (part customer self.now).customer.spool) }
+        ensures summary { result ≡ file_summary (file_at index (part customer self.now).customer.spool) }
+        ensures headers { HaveHeaders (part customer self.now).customer.spool.whole }
     {
         summary_at(&self.shared.spool, customer, index)
     }
