@@ -1,0 +1,5 @@
+pub mod Words
+pub mod Faults
+pub mod Heads
+pub mod Records
+pub mod Frames
