@@ -1,0 +1,3 @@
+pub mod GrowingLaws
+pub mod AppendLaws
+pub mod BeginLaws
