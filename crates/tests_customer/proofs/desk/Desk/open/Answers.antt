@@ -35,6 +35,7 @@ invariant_of-result g c =
       tied = fresh.tied;
       streamed = fresh.streamed;
       quota = fresh.quota;
+      headers = fresh.headers;
       limit = fresh.limit;
       marks = length-map named.lines (λ l. l.up)
           ∙ sym (length-map entry.lines (λ _. false) ∙ length-map named.lines (λ l. l.entry))
