@@ -1,0 +1,10 @@
+pub mod Deleting
+pub mod ListLaws
+pub mod Loops
+pub mod Meaning
+pub mod NewTables
+pub mod ReadingLaws
+pub mod Rows
+pub mod Runs
+pub mod SequenceLaws
+pub mod ReopeningLaws

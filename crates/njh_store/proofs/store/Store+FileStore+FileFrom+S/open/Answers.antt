@@ -1,0 +1,29 @@
+use Rattle.std.proofs.Common.{inl, inr, sym, ap, subst, ◌∙◌, arith}
+use Rattle.sqlite.specs.Effect.{Database}
+use Rattle.sqlite.specs.State.{HasCleanDisk}
+use Rattle.sqlite.specs.Files.{file_state}
+use Rattle.sqlite_catalog.specs.Listing.{IsSound}
+use Rattle.njh_store.proofs.store.Store+FileStore+FileFrom+S.open.Goals as goal
+
+pub prepare-requires : goal.prepare-requires
+prepare-requires g c = record { fresh = λ clean. (c.in-Ok.ensures.opened clean).0 }
+
+pub invariant_of-result : goal.invariant_of-result
+invariant_of-result g c _ clean = let idle = c.in_ok-prepare.ensures.ready clean in record { is_open = idle.is_open; schema = idle.schema }
+
+pub returns-clause-opened : goal.returns-clause-opened
+returns-clause-opened g c clean =
+    let was = file_state c.in-Ok.conn in
+    let early : HasCleanDisk was = omega (arith, c.in_ok-prepare.ensures.crash.clean) in
+    let opened = c.in-Ok.ensures.opened early in
+    let found = c.in-Ok.ensures.found early in
+    let same = opened.0.clean in
+    record {
+      found = was.committed.trees;
+      holds = found.holds;
+      reads = found.reads;
+      kept = elim (c.in_ok-prepare.ensures.outcome clean) [
+        | inl stays ↦ inl (ap (λ (d : Database). d.trees) (stays.now ∙ same))
+        | inr made ↦ inr (subst (λ s. IsSound s was.committed.trees) (sym (ap (λ (d : Database). d.schema) same) ∙ made.0) (opened.1 opened.0.is_open).1, made.1)
+      ];
+    }

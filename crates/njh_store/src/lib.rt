@@ -1,0 +1,22 @@
+//! Customers' whole files in a SQLite file.
+#![tactic(auto)]
+
+mod kept;
+mod laws;
+mod making;
+mod opening;
+mod reads;
+mod sequences;
+mod statements;
+mod store;
+mod tables;
+
+pub use kept::{KeptFile, KeptRecord, StoredFile, StoredRecord, WholeFile};
+pub use laws::{
+    a_file_comes_last, a_file_keeps_its_place, a_file_leaves, a_record_comes_last,
+    others_do_not_show, records_in_part_do_not_show,
+};
+pub use opening::OpenFault;
+pub use sequences::{Change, Stopped, apply, apply_all};
+pub use statements::only_the_last_commit;
+pub use store::Store;
