@@ -1,9 +1,10 @@
 //! What becomes of a database that is opened as a spool.
 
-ghost use Rattle.std.specs.Prelude.{◌≡◌, ◌↔◌, ◌⊎◌, IsTrue, IfOk, IfErr, OnOk};
-ghost use Rattle.sqlite.specs.State.{HasCleanDisk, IsLive, Opens, Survives};
+ghost use Rattle.std.specs.Prelude.{◌≡◌, ◌↔◌, ◌⊎◌, [], List, codes, IsTrue, IfOk, IfErr, OnOk};
+ghost use Rattle.sqlite.specs.State.{HasCleanDisk, IsLive, Opens, Shown, Survives};
+ghost use Rattle.sqlite_value.specs.declared.value.Value.{Value};
 ghost use Rattle.sqlite.specs.Held.{state};
-ghost use Rattle.njh_store.specs.Kept.{Spool, Holds, no_files};
+ghost use Rattle.njh_store.specs.Kept.{AreVersions, Spool, Holds, no_files};
 ghost use Rattle.njh_store.specs.Tables.{no_tables, spool_schema};
 ghost use Rattle.njh_store.specs.Steps.{IsIdle, Stays};
 
@@ -50,6 +51,9 @@ fn recognise<S: Alter>(alloc: Global, conn: &mut Connection<S>) -> Result<(), Op
         (state S.Store conn.new)) }
     ensures refused { HasCleanDisk (state S.Store conn.new) → IfErr result (λ fault. (fault ≡ OpenFault.NotASpool)
         ⊎ (fault ≡ OpenFault.OtherVersion) → (spool : Spool) → ¬ Holds spool (state S.Store conn.old).now.trees) }
+    ensures version { HasCleanDisk (state S.Store conn.new) → OnOk result ((rows : List (List Value))
+        × Shown (codes "SELECT version FROM spool ORDER BY version") [] (state S.Store conn.old)
+        (state S.Store conn.new) rows × AreVersions rows) }
     ensures crash { Survives (state S.Store conn.old) (state S.Store conn.new) (λ _. ⊥) }
 {
     if !test_tables(alloc, conn)? {
