@@ -15,11 +15,9 @@ use Rattle.clap.specs.declared.error.Error.{Error}
 use Rattle.clap.specs.declared.parser.matches.ArgMatches.{ArgMatches}
 use Rattle.clap.specs.declared.parser.matches.ArgMatches.TheViews.{out-ArgMatches, out-SubCommand}
 use Rattle.njh_program.specs.declared.arguments.Request.{Request}
-use Rattle.njh_program.specs.declared.arguments.Request.TheVariants.{Replay, Serve}
 use Rattle.njh_program.specs.declared.serve_options.Unasked.{Unasked}
 use Rattle.njh_program.specs.declared.serve_options.Unasked.TheVariants.{Missing, NoAddress}
-use Rattle.njh_program.specs.Arguments.{HasNoAddress, HasOptions, IsUnasked, IsUnaskedBy, ServesBy, choice_in}
-use Rattle.njh_program.specs.Arguments.{choice_of, choice_of_rows, program_app}
+use Rattle.njh_program.specs.Arguments.{AsksFor, AsksIn, HasNoAddress, IsUnasked, IsUnaskedBy, program_app}
 
 cond-map : {X Y : Type 0} (f : X → Y) (b : Bool) (x : X) (o : Option Y) (later : Option X) → o ≡ option_map f later
     → cond b (Some (f x)) o ≡ option_map f (cond b (Some x) later)
@@ -80,26 +78,17 @@ pub FailsBy-err : {A : Type 0} (kinds : Kinds) (r : Result A Error) → FailsBy 
 FailsBy-err kinds (Ok x) fails = tt
 FailsBy-err kinds (Err e) fails = fails
 
--- what is asked for by the rows of `serve`, or why nothing is
-pub serves_asked : (m : ArgMatches) (rows : List Row) → subcommand_rows_of m ≡ Some (codes "serve", rows) → (r : Result Request Unasked)
-    → IfOk r (ServesBy rows) → IfOk r (λ request. choice_in m ≡ Some (choice_of request))
-serves_asked m rows named (Err why) serves = tt
-serves_asked m rows named (Ok (Replay tables)) serves = absurd serves
-serves_asked m rows named (Ok (Serve tables turns listen quiet)) serves =
-    ap choice_of_rows named ∙ ap (λ (t : Option Text). Some (codes "serve", t)) serves.0
+-- what is asked for by the rows of a subcommand, or why nothing is
+pub asks_in : {A : Type 0} (m : ArgMatches) (named : Text × List Row) → subcommand_rows_of m ≡ Some named
+    → (r : Result Request A) → IfOk r (AsksFor named) → IfOk r (AsksIn (subcommand_rows_of m))
+asks_in m named is (Err why) asks = tt
+asks_in m named is (Ok request) asks = subst (λ (o : Option (Text × List Row)). AsksIn o request) (sym is) asks
 
-pub serves_options : (m : ArgMatches) (rows : List Row) → subcommand_rows_of m ≡ Some (codes "serve", rows) → (r : Result Request Unasked)
-    → IfOk r (ServesBy rows) → IfOk r (HasOptions (subcommand_rows_of m))
-serves_options m rows named (Err why) serves = tt
-serves_options m rows named (Ok (Replay tables)) serves = tt
-serves_options m rows named (Ok (Serve tables turns listen quiet)) serves =
-    subst (λ (o : Option (Text × List Row)). HasOptions o (Serve tables turns listen quiet)) (sym named) serves
-
-pub serves_refused : (m : ArgMatches) (rows : List Row) → subcommand_rows_of m ≡ Some (codes "serve", rows) → (r : Result Request Unasked)
-    → IfErr r (IsUnasked rows) → IfErr r (IsUnaskedBy (subcommand_rows_of m))
-serves_refused m rows named (Ok request) unasked = tt
-serves_refused m rows named (Err Missing) unasked = tt
-serves_refused m rows named (Err (NoAddress text)) unasked = subst HasNoAddress (sym named) unasked
+pub serves_refused : (m : ArgMatches) (named : Text × List Row) → subcommand_rows_of m ≡ Some named → (r : Result Request Unasked)
+    → IfErr r (IsUnasked named.1) → IfErr r (IsUnaskedBy (subcommand_rows_of m))
+serves_refused m named is (Ok request) unasked = tt
+serves_refused m named is (Err Missing) unasked = tt
+serves_refused m named is (Err (NoAddress text)) unasked = subst HasNoAddress (sym is) unasked
 
 -- a text that is tested for a word
 pub spells_word : (b : Bool) (text word : Text) → b ≡ bytes_eq text word → IsTrue b ↔ (Some text ≡ Some word)

@@ -1,12 +1,1 @@
 mod ArgumentLaws
-mod FileLaws
-mod FoundLines
-mod LineForms
-mod Lines
-mod Parting
-mod PlainLines
-mod PrintSteps
-mod PrintedParts
-mod Printing
-mod ReplayLaws
-mod StartLaws

@@ -1,16 +1,15 @@
 -- The arguments of the command line.
-use Rattle.std.specs.Prelude.{◌≡◌, ◌↔◌, ◌⊎◌, ℕ, pos, List, [], ◌∷◌, codes, true, Option, Some, None, option_map}
+use Rattle.std.specs.Prelude.{◌≡◌, ◌↔◌, ◌⊎◌, ℕ, pos, List, [], ◌∷◌, codes, Bool, true, Option, Some, None, option_map}
 use Rattle.std.specs.Prelude.{IsSomeAnd, IsTrue, ⊤}
 use Rattle.std.specs.Net.Grammar.{IsIpText}
 use Rattle.std.specs.declared.net.ip_addr.IpAddr.{IpAddr}
 use Rattle.std.specs.Str.Parse.{IsNumeral, digits_value, without_leading_plus}
 use Rattle.clap.specs.declared.builder.value_parser.ValueParser.TheVariants.{Signed}
 use Rattle.clap.specs.Words.{App, HasKind, Row, Rule, Text, fault_of, first_of, kind_of, new_app, new_rule}
-use Rattle.clap.specs.Words.{subcommand_of, subcommand_rows_of, with_rule, with_subcommand}
+use Rattle.clap.specs.Words.{subcommand_of, with_rule, with_subcommand}
 use Rattle.clap.specs.declared.builder.ArgAction.TheVariants.{Set, SetTrue}
 use Rattle.clap.specs.declared.error.Error.{Error}
 use Rattle.clap.specs.declared.error.kind.ErrorKind.TheVariants.{MissingSubcommand, ValueValidation}
-use Rattle.clap.specs.declared.parser.matches.ArgMatches.{ArgMatches}
 use Rattle.njh_program.specs.declared.arguments.Request.{Request}
 use Rattle.njh_program.specs.declared.arguments.Request.TheVariants.{Replay, Serve}
 use Rattle.njh_program.specs.declared.serve_options.Unasked.{Unasked}
@@ -28,8 +27,8 @@ tables_rule = record (new_rule (codes "tables")) { long = Some (codes "tables");
 abbrev pub replay_app : App
 replay_app = with_rule (new_app (codes "replay")) tables_rule
 
--- the options of `serve`: a table file, which it must have, a number of turns, and an address, which is this machine's
--- own where none is given
+-- the options of `serve`: a table file, which it must have, a number of turns, an address, which is this machine's own
+-- where none is given, and the flag `--quiet`
 abbrev pub wanted_tables_rule : Rule
 wanted_tables_rule = record tables_rule { required = true }
 
@@ -49,15 +48,15 @@ listen_rule = record (new_rule (codes "listen")) {
   defaults = codes "127.0.0.1" ∷ [];
 }
 
--- and the flag `--quiet`
-abbrev pub quiet_rule : Rule
-quiet_rule = record (new_rule (codes "quiet")) { long = Some (codes "quiet"); action = Some SetTrue }
+-- a flag
+abbrev pub flag_rule : Text → Rule
+flag_rule name = record (new_rule name) { long = Some name; action = Some SetTrue }
 
 abbrev pub bounded_serve_app : App
 bounded_serve_app = with_rule (with_rule (new_app (codes "serve")) wanted_tables_rule) turns_rule
 
 abbrev pub serve_app : App
-serve_app = with_rule (with_rule bounded_serve_app listen_rule) quiet_rule
+serve_app = with_rule (with_rule bounded_serve_app listen_rule) (flag_rule (codes "quiet"))
 
 -- a program whose first word is a subcommand
 abbrev pub bare_app : App
@@ -73,23 +72,6 @@ replaying_app = with_subcommand bare_app replay_app.top
 abbrev pub program_app : App
 program_app = with_subcommand replaying_app serve_app.top
 
--- a subcommand, and the file that `--tables` names in its rows
-abbrev pub choice_of_rows : Option (Text × List Row) → Option (Text × Option Text)
-choice_of_rows rows = option_map (λ p. (p.0, first_of (codes "tables") p.1)) rows
-
--- those that the arguments name
-abbrev pub choice_by : List Text → Option (Text × Option Text)
-choice_by arguments = choice_of_rows (subcommand_of program_app arguments)
-
--- those that a parse found
-abbrev pub choice_in : ArgMatches → Option (Text × Option Text)
-choice_in found = choice_of_rows (subcommand_rows_of found)
-
--- those of a request
-abbrev pub choice_of : Request → Text × Option Text
-choice_of (Replay tables) = (codes "replay", option_map (λ s. s.now) tables)
-choice_of (Serve tables turns listen quiet) = (codes "serve", Some tables.now)
-
 -- as many turns as a text spells, or no end of them where there is none
 abbrev pub CountsTurns : Option Text → Option ℕ → Type 0
 CountsTurns None turns = turns ≡ None
@@ -99,19 +81,28 @@ CountsTurns (Some text) turns = IsSomeAnd turns (Spells text)
 abbrev pub ListensAt : Option Text → IpAddr → Type 0
 ListensAt text address = IsSomeAnd text (λ t. IsIpText t address)
 
--- a request to serve, by the rows of `serve`: these tables, so many turns, at that address, and with a log or without
-abbrev pub ServesBy : List Row → Request → Type 0
-ServesBy rows (Replay tables) = ⊥
-ServesBy rows (Serve tables turns listen quiet) = (first_of (codes "tables") rows ≡ Some tables.now)
-    × CountsTurns (first_of (codes "turns") rows) turns
-    × ListensAt (first_of (codes "listen") rows) listen
-    × (IsTrue quiet ↔ (first_of (codes "quiet") rows ≡ Some (codes "true")))
+-- a flag is set, or isn't
+abbrev pub IsFlag : Text → List Row → Bool → Type 0
+IsFlag flag rows set = IsTrue set ↔ (first_of flag rows ≡ Some (codes "true"))
 
--- a request has the options of the subcommand that was named
-abbrev pub HasOptions : Option (Text × List Row) → Request → Type 0
-HasOptions named (Replay tables) = ⊤
-HasOptions named (Serve tables turns listen quiet) =
-    IsSomeAnd named (λ p. ServesBy p.1 (Serve tables turns listen quiet))
+-- What a subcommand and its rows ask for: to replay by these tables; or to serve those of this file, for so many turns,
+-- at that address, and with a log or without.
+abbrev pub AsksFor : Text × List Row → Request → Type 0
+AsksFor named (Replay tables) = (named.0 ≡ codes "replay")
+    × (first_of (codes "tables") named.1 ≡ option_map (λ s. s.now) tables)
+AsksFor named (Serve tables turns listen quiet) = (named.0 ≡ codes "serve")
+    × (first_of (codes "tables") named.1 ≡ Some tables.now)
+    × CountsTurns (first_of (codes "turns") named.1) turns
+    × ListensAt (first_of (codes "listen") named.1) listen
+    × IsFlag (codes "quiet") named.1 quiet
+
+-- what a parse asks for
+abbrev pub AsksIn : Option (Text × List Row) → Request → Type 0
+AsksIn named request = IsSomeAnd named (λ p. AsksFor p request)
+
+-- what the arguments ask for
+abbrev pub Asks : List Text → Request → Type 0
+Asks arguments request = AsksIn (subcommand_of program_app arguments) request
 
 -- the text of `--listen` is no address
 abbrev pub NamesNoAddress : List Row → Type 0

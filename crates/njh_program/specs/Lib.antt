@@ -1,10 +1,4 @@
 pub mod Arguments
-pub mod LineNames
 pub mod ProgramOutcome
-pub mod Printed
-pub mod Replayed
-pub mod Script
-pub mod ScriptRoutes
 pub mod Status
 pub mod TableBytes
-pub mod code

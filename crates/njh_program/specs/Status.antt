@@ -3,7 +3,7 @@ use Rattle.std.specs.Prelude.{◌≡◌, ◌≢◌, ◌⊎◌, ℕ, Result, Ok, 
 use Rattle.njh_program.specs.declared.failure.Failure.{Failure}
 use Rattle.njh_program.specs.declared.failure.Failure.TheVariants.{Arguments, Tables, Replay}
 use Rattle.njh_program.specs.declared.failure.Failure.TheVariants as failure
-use Rattle.njh_program.specs.declared.fault.ReplayFault.TheVariants.{TooLong, Script, Device, Hub}
+use Rattle.njh_replay.specs.declared.fault.ReplayFault.TheVariants.{TooLong, Script, Device, Hub}
 use Rattle.njh_serve.specs.declared.fault.ServeFault.{ServeFault}
 use Rattle.njh_serve.specs.declared.fault.ServeFault.TheVariants as serve
 use Rattle.njh_table.specs.declared.fault.TableFault.{TableFault}

@@ -1,18 +1,28 @@
 //! The arguments of the command line.
 
 ghost use Rattle.std.specs.Prelude.{◌≡◌, ◌≢◌, [], ◌∷◌, false, map, codes, IfOk, IfErr, OnOk};
-ghost use Rattle.clap.specs.Words.{app_of, fault_of, kind_of, new_app, rule_of, subcommand_of, subcommand_rows_of};
+ghost use Rattle.clap.specs.Words.{app_of, fault_of, kind_of, new_app, subcommand_of, subcommand_rows_of};
 ghost use Rattle.clap.specs.Words.{HasKind};
 ghost use Rattle.clap.specs.declared.builder.command.Command.TheViews.{out-Command};
-ghost use Rattle.njh_program.specs.Arguments.{AreRefusedBy, HasOptions, IsRefusalOf, IsUnaskedBy, choice_by, choice_in};
-ghost use Rattle.njh_program.specs.Arguments.{choice_of, bare_app, program_app, replay_app, replaying_app, tables_rule};
+ghost use Rattle.njh_program.specs.Arguments.{AreRefusedBy, Asks, AsksIn, IsRefusalOf, IsUnaskedBy, bare_app};
+ghost use Rattle.njh_program.specs.Arguments.{program_app, replay_app, replaying_app};
 
+use crate::options::tables_option;
 use crate::serve_options::{Unasked, serve_command, served_in};
 use clap::error::ErrorKind;
-use clap::{Arg, ArgAction, ArgMatches, Command, Error};
+use clap::{ArgMatches, Command, Error};
 use std::alloc::{AllocError, Global};
 use std::convert::AsStr;
 use std::net::IpAddr;
+
+/// What the help of `replay` ends with.
+const REPLAY_EXAMPLE: &str = "A script of three lines, for the built-in tables:
+  BYTES a1 012d
+  TICK a1
+  LOST a1
+
+Example:
+  njehub replay --tables tables.toml < script";
 
 /// What the arguments ask for.
 #[derive(Clone, Copy)]
@@ -38,8 +48,7 @@ pub enum Request<'a> {
 /// What the arguments ask for, of which the first is the program's name. A refusal has the text for the user, and
 /// `--help` is one. Both are as `clap`'s definitions say of this program.
 pub fn request_of<'a, S: AsStr>(alloc: Global, arguments: &'a [S]) -> Result<Request<'a>, Error>
-    ensures asked { IfOk result (λ request. choice_by (map S.text arguments.entry.now) ≡ Some (choice_of request)) }
-    ensures options { IfOk result (HasOptions (subcommand_of program_app (map S.text arguments.entry.now))) }
+    ensures asked { IfOk result (Asks (map S.text arguments.entry.now)) }
     ensures taken { OnOk result (fault_of program_app (map S.text arguments.entry.now) ≡ []) }
     // Out of memory, or of a kind that these arguments give.
     ensures refused { IfErr result (AreRefusedBy (map S.text arguments.entry.now)) }
@@ -65,8 +74,7 @@ fn matches_of<'a, S: AsStr>(
     arguments: &'a [S],
 ) -> Result<ArgMatches<'a>, Error>
     requires { app_of program.old ≡ program_app }
-    ensures asked { IfOk result (λ found. choice_in found ≡ choice_by (map S.text arguments.entry.now)) }
-    ensures rows { IfOk result (λ found. subcommand_rows_of found
+    ensures asked { IfOk result (λ found. subcommand_rows_of found
         ≡ subcommand_of program_app (map S.text arguments.entry.now)) }
     ensures taken { OnOk result (fault_of program_app (map S.text arguments.entry.now) ≡ []) }
     ensures refused { IfErr result (HasKind (fault_of program_app (map S.text arguments.entry.now))) }
@@ -76,8 +84,7 @@ fn matches_of<'a, S: AsStr>(
 
 /// What a parse asks for.
 fn request_in<'a>(found: &ArgMatches<'a>) -> Result<Request<'a>, Unasked<'a>>
-    ensures asked { IfOk result (λ request. choice_in found.now ≡ Some (choice_of request)) }
-    ensures options { IfOk result (HasOptions (subcommand_rows_of found.now)) }
+    ensures asked { IfOk result (AsksIn (subcommand_rows_of found.now)) }
     ensures refused { IfErr result (IsUnaskedBy (subcommand_rows_of found.now)) }
 {
     match found.subcommand() {
@@ -140,21 +147,17 @@ fn replay_command<'a>(alloc: Global) -> Result<Command<'a>, AllocError>
     ensures app { IfOk result (λ command. app_of command ≡ replay_app) }
     ensures local { IfOk result (λ command. (out-Command command).has_globals ≡ false) }
 {
+    bare_replay(alloc).arg(tables_option(alloc))
+}
+
+/// `replay` without its option.
+fn bare_replay<'a>(alloc: Global) -> Command<'a>
+    ensures app { app_of result ≡ new_app (codes "replay") }
+    ensures local { (out-Command result).has_globals ≡ false }
+{
     Command::new(alloc, "replay")
         .about(
             "Runs a script of events from standard input, and prints the frames that the hub sends and the files that it then has",
         )
-        .arg(tables_option(alloc))
-}
-
-/// `--tables F`.
-pub(crate) fn tables_option<'a>(alloc: Global) -> Arg<'a>
-    ensures rule { rule_of result ≡ tables_rule }
-    ensures local { result.global ≡ false }
-{
-    Arg::new(alloc, "tables")
-        .long("tables")
-        .value_name("F")
-        .help("The table file; replay has built-in tables where none is named")
-        .action(ArgAction::Set)
+        .after_help(REPLAY_EXAMPLE)
 }

@@ -5,9 +5,9 @@ ghost use Rattle.std.specs.IoError.{error_kind};
 ghost use Rattle.clap.specs.Words.{kind_of};
 ghost use Rattle.njh_program.specs.Status.{status_of, failure_of, Becomes};
 
-use crate::fault::ReplayFault;
 use clap::error::ErrorKind;
 use njh_hub::HubFault;
+use njh_replay::ReplayFault;
 use njh_serve::ServeFault;
 use njh_table::TableFault;
 use std::alloc::{AllocError, AllocFailed};

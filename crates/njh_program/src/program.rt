@@ -8,10 +8,10 @@ ghost use Rattle.njh_program.specs.Status.{status_after, status_of};
 
 use crate::arguments::{Request, not_utf8, request_of};
 use crate::failure::Failure;
-use crate::replaying::replay;
 use crate::service::{Options, serve_file};
 use crate::standard_error::StandardError;
 use crate::table_file::tables_of;
+use njh_replay::replay;
 use njh_service::Log;
 use std::convert::AsStr;
 use std::io::{BufWriter, ErrorKind, Read, Write};

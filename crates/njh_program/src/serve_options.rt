@@ -1,16 +1,24 @@
 //! The options of `serve`.
 
-ghost use Rattle.std.specs.Prelude.{◌≡◌, ◌↔◌, codes, false, true, IfOk, IfErr, IsTrue, Some};
+ghost use Rattle.std.specs.Prelude.{◌≡◌, codes, false, IfOk, IfErr};
 ghost use Rattle.clap.specs.Words.{app_of, first_of, found_of, new_app, rows_of, rule_of};
 ghost use Rattle.clap.specs.declared.builder.command.Command.TheViews.{out-Command};
-ghost use Rattle.njh_program.specs.Arguments.{CountsTurns, IsUnasked, ListensAt, ServesBy, bounded_serve_app};
-ghost use Rattle.njh_program.specs.Arguments.{listen_rule, quiet_rule, serve_app, turns_rule};
+ghost use Rattle.njh_program.specs.Arguments.{AsksFor, CountsTurns, IsUnasked, ListensAt, bounded_serve_app};
+ghost use Rattle.njh_program.specs.Arguments.{listen_rule, serve_app, turns_rule};
 
-use crate::arguments::{Request, tables_option};
+use crate::arguments::Request;
+use crate::options::{flag, is_set, tables_option};
 use clap::builder::ValueParser;
 use clap::{Arg, ArgAction, ArgMatches, Command};
 use std::alloc::{AllocError, Global};
 use std::net::IpAddr;
+
+/// What the help of `serve` ends with.
+const SERVE_EXAMPLE: &str =
+    "It looks at the table file once a second for routes that changed, and writes its log to standard error.
+
+Example:
+  njehub serve --tables tables.toml 2>> njehub.log";
 
 /// Why a parse asks for nothing.
 #[derive(Clone, Copy)]
@@ -23,7 +31,7 @@ pub(crate) enum Unasked<'a> {
 
 /// What the options of `serve` ask for.
 pub(crate) fn served_in<'a>(options: &ArgMatches<'a>) -> Result<Request<'a>, Unasked<'a>>
-    ensures asked { IfOk result (ServesBy (rows_of (found_of options.now))) }
+    ensures asked { IfOk result (AsksFor (codes "serve", rows_of (found_of options.now))) }
     ensures refused { IfErr result (IsUnasked (rows_of (found_of options.now))) }
 {
     let Some(tables) = options.get_str("tables") else {
@@ -35,7 +43,7 @@ pub(crate) fn served_in<'a>(options: &ArgMatches<'a>) -> Result<Request<'a>, Una
         tables,
         turns,
         listen,
-        quiet: is_quiet(options),
+        quiet: is_set(options, "quiet"),
     })
 }
 
@@ -68,23 +76,15 @@ fn address_in<'a>(options: &ArgMatches<'a>) -> Result<IpAddr, Unasked<'a>>
     }
 }
 
-/// Whether there is to be no log.
-fn is_quiet(options: &ArgMatches<'_>) -> bool
-    ensures { IsTrue result ↔ (first_of (codes "quiet") (rows_of (found_of options.now)) ≡ Some (codes "true")) }
-{
-    match options.get_str("quiet") {
-        Some(text) => text == "true",
-        None => false,
-    }
-}
-
 /// `serve`, with its options.
 pub(crate) fn serve_command<'a>(alloc: Global) -> Result<Command<'a>, AllocError>
     ensures app { IfOk result (λ command. app_of command ≡ serve_app) }
     ensures local { IfOk result (λ command. (out-Command command).has_globals ≡ false) }
 {
     let bounded = bounded_command(alloc)?;
-    bounded.arg(listen_option(alloc))?.arg(quiet_option(alloc))
+    bounded
+        .arg(listen_option(alloc))?
+        .arg(flag(alloc, "quiet", "No log on standard error"))
 }
 
 /// `serve`, with its tables and turns.
@@ -101,9 +101,11 @@ fn bare_serve<'a>(alloc: Global) -> Command<'a>
     ensures app { app_of result ≡ new_app (codes "serve") }
     ensures local { (out-Command result).has_globals ≡ false }
 {
-    Command::new(alloc, "serve").about(
-        "Serves the lines that have a port or a peer on sockets of this machine, until it is ended",
-    )
+    Command::new(alloc, "serve")
+        .about(
+            "Serves the lines that have a port or a peer on sockets of this machine, until it is ended",
+        )
+        .after_help(SERVE_EXAMPLE)
 }
 
 /// `--turns N`.
@@ -130,15 +132,4 @@ fn listen_option<'a>(alloc: Global) -> Arg<'a>
         .help("The IP address on whose ports the lines listen")
         .action(ArgAction::Set)
         .default_value("127.0.0.1")
-}
-
-/// `--quiet`.
-fn quiet_option<'a>(alloc: Global) -> Arg<'a>
-    ensures rule { rule_of result ≡ quiet_rule }
-    ensures local { result.global ≡ false }
-{
-    Arg::new(alloc, "quiet")
-        .long("quiet")
-        .help("No log on standard error")
-        .action(ArgAction::SetTrue)
 }

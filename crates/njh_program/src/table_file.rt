@@ -4,8 +4,7 @@ ghost use Rattle.std.specs.Prelude.{◌≡◌, ◌≢◌, option_map, Some, IfOk
 ghost use Rattle.njh_program.specs.TableBytes.{tables_in, AreGiven, AreRefused, IsUnread};
 
 use crate::failure::Failure;
-use crate::fault::ReplayFault;
-use crate::input::read_text;
+use njh_io::{ReadFault, read_text};
 use njh_table::{TableFault, Tables};
 use std::alloc::Global;
 use std::fs::File;
@@ -49,9 +48,9 @@ fn table_bytes<R: Files + AllocGlobal>(rt: &R, path: &str) -> Result<Vec<u8>, Fa
     let mut file = File::open(rt, path)?;
     match read_text(rt.alloc(), MAX_TABLE_BYTES, &mut file) {
         Ok(bytes) => Ok(bytes),
-        Err(ReplayFault::TooLong) => Err(Failure::Tables(TableFault::TooMany)),
-        Err(ReplayFault::Device) => Err(Failure::Device),
-        Err(ReplayFault::Hub(_) | ReplayFault::Script { .. }) => Err(Failure::Memory),
+        Err(ReadFault::TooLong) => Err(Failure::Tables(TableFault::TooMany)),
+        Err(ReadFault::Device) => Err(Failure::Device),
+        Err(ReadFault::Memory) => Err(Failure::Memory),
     }
 }
 

@@ -3,9 +3,8 @@
 ghost use Rattle.std.specs.Prelude.{◌≡◌, ◌≤◌, vec_len, IfOk, IfSome};
 ghost use Rattle.njh_program.specs.TableBytes.{AreGivenWithin, max_changed_bytes};
 
-use crate::fault::ReplayFault;
-use crate::input::read_text;
 use crate::table_file::tables_in;
+use njh_io::{ReadFault, read_text};
 use njh_service::TableSource;
 use njh_table::{TableFault, Tables};
 use std::fs;
@@ -111,8 +110,8 @@ fn changed_bytes<R: Files + AllocGlobal>(rt: &R, path: &str) -> Result<Vec<u8>, 
     };
     match read_text(rt.alloc(), MAX_CHANGED_BYTES, &mut file) {
         Ok(bytes) => Ok(bytes),
-        Err(ReplayFault::TooLong) => Err(ChangeFault::TooLong),
-        Err(ReplayFault::Hub(_)) => Err(ChangeFault::Memory),
-        Err(_) => Err(ChangeFault::Unread),
+        Err(ReadFault::TooLong) => Err(ChangeFault::TooLong),
+        Err(ReadFault::Device) => Err(ChangeFault::Unread),
+        Err(ReadFault::Memory) => Err(ChangeFault::Memory),
     }
 }

@@ -1,6 +1,7 @@
 //! Lines of a script that give a customer routes, each a script of its own over the tables of two customers.
 
-use njh_program::{Failure, replay};
+use njh_program::Failure;
+use njh_replay::replay;
 use njh_table::Tables;
 use std::fs;
 use std::rt::Files;

@@ -1,7 +1,8 @@
 //! Single steps of a hub, a sink that refuses, and the printed names of the faults.
 
 use njh_hub::{Cause, Event, FileView, Hub, HubFault, Piece, RunFault, Sink, SinkFault};
-use njh_program::{Failure, ReplayFault};
+use njh_program::Failure;
+use njh_replay::ReplayFault;
 use njh_table::{LineId, Tables};
 use std::alloc::{AllocError, Global};
 use std::fs;

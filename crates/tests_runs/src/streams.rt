@@ -1,6 +1,7 @@
 //! Streams that fail, and the limit of a script.
 
-use njh_program::{Failure, replay};
+use njh_program::Failure;
+use njh_replay::replay;
 use njh_table::Tables;
 use std::io;
 use std::io::{ErrorKind, Read, Write};

@@ -3,7 +3,6 @@ use Rattle.std.proofs.lemmas.Result.{IfOk-weaker}
 use Rattle.clap.specs.Faults.{fault_of, is_simple_and_free}
 use Rattle.clap.specs.Kinds.{FailsBy}
 use Rattle.clap.specs.Simple.{App, is_simple, subcommand_of}
-use Rattle.njh_program.specs.Arguments.{choice_of_rows}
 use Rattle.njh_program.proofs.ArgumentLaws.{is_simple_program, is_free_program, FailsBy-ok, FailsBy-err}
 use Rattle.njh_program.proofs.arguments.matches_of.Goals as goal
 
@@ -12,8 +11,8 @@ returns-clause-asked g c =
     let arguments = map g.S.AsStr.text c.args.arguments.now in
     let ours = c.requires in
     IfOk-weaker c.try_get_matches_from_mut.result _ _
-    (λ found parsed. ap choice_of_rows ((parsed.2 (ap is_simple ours ∙ is_simple_program)).1
-    ∙ ap (λ (a : App). subcommand_of a arguments) ours))
+    (λ found parsed. (parsed.2 (ap is_simple ours ∙ is_simple_program)).1
+    ∙ ap (λ (a : App). subcommand_of a arguments) ours)
     c.try_get_matches_from_mut.ensures.ok
 
 pub returns-clause-taken : goal.returns-clause-taken

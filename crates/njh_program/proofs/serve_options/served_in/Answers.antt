@@ -1,4 +1,4 @@
-use Rattle.std.proofs.Common.{◌≡◌, ◌∙◌, Some, codes, option_map, sym, rules}
+use Rattle.std.proofs.Common.{◌≡◌, ◌∙◌, Some, codes, option_map, refl, sym, rules}
 use Rattle.njh_program.proofs.ArgumentLaws.{first_value-rows}
 use Rattle.njh_program.proofs.serve_options.served_in.Goals as goal
 
@@ -6,8 +6,9 @@ pub returns-clause-asked : goal.returns-clause-asked
 returns-clause-asked c =
     let options = c.args.options.now in
     let found : option_map (λ s. s.now) c.get_str.result ≡ Some c.in-Some.tables.now = search rules in (
+      refl,
       sym (first_value-rows options (codes "tables")) ∙ (sym c.get_str.ensures ∙ found),
       c.in_ok-turns.ensures.asked,
       c.in_ok-listen.ensures.asked,
-      c.is_quiet.ensures,
+      c.is_set.ensures,
     )

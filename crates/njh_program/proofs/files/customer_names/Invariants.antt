@@ -1,5 +1,0 @@
-use Rattle.std.proofs.Common.{◌≡◌, map, take}
-use Rattle.njh_program.proofs.files.customer_names.Given as goal
-
-abbrev pub invariant-loop-customer : goal.invariant-loop-customer
-invariant-loop-customer l = l.names.items ≡ map (λ customer. customer.name) (take l.customer-index l.customer-items)

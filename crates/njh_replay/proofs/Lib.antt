@@ -1,0 +1,11 @@
+mod FileLaws
+mod FoundLines
+mod LineForms
+mod Lines
+mod Parting
+mod PlainLines
+mod PrintSteps
+mod PrintedParts
+mod Printing
+mod ReplayLaws
+mod StartLaws

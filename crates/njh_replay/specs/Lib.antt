@@ -1,0 +1,6 @@
+pub mod LineNames
+pub mod Printed
+pub mod Replayed
+pub mod Script
+pub mod ScriptRoutes
+pub mod code
