@@ -1,47 +1,58 @@
 //! Runs of ACME with other customers and without: its own lines of what is printed are the same.
 
+use crate::registry::{self, Entry, entry_of};
 use crate::scripts::print_run;
 use njh_program::Failure;
 use std::alloc::{AllocError, Global};
+use std::fs;
 use std::net::Net;
 use std::rt::{Clock, Files};
-
-/// A stored script of two customers, and its table file.
-const FIRST: (&str, &str) = ("two_customers", "two_networks.toml");
-
-/// Without BOLT; with BOLT as the first customer; with BOLT's nodes named as ACME's. ACME's events are the same in all.
-const OTHERS: [(&str, &str); 3] = [
-    ("one_customer", "acme_alone.toml"),
-    ("bolt_first", "bolt_first.toml"),
-    ("same_nodes", "same_nodes.toml"),
-];
 
 /// How ACME's lines begin: frames on its lines to its peers, and its files.
 const OWN: [&[u8]; 3] = [b"a1 ", b"a2 ", b"ACME "];
 
-/// Says of each of the other runs whether ACME's lines are those of the first.
+/// Says of each run with other customers whether ACME's lines are those of the first. ACME's events are the same in all.
 pub fn compare<R: Files + Net + Clock + Print + AllocGlobal>(rt: &R) -> Result<(), Failure> {
-    let wanted = own_lines(rt, FIRST)?;
-    println!(rt; "{}: {} bytes of ACME", FIRST.0, wanted.len())?;
-    for run in OTHERS {
-        let verdict = if own_lines(rt, run)? == wanted {
-            "the same"
-        } else {
-            "others"
-        };
-        println!(rt; "{}: {verdict}", run.0)?;
+    let table = fs::read_to_string(rt, registry::FILE)?;
+    let mut wanted = Vec::new(rt.alloc());
+    for line in table.as_str().lines() {
+        match entry_of(line) {
+            Some(entry) if entry.how == "program, first" => {
+                wanted = own_lines(rt, entry)?;
+                println!(rt; "{}: {} bytes of ACME", entry.name, wanted.len())?;
+            }
+            _ => {}
+        }
+    }
+    for line in table.as_str().lines() {
+        match entry_of(line) {
+            Some(entry) if entry.how == "program, others" => say_same(rt, entry, &wanted)?,
+            _ => {}
+        }
     }
     Ok(())
 }
 
-/// ACME's lines of what a run prints.
-fn own_lines<R: Files + Net + Clock + AllocGlobal>(
+/// Says whether ACME's lines of a run are those of the first.
+fn say_same<R: Files + Net + Clock + Print + AllocGlobal>(
     rt: &R,
-    run: (&str, &str),
+    entry: Entry<'_>,
+    wanted: &[u8],
+) -> Result<(), Failure> {
+    let own = own_lines(rt, entry)?;
+    let verdict = if own == wanted { "the same" } else { "others" };
+    println!(rt; "{}: {verdict}", entry.name)?;
+    Ok(())
+}
+
+/// ACME's lines of what a run prints.
+fn own_lines<R: Files + Net + Clock + Print + AllocGlobal>(
+    rt: &R,
+    entry: Entry<'_>,
 ) -> Result<Vec<u8>, Failure> {
-    let (name, tables) = run;
+    let arguments = entry.arguments(rt.alloc())?;
     let mut text = Vec::new(rt.alloc());
-    print_run(rt, name, &[name, "replay", "--tables", tables], &mut text)?;
+    print_run(rt, entry, arguments.as_slice(), &mut text)?;
     Ok(lines_of_acme(rt.alloc(), &text)?)
 }
 

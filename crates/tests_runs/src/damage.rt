@@ -1,15 +1,13 @@
 //! Damaged input on a hub.
 //!
-//! `damaged` has a line for each script: its name, and how many bytes the piece of its `CUT` has, 0 where there is
-//! none.
 //! `NAME.script` has the steps, and `NAME.out` what they do. A step is a line of the program's own scripts, or `CUT`,
-//! which is `BYTES`
-//! with a piece that is cut, or `SHOW`, which says how many blocks the first customer's files take, partial ones too,
-//! and lists the
-//! whole ones. A script with a `CUT` is played on a new hub for each place behind which the piece is cut. What all
-//! these do is
-//! said once where the steps do the same behind several places: `from N` begins what they do from the place N on.
+//! which is `BYTES` with a piece that is cut, or `SHOW`, which says how many blocks the first customer's files take,
+//! partial ones too, and lists the whole ones. The registry says how many bytes the piece of a script's `CUT` has, 0
+//! where there is none. A script with a `CUT` is played on a new hub for each place behind which the piece is cut. What
+//! all these do is said once where the steps do the same behind several places: `from N` begins what they do from the
+//! place N on.
 
+use crate::registry::{self, Entry, entry_of};
 use crate::steps::{bytes_of, of_hub};
 use njh_ebcdic::text_of;
 use njh_hub::{FileView, Hub, HubFault};
@@ -38,22 +36,21 @@ const A2: LineId = LineId {
 
 /// Compares what each script does with what is stored.
 pub fn compare_all<R: Files + Print + AllocGlobal>(rt: &R) -> Result<(), Failure> {
-    let index = fs::read_to_string(rt, "damaged")?;
-    for line in index.as_str().lines() {
-        if let Some((name, count)) = line.split_once(' ') {
-            compare(rt, name, count.parse::<usize>().unwrap_or(0))?;
+    let table = fs::read_to_string(rt, registry::FILE)?;
+    for line in table.as_str().lines() {
+        match entry_of(line) {
+            Some(entry) if entry.how == "cut" => compare(rt, entry)?,
+            _ => {}
         }
     }
     Ok(())
 }
 
-/// Says whether a script does what is stored, wherever its piece of so many bytes is cut.
-fn compare<R: Files + Print + AllocGlobal>(
-    rt: &R,
-    name: &str,
-    count: usize,
-) -> Result<(), Failure> {
+/// Says whether a script does what is stored, wherever its piece is cut.
+fn compare<R: Files + Print + AllocGlobal>(rt: &R, entry: Entry<'_>) -> Result<(), Failure> {
     let alloc = rt.alloc();
+    let name = entry.name;
+    let count = entry.with.parse::<usize>().unwrap_or(0);
     let tables = fs::read_to_string(rt, TABLES)?;
     let script = fs::read_to_string(rt, format!(in alloc; "{name}.script")?.as_str())?;
     let wanted = fs::read_to_string(rt, format!(in alloc; "{name}.out")?.as_str())?;

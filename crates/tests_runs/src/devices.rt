@@ -1,10 +1,10 @@
 //! Streams that fail, fall short or are interrupted at each of their calls in turn.
 //!
-//! `replayed` has a line for each script: its name and the arguments of the program. `NAME.script` is the script, and
-//! `NAME.out` what the program prints.
+//! `NAME.script` is a script, and `NAME.out` what the program prints.
 
 ghost use Rattle.std.specs.Prelude.{◌≤◌, IfOk};
 
+use crate::registry::{self, Entry, entry_of};
 use njh_program::{Failure, carry_out};
 use std::alloc::Global;
 use std::io::{ErrorKind, Read, Write};
@@ -96,12 +96,11 @@ impl Write for Drain {
 
 /// Tries each script over streams that fail, fall short or are interrupted.
 pub fn compare_all<R: Files + Net + Clock + Print + AllocGlobal>(rt: &R) -> Result<(), Failure> {
-    let index = fs::read_to_string(rt, "replayed")?;
-    for line in index.as_str().lines() {
-        let words: Vec<&str> = line.split(' ').collect(rt.alloc())?;
-        match words.as_slice() {
-            [name, ..] => compare(rt, name, words.as_slice())?,
-            [] => {}
+    let table = fs::read_to_string(rt, registry::FILE)?;
+    for line in table.as_str().lines() {
+        match entry_of(line) {
+            Some(entry) if entry.how.ends_with("streams") => compare(rt, entry)?,
+            _ => {}
         }
     }
     Ok(())
@@ -110,10 +109,11 @@ pub fn compare_all<R: Files + Net + Clock + Print + AllocGlobal>(rt: &R) -> Resu
 /// Says how a script ends where one read, or one write, goes amiss.
 fn compare<R: Files + Net + Clock + Print + AllocGlobal>(
     rt: &R,
-    name: &str,
-    arguments: &[&str],
+    entry: Entry<'_>,
 ) -> Result<(), Failure> {
     let alloc = rt.alloc();
+    let name = entry.name;
+    let arguments = entry.arguments(alloc)?;
     let script = fs::read(rt, format!(in alloc; "{name}.script")?.as_str())?;
     let output = fs::read(rt, format!(in alloc; "{name}.out")?.as_str())?;
     for (what, is_read, mishap) in [
@@ -124,7 +124,7 @@ fn compare<R: Files + Net + Clock + Print + AllocGlobal>(
         ("a write falls short", false, Mishap::FallsShort),
         ("a write is interrupted", false, Mishap::IsInterrupted),
     ] {
-        match first_other(rt, arguments, &script, &output, is_read, mishap)? {
+        match first_other(rt, arguments.as_slice(), &script, &output, is_read, mishap)? {
             None => println!(rt; "{name}: {what}: as it must")?,
             Some(bad) => println!(rt; "{name}: {what}: otherwise at call {bad}")?,
         }

@@ -14,6 +14,7 @@ mod new_routes;
 mod peers;
 mod random_events;
 mod random_runs;
+mod registry;
 mod route_lines;
 mod scripts;
 mod second_lines;

@@ -1,9 +1,9 @@
-//! Stored scripts.
+//! Stored scripts: the program with each, and what it prints.
 //!
-//! `index` has a line for each: its name and the arguments of the program. `NAME.script` is the script and `NAME.out`
-//! what the
-//! program prints, with the line of its failure at the end where it fails; a file of tables is named by the arguments.
+//! `NAME.script` is the script and `NAME.out` what the program prints, with the line of its failure at the end where it
+//! fails; a file of tables is named by the arguments.
 
+use crate::registry::{self, Entry, entry_of};
 use njh_program::{Failure, carry_out};
 use std::alloc::Global;
 use std::net::Net;
@@ -12,12 +12,11 @@ use std::{fs, io};
 
 /// Compares what each script prints with what is stored.
 pub fn compare_all<R: Files + Net + Clock + Print + AllocGlobal>(rt: &R) -> Result<(), Failure> {
-    let index = fs::read_to_string(rt, "index")?;
-    for line in index.as_str().lines() {
-        let words: Vec<&str> = line.split(' ').collect(rt.alloc())?;
-        match words.as_slice() {
-            [name, ..] => compare(rt, name, words.as_slice())?,
-            [] => {}
+    let table = fs::read_to_string(rt, registry::FILE)?;
+    for line in table.as_str().lines() {
+        match entry_of(line) {
+            Some(entry) if entry.how.starts_with("program") => compare(rt, entry)?,
+            _ => {}
         }
     }
     Ok(())
@@ -26,11 +25,12 @@ pub fn compare_all<R: Files + Net + Clock + Print + AllocGlobal>(rt: &R) -> Resu
 /// Says whether a script prints what is stored, and the program's status.
 fn compare<R: Files + Net + Clock + Print + AllocGlobal>(
     rt: &R,
-    name: &str,
-    arguments: &[&str],
+    entry: Entry<'_>,
 ) -> Result<(), Failure> {
+    let name = entry.name;
+    let arguments = entry.arguments(rt.alloc())?;
     let mut text = Vec::new(rt.alloc());
-    let status = print_run(rt, name, arguments, &mut text)?;
+    let status = print_run(rt, entry, arguments.as_slice(), &mut text)?;
     let file = format!(in rt.alloc(); "{name}.out")?;
     let wanted = fs::read(rt, file.as_str())?;
     match first_difference(&text, &wanted) {
@@ -42,14 +42,17 @@ fn compare<R: Files + Net + Clock + Print + AllocGlobal>(
 
 /// Runs the program with a stored script, and gives its status; the line of its failure follows what it prints. The
 /// text for arguments that are refused is that of `clap`, and isn't compared.
-pub fn print_run<R: Files + Net + Clock + AllocGlobal>(
+pub fn print_run<R: Files + Net + Clock + Print + AllocGlobal>(
     rt: &R,
-    name: &str,
+    entry: Entry<'_>,
     arguments: &[&str],
     out: &mut Vec<u8>,
 ) -> Result<u8, Failure> {
-    let file = format!(in rt.alloc(); "{name}.script")?;
+    let file = format!(in rt.alloc(); "{}.script", entry.name)?;
     let script = fs::read(rt, file.as_str())?;
+    if !entry.is_said_by(&script) {
+        println!(rt; "{}: about something else", entry.name)?;
+    }
     let mut left = script.as_slice();
     match carry_out(rt, arguments, &mut left, out, io::sink()) {
         Ok(()) => Ok(0),
