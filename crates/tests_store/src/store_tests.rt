@@ -1,12 +1,12 @@
 //! Whole files that come, are held, leave, and are found again.
 
 use njh_store::{KeptFile, KeptRecord, OpenFault, Store, WholeFile};
-use sqlite::{Connection, Error, ErrorCode, FileFrom, FileStore, Unknown};
+use sqlite::{Alter, Connection, Error, ErrorCode, FileFrom, FileStore, Unknown};
+use sqlite_disk::Disk;
 use std::alloc::Global;
 use std::fs;
+use std::process::Abort;
 use std::rt::HostRuntime;
-
-type Spool = Store<FileStore<FileFrom<Unknown>>>;
 
 fn file(alloc: Global, job: &str, key: u32, records: u32) -> Result<KeptFile, Error> {
     let job = String::from_str(alloc, job)?;
@@ -39,7 +39,7 @@ fn shape(whole: &[WholeFile]) -> (usize, u32, usize, bool) {
     }
 }
 
-fn add_records(store: &mut Spool) -> Result<(), Error> {
+fn add_records<S: Alter>(store: &mut Store<S>) -> Result<(), Error> {
     for place in 0..3u32 {
         store.add_record(&KeptRecord {
             key: 5,
@@ -51,24 +51,36 @@ fn add_records(store: &mut Spool) -> Result<(), Error> {
     Ok(())
 }
 
-fn add(store: &mut Spool, alloc: Global, id: u32, job: &str, key: u32) -> Result<(), Error> {
+fn add<S: Alter>(
+    store: &mut Store<S>,
+    alloc: Global,
+    id: u32,
+    job: &str,
+    key: u32,
+) -> Result<(), Error> {
     let file = file(alloc, job, key, 3)?;
-    store.add_file(id, &file)
+    let added = store.add_file(id, &file);
+    drop(file);
+    added
 }
 
-fn hold(store: &mut Spool, alloc: Global) -> Result<(), Error> {
+fn hold<S: Alter>(store: &mut Store<S>, alloc: Global) -> Result<(), Error> {
     let mut file = file(alloc, "PAYROLL", 5, 3)?;
     file.held = true;
-    store.change_file(1, &file)
+    let changed = store.change_file(1, &file);
+    drop(file);
+    changed
 }
 
 /// How many files there are, the first one's number, how many records it has, and whether it is held.
-fn seen(store: &mut Spool, alloc: Global) -> Result<(usize, u32, usize, bool), Error> {
+fn seen<S: Alter>(store: &mut Store<S>, alloc: Global) -> Result<(usize, u32, usize, bool), Error> {
     let whole = store.load(alloc)?;
-    Ok(shape(whole.as_slice()))
+    let seen = shape(whole.as_slice());
+    drop(whole);
+    Ok(seen)
 }
 
-fn keep_two(store: &mut Spool, alloc: Global) -> Result<(), Error> {
+fn keep_two<S: Alter>(store: &mut Store<S>, alloc: Global) -> Result<(), Error> {
     add_records(store)?;
     add(store, alloc, 1, "PAYROLL", 5)?;
     add(store, alloc, 2, "INDEX", 6)?;
@@ -76,7 +88,7 @@ fn keep_two(store: &mut Spool, alloc: Global) -> Result<(), Error> {
     store.drop_file(1)
 }
 
-fn drop_first(store: &mut Spool) -> Result<(), Error> {
+fn drop_first<S: Alter>(store: &mut Store<S>) -> Result<(), Error> {
     store.drop_file(1)?;
     store.drop_records(5, 0, 8_388_608)?;
     store.commit()
@@ -90,8 +102,8 @@ enum Round {
     DropFirst,
 }
 
-fn play(
-    store: &mut Spool,
+fn play<S: Alter>(
+    store: &mut Store<S>,
     alloc: Global,
     round: Round,
 ) -> Result<(usize, u32, usize, bool), Error> {
@@ -107,11 +119,16 @@ fn play(
     seen(store, alloc)
 }
 
-/// Plays a round on the spool at this path, and stops as a program does that is killed.
+/// Lets go of a spool as a program does that is killed.
+fn stop<D: Disk + Drop>(store: Store<FileStore<D>>) {
+    drop(store.stop().close());
+}
+
+/// Plays a round on the spool that is kept, and stops.
 fn with_spool(rt: &HostRuntime, round: Round) -> Result<(usize, u32, usize, bool), OpenFault> {
     let mut store = Store::open(rt, "committed.db", Unknown)?;
     let seen = play(&mut store, rt.alloc(), round);
-    drop(store.stop().close());
+    stop(store);
     Ok(seen?)
 }
 
@@ -124,31 +141,51 @@ fn clear(rt: &HostRuntime, name: &str, log: &str) {
 #[test]
 fn what_was_committed_is_found(rt: HostRuntime) {
     clear(&rt, "committed.db", "committed.db-wal");
-    assert_eq!(&rt; with_spool(&rt, Round::KeepTwo), Ok((1, 2, 0, false)));
-    assert_eq!(&rt; with_spool(&rt, Round::Look), Ok((2, 1, 3, false)));
-    assert_eq!(&rt; with_spool(&rt, Round::Hold), Ok((2, 1, 3, true)));
-    assert_eq!(&rt; with_spool(&rt, Round::Look), Ok((2, 1, 3, true)));
-    assert_eq!(&rt; with_spool(&rt, Round::DropFirst), Ok((1, 2, 0, false)));
-    assert_eq!(&rt; with_spool(&rt, Round::Look), Ok((1, 2, 0, false)));
+    for (round, seen) in [
+        (Round::KeepTwo, (1, 2, 0, false)),
+        (Round::Look, (2, 1, 3, false)),
+        (Round::Hold, (2, 1, 3, true)),
+        (Round::Look, (2, 1, 3, true)),
+        (Round::DropFirst, (1, 2, 0, false)),
+        (Round::Look, (1, 2, 0, false)),
+    ] {
+        assert_eq!(&rt; with_spool(&rt, round), Ok(seen));
+    }
+}
+
+fn connect(
+    rt: &HostRuntime,
+    path: &str,
+) -> Result<Connection<FileStore<FileFrom<Unknown>>>, Error> {
+    match Connection::open_from(rt, path, true, Unknown) {
+        Ok(conn) => Ok(conn),
+        Err((error, left)) => {
+            drop(left);
+            Err(error)
+        }
+    }
 }
 
 fn run(rt: &HostRuntime, path: &str, sql: &str) -> Result<(), Error> {
-    let mut conn = match Connection::open_from(rt, path, true, Unknown) {
-        Ok(conn) => conn,
-        Err((error, _)) => return Err(error),
-    };
-    conn.execute_batch(sql)?;
-    conn.close()
+    let mut conn = connect(rt, path)?;
+    let done = conn.execute_batch(sql);
+    conn.close()?;
+    done
 }
 
 fn refusal(rt: &HostRuntime, path: &str) -> Option<OpenFault> {
     match Store::open(rt, path, Unknown) {
         Ok(store) => {
-            drop(store.stop().close());
+            stop(store);
             None
         }
         Err(fault) => Some(fault),
     }
+}
+
+/// A file was opened, or refused for this.
+fn check_refusal<R: Abort>(rt: &R, found: Option<OpenFault>, wanted: Option<OpenFault>) {
+    assert_eq!(rt; found, wanted);
 }
 
 #[test]
@@ -160,26 +197,41 @@ fn what_is_no_spool_is_refused(rt: HostRuntime) -> Result<(), OpenFault> {
         "other.db",
         "CREATE TABLE note (id INTEGER PRIMARY KEY, title TEXT NOT NULL) STRICT",
     )?;
-    assert_eq!(&rt; refusal(&rt, "other.db"), Some(OpenFault::NotASpool));
-    assert_eq!(&rt; refusal(&rt, "version.db"), None);
+    check_refusal(&rt, refusal(&rt, "other.db"), Some(OpenFault::NotASpool));
+    check_refusal(&rt, refusal(&rt, "version.db"), None);
     run(&rt, "version.db", "UPDATE spool SET version = 2")?;
-    assert_eq!(&rt; refusal(&rt, "version.db"), Some(OpenFault::OtherVersion));
+    check_refusal(
+        &rt,
+        refusal(&rt, "version.db"),
+        Some(OpenFault::OtherVersion),
+    );
     run(&rt, "version.db", "UPDATE spool SET version = 1")?;
-    assert_eq!(&rt; refusal(&rt, "version.db"), None);
+    check_refusal(&rt, refusal(&rt, "version.db"), None);
     Ok(())
+}
+
+/// What a file is refused for that can't be opened.
+fn fault_of(code: ErrorCode) -> Option<OpenFault> {
+    Some(OpenFault::Database(Error::SqliteFailure(code)))
+}
+
+/// Why the file at this path isn't opened while a spool is held.
+fn refusal_beside<D: Disk + Drop>(
+    rt: &HostRuntime,
+    held: Store<FileStore<D>>,
+    path: &str,
+) -> Option<OpenFault> {
+    let refusal = refusal(rt, path);
+    stop(held);
+    refusal
 }
 
 #[test]
 fn a_file_that_cannot_be_opened_is_named(rt: HostRuntime) -> Result<(), OpenFault> {
     let held = Store::open(&rt, "busy.db", Unknown)?;
-    assert_eq!(&rt;
-        refusal(&rt, "busy.db"),
-        Some(OpenFault::Database(Error::SqliteFailure(ErrorCode::DatabaseBusy)))
-    );
-    drop(held);
-    assert_eq!(&rt;
-        refusal(&rt, "nowhere/spool.db"),
-        Some(OpenFault::Database(Error::SqliteFailure(ErrorCode::CannotOpen)))
-    );
+    let found = refusal_beside(&rt, held, "busy.db");
+    check_refusal(&rt, found, fault_of(ErrorCode::DatabaseBusy));
+    let found = refusal(&rt, "nowhere/spool.db");
+    check_refusal(&rt, found, fault_of(ErrorCode::CannotOpen));
     Ok(())
 }
