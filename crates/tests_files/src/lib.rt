@@ -24,6 +24,8 @@ mod memory_wire;
 #[cfg(test)]
 mod nmr_tests;
 #[cfg(test)]
+mod numbers;
+#[cfg(test)]
 mod record_tests;
 #[cfg(test)]
 mod same;

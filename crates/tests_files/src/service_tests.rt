@@ -41,18 +41,46 @@ fn metz_by(alloc: Global, id: LineId) -> Result<NewRoutes, Fail> {
     })
 }
 
+/// A service of a quiet wire: so many rounds, then so many more, and what is sent on it.
+fn attend_quiet<R: Abort>(
+    rt: &R,
+    alloc: Global,
+    attendant: &mut MemoryAttendant,
+    first: u64,
+    then: u64,
+    sent: &[u8],
+) -> Result<(), Fail> {
+    let mut wires = quiet_wire();
+    attend_twice(rt, alloc, &mut wires, attendant, first, then)?;
+    assert_eq!(rt; wires[0].sent(), sent);
+    Ok(())
+}
+
 /// The tenth quiet is a tick, whatever call of the service it falls in; after a contact it is answered by NAK.
 #[test]
 fn quiets_outlive_a_call(rt: HostRuntime) -> Result<(), Fail> {
     let mut attendant = MemoryAttendant::new(None);
-    let mut wires = quiet_wire();
-    attend_twice(&rt, rt.alloc(), &mut wires, &mut attendant, 6, 5)?;
-    assert_eq!(rt; wires[0].sent(), b"\x10\x70".as_slice());
-    let mut wires = quiet_wire();
-    attend_twice(&rt, rt.alloc(), &mut wires, &mut attendant, 6, 6)?;
-    assert_eq!(rt; wires[0].sent(), b"\x10\x70\x3d".as_slice());
+    attend_quiet(&rt, rt.alloc(), &mut attendant, 6, 5, b"\x10\x70")?;
+    attend_quiet(&rt, rt.alloc(), &mut attendant, 6, 6, b"\x10\x70\x3d")?;
     assert_eq!(rt; attendant.before, 23);
     assert_eq!(rt; attendant.after, 23);
+    Ok(())
+}
+
+/// A service with an attendant that brings a route to METZ on a line: how often it is told that routes were given, and
+/// the refusal that it is told.
+fn bring<R: Abort>(
+    rt: &R,
+    alloc: Global,
+    wires: &mut [MemoryWire],
+    id: LineId,
+    given: u32,
+    refused: Option<HubFault>,
+) -> Result<(), Fail> {
+    let mut attendant = MemoryAttendant::new(Some(metz_by(alloc, id)?));
+    attend_twice(rt, alloc, wires, &mut attendant, 2, 1)?;
+    assert_eq!(rt; attendant.given, given);
+    assert_eq!(rt; attendant.refused, refused);
     Ok(())
 }
 
@@ -60,28 +88,47 @@ fn quiets_outlive_a_call(rt: HostRuntime) -> Result<(), Fail> {
 /// attendant.
 #[test]
 fn routes_are_given_once(rt: HostRuntime) -> Result<(), Fail> {
-    let alloc = rt.alloc();
-    let mut attendant = MemoryAttendant::new(Some(metz_by(alloc, LINES[0])?));
+    let cause = TableFault::UnknownLine;
     let mut wires = quiet_wire();
-    attend_twice(&rt, alloc, &mut wires, &mut attendant, 2, 1)?;
-    assert_eq!(rt; attendant.given, 1);
-    assert_eq!(rt; attendant.refused, None);
-    let mut attendant = MemoryAttendant::new(Some(metz_by(alloc, LINES[2])?));
-    attend_twice(&rt, alloc, &mut wires, &mut attendant, 2, 1)?;
-    assert_eq!(rt; attendant.given, 0);
-    assert_eq!(rt;
-        attendant.refused,
-        Some(HubFault::BadRoutes {
-            cause: TableFault::UnknownLine
-        })
-    );
-    Ok(())
+    bring(&rt, rt.alloc(), &mut wires, LINES[0], 1, None)?;
+    bring(
+        &rt,
+        rt.alloc(),
+        &mut wires,
+        LINES[2],
+        0,
+        Some(HubFault::BadRoutes { cause }),
+    )
 }
 
 /// Wires of a1 and a2 on which contact is made, and then nothing comes.
 fn two_wires() -> [MemoryWire; 2] {
     let steps = [CONTACT, Step::Quiet, Step::Quiet, Step::Quiet, Step::Quiet];
     [MemoryWire::new(steps, 100), MemoryWire::new(steps, 100)]
+}
+
+/// What was sent on a wire, and how often it was read.
+fn is_so<R: Abort>(rt: &R, wire: &MemoryWire, sent: &[u8], reads: u32) {
+    assert_eq!(rt; wire.sent(), sent);
+    assert_eq!(rt; wire.reads(), reads);
+}
+
+/// A service of two wires, of which one has a pause: so many rounds, and then so many more. What is sent on each wire,
+/// and how often it is read.
+fn attend_paused<R: Abort>(
+    rt: &R,
+    alloc: Global,
+    pause: Pause,
+    [first, then]: [u64; 2],
+    sent: [&[u8]; 2],
+    reads: [u32; 2],
+) -> Result<(), Fail> {
+    let mut attendant = MemoryAttendant::with_pause(pause);
+    let mut wires = two_wires();
+    attend_twice(rt, alloc, &mut wires, &mut attendant, first, then)?;
+    is_so(rt, &wires[0], sent[0], reads[0]);
+    is_so(rt, &wires[1], sent[1], reads[1]);
+    Ok(())
 }
 
 /// The wire of a1 is passed over in five rounds, after two quiets: these count, those five rounds don't. Its tenth
@@ -93,21 +140,9 @@ fn quiets_outlive_a_pause(rt: HostRuntime) -> Result<(), Fail> {
         from: 4,
         to: 9,
     };
-    let mut attendant = MemoryAttendant::with_pause(pause);
-    let mut wires = two_wires();
-    attend_twice(&rt, rt.alloc(), &mut wires, &mut attendant, 8, 7)?;
-    assert_eq!(rt; wires[0].sent(), b"\x10\x70".as_slice());
-    assert_eq!(rt; wires[0].reads(), 10);
-    assert_eq!(rt; wires[1].sent(), b"\x10\x70\x3d".as_slice());
-    assert_eq!(rt; wires[1].reads(), 15);
-    let mut attendant = MemoryAttendant::with_pause(pause);
-    let mut wires = two_wires();
-    attend_twice(&rt, rt.alloc(), &mut wires, &mut attendant, 8, 8)?;
-    assert_eq!(rt; wires[0].sent(), b"\x10\x70\x3d".as_slice());
-    assert_eq!(rt; wires[0].reads(), 11);
-    assert_eq!(rt; wires[1].sent(), b"\x10\x70\x3d".as_slice());
-    assert_eq!(rt; wires[1].reads(), 16);
-    Ok(())
+    let (contact, tick) = (b"\x10\x70".as_slice(), b"\x10\x70\x3d".as_slice());
+    attend_paused(&rt, rt.alloc(), pause, [8, 7], [contact, tick], [10, 15])?;
+    attend_paused(&rt, rt.alloc(), pause, [8, 8], [tick, tick], [11, 16])
 }
 
 /// What came on a wire that is passed over waits there until it is due; the other wire is read in each round.
@@ -118,17 +153,7 @@ fn bytes_wait_while_a_wire_is_passed_over(rt: HostRuntime) -> Result<(), Fail> {
         from: 1,
         to: 4,
     };
-    let mut attendant = MemoryAttendant::with_pause(pause);
-    let mut wires = two_wires();
-    attend_twice(&rt, rt.alloc(), &mut wires, &mut attendant, 2, 1)?;
-    assert_eq!(rt; wires[0].sent(), b"".as_slice());
-    assert_eq!(rt; wires[0].reads(), 0);
-    assert_eq!(rt; wires[1].sent(), b"\x10\x70".as_slice());
-    assert_eq!(rt; wires[1].reads(), 3);
-    let mut attendant = MemoryAttendant::with_pause(pause);
-    let mut wires = two_wires();
-    attend_twice(&rt, rt.alloc(), &mut wires, &mut attendant, 2, 2)?;
-    assert_eq!(rt; wires[0].sent(), b"\x10\x70".as_slice());
-    assert_eq!(rt; wires[0].reads(), 1);
-    Ok(())
+    let contact = b"\x10\x70".as_slice();
+    attend_paused(&rt, rt.alloc(), pause, [2, 1], [b"", contact], [0, 3])?;
+    attend_paused(&rt, rt.alloc(), pause, [2, 2], [contact, contact], [1, 4])
 }

@@ -1,9 +1,11 @@
-//! A hub with four lines, served over any wires.
+//! A hub with four lines, served over wires in memory.
 
-ghost use Rattle.std.specs.Prelude.{All, IfOk};
+ghost use Rattle.std.specs.Prelude.{◌≡◌, length, All, IfOk};
 ghost use Rattle.njh_hub.specs.WholeHub.{HasLine};
 
-use njh_hub::{Attendant, Hub, Rounds, Wire, attend, serve_turns};
+use crate::memory_attendant::MemoryAttendant;
+use crate::memory_wire::MemoryWire;
+use njh_hub::{Hub, Rounds, attend, serve_turns};
 use njh_table::{LineId, Tables};
 use std::alloc::{AllocError, Global};
 use std::process::Abort;
@@ -81,10 +83,10 @@ fn opened(alloc: Global) -> Result<Hub, Fail> {
 }
 
 /// So many turns of wires of the first lines, on a hub that is opened for them.
-pub fn serve<W: Wire, R: Abort>(
+pub fn serve<R: Abort>(
     rt: &R,
     alloc: Global,
-    wires: &mut [W],
+    wires: &mut [MemoryWire],
     turns: u32,
 ) -> Result<(), Fail> {
     let mut hub = opened(alloc)?;
@@ -92,37 +94,60 @@ pub fn serve<W: Wire, R: Abort>(
 }
 
 /// So many turns of wires of a hub's first lines.
-fn serve_on<W: Wire, R: Abort>(
+fn serve_on<R: Abort>(
     rt: &R,
     alloc: Global,
     hub: &mut Hub,
-    wires: &mut [W],
+    wires: &mut [MemoryWire],
     turns: u32,
 ) -> Result<(), Fail> {
-    assert!(rt; wires.len() <= LINES.len());
-    let known = known_lines(alloc, hub, &LINES[..wires.len()])?;
-    assert_eq!(rt; known.len(), wires.len());
-    serve_turns(alloc, hub, wires, &known, turns)?;
-    Ok(())
+    let lines = first_lines(rt, alloc, hub, wires.len())?;
+    Ok(serve_turns(alloc, hub, wires, &lines, turns)?)
 }
 
 /// A service of wires of a hub's first lines, on a hub that is opened for them: so many rounds, and then so many more.
-pub fn attend_twice<W: Wire, A: Attendant<W>, R: Abort>(
+pub fn attend_twice<R: Abort>(
     rt: &R,
     alloc: Global,
-    wires: &mut [W],
-    attendant: &mut A,
+    wires: &mut [MemoryWire],
+    attendant: &mut MemoryAttendant,
     first: u64,
     then: u64,
 ) -> Result<(), Fail> {
     let mut hub = opened(alloc)?;
-    assert!(rt; wires.len() <= LINES.len());
-    let known = known_lines(alloc, &hub, &LINES[..wires.len()])?;
-    assert_eq!(rt; known.len(), wires.len());
-    let mut rounds = Rounds::new(alloc, &known)?;
-    attend(&mut hub, wires, &mut rounds, attendant, first);
-    attend(&mut hub, wires, &mut rounds, attendant, then);
+    attend_on(rt, alloc, &mut hub, wires, attendant, [first, then])
+}
+
+/// A service of wires of a hub's first lines: so many rounds, and then so many more.
+fn attend_on<R: Abort>(
+    rt: &R,
+    alloc: Global,
+    hub: &mut Hub,
+    wires: &mut [MemoryWire],
+    attendant: &mut MemoryAttendant,
+    [first, then]: [u64; 2],
+) -> Result<(), Fail> {
+    let lines = first_lines(rt, alloc, hub, wires.len())?;
+    let mut rounds = Rounds::new(alloc, &lines)?;
+    attend(hub, wires, &mut rounds, attendant, first);
+    attend(hub, wires, &mut rounds, attendant, then);
     Ok(())
+}
+
+/// The first lines of a hub, as many as there are wires.
+fn first_lines<R: Abort>(
+    rt: &R,
+    alloc: Global,
+    hub: &Hub,
+    wires: usize,
+) -> Result<Vec<LineId>, AllocError>
+    ensures known { IfOk result (λ lines. All (HasLine hub.now) lines.items) }
+    ensures same { IfOk result (λ lines. length lines.items ≡ wires) }
+{
+    assert!(rt; wires <= LINES.len());
+    let lines = known_lines(alloc, hub, &LINES[..wires])?;
+    assert_eq!(rt; lines.len(), wires);
+    Ok(lines)
 }
 
 /// Those of some lines that a hub has.

@@ -125,20 +125,23 @@ fn compare<R: Abort>(rt: &R, wanted: &[MemoryWire; 4], wires: &[MemoryWire; 4], 
     }
 }
 
-#[test]
-fn what_fails_on_a_wire_stays_there(rt: HostRuntime) -> Result<(), Fail> {
-    let alloc = rt.alloc();
-    let mut wanted = four_wires([CONTACT, SIGN_ON, LIST, Step::Quiet, Step::Quiet], 100);
-    serve(&rt, alloc, &mut wanted, 5)?;
-    assert_eq!(rt; wanted[0].sent(), TOLD.as_slice());
-    for wire in 0..4 {
+/// Each read and each write of each wire fails in turn.
+fn fail_each<R: Abort>(rt: &R, alloc: Global, wanted: &[MemoryWire; 4]) -> Result<(), Fail> {
+    for (wire, one) in wanted.iter().enumerate() {
         for number in 1..6 {
-            fail_one(&rt, alloc, &wanted, wire, number, 0)?;
+            fail_one(rt, alloc, wanted, wire, number, 0)?;
         }
-        let writes = wanted[wire].writes();
-        for number in 1..=writes {
-            fail_one(&rt, alloc, &wanted, wire, 0, number)?;
+        for number in 1..=one.writes() {
+            fail_one(rt, alloc, wanted, wire, 0, number)?;
         }
     }
     Ok(())
+}
+
+#[test]
+fn what_fails_on_a_wire_stays_there(rt: HostRuntime) -> Result<(), Fail> {
+    let mut wanted = four_wires([CONTACT, SIGN_ON, LIST, Step::Quiet, Step::Quiet], 100);
+    serve(&rt, rt.alloc(), &mut wanted, 5)?;
+    assert_eq!(rt; wanted[0].sent(), TOLD.as_slice());
+    fail_each(&rt, rt.alloc(), &wanted)
 }

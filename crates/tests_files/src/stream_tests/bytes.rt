@@ -1,5 +1,6 @@
 //! The bytes of headers, data and messages by name.
 
+use crate::numbers::number;
 use std::alloc::Global;
 use std::test::Fail;
 
@@ -60,7 +61,7 @@ fn push_hex(alloc: Global, bytes: &mut Vec<u8>, hex: &str) -> Result<(), Fail> {
     for word in hex.split(" ") {
         let (digits, times) = word.split_once("*").unwrap_or((word, "1"));
         let part = hex::decode(alloc, digits)?;
-        for _ in 0..times.parse::<u16>()? {
+        for _ in 0..number(Some(times))? {
             bytes.extend_from_slice(part.as_slice())?;
         }
     }

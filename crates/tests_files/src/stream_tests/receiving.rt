@@ -4,6 +4,7 @@ use super::bench::Bench;
 use super::bytes::bytes_of;
 use super::cases;
 use super::playing::play;
+use crate::numbers::number;
 use crate::same::is_same;
 use njh_block::Stream;
 use njh_stream::{Arrival, Receiver, StreamStep};
@@ -23,14 +24,14 @@ pub fn play_case<R: Abort>(
     lines: &str,
 ) -> Result<(), Fail> {
     let (place, blocks) = head.split_once(" ").ok_or("no stream and blocks")?;
-    let stream = stream_at(rt, place.parse::<u8>()?);
-    let mut bench = Bench::open(rt, alloc, blocks.parse::<u32>()?, stream)?;
+    let stream = stream_at(rt, number(Some(place))?);
+    let mut bench = Bench::open(rt, alloc, u32::from(number(Some(blocks))?), stream)?;
     go(rt, alloc, tables, &mut bench, lines)
 }
 
-fn stream_at<R: Abort>(rt: &R, place: u8) -> Stream {
+fn stream_at<R: Abort>(rt: &R, place: u16) -> Stream {
     assert!(rt; place < 8);
-    Stream::at(place)
+    Stream::at(place as u8)
 }
 
 /// The lines of a case.
