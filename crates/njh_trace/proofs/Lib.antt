@@ -1,0 +1,9 @@
+mod LineLaws
+mod MappedLaws
+mod MarkLaws
+mod PartLaws
+mod ReadingLaws
+mod SentLaws
+mod SourceLaws
+mod TracedSoFar
+mod Writing

@@ -1,0 +1,10 @@
+use Rattle.std.proofs.Common.{length}
+use Rattle.njh_trace.proofs.ReadingLaws.{IsReadUpTo}
+use Rattle.njh_trace.proofs.reading.Reading.take.Given as goal
+
+-- what was read of the piece so far
+abbrev pub invariant-lines : goal.invariant-lines
+invariant-lines l = IsReadUpTo l.fn.hex l.fn.self l.fn.piece l.fn.lines.items l.left l.lines.items l.self
+
+abbrev pub decreases-lines : goal.decreases-lines
+decreases-lines l = length l.left

@@ -1,0 +1,142 @@
+//! Tells a trace from wherever it comes to wherever it goes.
+
+ghost use Rattle.std.specs.Prelude.{◌≡◌, ◌≢◌, ◌<◌, ◌≤◌, ℕ, [], ◌++◌, List, length, take, true, false, OnOk, OnErr};
+ghost use Rattle.std.specs.Prelude.{IfErr, IfOk, IfSome, Err, MatchOption};
+ghost use Rattle.std.specs.Io.KnownBytes.{Appends, Consumes, IsAtEnd};
+ghost use Rattle.std.specs.List.{list_any};
+ghost use Rattle.njh_io.specs.Written.{AppendsBeginning};
+ghost use Rattle.njh_trace.specs.Trace.{has_long_line, is_long_line, lines_from, trace_told};
+ghost use Rattle.njh_trace.specs.code.Reading.{told_behind, Takes};
+
+use crate::fault::TraceFault;
+use crate::reading::Reading;
+use njh_io::write_bytes;
+use std::alloc::Global;
+use std::io::{ErrorKind, Read, Write};
+
+/// How many bytes are asked for at once: 64 kB.
+const PIECE: usize = 65_536;
+
+/// Writes what a trace says, line by line: a line that gives bytes becomes the words of the frames that end in them, and
+/// any other line stands as it is. What the lines of a piece say is written before the next piece is read.
+///
+/// It keeps 512 sources and a line of 1,048,576 bytes at most; of a longer line, and of what stands behind it in
+/// the trace, nothing is told. A read or a write that was only interrupted is tried again.
+pub fn decode_trace<R: Read, W: Write>(
+    alloc: Global,
+    input: &mut R,
+    out: &mut W,
+    hex: bool,
+) -> Result<(), TraceFault>
+    // All that the reader had is told.
+    ensures told { OnOk result (IfSome (R.remaining input.old)
+        (λ text. Appends (W.contents out.old) (W.contents out.new) (trace_told hex text))) }
+
+    // A line is too long, or none is.
+    ensures short { OnOk result (IfSome (R.remaining input.old) (λ text. has_long_line text ≡ false)) }
+    ensures long { result ≡ Err TraceFault.TooLong
+        → IfSome (R.remaining input.old) (λ text. has_long_line text ≡ true) }
+
+    // Where it ends early, a beginning of the same text is written.
+    ensures begun { OnErr result (IfSome (R.remaining input.old)
+        (λ text. AppendsBeginning (W.contents out.old) (W.contents out.new) (trace_told hex text))) }
+{
+    let mut reading = Reading::new(alloc);
+    let mut lines = Vec::new(alloc);
+    tell_all(&mut reading, hex, &mut lines, input, out)
+}
+
+/// Writes what all says that a reader has, of which nothing was read. `lines` is room for that.
+fn tell_all<R: Read, W: Write>(
+    reading: &mut Reading,
+    hex: bool,
+    lines: &mut Vec<u8>,
+    input: &mut R,
+    out: &mut W,
+) -> Result<(), TraceFault>
+    requires none { reading.old ≡ record { sources = []; front = [] } }
+    requires empty { lines.old.items ≡ [] }
+    ensures told { OnOk result (IfSome (R.remaining input.old)
+        (λ text. Appends (W.contents out.old) (W.contents out.new) (trace_told hex text))) }
+    ensures short { OnOk result (IfSome (R.remaining input.old) (λ text. has_long_line text ≡ false)) }
+    ensures long { result ≡ Err TraceFault.TooLong
+        → IfSome (R.remaining input.old) (λ text. has_long_line text ≡ true) }
+    ensures begun { OnErr result (IfSome (R.remaining input.old)
+        (λ text. AppendsBeginning (W.contents out.old) (W.contents out.new) (trace_told hex text))) }
+{
+    let mut piece = [0; PIECE];
+    for _ in 0..u64::MAX {
+        match read_piece(input, &mut piece)? {
+            None => return tell_end(reading, hex, lines, out),
+            Some(count) => {
+                let (front, _) = piece.split_at(count);
+                tell_piece(reading, front, hex, lines, out)?;
+            }
+        }
+    }
+    Err(TraceFault::Device)
+}
+
+/// Reads a piece, and answers how many bytes it has; nothing at the end.
+fn read_piece<R: Read>(input: &mut R, piece: &mut [u8]) -> Result<Option<usize>, TraceFault>
+    requires { 0 < length piece.old }
+    ensures taken { IfOk result (λ read. MatchOption read (IsAtEnd (R.remaining input.old)) (λ count.
+        (count ≤ length piece.new)
+        × Consumes (R.remaining input.old) (R.remaining input.new) (take count piece.new))) }
+    ensures device { IfErr result (λ fault. fault ≡ TraceFault.Device) }
+{
+    for _ in 0..u64::MAX {
+        match input.read(piece) {
+            Ok(0) => return Ok(None),
+            Ok(count) => return Ok(Some(count)),
+            Err(error) if error.kind() == ErrorKind::Interrupted => {}
+            Err(_) => return Err(TraceFault::Device),
+        }
+    }
+    Err(TraceFault::Device)
+}
+
+/// Takes a piece, and writes what each line says that ends in it. `lines` is room for that.
+fn tell_piece<W: Write>(
+    reading: &mut Reading,
+    piece: &[u8],
+    hex: bool,
+    lines: &mut Vec<u8>,
+    out: &mut W,
+) -> Result<(), TraceFault>
+    requires { lines.old.items ≡ [] }
+    ensures taken { OnOk result ((told : List ℕ) × Appends (W.contents out.old) (W.contents out.new) told
+        × Takes hex reading.old piece.now told reading.new) }
+    ensures empty { OnOk result (lines.new.items ≡ []) }
+    ensures long { result ≡ Err TraceFault.TooLong → (more : List ℕ)
+        → list_any is_long_line (lines_from reading.old.front (piece.now ++ more)) ≡ true }
+    ensures begun { OnErr result ((more : List ℕ) → AppendsBeginning (W.contents out.old) (W.contents out.new)
+        (told_behind hex reading.old (piece.now ++ more))) }
+{
+    reading.take(piece, hex, lines)?;
+    write_bytes(out, lines)?;
+    lines.clear();
+    Ok(())
+}
+
+/// Writes what the last line says, where it has no end of its own.
+fn tell_end<W: Write>(
+    reading: &mut Reading,
+    hex: bool,
+    lines: &mut Vec<u8>,
+    out: &mut W,
+) -> Result<(), TraceFault>
+    requires { lines.old.items ≡ [] }
+    ensures told { OnOk result (Appends (W.contents out.old) (W.contents out.new) (told_behind hex reading.old [])) }
+    ensures short { OnOk result (list_any is_long_line (lines_from reading.old.front []) ≡ false) }
+    ensures not_long { result ≢ Err TraceFault.TooLong }
+    ensures begun { OnErr result (AppendsBeginning (W.contents out.old) (W.contents out.new)
+        (told_behind hex reading.old [])) }
+{
+    reading.end(hex, lines)?;
+    write_bytes(out, lines)?;
+    match out.flush() {
+        Ok(()) => Ok(()),
+        Err(_) => Err(TraceFault::Device),
+    }
+}
