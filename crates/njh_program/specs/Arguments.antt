@@ -11,7 +11,7 @@ use Rattle.clap.specs.declared.builder.ArgAction.TheVariants.{Set, SetTrue}
 use Rattle.clap.specs.declared.error.Error.{Error}
 use Rattle.clap.specs.declared.error.kind.ErrorKind.TheVariants.{MissingSubcommand, ValueValidation}
 use Rattle.njh_program.specs.declared.arguments.Request.{Request}
-use Rattle.njh_program.specs.declared.arguments.Request.TheVariants.{Replay, Serve}
+use Rattle.njh_program.specs.declared.arguments.Request.TheVariants.{Decode, Replay, Serve}
 use Rattle.njh_program.specs.declared.serve_options.Unasked.{Unasked}
 use Rattle.njh_program.specs.declared.serve_options.Unasked.TheVariants.{Missing, NoAddress}
 
@@ -23,9 +23,13 @@ Spells text n = (digits_value 10 (without_leading_plus text) ≡ n) × IsNumeral
 abbrev pub tables_rule : Rule
 tables_rule = record (new_rule (codes "tables")) { long = Some (codes "tables"); value_names = 1; action = Some Set }
 
--- `replay`, and its option
+-- a flag
+abbrev pub flag_rule : Text → Rule
+flag_rule name = record (new_rule name) { long = Some name; action = Some SetTrue }
+
+-- `replay`, and its options
 abbrev pub replay_app : App
-replay_app = with_rule (new_app (codes "replay")) tables_rule
+replay_app = with_rule (with_rule (new_app (codes "replay")) tables_rule) (flag_rule (codes "decode"))
 
 -- the options of `serve`: a table file, which it must have, a number of turns, an address, which is this machine's own
 -- where none is given, and the flag `--quiet`
@@ -48,15 +52,15 @@ listen_rule = record (new_rule (codes "listen")) {
   defaults = codes "127.0.0.1" ∷ [];
 }
 
--- a flag
-abbrev pub flag_rule : Text → Rule
-flag_rule name = record (new_rule name) { long = Some name; action = Some SetTrue }
-
 abbrev pub bounded_serve_app : App
 bounded_serve_app = with_rule (with_rule (new_app (codes "serve")) wanted_tables_rule) turns_rule
 
 abbrev pub serve_app : App
 serve_app = with_rule (with_rule bounded_serve_app listen_rule) (flag_rule (codes "quiet"))
+
+-- `decode`, and its option
+abbrev pub decode_app : App
+decode_app = with_rule (new_app (codes "decode")) (flag_rule (codes "hex"))
 
 -- a program whose first word is a subcommand
 abbrev pub bare_app : App
@@ -69,8 +73,11 @@ bare_app = let a = new_app (codes "njehub") in record a {
 abbrev pub replaying_app : App
 replaying_app = with_subcommand bare_app replay_app.top
 
+abbrev pub serving_app : App
+serving_app = with_subcommand replaying_app serve_app.top
+
 abbrev pub program_app : App
-program_app = with_subcommand replaying_app serve_app.top
+program_app = with_subcommand serving_app decode_app.top
 
 -- as many turns as a text spells, or no end of them where there is none
 abbrev pub CountsTurns : Option Text → Option ℕ → Type 0
@@ -85,11 +92,13 @@ ListensAt text address = IsSomeAnd text (λ t. IsIpText t address)
 abbrev pub IsFlag : Text → List Row → Bool → Type 0
 IsFlag flag rows set = IsTrue set ↔ (first_of flag rows ≡ Some (codes "true"))
 
--- What a subcommand and its rows ask for: to replay by these tables; or to serve those of this file, for so many turns,
--- at that address, and with a log or without.
+-- What a subcommand and its rows ask for: to replay by these tables, in words or not; to serve those of this file, for
+-- so many turns, at that address, and with a log or without; or to say a trace in words, with hex or without.
 abbrev pub AsksFor : Text × List Row → Request → Type 0
-AsksFor named (Replay tables) = (named.0 ≡ codes "replay")
+AsksFor named (Replay tables in_words) = (named.0 ≡ codes "replay")
     × (first_of (codes "tables") named.1 ≡ option_map (λ s. s.now) tables)
+    × IsFlag (codes "decode") named.1 in_words
+AsksFor named (Decode hex) = (named.0 ≡ codes "decode") × IsFlag (codes "hex") named.1 hex
 AsksFor named (Serve tables turns listen quiet) = (named.0 ≡ codes "serve")
     × (first_of (codes "tables") named.1 ≡ Some tables.now)
     × CountsTurns (first_of (codes "turns") named.1) turns

@@ -1,12 +1,13 @@
 -- Why the program ends, and the status that it ends with.
 use Rattle.std.specs.Prelude.{◌≡◌, ◌≢◌, ◌⊎◌, ℕ, Result, Ok, Err}
 use Rattle.njh_program.specs.declared.failure.Failure.{Failure}
-use Rattle.njh_program.specs.declared.failure.Failure.TheVariants.{Arguments, Tables, Replay}
+use Rattle.njh_program.specs.declared.failure.Failure.TheVariants.{Arguments, Tables, Replay, Trace}
 use Rattle.njh_program.specs.declared.failure.Failure.TheVariants as failure
 use Rattle.njh_replay.specs.declared.fault.ReplayFault.TheVariants.{TooLong, Script, Device, Hub}
 use Rattle.njh_serve.specs.declared.fault.ServeFault.{ServeFault}
 use Rattle.njh_serve.specs.declared.fault.ServeFault.TheVariants as serve
 use Rattle.njh_table.specs.declared.fault.TableFault.{TableFault}
+use Rattle.njh_trace.specs.declared.fault.TraceFault.TheVariants as trace
 use Rattle.njh_table.specs.declared.fault.TableFault.TheVariants.{Memory}
 
 -- 1 where the tables are refused, 2 where there was no memory for them
@@ -14,7 +15,7 @@ abbrev pub table_status : TableFault → ℕ
 table_status Memory = 2
 table_status fault = 1
 
--- 1 where arguments, tables or the script are refused, 2 where a device or memory fails
+-- 1 where arguments, tables, the script or the trace are refused, 2 where a device or memory fails
 abbrev pub status_of : Failure → ℕ
 status_of (Arguments error) = 1
 status_of (Tables fault) = table_status fault
@@ -22,8 +23,17 @@ status_of (Replay TooLong) = 1
 status_of (Replay (Script number)) = 1
 status_of (Replay Device) = 2
 status_of (Replay (Hub fault)) = 2
+status_of (Trace trace.TooLong) = 1
+status_of (Trace trace.Device) = 2
+status_of (Trace trace.Memory) = 2
 status_of failure.Device = 2
 status_of failure.Memory = 2
+
+-- What is refused before anything is written: all that has status 1 but a trace, of which the lines before a line that is
+-- too long were told.
+abbrev pub ComesFirst : Failure → Type 0
+ComesFirst (Trace fault) = ⊥
+ComesFirst failure = status_of failure ≡ 1
 
 -- the status to end with: 0 where nothing failed
 abbrev pub status_after : {A : Type 0} → Result A Failure → ℕ

@@ -1,28 +1,20 @@
 //! The arguments of the command line.
 
 ghost use Rattle.std.specs.Prelude.{◌≡◌, ◌≢◌, [], ◌∷◌, false, map, codes, IfOk, IfErr, OnOk};
-ghost use Rattle.clap.specs.Words.{app_of, fault_of, kind_of, new_app, subcommand_of, subcommand_rows_of};
+ghost use Rattle.clap.specs.Words.{app_of, fault_of, kind_of, subcommand_of, subcommand_rows_of};
 ghost use Rattle.clap.specs.Words.{HasKind};
-ghost use Rattle.clap.specs.declared.builder.command.Command.TheViews.{out-Command};
 ghost use Rattle.njh_program.specs.Arguments.{AreRefusedBy, Asks, AsksIn, IsRefusalOf, IsUnaskedBy, bare_app};
-ghost use Rattle.njh_program.specs.Arguments.{program_app, replay_app, replaying_app};
+ghost use Rattle.njh_program.specs.Arguments.{program_app, replaying_app, serving_app};
 
-use crate::options::tables_option;
+use crate::decode_options::decode_command;
+use crate::options::is_set;
+use crate::replay_options::{replay_command, replayed_in};
 use crate::serve_options::{Unasked, serve_command, served_in};
 use clap::error::ErrorKind;
 use clap::{ArgMatches, Command, Error};
 use std::alloc::{AllocError, Global};
 use std::convert::AsStr;
 use std::net::IpAddr;
-
-/// What the help of `replay` ends with.
-const REPLAY_EXAMPLE: &str = "A script of three lines, for the built-in tables:
-  BYTES a1 012d
-  TICK a1
-  LOST a1
-
-Example:
-  njehub replay --tables tables.toml < script";
 
 /// What the arguments ask for.
 #[derive(Clone, Copy)]
@@ -31,6 +23,8 @@ pub enum Request<'a> {
     Replay {
         /// The table file; the built-in tables where none is named.
         tables: Option<&'a str>,
+        /// With its output in words.
+        in_words: bool,
     },
     /// To serve lines on sockets.
     Serve {
@@ -42,6 +36,11 @@ pub enum Request<'a> {
         listen: IpAddr,
         /// Without a log.
         quiet: bool,
+    },
+    /// To say a trace in words.
+    Decode {
+        /// With bytes in hex beside the words.
+        hex: bool,
     },
 }
 
@@ -88,10 +87,11 @@ fn request_in<'a>(found: &ArgMatches<'a>) -> Result<Request<'a>, Unasked<'a>>
     ensures refused { IfErr result (IsUnaskedBy (subcommand_rows_of found.now)) }
 {
     match found.subcommand() {
-        Some(("replay", options)) => Ok(Request::Replay {
-            tables: options.get_str("tables"),
-        }),
+        Some(("replay", options)) => Ok(replayed_in(options)),
         Some(("serve", options)) => served_in(options),
+        Some(("decode", options)) => Ok(Request::Decode {
+            hex: is_set(options, "hex"),
+        }),
         _ => Err(Unasked::Missing),
     }
 }
@@ -119,6 +119,15 @@ fn refusal_of(
 fn program_command<'a>(alloc: Global) -> Result<Command<'a>, AllocError>
     ensures { IfOk result (λ command. app_of command ≡ program_app) }
 {
+    let decode = decode_command(alloc)?;
+    let program = serving_command(alloc)?;
+    program.subcommand(decode)
+}
+
+/// The program and its first two subcommands.
+fn serving_command<'a>(alloc: Global) -> Result<Command<'a>, AllocError>
+    ensures { IfOk result (λ command. app_of command ≡ serving_app) }
+{
     let serve = serve_command(alloc)?;
     let program = replaying_command(alloc)?;
     program.subcommand(serve)
@@ -140,24 +149,4 @@ fn bare_command<'a>(alloc: Global) -> Command<'a>
         .about("A store-and-forward hub for NJE networks over bisync lines")
         .subcommand_required(true)
         .disable_help_subcommand(true)
-}
-
-/// `replay`, with its one option.
-fn replay_command<'a>(alloc: Global) -> Result<Command<'a>, AllocError>
-    ensures app { IfOk result (λ command. app_of command ≡ replay_app) }
-    ensures local { IfOk result (λ command. (out-Command command).has_globals ≡ false) }
-{
-    bare_replay(alloc).arg(tables_option(alloc))
-}
-
-/// `replay` without its option.
-fn bare_replay<'a>(alloc: Global) -> Command<'a>
-    ensures app { app_of result ≡ new_app (codes "replay") }
-    ensures local { (out-Command result).has_globals ≡ false }
-{
-    Command::new(alloc, "replay")
-        .about(
-            "Runs a script of events from standard input, and prints the frames that the hub sends and the files that it then has",
-        )
-        .after_help(REPLAY_EXAMPLE)
 }

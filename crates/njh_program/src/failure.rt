@@ -10,6 +10,7 @@ use njh_hub::HubFault;
 use njh_replay::ReplayFault;
 use njh_serve::ServeFault;
 use njh_table::TableFault;
+use njh_trace::TraceFault;
 use std::alloc::{AllocError, AllocFailed};
 use std::{fmt, io};
 
@@ -22,6 +23,8 @@ pub enum Failure {
     Tables(TableFault),
     /// The replay ended early.
     Replay(ReplayFault),
+    /// The trace wasn't said to its end.
+    Trace(TraceFault),
     /// A file or a stream failed outside a replay, or lines could not be served.
     Device,
     /// There was no memory, outside a replay.
@@ -29,8 +32,8 @@ pub enum Failure {
 }
 
 impl Failure {
-    /// The status to end with: 1 where the arguments, the tables or the script are refused, 2 where a file, a
-    /// stream or memory fails.
+    /// The status to end with: 1 where the arguments, the tables, the script or the trace are refused, 2 where a file,
+    /// a stream or memory fails.
     pub fn status(&self) -> u8
         ensures { result ≡ status_of self.now }
     {
@@ -42,6 +45,9 @@ impl Failure {
             Failure::Replay(ReplayFault::Script { .. }) => 1,
             Failure::Replay(ReplayFault::Device) => 2,
             Failure::Replay(ReplayFault::Hub(_)) => 2,
+            Failure::Trace(TraceFault::TooLong) => 1,
+            Failure::Trace(TraceFault::Device) => 2,
+            Failure::Trace(TraceFault::Memory) => 2,
             Failure::Device => 2,
             Failure::Memory => 2,
         }
@@ -55,6 +61,7 @@ impl fmt::Display for Failure {
             Failure::Arguments(error) => write!(f, "{error}"),
             Failure::Tables(fault) => writeln!(f, "njehub: {fault}"),
             Failure::Replay(fault) => writeln!(f, "njehub: {fault}"),
+            Failure::Trace(fault) => writeln!(f, "njehub: {fault}"),
             Failure::Device => writeln!(f, "njehub: {}", ReplayFault::Device),
             Failure::Memory => writeln!(f, "njehub: {}", HubFault::Memory),
         }
@@ -92,6 +99,16 @@ impl From<ReplayFault> for Failure {
 
     fn from(fault: ReplayFault) -> Failure {
         Failure::Replay(fault)
+    }
+}
+
+impl From<TraceFault> for Failure {
+    ghost use Rattle.njh_program.specs.declared.failure.Failure.TheVariants.{Trace};
+
+    ghost from_gives = { λ fault failure. failure ≡ Trace fault };
+
+    fn from(fault: TraceFault) -> Failure {
+        Failure::Trace(fault)
     }
 }
 

@@ -1,15 +1,19 @@
-//! All of the program: arguments, the table file, and what they ask for: to replay a script, or to serve lines on sockets.
+//! All of the program: arguments, the table file, and what they ask for: to replay a script, to serve lines on sockets,
+//! or to say a trace in words.
 #![tactic(auto)]
 
 mod arguments;
+mod decode_options;
 mod failure;
 mod options;
 mod program;
+mod replay_options;
 mod serve_options;
 mod service;
 mod standard_error;
 mod table_file;
 mod table_source;
+mod words;
 
 pub use arguments::{Request, request_of};
 pub use failure::Failure;

@@ -4,15 +4,17 @@ ghost use Rattle.std.specs.Prelude.{◌≡◌, ◌≤◌, ◌⊎◌, map, IfErr,
 ghost use Rattle.std.specs.Io.KnownBytes.{Keeps};
 ghost use Rattle.std.specs.Process.{exit_status};
 ghost use Rattle.njh_program.specs.ProgramOutcome.{IsBegunFor, IsRunDone, IsFailed};
-ghost use Rattle.njh_program.specs.Status.{status_after, status_of};
+ghost use Rattle.njh_program.specs.Status.{status_after, ComesFirst};
 
 use crate::arguments::{Request, not_utf8, request_of};
 use crate::failure::Failure;
 use crate::service::{Options, serve_file};
 use crate::standard_error::StandardError;
 use crate::table_file::tables_of;
+use crate::words::replay_in_words;
 use njh_replay::replay;
 use njh_service::Log;
+use njh_trace::decode_trace;
 use std::convert::AsStr;
 use std::io::{BufWriter, ErrorKind, Read, Write};
 use std::net::Net;
@@ -76,7 +78,7 @@ fn arguments_of<R: Env + AllocGlobal>(rt: &R) -> Result<Vec<String>, Failure> {
 }
 
 /// Does what the arguments ask for: the arguments are checked first, then the tables, then the script. The log of a
-/// service goes to `log`.
+/// service goes to `log`. `script` is what the program is given to read: a script, or for `decode` a trace.
 pub fn carry_out<
     F: Files + Net + Clock + AllocGlobal,
     S: AsStr,
@@ -89,12 +91,19 @@ pub fn carry_out<
     ensures failed { IfErr result (IsFailed (map S.text arguments.now) (R.remaining script.old)) }
     ensures begun { OnErr result (Keeps (W.contents out.old) (W.contents out.new)
         ⊎ IsBegunFor (map S.text arguments.now) (R.remaining script.old) (W.contents out.old) (W.contents out.new)) }
-    ensures silent { IfErr result (λ failure. status_of failure ≡ 1 → Keeps (W.contents out.old) (W.contents out.new)) }
+    ensures silent { IfErr result (λ failure. ComesFirst failure → Keeps (W.contents out.old) (W.contents out.new)) }
 {
     match request_of(rt.alloc(), arguments)? {
-        Request::Replay { tables } => {
+        Request::Replay { tables, in_words } => {
             let tables = tables_of(rt, tables)?;
+            if in_words {
+                return replay_in_words(rt.alloc(), tables, script, out);
+            }
             replay(rt.alloc(), tables, script, out)?;
+            Ok(())
+        }
+        Request::Decode { hex } => {
+            decode_trace(rt.alloc(), script, out, hex)?;
             Ok(())
         }
         Request::Serve {

@@ -40,7 +40,11 @@ fn say_same<R: Files + Net + Clock + Print + AllocGlobal>(
     wanted: &[u8],
 ) -> Result<(), Failure> {
     let own = own_lines(rt, entry)?;
-    let verdict = if own == wanted { "the same" } else { "others" };
+    let verdict = if own.as_slice() == wanted {
+        "the same"
+    } else {
+        "others"
+    };
     println!(rt; "{}: {verdict}", entry.name)?;
     Ok(())
 }

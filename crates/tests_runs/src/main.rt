@@ -10,6 +10,7 @@ mod customers;
 mod damage;
 mod devices;
 mod looks;
+mod man_page;
 mod new_routes;
 mod peers;
 mod random_events;
@@ -44,6 +45,7 @@ fn tried<R: Files + Net + Clock + Print + AllocGlobal>(rt: &R) -> Result<(), Fai
     served::serve(rt)?;
     new_routes::refuse(rt)?;
     route_lines::try_each(rt)?;
+    man_page::compare(rt)?;
     steps::refuse(rt)?;
     soak::run_all(rt)
 }

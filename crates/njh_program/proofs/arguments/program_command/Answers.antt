@@ -5,8 +5,8 @@ use Rattle.njh_program.proofs.arguments.program_command.Goals as goal
 
 pub returns : goal.returns
 returns c =
-    let serve_is = c.in_ok-serve.ensures.app in
+    let decode_is = c.in_ok-decode.ensures.app in
     IfOk-weaker c.subcommand.result _ _
-    (λ command added. added.shape c.in_ok-serve.ensures.local
-    ∙ ap₂ with_subcommand c.in_ok-program.ensures (ap (λ (a : App). a.top) serve_is))
+    (λ command added. added.shape c.in_ok-decode.ensures.local
+    ∙ ap₂ with_subcommand c.in_ok-program.ensures (ap (λ (a : App). a.top) decode_is))
     c.subcommand.ensures

@@ -1,10 +1,10 @@
-use Rattle.std.proofs.Common.{◌≡◌, ◌∙◌, List, codes, Option, Some, option_map, sym, ap, subst, rules}
-use Rattle.clap.specs.Matches.{found_of, subcommand_name_of}
+use Rattle.std.proofs.Common.{◌≡◌, ◌∙◌, List, codes, Option, Some, refl, sym, ap, subst, rules}
+use Rattle.clap.specs.Matches.{found_of}
 use Rattle.clap.specs.Simple.{subcommand_rows_of}
-use Rattle.clap.specs.Walk.{Row, Text, first_of, rows_of}
-use Rattle.njh_program.specs.declared.arguments.Request.TheVariants.{Replay}
+use Rattle.clap.specs.Walk.{Row, Text, rows_of}
+use Rattle.njh_program.specs.declared.arguments.Request.TheVariants.{Decode}
 use Rattle.njh_program.specs.Arguments.{AsksIn}
-use Rattle.njh_program.proofs.ArgumentLaws.{asks_in, first_value-rows, serves_refused, subcommand_is}
+use Rattle.njh_program.proofs.ArgumentLaws.{asks_in, serves_refused, subcommand_is}
 use Rattle.njh_program.proofs.arguments.request_in.Goals as goal
 
 pub returns-in-Some-replay-default-clause-asked : goal.returns-in-Some-replay-default-clause-asked
@@ -12,11 +12,20 @@ returns-in-Some-replay-default-clause-asked c =
     let name = c.in-Some-replay-default.field-0-0.now in
     let rows = rows_of (found_of c.in-Some-replay-default.options.now) in
     let replay : name ≡ codes "replay" = search rules in
-    let named : subcommand_rows_of c.args.found.now ≡ Some (name, rows) =
-    subcommand_is c.args.found.now name rows c.in-Some-replay-default.ensures.name c.in-Some-replay-default.ensures.rows in
-    let file : first_of (codes "tables") rows ≡ option_map (λ s. s.now) c.get_str.result =
-    sym (first_value-rows c.in-Some-replay-default.options.now (codes "tables")) ∙ sym c.get_str.ensures in
-    subst (λ (o : Option (Text × List Row)). AsksIn o (Replay c.get_str.result)) (sym named) (replay, file)
+    let named : subcommand_rows_of c.args.found.now ≡ Some (codes "replay", rows) =
+    subcommand_is c.args.found.now name rows c.in-Some-replay-default.ensures.name c.in-Some-replay-default.ensures.rows
+    ∙ ap (λ (n : Text). Some (n, rows)) replay in
+    subst (λ (o : Option (Text × List Row)). AsksIn o c.replayed_in.result) (sym named) c.replayed_in.ensures
+
+pub returns-in-Some-decode-default-clause-asked : goal.returns-in-Some-decode-default-clause-asked
+returns-in-Some-decode-default-clause-asked c =
+    let name = c.in-Some-decode-default.field-0-0.now in
+    let rows = rows_of (found_of c.in-Some-decode-default.options.now) in
+    let decode : name ≡ codes "decode" = search rules in
+    let named : subcommand_rows_of c.args.found.now ≡ Some (codes "decode", rows) =
+    subcommand_is c.args.found.now name rows c.in-Some-decode-default.ensures.name c.in-Some-decode-default.ensures.rows
+    ∙ ap (λ (n : Text). Some (n, rows)) decode in
+    subst (λ (o : Option (Text × List Row)). AsksIn o (Decode c.is_set.result)) (sym named) (refl, c.is_set.ensures)
 
 pub returns-in-Some-serve-default-clause-asked : goal.returns-in-Some-serve-default-clause-asked
 returns-in-Some-serve-default-clause-asked c =
