@@ -5,7 +5,7 @@ use std::net::Net;
 use std::rt::{Clock, Files};
 use std::{fs, io};
 
-/// The file with the page; `examples` has a link to it.
+/// The file with the page.
 const PAGE: &str = "njehub.1";
 
 /// The subcommands.
