@@ -1,0 +1,6 @@
+pub mod Characters
+pub mod Words
+pub mod Messages
+pub mod Statements
+pub mod LineStates
+pub mod Encoded

@@ -1,0 +1,57 @@
+//! Why a line can't be encoded.
+
+use std::alloc::AllocError;
+use thiserror::Error;
+
+/// Why a line can't be encoded.
+#[derive(Clone, Copy, Debug, PartialEq, Eq, Error)]
+pub enum Reason {
+    /// What stands left of the colon isn't 1 to 8 letters and digits of ASCII.
+    #[error("no line's name before the colon")]
+    NoLine,
+    /// What stands right of the colon begins with none of the words that there are, or goes on where it has to end.
+    #[error("no such words")]
+    NoSuchWords,
+    /// A request or an answer names no stream: SYSIN 1 to 4, SYSOUT 1 to 4.
+    #[error("no stream")]
+    NoStream,
+    /// A sign-on is not `as NODE block SIZE`, with or without `password WORD` behind.
+    #[error("no sign-on")]
+    NoSignOn,
+    /// A message is not `from NODE to NODE USER: TEXT`.
+    #[error("no message")]
+    NoMessage,
+    /// A command is not `from NODE USER to NODE: TEXT`.
+    #[error("no command")]
+    NoCommand,
+    /// A character of a text has no byte in code page 37.
+    #[error("a character that EBCDIC lacks")]
+    NoCharacter,
+    /// A text has too many characters: a message at most 148, a line of a file 256.
+    #[error("too long a text")]
+    TooLong,
+    /// Memory was refused.
+    #[error("memory")]
+    Memory,
+}
+
+impl From<AllocError> for Reason {
+    ghost use Rattle.std.specs.Prelude.{◌≡◌};
+    ghost use Rattle.njh_encode.specs.declared.fault.Reason.TheVariants.{Memory};
+
+    ghost from_gives = { λ _ reason. reason ≡ Memory };
+
+    fn from(_error: AllocError) -> Self {
+        Reason::Memory
+    }
+}
+
+/// The first bad line, and why it is bad.
+#[derive(Clone, Copy, Debug, PartialEq, Eq, Error)]
+#[error("line {line}: {reason}")]
+pub struct EncodeFault {
+    /// Its number, counted from 1.
+    pub line: usize,
+    /// Why.
+    pub reason: Reason,
+}

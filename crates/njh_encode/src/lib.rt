@@ -1,0 +1,24 @@
+//! Lines in plain words, as lines of a script: so that nobody writes a script's bytes by hand.
+//!
+//! What stands left of the colon is a line of the hub, and what stands right of it comes on that line. So these
+//!
+//!     a1: contact
+//!     a1: sign on as LYON block 1024
+//!     a1: request SYSOUT 1
+//!
+//! are three lines of `BYTES a1`. Blocks are counted for each line by itself.
+#![tactic(auto)]
+
+mod characters;
+mod encoder;
+mod fault;
+mod line_states;
+mod putting;
+mod sentences;
+mod statement;
+mod statements;
+mod words;
+
+pub use characters::bytes_are_told;
+pub use encoder::Encoder;
+pub use fault::{EncodeFault, Reason};
