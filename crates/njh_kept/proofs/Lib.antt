@@ -1,0 +1,5 @@
+pub mod HubLaws
+pub mod FileLaws
+pub mod OpenedLaws
+pub mod StepLaws
+pub mod OpeningLaws

@@ -1,0 +1,4 @@
+pub mod Opened
+pub mod OpenedFiles
+pub mod Faults
+pub mod code

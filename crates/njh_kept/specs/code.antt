@@ -1,0 +1,3 @@
+-- What only bodies and proofs speak of.
+pub mod Restoring
+pub mod Refusing

@@ -1,0 +1,38 @@
+//! Laws of a hub that is opened from a spool file. Each function does nothing: its contract is the law.
+
+ghost use Rattle.std.specs.Prelude.{◌≡◌, ℕ, ◌<◌, false, List, length};
+ghost use Rattle.std.specs.List.{AllByRecursion};
+ghost use Rattle.njh_hub.specs.WholeHub.{part, part_at_open};
+ghost use Rattle.njh_kept.specs.Opened.{AreBack, hub_opened, is_own, own_files, part_opened};
+ghost use Rattle.njh_kept.specs.OpenedFiles.{HasOpened};
+ghost use Rattle.njh_store.specs.Kept.{File, Spool, Whole, with_file};
+ghost use Rattle.njh_table.specs.Entries.{CustomerEntry};
+ghost use Rattle.njh_table.specs.TableFile.{TableFile, customer_at, entry_of};
+
+use njh_store::others_do_not_show;
+
+/// A customer of a hub that was opened from files of its own has these, in their order and with all their records: Held
+/// where they were Held or their node has no route, else Ready. Its lines are down, and nothing waits.
+pub fn files_stand_again()
+    ensures { (entry : CustomerEntry) (ws : List Whole) → AreBack (part_at_open entry) ws
+        → HasOpened entry ws (part_opened entry ws) }
+{}
+
+/// What a customer has after the opening is decided by its own entry and its own files: on two hubs, of two tables and
+/// two spool files in which these are the same, it has the same.
+pub fn own_files_decide()
+    ensures { (table other : TableFile) (spool kept : Spool) (c d : ℕ)
+        → c < length table.customers → d < length other.customers
+        → entry_of (customer_at table c) ≡ entry_of (customer_at other d)
+        → own_files (customer_at table c).name spool ≡ own_files (customer_at other d).name kept
+        → part c (hub_opened table spool) ≡ part d (hub_opened other kept) }
+{}
+
+/// A whole file of another customer that comes last into a spool file changes nothing of this one's.
+pub fn a_file_of_another_does_not_show()
+    ensures { (entry : CustomerEntry) (name : List ℕ) (id : ℕ) (file : File) (spool : Spool)
+        → AllByRecursion (λ e. e.0 < id) spool.files → is_own name file ≡ false
+        → part_opened entry (own_files name (with_file id file spool)) ≡ part_opened entry (own_files name spool) }
+{
+    others_do_not_show();
+}
