@@ -11,10 +11,10 @@ use Rattle.njh_table.specs.Base.{base_tables}
 use Rattle.njh_table.specs.TableFile.{TableFile}
 use Rattle.njh_table.specs.Keys.{Walked}
 use Rattle.njh_table.specs.Walk.{tables_of, walked_line, next_line, route_by, next_route, customer_keys, next_customer}
-use Rattle.njh_table.specs.Walk.{tables_in}
+use Rattle.njh_table.specs.Walk.{walk_in}
 
 pub base_read : tables_of BASE.now ≡ Ok base_tables
-unfolding chars toml_on_literals byte_of_character walked_line next_line route_by next_route customer_keys next_customer tables_in
+unfolding chars toml_on_literals byte_of_character walked_line next_line route_by next_route customer_keys next_customer walk_in
 base_read = refl
 
 -- a fault that cannot be any but want of memory

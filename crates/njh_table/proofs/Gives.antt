@@ -9,8 +9,12 @@ use Rattle.toml.specs.Data.{Data, Members, get_member, as_integer, as_str, as_ta
 use Rattle.njh_ebcdic.specs.Names.{within}
 use Rattle.njh_table.specs.declared.fault.TableFault.{TableFault}
 use Rattle.njh_table.specs.declared.fault.TableFault.TheVariants.{BadToml, MissingKey, BadValue, Memory}
+use Rattle.njh_table.specs.declared.places.Key.{Key}
+use Rattle.njh_table.specs.declared.places.Part.{Part}
+use Rattle.njh_table.specs.declared.places.PlacedFault.{PlacedFault}
 use Rattle.njh_table.specs.Accepted.{IsBetween}
-use Rattle.njh_table.specs.Keys.{Walked, ◌>>=◌, ◌>>◌, fault_where, keys_in, at_key, value_or, at_key_or, number_between}
+use Rattle.njh_table.specs.Places.{at_part, at_value, key_name}
+use Rattle.njh_table.specs.Keys.{Placed, ◌>>=◌, ◌>>◌, fault_where, keys_in, at_key, value_or, at_key_or, number_between}
 use Rattle.njh_table.specs.Keys.{number, is_line_name, line_name_of, line_name, peer_address, peer_of, peer}
 use Rattle.njh_table.specs.Addresses.{address_of}
 
@@ -20,29 +24,29 @@ IsOfWalk BadToml = ⊥
 IsOfWalk Memory = ⊥
 IsOfWalk _ = ⊤
 
-abbrev pub Gives : {A : Type 0} → (A → Type 0) → Walked A → Type 0
-Gives P walked = MatchResult walked P IsOfWalk
+abbrev pub Gives : {A : Type 0} → (A → Type 0) → Placed A → Type 0
+Gives P walked = MatchResult walked P (λ placed. IsOfWalk placed.fault)
 
-pub given : {A : Type 0} (P : A → Type 0) (walked : Walked A) (x : A) → walked ≡ Ok x → Gives P walked → P x
+pub given : {A : Type 0} (P : A → Type 0) (walked : Placed A) (x : A) → walked ≡ Ok x → Gives P walked → P x
 given P walked x is gives = subst (Gives P) is gives
 
 -- one part after another
-pub and_then : {A B : Type 0} (P : A → Type 0) (Q : B → Type 0) (walked : Walked A) (next : A → Walked B)
+pub and_then : {A B : Type 0} (P : A → Type 0) (Q : B → Type 0) (walked : Placed A) (next : A → Placed B)
     → Gives P walked → ((x : A) → P x → Gives Q (next x)) → Gives Q (walked >>= next)
 and_then P Q (Ok x) next gives more = more x gives
 and_then P Q (Err fault) next gives more = gives
 
-pub weaker : {A : Type 0} (P Q : A → Type 0) (walked : Walked A) → Gives P walked → ((x : A) → P x → Q x) → Gives Q walked
+pub weaker : {A : Type 0} (P Q : A → Type 0) (walked : Placed A) → Gives P walked → ((x : A) → P x → Q x) → Gives Q walked
 weaker P Q (Ok x) gives holds = holds x gives
 weaker P Q (Err fault) gives holds = gives
 
 -- a test that was passed
-pub past : {B : Type 0} (Q : B → Type 0) (test : Bool) (fault : TableFault) (next : Walked B)
-    → IsOfWalk fault → (test ≡ false → Gives Q next) → Gives Q (fault_where test fault >> next)
+pub past : {B : Type 0} (Q : B → Type 0) (test : Bool) (fault : PlacedFault) (next : Placed B)
+    → IsOfWalk fault.fault → (test ≡ false → Gives Q next) → Gives Q (fault_where test fault >> next)
 past Q true fault next of_walk more = of_walk
 past Q false fault next of_walk more = more refl
 
-pub some_or : {A : Type 0} (P : A → Type 0) (o : Option A) (fault : TableFault) → IsOfWalk fault → IfSome o P → Gives P (ok_or o fault)
+pub some_or : {A : Type 0} (P : A → Type 0) (o : Option A) (fault : PlacedFault) → IsOfWalk fault.fault → IfSome o P → Gives P (ok_or o fault)
 some_or P None fault of_walk holds = of_walk
 some_or P (Some x) fault of_walk holds = holds
 
@@ -53,42 +57,42 @@ any (Some x) = tt
 -- ---- the values of keys
 
 -- the keys of an element, and what follows
-pub with_keys : {B : Type 0} (Q : B → Type 0) (value : Data) (next : Members → Walked B)
-    → ((keys : Members) → Gives Q (next keys)) → Gives Q (keys_in value >>= next)
-with_keys Q value next more =
-    and_then (λ _. ⊤) Q (keys_in value) next (some_or (λ _. ⊤) (as_table value) BadValue tt (any (as_table value))) (λ keys _. more keys)
+pub with_keys : {B : Type 0} (Q : B → Type 0) (part : Part) (value : Data) (next : Members → Placed B)
+    → ((keys : Members) → Gives Q (next keys)) → Gives Q (keys_in part value >>= next)
+with_keys Q part value next more =
+    and_then (λ _. ⊤) Q (keys_in part value) next (some_or (λ _. ⊤) (as_table value) (at_part part BadValue) tt (any (as_table value))) (λ keys _. more keys)
 
 -- the value of a key that must be there, of which something holds, and what follows
-pub with_value : {A B : Type 0} (P : A → Type 0) (Q : B → Type 0) (read : Data → Option A) (key : List ℕ) (keys : Members)
-    (next : A → Walked B)
-    → ((value : Data) → IfSome (read value) P) → ((x : A) → P x → Gives Q (next x)) → Gives Q (at_key read key keys >>= next)
-with_value P Q read key keys next holds more =
-    and_then P Q (at_key read key keys) next
-    (and_then (λ _. ⊤) P (ok_or (get_member key keys) MissingKey) (λ value. ok_or (read value) BadValue)
-    (some_or (λ _. ⊤) (get_member key keys) MissingKey tt (any (get_member key keys)))
-    (λ value _. some_or P (read value) BadValue tt (holds value))) more
+pub with_value : {A B : Type 0} (P : A → Type 0) (Q : B → Type 0) (read : Data → Option A) (part : Part) (key : Key) (keys : Members)
+    (next : A → Placed B)
+    → ((value : Data) → IfSome (read value) P) → ((x : A) → P x → Gives Q (next x)) → Gives Q (at_key read part key keys >>= next)
+with_value P Q read part key keys next holds more =
+    and_then P Q (at_key read part key keys) next
+    (and_then (λ _. ⊤) P (ok_or (get_member (key_name key) keys) (at_value part key MissingKey)) (λ value. ok_or (read value) (at_value part key BadValue))
+    (some_or (λ _. ⊤) (get_member (key_name key) keys) (at_value part key MissingKey) tt (any (get_member (key_name key) keys)))
+    (λ value _. some_or P (read value) (at_value part key BadValue) tt (holds value))) more
 
 -- the same, where all that matters is that there is one
-pub with_any : {A B : Type 0} (Q : B → Type 0) (read : Data → Option A) (key : List ℕ) (keys : Members) (next : A → Walked B)
-    → ((x : A) → Gives Q (next x)) → Gives Q (at_key read key keys >>= next)
-with_any Q read key keys next more = with_value (λ _. ⊤) Q read key keys next (λ value. any (read value)) (λ x _. more x)
+pub with_any : {A B : Type 0} (Q : B → Type 0) (read : Data → Option A) (part : Part) (key : Key) (keys : Members) (next : A → Placed B)
+    → ((x : A) → Gives Q (next x)) → Gives Q (at_key read part key keys >>= next)
+with_any Q read part key keys next more = with_value (λ _. ⊤) Q read part key keys next (λ value. any (read value)) (λ x _. more x)
 
-value_or-gives : {A : Type 0} (P : A → Type 0) (read : Data → Option A) (other : A) (found : Option Data)
-    → P other → ((value : Data) → IfSome (read value) P) → Gives P (value_or read other found)
-value_or-gives P read other None at_other holds = at_other
-value_or-gives P read other (Some value) at_other holds = some_or P (read value) BadValue tt (holds value)
+value_or-gives : {A : Type 0} (P : A → Type 0) (read : Data → Option A) (other : A) (part : Part) (key : Key) (found : Option Data)
+    → P other → ((value : Data) → IfSome (read value) P) → Gives P (value_or read other part key found)
+value_or-gives P read other part key None at_other holds = at_other
+value_or-gives P read other part key (Some value) at_other holds = some_or P (read value) (at_value part key BadValue) tt (holds value)
 
 -- the value of a key that may be missing
-pub with_value_or : {A B : Type 0} (P : A → Type 0) (Q : B → Type 0) (read : Data → Option A) (other : A) (key : List ℕ) (keys : Members)
-    (next : A → Walked B) → P other → ((value : Data) → IfSome (read value) P) → ((x : A) → P x → Gives Q (next x))
-    → Gives Q (at_key_or read other key keys >>= next)
-with_value_or P Q read other key keys next at_other holds more =
-    and_then P Q (at_key_or read other key keys) next (value_or-gives P read other (get_member key keys) at_other holds) more
+pub with_value_or : {A B : Type 0} (P : A → Type 0) (Q : B → Type 0) (read : Data → Option A) (other : A) (part : Part) (key : Key) (keys : Members)
+    (next : A → Placed B) → P other → ((value : Data) → IfSome (read value) P) → ((x : A) → P x → Gives Q (next x))
+    → Gives Q (at_key_or read other part key keys >>= next)
+with_value_or P Q read other part key keys next at_other holds more =
+    and_then P Q (at_key_or read other part key keys) next (value_or-gives P read other part key (get_member (key_name key) keys) at_other holds) more
 
-pub with_any_or : {A B : Type 0} (Q : B → Type 0) (read : Data → Option A) (other : A) (key : List ℕ) (keys : Members)
-    (next : A → Walked B) → ((x : A) → Gives Q (next x)) → Gives Q (at_key_or read other key keys >>= next)
-with_any_or Q read other key keys next more =
-    with_value_or (λ _. ⊤) Q read other key keys next tt (λ value. any (read value)) (λ x _. more x)
+pub with_any_or : {A B : Type 0} (Q : B → Type 0) (read : Data → Option A) (other : A) (part : Part) (key : Key) (keys : Members)
+    (next : A → Placed B) → ((x : A) → Gives Q (next x)) → Gives Q (at_key_or read other part key keys >>= next)
+with_any_or Q read other part key keys next more =
+    with_value_or (λ _. ⊤) Q read other part key keys next tt (λ value. any (read value)) (λ x _. more x)
 
 -- ---- what the readers of values give
 

@@ -1,6 +1,6 @@
 -- What the walk over a customer's routes gives.
 use Rattle.std.proofs.Common.{◌≡◌, ◌≢◌, ℕ, ◌+◌, ◌<◌, ◌≤◌, Bool, true, false, cond, ◌||◌, nat_le, List, [], ◌∷◌, ◌++◌}
-use Rattle.std.proofs.Common.{length, map, codes, bytes_eq, All, Option, Some, None, IfSome, is_some, option_and_then}
+use Rattle.std.proofs.Common.{length, map, bytes_eq, All, Option, Some, None, IfSome, is_some, option_and_then}
 use Rattle.std.proofs.Common.{ok_or, refl, sym, ap, subst, ◌∙◌, arith}
 use Rattle.std.specs.List.{list_any, position_from}
 use Rattle.std.specs.Cmp.Lexicographic.{nat_list_eq_equiv}
@@ -11,10 +11,14 @@ use Rattle.std.proofs.lemmas.Option.{IfSome_then}
 use Rattle.std.proofs.lemmas.Slice.Eq.{bytes_eq-Decides}
 use Rattle.toml.specs.Data.{Data, Items, no_items, item, as_str}
 use Rattle.njh_table.specs.declared.fault.TableFault.TheVariants.{TooMany, DoubleNode, UnknownLine}
+use Rattle.njh_table.specs.declared.places.Key.TheVariants as named
+use Rattle.njh_table.specs.declared.places.Part.{Part}
+use Rattle.njh_table.specs.declared.places.Part.TheVariants as parts
 use Rattle.njh_table.specs.Limits.{max_routes}
 use Rattle.njh_table.specs.Accepted.{AreDistinct, IsRoute}
 use Rattle.njh_table.specs.declared.routes.RouteLines.{RouteLines}
 use Rattle.njh_table.specs.Entries.{RouteEntry, lines_to, route_lines}
+use Rattle.njh_table.specs.Places.{at_part, at_value}
 use Rattle.njh_table.specs.TableFile.{NamedLine}
 use Rattle.njh_table.specs.Keys.{node_name, other_text, second_line}
 use Rattle.njh_table.specs.Walk.{line_number, is_routed, number_of_second, route_by, next_route, routes_onto}
@@ -54,12 +58,12 @@ second_line-is first value = by (as_str value)
 abbrev IsSecond : ℕ → ℕ → Option ℕ → Type 0
 IsSecond lines first second = IfSome second (λ line. (line < lines) × (line ≢ first))
 
-number_of_second-gives : (lines : ℕ) (find : List ℕ → Option ℕ) (line : List ℕ) (number : ℕ) (second : Option (List ℕ)) → Finds lines find
-    → find line ≡ Some number → IsOther line second → Gives (IsSecond lines number) (number_of_second find second)
-number_of_second-gives lines find line number None finds found other = tt
-number_of_second-gives lines find line number (Some name) finds found other =
-    and_then (λ l. find name ≡ Some l) (IsSecond lines number) (ok_or (find name) UnknownLine) _
-    (some_or _ (find name) UnknownLine tt (there_is (find name)))
+number_of_second-gives : (part : Part) (lines : ℕ) (find : List ℕ → Option ℕ) (line : List ℕ) (number : ℕ) (second : Option (List ℕ)) → Finds lines find
+    → find line ≡ Some number → IsOther line second → Gives (IsSecond lines number) (number_of_second part find second)
+number_of_second-gives part lines find line number None finds found other = tt
+number_of_second-gives part lines find line number (Some name) finds found other =
+    and_then (λ l. find name ≡ Some l) (IsSecond lines number) (ok_or (find name) (at_value part named.Second UnknownLine)) _
+    (some_or _ (find name) (at_value part named.Second UnknownLine) tt (there_is (find name)))
     (λ l second. (found-below lines find name l finds second, λ same. other (finds.apart name line l second (found ∙ ap Some (sym same)))))
 
 pub record IsNewRoute (hub : List ℕ) (lines : ℕ) (done : List RouteEntry) (r : RouteEntry) : Type 0 where
@@ -67,20 +71,21 @@ pub record IsNewRoute (hub : List ℕ) (lines : ℕ) (done : List RouteEntry) (r
   pub absent : is_routed hub done r.node ≡ false
   pub is : IsRoute lines r
 
-next_route-gives : (hub : List ℕ) (lines : ℕ) (find : List ℕ → Option ℕ) (done : List RouteEntry) (value : Data)
-    → Finds lines find → Gives (IsNewRoute hub lines done) (next_route hub find done value)
+next_route-gives : (part : Part) (hub : List ℕ) (lines : ℕ) (find : List ℕ → Option ℕ) (done : List RouteEntry) (value : Data)
+    → Finds lines find → Gives (IsNewRoute hub lines done) (next_route part hub find done value)
 unfolding next_route route_by
-next_route-gives hub lines find done value finds =
-    past _ (nat_le max_routes (length done)) TooMany _ tt (λ room.
-    with_keys _ value _ (λ keys.
-    with_any _ node_name (codes "node") keys _ (λ node.
-    with_any _ as_str (codes "line") keys _ (λ line.
-    with_value_or (IsOther line) _ (second_line line) None (codes "second") keys _ tt (second_line-is line) (λ second other.
-    past _ (is_routed hub done node) DoubleNode _ tt (λ absent.
-    and_then (λ l. find line ≡ Some l) _ (ok_or (find line) UnknownLine) _ (some_or _ (find line) UnknownLine tt (there_is (find line)))
+next_route-gives part hub lines find done value finds =
+    past _ (nat_le max_routes (length done)) (at_part part TooMany) _ tt (λ room.
+    with_keys _ part value _ (λ keys.
+    with_any _ node_name part named.Node keys _ (λ node.
+    with_any _ as_str part named.Line keys _ (λ line.
+    with_value_or (IsOther line) _ (second_line line) None part named.Second keys _ tt (second_line-is line) (λ second other.
+    past _ (is_routed hub done node) (at_value part named.Node DoubleNode) _ tt (λ absent.
+    and_then (λ l. find line ≡ Some l) _ (ok_or (find line) (at_value part named.Line UnknownLine)) _
+    (some_or _ (find line) (at_value part named.Line UnknownLine) tt (there_is (find line)))
     (λ number found.
-    and_then (IsSecond lines number) _ (number_of_second find second) _
-    (number_of_second-gives lines find line number second finds found other) (λ second_number is.
+    and_then (IsSecond lines number) _ (number_of_second part find second) _
+    (number_of_second-gives part lines find line number second finds found other) (λ second_number is.
     record {
       room = leb-false max_routes (length done) room;
       absent = absent;
@@ -117,13 +122,13 @@ AreRoutes-push hub lines done r routes new =
           (distinct_push (hub ∷ map (λ r. r.node) done) r.node routes.nodes absent);
     }
 
-pub routes_onto-gives : (hub : List ℕ) (lines : ℕ) (find : List ℕ → Option ℕ) (done : List RouteEntry) (values : Items)
-    → Finds lines find → AreRoutes hub lines done → Gives (AreRoutes hub lines) (routes_onto hub find done values)
-routes_onto-gives hub lines find done no_items finds routes = routes
-routes_onto-gives hub lines find done (item value more) finds routes =
-    and_then (IsNewRoute hub lines done) (AreRoutes hub lines) (next_route hub find done value) _
-    (next_route-gives hub lines find done value finds)
-    (λ r new. routes_onto-gives hub lines find (done ++ r ∷ []) more finds (AreRoutes-push hub lines done r routes new))
+pub routes_onto-gives : (customer : ℕ) (hub : List ℕ) (lines : ℕ) (find : List ℕ → Option ℕ) (done : List RouteEntry) (values : Items)
+    → Finds lines find → AreRoutes hub lines done → Gives (AreRoutes hub lines) (routes_onto customer hub find done values)
+routes_onto-gives customer hub lines find done no_items finds routes = routes
+routes_onto-gives customer hub lines find done (item value more) finds routes =
+    and_then (IsNewRoute hub lines done) (AreRoutes hub lines) (next_route (parts.Route customer (length done)) hub find done value) _
+    (next_route-gives (parts.Route customer (length done)) hub lines find done value finds)
+    (λ r new. routes_onto-gives customer hub lines find (done ++ r ∷ []) more finds (AreRoutes-push hub lines done r routes new))
 
 position_from-below : {X : Type 0} (test : X → Bool) (k : ℕ) (xs : List X)
     → IfSome (position_from test k xs) (λ i. (k ≤ i) × (i < k + length xs))

@@ -1,6 +1,6 @@
 -- What the walk accepts is within the limits, and its faults are its own.
 use Rattle.std.proofs.Common.{◌≡◌, ◌≢◌, ℕ, ◌<◌, ◌≤◌, false, nat_le, nat_lt, sum_by, List, [], ◌∷◌, ◌++◌, length, map}
-use Rattle.std.proofs.Common.{codes, bytes_eq, All, Option, Some, None, IfErr, ok_or, Result, Ok, Err, ◌↔◌, refl, sym}
+use Rattle.std.proofs.Common.{bytes_eq, All, Option, Some, None, IfErr, ok_or, Ok, Err, ◌↔◌, refl, sym}
 use Rattle.std.proofs.Common.{ap, subst, ◌∙◌, arith}
 use Rattle.std.specs.List.{list_any}
 use Rattle.std.specs.Cmp.Lexicographic.{nat_list_eq_equiv}
@@ -14,12 +14,16 @@ use Rattle.toml.specs.Parse.{parse_document}
 use Rattle.njh_table.specs.declared.fault.TableFault.{TableFault}
 use Rattle.njh_table.specs.declared.fault.TableFault.TheVariants.{TooMany, MissingKey, BadToml, BadValue, QuotaOver}
 use Rattle.njh_table.specs.declared.fault.TableFault.TheVariants.{Memory}
+use Rattle.njh_table.specs.declared.places.Key.TheVariants as named
+use Rattle.njh_table.specs.declared.places.Part.{Part}
+use Rattle.njh_table.specs.declared.places.Part.TheVariants as parts
 use Rattle.njh_table.specs.Limits.{max_customers, max_lines, max_capacity, max_quota, max_files}
 use Rattle.njh_table.specs.Accepted.{IsBetween, AreDistinct, IsLine, IsRoute, IsCustomer, IsAccepted}
 use Rattle.njh_table.specs.TableFile.{NamedCustomer, TableFile, line_names}
-use Rattle.njh_table.specs.Keys.{◌>>=◌, number, node_name}
+use Rattle.njh_table.specs.Keys.{Placed, ◌>>=◌, without_place, number, node_name}
+use Rattle.njh_table.specs.Places.{at_part, at_value}
 use Rattle.njh_table.specs.Walk.{Walks, lines_onto, line_number, routes_onto, CustomerKeys, customer_keys}
-use Rattle.njh_table.specs.Walk.{next_customer, customers_onto, is_empty, tables_in, tables_of}
+use Rattle.njh_table.specs.Walk.{next_customer, customers_onto, is_empty, walk_in, walk_of, tables_in, tables_of}
 use Rattle.njh_table.proofs.Gives.{Gives, IsOfWalk, given, and_then, past, with_keys, with_value, with_any, with_any_or}
 use Rattle.njh_table.proofs.Gives.{number-is}
 use Rattle.njh_table.proofs.Distinct.{distinct_push}
@@ -45,29 +49,30 @@ pub record AreKeys (done : List NamedCustomer) (own : CustomerKeys) : Type 0 whe
   pub quota : IsBetween 1 max_quota own.quota
   pub files : IsBetween 1 max_files own.files
 
-customer_keys-gives : (done : List NamedCustomer) (keys : Members) → Gives (AreKeys done) (customer_keys done keys)
+customer_keys-gives : (part : Part) (done : List NamedCustomer) (keys : Members) → Gives (AreKeys done) (customer_keys part done keys)
 unfolding customer_keys
-customer_keys-gives done keys =
-    with_any _ node_name (codes "name") keys _ (λ name.
-    past _ (list_any (λ c. bytes_eq c.name name) done) BadValue _ tt (λ absent.
-    with_any _ node_name (codes "hub") keys _ (λ hub.
-    with_value (IsBetween 1 max_quota) _ (number 1 max_quota) (codes "quota") keys _ (number-is 1 max_quota) (λ quota in_quota.
-    with_value (IsBetween 1 max_files) _ (number 1 max_files) (codes "files") keys _ (number-is 1 max_files) (λ files in_files.
+customer_keys-gives part done keys =
+    with_any _ node_name part named.Name keys _ (λ name.
+    past _ (list_any (λ c. bytes_eq c.name name) done) (at_value part named.Name BadValue) _ tt (λ absent.
+    with_any _ node_name part named.Hub keys _ (λ hub.
+    with_value (IsBetween 1 max_quota) _ (number 1 max_quota) part named.Quota keys _ (number-is 1 max_quota) (λ quota in_quota.
+    with_value (IsBetween 1 max_files) _ (number 1 max_files) part named.Files keys _ (number-is 1 max_files) (λ files in_files.
     record { absent = absent; quota = in_quota; files = in_files })))))
 
 next_customer-gives : (done : List NamedCustomer) (value : Data) → AreCustomers done
     → Gives (IsNewCustomer done) (next_customer done value)
 unfolding next_customer
 next_customer-gives done value customers =
-    past _ (nat_le max_customers (length done)) TooMany _ tt (λ room.
-    with_keys _ value _ (λ keys.
-    and_then (AreKeys done) _ (customer_keys done keys) _ (customer_keys-gives done keys) (λ own are_keys.
-    with_any_or _ as_array no_items (codes "line") keys _ (λ line_values.
-    with_any_or _ as_array no_items (codes "route") keys _ (λ route_values.
-    and_then (AreLines (line_names done)) _ (lines_onto (line_names done) [] line_values) _
-    (lines_onto-gives (line_names done) [] line_values (none_yet done customers)) (λ lines are_lines.
-    and_then (AreRoutes own.hub (length lines)) _ (routes_onto own.hub (line_number lines) [] route_values) _
-    (routes_onto-gives own.hub (length lines) (line_number lines) [] route_values (line_number-finds lines)
+    let part = parts.Customer (length done) in
+    past _ (nat_le max_customers (length done)) (at_part part TooMany) _ tt (λ room.
+    with_keys _ part value _ (λ keys.
+    and_then (AreKeys done) _ (customer_keys part done keys) _ (customer_keys-gives part done keys) (λ own are_keys.
+    with_any_or _ as_array no_items part named.Line keys _ (λ line_values.
+    with_any_or _ as_array no_items part named.Route keys _ (λ route_values.
+    and_then (AreLines (line_names done)) _ (lines_onto (length done) (line_names done) [] line_values) _
+    (lines_onto-gives (length done) (line_names done) [] line_values (none_yet done customers)) (λ lines are_lines.
+    and_then (AreRoutes own.hub (length lines)) _ (routes_onto (length done) own.hub (line_number lines) [] route_values) _
+    (routes_onto-gives (length done) own.hub (length lines) (line_number lines) [] route_values (line_number-finds lines)
     (no_routes own.hub (length lines)))
     (λ routes are_routes.
     record {
@@ -150,15 +155,15 @@ some_customers (item value more) some =
 
 -- ---- the whole file
 
-pub tables_in-gives : (keys : Members) → Gives IsAccepted (tables_in keys)
-unfolding tables_in
-tables_in-gives keys =
-    with_value (IsBetween 1 max_capacity) _ (number 1 max_capacity) (codes "capacity") keys _ (number-is 1 max_capacity)
+pub walk_in-gives : (keys : Members) → Gives IsAccepted (walk_in keys)
+unfolding walk_in
+walk_in-gives keys =
+    with_value (IsBetween 1 max_capacity) _ (number 1 max_capacity) parts.File named.Capacity keys _ (number-is 1 max_capacity)
     (λ capacity in_capacity.
-    with_any _ as_array (codes "customer") keys _ (λ values.
-    past _ (is_empty values) MissingKey _ tt (λ some.
+    with_any _ as_array parts.File named.Customer keys _ (λ values.
+    past _ (is_empty values) (at_value parts.File named.Customer MissingKey) _ tt (λ some.
     and_then (AreAtLeast 1) _ (customers_onto [] values) _ (some_customers values some) (λ customers accepted.
-    past _ (nat_lt capacity (sum_by (λ c. c.quota) customers)) QuotaOver _ tt (λ within.
+    past _ (nat_lt capacity (sum_by (λ c. c.quota) customers)) (at_value parts.File named.Capacity QuotaOver) _ tt (λ within.
     record {
       capacity = in_capacity;
       customers = (accepted.count, accepted.are.count);
@@ -173,26 +178,35 @@ tables_in-gives keys =
 pub not_toml : (fault : TableFault) → IsOfWalk fault → fault ≢ BadToml
 not_toml fault of_walk same = subst IsOfWalk same of_walk
 
-pub told_of_toml : {A : Type 0} (result : Result A TableFault) (seen : A → TableFile) (text : List ℕ) (keys : Members)
-    → parse_document text ≡ Some keys → Walks seen result (tables_in keys)
-    → IfErr result (λ fault. fault ≢ Memory → (fault ≡ BadToml) ↔ (parse_document text ≡ None))
+pub told_of_toml : {A : Type 0} (result : Placed A) (seen : A → TableFile) (text : List ℕ) (keys : Members)
+    → parse_document text ≡ Some keys → Walks seen result (walk_in keys)
+    → IfErr result (λ placed. placed.fault ≢ Memory → (placed.fault ≡ BadToml) ↔ (parse_document text ≡ None))
 told_of_toml (Ok x) seen text keys is_toml walks = tt
-told_of_toml (Err fault) seen text keys is_toml walks = λ no_memory.
-    let of_walk = MatchResult-at_err IsAccepted IsOfWalk fault (walks no_memory) (tables_in-gives keys) in
-    (λ bad. absurd (not_toml fault of_walk bad), λ none. cc)
+told_of_toml (Err placed) seen text keys is_toml walks = λ no_memory.
+    let of_walk = MatchResult-at_err IsAccepted (λ p. IsOfWalk p.fault) placed (walks no_memory) (walk_in-gives keys) in
+    (λ bad. absurd (not_toml placed.fault of_walk bad), λ none. cc)
 
 -- the walk never blames want of memory
 pub not_memory : (fault : TableFault) → IsOfWalk fault → fault ≢ Memory
 not_memory fault of_walk same = subst IsOfWalk same of_walk
 
+-- the place doesn't matter to what is accepted
+placed_ok : {A : Type 0} (w : Placed A) (x : A) → without_place w ≡ Ok x → w ≡ Ok x
+placed_ok (Ok y) x told = ap Ok (cc told)
+placed_ok (Err placed) x told = absurd (cc told)
+
+of_walk : {A : Type 0} (P : A → Type 0) (w : Placed A) (fault : TableFault) → Gives P w → without_place w ≡ Err fault → IsOfWalk fault
+of_walk P (Ok x) fault gives told = absurd (cc told)
+of_walk P (Err placed) fault gives told = subst IsOfWalk (cc told) gives
+
 pub refused : (keys : Members) (fault : TableFault) → tables_in keys ≡ Err fault → (fault ≢ BadToml) × (fault ≢ Memory)
 refused keys fault told =
-    let of_walk = MatchResult-at_err IsAccepted IsOfWalk fault told (tables_in-gives keys) in
-    (not_toml fault of_walk, not_memory fault of_walk)
+    let its_own = of_walk IsAccepted (walk_in keys) fault (walk_in-gives keys) told in
+    (not_toml fault its_own, not_memory fault its_own)
 
 pub accepted : (text : List ℕ) (t : TableFile) → tables_of text ≡ Ok t → IsAccepted t
-accepted text t told = by (parse_document text) told
+accepted text t told = by (parse_document text) (placed_ok (walk_of text) t told)
   where
-    by : (found : Option Members) → (ok_or found BadToml >>= tables_in) ≡ Ok t → IsAccepted t
+    by : (found : Option Members) → (ok_or found (at_part parts.File BadToml) >>= walk_in) ≡ Ok t → IsAccepted t
     by None told = absurd (cc)
-    by (Some keys) told = given IsAccepted (tables_in keys) t told (tables_in-gives keys)
+    by (Some keys) told = given IsAccepted (walk_in keys) t told (walk_in-gives keys)

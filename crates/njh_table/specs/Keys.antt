@@ -1,4 +1,5 @@
--- The keys of a table file, which is written in TOML: what a key's value must be, and the fault where it isn't.
+-- The keys of a table file, which is written in TOML: what a key's value must be, and the fault with its place where it
+-- isn't.
 use Rattle.std.specs.Prelude.{ℕ, ℤ, pos, negsuc, Bool, true, false, ◌&&◌, ◌||◌, ◌==◌, if◌then◌else◌, List, [], ◌∷◌}
 use Rattle.std.specs.Prelude.{length, codes, bytes_eq, Option, Some, None, option_and_then, option_map, ok_or, Result}
 use Rattle.std.specs.Prelude.{Ok, Err}
@@ -14,25 +15,38 @@ use Rattle.njh_table.specs.declared.Role.TheVariants.{Call, Answer}
 use Rattle.njh_table.specs.declared.fault.TableFault.{TableFault}
 use Rattle.njh_table.specs.declared.fault.TableFault.TheVariants.{MissingKey, BadValue}
 use Rattle.njh_table.specs.Limits.{max_line_name}
+use Rattle.njh_table.specs.declared.places.Key.{Key}
+use Rattle.njh_table.specs.declared.places.Part.{Part}
+use Rattle.njh_table.specs.declared.places.PlacedFault.{PlacedFault}
 use Rattle.njh_table.specs.Addresses.{address_of}
+use Rattle.njh_table.specs.Places.{at_part, at_value, key_name}
 
--- what a part of the walk gives, or the first fault in it
+-- what a test or a part of the walk gives, or the first fault
 abbrev pub Walked : Type 0 → Type 0
 Walked A = Result A TableFault
 
+-- the same, and the fault has its place
+abbrev pub Placed : Type 0 → Type 0
+Placed A = Result A PlacedFault
+
 infixl 10 ◌>>=◌
-abbrev pub ◌>>=◌ : {A B : Type 0} → Walked A → (A → Walked B) → Walked B
+abbrev pub ◌>>=◌ : {A B E : Type 0} → Result A E → (A → Result B E) → Result B E
 (Ok x) >>= next = next x
 (Err fault) >>= next = Err fault
 
 infixl 10 ◌>>◌
-abbrev pub ◌>>◌ : {A B : Type 0} → Walked A → Walked B → Walked B
+abbrev pub ◌>>◌ : {A B E : Type 0} → Result A E → Result B E → Result B E
 walked >> next = walked >>= (λ _. next)
 
 -- the fault, where the test holds
-abbrev pub fault_where : Bool → TableFault → Walked (Unit {0})
+abbrev pub fault_where : {E : Type 0} → Bool → E → Result (Unit {0}) E
 fault_where true fault = Err fault
 fault_where false fault = Ok tt
+
+-- the fault alone
+abbrev pub without_place : {A : Type 0} → Placed A → Walked A
+without_place (Ok x) = Ok x
+without_place (Err placed) = Err placed.fault
 
 -- ---- the values of keys
 
@@ -96,20 +110,20 @@ peer port value = option_map Some (option_and_then (peer_of port) (as_str value)
 
 -- ---- keys
 
--- the keys of an element of a list
-abbrev pub keys_in : Data → Walked Members
-keys_in value = ok_or (as_table value) BadValue
+-- the keys of an element of a list, which is this part of the file
+abbrev pub keys_in : Part → Data → Placed Members
+keys_in part value = ok_or (as_table value) (at_part part BadValue)
 
--- the value of a key that must be there
-abbrev pub at_key : {A : Type 0} → (Data → Option A) → List ℕ → Members → Walked A
-at_key read key keys = do
-  value ← ok_or (get_member key keys) MissingKey
-  ok_or (read value) BadValue
+-- the value of a part's key that must be there
+abbrev pub at_key : {A : Type 0} → (Data → Option A) → Part → Key → Members → Placed A
+at_key read part key keys = do
+  value ← ok_or (get_member (key_name key) keys) (at_value part key MissingKey)
+  ok_or (read value) (at_value part key BadValue)
 
--- the value of a key that may be missing, and is then another
-abbrev pub value_or : {A : Type 0} → (Data → Option A) → A → Option Data → Walked A
-value_or read other None = Ok other
-value_or read other (Some value) = ok_or (read value) BadValue
+-- the value of a part's key that may be missing, and is then another
+abbrev pub value_or : {A : Type 0} → (Data → Option A) → A → Part → Key → Option Data → Placed A
+value_or read other part key None = Ok other
+value_or read other part key (Some value) = ok_or (read value) (at_value part key BadValue)
 
-abbrev pub at_key_or : {A : Type 0} → (Data → Option A) → A → List ℕ → Members → Walked A
-at_key_or read other key keys = value_or read other (get_member key keys)
+abbrev pub at_key_or : {A : Type 0} → (Data → Option A) → A → Part → Key → Members → Placed A
+at_key_or read other part key keys = value_or read other part key (get_member (key_name key) keys)

@@ -1,5 +1,5 @@
 //! The values of a table's keys. A key that must be there and isn't is `MissingKey`; a value of another type or out of
-//! range is `BadValue`.
+//! range is `BadValue`. Each fault has its place: the part of the file whose keys they are, and the key.
 
 ghost use Rattle.std.specs.Prelude.{◌≡◌, ◌≤◌, [], Some, None, IfOk, ok_or, option_map};
 ghost use Rattle.std.specs.List.{list_all};
@@ -9,39 +9,41 @@ ghost use Rattle.toml.specs.View.{view, table_view, items_view};
 ghost use Rattle.njh_table.specs.Addresses.{address_of};
 ghost use Rattle.njh_table.specs.Keys.{keys_in, at_key, at_key_or, number, node_name, role, password, peer, line_name};
 ghost use Rattle.njh_table.specs.Keys.{second_line, is_line_name, is_letter_or_digit};
+ghost use Rattle.njh_table.specs.Places.{at_value, key_name};
 ghost use Rattle.njh_table.specs.TableFile.{password_bytes};
 
 use crate::Role;
 use crate::fault::TableFault;
 use crate::limits::MAX_LINE_NAME;
+use crate::places::{Key, Part, PlacedFault};
 use njh_ebcdic::Name;
 use std::net::SocketAddr;
 use toml::{Table, Value};
 
 /// The keys of an element of a list.
-pub fn keys_in(value: &Value) -> Result<&Table, TableFault>
-    ensures { result_map_both (λ t. table_view t.now) (λ f. f) result ≡ keys_in (view value.now) }
+pub fn keys_in(value: &Value, part: Part) -> Result<&Table, PlacedFault>
+    ensures { result_map_both (λ t. table_view t.now) (λ f. f) result ≡ keys_in part (view value.now) }
 {
     match value.as_table() {
         Some(keys) => Ok(keys),
-        None => Err(TableFault::BadValue),
+        None => Err(part.fault(TableFault::BadValue)),
     }
 }
 
-fn find<'a>(keys: &'a Table, key: &str) -> Option<&'a Value>
-    ensures { option_map (λ v. view v.now) result ≡ get_member key.now (table_view keys.now) }
+fn find(keys: &Table, key: Key) -> Option<&Value>
+    ensures { option_map (λ v. view v.now) result ≡ get_member (key_name key) (table_view keys.now) }
 {
-    keys.get(key)
+    keys.get(key.name())
 }
 
 /// The value of a key that must be there.
-fn value_at<'a>(keys: &'a Table, key: &str) -> Result<&'a Value, TableFault>
+fn value_at(keys: &Table, part: Part, key: Key) -> Result<&Value, PlacedFault>
     ensures { result_map_both (λ v. view v.now) (λ f. f) result
-        ≡ ok_or (get_member key.now (table_view keys.now)) TableFault.MissingKey }
+        ≡ ok_or (get_member (key_name key) (table_view keys.now)) (at_value part key TableFault.MissingKey) }
 {
     match find(keys, key) {
         Some(value) => Ok(value),
-        None => Err(TableFault::MissingKey),
+        None => Err(part.fault_at(key, TableFault::MissingKey)),
     }
 }
 
@@ -53,47 +55,53 @@ fn number_in(value: &Value, low: u32, high: u32) -> Option<u32>
 }
 
 /// A whole number between two, both among them.
-pub fn number_at(keys: &Table, key: &str, low: u32, high: u32) -> Result<u32, TableFault>
-    ensures read { result ≡ at_key (number low high) key.now (table_view keys.now) }
+pub fn number_at(
+    keys: &Table,
+    part: Part,
+    key: Key,
+    low: u32,
+    high: u32,
+) -> Result<u32, PlacedFault>
+    ensures read { result ≡ at_key (number low high) part key (table_view keys.now) }
     ensures low { IfOk result (λ n. low ≤ n) }
     ensures high { IfOk result (λ n. n ≤ high) }
 {
-    match number_in(value_at(keys, key)?, low, high) {
+    match number_in(value_at(keys, part, key)?, low, high) {
         Some(number) => Ok(number),
-        None => Err(TableFault::BadValue),
+        None => Err(part.fault_at(key, TableFault::BadValue)),
     }
 }
 
 /// A name of a node or a hub.
-pub fn name_at(keys: &Table, key: &str) -> Result<Name, TableFault>
-    ensures { result ≡ at_key node_name key.now (table_view keys.now) }
+pub fn name_at(keys: &Table, part: Part, key: Key) -> Result<Name, PlacedFault>
+    ensures { result ≡ at_key node_name part key (table_view keys.now) }
 {
-    let text = text_at(keys, key)?;
+    let text = text_at(keys, part, key)?;
     match Name::of_text(text) {
         Ok(name) => Ok(name),
-        Err(_) => Err(TableFault::BadValue),
+        Err(_) => Err(part.fault_at(key, TableFault::BadValue)),
     }
 }
 
 /// Any text.
-pub fn text_at<'a>(keys: &'a Table, key: &str) -> Result<&'a str, TableFault>
-    ensures { result_map_both (λ t. t.now) (λ f. f) result ≡ at_key as_str key.now (table_view keys.now) }
+pub fn text_at(keys: &Table, part: Part, key: Key) -> Result<&str, PlacedFault>
+    ensures { result_map_both (λ t. t.now) (λ f. f) result ≡ at_key as_str part key (table_view keys.now) }
 {
-    match value_at(keys, key)?.as_str() {
+    match value_at(keys, part, key)?.as_str() {
         Some(text) => Ok(text),
-        None => Err(TableFault::BadValue),
+        None => Err(part.fault_at(key, TableFault::BadValue)),
     }
 }
 
 /// A line's name: 1 to 8 letters and digits of ASCII.
-pub fn line_name_at<'a>(keys: &'a Table, key: &str) -> Result<&'a str, TableFault>
-    ensures { result_map_both (λ t. t.now) (λ f. f) result ≡ at_key line_name key.now (table_view keys.now) }
+pub fn line_name_at(keys: &Table, part: Part, key: Key) -> Result<&str, PlacedFault>
+    ensures { result_map_both (λ t. t.now) (λ f. f) result ≡ at_key line_name part key (table_view keys.now) }
 {
-    let name = text_at(keys, key)?;
+    let name = text_at(keys, part, key)?;
     if is_line_name(name.as_bytes()) {
         Ok(name)
     } else {
-        Err(TableFault::BadValue)
+        Err(part.fault_at(key, TableFault::BadValue))
     }
 }
 
@@ -116,58 +124,63 @@ fn is_letter_or_digit(c: u8) -> bool
 }
 
 /// Which end of a line makes contact: `call` or `answer`.
-pub fn role_at(keys: &Table, key: &str) -> Result<Role, TableFault>
-    ensures { result ≡ at_key role key.now (table_view keys.now) }
+pub fn role_at(keys: &Table, part: Part, key: Key) -> Result<Role, PlacedFault>
+    ensures { result ≡ at_key role part key (table_view keys.now) }
 {
-    match text_at(keys, key)? {
+    match text_at(keys, part, key)? {
         "call" => Ok(Role::Call),
         "answer" => Ok(Role::Answer),
-        _ => Err(TableFault::BadValue),
+        _ => Err(part.fault_at(key, TableFault::BadValue)),
     }
 }
 
 /// A password, which may be missing or empty.
-pub fn password_at(keys: &Table, key: &str) -> Result<Option<Name>, TableFault>
-    ensures { result_map_both password_bytes (λ f. f) result ≡ at_key_or password [] key.now (table_view keys.now) }
+pub fn password_at(keys: &Table, part: Part, key: Key) -> Result<Option<Name>, PlacedFault>
+    ensures { result_map_both password_bytes (λ f. f) result ≡ at_key_or password [] part key (table_view keys.now) }
 {
     let Some(value) = find(keys, key) else {
         return Ok(None);
     };
     match value.as_str() {
-        None => Err(TableFault::BadValue),
+        None => Err(part.fault_at(key, TableFault::BadValue)),
         Some("") => Ok(None),
         Some(text) => match Name::of_text(text) {
             Ok(name) => Ok(Some(name)),
-            Err(_) => Err(TableFault::BadValue),
+            Err(_) => Err(part.fault_at(key, TableFault::BadValue)),
         },
     }
 }
 
 /// The name of a route's second line, which may be missing: any text but the name of the first.
-pub fn second_at<'a>(keys: &'a Table, key: &str, first: &str) -> Result<Option<&'a str>, TableFault>
+pub fn second_at<'a>(
+    keys: &'a Table,
+    part: Part,
+    key: Key,
+    first: &str,
+) -> Result<Option<&'a str>, PlacedFault>
     ensures { result_map_both (option_map (λ t. t.now)) (λ f. f) result
-        ≡ at_key_or (second_line first.now) None key.now (table_view keys.now) }
+        ≡ at_key_or (second_line first.now) None part key (table_view keys.now) }
 {
     let Some(value) = find(keys, key) else {
         return Ok(None);
     };
     match value.as_str() {
-        None => Err(TableFault::BadValue),
-        Some(text) if text == first => Err(TableFault::BadValue),
+        None => Err(part.fault_at(key, TableFault::BadValue)),
+        Some(text) if text == first => Err(part.fault_at(key, TableFault::BadValue)),
         Some(text) => Ok(Some(text)),
     }
 }
 
 /// A whole number of at most `high`, which is 0 where the key is missing.
-pub fn number_or_zero_at(keys: &Table, key: &str, high: u32) -> Result<u32, TableFault>
-    ensures read { result ≡ at_key_or (number 0 high) 0 key.now (table_view keys.now) }
+pub fn number_or_zero_at(keys: &Table, part: Part, key: Key, high: u32) -> Result<u32, PlacedFault>
+    ensures read { result ≡ at_key_or (number 0 high) 0 part key (table_view keys.now) }
     ensures high { IfOk result (λ n. n ≤ high) }
 {
     match find(keys, key) {
         None => Ok(0),
         Some(value) => match number_in(value, 0, high) {
             Some(number) => Ok(number),
-            None => Err(TableFault::BadValue),
+            None => Err(part.fault_at(key, TableFault::BadValue)),
         },
     }
 }
@@ -187,38 +200,43 @@ fn peer_in(value: &Value, port: u16) -> Option<SocketAddr>
 
 /// The address at which the peer of a line with this port listens, which may be missing: where there is one, the line's
 /// port is 0 and that of the address isn't.
-pub fn peer_at(keys: &Table, key: &str, port: u16) -> Result<Option<SocketAddr>, TableFault>
-    ensures { result ≡ at_key_or (peer port) None key.now (table_view keys.now) }
+pub fn peer_at(
+    keys: &Table,
+    part: Part,
+    key: Key,
+    port: u16,
+) -> Result<Option<SocketAddr>, PlacedFault>
+    ensures { result ≡ at_key_or (peer port) None part key (table_view keys.now) }
 {
     let Some(value) = find(keys, key) else {
         return Ok(None);
     };
     match peer_in(value, port) {
         Some(address) => Ok(Some(address)),
-        None => Err(TableFault::BadValue),
+        None => Err(part.fault_at(key, TableFault::BadValue)),
     }
 }
 
 /// The elements of a list.
-pub fn list_at<'a>(keys: &'a Table, key: &str) -> Result<&'a [Value], TableFault>
-    ensures { result_map_both (λ v. items_view v.now) (λ f. f) result ≡ at_key as_array key.now (table_view keys.now) }
+pub fn list_at(keys: &Table, part: Part, key: Key) -> Result<&[Value], PlacedFault>
+    ensures { result_map_both (λ v. items_view v.now) (λ f. f) result ≡ at_key as_array part key (table_view keys.now) }
 {
-    match value_at(keys, key)?.as_array() {
+    match value_at(keys, part, key)?.as_array() {
         Some(list) => Ok(list.as_slice()),
-        None => Err(TableFault::BadValue),
+        None => Err(part.fault_at(key, TableFault::BadValue)),
     }
 }
 
 /// The elements of a list, which may be missing.
-pub fn list_or_empty_at<'a>(keys: &'a Table, key: &str) -> Result<&'a [Value], TableFault>
+pub fn list_or_empty_at(keys: &Table, part: Part, key: Key) -> Result<&[Value], PlacedFault>
     ensures { result_map_both (λ v. items_view v.now) (λ f. f) result
-        ≡ at_key_or as_array no_items key.now (table_view keys.now) }
+        ≡ at_key_or as_array no_items part key (table_view keys.now) }
 {
     match find(keys, key) {
         None => Ok(&[]),
         Some(value) => match value.as_array() {
             Some(list) => Ok(list.as_slice()),
-            None => Err(TableFault::BadValue),
+            None => Err(part.fault_at(key, TableFault::BadValue)),
         },
     }
 }

@@ -3,7 +3,7 @@
 ghost use Rattle.std.specs.Prelude.{◌≡◌, ◌≤◌, length, sum_by, nat_lt};
 ghost use Rattle.toml.specs.View.{table_view};
 ghost use Rattle.njh_table.specs.Limits.{max_customers};
-ghost use Rattle.njh_table.specs.Walk.{Walks, tables_in};
+ghost use Rattle.njh_table.specs.Walk.{Walks, walk_in};
 
 mod customers;
 mod lines;
@@ -14,6 +14,7 @@ use crate::fault::TableFault;
 use crate::keys::{list_at, number_at};
 use crate::limits::MAX_CAPACITY;
 use crate::owners::Owners;
+use crate::places::{Key, Part, PlacedFault};
 use crate::tables::Tables;
 use crate::walk::customers::customers_in;
 use std::alloc::Global;
@@ -37,20 +38,21 @@ fn quotas_exceed(customers: &[NamedCustomer], capacity: u32) -> bool
     quotas_of(customers) > u64::from(capacity)
 }
 
-/// The tables that a document gives.
-#[tactic(auto, using(crate::proofs::Loops::is_empty_view), unfolding(crate::specs::Walk::tables_in))]
-pub(crate) fn tables_in(alloc: Global, keys: &Table) -> Result<Tables, TableFault>
-    ensures { Walks (λ t. t) result (tables_in (table_view keys.now)) }
+/// The tables that a document gives, or its first fault with its place.
+#[tactic(auto, using(crate::proofs::Loops::is_empty_view), unfolding(crate::specs::Walk::walk_in))]
+pub(crate) fn walk_in(alloc: Global, keys: &Table) -> Result<Tables, PlacedFault>
+    ensures { Walks (λ t. t) result (walk_in (table_view keys.now)) }
 {
-    let capacity = number_at(keys, "capacity", 1, MAX_CAPACITY)?;
-    let values = list_at(keys, "customer")?;
+    let part = Part::File;
+    let capacity = number_at(keys, part, Key::Capacity, 1, MAX_CAPACITY)?;
+    let values = list_at(keys, part, Key::Customer)?;
     if values.is_empty() {
-        return Err(TableFault::MissingKey);
+        return Err(part.fault_at(Key::Customer, TableFault::MissingKey));
     }
     let mut owners = Owners::new(alloc);
     let customers = customers_in(alloc, values, &mut owners)?;
     if quotas_exceed(&customers, capacity) {
-        return Err(TableFault::QuotaOver);
+        return Err(part.fault_at(Key::Capacity, TableFault::QuotaOver));
     }
     Ok(Tables {
         capacity,

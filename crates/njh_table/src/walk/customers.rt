@@ -13,6 +13,7 @@ use crate::fault::TableFault;
 use crate::keys::{keys_in, list_or_empty_at, name_at, number_at};
 use crate::limits::{MAX_CUSTOMERS, MAX_FILES, MAX_QUOTA};
 use crate::owners::Owners;
+use crate::places::{Key, Part, PlacedFault};
 use crate::walk::lines::lines_in;
 use crate::walk::routes::routes_in;
 use njh_ebcdic::Name;
@@ -41,18 +42,22 @@ fn has_customer(customers: &[NamedCustomer], name: Name) -> bool
 }
 
 #[tactic(auto, unfolding(crate::specs::Walk::customer_keys))]
-fn customer_keys(keys: &Table, earlier: &[NamedCustomer]) -> Result<CustomerKeys, TableFault>
+fn customer_keys(
+    part: Part,
+    keys: &Table,
+    earlier: &[NamedCustomer],
+) -> Result<CustomerKeys, PlacedFault>
     ensures { result_map_both (λ c. record { name = c.name; hub = c.hub; quota = c.quota; files = c.files })
         (λ f. f) result
-        ≡ customer_keys earlier.now (table_view keys.now) }
+        ≡ customer_keys part earlier.now (table_view keys.now) }
 {
-    let name = name_at(keys, "name")?;
+    let name = name_at(keys, part, Key::Name)?;
     if has_customer(earlier, name) {
-        return Err(TableFault::BadValue);
+        return Err(part.fault_at(Key::Name, TableFault::BadValue));
     }
-    let hub = name_at(keys, "hub")?;
-    let quota = number_at(keys, "quota", 1, MAX_QUOTA)?;
-    let files = number_at(keys, "files", 1, MAX_FILES)?;
+    let hub = name_at(keys, part, Key::Hub)?;
+    let quota = number_at(keys, part, Key::Quota, 1, MAX_QUOTA)?;
+    let files = number_at(keys, part, Key::Files, 1, MAX_FILES)?;
     Ok(CustomerKeys {
         name,
         hub,
@@ -68,19 +73,20 @@ fn next_customer(
     value: &Value,
     earlier: &[NamedCustomer],
     owners: &mut Owners,
-) -> Result<NamedCustomer, TableFault>
+) -> Result<NamedCustomer, PlacedFault>
     requires { owners.old ≡ owners_from 0 earlier.now }
     ensures walk { Walks (λ c. c) result (next_customer earlier.now (view value.now)) }
     ensures owners { IfOk result (λ c. owners.new ≡ owners_from 0 (earlier.now ++ c ∷ [])) }
     ensures room { OnOk result (length earlier.now < max_customers) }
 {
+    let part = Part::Customer(earlier.len());
     if earlier.len() >= MAX_CUSTOMERS {
-        return Err(TableFault::TooMany);
+        return Err(part.fault(TableFault::TooMany));
     }
-    let keys = keys_in(value)?;
-    let own = customer_keys(keys, earlier)?;
-    let line_values = list_or_empty_at(keys, "line")?;
-    let route_values = list_or_empty_at(keys, "route")?;
+    let keys = keys_in(value, part)?;
+    let own = customer_keys(part, keys, earlier)?;
+    let line_values = list_or_empty_at(keys, part, Key::Line)?;
+    let route_values = list_or_empty_at(keys, part, Key::Route)?;
     let number = earlier.len() as u16;
     let lines = lines_in(alloc, line_values, number, owners)?;
     let routes = routes_in(alloc, route_values, number, own.hub, owners)?;
@@ -98,7 +104,7 @@ pub(super) fn customers_in(
     alloc: Global,
     values: &[Value],
     owners: &mut Owners,
-) -> Result<Vec<NamedCustomer>, TableFault>
+) -> Result<Vec<NamedCustomer>, PlacedFault>
     requires { owners.old ≡ [] }
     ensures walk { Walks (λ v. v.items) result (customers_onto [] (items_view values.now)) }
     ensures owners { IfOk result (λ v. owners.new ≡ owners_from 0 v.items) }

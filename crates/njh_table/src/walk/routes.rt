@@ -11,6 +11,7 @@ use crate::fault::TableFault;
 use crate::keys::{keys_in, name_at, second_at, text_at};
 use crate::limits::MAX_ROUTES;
 use crate::owners::Owners;
+use crate::places::{Key, Part, PlacedFault};
 use crate::routes::{RouteLines, Routes};
 use njh_ebcdic::Name;
 use std::alloc::Global;
@@ -36,68 +37,71 @@ fn is_routed(hub: Name, routes: &Routes, node: Name) -> bool
 
 /// The number of a second line of a customer, if a name is given.
 fn number_of_second(
+    part: Part,
     second: Option<&str>,
     customer: u16,
     owners: &Owners,
-) -> Result<Option<u16>, TableFault>
-    ensures { result ≡ number_of_second (own_line owners.now customer) (option_map (λ s. s.now) second.entry) }
+) -> Result<Option<u16>, PlacedFault>
+    ensures { result ≡ number_of_second part (own_line owners.now customer) (option_map (λ s. s.now) second.entry) }
 {
     let Some(name) = second else {
         return Ok(None);
     };
     match owners.own_line(customer, name) {
         Some(number) => Ok(Some(number)),
-        None => Err(TableFault::UnknownLine),
+        None => Err(part.fault_at(Key::Second, TableFault::UnknownLine)),
     }
 }
 
 /// A route of a customer by its own lines: the node and the lines' numbers.
 #[tactic(auto, unfolding(crate::specs::Walk::route_by))]
 fn route_by(
+    part: Part,
     named: NamedRoute<'_>,
     customer: u16,
     hub: Name,
     owners: &Owners,
     routes: &Routes,
-) -> Result<(Name, RouteLines), TableFault>
+) -> Result<(Name, RouteLines), PlacedFault>
     ensures walk { result_map_both route_entry (λ f. f) result
-        ≡ route_by hub (own_line owners.now customer) routes.now named.entry.node named.entry.line.now
+        ≡ route_by part hub (own_line owners.now customer) routes.now named.entry.node named.entry.line.now
         (option_map (λ s. s.now) named.entry.second) }
     ensures new { IfOk result (λ r. lines_to routes.now r.0 ≡ None) }
 {
     let NamedRoute { node, line, second } = named;
     if is_routed(hub, routes, node) {
-        return Err(TableFault::DoubleNode);
+        return Err(part.fault_at(Key::Node, TableFault::DoubleNode));
     }
     let Some(line) = owners.own_line(customer, line) else {
-        return Err(TableFault::UnknownLine);
+        return Err(part.fault_at(Key::Line, TableFault::UnknownLine));
     };
-    let second = number_of_second(second, customer, owners)?;
+    let second = number_of_second(part, second, customer, owners)?;
     Ok((node, RouteLines { line, second }))
 }
 
 /// The node of the next route and its lines' numbers.
 #[tactic(auto, unfolding(crate::specs::Walk::next_route))]
 fn next_route(
+    part: Part,
     value: &Value,
     customer: u16,
     hub: Name,
     owners: &Owners,
     routes: &Routes,
-) -> Result<(Name, RouteLines), TableFault>
+) -> Result<(Name, RouteLines), PlacedFault>
     ensures walk { result_map_both route_entry (λ f. f) result
-        ≡ next_route hub (own_line owners.now customer) routes.now (view value.now) }
+        ≡ next_route part hub (own_line owners.now customer) routes.now (view value.now) }
     ensures new { IfOk result (λ r. lines_to routes.now r.0 ≡ None) }
 {
     if routes.len() >= MAX_ROUTES {
-        return Err(TableFault::TooMany);
+        return Err(part.fault(TableFault::TooMany));
     }
-    let keys = keys_in(value)?;
-    let node = name_at(keys, "node")?;
-    let line = text_at(keys, "line")?;
-    let second = second_at(keys, "second", line)?;
+    let keys = keys_in(value, part)?;
+    let node = name_at(keys, part, Key::Node)?;
+    let line = text_at(keys, part, Key::Line)?;
+    let second = second_at(keys, part, Key::Second, line)?;
     let named = NamedRoute { node, line, second };
-    route_by(named, customer, hub, owners, routes)
+    route_by(part, named, customer, hub, owners, routes)
 }
 
 pub(super) fn routes_in(
@@ -106,12 +110,13 @@ pub(super) fn routes_in(
     customer: u16,
     hub: Name,
     owners: &Owners,
-) -> Result<Routes, TableFault>
-    ensures { Walks (λ r. r) result (routes_onto hub (own_line owners.now customer) [] (items_view values.now)) }
+) -> Result<Routes, PlacedFault>
+    ensures { Walks (λ r. r) result (routes_onto customer hub (own_line owners.now customer) [] (items_view values.now)) }
 {
     let mut routes = Routes::new(alloc);
     for value in values {
-        let (node, lines) = next_route(value, customer, hub, owners, &routes)?;
+        let part = Part::Route(customer as usize, routes.len());
+        let (node, lines) = next_route(part, value, customer, hub, owners, &routes)?;
         routes.insert(node, lines)?;
     }
     Ok(routes)

@@ -1,4 +1,4 @@
-use Rattle.std.proofs.Common.{sym, ◌∙◌}
+use Rattle.std.proofs.Common.{Err, ap, sym, ◌∙◌}
 use Rattle.njh_table.specs.Walk.{customer_keys}
 use Rattle.njh_table.proofs.Loops.{goes_on, ends, passes, fails, leaves_seen}
 use Rattle.njh_table.proofs.walk.customers.customer_keys.Goals as goal
@@ -10,7 +10,8 @@ returns-in_err-name c = leaves_seen _ _ _ _ c.from_residual.ensures.1 (ends _ _ 
 pub returns-then-has_customer : goal.returns-then-has_customer
 unfolding customer_keys
 returns-then-has_customer c =
-    sym (goes_on _ _ _ (sym c.in_ok-name.ensures) ∙ fails _ _ _ (sym c.has_customer.ensures ∙ c.if-has_customer.true))
+    ap Err c.fault_at.ensures
+    ∙ sym (goes_on _ _ _ (sym c.in_ok-name.ensures) ∙ fails _ _ _ (sym c.has_customer.ensures ∙ c.if-has_customer.true))
 
 pub returns-in_err-hub : goal.returns-in_err-hub
 unfolding customer_keys
