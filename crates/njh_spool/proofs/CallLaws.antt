@@ -17,7 +17,7 @@ use Rattle.njh_spool.specs.declared.customer_files.CustomerFiles.{CustomerFiles}
 use Rattle.njh_spool.specs.code.Chains.{Chain, StoreValue, empty_chain, with_chain, blocks_of}
 use Rattle.njh_spool.specs.CustomerSpool.{CustomerSpool, cost, stored_size, next_number, with_new_partial}
 use Rattle.njh_spool.specs.CustomerSpool.{with_appended, without_partial, with_finished, without_whole, with_state}
-use Rattle.njh_spool.specs.CustomerSpool.{with_rewritten_bytes, at_index, rewritten_record}
+use Rattle.njh_spool.specs.CustomerSpool.{with_rewritten_bytes, at_index, rewritten_record, one_more}
 use Rattle.njh_spool.specs.Spools.{spool_at}
 use Rattle.njh_spool.specs.code.Packing.{packed_record, packed_bytes, unpacked_records, IsShort}
 use Rattle.njh_spool.specs.code.Slots.{Content, content, contents, slot_of, chain_of, free_slot, no_files, is_free}
@@ -147,6 +147,7 @@ module _ (here : Call) where
         whole = own.whole ++ n ∷ [];
         partial = filter
             (λ m. not (eqb m n)) own.partial;
+        arrived = one_more own.arrived;
       } →
       n < 1024 → MovesTo here store (set slots (1024 * c + n) (record slot { stage = Whole Ready; headers = headers }))
       (set customers c own') (with_finished n)

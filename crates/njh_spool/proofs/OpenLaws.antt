@@ -19,7 +19,7 @@ use Rattle.njh_spool.proofs.KeptLaws.{own_of}
 use Rattle.njh_spool.proofs.FileLaws.{file_of, first_are}
 
 abbrev pub opened : Quota → CustomerFiles
-opened q = record { quota = q.blocks; limit = q.files; used = 0; whole = []; partial = [] }
+opened q = record { quota = q.blocks; limit = q.files; used = 0; arrived = 0; whole = []; partial = [] }
 
 abbrev pub spool_for : Quota → CustomerSpool
 spool_for q = empty_spool q.blocks q.files

@@ -30,7 +30,8 @@ abbrev pub costs : (ℕ → Content) → ℕ → ℕ
 costs files m = cost (files m).records
 
 abbrev pub spool_with : CustomerFiles → List WholeFile → List PartialFile → CustomerSpool
-spool_with own whole partial = record { quota = own.quota; limit = own.limit; whole = whole; partial = partial }
+spool_with own whole partial =
+    record { quota = own.quota; limit = own.limit; whole = whole; partial = partial; arrived = own.arrived }
 
 by_stage : (stage : Stage) (k : ℕ) → cond (is_whole_stage stage) k 0 + cond (is_partial stage) k 0 ≡ cond (is_free stage) 0 k
 by_stage Free k = refl

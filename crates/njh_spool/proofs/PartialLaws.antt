@@ -13,7 +13,7 @@ use Rattle.njh_spool.specs.declared.file_slot.Stage.TheVariants.{Free, Partial, 
 use Rattle.njh_spool.specs.declared.customer_files.CustomerFiles.{CustomerFiles}
 use Rattle.njh_spool.specs.CustomerSpool.{WholeFile, PartialFile, cost, used_blocks, partial_numbered}
 use Rattle.njh_spool.specs.CustomerSpool.{whole_numbered, without_partial, with_appended, with_finished, as_whole}
-use Rattle.njh_spool.specs.CustomerSpool.{has_room_for}
+use Rattle.njh_spool.specs.CustomerSpool.{has_room_for, one_more}
 use Rattle.njh_spool.specs.Spools.{append_fault, fault_unless}
 use Rattle.njh_spool.specs.code.Slots.{Content, is_partial, is_whole_stage, is_free, whole_file, partial_file, spool_of, IsOwn}
 use Rattle.njh_spool.proofs.OnlyOne.{filter_none, find_none}
@@ -82,25 +82,29 @@ module _ (own : CustomerFiles) (files : ℕ → Content) (n : ℕ) (is : IsOwn o
 
   -- the file is the last whole one
   pub finishes : (x : Content) (own' : CustomerFiles) → x ≡ record (files n) { stage = Whole Ready } →
-      own' ≡ record own { whole = own.whole ++ n ∷ []; partial = filter (λ m. not (eqb m n)) own.partial } →
+      own' ≡ record own {
+        whole = own.whole ++ n ∷ [];
+        partial = filter (λ m. not (eqb m n)) own.partial;
+        arrived = one_more own.arrived;
+      } →
       IsOwn own' (put files n x) × (spool_of own' (put files n x) ≡ with_finished n (spool_of own files))
   finishes x own' same owns =
-      let then : CustomerFiles = record own { whole = own.whole ++ n ∷ []; partial = rest } in
+      let then : CustomerFiles = record own { whole = own.whole ++ n ∷ []; partial = rest; arrived = one_more own.arrived } in
       let gone = taken n own.partial once in
       let come = pushed n own.whole in
       let last : whole_file (put files n x) n ≡ as_whole file = ap (whole_from n) (put_same files n x ∙ same) in
       let whole_now : map (whole_file (put files n x)) (own.whole ++ n ∷ []) ≡ whole ++ as_whole file ∷ [] =
       map-append (whole_file (put files n x)) own.whole (n ∷ []) ∙ ap (λ (fs : List WholeFile). fs ++ whole_file (put files n x)
       n ∷ []) (whole_kept x) ∙ ap (λ (f : WholeFile). whole ++ f ∷ []) last in
-      let says : with_finished n (spool_of own files) ≡ spool_with own (whole ++ as_whole file ∷ [])
+      let says : with_finished n (spool_of own files) ≡ spool_with then (whole ++ as_whole file ∷ [])
       (without_partial n (spool_of own files)).partial = rw (partial_is, with_finished) refl in
       subst (λ (o : CustomerFiles). IsOwn o (put files n x) × (spool_of o (put files n x) ≡
       with_finished n (spool_of own files))) (sym owns) (
         laws.changed own files is then n x Partial (Whole Ready) stage (ap (λ (y : Content). y.stage) same) come gone refl refl
             (omega (arith, ap (λ (y : Content). cost y.records) same)) (laws.fits own files is)
             (omega (arith, lengths gone, lengths come, laws.few own files is)) below,
-        ap (λ (fs : List WholeFile). spool_with own fs (map (partial_file (put files n x)) rest)) whole_now
-            ∙ ap (spool_with own (whole ++ as_whole file ∷ [])) (rest_kept x) ∙ sym says,
+        ap (λ (fs : List WholeFile). spool_with then fs (map (partial_file (put files n x)) rest)) whole_now
+            ∙ ap (spool_with then (whole ++ as_whole file ∷ [])) (rest_kept x) ∙ sym says,
       )
 
   -- the file with one record more

@@ -102,6 +102,15 @@ impl Spool {
         self.customers[usize::from(customer)].whole.len() as u32
     }
 
+    /// How many files of a customer have become whole so far, those that have left again too. The count stays at the
+    /// greatest `u64`.
+    pub fn arrived(&self, customer: u16) -> u64
+        requires { customer < length self.now }
+        ensures { result ≡ (spool_at customer self.now).arrived }
+    {
+        self.customers[usize::from(customer)].arrived
+    }
+
     /// A customer's whole file, by its index in order of arrival.
     pub fn file_at(&self, customer: u16, index: u32) -> FileId
         requires range { customer < length self.now }

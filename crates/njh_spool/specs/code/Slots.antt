@@ -34,7 +34,7 @@ free_slot = record { stage = Free; kind = In; count = 0; places = first_places; 
 
 -- a customer that the spool does not have
 abbrev pub no_files : CustomerFiles
-no_files = record { quota = 0; limit = 0; used = 0; whole = []; partial = [] }
+no_files = record { quota = 0; limit = 0; used = 0; arrived = 0; whole = []; partial = [] }
 
 -- the place of a customer's file in the lists of slots and chains
 abbrev pub place_of : ℕ → ℕ → ℕ
@@ -93,6 +93,7 @@ spool_of own files = record {
   limit = own.limit;
   whole = map (whole_file files) own.whole;
   partial = map (partial_file files) own.partial;
+  arrived = own.arrived;
 }
 
 abbrev pub spools_from : ℕ → List CustomerFiles → (ℕ → ℕ → Content) → List CustomerSpool

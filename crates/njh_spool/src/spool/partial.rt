@@ -96,7 +96,7 @@ impl Spool {
         Ok(())
     }
 
-    /// A partial file becomes the customer's last whole file, Ready.
+    /// A partial file becomes the customer's last whole file, Ready, and counts as arrived.
     ///
     /// S3 where the number is no partial file's.
     pub fn finish(&mut self, customer: u16, id: FileId) -> Result<(), SpoolFault>
@@ -114,6 +114,7 @@ impl Spool {
         let own = &mut self.customers[usize::from(customer)];
         own.partial.remove(id.number());
         own.whole.push(id.number());
+        own.arrived = own.arrived.saturating_add(1);
         slot.stage = Stage::Whole(State::Ready);
         self.slots.set(customer, id, slot);
         Ok(())

@@ -3,7 +3,7 @@ use Rattle.std.proofs.Common.{subst, ◌∙◌, arith}
 use Rattle.njh_spool.specs.declared.file_slot.FileSlot.{FileSlot}
 use Rattle.njh_spool.specs.declared.file_slot.Stage.TheVariants.{Whole}
 use Rattle.njh_spool.specs.declared.customer_files.CustomerFiles.{CustomerFiles}
-use Rattle.njh_spool.specs.CustomerSpool.{CustomerSpool, with_finished}
+use Rattle.njh_spool.specs.CustomerSpool.{CustomerSpool, with_finished, one_more}
 use Rattle.njh_spool.specs.Spools.{spool_at}
 use Rattle.njh_spool.specs.code.Slots.{slot_of, is_partial, IsFile}
 use Rattle.njh_spool.specs.code.Chains.{Chain, chain_at}
@@ -72,7 +72,11 @@ push-requires c =
 
 -- what the customer has then
 abbrev now : After-set → CustomerFiles
-now c = record c.index_mut-own.result.now { whole = c.push.new.self; partial = c.remove.new.self }
+now c = record c.index_mut-own.result.now {
+  whole = c.push.new.self;
+  partial = c.remove.new.self;
+  arrived = c.saturating_add-own.result;
+}
 
 moved : (c : After-set) → MovesTo (call_on c.self.inside c.args.customer c.args.id c.self.invariant
     (rw c.self.view_is c.requires)) c.self.inside.store c.set.new.self
@@ -96,16 +100,28 @@ moved c =
     c.number.ensures in
     let longer = c.push.ensures ∙ ap (λ (k : ℕ). c.index_mut-own.result.now.whole ++ k ∷ []) c.number-2.ensures in
     let owns =
-    ap (λ (xs : List ℕ). record c.index_mut-own.result.now { whole = c.push.new.self; partial = xs }) list
+    ap (λ (xs : List ℕ). record c.index_mut-own.result.now {
+      whole = c.push.new.self;
+      partial = xs;
+      arrived = c.saturating_add-own.result;
+    }) list
     ∙ ap (λ (xs : List ℕ). record c.index_mut-own.result.now {
       whole = xs;
       partial = filter (λ m. not (eqb m c.args.id))
           c.index_mut-own.result.now.partial;
+      arrived = c.saturating_add-own.result;
     }) longer
+    ∙ ap (λ (n : ℕ). record c.index_mut-own.result.now {
+      whole = c.index_mut-own.result.now.whole ++ c.args.id ∷ [];
+      partial = filter (λ m. not (eqb m c.args.id))
+          c.index_mut-own.result.now.partial;
+      arrived = n;
+    }) c.saturating_add-own.ensures
     ∙ ap (λ (o : CustomerFiles). record o {
       whole = o.whole ++ c.args.id ∷ [];
       partial = filter (λ m. not (eqb m c.args.id))
           o.partial;
+      arrived = one_more o.arrived;
     }) own in
     call.arrives here c.self.inside.store c.self.inside.store
     (record c.slot_at-slot.result { stage = Whole Ready; headers = c.read_headers-slot.result })
