@@ -9,7 +9,7 @@ use Rattle.njh_record.specs.Stored.{Stored}
 use Rattle.njh_record.specs.declared.Kind.{Kind}
 use Rattle.njh_spool.specs.CustomerSpool.{CustomerSpool, PartialFile, WholeFile, stored_size, cost, used_blocks, is_number}
 use Rattle.njh_spool.specs.CustomerSpool.{next_number, with_new_partial, with_appended, partial_numbered, without_partial}
-use Rattle.njh_spool.specs.CustomerSpool.{with_finished, with_state}
+use Rattle.njh_spool.specs.CustomerSpool.{with_finished, with_state, with_arrived, as_whole, one_more}
 use Rattle.njh_spool.specs.declared.State.TheVariants.{Ready, Held}
 use Rattle.njh_restore.specs.Restoring.{kept, with_restored}
 use Rattle.njh_restore.specs.code.Growing.{grown, with_more, with_begun}
@@ -177,16 +177,14 @@ module _ (kind : Kind) (s : CustomerSpool) (fresh : is_number (next_number s) s 
   begun-finished rs =
       ap (λ (o : Option PartialFile). elim o as (λ _. CustomerSpool) [
         | None ↦ with_begun kind rs s
-        | Some f ↦ record (without_partial (next_number s) (with_begun kind rs s))
-            { whole = s.whole ++ record { number = f.number; kind = f.kind; records = f.records; state = Ready } ∷ [] }
+        | Some f ↦ with_arrived (as_whole f) (without_partial (next_number s) (with_begun kind rs s))
       ]) (begun-there rs)
-      ∙ ap (λ (x : CustomerSpool). record x
-      { whole = s.whole ++ record { number = next_number s; kind = kind; records = rs; state = Ready } ∷ [] }) (begun-dropped rs)
+      ∙ ap (with_arrived (record { number = next_number s; kind = kind; records = rs; state = Ready })) (begun-dropped rs)
 
   pub finished-held : (rs : List Stored)
       → with_state (next_number s) Held (with_restored (kept kind false rs) s) ≡ with_restored (kept kind true rs) s
   finished-held rs =
-      ap (λ (fs : List WholeFile). record s { whole = fs })
+      ap (λ (fs : List WholeFile). record s { whole = fs; arrived = one_more s.arrived })
       (last_changed (λ f. f.number == next_number s) (λ f. record f { state = Held }) s.whole
       (record { number = next_number s; kind = kind; records = rs; state = Ready }) no_whole itself)
 

@@ -1,10 +1,10 @@
 -- A whole file that was kept elsewhere, and what becomes of the customer's files where it is put back.
-use Rattle.std.specs.Prelude.{◌+◌, Bool, true, false, List, [], ◌∷◌, ◌++◌, Option, Some, None, is_some}
+use Rattle.std.specs.Prelude.{◌+◌, Bool, true, false, List, Option, Some, None, is_some}
 use Rattle.std.specs.Prelude.{nat_le, cond, ◌&&◌}
 use Rattle.njh_header.specs.FileHeaders.{name_of, file_owner, destination_of}
 use Rattle.njh_record.specs.Stored.{Stored}
 use Rattle.njh_record.specs.declared.Kind.{Kind}
-use Rattle.njh_spool.specs.CustomerSpool.{CustomerSpool, cost, next_number, has_file_room, used_blocks}
+use Rattle.njh_spool.specs.CustomerSpool.{CustomerSpool, cost, next_number, has_file_room, used_blocks, with_arrived}
 use Rattle.njh_spool.specs.declared.State.{State}
 use Rattle.njh_spool.specs.declared.State.TheVariants.{Ready, Held}
 use Rattle.njh_restore.specs.declared.fault.RestoreFault.{RestoreFault}
@@ -24,12 +24,10 @@ abbrev pub state_back : Bool → State
 state_back true = Held
 state_back false = Ready
 
--- the customer's files with it, the last in the order of arrival
+-- the customer's files with it, the last in the order of arrival; it counts as arrived
 abbrev pub with_restored : KeptFile → CustomerSpool → CustomerSpool
-with_restored f s = record s {
-  whole =
-      s.whole ++ record { number = next_number s; kind = f.kind; records = f.records; state = state_back f.held } ∷ [];
-}
+with_restored f s =
+    with_arrived (record { number = next_number s; kind = f.kind; records = f.records; state = state_back f.held }) s
 
 -- ---- why it can't be put back
 
