@@ -10,7 +10,7 @@ use Rattle.njh_header.specs.FileHeaders.{file_owner}
 use Rattle.njh_table.specs.Entries.{CustomerEntry}
 use Rattle.njh_spool.specs.CustomerSpool.{CustomerSpool, PartialFile, partial_numbered, partial_records, with_appended}
 use Rattle.njh_spool.specs.CustomerSpool.{with_new_partial, without_partial, next_number, has_file_room, has_block}
-use Rattle.njh_spool.specs.CustomerSpool.{has_room_for, as_whole}
+use Rattle.njh_spool.specs.CustomerSpool.{has_room_for, as_whole, with_arrived}
 use Rattle.njh_stream.specs.declared.receiver.Progress.{Progress}
 use Rattle.njh_stream.specs.declared.receiver.Progress.TheVariants.{Beginning}
 use Rattle.njh_stream.specs.declared.receiver.Receiver.{Receiver}
@@ -178,7 +178,7 @@ module _ (entry : CustomerEntry) (l n : ℕ) (kind : Kind) (srcb : ℕ) (last : 
       ∙ ap (λ o. record { receiver = Idle; spool = finished_of o; answers = Completion ∷ []; notices = [] }) file
     where
       finished_of : Option PartialFile → CustomerSpool
-      finished_of o = elim o [ None ↦ last | Some f ↦ record (without_partial n last) { whole = last.whole ++ as_whole f ∷ [] } ]
+      finished_of o = elim o [ None ↦ last | Some f ↦ with_arrived (as_whole f) (without_partial n last) ]
 
   pub not_whole_ends :
       (records : List Stored) → partial_numbered n last ≡ Some (file_of n kind records) → is_whole records ≡ false

@@ -6,7 +6,7 @@ use Rattle.njh_record.specs.declared.Kind.{Kind}
 use Rattle.njh_header.specs.WholeFiles.{HasHeaders}
 use Rattle.njh_table.specs.Entries.{CustomerEntry}
 use Rattle.njh_spool.specs.CustomerSpool.{CustomerSpool, PartialFile, WholeFile, partial_numbered, partial_records}
-use Rattle.njh_spool.specs.CustomerSpool.{without_partial, as_whole, has_file_room, has_block, has_room_for}
+use Rattle.njh_spool.specs.CustomerSpool.{without_partial, as_whole, with_arrived, has_file_room, has_block, has_room_for}
 use Rattle.njh_stream.specs.declared.receiver.Progress.{Progress}
 use Rattle.njh_stream.specs.declared.receiver.Receiver.{Receiver}
 use Rattle.njh_stream.specs.declared.receiver.Receiver.TheVariants.{Idle, Open, Draining}
@@ -35,7 +35,7 @@ stored_headers (Cancelled text) kind n r more s have = have
 
 -- the spool with the file of a number whole, where there is one
 abbrev finished_where : ℕ → CustomerSpool → Option PartialFile → CustomerSpool
-finished_where n s o = elim o [ None ↦ s | Some f ↦ record (without_partial n s) { whole = s.whole ++ as_whole f ∷ [] } ]
+finished_where n s o = elim o [ None ↦ s | Some f ↦ with_arrived (as_whole f) (without_partial n s) ]
 
 closed_headers : (b : Bool) (kind : Kind) (progress : Progress) (n : ℕ) (s : CustomerSpool)
     → is_whole (partial_records n s) ≡ b → AgreesWith kind progress (partial_numbered n s) → HaveHeaders s.whole

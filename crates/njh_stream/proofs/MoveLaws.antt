@@ -11,7 +11,7 @@ use Rattle.njh_record.specs.declared.Kind.{Kind}
 use Rattle.njh_table.specs.Entries.{CustomerEntry}
 use Rattle.njh_spool.specs.CustomerSpool.{CustomerSpool, PartialFile, partial_numbered, partial_records, with_appended}
 use Rattle.njh_spool.specs.CustomerSpool.{with_new_partial, without_partial, with_finished, next_number, has_file_room}
-use Rattle.njh_spool.specs.CustomerSpool.{has_block, has_room_for, as_whole}
+use Rattle.njh_spool.specs.CustomerSpool.{has_block, has_room_for, as_whole, with_arrived}
 use Rattle.njh_stream.specs.declared.receiver.Receiver.{Receiver}
 use Rattle.njh_stream.specs.declared.receiver.Receiver.TheVariants.{Idle, Open, Draining}
 use Rattle.njh_stream.specs.Transmissions.{Verdict, Taken, Cancelled, is_whole, judged_coming, Fitting}
@@ -152,7 +152,7 @@ finishes n s = at_file (partial_numbered n s) refl
   where
     at_file :
         (o : Option PartialFile) → partial_numbered n s ≡ o
-        → Moves (Some n) s None (elim o [ None ↦ s | Some f ↦ record (without_partial n s) { whole = s.whole ++ as_whole f ∷ [] } ])
+        → Moves (Some n) s None (elim o [ None ↦ s | Some f ↦ with_arrived (as_whole f) (without_partial n s) ])
     at_file (Some f) e = let x = abandons n s in record { kept = x.kept; own = x.own; came = x.came }
     at_file None e = record {
       kept = λ m f not found. found;

@@ -8,7 +8,7 @@ use Rattle.njh_block.specs.declared.rcb.ControlRcb.TheVariants.{Refusal, Complet
 use Rattle.njh_header.specs.FileHeaders.{file_owner}
 use Rattle.njh_table.specs.Entries.{CustomerEntry}
 use Rattle.njh_spool.specs.declared.State.TheVariants.{Ready}
-use Rattle.njh_spool.specs.CustomerSpool.{CustomerSpool, partial_numbered, has_room_for, without_partial}
+use Rattle.njh_spool.specs.CustomerSpool.{CustomerSpool, partial_numbered, has_room_for, with_arrived, without_partial}
 use Rattle.njh_stream.specs.declared.receiver.Receiver.{Receiver}
 use Rattle.njh_stream.specs.declared.receiver.Receiver.TheVariants.{Idle, Open, Draining}
 use Rattle.njh_stream.specs.Transmissions.{ComingRecord, Fitting, TooLong}
@@ -90,10 +90,7 @@ IsUntouched entry l kind last receiver left (m ∷ ms) =
 -- the spool with the partial file of a number as its last whole one, of these records
 abbrev pub with_file : ℕ → Kind → List Stored → CustomerSpool → CustomerSpool
 with_file n kind records s =
-    record (without_partial n s) {
-      whole = s.whole
-          ++ record { number = n; kind = kind; records = records; state = Ready } ∷ [];
-    }
+    with_arrived (record { number = n; kind = kind; records = records; state = Ready }) (without_partial n s)
 
 -- What a transmission that became this answers, tells and leaves. One that is cancelled abandons its file at once.
 abbrev pub following_from : TransmissionOutcome → ℕ → Kind → List Stored → CustomerSpool → Followed
