@@ -13,6 +13,7 @@ use Rattle.njh_record.specs.Stored.{Stored}
 use Rattle.njh_record.specs.declared.Kind.{Kind}
 use Rattle.njh_spool.specs.CustomerSpool.{CustomerSpool, PartialFile, WholeFile, without_partial, as_whole}
 use Rattle.njh_spool.specs.CustomerSpool.{partial_numbered, partial_records, has_file_room, has_block, has_room_for}
+use Rattle.njh_spool.specs.CustomerSpool.{one_more, with_arrived}
 use Rattle.njh_spool.specs.declared.State.TheVariants.{Held, Ready}
 use Rattle.njh_table.specs.Entries.{CustomerEntry, route_of}
 use Rattle.njh_table.specs.declared.Route.{Route}
@@ -58,7 +59,7 @@ unmoved l i c = record { entry = refl; moves = inl refl }
 lines_alone :
     (l : ℕ) (i : Item) (lines : List CustomerLine) (c : Customer) → streams_from_hub lines ≡ streams_from_hub c.lines
     → Acted l i c (record c { lines = lines })
-lines_alone l i lines c same = record { entry = refl; moves = inl (ap (of_parts c.spool.whole) same) }
+lines_alone l i lines c same = record { entry = refl; moves = inl (ap (of_parts c.spool.whole c.spool.arrived) same) }
 
 acted_either : (b : Bool) (l : ℕ) (i : Item) (x y c : Customer) → Acted l i c x → Acted l i c y → Acted l i c (cond b x y)
 acted_either true l i x y c first second = first
@@ -66,53 +67,57 @@ acted_either false l i x y c first second = second
 
 -- ---- streams to the hub
 
+-- the whole files are the same, and so many have come
+abbrev SameWhole : CustomerSpool → CustomerSpool → Type 0
+SameWhole s t = (t.whole ≡ s.whole) × (t.arrived ≡ s.arrived)
+
 -- no file has come whole, or one has
 data Filed (a : Arrival) (s t : CustomerSpool) : Type 0 where
-  none : t.whole ≡ s.whole → Filed a s t
+  none : SameWhole s t → Filed a s t
   one : (srcb : ℕ) (f : WholeFile) → a ≡ receiving.Data srcb [] → f.state ≡ Ready → is_whole f.records ≡ true
-      → t.whole ≡ s.whole ++ f ∷ [] → Filed a s t
+      → t.whole ≡ s.whole ++ f ∷ [] → t.arrived ≡ one_more s.arrived → Filed a s t
 
-requested_whole : (kind : Kind) (s : CustomerSpool) → (received_request kind s).spool.whole ≡ s.whole
+requested_whole : (kind : Kind) (s : CustomerSpool) → SameWhole s (received_request kind s).spool
 requested_whole kind s = at_room (has_file_room s && has_block s)
   where
-    at_room : (b : Bool) → (requested_where b kind s).spool.whole ≡ s.whole
-    at_room true = refl
-    at_room false = refl
+    at_room : (b : Bool) → SameWhole s (requested_where b kind s).spool
+    at_room true = (refl, refl)
+    at_room false = (refl, refl)
 
 stored_whole : (v : Verdict) (kind : Kind) (n : ℕ) (r : Stored) (more : List Stored) (s : CustomerSpool)
-    → (stored_by v kind n r more s).spool.whole ≡ s.whole
-stored_whole Taken kind n r more s = refl
-stored_whole (Cancelled text) kind n r more s = refl
+    → SameWhole s (stored_by v kind n r more s).spool
+stored_whole Taken kind n r more s = (refl, refl)
+stored_whole (Cancelled text) kind n r more s = (refl, refl)
 
 closed_files : (srcb n : ℕ) (s : CustomerSpool) (b : Bool) → is_whole (partial_records n s) ≡ b → Filed (receiving.Data srcb []) s (closed_by b n s).spool
-closed_files srcb n s false e = none refl
+closed_files srcb n s false e = none (refl, refl)
 closed_files srcb n s true e = at_file (partial_numbered n s) e
   where
     at_file :
         (o : Option PartialFile) → is_whole (elim o [ Some f ↦ f.records | None ↦ [] ]) ≡ true
-        → Filed (receiving.Data srcb []) s (elim o [ None ↦ s | Some f ↦ record (without_partial n s) { whole = s.whole ++ as_whole f ∷ [] } ])
-    at_file None e = none refl
-    at_file (Some f) e = one srcb (as_whole f) refl refl e refl
+        → Filed (receiving.Data srcb []) s (elim o [ None ↦ s | Some f ↦ with_arrived (as_whole f) (without_partial n s) ])
+    at_file None e = none (refl, refl)
+    at_file (Some f) e = one srcb (as_whole f) refl refl e refl refl
 
 received_files : (entry : CustomerEntry) (l : ℕ) (kind : Kind) (r : Receiver) (a : Arrival) (s : CustomerSpool)
     → Filed a s (received_arrival entry l kind r a s).spool
 received_files entry l kind receiver.Idle receiving.Request s = none (requested_whole kind s)
-received_files entry l kind receiver.Idle (receiving.Data srcb bytes) s = none refl
-received_files entry l kind receiver.Idle receiving.Long s = none refl
-received_files entry l kind receiver.Idle receiving.Abort s = none refl
+received_files entry l kind receiver.Idle (receiving.Data srcb bytes) s = none (refl, refl)
+received_files entry l kind receiver.Idle receiving.Long s = none (refl, refl)
+received_files entry l kind receiver.Idle receiving.Abort s = none (refl, refl)
 received_files entry l kind receiver.Draining receiving.Request s = none (requested_whole kind s)
-received_files entry l kind receiver.Draining (receiving.Data srcb []) s = none refl
-received_files entry l kind receiver.Draining (receiving.Data srcb (b ∷ bytes)) s = none refl
-received_files entry l kind receiver.Draining receiving.Long s = none refl
-received_files entry l kind receiver.Draining receiving.Abort s = none refl
+received_files entry l kind receiver.Draining (receiving.Data srcb []) s = none (refl, refl)
+received_files entry l kind receiver.Draining (receiving.Data srcb (b ∷ bytes)) s = none (refl, refl)
+received_files entry l kind receiver.Draining receiving.Long s = none (refl, refl)
+received_files entry l kind receiver.Draining receiving.Abort s = none (refl, refl)
 received_files entry l kind (receiver.Open n progress) receiving.Request s = none (requested_whole kind (without_partial n s))
 received_files entry l kind (receiver.Open n progress) (receiving.Data srcb []) s = closed_files srcb n s (is_whole (partial_records n s)) refl
 received_files entry l kind (receiver.Open n progress) (receiving.Data srcb (b ∷ bytes)) s =
     let r : Stored = record { srcb = srcb; bytes = b ∷ bytes } in
     let earlier = partial_records n s in
     none (stored_whole (judged_coming entry l kind earlier (Fitting r (has_room_for n r s))) kind n r (earlier ++ r ∷ []) s)
-received_files entry l kind (receiver.Open n progress) receiving.Long s = none refl
-received_files entry l kind (receiver.Open n progress) receiving.Abort s = none refl
+received_files entry l kind (receiver.Open n progress) receiving.Long s = none (refl, refl)
+received_files entry l kind (receiver.Open n progress) receiving.Abort s = none (refl, refl)
 
 -- the item that brings an arrival with bytes
 abbrev at_bytes : ℕ → Arrival → Item
@@ -138,14 +143,23 @@ arrived_acts l k a i c ends = at_files (received_files c.entry l (kind_of k) (re
         ∙ answered_senders l answer lines
         ∙ on_line_senders l (with_receiver k done.receiver) c.lines (λ x. refl)
 
+    parts_are :
+        (files : List WholeFile) (arrived : ℕ) → (after_stream_arrival l k a c).spool.whole ≡ files
+        → (after_stream_arrival l k a c).spool.arrived ≡ arrived
+        → outgoing (after_stream_arrival l k a c) ≡ of_parts files arrived (streams_from_hub c.lines)
+    parts_are files arrived whole came =
+        let d = after_stream_arrival l k a c in
+        ap (λ fs. of_parts fs d.spool.arrived (streams_from_hub d.lines)) whole
+        ∙ ap (λ n. of_parts files n (streams_from_hub d.lines)) came ∙ ap (of_parts files arrived) streams
+
     at_files : Filed a c.spool (after_stream_arrival l k a c).spool → Acted l i c (after_stream_arrival l k a c)
     at_files (none same) =
-        record { entry = refl; moves = inl (ap (λ files. of_parts files (streams_from_hub (after_stream_arrival l k a c).lines)) same ∙ ap (of_parts c.spool.whole) streams) }
-    at_files (one srcb f came ready whole last) =
+        record { entry = refl; moves = inl (parts_are c.spool.whole c.spool.arrived same.0 same.1) }
+    at_files (one srcb f came ready whole last more) =
         record {
           entry = refl;
           moves = inr (moves.comes (ends srcb came).0 srcb f (ends srcb came).1 ready whole
-              (ap (λ files. of_parts files (streams_from_hub (after_stream_arrival l k a c).lines)) last ∙ ap (of_parts (c.spool.whole ++ f ∷ [])) streams));
+              (parts_are (c.spool.whole ++ f ∷ []) (one_more c.spool.arrived) last more));
         }
 
 stream_acts : (l : ℕ) (o : Option ℕ) (a : Arrival) (i : Item) (c : Customer) → Ends a i → Acted l i c (after_stream_record l o a c)
@@ -157,14 +171,14 @@ stream_acts l (Some k) a i c ends = arrived_acts l k a i c ends
 module _ (l k streams srcb : ℕ) (c : Customer) (names : stream_of streams srcb ≡ Some k) where
   -- nothing moves
   stays : (answer : ℕ) (x : Sender) → sender_on l k (outgoing c) ≡ x → Acted l (Control answer srcb) c (with_sender_outcome l k (record { sender = x; spool = c.spool }) c)
-  stays answer x at = record { entry = refl; moves = inl (sent_is l k x c.spool c ∙ same_stream l k x (outgoing c) at) }
+  stays answer x at = record { entry = refl; moves = inl (sent_is l k x c.spool c refl ∙ same_stream l k x (outgoing c) at) }
 
   permitted_acts : (x : Sender) → sender_on l k (outgoing c) ≡ x → Acted l (Control 0xa0 srcb) c (with_sender_outcome l k (record { sender = after_grant x; spool = c.spool }) c)
   permitted_acts sender.Idle at = stays 0xa0 sender.Idle at
   permitted_acts (sender.Requested n) at =
       record {
         entry = refl;
-        moves = inr (moves.permitted streams k n (record { srcb = srcb; is_control = refl; names = names }) at (sent_is l k (sender.Sending n 0) c.spool c));
+        moves = inr (moves.permitted streams k n (record { srcb = srcb; is_control = refl; names = names }) at (sent_is l k (sender.Sending n 0) c.spool c refl));
       }
   permitted_acts (sender.Sending n place) at = stays 0xa0 (sender.Sending n place) at
   permitted_acts (sender.EofSent n) at = stays 0xa0 (sender.EofSent n) at
@@ -177,21 +191,21 @@ module _ (l k streams srcb : ℕ) (c : Customer) (names : stream_of streams srcb
       record {
         entry = refl;
         moves = inr (moves.refused streams k n sent.sender (record { srcb = srcb; is_control = refl; names = names })
-            (ap (λ y. file_in y) at) refl (sent_is l k sent.sender sent.spool c));
+            (ap (λ y. file_in y) at) refl (sent_is l k sent.sender sent.spool c refl));
       }
   refused_acts (sender.Sending n place) at =
       let sent = after_refusal (sender.Sending n place) c.spool in
       record {
         entry = refl;
         moves = inr (moves.refused streams k n sent.sender (record { srcb = srcb; is_control = refl; names = names })
-            (ap (λ y. file_in y) at) refl (sent_is l k sent.sender sent.spool c));
+            (ap (λ y. file_in y) at) refl (sent_is l k sent.sender sent.spool c refl));
       }
   refused_acts (sender.EofSent n) at =
       let sent = after_refusal (sender.EofSent n) c.spool in
       record {
         entry = refl;
         moves = inr (moves.refused streams k n sent.sender (record { srcb = srcb; is_control = refl; names = names })
-            (ap (λ y. file_in y) at) refl (sent_is l k sent.sender sent.spool c));
+            (ap (λ y. file_in y) at) refl (sent_is l k sent.sender sent.spool c refl));
       }
   refused_acts sender.Aborting at = stays 0xb0 sender.Aborting at
 
@@ -203,7 +217,7 @@ module _ (l k streams srcb : ℕ) (c : Customer) (names : stream_of streams srcb
       let sent = after_completion (sender.EofSent n) c.spool in
       record {
         entry = refl;
-        moves = inr (moves.completed streams k n (record { srcb = srcb; is_control = refl; names = names }) at (sent_is l k sent.sender sent.spool c));
+        moves = inr (moves.completed streams k n (record { srcb = srcb; is_control = refl; names = names }) at (sent_is l k sent.sender sent.spool c refl));
       }
   completed_acts sender.Aborting at = stays 0xc0 sender.Aborting at
 
@@ -261,9 +275,10 @@ module _ (l : ℕ) (i : Item) (c : Customer) (n : Nodal) where
 
   -- no stream moves, and the files are these
   left_so : (done : CommandOutcome) (files : List WholeFile) → done.files ≡ files → done.cancelled ≡ []
-      → outgoing (with_outcome n done c) ≡ of_parts files (streams_from_hub c.lines)
+      → outgoing (with_outcome n done c) ≡ of_parts files c.spool.arrived (streams_from_hub c.lines)
   left_so done files left quiet =
-      ap (λ fs. of_parts fs (streams_from_hub (with_outcome n done c).lines)) left ∙ ap (of_parts files) (changes done quiet)
+      ap (λ fs. of_parts fs c.spool.arrived (streams_from_hub (with_outcome n done c).lines)) left
+      ∙ ap (of_parts files c.spool.arrived) (changes done quiet)
 
   -- by what becomes of the files
   moved_acts : (done : CommandOutcome) → ((x : Command) → command_of n.message ≡ Some x → Commands c.entry (sender_of n) x i)
@@ -287,10 +302,10 @@ module _ (l : ℕ) (i : Item) (c : Customer) (n : Nodal) where
       record {
         entry = refl;
         moves = inr (moves.cancels (sender_of n) name (given (commands.Cancel name) says)
-            (ap (λ fs. of_parts fs (streams_from_hub (with_outcome n done c).lines)) left
-            ∙ ap (of_parts kept) (all_said_senders c.entry (sender_of n) done.replies (fold without_sending c.lines done.cancelled))
-            ∙ ap (λ ns. of_parts kept (streams_from_hub (fold without_sending c.lines ns))) numbers
-            ∙ sym (all_given_up (busy_numbers p c.spool.whole) kept c.lines)));
+            (ap (λ fs. of_parts fs c.spool.arrived (streams_from_hub (with_outcome n done c).lines)) left
+            ∙ ap (of_parts kept c.spool.arrived) (all_said_senders c.entry (sender_of n) done.replies (fold without_sending c.lines done.cancelled))
+            ∙ ap (λ ns. of_parts kept c.spool.arrived (streams_from_hub (fold without_sending c.lines ns))) numbers
+            ∙ sym (all_given_up (busy_numbers p c.spool.whole) kept c.spool.arrived c.lines)));
       }
 
   command_acts :

@@ -19,7 +19,7 @@ use Rattle.njh_command.specs.CommandLaws.{CommandsKeepHeaders}
 use Rattle.njh_stream.specs.Transmissions.{Verdict, Taken, Cancelled, Fitting, is_whole, judged_coming}
 use Rattle.njh_stream.specs.Streams.{streams_at, stream_at, with_stream, without_streams}
 use Rattle.njh_spool.specs.CustomerSpool.{CustomerSpool, PartialFile, has_file_room, has_block, has_room_for}
-use Rattle.njh_spool.specs.CustomerSpool.{partial_numbered, partial_records, without_partial, as_whole}
+use Rattle.njh_spool.specs.CustomerSpool.{partial_numbered, partial_records, without_partial, as_whole, with_arrived}
 use Rattle.njh_table.specs.Entries.{CustomerEntry}
 use Rattle.njh_customer.specs.Customer.{Customer, CustomerLine, no_customer_line, line_at, on_line, with_notice}
 use Rattle.njh_customer.specs.Customer.{receiver_at, with_receiver}
@@ -98,7 +98,7 @@ requested_limits kind s = at_room (has_file_room s && has_block s)
     at_room false = refl
 
 abbrev finished_where : ℕ → CustomerSpool → Option PartialFile → CustomerSpool
-finished_where n s o = elim o [ None ↦ s | Some f ↦ record (without_partial n s) { whole = s.whole ++ as_whole f ∷ [] } ]
+finished_where n s o = elim o [ None ↦ s | Some f ↦ with_arrived (as_whole f) (without_partial n s) ]
 
 closed_limits : (b : Bool) (n : ℕ) (s : CustomerSpool) → limits_of (closed_by b n s).spool ≡ limits_of s
 closed_limits false n s = refl

@@ -60,12 +60,13 @@ BlocksCarry =
 -- a line sent what moves no stream
 sent_unmoved :
     (l : ℕ) (x : LineSent) (c : Customer) → x.line.senders ≡ (line_at l c.lines).senders → x.spool.whole ≡ c.spool.whole
-    → IsNoNewBlock (line_at l c.lines).state x.frame
+    → x.spool.arrived ≡ c.spool.arrived → IsNoNewBlock (line_at l c.lines).state x.frame
     → GoesOut c.entry l (line_at l c.lines).state (outgoing c) (outgoing (after_reply l x c).after) x.frame
-sent_unmoved l x c same files no_new =
+sent_unmoved l x c same files none_came no_new =
     no_block
-    (ap (λ whole. of_parts whole (streams_from_hub (set c.lines l x.line))) files
-    ∙ ap (of_parts c.spool.whole) (map-set_same (λ y. y.senders) c.lines l x.line no_customer_line same)) no_new
+    (ap (λ whole. of_parts whole x.spool.arrived (streams_from_hub (set c.lines l x.line))) files
+    ∙ ap (λ arrived. of_parts c.spool.whole arrived (streams_from_hub (set c.lines l x.line))) none_came
+    ∙ ap (of_parts c.spool.whole c.spool.arrived) (map-set_same (λ y. y.senders) c.lines l x.line no_customer_line same)) no_new
 
 control_is : (line x : LineState) (which : Control) → IsNoNewBlock line (sending_of_control which x).frame
 control_is line x Enquiry = control Enquiry refl
@@ -138,14 +139,14 @@ module _ (carry : BlocksCarry) (commands : CommandsMoveFilesSo) where
 
       begins : out_of l base first ≡ outgoing c
       begins =
-          ap (of_parts c.spool.whole)
+          ap (of_parts c.spool.whole c.spool.arrived)
           (ap (set base l) (sym (get_or-map (λ y. y.senders) c.lines l no_customer_line)) ∙ set-get_or base l [])
 
       -- however the line's state is
       after_is :
-          (line : CustomerLine) → line.senders ≡ full.outlet.senders → of_parts full.spool.whole (streams_from_hub (set c.lines l line)) ≡ out_of l base full
+          (line : CustomerLine) → line.senders ≡ full.outlet.senders → of_parts full.spool.whole full.spool.arrived (streams_from_hub (set c.lines l line)) ≡ out_of l base full
       after_is line same =
-          ap (of_parts full.spool.whole) (map-set (λ y. y.senders) c.lines l line ∙ ap (set base l) same)
+          ap (of_parts full.spool.whole full.spool.arrived) (map-set (λ y. y.senders) c.lines l line ∙ ap (set base l) same)
 
       leads : LeadsByMoves (Sends c.entry l) (outgoing c) (out_of l base full)
       leads = subst (λ x. LeadsByMoves (Sends c.entry l) x (out_of l base full)) begins (filled_leads c.entry l base inside first)
@@ -173,15 +174,15 @@ module _ (carry : BlocksCarry) (commands : CommandsMoveFilesSo) where
   reply_goes_out :
       (l : ℕ) (r : LineReply) (c : Customer) → l < length c.lines
       → GoesOut c.entry l (line_at l c.lines).state (outgoing c) (outgoing (replied_to l r c).after) (replied_to l r c).frame
-  reply_goes_out l reply.Nothing c there = sent_unmoved l (sending_of_reply c.entry l reply.Nothing c.spool (line_at l c.lines)) c refl refl (nothing_sent refl)
+  reply_goes_out l reply.Nothing c there = sent_unmoved l (sending_of_reply c.entry l reply.Nothing c.spool (line_at l c.lines)) c refl refl refl (nothing_sent refl)
   reply_goes_out l (reply.Control which) c there =
-      sent_unmoved l (sending_of_reply c.entry l (reply.Control which) c.spool (line_at l c.lines)) c refl refl
+      sent_unmoved l (sending_of_reply c.entry l (reply.Control which) c.spool (line_at l c.lines)) c refl refl refl
       (control_is (line_at l c.lines).state (line_at l c.lines).state which)
-  reply_goes_out l reply.Again c there = sent_unmoved l (sending_of_reply c.entry l reply.Again c.spool (line_at l c.lines)) c refl refl (again refl)
-  reply_goes_out l (reply.SignOn kind) c there = sent_unmoved l (sending_of_reply c.entry l (reply.SignOn kind) c.spool (line_at l c.lines)) c refl refl (sign_on kind refl)
+  reply_goes_out l reply.Again c there = sent_unmoved l (sending_of_reply c.entry l reply.Again c.spool (line_at l c.lines)) c refl refl refl (again refl)
+  reply_goes_out l (reply.SignOn kind) c there = sent_unmoved l (sending_of_reply c.entry l (reply.SignOn kind) c.spool (line_at l c.lines)) c refl refl refl (sign_on kind refl)
   reply_goes_out l (reply.Sequence expected) c there =
       let line = (line_at l c.lines).state in
-      sent_unmoved l (sending_of_reply c.entry l (reply.Sequence expected) c.spool (line_at l c.lines)) c refl refl
+      sent_unmoved l (sending_of_reply c.entry l (reply.Sequence expected) c.spool (line_at l c.lines)) c refl refl refl
       (count (own_block (own_fcs c.spool) line).bcb (own_fcs c.spool) expected refl)
   reply_goes_out l (reply.Next or_ack0) c there = next_goes_out l or_ack0 c there
 
@@ -220,7 +221,7 @@ module _ (carry : BlocksCarry) (commands : CommandsMoveFilesSo) where
       }
 
   accepted_is : (l : ℕ) (came : Input) (c : Customer) → outgoing (accepted_on l came c) ≡ outgoing c
-  accepted_is l came c = ap (of_parts c.spool.whole) (on_line_senders l (in_state (after_input came)) c.lines (λ x. refl))
+  accepted_is l came c = ap (of_parts c.spool.whole c.spool.arrived) (on_line_senders l (in_state (after_input came)) c.lines (λ x. refl))
 
   -- what comes sets no line up anew, nor is it a transmission
   accepted_at : (l : ℕ) (came : Input) (c : Customer) → set_up (line_at l (accepted_on l came c).lines) ≡ set_up (line_at l c.lines)
@@ -257,7 +258,7 @@ module _ (carry : BlocksCarry) (commands : CommandsMoveFilesSo) where
         acted = outgoing d;
         records = judged.records;
         answered = outgoing e;
-        answer = no_block (ap (of_parts d.spool.whole) (on_line_senders l (in_state after_end) d.lines (λ x. refl))) (nothing_sent refl);
+        answer = no_block (ap (of_parts d.spool.whole d.spool.arrived) (on_line_senders l (in_state after_end) d.lines (λ x. refl))) (nothing_sent refl);
         end = subst (λ entry. Ends entry l (outgoing e) (session_over l e)) judged.entry (over_now (over_so l e) refl);
         lines = over_lines l true e ∙ length-set d.lines l (in_state after_end (line_at l d.lines)) ∙ judged.lines;
       }

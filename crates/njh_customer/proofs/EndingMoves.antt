@@ -60,6 +60,28 @@ without_all_whole : (rs : List Receiver) (s : CustomerSpool) → (without_all_op
 without_all_whole [] s = refl
 without_all_whole (r ∷ rs) s = without_all_whole rs (without_open r s) ∙ without_open_whole r s
 
+-- none has come
+
+ended_arrived : (x : Sender) (s : CustomerSpool) → (spool_after_session x s).arrived ≡ s.arrived
+ended_arrived x s = at_file (file_in x)
+  where
+    at_file : (o : Option ℕ) → (ended_where o s).arrived ≡ s.arrived
+    at_file None = refl
+    at_file (Some n) = refl
+
+all_ended_arrived : (xs : List Sender) (s : CustomerSpool) → (all_ended xs s).arrived ≡ s.arrived
+all_ended_arrived [] s = refl
+all_ended_arrived (x ∷ xs) s = all_ended_arrived xs (spool_after_session x s) ∙ ended_arrived x s
+
+without_open_arrived : (r : Receiver) (s : CustomerSpool) → (without_open r s).arrived ≡ s.arrived
+without_open_arrived receiver.Idle s = refl
+without_open_arrived (receiver.Open n progress) s = refl
+without_open_arrived receiver.Draining s = refl
+
+without_all_arrived : (rs : List Receiver) (s : CustomerSpool) → (without_all_open rs s).arrived ≡ s.arrived
+without_all_arrived [] s = refl
+without_all_arrived (r ∷ rs) s = without_all_arrived rs (without_open r s) ∙ without_open_arrived r s
+
 pub over_so : (l : ℕ) (c : Customer) → Over l (outgoing c) (outgoing (session_over l c))
 over_so l c =
     let x = line_at l c.lines in
@@ -71,4 +93,7 @@ over_so l c =
           ap (map ready) (without_all_whole x.receivers (tried_again c.entry l (all_ended x.senders c.spool)))
           ∙ tried_ready c.entry l (all_ended x.senders c.spool).whole
           ∙ all_ended_ready x.senders c.spool;
+      arrived =
+          without_all_arrived x.receivers (tried_again c.entry l (all_ended x.senders c.spool))
+          ∙ all_ended_arrived x.senders c.spool;
     }

@@ -22,6 +22,7 @@ pub mod EventMoves
 pub mod FileListLaws
 pub mod LeavingLaws
 pub mod StreamMoveLaws
+pub mod SurvivingLaws
 pub mod RecordsChange
 pub mod DisregardingLaws
 pub mod NewRouteLaws

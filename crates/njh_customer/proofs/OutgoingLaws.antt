@@ -23,8 +23,8 @@ use Rattle.njh_customer.specs.OutgoingFiles.{Outgoing, outgoing, streams_from_hu
 use Rattle.njh_customer.specs.OutgoingFiles.{with_files}
 use Rattle.njh_customer.specs.Moves.{without_files}
 
-abbrev pub of_parts : List WholeFile → List (List Sender) → Outgoing
-of_parts files streams = record { files = files; streams = streams }
+abbrev pub of_parts : List WholeFile → ℕ → List (List Sender) → Outgoing
+of_parts files arrived streams = record { files = files; arrived = arrived; streams = streams }
 
 -- ---- streams that stay
 
@@ -70,10 +70,11 @@ stream_is l k c = ap (λ senders. get_or senders k Idle) (get_or-map (λ x. x.se
 
 -- a stream and the files
 pub sent_is :
-    (l k : ℕ) (x : Sender) (s : CustomerSpool) (c : Customer)
+    (l k : ℕ) (x : Sender) (s : CustomerSpool) (c : Customer) → s.arrived ≡ c.spool.arrived
     → outgoing (record c { spool = s; lines = on_line l (with_sender k x) c.lines }) ≡ with_sender_on l k x (with_files s.whole (outgoing c))
-sent_is l k x s c =
-    ap (of_parts s.whole)
+sent_is l k x s c none_came =
+    ap (λ n. of_parts s.whole n (streams_from_hub (on_line l (with_sender k x) c.lines))) none_came
+    ∙ ap (of_parts s.whole c.spool.arrived)
     (map-set (λ y. y.senders) c.lines l (with_sender k x (line_at l c.lines))
     ∙ ap (λ senders. set (streams_from_hub c.lines) l (set senders k x)) (sym (get_or-map (λ y. y.senders) c.lines l no_customer_line)))
 
@@ -81,8 +82,8 @@ sent_is l k x s c =
 pub same_stream : (l k : ℕ) (s : Sender) (x : Outgoing) → sender_on l k x ≡ s → with_sender_on l k s x ≡ x
 same_stream l k s x e =
     ap (λ t. with_sender_on l k t x) (sym e)
-    ∙ ap (λ senders. of_parts x.files (set x.streams l senders)) (set-get_or (get_or x.streams l []) k Idle)
-    ∙ ap (of_parts x.files) (set-get_or x.streams l [])
+    ∙ ap (λ senders. of_parts x.files x.arrived (set x.streams l senders)) (set-get_or (get_or x.streams l []) k Idle)
+    ∙ ap (of_parts x.files x.arrived) (set-get_or x.streams l [])
 
 -- ---- streams that give their files up
 
@@ -91,8 +92,9 @@ one_given_up n [] = refl
 one_given_up n (x ∷ xs) = ap (λ rest. map (without_file n) x.senders ∷ rest) (one_given_up n xs)
 
 pub all_given_up :
-    (ns : List ℕ) (files : List WholeFile) (lines : List CustomerLine)
-    → without_files ns (of_parts files (streams_from_hub lines)) ≡ of_parts files (streams_from_hub (fold without_sending lines ns))
-all_given_up [] files lines = refl
-all_given_up (n ∷ ns) files lines =
-    ap (λ streams. without_files ns (of_parts files streams)) (one_given_up n lines) ∙ all_given_up ns files (without_sending lines n)
+    (ns : List ℕ) (files : List WholeFile) (arrived : ℕ) (lines : List CustomerLine)
+    → without_files ns (of_parts files arrived (streams_from_hub lines)) ≡ of_parts files arrived (streams_from_hub (fold without_sending lines ns))
+all_given_up [] files arrived lines = refl
+all_given_up (n ∷ ns) files arrived lines =
+    ap (λ streams. without_files ns (of_parts files arrived streams)) (one_given_up n lines)
+    ∙ all_given_up ns files arrived (without_sending lines n)

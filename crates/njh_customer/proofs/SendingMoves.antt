@@ -27,7 +27,7 @@ use Rattle.njh_customer.proofs.OutgoingLaws.{of_parts}
 
 -- the customer's files, and its streams, of which the line's are the block's
 abbrev pub out_of : ℕ → List (List Sender) → Filling → Outgoing
-out_of l base x = of_parts x.spool.whole (set base l x.outlet.senders)
+out_of l base x = of_parts x.spool.whole x.spool.arrived (set base l x.outlet.senders)
 
 -- a candidate moves nothing, or one stream, as its record says
 data OffersOne (entry : CustomerEntry) (l : ℕ) (base : List (List Sender)) (x : Filling) (c : Candidate) : Type 0 where
@@ -62,8 +62,9 @@ module _ (entry : CustomerEntry) (l : ℕ) (base : List (List Sender)) (inside :
   offers_map x f None each = tt
   offers_map x f (Some a) each = each a refl
 
-  moved_is : (x : Filling) (k : ℕ) (s : Sender) (files : List WholeFile) → of_parts files (set base l (set x.outlet.senders k s)) ≡ with_sender_on l k s (of_parts files (set base l x.outlet.senders))
-  moved_is x k s files = ap (of_parts files) (set_again x.outlet.senders k s)
+  moved_is : (x : Filling) (k : ℕ) (s : Sender) (files : List WholeFile)
+      → of_parts files x.spool.arrived (set base l (set x.outlet.senders k s)) ≡ with_sender_on l k s (of_parts files x.spool.arrived (set base l x.outlet.senders))
+  moved_is x k s files = ap (of_parts files x.spool.arrived) (set_again x.outlet.senders k s)
 
   offers_abort : (x : Filling) (k : ℕ) (s : Sender) → sender_at k x.outlet ≡ s → OffersIf x (abort_where s x.outlet x.spool k)
   offers_abort x k Idle e = tt
@@ -101,8 +102,8 @@ module _ (entry : CustomerEntry) (l : ℕ) (base : List (List Sender)) (inside :
   -- a stream that isn't sending stays
   left_as_it_is : (x : Filling) (k : ℕ) (s : Sender) → sender_at k x.outlet ≡ s → out_of l base (record x { outlet = record x.outlet { senders = set x.outlet.senders k s } }) ≡ out_of l base x
   left_as_it_is x k s e =
-      ap (λ t. of_parts x.spool.whole (set base l (set x.outlet.senders k t))) (sym e)
-      ∙ ap (λ senders. of_parts x.spool.whole (set base l senders)) (set-get_or x.outlet.senders k Idle)
+      ap (λ t. of_parts x.spool.whole x.spool.arrived (set base l (set x.outlet.senders k t))) (sym e)
+      ∙ ap (λ senders. of_parts x.spool.whole x.spool.arrived (set base l senders)) (set-get_or x.outlet.senders k Idle)
 
   offers_next : (x : Filling) (k n place : ℕ) (o : Option Stored) → sender_at k x.outlet ≡ Sending n place → record_at n place x.spool ≡ o
       → Offers x (serving x.outlet x.spool k (next_at n place o))

@@ -12,6 +12,7 @@ pub mod OutgoingFiles
 pub mod Moves
 pub mod FrameEffects
 pub mod MovingLaws
+pub mod Surviving
 pub mod Disregarding
 pub mod NewRoutes
 pub mod code

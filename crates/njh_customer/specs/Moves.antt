@@ -1,6 +1,6 @@
 -- What may happen to a customer's whole files and to its streams from the hub, one small thing at a time. All that
 -- comes on a line, and new routes, lead from what they were to what they are by such moves and no others.
-use Rattle.std.specs.Prelude.{◌≡◌, ℕ, ◌+◌, Bool, true, List, [], ◌∷◌, ◌++◌, length, map, filter, find, replicate, Some}
+use Rattle.std.specs.Prelude.{◌≡◌, ℕ, ◌+◌, Bool, true, List, [], length, map, filter, find, replicate, Some}
 use Rattle.std.specs.Prelude.{None, Ok, fold, cond, not}
 use Rattle.std.specs.List.{Contains}
 use Rattle.njh_ebcdic.specs.Users.{User}
@@ -28,7 +28,8 @@ use Rattle.njh_command.specs.Commands.{changed_file, is_of_name, is_busy, with_n
 use Rattle.njh_command.specs.Commands.{without_file}
 use Rattle.njh_customer.specs.NewRoutes.{entry_with}
 use Rattle.njh_customer.specs.OutgoingFiles.{Outgoing, each_stream, with_file_state, record_numbered, sender_on}
-use Rattle.njh_customer.specs.OutgoingFiles.{streams_of, with_files, with_sender_on, with_streams, without_numbered}
+use Rattle.njh_customer.specs.OutgoingFiles.{streams_of, with_arrival, with_files, with_sender_on, with_streams}
+use Rattle.njh_customer.specs.OutgoingFiles.{without_numbered}
 
 -- ---- by a record that comes
 
@@ -67,10 +68,10 @@ abbrev pub with_changed : (WholeFile → Bool) → (WholeFile → WholeFile) →
 with_changed p change x = with_files (map (changed_file p change) x.files) x
 
 pub data Acts (entry : CustomerEntry) (l : ℕ) (i : Item) (x y : Outgoing) : Type 0 where
-  -- an end of file: a file has come whole, and is the last one
+  -- an end of file: a file has come whole, is the last one, and counts; no other move counts one
   comes :
       (rcb srcb : ℕ) (f : WholeFile) → i ≡ Data rcb srcb [] → f.state ≡ state.Ready → is_whole f.records ≡ true
-      → y ≡ with_files (x.files ++ f ∷ []) x → Acts entry l i x y
+      → y ≡ with_arrival f x → Acts entry l i x y
   -- A0 to a stream that asked: it sends the file, from its first record on
   permitted :
       (streams k n : ℕ) → Tells 0xa0 streams k i → sender_on l k x ≡ Requested n
@@ -123,10 +124,11 @@ pub data Sends (entry : CustomerEntry) (l : ℕ) (x y : Outgoing) : Type 0 where
 
 -- ---- by the end of the line's session
 
--- Its streams are idle, and no file changes but in its state.
+-- Its streams are idle, no file changes but in its state, and none has come.
 pub record Over (l : ℕ) (x y : Outgoing) : Type 0 where
   pub streams : y.streams ≡ (with_streams l (replicate (length (streams_of l x)) Idle) x).streams
   pub files : map ready y.files ≡ map ready x.files
+  pub arrived : y.arrived ≡ x.arrived
 
 -- ---- all
 

@@ -1,9 +1,9 @@
--- A customer's whole files, and its streams from the hub.
-use Rattle.std.specs.Prelude.{ℕ, Bool, List, [], map, filter, find, slice_get, slice_index_or, slice_set, Option, ◌==◌}
-use Rattle.std.specs.Prelude.{cond, not}
+-- A customer's whole files, how many have come so far, and its streams from the hub.
+use Rattle.std.specs.Prelude.{ℕ, Bool, List, [], ◌∷◌, ◌++◌, map, filter, find, slice_get, slice_index_or, slice_set}
+use Rattle.std.specs.Prelude.{Option, ◌==◌, cond, not}
 use Rattle.std.specs.List.{list_any}
 use Rattle.njh_record.specs.Stored.{Stored}
-use Rattle.njh_spool.specs.CustomerSpool.{WholeFile}
+use Rattle.njh_spool.specs.CustomerSpool.{WholeFile, one_more}
 use Rattle.njh_spool.specs.declared.State.{State}
 use Rattle.njh_stream.specs.declared.sender.Sender.{Sender}
 use Rattle.njh_stream.specs.declared.sender.Sender.TheVariants.{Idle}
@@ -12,13 +12,14 @@ use Rattle.njh_customer.specs.Customer.{Customer, CustomerLine}
 
 pub record Outgoing : Type 0 where
   pub files : List WholeFile  -- in order of arrival
+  pub arrived : ℕ  -- how many files have become whole so far
   pub streams : List (List Sender)  -- line by line
 
 abbrev pub streams_from_hub : List CustomerLine → List (List Sender)
 streams_from_hub lines = map (λ x. x.senders) lines
 
 abbrev pub outgoing : Customer → Outgoing
-outgoing c = record { files = c.spool.whole; streams = streams_from_hub c.lines }
+outgoing c = record { files = c.spool.whole; arrived = c.spool.arrived; streams = streams_from_hub c.lines }
 
 -- ---- a stream
 
@@ -43,6 +44,10 @@ each_stream f x = record x { streams = map (λ senders. map f senders) x.streams
 
 abbrev pub with_files : List WholeFile → Outgoing → Outgoing
 with_files files x = record x { files = files }
+
+-- a file has come whole: it is the last one, and counts
+abbrev pub with_arrival : WholeFile → Outgoing → Outgoing
+with_arrival f x = record x { files = x.files ++ f ∷ []; arrived = one_more x.arrived }
 
 -- whether there is a file of a number
 abbrev pub has_file : ℕ → Outgoing → Bool

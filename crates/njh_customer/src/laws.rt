@@ -11,6 +11,8 @@ ghost use Rattle.njh_customer.specs.Laws.{TakesKeepEntries};
 ghost use Rattle.njh_customer.specs.MovingLaws.{EventsMoveSo, FilesLeaveSo, FilesLeaveSoBetween, FramesDoSo};
 ghost use Rattle.njh_customer.specs.MovingLaws.{IdleStreamsTakeFiles, RecordsChangeSo, RoutesDoSo, SignalsDoSo};
 ghost use Rattle.njh_customer.specs.MovingLaws.{StreamsMoveSo, TakesMoveSo};
+ghost use Rattle.njh_customer.specs.Surviving.{EventsKeepFiles, FilesGoOnFurther, FilesSurvive, FirstFilesSurvive};
+ghost use Rattle.njh_customer.specs.Surviving.{RunsKeepFiles, SurvivorsAreNumbered, TakesKeepFiles};
 
 use njh_command::{commands_move_files_so, reroutes_name_nodes};
 use njh_header::redirected_by_records;
@@ -101,6 +103,24 @@ pub fn files_leave_so()
     ensures one { FilesLeaveSo }
     ensures between { FilesLeaveSoBetween }
 {}
+
+/// Which whole files are new: after all that comes, the files are some of those that were there, in their order and
+/// each of its number, of its kind and with its records but for what REROUTE wrote, and behind them others, at most as
+/// many as were counted (`arrived`). So all but the last, as many as the count went on by, were there, and the number of
+/// each says which it was. The count mustn't be at its greatest.
+pub fn files_survive()
+    ensures moves { FilesSurvive }
+    ensures events { EventsKeepFiles }
+    ensures takes { TakesKeepFiles }
+    ensures runs { RunsKeepFiles }
+    ensures further { FilesGoOnFurther }
+    ensures first { FirstFilesSurvive }
+    ensures numbers { SurvivorsAreNumbered }
+{
+    redirected_by_records();
+    reroutes_name_nodes();
+    events_move_so();
+}
 
 /// How a stream from the hub moves. It takes a file only where it is idle. A0 makes it send the file it asked for, from
 /// place 0 on. From then on its place moves only by the file's record at it going out in a new block, by one; and where

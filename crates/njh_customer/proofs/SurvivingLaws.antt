@@ -1,0 +1,355 @@
+-- Which of a customer's whole files are still there after moves.
+use Rattle.std.proofs.Common.{◌≡◌, ◌<◌, ◌≤◌, ℕ, zero, suc, ◌+◌, ◌-◌, Bool, true, false, cond, not, ◌==◌, ◌⊎◌, inl, inr}
+use Rattle.std.proofs.Common.{List, [], ◌∷◌, ◌++◌, length, map, filter, find, count_by, take, Option, Some, None, IsSomeAnd}
+use Rattle.std.proofs.Common.{refl, sym, ap, subst, ◌∙◌, arith, length-append, append_assoc, append-nil, eq-eqb, ne_eqb}
+use Rattle.std.proofs.lemmas.Bool.{eqb-true}
+use Rattle.std.proofs.lemmas.List.{take-append-le}
+use Rattle.std.proofs.lemmas.List.Elements.{Contains-append_cases, Contains-push_cases}
+use Rattle.std.proofs.lemmas.List.Sums.{sum_by-cons}
+use Rattle.std.specs.List.{Contains}
+use Rattle.njh_ebcdic.specs.Names.{is_name}
+use Rattle.njh_header.specs.FileHeaders.{with_destination}
+use Rattle.njh_header.specs.Redirecting.{records_to_node}
+use Rattle.njh_record.specs.Stored.{Stored}
+use Rattle.njh_record.specs.declared.Kind.{Kind}
+use Rattle.njh_spool.specs.CustomerSpool.{WholeFile, max_arrived}
+use Rattle.njh_spool.specs.declared.State.{State}
+use Rattle.njh_spool.specs.declared.State.TheVariants as state
+use Rattle.njh_table.specs.Marks.{entry_marked}
+use Rattle.njh_table.specs.Entries.{CustomerEntry}
+use Rattle.njh_table.specs.NewRoutes.{entries_of_routes}
+use Rattle.njh_stream.specs.Holding.{has_lost_route, held_file}
+use Rattle.njh_stream.specs.Sending.{ready}
+use Rattle.njh_command.specs.Commands.{changed_file, file_in_state, is_of_name, may_change, without_file}
+use Rattle.njh_command.specs.Commands.{with_new_destination}
+use Rattle.njh_command.specs.CommandLaws.{ReroutesNameNodes}
+use Rattle.njh_customer.specs.NewRoutes.{entry_with}
+use Rattle.njh_customer.specs.OutgoingFiles.{Outgoing, each_stream, with_arrival, with_file_state, with_files}
+use Rattle.njh_customer.specs.OutgoingFiles.{without_numbered}
+use Rattle.njh_customer.specs.Moves as moves
+use Rattle.njh_customer.specs.Moves.{Acts, Coming, Records, Routes, LeadsByMoves, nowhere, onward, Moves, MovesBy}
+use Rattle.njh_customer.specs.Moves.{by_record, by_sending, by_end, Sends, without_files, busy_numbers, with_changed}
+use Rattle.njh_customer.specs.MovingLaws.{EventsMoveSo, TakesMoveSo, coming}
+use Rattle.njh_customer.specs.Surviving.{IsRerouted, as_before, to_node, IsStill, Survive, none, stays, leaves, FilesGoOn}
+use Rattle.njh_customer.specs.Surviving.{FilesSurvive, EventsKeepFiles, TakesKeepFiles, files_before, FirstFilesSurvive}
+use Rattle.njh_customer.specs.Surviving.{FilesGoOnFurther, RunsKeepFiles, SurvivorsAreNumbered}
+use Rattle.njh_customer.specs.Runs.{OwnBytes, alone_run, event_run}
+use Rattle.njh_customer.specs.Part.{part_after_bytes}
+use Rattle.njh_customer.specs.OutgoingFiles.{outgoing}
+use Rattle.njh_customer.proofs.LeavingLaws.{without_files_files}
+
+-- ---- a file that is still there
+
+is_same :
+    (before now : WholeFile) → now.number ≡ before.number → now.kind ≡ before.kind → now.records ≡ before.records
+    → IsStill before now
+is_same before now number kind records =
+    record { number = number; kind = kind; records = subst (IsRerouted before.kind before.records) (sym records) (as_before before.records) }
+
+itself : (f : WholeFile) → IsStill f f
+itself f = is_same f f refl refl refl
+
+rerouted_then : (kind : Kind) (a b c : List Stored) → IsRerouted kind a b → IsRerouted kind b c → IsRerouted kind a c
+rerouted_then kind _ _ c (as_before records) second = second
+rerouted_then kind _ _ c (to_node node before after is more) second =
+    to_node node before c is (rerouted_then kind (records_to_node kind node None before) after c more second)
+
+still_then : (f g h : WholeFile) → IsStill f g → IsStill g h → IsStill f h
+still_then f g h first second =
+    record {
+      number = second.number ∙ first.number;
+      kind = second.kind ∙ first.kind;
+      records = rerouted_then f.kind f.records g.records h.records first.records
+          (subst (λ kind. IsRerouted kind g.records h.records) first.kind second.records);
+    }
+
+-- ---- files that are still there
+
+all_still : (h : WholeFile → WholeFile) → ((f : WholeFile) → IsStill f (h f)) → (fs : List WholeFile) → Survive fs (map h fs)
+all_still h each [] = none
+all_still h each (f ∷ fs) = stays f (h f) fs (map h fs) (each f) (all_still h each fs)
+
+same_files : (fs : List WholeFile) → Survive fs fs
+same_files [] = none
+same_files (f ∷ fs) = stays f f fs fs (itself f) (same_files fs)
+
+some_still : (p : WholeFile → Bool) (fs : List WholeFile) → Survive fs (filter p fs)
+some_still p [] = none
+some_still p (f ∷ fs) = at_test (p f) (some_still p fs)
+  where
+    at_test : (b : Bool) → Survive fs (filter p fs) → Survive (f ∷ fs) (cond b (f ∷ filter p fs) (filter p fs))
+    at_test true rest = stays f f fs (filter p fs) (itself f) rest
+    at_test false rest = leaves f fs (filter p fs) rest
+
+but_states : (fs gs : List WholeFile) → map ready gs ≡ map ready fs → Survive fs gs
+but_states [] [] e = none
+but_states [] (g ∷ gs) e = absurd (cc e)
+but_states (f ∷ fs) [] e = absurd (cc e)
+but_states (f ∷ fs) (g ∷ gs) e =
+    let one : ready g ≡ ready f = cc e in
+    let rest : map ready gs ≡ map ready fs = cc e in
+    stays f g fs gs (is_same f g (ap (λ h. h.number) one) (ap (λ h. h.kind) one) (ap (λ h. h.records) one)) (but_states fs gs rest)
+
+all_gone : (fs : List WholeFile) → Survive fs []
+all_gone [] = none
+all_gone (f ∷ fs) = leaves f fs [] (all_gone fs)
+
+survive_then : (fs gs hs : List WholeFile) → Survive fs gs → Survive gs hs → Survive fs hs
+survive_then _ _ hs none second = second
+survive_then _ gs hs (leaves f fs _ more) second = leaves f fs hs (survive_then fs gs hs more second)
+survive_then _ _ _ (stays f g fs gs one more) (stays _ h _ hs next later) =
+    stays f h fs hs (still_then f g h one next) (survive_then fs gs hs more later)
+survive_then _ _ hs (stays f g fs gs one more) (leaves _ _ _ later) = leaves f fs hs (survive_then fs gs hs more later)
+
+no_more : (fs gs : List WholeFile) → Survive fs gs → length gs ≤ length fs
+no_more _ _ none = omega arith
+no_more _ _ (stays f g fs gs one more) = omega (arith, no_more fs gs more)
+no_more _ _ (leaves f fs gs more) = omega (arith, no_more fs gs more)
+
+-- those of two lists, one behind the other
+record SurviveBoth (fs gs still : List WholeFile) : Type 0 where
+  first : List WholeFile
+  second : List WholeFile
+  both : still ≡ first ++ second
+  of_first : Survive fs first
+  of_second : Survive gs second
+
+survive_both : (fs gs still : List WholeFile) → Survive (fs ++ gs) still → SurviveBoth fs gs still
+survive_both [] gs still all = record { first = []; second = still; both = refl; of_first = none; of_second = all }
+survive_both (f ∷ fs) gs _ (stays _ g _ still one more) =
+    let rest = survive_both fs gs still more in
+    record {
+      first = g ∷ rest.first;
+      second = rest.second;
+      both = ap (λ others. g ∷ others) rest.both;
+      of_first = stays f g fs rest.first one rest.of_first;
+      of_second = rest.of_second;
+    }
+survive_both (f ∷ fs) gs still (leaves _ _ _ more) =
+    let rest = survive_both fs gs still more in
+    record {
+      first = rest.first;
+      second = rest.second;
+      both = rest.both;
+      of_first = leaves f fs rest.first rest.of_first;
+      of_second = rest.of_second;
+    }
+
+survive_front : (k : ℕ) (fs gs : List WholeFile) → Survive fs gs → Survive fs (take k gs)
+survive_front zero fs gs all = all_gone fs
+survive_front (suc k) _ _ none = none
+survive_front (suc k) _ _ (stays f g fs gs one more) = stays f g fs (take k gs) one (survive_front k fs gs more)
+survive_front (suc k) _ gs (leaves f fs _ more) = leaves f fs (take (suc k) gs) (survive_front (suc k) fs gs more)
+
+-- ---- by a move
+
+module _ (x y : Outgoing) where
+  -- no file has come
+  none_came : (files : List WholeFile) → y.files ≡ files → Survive x.files files → y.arrived ≡ x.arrived → FilesGoOn x y
+  none_came files is survive same =
+      record { still = files; new = []; files = is ∙ sym (append-nil files); survive = survive; counted = omega (arith, same) }
+
+  -- one has
+  one_came : (f : WholeFile) → y ≡ with_arrival f x → y.arrived < max_arrived → FilesGoOn x y
+  one_came f e below =
+      let counts = ap (λ z. z.arrived) e in
+      record {
+        still = x.files;
+        new = f ∷ [];
+        files = ap (λ z. z.files) e;
+        survive = same_files x.files;
+        counted = omega (arith, counts, below);
+      }
+
+pub goes_on_then : FilesGoOnFurther
+goes_on_then x y z first second =
+    let parts = survive_both first.still first.new second.still (subst (λ files. Survive files second.still) first.files second.survive) in
+    record {
+      still = parts.first;
+      new = parts.second ++ second.new;
+      files = second.files ∙ ap (λ files. files ++ second.new) parts.both ∙ append_assoc parts.first parts.second second.new;
+      survive = survive_then x.files first.still parts.first first.survive parts.of_first;
+      counted = omega (arith, first.counted, second.counted, length-append parts.second second.new, no_more first.new parts.second parts.of_second);
+    }
+
+changed_still :
+    (p : WholeFile → Bool) (change : WholeFile → WholeFile) → ((f : WholeFile) → IsStill f (change f)) → (f : WholeFile)
+    → IsStill f (changed_file p change f)
+changed_still p change each f = at_test (may_change p f)
+  where
+    at_test : (b : Bool) → IsStill f (cond b (change f) f)
+    at_test true = each f
+    at_test false = itself f
+
+in_state_still : (s : State) (f : WholeFile) → IsStill f (record f { state = s })
+in_state_still s f = is_same f (record f { state = s }) refl refl refl
+
+marked_still : (n : ℕ) (s : State) (fs : List WholeFile) → Survive fs (with_file_state n s fs)
+marked_still n s fs = all_still (λ f. cond (f.number == n) (record f { state = s }) f) each fs
+  where
+    at_test : (b : Bool) (f : WholeFile) → IsStill f (cond b (record f { state = s }) f)
+    at_test true f = in_state_still s f
+    at_test false f = itself f
+
+    each : (f : WholeFile) → IsStill f (cond (f.number == n) (record f { state = s }) f)
+    each f = at_test (f.number == n) f
+
+held_still : (entry : CustomerEntry) (fs : List WholeFile) → Survive fs (map (λ f. cond (has_lost_route entry f) (held_file f) f) fs)
+held_still entry fs = all_still (λ f. cond (has_lost_route entry f) (held_file f) f) each fs
+  where
+    at_test : (b : Bool) (f : WholeFile) → IsStill f (cond b (held_file f) f)
+    at_test true f = in_state_still state.Held f
+    at_test false f = itself f
+
+    each : (f : WholeFile) → IsStill f (cond (has_lost_route entry f) (held_file f) f)
+    each f = at_test (has_lost_route entry f) f
+
+without_files_arrived : (ns : List ℕ) (x : Outgoing) → (without_files ns x).arrived ≡ x.arrived
+without_files_arrived [] x = refl
+without_files_arrived (n ∷ ns) x = without_files_arrived ns (each_stream (without_file n) x)
+
+module _ (by_records : (kind : Kind) (node : List ℕ) (records : List Stored) → records_to_node kind node None records ≡ with_destination kind node records)
+    (names : ReroutesNameNodes) where
+  rerouted_still : (node : List ℕ) → is_name node ≡ true → (f : WholeFile) → IsStill f (with_new_destination node f)
+  rerouted_still node is f =
+      record {
+        number = refl;
+        kind = refl;
+        records = to_node node f.records (with_destination f.kind node f.records) is
+            (subst (IsRerouted f.kind (records_to_node f.kind node None f.records)) (by_records f.kind node f.records)
+            (as_before (records_to_node f.kind node None f.records)));
+      }
+
+  module _ (entry : CustomerEntry) (l : ℕ) (x y : Outgoing) where
+    -- no file has changed
+    unmoved : y.files ≡ x.files → y.arrived ≡ x.arrived → FilesGoOn x y
+    unmoved files same = none_came x y x.files files (same_files x.files) same
+
+    changes : (p : WholeFile → Bool) (change : WholeFile → WholeFile) → ((f : WholeFile) → IsStill f (change f)) → y ≡ with_changed p change x → FilesGoOn x y
+    changes p change each e =
+        none_came x y (map (changed_file p change) x.files) (ap (λ z. z.files) e) (all_still (changed_file p change) (changed_still p change each) x.files)
+        (ap (λ z. z.arrived) e)
+
+    by_acts : (i : _) → Acts entry l i x y → y.arrived < max_arrived → FilesGoOn x y
+    by_acts i (moves.comes rcb srcb f is ready whole e) below = one_came x y f e below
+    by_acts i (moves.permitted streams k n told before e) below = unmoved (ap (λ z. z.files) e) (ap (λ z. z.arrived) e)
+    by_acts i (moves.refused streams k n after told before about e) below =
+        none_came x y (with_file_state n state.Refused x.files) (ap (λ z. z.files) e) (marked_still n state.Refused x.files) (ap (λ z. z.arrived) e)
+    by_acts i (moves.completed streams k n told before e) below =
+        none_came x y (without_numbered n x.files) (ap (λ z. z.files) e) (some_still (λ f. not (f.number == n)) x.files) (ap (λ z. z.arrived) e)
+    by_acts i (moves.holds who name given e) below = changes (is_of_name who name) (file_in_state state.Held) (in_state_still state.Held) e
+    by_acts i (moves.releases who name given e) below = changes (is_of_name who name) (file_in_state state.Ready) (in_state_still state.Ready) e
+    by_acts i (moves.reroutes who name node line given route e) below =
+        changes (is_of_name who name) (with_new_destination node) (rerouted_still node (names given.nodal.message name node given.says)) e
+    by_acts i (moves.cancels who name given e) below =
+        let p = is_of_name who name in
+        let left = filter (λ f. not (p f)) x.files in
+        let ns = busy_numbers p x.files in
+        none_came x y left (ap (λ z. z.files) e ∙ without_files_files ns (with_files left x)) (some_still (λ f. not (p f)) x.files)
+        (ap (λ z. z.arrived) e ∙ without_files_arrived ns (with_files left x))
+
+    by_sends : Sends entry l x y → FilesGoOn x y
+    by_sends (moves.gives_up k before e) = unmoved (ap (λ z. z.files) e) (ap (λ z. z.arrived) e)
+    by_sends (moves.asks k f before found e) =
+        none_came x y (with_file_state f.number state.Sending x.files) (ap (λ z. z.files) e) (marked_still f.number state.Sending x.files) (ap (λ z. z.arrived) e)
+    by_sends (moves.goes_on k n place r before found e) = unmoved (ap (λ z. z.files) e) (ap (λ z. z.arrived) e)
+    by_sends (moves.ends k n place before found e) = unmoved (ap (λ z. z.files) e) (ap (λ z. z.arrived) e)
+
+    by_moves : (items : _) → Moves entry l items x y → y.arrived < max_arrived → FilesGoOn x y
+    by_moves items (by_record (i, at, acts)) below = by_acts i acts below
+    by_moves items (by_sending sends) below = by_sends sends
+    by_moves items (by_end over) below = none_came x y y.files refl (but_states x.files y.files over.files) over.arrived
+
+  one_move : (entry : CustomerEntry) (came : Coming) (x y : Outgoing) → MovesBy entry came x y → y.arrived < max_arrived → FilesGoOn x y
+  one_move entry (Records l items) x y (up, move) below = by_moves (entry_marked l up entry) l x y items move below
+  one_move entry (Routes routes) x y given below =
+      let new = entry_with (entries_of_routes routes) entry in
+      none_came x y (map (λ f. cond (has_lost_route new f) (held_file f) f) x.files) (ap (λ z. z.files) given.holds)
+      (held_still new x.files) (ap (λ z. z.arrived) given.holds)
+
+  pub files_survive : FilesSurvive
+  files_survive entry came _ _ (nowhere x) below = none_came x x x.files refl (same_files x.files) refl
+  files_survive entry came _ _ (onward x y z move later) below =
+      let behind = files_survive entry came y z later below in
+      goes_on_then x y z (one_move entry came x y move (omega (arith, behind.counted, below))) behind
+
+  pub events_keep_files : EventsMoveSo → EventsKeepFiles
+  events_keep_files move p event below =
+      files_survive p.customer.entry (coming p event) (outgoing p.customer) (outgoing (event_run p event).after.customer) (move p event) below
+
+  pub takes_keep_files : TakesMoveSo → TakesKeepFiles
+  takes_keep_files move p l piece there below =
+      let t = part_after_bytes p l piece in
+      files_survive p.customer.entry (coming p (OwnBytes l (take t.taken piece))) (outgoing p.customer) (outgoing t.after.customer)
+      (move p l piece there) below
+
+  pub runs_keep_files : EventsMoveSo → RunsKeepFiles
+  runs_keep_files move p [] below = none_came (outgoing p.customer) (outgoing p.customer) p.customer.spool.whole refl (same_files p.customer.spool.whole) refl
+  runs_keep_files move p (event ∷ events) below =
+      let q = (event_run p event).after in
+      let behind = runs_keep_files move q events below in
+      goes_on_then (outgoing p.customer) (outgoing q.customer) (outgoing (alone_run q events).after.customer)
+      (events_keep_files move p event (omega (arith, behind.counted, below))) behind
+
+-- ---- what is read from it
+
+pub first_files : FirstFilesSurvive
+first_files x y on =
+    let k = length y.files - (y.arrived - x.arrived) in
+    let few : k ≤ length on.still = omega (arith, ap (λ (files : List WholeFile). length files) on.files, length-append on.still on.new, on.counted) in
+    subst (Survive x.files) (sym (ap (take k) on.files ∙ take-append-le k on.still on.new few)) (survive_front k x.files on.still on.survive)
+
+-- how many files have a number
+abbrev count : ℕ → List WholeFile → ℕ
+count n fs = count_by (λ f. f.number == n) fs
+
+count_more : (n : ℕ) (f : WholeFile) (fs : List WholeFile) → count n (f ∷ fs) ≡ count n fs + cond {A = ℕ} (f.number == n) 1 0
+count_more n f fs = omega (arith, sum_by-cons (λ (g : WholeFile). cond {A = ℕ} (g.number == n) 1 0) f fs)
+
+abbrev Found : WholeFile → List WholeFile → Type 0
+Found now files = IsSomeAnd (find (λ f. f.number == now.number) files) (λ before. IsStill before now)
+
+found_counts : (n : ℕ) (P : WholeFile → Type 0) (fs : List WholeFile) → IsSomeAnd (find (λ f. f.number == n) fs) P → 1 ≤ count n fs
+found_counts n P [] found = absurd found
+found_counts n P (f ∷ fs) found = at_test (f.number == n) refl (found_counts n P fs) found
+  where
+    at_test :
+        (b : Bool) → (f.number == n) ≡ b → (IsSomeAnd (find (λ g. g.number == n) fs) P → 1 ≤ count n fs)
+        → IsSomeAnd (cond b (Some f) (find (λ g. g.number == n) fs)) P → 1 ≤ count n (f ∷ fs)
+    at_test true e rest found = omega (arith, count_more n f fs, ap (λ b. cond {A = ℕ} b 1 0) e)
+    at_test false e rest found = omega (arith, count_more n f fs, rest found)
+
+-- one that is found among the others is found among all
+found_later :
+    (now before : WholeFile) (others : List WholeFile) → count now.number (before ∷ others) ≤ 1 → Found now others
+    → Found now (before ∷ others)
+found_later now before others once found = at_test (before.number == now.number) refl
+  where
+    at_test :
+        (b : Bool) → (before.number == now.number) ≡ b
+        → IsSomeAnd (cond b (Some before) (find (λ f. f.number == now.number) others)) (λ f. IsStill f now)
+    at_test true e =
+        absurd (omega (arith, once, count_more now.number before others, ap (λ b. cond {A = ℕ} b 1 0) e, found_counts now.number (λ f. IsStill f now) others found))
+    at_test false e = found
+
+pub numbered_survivors : SurvivorsAreNumbered
+numbered_survivors _ _ now none once at = absurd (omega (arith, at.1))
+numbered_survivors _ _ now (leaves before others still more) once at =
+    found_later now before others (once now.number)
+    (numbered_survivors others still now more (λ n. omega (arith, once n, count_more n before others)) at)
+numbered_survivors _ _ now (stays before g others still one more) once at =
+    at_first (Contains-append_cases (g ∷ []) still now at)
+    (numbered_survivors others still now more (λ n. omega (arith, once n, count_more n before others)))
+  where
+    here : IsStill before now → Found now (before ∷ others)
+    here is =
+        subst (λ b. IsSomeAnd (cond b (Some before) (find (λ f. f.number == now.number) others)) (λ f. IsStill f now))
+        (sym (eq-eqb before.number now.number (sym is.number))) is
+
+    at_only : Contains {X = WholeFile} [] now ⊎ (g ≡ now) → Found now (before ∷ others)
+    at_only (inl at) = absurd (omega (arith, at.1))
+    at_only (inr e) = here (subst (IsStill before) e one)
+
+    at_first : Contains (g ∷ []) now ⊎ Contains still now → (Contains still now → Found now others) → Found now (before ∷ others)
+    at_first (inl first) rest = at_only (Contains-push_cases [] g now first)
+    at_first (inr later) rest = found_later now before others (once now.number) (rest later)
