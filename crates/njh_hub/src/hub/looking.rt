@@ -120,6 +120,18 @@ impl Hub {
         self.shared.spool.files(customer)
     }
 
+    /// How many files of a customer have become whole so far: those that came on its lines and those that were put
+    /// back, whether they are still there or not. The count stays at the greatest `u64`. 0 where the hub has no such
+    /// customer.
+    pub fn arrived(&self, customer: u16) -> u64
+        ensures { result ≡ (part customer self.now).customer.spool.arrived }
+    {
+        if usize::from(customer) >= self.lines.len() {
+            return 0;
+        }
+        self.shared.spool.arrived(customer)
+    }
+
     /// A customer's whole file without its records, by its index in order of arrival, from 0 on. Its headers read.
     pub fn summary_at(&self, customer: u16, index: u32) -> FileSummaryView
         requires { index < length (part customer self.now).customer.spool.whole }
