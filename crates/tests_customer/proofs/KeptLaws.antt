@@ -3,7 +3,7 @@ use Rattle.std.proofs.Common.{◌≡◌, ◌<◌, ℕ, List, [], ◌∷◌, ◌+
 use Rattle.std.proofs.Math.ListN.{length-set}
 use Rattle.std.proofs.lemmas.List.{get_or-set_same}
 use Rattle.njh_spool.specs.CustomerSpool.{CustomerSpool, PartialFile, partial_numbered, with_finished, without_partial}
-use Rattle.njh_spool.specs.CustomerSpool.{as_whole}
+use Rattle.njh_spool.specs.CustomerSpool.{as_whole, with_arrived}
 use Rattle.njh_spool.specs.Spools.{spool_at, no_spool}
 use Rattle.tests_customer.specs.Kept.{IsKept}
 
@@ -15,7 +15,7 @@ kept old new s h e q = record {
 }
 
 quota_where : (n : ℕ) (s : CustomerSpool) (f : Option PartialFile)
-    → (elim f as (λ _. CustomerSpool) [ None ↦ s | Some x ↦ record (without_partial n s) { whole = s.whole ++ as_whole x ∷ [] } ]).quota ≡ s.quota
+    → (elim f as (λ _. CustomerSpool) [ None ↦ s | Some x ↦ with_arrived (as_whole x) (without_partial n s) ]).quota ≡ s.quota
 quota_where n s None = refl
 quota_where n s (Some x) = refl
 
