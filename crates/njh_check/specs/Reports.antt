@@ -1,0 +1,73 @@
+-- The report of tables that are right.
+use Rattle.std.specs.Prelude.{ℕ, ◌+◌, ◌-◌, ◌==◌, List, ◌++◌, codes, cond, sum_by, slice_get, Option, Some, None, flat_map}
+use Rattle.std.specs.Fmt.{decimal}
+use Rattle.std.specs.Option.{option_map_or}
+use Rattle.std.specs.declared.net.socket_addr.SocketAddr.{SocketAddr}
+use Rattle.std.specs.Net.Text.{socket_text}
+use Rattle.njh_ebcdic.specs.Characters.{shown_text}
+use Rattle.njh_ebcdic.specs.Names.{without_end_blanks}
+use Rattle.njh_table.specs.declared.Role.{Role}
+use Rattle.njh_table.specs.declared.Role.TheVariants.{Call, Answer}
+use Rattle.njh_table.specs.Entries.{RouteEntry}
+use Rattle.njh_table.specs.TableFile.{NamedLine, NamedCustomer, TableFile}
+use Rattle.njh_check.specs.Words.{◌+++◌}
+
+-- a name as people write it
+abbrev pub name_text : List ℕ → List ℕ
+name_text name = shown_text (without_end_blanks name)
+
+unfoldable pub role_words : Role → List ℕ
+role_words Call = codes "call"
+role_words Answer = codes "answer"
+
+unfoldable pub port_words : ℕ → List ℕ
+port_words port = cond (port == 0) (codes "no port") (codes "port " +++ decimal port)
+
+-- where a line's peer is: it connects to the port, or the hub connects to its address
+unfoldable pub peer_words : ℕ → Option SocketAddr → List ℕ
+peer_words port None = port_words port
+peer_words port (Some address) = codes "connect " +++ socket_text address
+
+-- how much a line takes at once
+unfoldable pub size_words : ℕ → ℕ → List ℕ
+size_words block streams = codes "block " +++ decimal block +++ codes ", streams " +++ decimal streams
+
+-- a line by its name and its node
+unfoldable pub name_words : NamedLine → List ℕ
+name_words l = codes "  line " +++ l.name +++ codes ": node " +++ name_text l.entry.node +++ codes ", "
+
+unfoldable pub line_text : NamedLine → List ℕ
+line_text l =
+    name_words l +++ role_words l.entry.role +++ codes ", " +++ peer_words l.port l.peer +++ codes ", "
+    +++ size_words l.entry.block l.entry.streams +++ codes "\n"
+
+-- the name of a customer's line
+unfoldable pub line_name : List NamedLine → ℕ → List ℕ
+line_name lines number = option_map_or (λ l. l.name) (slice_get lines number) (codes "")
+
+unfoldable pub second_words : List NamedLine → Option ℕ → List ℕ
+second_words lines None = codes ""
+second_words lines (Some number) = codes ", second line " +++ line_name lines number
+
+unfoldable pub route_text : List NamedLine → RouteEntry → List ℕ
+route_text lines r =
+    codes "  route " +++ name_text r.node +++ codes ": line " +++ line_name lines r.line +++ second_words lines r.second
+    +++ codes "\n"
+
+-- a customer without its lines and routes
+unfoldable pub head_text : NamedCustomer → List ℕ
+head_text c =
+    codes "customer " +++ name_text c.name +++ codes ": hub " +++ name_text c.hub +++ codes ", quota " +++ decimal c.quota
+    +++ codes " blocks, " +++ decimal c.files +++ codes " files\n"
+
+unfoldable pub customer_text : NamedCustomer → List ℕ
+customer_text c = head_text c ++ flat_map line_text c.lines ++ flat_map (route_text c.lines) c.routes
+
+-- the spool's blocks: all, those that the quotas promise, and those that are left
+unfoldable pub capacity_text : ℕ → ℕ → List ℕ
+capacity_text capacity quotas =
+    codes "capacity " +++ decimal capacity +++ codes " blocks, quotas " +++ decimal quotas +++ codes ", left "
+    +++ decimal (capacity - quotas) +++ codes "\n"
+
+unfoldable pub report_of : TableFile → List ℕ
+report_of t = flat_map customer_text t.customers ++ capacity_text t.capacity (sum_by (λ c. c.quota) t.customers)

@@ -1,0 +1,101 @@
+//! Checks a table file and tells what it says.
+
+ghost use Rattle.std.specs.Prelude.{◌≡◌, ◌++◌, ◌∷◌, [], ℕ, List, Option, IfErr, IfOk, Err, option_map, string_bytes};
+ghost use Rattle.std.specs.Io.KnownBytes.{Appends};
+ghost use Rattle.njh_io.specs.Written.{AppendsBeginning};
+ghost use Rattle.njh_table.specs.declared.places.PlacedFault.{PlacedFault};
+ghost use Rattle.njh_check.specs.Checks.{Tells, TellsFault};
+ghost use Rattle.njh_check.specs.FaultTexts.{IsFaultText};
+
+use crate::fault::CheckFault;
+use crate::line::{fault_words, toml_words};
+use crate::report::report_of;
+use njh_io::write_bytes;
+use njh_table::{PlacedFault, TableFault, Tables};
+use std::alloc::Global;
+use std::io::Write;
+
+/// The number of the line, from 1 on, in which a place of a text is.
+fn line_number(text: &str, place: usize) -> usize {
+    let before = text.as_bytes().iter().take(place);
+    before
+        .filter(|byte| **byte == b'\n')
+        .count()
+        .saturating_add(1)
+}
+
+/// The text of a fault of a table file.
+fn told_of(alloc: Global, text: &str, placed: PlacedFault) -> Result<String, CheckFault>
+    ensures told { IfOk result (λ told. IsFaultText text.now placed (string_bytes told)) }
+    ensures memory { IfErr result (λ fault. fault ≡ CheckFault.Memory) }
+{
+    match toml::table_from_str(alloc, text) {
+        Ok(document) => Ok(fault_words(alloc, &document, placed)?),
+        Err(error) => match error.span() {
+            Some(span) => Ok(toml_words(alloc, line_number(text, span.start))?),
+            None => Err(CheckFault::Memory),
+        },
+    }
+}
+
+/// The text of the first fault of a table file, in one line of ASCII without its end; none where the tables are right.
+/// Want of memory is the only refusal. It reads a file with a fault twice.
+pub fn fault_text(alloc: Global, text: &str) -> Result<Option<String>, CheckFault>
+    ensures told { IfOk result (λ found. TellsFault text.now (option_map string_bytes found)) }
+    ensures memory { IfErr result (λ fault. fault ≡ CheckFault.Memory) }
+{
+    match Tables::check(alloc, text) {
+        Ok(_) => Ok(None),
+        Err(placed) if placed.fault == TableFault::Memory => Err(CheckFault::Memory),
+        Err(placed) => Ok(Some(told_of(alloc, text, placed)?)),
+    }
+}
+
+/// The line of a fault of a table file.
+fn fault_line(alloc: Global, text: &str, placed: PlacedFault) -> Result<Vec<u8>, CheckFault>
+    ensures told { IfOk result (λ line.
+        (told : List ℕ) × IsFaultText text.now placed told × (line.items ≡ told ++ 10 ∷ [])) }
+    ensures memory { IfErr result (λ fault. fault ≡ CheckFault.Memory) }
+{
+    let told = told_of(alloc, text, placed)?;
+    let mut line = told.into_bytes();
+    line.push(b'\n')?;
+    Ok(line)
+}
+
+/// What a check found, and all that it tells.
+fn outcome(alloc: Global, text: &str) -> Result<(Option<PlacedFault>, Vec<u8>), CheckFault>
+    ensures told { IfOk result (λ outcome. Tells text.now outcome.0 outcome.1.items) }
+    ensures memory { IfErr result (λ fault. fault ≡ CheckFault.Memory) }
+{
+    match Tables::check(alloc, text) {
+        Ok(tables) => Ok((None, report_of(alloc, &tables)?)),
+        Err(placed) if placed.fault == TableFault::Memory => Err(CheckFault::Memory),
+        Err(placed) => Ok((Some(placed), fault_line(alloc, text, placed)?)),
+    }
+}
+
+/// Checks a table file, and writes the report of its tables, or the line of its first fault. Answers that fault, or
+/// none where the tables are right.
+///
+/// The report has a line for each customer, behind it one for each of its lines and one for each of its routes, and at
+/// the end one for the spool. The line of a fault is `fault_text`, ended by 0A. Where memory is refused nothing was
+/// written.
+pub fn check<W: Write>(
+    alloc: Global,
+    text: &str,
+    out: &mut W,
+) -> Result<Option<PlacedFault>, CheckFault>
+    ensures told { IfOk result (λ found. (written : List ℕ) × Tells text.now found written
+        × Appends (W.contents out.old) (W.contents out.new) written) }
+    ensures device { result ≡ Err CheckFault.Device → (found : Option PlacedFault) × (written : List ℕ)
+        × Tells text.now found written × AppendsBeginning (W.contents out.old) (W.contents out.new) written }
+    ensures memory { result ≡ Err CheckFault.Memory → W.contents out.new ≡ W.contents out.old }
+{
+    let (found, told) = outcome(alloc, text)?;
+    write_bytes(out, &told)?;
+    match out.flush() {
+        Ok(()) => Ok(found),
+        Err(_) => Err(CheckFault::Device),
+    }
+}

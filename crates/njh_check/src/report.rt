@@ -1,0 +1,228 @@
+//! The report of tables that are right.
+
+ghost use Rattle.std.specs.Prelude.{◌≡◌, ◌≤◌, ◌-◌, ◌++◌, flat_map, length, IfOk, OnOk, option_map, string_bytes, sum_by};
+ghost use Rattle.njh_table.specs.Limits.{max_customers};
+ghost use Rattle.njh_table.specs.TableFile.{route_entry};
+ghost use Rattle.njh_check.specs.Reports.{capacity_text, customer_text, head_text, line_name, line_text, name_words};
+ghost use Rattle.njh_check.specs.Reports.{peer_words, port_words, report_of, role_words, route_text, second_words};
+ghost use Rattle.njh_check.specs.Reports.{size_words};
+
+use njh_ebcdic::Name;
+use njh_table::{NamedCustomer, NamedLine, Role, RouteLines, Tables};
+use std::alloc::{AllocError, Global};
+use std::net::SocketAddr;
+
+#[tactic(auto, unfolding(crate::specs::Reports::role_words))]
+fn role_words(role: Role) -> &'static str
+    ensures { result.now ≡ role_words role }
+{
+    match role {
+        Role::Call => "call",
+        Role::Answer => "answer",
+    }
+}
+
+#[tactic(auto, unfolding(crate::specs::Reports::port_words))]
+fn port_words(alloc: Global, port: u16) -> Result<String, AllocError>
+    ensures { IfOk result (λ words. string_bytes words ≡ port_words port) }
+{
+    if port == 0 {
+        return String::from_str(alloc, "no port");
+    }
+    format!(in alloc; "port {port}")
+}
+
+#[tactic(auto, unfolding(crate::specs::Reports::peer_words))]
+fn peer_words(alloc: Global, port: u16, peer: Option<SocketAddr>) -> Result<String, AllocError>
+    ensures { IfOk result (λ words. string_bytes words ≡ peer_words port peer) }
+{
+    match peer {
+        Some(address) => format!(in alloc; "connect {address}"),
+        None => port_words(alloc, port),
+    }
+}
+
+/// How much a line takes at once.
+#[tactic(auto, unfolding(crate::specs::Reports::size_words))]
+fn size_words(alloc: Global, block: u16, streams: u8) -> Result<String, AllocError>
+    ensures { IfOk result (λ words. string_bytes words ≡ size_words block streams) }
+{
+    format!(in alloc; "block {block}, streams {streams}")
+}
+
+/// A line by its name and its node.
+#[tactic(auto, unfolding(crate::specs::Reports::name_words))]
+fn name_words(alloc: Global, line: &NamedLine) -> Result<String, AllocError>
+    ensures { IfOk result (λ words. string_bytes words ≡ name_words line.now) }
+{
+    let name = line.name();
+    let node = line.node();
+    format!(in alloc; "  line {name}: node {node}, ")
+}
+
+#[tactic(auto, unfolding(crate::specs::Reports::line_text))]
+fn line_text(alloc: Global, line: &NamedLine) -> Result<String, AllocError>
+    ensures { IfOk result (λ text. string_bytes text ≡ line_text line.now) }
+{
+    let name = name_words(alloc, line)?;
+    let role = role_words(line.role());
+    let peer = peer_words(alloc, line.port(), line.peer())?;
+    let size = size_words(alloc, line.block(), line.streams())?;
+    format!(in alloc; "{name}{role}, {peer}, {size}\n")
+}
+
+/// The name of a customer's line.
+#[tactic(auto, unfolding(crate::specs::Reports::line_name))]
+fn line_name(lines: &[NamedLine], number: u16) -> &str
+    ensures { result.now ≡ line_name lines.now number }
+{
+    match lines.get(usize::from(number)) {
+        Some(line) => line.name(),
+        None => "",
+    }
+}
+
+#[tactic(auto, unfolding(crate::specs::Reports::second_words))]
+fn second_words(
+    alloc: Global,
+    lines: &[NamedLine],
+    second: Option<u16>,
+) -> Result<String, AllocError>
+    ensures { IfOk result (λ words. string_bytes words ≡ second_words lines.now second) }
+{
+    match second {
+        Some(number) => {
+            let name = line_name(lines, number);
+            format!(in alloc; ", second line {name}")
+        }
+        None => Ok(String::new(alloc)),
+    }
+}
+
+#[tactic(auto, unfolding(crate::specs::Reports::route_text))]
+fn route_text(
+    alloc: Global,
+    lines: &[NamedLine],
+    route: (Name, RouteLines),
+) -> Result<String, AllocError>
+    ensures { IfOk result (λ text. string_bytes text ≡ route_text lines.now (route_entry route)) }
+{
+    let (node, by) = route;
+    let line = line_name(lines, by.line);
+    let second = second_words(alloc, lines, by.second)?;
+    format!(in alloc; "  route {node}: line {line}{second}\n")
+}
+
+/// A customer without its lines and routes.
+#[tactic(auto, unfolding(crate::specs::Reports::head_text))]
+fn head_text(alloc: Global, customer: &NamedCustomer) -> Result<String, AllocError>
+    ensures { IfOk result (λ text. string_bytes text ≡ head_text customer.now) }
+{
+    let name = customer.name();
+    let hub = customer.hub();
+    let quota = customer.quota();
+    let files = customer.files();
+    format!(in alloc; "customer {name}: hub {hub}, quota {quota} blocks, {files} files\n")
+}
+
+fn put(report: &mut Vec<u8>, text: &str) -> Result<(), AllocError>
+    ensures { OnOk result (report.new.items ≡ report.old.items ++ text.now) }
+{
+    report.extend_from_slice(text.as_bytes())
+}
+
+fn put_lines(alloc: Global, report: &mut Vec<u8>, lines: &[NamedLine]) -> Result<(), AllocError>
+    ensures { OnOk result (report.new.items ≡ report.old.items ++ flat_map line_text lines.now) }
+{
+    for line in lines {
+        let text = line_text(alloc, line)?;
+        put(report, text.as_str())?;
+    }
+    Ok(())
+}
+
+fn put_routes(
+    alloc: Global,
+    report: &mut Vec<u8>,
+    customer: &NamedCustomer,
+) -> Result<(), AllocError>
+    ensures { OnOk result (report.new.items
+        ≡ report.old.items ++ flat_map (route_text customer.now.lines) customer.now.routes) }
+{
+    for index in 0..customer.routes() {
+        let text = route_text(alloc, customer.lines(), customer.route_at(index))?;
+        put(report, text.as_str())?;
+    }
+    Ok(())
+}
+
+#[tactic(auto, unfolding(crate::specs::Reports::customer_text))]
+fn put_customer(
+    alloc: Global,
+    report: &mut Vec<u8>,
+    customer: &NamedCustomer,
+) -> Result<(), AllocError>
+    ensures { OnOk result (report.new.items ≡ report.old.items ++ customer_text customer.now) }
+{
+    let head = head_text(alloc, customer)?;
+    put(report, head.as_str())?;
+    put_lines(alloc, report, customer.lines())?;
+    put_routes(alloc, report, customer)
+}
+
+fn put_customers(
+    alloc: Global,
+    report: &mut Vec<u8>,
+    customers: &[NamedCustomer],
+) -> Result<(), AllocError>
+    ensures { OnOk result (report.new.items ≡ report.old.items ++ flat_map customer_text customers.now) }
+{
+    for customer in customers {
+        put_customer(alloc, report, customer)?;
+    }
+    Ok(())
+}
+
+fn quotas_of(customers: &[NamedCustomer]) -> u64
+    requires { length customers.now ≤ max_customers }
+    ensures { result ≡ sum_by (λ c. c.quota) customers.now }
+{
+    customers
+        .iter()
+        .map(|customer| u64::from(customer.quota()))
+        .sum()
+}
+
+/// What is left of a capacity.
+fn left_of(capacity: u64, quotas: u64) -> u64
+    ensures { result ≡ capacity - quotas }
+{
+    if quotas < capacity {
+        capacity - quotas
+    } else {
+        0
+    }
+}
+
+/// The spool's blocks: all, those that the quotas promise, and those that are left.
+#[tactic(auto, unfolding(crate::specs::Reports::capacity_text))]
+fn capacity_text(alloc: Global, capacity: u64, quotas: u64) -> Result<String, AllocError>
+    ensures { IfOk result (λ text. string_bytes text ≡ capacity_text capacity quotas) }
+{
+    let left = left_of(capacity, quotas);
+    format!(in alloc; "capacity {capacity} blocks, quotas {quotas}, left {left}\n")
+}
+
+/// The report of tables: a line for each customer, for each of its lines and for each of its routes, and one for the
+/// spool. Want of memory is the only refusal.
+#[tactic(auto, unfolding(crate::specs::Reports::report_of))]
+pub(crate) fn report_of(alloc: Global, tables: &Tables) -> Result<Vec<u8>, AllocError>
+    ensures { IfOk result (λ report. report.items ≡ report_of tables.now) }
+{
+    let mut report = Vec::new(alloc);
+    let customers = tables.customers();
+    put_customers(alloc, &mut report, customers)?;
+    let text = capacity_text(alloc, u64::from(tables.capacity()), quotas_of(customers))?;
+    put(&mut report, text.as_str())?;
+    Ok(report)
+}
