@@ -1,1 +1,6 @@
 pub mod FrameLaws
+mod EncodedSoFar
+mod LineLaws
+mod PartLaws
+mod ReadingLaws
+mod Writing

@@ -4,3 +4,6 @@ pub mod Messages
 pub mod Statements
 pub mod LineStates
 pub mod Encoded
+pub mod Lines
+pub mod Scripts
+pub mod code

@@ -1,5 +1,6 @@
 //! Why a line can't be encoded.
 
+use njh_io::WriteFault;
 use std::alloc::AllocError;
 use thiserror::Error;
 
@@ -30,6 +31,12 @@ pub enum Reason {
     /// A text has too many characters: a message at most 148, a line of a file 256.
     #[error("too long a text")]
     TooLong,
+    /// The line has more bytes than the limit of a line.
+    #[error("too long a line")]
+    LongLine,
+    /// The line is no text in UTF-8.
+    #[error("no text in UTF-8")]
+    NoText,
     /// Memory was refused.
     #[error("memory")]
     Memory,
@@ -51,7 +58,43 @@ impl From<AllocError> for Reason {
 #[error("line {line}: {reason}")]
 pub struct EncodeFault {
     /// Its number, counted from 1.
-    pub line: usize,
+    pub line: u64,
     /// Why.
     pub reason: Reason,
+}
+
+/// Why a text in words isn't encoded to its end. What the lines before it become is written, or a beginning of it.
+#[derive(Clone, Copy, Debug, PartialEq, Eq, Error)]
+pub enum EncodeEnd {
+    /// A line is bad, for any reason but want of memory.
+    #[error("{0}")]
+    BadLine(EncodeFault),
+    /// A read or a write failed.
+    #[error("device")]
+    Device,
+    /// Memory was refused.
+    #[error("U3 Memory")]
+    Memory,
+}
+
+impl From<AllocError> for EncodeEnd {
+    ghost use Rattle.std.specs.Prelude.{◌≡◌};
+    ghost use Rattle.njh_encode.specs.declared.fault.EncodeEnd.TheVariants.{Memory};
+
+    ghost from_gives = { λ _ end. end ≡ Memory };
+
+    fn from(_error: AllocError) -> Self {
+        EncodeEnd::Memory
+    }
+}
+
+impl From<WriteFault> for EncodeEnd {
+    ghost use Rattle.std.specs.Prelude.{◌≡◌};
+    ghost use Rattle.njh_encode.specs.declared.fault.EncodeEnd.TheVariants.{Device};
+
+    ghost from_gives = { λ _ end. end ≡ Device };
+
+    fn from(_fault: WriteFault) -> Self {
+        EncodeEnd::Device
+    }
 }

@@ -13,7 +13,10 @@ mod characters;
 mod encoder;
 mod fault;
 mod line_states;
+mod parts;
 mod putting;
+mod reading;
+mod scripts;
 mod sentences;
 mod statement;
 mod statements;
@@ -21,4 +24,6 @@ mod words;
 
 pub use characters::bytes_are_told;
 pub use encoder::Encoder;
-pub use fault::{EncodeFault, Reason};
+pub use fault::{EncodeEnd, EncodeFault, Reason};
+pub use reading::MAX_LINE_BYTES;
+pub use scripts::encode_script;

@@ -1,0 +1,17 @@
+use Rattle.std.proofs.Common.{Result, refl, subst, sym}
+use Rattle.njh_encode.specs.declared.fault.Reason.{Reason}
+use Rattle.njh_encode.specs.Encoded.{IsAppended, Outcome}
+use Rattle.njh_encode.proofs.LineLaws.{no_text_taken, text_taken}
+use Rattle.njh_encode.proofs.reading.take_bytes.Goals as goal
+
+pub returns-in-Ok : goal.returns-in-Ok
+returns-in-Ok c =
+    subst
+    (λ (o : Result Outcome Reason). IsAppended c.take_line.result o c.args.encoder.now c.take_line.new.self
+    c.args.script.now.items c.take_line.new.script.items)
+    (sym (text_taken c.args.encoder.now c.args.line.now c.in-Ok.words.now c.in-Ok.ensures.cases.0 c.in-Ok.ensures.cases.1))
+    c.take_line.ensures
+
+pub returns-in-Err : goal.returns-in-Err
+returns-in-Err c = λ other.
+    (no_text_taken c.args.encoder.now c.args.line.now (λ text. c.in-Err.ensures.cases.0 text), refl, refl)

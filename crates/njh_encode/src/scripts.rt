@@ -1,0 +1,165 @@
+//! Encodes a text in words from wherever it comes to wherever it goes.
+
+ghost use Rattle.std.specs.Prelude.{◌≡◌, ◌<◌, ◌≤◌, ℕ, [], ◌++◌, List, length, take, OnOk, OnErr, IfErr, IfOk, IfSome};
+ghost use Rattle.std.specs.Prelude.{Err, Some, None, MatchOption};
+ghost use Rattle.std.specs.Io.KnownBytes.{Appends, Consumes, IsAtEnd};
+ghost use Rattle.njh_io.specs.Written.{AppendsBeginning};
+ghost use Rattle.njh_encode.specs.Scripts.{encoding_of};
+ghost use Rattle.njh_encode.specs.code.Reading.{EndsBad, Takes, encoding_behind};
+
+use crate::fault::{EncodeEnd, EncodeFault};
+use crate::reading::Reading;
+use njh_io::write_bytes;
+use std::alloc::Global;
+use std::io::{ErrorKind, Read, Write};
+
+/// How many bytes are asked for at once: 64 kB.
+const PIECE: usize = 65_536;
+
+/// Writes the lines of a script that lines of words become, up to the first bad one. What the lines of a piece become
+/// is written before the next piece is read.
+///
+/// A line has 1,048,576 bytes at most. A read or a write that was only interrupted is tried again. A text of more lines
+/// than a number of 64 bits can count is a `Device`.
+pub fn encode_script<R: Read, W: Write>(
+    alloc: Global,
+    input: &mut R,
+    out: &mut W,
+) -> Result<(), EncodeEnd>
+    // No line of all that the reader had is bad, and what they become is written.
+    ensures done { OnOk result (IfSome (R.remaining input.old) (λ text. ((encoding_of text).bad ≡ None)
+        × Appends (W.contents out.old) (W.contents out.new) (encoding_of text).script)) }
+
+    // This is the first bad line, and what those before it become is written.
+    ensures bad { (fault : EncodeFault) → result ≡ Err (EncodeEnd.BadLine fault)
+        → IfSome (R.remaining input.old) (λ text. ((encoding_of text).bad ≡ Some fault)
+        × Appends (W.contents out.old) (W.contents out.new) (encoding_of text).script) }
+
+    // However it ends early, a beginning of the same script is written.
+    ensures begun { OnErr result (IfSome (R.remaining input.old)
+        (λ text. AppendsBeginning (W.contents out.old) (W.contents out.new) (encoding_of text).script)) }
+{
+    let mut reading = Reading::new(alloc);
+    let mut script = Vec::new(alloc);
+    encode_all(&mut reading, &mut script, input, out)
+}
+
+/// Writes what all becomes that a reader has, of which nothing was read. `script` is room for that.
+fn encode_all<R: Read, W: Write>(
+    reading: &mut Reading,
+    script: &mut Vec<u8>,
+    input: &mut R,
+    out: &mut W,
+) -> Result<(), EncodeEnd>
+    requires none { reading.old ≡ record { states = []; number = 1; front = [] } }
+    requires empty { script.old.items ≡ [] }
+    ensures done { OnOk result (IfSome (R.remaining input.old) (λ text. ((encoding_of text).bad ≡ None)
+        × Appends (W.contents out.old) (W.contents out.new) (encoding_of text).script)) }
+    ensures bad { (fault : EncodeFault) → result ≡ Err (EncodeEnd.BadLine fault)
+        → IfSome (R.remaining input.old) (λ text. ((encoding_of text).bad ≡ Some fault)
+        × Appends (W.contents out.old) (W.contents out.new) (encoding_of text).script) }
+    ensures begun { OnErr result (IfSome (R.remaining input.old)
+        (λ text. AppendsBeginning (W.contents out.old) (W.contents out.new) (encoding_of text).script)) }
+{
+    let mut piece = [0; PIECE];
+    for _ in 0..u64::MAX {
+        match read_piece(input, &mut piece)? {
+            None => return encode_end(reading, script, out),
+            Some(count) => {
+                let (front, _) = piece.split_at(count);
+                encode_piece(reading, front, script, out)?;
+            }
+        }
+    }
+    Err(EncodeEnd::Device)
+}
+
+/// Reads a piece, and answers how many bytes it has; nothing at the end.
+fn read_piece<R: Read>(input: &mut R, piece: &mut [u8]) -> Result<Option<usize>, EncodeEnd>
+    requires { 0 < length piece.old }
+    ensures taken { IfOk result (λ read. MatchOption read (IsAtEnd (R.remaining input.old)) (λ count.
+        (count ≤ length piece.new)
+        × Consumes (R.remaining input.old) (R.remaining input.new) (take count piece.new))) }
+    ensures device { IfErr result (λ end. end ≡ EncodeEnd.Device) }
+{
+    for _ in 0..u64::MAX {
+        match input.read(piece) {
+            Ok(0) => return Ok(None),
+            Ok(count) => return Ok(Some(count)),
+            Err(error) if error.kind() == ErrorKind::Interrupted => {}
+            Err(_) => return Err(EncodeEnd::Device),
+        }
+    }
+    Err(EncodeEnd::Device)
+}
+
+/// Takes a piece, and writes what each line becomes that ends in it, up to a bad one. `script` is room for that.
+fn encode_piece<W: Write>(
+    reading: &mut Reading,
+    piece: &[u8],
+    script: &mut Vec<u8>,
+    out: &mut W,
+) -> Result<(), EncodeEnd>
+    requires { script.old.items ≡ [] }
+    ensures taken { OnOk result ((lines : List ℕ) × Appends (W.contents out.old) (W.contents out.new) lines
+        × Takes reading.old piece.now lines reading.new) }
+    ensures empty { OnOk result (script.new.items ≡ []) }
+    ensures bad { (fault : EncodeFault) → result ≡ Err (EncodeEnd.BadLine fault)
+        → (lines : List ℕ) × Appends (W.contents out.old) (W.contents out.new) lines
+        × EndsBad reading.old piece.now (record { script = lines; bad = Some fault }) }
+    ensures begun { OnErr result ((more : List ℕ) → AppendsBeginning (W.contents out.old) (W.contents out.new)
+        (encoding_behind reading.old (piece.now ++ more)).script) }
+{
+    match reading.take(piece, script) {
+        Ok(()) => {
+            write_bytes(out, script)?;
+            script.clear();
+            Ok(())
+        }
+        Err(EncodeEnd::BadLine(fault)) => {
+            write_last(out, script)?;
+            Err(EncodeEnd::BadLine(fault))
+        }
+        Err(EncodeEnd::Device) => Err(EncodeEnd::Device),
+        Err(EncodeEnd::Memory) => Err(EncodeEnd::Memory),
+    }
+}
+
+/// Writes what the last line becomes, where it has no end of its own.
+fn encode_end<W: Write>(
+    reading: &mut Reading,
+    script: &mut Vec<u8>,
+    out: &mut W,
+) -> Result<(), EncodeEnd>
+    requires { script.old.items ≡ [] }
+    ensures done { OnOk result (((encoding_behind reading.old []).bad ≡ None)
+        × Appends (W.contents out.old) (W.contents out.new) (encoding_behind reading.old []).script) }
+    ensures bad { (fault : EncodeFault) → result ≡ Err (EncodeEnd.BadLine fault)
+        → ((encoding_behind reading.old []).bad ≡ Some fault)
+        × Appends (W.contents out.old) (W.contents out.new) (encoding_behind reading.old []).script }
+    ensures begun { OnErr result (AppendsBeginning (W.contents out.old) (W.contents out.new)
+        (encoding_behind reading.old []).script) }
+{
+    match reading.end(script) {
+        Ok(()) => write_last(out, script),
+        Err(EncodeEnd::BadLine(fault)) => {
+            write_last(out, script)?;
+            Err(EncodeEnd::BadLine(fault))
+        }
+        Err(EncodeEnd::Device) => Err(EncodeEnd::Device),
+        Err(EncodeEnd::Memory) => Err(EncodeEnd::Memory),
+    }
+}
+
+/// Writes the last bytes.
+fn write_last<W: Write>(out: &mut W, bytes: &[u8]) -> Result<(), EncodeEnd>
+    ensures ok { OnOk result (Appends (W.contents out.old) (W.contents out.new) bytes.now) }
+    ensures err { OnErr result (AppendsBeginning (W.contents out.old) (W.contents out.new) bytes.now) }
+    ensures device { IfErr result (λ end. end ≡ EncodeEnd.Device) }
+{
+    write_bytes(out, bytes)?;
+    match out.flush() {
+        Ok(()) => Ok(()),
+        Err(_) => Err(EncodeEnd::Device),
+    }
+}
