@@ -1,6 +1,6 @@
--- The walk over a table file: the tables that it gives, or its first fault with its place. Each element of a list is walked after
--- those before it: a list past its limit is refused before the element's keys, and keys that aren't named here are
--- ignored.
+-- The walk over a table file: the tables that it gives, or its first fault with its place. Each element of a list is
+-- walked after those before it: a list past its limit is refused before the element's keys, and keys that aren't named
+-- here are ignored.
 use Rattle.std.specs.Prelude.{◌≡◌, ◌≢◌, ℕ, Bool, true, false, ◌||◌, List, [], ◌∷◌, ◌++◌, length, map, nat_le}
 use Rattle.std.specs.Prelude.{nat_lt, sum_by, bytes_eq, Option, Some, None, ok_or, is_some, Result, Ok, Err}
 use Rattle.std.specs.Prelude.{MatchResult}

@@ -54,7 +54,8 @@ fn next_line(
     owners: &mut Owners,
 ) -> Result<NamedLine, PlacedFault>
     requires { number ≤ length (names_in owners.old) }
-    ensures walk { Walks (λ l. l) result (next_line (parts.Line customer number) (names_in owners.old) (view value.now)) }
+    ensures walk { Walks (λ l. l) result
+        (next_line (parts.Line customer number) (names_in owners.old) (view value.now)) }
     ensures owners { IfOk result (λ l. owners.new
         ≡ owners.old ++ (l.name, record { customer = customer; number = number }) ∷ []) }
 {

@@ -111,7 +111,8 @@ pub(super) fn routes_in(
     hub: Name,
     owners: &Owners,
 ) -> Result<Routes, PlacedFault>
-    ensures { Walks (λ r. r) result (routes_onto customer hub (own_line owners.now customer) [] (items_view values.now)) }
+    ensures { Walks (λ r. r) result
+        (routes_onto customer hub (own_line owners.now customer) [] (items_view values.now)) }
 {
     let mut routes = Routes::new(alloc);
     for value in values {
