@@ -26,8 +26,10 @@ part_value (parts.Route c n) document = option_and_then (element n named.Route) 
 unfoldable pub part_keys : Part → Members → Option Members
 part_keys parts.File document = Some document
 part_keys (parts.Customer c) document = element_keys c named.Customer document
-part_keys (parts.Line c n) document = option_and_then (element_keys n named.Line) (element_keys c named.Customer document)
-part_keys (parts.Route c n) document = option_and_then (element_keys n named.Route) (element_keys c named.Customer document)
+part_keys (parts.Line c n) document =
+    option_and_then (element_keys n named.Line) (element_keys c named.Customer document)
+part_keys (parts.Route c n) document =
+    option_and_then (element_keys n named.Route) (element_keys c named.Customer document)
 
 -- the value of a part's key, or the part as a value
 unfoldable pub value_at : Part → Option Key → Members → Option Data

@@ -38,9 +38,11 @@ unfoldable pub part_words : Part → Members → List ℕ
 part_words parts.File document = codes "the file"
 part_words (parts.Customer c) document = customer_words c document
 part_words (parts.Line c n) document =
-    customer_words c document +++ codes ", " +++ numbered (codes "line") n (text_at (parts.Line c n) named.Name document)
+    customer_words c document +++ codes ", "
+    +++ numbered (codes "line") n (text_at (parts.Line c n) named.Name document)
 part_words (parts.Route c n) document =
-    customer_words c document +++ codes ", " +++ numbered (codes "route") n (text_at (parts.Route c n) named.Node document)
+    customer_words c document +++ codes ", "
+    +++ numbered (codes "route") n (text_at (parts.Route c n) named.Node document)
 
 -- the key; one that is missing is told with the reason
 unfoldable pub key_words : TableFault → Option Key → List ℕ
@@ -52,7 +54,8 @@ key_words fault (Some key) = codes ", " +++ key_name key
 unfoldable pub fault_words : Members → PlacedFault → List ℕ
 fault_words document placed =
     fault_name placed.fault +++ codes ": " +++ part_words placed.part document +++ key_words placed.fault placed.key
-    +++ codes ": " +++ reason_words placed.fault document placed.part placed.key (value_at placed.part placed.key document)
+    +++ codes ": "
+    +++ reason_words placed.fault document placed.part placed.key (value_at placed.part placed.key document)
 
 -- a text that is no TOML from a line of this number on
 unfoldable pub toml_words : ℕ → List ℕ
@@ -61,4 +64,5 @@ toml_words line = codes "K1 BadToml: line " +++ decimal line +++ codes ": no TOM
 -- what is told of a fault of a text. Of a text that is no TOML no definition says in which line that shows.
 abbrev pub IsFaultText : List ℕ → PlacedFault → List ℕ → Type 0
 IsFaultText text placed told =
-    MatchOption (parse_document text) ((line : ℕ) × (told ≡ toml_words line)) (λ document. told ≡ fault_words document placed)
+    MatchOption (parse_document text) ((line : ℕ) × (told ≡ toml_words line))
+    (λ document. told ≡ fault_words document placed)

@@ -103,7 +103,8 @@ reason_words faults.BadToml document part key value = codes "no TOML"
 reason_words faults.MissingKey document part key value = missing_words key value
 reason_words faults.BadValue document part key value = bad_value_words part key value
 reason_words faults.DoubleLine document part key value = found_words value +++ codes " is an earlier line's name"
-reason_words faults.DoubleNode document part key value = found_words value +++ codes " has a route already, or is the hub's own name"
+reason_words faults.DoubleNode document part key value =
+    found_words value +++ codes " has a route already, or is the hub's own name"
 reason_words faults.UnknownLine document part key value = found_words value +++ codes " is no line of this customer"
 reason_words faults.QuotaOver document part key value = found_words value +++ over_words (quotas_in document)
 reason_words faults.TooMany document part key value = most_words part

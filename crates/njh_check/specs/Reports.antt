@@ -1,5 +1,5 @@
 -- The report of tables that are right.
-use Rattle.std.specs.Prelude.{ℕ, ◌+◌, ◌-◌, ◌==◌, List, ◌++◌, codes, cond, sum_by, slice_get, Option, Some, None, flat_map}
+use Rattle.std.specs.Prelude.{ℕ, ◌-◌, ◌==◌, List, ◌++◌, codes, cond, sum_by, slice_get, Option, Some, None, flat_map}
 use Rattle.std.specs.Fmt.{decimal}
 use Rattle.std.specs.Option.{option_map_or}
 use Rattle.std.specs.declared.net.socket_addr.SocketAddr.{SocketAddr}
@@ -57,8 +57,8 @@ route_text lines r =
 -- a customer without its lines and routes
 unfoldable pub head_text : NamedCustomer → List ℕ
 head_text c =
-    codes "customer " +++ name_text c.name +++ codes ": hub " +++ name_text c.hub +++ codes ", quota " +++ decimal c.quota
-    +++ codes " blocks, " +++ decimal c.files +++ codes " files\n"
+    codes "customer " +++ name_text c.name +++ codes ": hub " +++ name_text c.hub +++ codes ", quota "
+    +++ decimal c.quota +++ codes " blocks, " +++ decimal c.files +++ codes " files\n"
 
 unfoldable pub customer_text : NamedCustomer → List ℕ
 customer_text c = head_text c ++ flat_map line_text c.lines ++ flat_map (route_text c.lines) c.routes

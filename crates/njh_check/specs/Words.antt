@@ -16,7 +16,9 @@ unfoldable pub is_shown : List ℕ → Bool
 is_shown text = nat_le (length text) 64 && list_all (within 32 126) text
 
 unfoldable pub text_words : List ℕ → List ℕ
-text_words text = cond (is_shown text) (codes "\"" +++ text +++ codes "\"") (codes "a text that is long or has other characters than ASCII's")
+text_words text =
+    cond (is_shown text) (codes "\"" +++ text +++ codes "\"")
+    (codes "a text that is long or has other characters than ASCII's")
 
 -- a value that is neither a text nor a number
 unfoldable pub kind_words : Data → List ℕ

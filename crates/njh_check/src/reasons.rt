@@ -5,8 +5,8 @@ ghost use Rattle.toml.specs.View.{items_view, table_view, view};
 ghost use Rattle.njh_table.specs.Keys.{number};
 ghost use Rattle.njh_table.specs.Limits.{max_quota};
 ghost use Rattle.njh_check.specs.Reasons.{bad_value_words, is_name_again, is_name_value, line_words, missing_words};
-ghost use Rattle.njh_check.specs.Reasons.{most_words, name_words, over_words, quota_in, quotas_in, quotas_of, reason_words};
-ghost use Rattle.njh_check.specs.Reasons.{wanted_words};
+ghost use Rattle.njh_check.specs.Reasons.{most_words, name_words, over_words, quota_in, quotas_in, quotas_of};
+ghost use Rattle.njh_check.specs.Reasons.{reason_words, wanted_words};
 ghost use Rattle.njh_check.specs.Words.{found_words};
 
 use crate::elements::find;

@@ -1,6 +1,6 @@
 //! The report of tables that are right.
 
-ghost use Rattle.std.specs.Prelude.{◌≡◌, ◌≤◌, ◌-◌, ◌++◌, flat_map, length, IfOk, OnOk, option_map, string_bytes, sum_by};
+ghost use Rattle.std.specs.Prelude.{◌≡◌, ◌≤◌, ◌-◌, ◌++◌, flat_map, length, IfOk, OnOk, string_bytes, sum_by};
 ghost use Rattle.njh_table.specs.Limits.{max_customers};
 ghost use Rattle.njh_table.specs.TableFile.{route_entry};
 ghost use Rattle.njh_check.specs.Reports.{capacity_text, customer_text, head_text, line_name, line_text, name_words};
