@@ -5,5 +5,7 @@ pub mod Statements
 pub mod LineStates
 pub mod Encoded
 pub mod Lines
+pub mod Posted
+pub mod Packing
 pub mod Scripts
 pub mod code

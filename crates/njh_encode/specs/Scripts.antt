@@ -3,18 +3,74 @@ use Rattle.std.specs.Prelude.{ℕ, ◌+◌, List, [], ◌∷◌, ◌++◌, Optio
 use Rattle.std.specs.Str.{is_utf8}
 use Rattle.njh_encode.specs.declared.fault.EncodeFault.{EncodeFault}
 use Rattle.njh_encode.specs.declared.fault.Reason.{Reason}
-use Rattle.njh_encode.specs.declared.fault.Reason.TheVariants.{LongLine, NoText}
+use Rattle.njh_encode.specs.declared.fault.Reason.TheVariants.{LongFile, LongLine, Memory, NoFile, NoLine, NoSuchFile}
+use Rattle.njh_encode.specs.declared.fault.Reason.TheVariants.{NoText, UnreadFile}
+use Rattle.njh_encode.specs.declared.letters.LetterFault.{LetterFault}
+use Rattle.njh_encode.specs.declared.letters.LetterFault.TheVariants as letter
+use Rattle.njh_encode.specs.declared.posting.Posting.{Posting}
 use Rattle.njh_encode.specs.declared.line_states.LineState.{LineState}
 use Rattle.njh_encode.specs.Encoded.{Outcome, line_outcome}
+use Rattle.njh_encode.specs.LineStates.{state_of, with_state}
 use Rattle.njh_encode.specs.Lines.{is_long_line, lines_of}
+use Rattle.njh_encode.specs.Packing.{blocks_script, counted_by, file_blocks, records_of}
+use Rattle.njh_encode.specs.Posted.{is_of_file, letter_in, posting_in}
+use Rattle.njh_encode.specs.Words.{back, behind, front, line_in}
+
+-- ---- files
+
+-- what each name of a text gives
+abbrev pub Texts : Type 0
+Texts = List ℕ → Result (List ℕ) LetterFault
+
+abbrev pub reason_of : LetterFault → Reason
+reason_of letter.NoFile = NoSuchFile
+reason_of letter.TooLong = LongFile
+reason_of letter.Device = UnreadFile
+reason_of letter.Memory = Memory
+
+-- what a file becomes on a line of the hub: the script with its blocks, and the count behind them
+abbrev pub posted : List LineState → List ℕ → List ℕ → Posting → Result (List (List ℕ)) Reason → Result Outcome Reason
+posted states field name p (Err reason) = Err reason
+posted states field name p (Ok records) = Ok (record {
+  saying = None;
+  script = blocks_script name (file_blocks (state_of field states) p records);
+  states = with_state (counted_by (file_blocks (state_of field states) p records) (state_of field states)) states;
+})
+
+abbrev pub posted_of : List LineState → List ℕ → List ℕ → Posting → Result (List ℕ) LetterFault → Result Outcome Reason
+posted_of states field name p (Ok letter) = posted states field name p (records_of (lines_of letter))
+posted_of states field name p (Err fault) = Err (reason_of fault)
+
+-- by its words: what stands before the comma, and the text behind it
+abbrev pub posted_by : Texts → List LineState → List ℕ → List ℕ → Option Posting → Option (List ℕ) → Result Outcome Reason
+posted_by texts states field name None letter = Err NoFile
+posted_by texts states field name (Some p) None = Err NoFile
+posted_by texts states field name (Some p) (Some letter) = posted_of states field name p (texts letter)
+
+abbrev pub posted_on : Texts → List LineState → Option (List ℕ) → List ℕ → List ℕ → Result Outcome Reason
+posted_on texts states None name file = Err NoLine
+posted_on texts states (Some field) name file = posted_by texts states field name (posting_in file) (letter_in file)
+
+-- what a line that says a file becomes
+unfoldable pub file_taken : Texts → List LineState → List ℕ → Result Outcome Reason
+file_taken texts states line =
+    posted_on texts states (line_in (front 58 line)) (front 58 line) (behind (behind (back 58 line)))
+
+-- ---- lines
+
+-- what a line of words becomes
+unfoldable pub words_taken : Texts → List LineState → List ℕ → Result Outcome Reason
+words_taken texts states line = cond (is_of_file line) (file_taken texts states line) (line_outcome states line)
 
 -- what the bytes of a line become, which have to be a text in UTF-8
-unfoldable pub bytes_taken : List LineState → List ℕ → Result Outcome Reason
-bytes_taken states line = cond (is_utf8 line) (line_outcome states line) (Err NoText)
+unfoldable pub bytes_taken : Texts → List LineState → List ℕ → Result Outcome Reason
+bytes_taken texts states line = cond (is_utf8 line) (words_taken texts states line) (Err NoText)
 
 -- what a line of a text becomes, or why it is bad: it may have too many bytes
-unfoldable pub outcome_in_text : List LineState → List ℕ → Result Outcome Reason
-outcome_in_text states line = cond (is_long_line line) (Err LongLine) (bytes_taken states line)
+unfoldable pub outcome_in_text : Texts → List LineState → List ℕ → Result Outcome Reason
+outcome_in_text texts states line = cond (is_long_line line) (Err LongLine) (bytes_taken texts states line)
+
+-- ---- texts
 
 -- the lines of a script that lines of words become, and the first bad line, where there is one: up to it alone
 pub record Encoding : Type 0 where
@@ -33,11 +89,11 @@ then_lines number (Ok outcome) behind = behind_script outcome.script (behind out
 then_lines number (Err reason) behind = bad_line number reason
 
 -- of lines that are counted from a number on
-abbrev pub encoding_of_lines : List LineState → ℕ → List (List ℕ) → Encoding
-encoding_of_lines states number [] = record { script = []; bad = None }
-encoding_of_lines states number (line ∷ lines) =
-    then_lines number (outcome_in_text states line) (λ after. encoding_of_lines after (number + 1) lines)
+abbrev pub encoding_of_lines : Texts → List LineState → ℕ → List (List ℕ) → Encoding
+encoding_of_lines texts states number [] = record { script = []; bad = None }
+encoding_of_lines texts states number (line ∷ lines) =
+    then_lines number (outcome_in_text texts states line) (λ after. encoding_of_lines texts after (number + 1) lines)
 
 -- of a text
-abbrev pub encoding_of : List ℕ → Encoding
-encoding_of text = encoding_of_lines [] 1 (lines_of text)
+abbrev pub encoding_of : Texts → List ℕ → Encoding
+encoding_of texts text = encoding_of_lines texts [] 1 (lines_of text)

@@ -2,6 +2,8 @@
 
 use crate::fault::Reason;
 use crate::line_states::{LineState, keep, state_of};
+use crate::posted::put_file;
+use crate::posting::Posting;
 use crate::putting::{put_digits, put_line, put_script_line};
 use crate::sentences::put_statement;
 use crate::statements::statement_of;
@@ -28,6 +30,9 @@ impl Model for Encoder {
 impl Encoder {
     ghost use Rattle.std.specs.Prelude.{◌≡◌, []};
     ghost use Rattle.njh_encode.specs.Encoded.{IsAppended, line_outcome};
+    ghost use Rattle.njh_encode.specs.Lines.{lines_of};
+    ghost use Rattle.njh_encode.specs.Packing.{records_of};
+    ghost use Rattle.njh_encode.specs.Scripts.{posted};
 
     /// One before the first line of a script.
     pub fn new(alloc: Global) -> Self
@@ -47,6 +52,27 @@ impl Encoder {
             script.new.items }
     {
         put_any_line(line, &mut self.states, script)
+    }
+
+    /// Appends the lines of a file on a line of the hub with this name, and keeps its count. The file has the lines of
+    /// a text.
+    pub(crate) fn take_file(
+        &mut self,
+        field: [u8; LINE_NAME],
+        name: &str,
+        posting: &Posting,
+        text: &[u8],
+        script: &mut Vec<u8>,
+    ) -> Result<(), Reason>
+        ensures { IsAppended result (posted self.old field name.now posting.now (records_of (lines_of text.now)))
+            self.old self.new script.old.items script.new.items }
+    {
+        let state = state_of(field, &self.states);
+        let mut lines = Vec::new(*script.allocator());
+        let after = put_file(&mut lines, state, name, posting, text)?;
+        keep(after, &mut self.states)?;
+        script.extend_from_slice(&lines)?;
+        Ok(())
     }
 }
 

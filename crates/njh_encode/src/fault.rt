@@ -25,6 +25,18 @@ pub enum Reason {
     /// A command is not `from NODE USER to NODE: TEXT`.
     #[error("no command")]
     NoCommand,
+    /// A file is not `LYON.42 of USER to USER@NODE, lines from FILE`.
+    #[error("no file")]
+    NoFile,
+    /// There is no text of that name.
+    #[error("no such file")]
+    NoSuchFile,
+    /// The text of a file has more bytes than its reader takes.
+    #[error("too long a file")]
+    LongFile,
+    /// The text of a file can't be read.
+    #[error("a file that can't be read")]
+    UnreadFile,
     /// A character of a text has no byte in code page 37.
     #[error("a character that EBCDIC lacks")]
     NoCharacter,

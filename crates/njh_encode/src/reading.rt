@@ -2,13 +2,18 @@
 
 ghost use Rattle.std.specs.Prelude.{◌≡◌, ◌≢◌, ℕ, ◌≤◌, ◌<◌, ◌+◌, ◌∷◌, ◌++◌, [], List, length, false, All, ◌==◌};
 ghost use Rattle.std.specs.Prelude.{OnOk, Err, Some, None};
+ghost use Rattle.njh_encode.specs.Scripts.{Texts, file_taken, words_taken};
 ghost use Rattle.njh_encode.specs.Encoded.{IsAppended};
 ghost use Rattle.njh_encode.specs.Scripts.{behind_script, bytes_taken, encoding_of_lines, outcome_in_text};
 ghost use Rattle.njh_encode.specs.code.Reading.{EndsBad, Takes, encoding_behind};
 
 use crate::encoder::Encoder;
 use crate::fault::{EncodeEnd, EncodeFault, Reason};
+use crate::letters::Letters;
 use crate::parts::parted_at_end;
+use crate::posting::{is_of_file, letter_of, posting_of};
+use crate::statements::behind_two;
+use crate::words::{line_of, parted};
 use std::alloc::Global;
 use std::marker::Model;
 use std::str;
@@ -49,19 +54,26 @@ impl Reading {
     }
 
     /// Takes a piece, and appends what each line becomes that ends in it, up to a bad one.
-    pub(crate) fn take(&mut self, piece: &[u8], script: &mut Vec<u8>) -> Result<(), EncodeEnd>
-        ensures taken { OnOk result ((lines : List ℕ) × (script.new.items ≡ script.old.items ++ lines)
-            × Takes self.old piece.now lines self.new) }
-        ensures bad { (fault : EncodeFault) → result ≡ Err (EncodeEnd.BadLine fault)
+    pub(crate) fn take<L: Letters>(
+        &mut self,
+        piece: &[u8],
+        letters: &L,
+        script: &mut Vec<u8>,
+    ) -> Result<(), EncodeEnd>
+        ensures taken { OnOk result ((texts : Texts) → L.texts letters.now ≡ Some texts
             → (lines : List ℕ) × (script.new.items ≡ script.old.items ++ lines)
-            × EndsBad self.old piece.now (record { script = lines; bad = Some fault }) }
+            × Takes texts self.old piece.now lines self.new) }
+        ensures bad { (texts : Texts) → L.texts letters.now ≡ Some texts
+            → (fault : EncodeFault) → result ≡ Err (EncodeEnd.BadLine fault)
+            → (lines : List ℕ) × (script.new.items ≡ script.old.items ++ lines)
+            × EndsBad texts self.old piece.now (record { script = lines; bad = Some fault }) }
     {
         let mut left = piece;
         'lines: loop {
             match parted_at_end(left) {
                 None => return self.keep(left),
                 Some((end, behind)) => {
-                    self.end_line(end, script)?;
+                    self.end_line(end, letters, script)?;
                     left = behind;
                 }
             }
@@ -69,32 +81,45 @@ impl Reading {
     }
 
     /// Appends what the last line becomes, where it has no end of its own.
-    pub(crate) fn end(&mut self, script: &mut Vec<u8>) -> Result<(), EncodeEnd>
-        ensures taken { OnOk result ((script.new.items ≡ script.old.items ++ (encoding_behind self.old []).script)
-            × ((encoding_behind self.old []).bad ≡ None)) }
-        ensures bad { (fault : EncodeFault) → result ≡ Err (EncodeEnd.BadLine fault)
+    pub(crate) fn end<L: Letters>(
+        &mut self,
+        letters: &L,
+        script: &mut Vec<u8>,
+    ) -> Result<(), EncodeEnd>
+        ensures taken { OnOk result ((texts : Texts) → L.texts letters.now ≡ Some texts
+            → (script.new.items ≡ script.old.items ++ (encoding_behind texts self.old []).script)
+            × ((encoding_behind texts self.old []).bad ≡ None)) }
+        ensures bad { (texts : Texts) → L.texts letters.now ≡ Some texts
+            → (fault : EncodeFault) → result ≡ Err (EncodeEnd.BadLine fault)
             → (script.new.items ≡ script.old.items)
-            × (encoding_behind self.old [] ≡ record { script = []; bad = Some fault }) }
+            × (encoding_behind texts self.old [] ≡ record { script = []; bad = Some fault }) }
     {
         if self.front.is_empty() {
             Ok(())
         } else {
-            self.take_front(script)
+            self.take_front(letters, script)
         }
     }
 
     /// Takes the end of a line, and appends what the line becomes.
-    fn end_line(&mut self, end: &[u8], script: &mut Vec<u8>) -> Result<(), EncodeEnd>
+    fn end_line<L: Letters>(
+        &mut self,
+        end: &[u8],
+        letters: &L,
+        script: &mut Vec<u8>,
+    ) -> Result<(), EncodeEnd>
         requires { All (λ b. (b == 10) ≡ false) end.now }
-        ensures taken { OnOk result ((lines : List ℕ) × (script.new.items ≡ script.old.items ++ lines)
-            × Takes self.old (end.now ++ 10 ∷ []) lines self.new) }
-        ensures bad { (fault : EncodeFault) → result ≡ Err (EncodeEnd.BadLine fault)
+        ensures taken { OnOk result ((texts : Texts) → L.texts letters.now ≡ Some texts
+            → (lines : List ℕ) × (script.new.items ≡ script.old.items ++ lines)
+            × Takes texts self.old (end.now ++ 10 ∷ []) lines self.new) }
+        ensures bad { (texts : Texts) → L.texts letters.now ≡ Some texts
+            → (fault : EncodeFault) → result ≡ Err (EncodeEnd.BadLine fault)
             → (script.new.items ≡ script.old.items)
-            × ((more : List ℕ) → encoding_behind self.old (end.now ++ 10 ∷ more)
+            × ((more : List ℕ) → encoding_behind texts self.old (end.now ++ 10 ∷ more)
             ≡ record { script = []; bad = Some fault }) }
     {
         self.keep(end)?;
-        self.take_front(script)
+        self.take_front(letters, script)
     }
 
     /// Keeps a part of a line.
@@ -112,17 +137,19 @@ impl Reading {
     }
 
     /// Takes the line that has come, appends what it becomes, and counts it.
-    fn take_front(&mut self, script: &mut Vec<u8>) -> Result<(), EncodeEnd>
-        ensures taken { OnOk result ((lines : List ℕ) × (script.new.items ≡ script.old.items ++ lines)
-            × ((rest : List (List ℕ)) → encoding_of_lines self.old.states self.old.number (self.old.front ∷ rest)
-            ≡ behind_script lines (encoding_of_lines self.new.states self.new.number rest))) }
+    fn take_front<L: Letters>(&mut self, letters: &L, script: &mut Vec<u8>) -> Result<(), EncodeEnd>
+        ensures taken { OnOk result ((texts : Texts) → L.texts letters.now ≡ Some texts
+            → (lines : List ℕ) × (script.new.items ≡ script.old.items ++ lines)
+            × ((rest : List (List ℕ)) → encoding_of_lines texts self.old.states self.old.number (self.old.front ∷ rest)
+            ≡ behind_script lines (encoding_of_lines texts self.new.states self.new.number rest))) }
         ensures cleared { OnOk result (self.new.front ≡ []) }
-        ensures bad { (fault : EncodeFault) → result ≡ Err (EncodeEnd.BadLine fault)
+        ensures bad { (texts : Texts) → L.texts letters.now ≡ Some texts
+            → (fault : EncodeFault) → result ≡ Err (EncodeEnd.BadLine fault)
             → (script.new.items ≡ script.old.items)
-            × ((rest : List (List ℕ)) → encoding_of_lines self.old.states self.old.number (self.old.front ∷ rest)
+            × ((rest : List (List ℕ)) → encoding_of_lines texts self.old.states self.old.number (self.old.front ∷ rest)
             ≡ record { script = []; bad = Some fault }) }
     {
-        match take_short(&mut self.encoder, &self.front, script) {
+        match take_short(&mut self.encoder, &self.front, letters, script) {
             Ok(()) => {}
             Err(reason) => return Err(end_at(self.number, reason)),
         }
@@ -136,22 +163,82 @@ impl Reading {
 }
 
 /// Appends what a line becomes that isn't too long.
-fn take_short(encoder: &mut Encoder, line: &[u8], script: &mut Vec<u8>) -> Result<(), Reason>
+fn take_short<L: Letters>(
+    encoder: &mut Encoder,
+    line: &[u8],
+    letters: &L,
+    script: &mut Vec<u8>,
+) -> Result<(), Reason>
     requires { length line.now ≤ 1048576 }
-    ensures { IsAppended result (outcome_in_text encoder.old line.now) encoder.old encoder.new script.old.items
+    ensures { (texts : Texts) → L.texts letters.now ≡ Some texts
+        → IsAppended result (outcome_in_text texts encoder.old line.now) encoder.old encoder.new script.old.items
         script.new.items }
 {
-    take_bytes(encoder, line, script)
+    take_bytes(encoder, line, letters, script)
 }
 
 /// Appends what the bytes of a line become.
-fn take_bytes(encoder: &mut Encoder, line: &[u8], script: &mut Vec<u8>) -> Result<(), Reason>
-    ensures { IsAppended result (bytes_taken encoder.old line.now) encoder.old encoder.new script.old.items
+fn take_bytes<L: Letters>(
+    encoder: &mut Encoder,
+    line: &[u8],
+    letters: &L,
+    script: &mut Vec<u8>,
+) -> Result<(), Reason>
+    ensures { (texts : Texts) → L.texts letters.now ≡ Some texts
+        → IsAppended result (bytes_taken texts encoder.old line.now) encoder.old encoder.new script.old.items
         script.new.items }
 {
     match str::from_utf8(line) {
-        Ok(words) => encoder.take_line(words, script),
+        Ok(words) => take_words(encoder, words, letters, script),
         Err(_) => Err(Reason::NoText),
+    }
+}
+
+/// Appends what a line of words becomes.
+#[tactic(auto, unfolding(crate::specs::Scripts::words_taken))]
+fn take_words<L: Letters>(
+    encoder: &mut Encoder,
+    line: &str,
+    letters: &L,
+    script: &mut Vec<u8>,
+) -> Result<(), Reason>
+    ensures { (texts : Texts) → L.texts letters.now ≡ Some texts
+        → IsAppended result (words_taken texts encoder.old line.now) encoder.old encoder.new script.old.items
+        script.new.items }
+{
+    if is_of_file(line) {
+        take_file(encoder, line, letters, script)
+    } else {
+        encoder.take_line(line, script)
+    }
+}
+
+/// Appends what a line that says a file becomes.
+#[tactic(auto, unfolding(crate::specs::Scripts::file_taken))]
+fn take_file<L: Letters>(
+    encoder: &mut Encoder,
+    line: &str,
+    letters: &L,
+    script: &mut Vec<u8>,
+) -> Result<(), Reason>
+    ensures { (texts : Texts) → L.texts letters.now ≡ Some texts
+        → IsAppended result (file_taken texts encoder.old line.now) encoder.old encoder.new script.old.items
+        script.new.items }
+{
+    let (name, rest) = parted(line, ':');
+    let file = behind_two(rest);
+    let Some(field) = line_of(name) else {
+        return Err(Reason::NoLine);
+    };
+    let Some(posting) = posting_of(file) else {
+        return Err(Reason::NoFile);
+    };
+    let Some(letter) = letter_of(file) else {
+        return Err(Reason::NoFile);
+    };
+    match letters.read(*script.allocator(), letter) {
+        Ok(text) => encoder.take_file(field, name, &posting, &text, script),
+        Err(fault) => Err(fault.reason()),
     }
 }
 

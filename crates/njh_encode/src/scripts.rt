@@ -4,10 +4,11 @@ ghost use Rattle.std.specs.Prelude.{◌≡◌, ◌<◌, ◌≤◌, ℕ, [], ◌+
 ghost use Rattle.std.specs.Prelude.{Err, Some, None, MatchOption};
 ghost use Rattle.std.specs.Io.KnownBytes.{Appends, Consumes, IsAtEnd};
 ghost use Rattle.njh_io.specs.Written.{AppendsBeginning};
-ghost use Rattle.njh_encode.specs.Scripts.{encoding_of};
+ghost use Rattle.njh_encode.specs.Scripts.{Texts, encoding_of};
 ghost use Rattle.njh_encode.specs.code.Reading.{EndsBad, Takes, encoding_behind};
 
 use crate::fault::{EncodeEnd, EncodeFault};
+use crate::letters::Letters;
 use crate::reading::Reading;
 use njh_io::write_bytes;
 use std::alloc::Global;
@@ -21,53 +22,61 @@ const PIECE: usize = 65_536;
 ///
 /// A line has 1,048,576 bytes at most. A read or a write that was only interrupted is tried again. A text of more lines
 /// than a number of 64 bits can count is a `Device`.
-pub fn encode_script<R: Read, W: Write>(
+pub fn encode_script<R: Read, L: Letters, W: Write>(
     alloc: Global,
     input: &mut R,
+    letters: &L,
     out: &mut W,
 ) -> Result<(), EncodeEnd>
     // No line of all that the reader had is bad, and what they become is written.
-    ensures done { OnOk result (IfSome (R.remaining input.old) (λ text. ((encoding_of text).bad ≡ None)
-        × Appends (W.contents out.old) (W.contents out.new) (encoding_of text).script)) }
+    ensures done { OnOk result ((texts : Texts) → L.texts letters.now ≡ Some texts
+        → IfSome (R.remaining input.old) (λ text. ((encoding_of texts text).bad ≡ None)
+        × Appends (W.contents out.old) (W.contents out.new) (encoding_of texts text).script)) }
 
     // This is the first bad line, and what those before it become is written.
-    ensures bad { (fault : EncodeFault) → result ≡ Err (EncodeEnd.BadLine fault)
-        → IfSome (R.remaining input.old) (λ text. ((encoding_of text).bad ≡ Some fault)
-        × Appends (W.contents out.old) (W.contents out.new) (encoding_of text).script) }
+    ensures bad { (texts : Texts) → L.texts letters.now ≡ Some texts
+        → (fault : EncodeFault) → result ≡ Err (EncodeEnd.BadLine fault)
+        → IfSome (R.remaining input.old) (λ text. ((encoding_of texts text).bad ≡ Some fault)
+        × Appends (W.contents out.old) (W.contents out.new) (encoding_of texts text).script) }
 
     // However it ends early, a beginning of the same script is written.
-    ensures begun { OnErr result (IfSome (R.remaining input.old)
-        (λ text. AppendsBeginning (W.contents out.old) (W.contents out.new) (encoding_of text).script)) }
+    ensures begun { OnErr result ((texts : Texts) → L.texts letters.now ≡ Some texts
+        → IfSome (R.remaining input.old)
+        (λ text. AppendsBeginning (W.contents out.old) (W.contents out.new) (encoding_of texts text).script)) }
 {
     let mut reading = Reading::new(alloc);
     let mut script = Vec::new(alloc);
-    encode_all(&mut reading, &mut script, input, out)
+    encode_all(&mut reading, &mut script, input, letters, out)
 }
 
 /// Writes what all becomes that a reader has, of which nothing was read. `script` is room for that.
-fn encode_all<R: Read, W: Write>(
+fn encode_all<R: Read, L: Letters, W: Write>(
     reading: &mut Reading,
     script: &mut Vec<u8>,
     input: &mut R,
+    letters: &L,
     out: &mut W,
 ) -> Result<(), EncodeEnd>
     requires none { reading.old ≡ record { states = []; number = 1; front = [] } }
     requires empty { script.old.items ≡ [] }
-    ensures done { OnOk result (IfSome (R.remaining input.old) (λ text. ((encoding_of text).bad ≡ None)
-        × Appends (W.contents out.old) (W.contents out.new) (encoding_of text).script)) }
-    ensures bad { (fault : EncodeFault) → result ≡ Err (EncodeEnd.BadLine fault)
-        → IfSome (R.remaining input.old) (λ text. ((encoding_of text).bad ≡ Some fault)
-        × Appends (W.contents out.old) (W.contents out.new) (encoding_of text).script) }
-    ensures begun { OnErr result (IfSome (R.remaining input.old)
-        (λ text. AppendsBeginning (W.contents out.old) (W.contents out.new) (encoding_of text).script)) }
+    ensures done { OnOk result ((texts : Texts) → L.texts letters.now ≡ Some texts
+        → IfSome (R.remaining input.old) (λ text. ((encoding_of texts text).bad ≡ None)
+        × Appends (W.contents out.old) (W.contents out.new) (encoding_of texts text).script)) }
+    ensures bad { (texts : Texts) → L.texts letters.now ≡ Some texts
+        → (fault : EncodeFault) → result ≡ Err (EncodeEnd.BadLine fault)
+        → IfSome (R.remaining input.old) (λ text. ((encoding_of texts text).bad ≡ Some fault)
+        × Appends (W.contents out.old) (W.contents out.new) (encoding_of texts text).script) }
+    ensures begun { OnErr result ((texts : Texts) → L.texts letters.now ≡ Some texts
+        → IfSome (R.remaining input.old)
+        (λ text. AppendsBeginning (W.contents out.old) (W.contents out.new) (encoding_of texts text).script)) }
 {
     let mut piece = [0; PIECE];
     for _ in 0..u64::MAX {
         match read_piece(input, &mut piece)? {
-            None => return encode_end(reading, script, out),
+            None => return encode_end(reading, letters, script, out),
             Some(count) => {
                 let (front, _) = piece.split_at(count);
-                encode_piece(reading, front, script, out)?;
+                encode_piece(reading, front, letters, script, out)?;
             }
         }
     }
@@ -94,23 +103,27 @@ fn read_piece<R: Read>(input: &mut R, piece: &mut [u8]) -> Result<Option<usize>,
 }
 
 /// Takes a piece, and writes what each line becomes that ends in it, up to a bad one. `script` is room for that.
-fn encode_piece<W: Write>(
+fn encode_piece<L: Letters, W: Write>(
     reading: &mut Reading,
     piece: &[u8],
+    letters: &L,
     script: &mut Vec<u8>,
     out: &mut W,
 ) -> Result<(), EncodeEnd>
     requires { script.old.items ≡ [] }
-    ensures taken { OnOk result ((lines : List ℕ) × Appends (W.contents out.old) (W.contents out.new) lines
-        × Takes reading.old piece.now lines reading.new) }
-    ensures empty { OnOk result (script.new.items ≡ []) }
-    ensures bad { (fault : EncodeFault) → result ≡ Err (EncodeEnd.BadLine fault)
+    ensures taken { OnOk result ((texts : Texts) → L.texts letters.now ≡ Some texts
         → (lines : List ℕ) × Appends (W.contents out.old) (W.contents out.new) lines
-        × EndsBad reading.old piece.now (record { script = lines; bad = Some fault }) }
-    ensures begun { OnErr result ((more : List ℕ) → AppendsBeginning (W.contents out.old) (W.contents out.new)
-        (encoding_behind reading.old (piece.now ++ more)).script) }
+        × Takes texts reading.old piece.now lines reading.new) }
+    ensures empty { OnOk result (script.new.items ≡ []) }
+    ensures bad { (texts : Texts) → L.texts letters.now ≡ Some texts
+        → (fault : EncodeFault) → result ≡ Err (EncodeEnd.BadLine fault)
+        → (lines : List ℕ) × Appends (W.contents out.old) (W.contents out.new) lines
+        × EndsBad texts reading.old piece.now (record { script = lines; bad = Some fault }) }
+    ensures begun { OnErr result ((texts : Texts) → L.texts letters.now ≡ Some texts
+        → (more : List ℕ) → AppendsBeginning (W.contents out.old) (W.contents out.new)
+        (encoding_behind texts reading.old (piece.now ++ more)).script) }
 {
-    match reading.take(piece, script) {
+    match reading.take(piece, letters, script) {
         Ok(()) => {
             write_bytes(out, script)?;
             script.clear();
@@ -126,21 +139,25 @@ fn encode_piece<W: Write>(
 }
 
 /// Writes what the last line becomes, where it has no end of its own.
-fn encode_end<W: Write>(
+fn encode_end<L: Letters, W: Write>(
     reading: &mut Reading,
+    letters: &L,
     script: &mut Vec<u8>,
     out: &mut W,
 ) -> Result<(), EncodeEnd>
     requires { script.old.items ≡ [] }
-    ensures done { OnOk result (((encoding_behind reading.old []).bad ≡ None)
-        × Appends (W.contents out.old) (W.contents out.new) (encoding_behind reading.old []).script) }
-    ensures bad { (fault : EncodeFault) → result ≡ Err (EncodeEnd.BadLine fault)
-        → ((encoding_behind reading.old []).bad ≡ Some fault)
-        × Appends (W.contents out.old) (W.contents out.new) (encoding_behind reading.old []).script }
-    ensures begun { OnErr result (AppendsBeginning (W.contents out.old) (W.contents out.new)
-        (encoding_behind reading.old []).script) }
+    ensures done { OnOk result ((texts : Texts) → L.texts letters.now ≡ Some texts
+        → ((encoding_behind texts reading.old []).bad ≡ None)
+        × Appends (W.contents out.old) (W.contents out.new) (encoding_behind texts reading.old []).script) }
+    ensures bad { (texts : Texts) → L.texts letters.now ≡ Some texts
+        → (fault : EncodeFault) → result ≡ Err (EncodeEnd.BadLine fault)
+        → ((encoding_behind texts reading.old []).bad ≡ Some fault)
+        × Appends (W.contents out.old) (W.contents out.new) (encoding_behind texts reading.old []).script }
+    ensures begun { OnErr result ((texts : Texts) → L.texts letters.now ≡ Some texts
+        → AppendsBeginning (W.contents out.old) (W.contents out.new)
+        (encoding_behind texts reading.old []).script) }
 {
-    match reading.end(script) {
+    match reading.end(letters, script) {
         Ok(()) => write_last(out, script),
         Err(EncodeEnd::BadLine(fault)) => {
             write_last(out, script)?;

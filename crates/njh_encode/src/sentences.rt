@@ -74,7 +74,7 @@ pub(crate) fn put_statement(
 }
 
 /// Appends the line of a request or an answer to one.
-fn put_request(
+pub(crate) fn put_request(
     script: &mut Vec<u8>,
     state: LineState,
     name: &str,

@@ -293,7 +293,7 @@ fn command_to(origin: Name, user: Name, text: &str) -> Option<Ends>
 
 /// The name behind a word of its own.
 #[tactic(auto, unfolding(crate::specs::Words::named))]
-fn named(label: &str, text: &str) -> Option<Name>
+pub(crate) fn named(label: &str, text: &str) -> Option<Name>
     ensures { result ≡ named label.now text.now }
 {
     let (word, rest) = next_word(text);
@@ -305,7 +305,7 @@ fn named(label: &str, text: &str) -> Option<Name>
 }
 
 /// What stands behind two words.
-fn behind_two(text: &str) -> &str
+pub(crate) fn behind_two(text: &str) -> &str
     ensures { result.now ≡ behind (behind text.now) }
 {
     let (_, rest) = next_word(text);

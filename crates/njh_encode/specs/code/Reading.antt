@@ -2,7 +2,7 @@
 use Rattle.std.specs.Prelude.{◌≡◌, ℕ, List, ◌++◌}
 use Rattle.njh_encode.specs.declared.line_states.LineState.{LineState}
 use Rattle.njh_encode.specs.Lines.{lines_from}
-use Rattle.njh_encode.specs.Scripts.{Encoding, behind_script, encoding_of_lines}
+use Rattle.njh_encode.specs.Scripts.{Encoding, Texts, behind_script, encoding_of_lines}
 
 -- what is kept from piece to piece: what is kept of each line of the hub, the number of the next line, and what has
 -- come of it
@@ -12,14 +12,14 @@ pub record Progress : Type 0 where
   pub front : List ℕ
 
 -- what is still encoded behind a progress of a text
-abbrev pub encoding_behind : Progress → List ℕ → Encoding
-encoding_behind at text = encoding_of_lines at.states at.number (lines_from at.front text)
+abbrev pub encoding_behind : Texts → Progress → List ℕ → Encoding
+encoding_behind texts at text = encoding_of_lines texts at.states at.number (lines_from at.front text)
 
 -- A piece becomes this script, whatever follows it.
-abbrev pub Takes : Progress → List ℕ → List ℕ → Progress → Type 0
-Takes old piece script new =
-    (more : List ℕ) → encoding_behind old (piece ++ more) ≡ behind_script script (encoding_behind new more)
+abbrev pub Takes : Texts → Progress → List ℕ → List ℕ → Progress → Type 0
+Takes texts old piece script new =
+    (more : List ℕ) → encoding_behind texts old (piece ++ more) ≡ behind_script script (encoding_behind texts new more)
 
 -- A piece becomes this script up to a bad line, whatever follows it.
-abbrev pub EndsBad : Progress → List ℕ → Encoding → Type 0
-EndsBad old piece encoding = (more : List ℕ) → encoding_behind old (piece ++ more) ≡ encoding
+abbrev pub EndsBad : Texts → Progress → List ℕ → Encoding → Type 0
+EndsBad texts old piece encoding = (more : List ℕ) → encoding_behind texts old (piece ++ more) ≡ encoding

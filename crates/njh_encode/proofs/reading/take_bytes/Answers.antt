@@ -5,13 +5,13 @@ use Rattle.njh_encode.proofs.LineLaws.{no_text_taken, text_taken}
 use Rattle.njh_encode.proofs.reading.take_bytes.Goals as goal
 
 pub returns-in-Ok : goal.returns-in-Ok
-returns-in-Ok c =
+returns-in-Ok g c = λ texts known.
     subst
-    (λ (o : Result Outcome Reason). IsAppended c.take_line.result o c.args.encoder.now c.take_line.new.self
-    c.args.script.now.items c.take_line.new.script.items)
-    (sym (text_taken c.args.encoder.now c.args.line.now c.in-Ok.words.now c.in-Ok.ensures.cases.0 c.in-Ok.ensures.cases.1))
-    c.take_line.ensures
+    (λ (o : Result Outcome Reason). IsAppended c.take_words.result o c.args.encoder.now c.take_words.new.encoder
+    c.args.script.now.items c.take_words.new.script.items)
+    (sym (text_taken texts c.args.encoder.now c.args.line.now c.in-Ok.words.now c.in-Ok.ensures.cases.0 c.in-Ok.ensures.cases.1))
+    (c.take_words.ensures texts known)
 
 pub returns-in-Err : goal.returns-in-Err
-returns-in-Err c = λ other.
-    (no_text_taken c.args.encoder.now c.args.line.now (λ text. c.in-Err.ensures.cases.0 text), refl, refl)
+returns-in-Err g c = λ texts known other.
+    (no_text_taken texts c.args.encoder.now c.args.line.now (λ text. c.in-Err.ensures.cases.0 text), refl, refl)
