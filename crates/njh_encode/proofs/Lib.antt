@@ -1,6 +1,7 @@
 pub mod FrameLaws
 mod EncodedSoFar
 mod LineLaws
+mod OrderLaws
 mod PackingLaws
 mod PartLaws
 mod PostedLaws

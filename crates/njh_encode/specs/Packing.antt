@@ -9,7 +9,7 @@ use Rattle.njh_encode.specs.declared.fault.Reason.{Reason}
 use Rattle.njh_encode.specs.declared.fault.Reason.TheVariants.{NoText}
 use Rattle.njh_encode.specs.declared.line_states.LineState.{LineState}
 use Rattle.njh_encode.specs.declared.posting.Posting.{Posting}
-use Rattle.njh_encode.specs.Encoded.{ReadsBlock, bytes_line, bytes_of_frame, frame_of_block, next_block}
+use Rattle.njh_encode.specs.Encoded.{bytes_line, bytes_of_frame, frame_of_block, next_block}
 use Rattle.njh_encode.specs.Characters.{bytes_of_text}
 use Rattle.njh_encode.specs.LineStates.{counted}
 
@@ -98,11 +98,6 @@ abbrev pub file_blocks : LineState → Posting → List (List ℕ) → List Bloc
 file_blocks state p lines =
     next_block state (Control 0x90 0x99) ∷ packed (counted state) [] (file_items p lines)
 
--- ---- what they read as
-
--- Each block reads as itself, no text is too long for the line, and the records behind the request are those of the
--- file, in order.
-pub record ReadsFile (state : LineState) (p : Posting) (lines : List (List ℕ)) : Type 0 where
-  pub each : All ReadsBlock (file_blocks state p lines)
-  pub within : All (λ b. length (text_of b.bcb b.fcs b.items) ≤ text_limit state.size) (packed (counted state) [] (file_items p lines))
-  pub order : flat_map (λ b. b.items) (packed (counted state) [] (file_items p lines)) ≡ file_items p lines
+-- the records of blocks, one after the other
+abbrev pub items_of_blocks : List Block → List Item
+items_of_blocks blocks = flat_map (λ b. b.items) blocks
