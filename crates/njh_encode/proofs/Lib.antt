@@ -5,5 +5,6 @@ mod OrderLaws
 mod PackingLaws
 mod PartLaws
 mod PostedLaws
+mod ReadBackLaws
 mod ReadingLaws
 mod Writing

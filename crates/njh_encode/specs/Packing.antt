@@ -3,7 +3,8 @@ use Rattle.std.specs.Prelude.{◌≡◌, ℕ, ◌+◌, ◌%◌, ◌≤◌, ◌==
 use Rattle.std.specs.Prelude.{Result, Ok, Err, All, cond, max, min, replicate}
 use Rattle.std.specs.Str.{is_utf8}
 use Rattle.njh_record.specs.Bytes.{two_bytes}
-use Rattle.njh_block.specs.Blocks.{Block, Item, Data, Control, text_of}
+use Rattle.njh_block.specs.declared.rcb.Form.TheVariants as form
+use Rattle.njh_block.specs.Blocks.{Block, Item, Data, Aborted, Long, Control, General, form_of, read_block, text_of}
 use Rattle.njh_block.specs.Writing.{Writing, has_room}
 use Rattle.njh_encode.specs.declared.fault.Reason.{Reason}
 use Rattle.njh_encode.specs.declared.fault.Reason.TheVariants.{NoText}
@@ -101,3 +102,15 @@ file_blocks state p lines =
 -- the records of blocks, one after the other
 abbrev pub items_of_blocks : List Block → List Item
 items_of_blocks blocks = flat_map (λ b. b.items) blocks
+
+-- a record with its bytes, as it is written
+abbrev pub IsData : Item → Type 0
+IsData (Data rcb srcb bytes) = (form_of rcb ≡ form.Spelled) × (length bytes ≤ 256)
+IsData (Aborted rcb srcb) = ⊥
+IsData (Long rcb srcb) = ⊥
+IsData (Control rcb srcb) = ⊥
+IsData (General srcb rest) = ⊥
+
+-- a block's text is that block
+abbrev pub ReadsItself : Block → Type 0
+ReadsItself b = read_block (text_of b.bcb b.fcs b.items) ≡ Ok b
