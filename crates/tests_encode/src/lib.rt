@@ -4,6 +4,12 @@
 #[cfg(test)]
 mod checking;
 #[cfg(test)]
+mod files;
+#[cfg(test)]
+mod letters;
+#[cfg(test)]
 mod refused;
 #[cfg(test)]
 mod sessions;
+#[cfg(test)]
+mod texts;
