@@ -20,7 +20,7 @@ use Rattle.njh_encode.specs.declared.statement.Statement.{Statement}
 use Rattle.njh_encode.specs.declared.statement.Statement.TheVariants as says
 use Rattle.njh_encode.specs.LineStates.{counted, signed_on, state_of, with_state}
 use Rattle.njh_encode.specs.Statements.{statement_in}
-use Rattle.njh_encode.specs.Words.{back, behind, front, line_in, first_word}
+use Rattle.njh_encode.specs.Words.{back, behind, front, is_name, line_in, first_word}
 
 -- ---- frames
 
@@ -162,10 +162,22 @@ is_script_word word =
     bytes_eq word (codes "BYTES") || (bytes_eq word (codes "TICK") || (bytes_eq word (codes "GARBLED")
     || (bytes_eq word (codes "LOST") || bytes_eq word (codes "ROUTES"))))
 
--- a line in words of `decode`, which is left out: it begins with a blank
-abbrev pub is_left_out : List ℕ → Bool
-is_left_out [] = false
-is_left_out (b ∷ bs) = b == 32
+-- a blank stands first
+abbrev pub is_indented : List ℕ → Bool
+is_indented [] = false
+is_indented (b ∷ bs) = b == 32
+
+unfoldable pub is_direction : List ℕ → Bool
+is_direction word = bytes_eq word (codes "in") || bytes_eq word (codes "out")
+
+-- the words of a frame, as `decode` prints them: the name of a line and ` in: ` or ` out: ` stand before them
+unfoldable pub is_of_frame : List ℕ → Bool
+is_of_frame line =
+    is_name (first_word line) && (is_direction (front 58 (behind line)) && is_indented (back 58 (behind line)))
+
+-- a line in words of `decode`, which is left out: those of a frame, or those of a record, which a blank stands before
+unfoldable pub is_left_out : List ℕ → Bool
+is_left_out line = is_indented line || is_of_frame line
 
 -- an empty line, or a comment
 abbrev pub is_comment : List ℕ → Bool

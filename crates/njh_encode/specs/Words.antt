@@ -52,6 +52,10 @@ named label text = cond (bytes_eq (first_word text) label) (name_in (first_word 
 abbrev pub is_letter_or_digit : ℕ → Bool
 is_letter_or_digit b = within 48 57 b || (within 65 90 b || within 97 122 b)
 
+-- a name of a line in a trace, which may be longer
+unfoldable pub is_name : List ℕ → Bool
+is_name word = nat_lt 0 (length word) && list_all is_letter_or_digit word
+
 unfoldable pub line_in : List ℕ → Option (List ℕ)
 line_in text =
     cond (nat_lt 0 (length text) && (nat_le (length text) 8 && list_all is_letter_or_digit text))

@@ -7,7 +7,7 @@ use crate::posting::Posting;
 use crate::putting::{put_digits, put_line, put_script_line};
 use crate::sentences::put_statement;
 use crate::statements::statement_of;
-use crate::words::{LINE_NAME, line_of, next_word, parted};
+use crate::words::{LINE_NAME, is_name, line_of, next_word, parted};
 use std::alloc::{AllocError, Global};
 use std::marker::Model;
 
@@ -79,7 +79,8 @@ impl Encoder {
 ghost use Rattle.std.specs.Prelude.{◌≡◌, List};
 ghost use Rattle.hex.specs.Hex.{is_hex_digit};
 ghost use Rattle.std.specs.List.{list_all};
-ghost use Rattle.njh_encode.specs.Encoded.{IsAppended, are_hex, bytes_outcome, colon_outcome, is_kept, is_left_out};
+ghost use Rattle.njh_encode.specs.Encoded.{IsAppended, are_hex, bytes_outcome, colon_outcome, is_direction};
+ghost use Rattle.njh_encode.specs.Encoded.{is_indented, is_kept, is_left_out, is_of_frame};
 ghost use Rattle.njh_encode.specs.Encoded.{is_script_word, line_outcome, named_outcome, statement_outcome};
 ghost use Rattle.njh_encode.specs.Encoded.{words_outcome};
 ghost use Rattle.njh_encode.specs.declared.line_states.LineState as declared;
@@ -105,10 +106,35 @@ fn put_any_line(line: &str, states: &mut Vec<LineState>, script: &mut Vec<u8>) -
     put_colon_line(line, states, script)
 }
 
+/// Whether a line is in words of `decode`.
+#[tactic(auto, unfolding(crate::specs::Encoded::is_left_out))]
 fn is_left_out(line: &str) -> bool
     ensures { result ≡ is_left_out line.now }
 {
-    matches!(line.as_bytes(), [b' ', ..])
+    is_indented(line) || is_of_frame(line)
+}
+
+fn is_indented(text: &str) -> bool
+    ensures { result ≡ is_indented text.now }
+{
+    matches!(text.as_bytes(), [b' ', ..])
+}
+
+/// Whether a line is the words of a frame, with the line of the hub and the direction before them.
+#[tactic(auto, unfolding(crate::specs::Encoded::is_of_frame))]
+fn is_of_frame(line: &str) -> bool
+    ensures { result ≡ is_of_frame line.now }
+{
+    let (name, rest) = next_word(line);
+    let (direction, words) = parted(rest, ':');
+    is_name(name) && is_direction(direction) && is_indented(words)
+}
+
+#[tactic(auto, unfolding(crate::specs::Encoded::is_direction))]
+fn is_direction(word: &str) -> bool
+    ensures { result ≡ is_direction word.now }
+{
+    word == "in" || word == "out"
 }
 
 #[tactic(auto, unfolding(crate::specs::Encoded::is_kept))]

@@ -3,8 +3,8 @@
 ghost use Rattle.std.specs.Prelude.{◌≡◌, ◌<◌, ◌≤◌, length, true, codes};
 ghost use Rattle.std.specs.List.{list_all};
 ghost use Rattle.njh_ebcdic.specs.Names.{within};
-ghost use Rattle.njh_encode.specs.Words.{are_digits, back, behind, decimal_value, front, is_letter_or_digit, line_in};
-ghost use Rattle.njh_encode.specs.Words.{name_in, named, number_in, stream_at, stream_in, first_word};
+ghost use Rattle.njh_encode.specs.Words.{are_digits, back, behind, decimal_value, front, is_letter_or_digit, is_name};
+ghost use Rattle.njh_encode.specs.Words.{line_in, name_in, named, number_in, stream_at, stream_in, first_word};
 
 use njh_block::Stream;
 use njh_ebcdic::Name;
@@ -75,6 +75,14 @@ pub(crate) fn name_of(word: &str) -> Option<Name>
     ensures { result ≡ name_in word.now }
 {
     Name::of_text(word).ok()
+}
+
+/// Whether a word can be the name of a line in a trace.
+#[tactic(auto, unfolding(crate::specs::Words::is_name))]
+pub(crate) fn is_name(word: &str) -> bool
+    ensures { result ≡ is_name word.now }
+{
+    !word.is_empty() && are_letters_and_digits(word.as_bytes())
 }
 
 /// The field of the name of a line that a word is.

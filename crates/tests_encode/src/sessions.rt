@@ -1,7 +1,7 @@
 //! Sessions in words. The bytes are those that a peer of examples/ sends.
 
 use crate::checking::check_script;
-use njh_encode::Encoder;
+use njh_encode::{Encoder, Reason};
 use std::test::Fail;
 
 #[test]
@@ -128,6 +128,52 @@ fn other_lines(rt: HostRuntime) -> Result<(), Fail> {
             ("  request SYSOUT 1", ""),
         ],
     )
+}
+
+/// What `decode --hex` prints of a script becomes that script: the words are left out. A line whose direction, colon or
+/// blank is amiss isn't in words of `decode`.
+#[test]
+fn decoded_lines(rt: HostRuntime) -> Result<(), Fail> {
+    let alloc = rt.alloc();
+    check_script(
+        &rt,
+        alloc,
+        &[
+            ("# contact, and a request", "# contact, and a request\n"),
+            ("BYTES a1 01", "BYTES a1 01\n"),
+            ("BYTES a1 2D", "BYTES a1 2D\n"),
+            ("a1 in: ENQ", ""),
+            ("BYTES longername2 1070", "BYTES longername2 1070\n"),
+            ("longername2 in: ACK0", ""),
+            ("a1 out: ACK0", ""),
+            (
+                "BYTES a1 10028080c0909900001026",
+                "BYTES a1 10028080c0909900001026\n",
+            ),
+            ("a1 in: block 0, on: messages", ""),
+            ("  request SYSOUT 1", ""),
+            ("BYTES BYTES 3d", "BYTES BYTES 3d\n"),
+            ("BYTES in: NAK", ""),
+            ("TICK a1", "TICK a1\n"),
+            ("a1: ack", "BYTES a1 1070\n"),
+        ],
+    )?;
+    let mut encoder = Encoder::new(alloc);
+    for words in [
+        "a1 in ENQ",
+        "a1 in:ENQ",
+        "a1 on: ENQ",
+        "a- in: ENQ",
+        "a1  in: ENQ",
+    ] {
+        let mut script = Vec::new(alloc);
+        assert!(rt;
+            encoder.take_line(words, &mut script) == Err(Reason::NoLine),
+            "{words}"
+        );
+        assert!(rt; script.is_empty());
+    }
+    Ok(())
 }
 
 /// Characters beyond the hub's own; and a text of 16 characters, whose length is a 10 that is doubled.
