@@ -1,6 +1,6 @@
 -- The lines of a text that comes in pieces.
-use Rattle.std.proofs.Common.{◌≡◌, ℕ, ◌+◌, ◌<◌, ◌≤◌, Bool, true, false, eqb, List, [], ◌∷◌, ◌++◌, length, refl, sym, ap, ◌∙◌}
-use Rattle.std.proofs.Common.{append_assoc, append-nil, length-append, arith, cond, Some, Result, Ok, Err}
+use Rattle.std.proofs.Common.{◌≡◌, ℕ, ◌+◌, ◌<◌, ◌≤◌, Bool, true, false, eqb, List, [], ◌∷◌, ◌++◌, length, sym, ap, ◌∙◌}
+use Rattle.std.proofs.Common.{append_assoc, append-nil, length-append, arith, cond, Result, Err}
 use Rattle.std.specs.List.{AllByRecursion}
 use Rattle.std.specs.Str.{IsUtf8}
 use Rattle.std.proofs.lemmas.Bool.{false_from_ne_true, le-ltb, lt-ltb}
@@ -8,7 +8,7 @@ use Rattle.std.proofs.lemmas.Str.{IsUtf8-from_is_utf8, is_utf8-from_IsUtf8}
 use Rattle.njh_encode.specs.declared.fault.Reason.{Reason}
 use Rattle.njh_encode.specs.declared.fault.Reason.TheVariants.{LongLine, NoText}
 use Rattle.njh_encode.specs.declared.line_states.LineState.{LineState}
-use Rattle.njh_encode.specs.Lines.{is_long_line, last_line, lines_from, max_line_bytes}
+use Rattle.njh_encode.specs.Lines.{last_line, lines_from, max_line_bytes}
 use Rattle.njh_encode.specs.Encoded.{Outcome}
 use Rattle.njh_encode.specs.Scripts.{Texts, bad_line, bytes_taken, encoding_of_lines, outcome_in_text, then_lines, words_taken}
 

@@ -1,5 +1,5 @@
 -- The records of packed blocks.
-use Rattle.std.proofs.Common.{◌≡◌, Bool, true, false, List, [], ◌∷◌, ◌++◌, sym, ap, ◌∙◌, append_assoc, append-nil, flat_map}
+use Rattle.std.proofs.Common.{◌≡◌, Bool, true, false, List, [], ◌∷◌, ◌++◌, ap, ◌∙◌, append_assoc}
 use Rattle.std.proofs.lemmas.List.Concat.{flat_map-cons}
 use Rattle.njh_block.specs.Blocks.{Block, Item}
 use Rattle.njh_block.specs.Writing.{has_room}

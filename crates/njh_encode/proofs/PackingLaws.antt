@@ -1,8 +1,8 @@
 -- Records in blocks.
-use Rattle.std.proofs.Common.{◌≡◌, ℕ, ◌+◌, ◌%◌, ◌≤◌, Bool, true, false, List, [], ◌∷◌, ◌++◌, length, map, refl, sym, ap, ◌∙◌}
-use Rattle.std.proofs.Common.{append_assoc, append-nil, flat_map, subst, All, IsTrue}
+use Rattle.std.proofs.Common.{◌≡◌, ℕ, Bool, true, false, List, [], ◌∷◌, ◌++◌, refl, sym, ap, ◌∙◌}
+use Rattle.std.proofs.Common.{append_assoc, append-nil}
 use Rattle.std.proofs.lemmas.Grind.{flat_map-append}
-use Rattle.njh_block.specs.Blocks.{Block, Item, Data, read_block, text_of}
+use Rattle.njh_block.specs.Blocks.{Block, Item}
 use Rattle.njh_block.specs.Writing.{has_room}
 use Rattle.njh_encode.specs.declared.line_states.LineState.{LineState}
 use Rattle.njh_encode.specs.LineStates.{counted}

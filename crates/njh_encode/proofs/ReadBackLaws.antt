@@ -1,10 +1,10 @@
 -- What the texts of packed blocks read as.
-use Rattle.std.proofs.Common.{◌≡◌, ℕ, ◌+◌, ◌%◌, ◌<◌, ◌≤◌, Bool, true, false, List, [], ◌∷◌, ◌++◌, refl, sym, ap, ◌∙◌, arith, Ok, IsTrue}
+use Rattle.std.proofs.Common.{◌≡◌, ℕ, ◌+◌, ◌%◌, ◌<◌, Bool, true, false, List, [], ◌∷◌, ◌++◌, refl, ap, ◌∙◌, arith, Ok, IsTrue}
 use Rattle.std.specs.List.{All, AllByRecursion}
 use Rattle.std.proofs.lemmas.Bool.{le-leb, lt-ltb}
 use Rattle.std.proofs.lemmas.List.Elements.{All-append, All-cons, All-nil, recursion_from_All}
 use Rattle.std.proofs.lemmas.Nat.{mod_below}
-use Rattle.njh_block.specs.Blocks.{Aborted, Block, Control, Data, General, Item, Long, is_bcb, is_fcs, read_block, text_of}
+use Rattle.njh_block.specs.Blocks.{Aborted, Control, Data, General, Item, Long, is_bcb, is_fcs, read_block, text_of}
 use Rattle.njh_block.specs.Writing.{AreWritten, has_room, read_back}
 use Rattle.njh_encode.specs.declared.line_states.LineState.{LineState}
 use Rattle.njh_encode.specs.LineStates.{counted}

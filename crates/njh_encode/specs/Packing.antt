@@ -1,6 +1,6 @@
 -- The blocks that carry a file's records.
 use Rattle.std.specs.Prelude.{◌≡◌, ℕ, ◌+◌, ◌%◌, ◌≤◌, ◌==◌, true, false, List, [], ◌∷◌, ◌++◌, length, map, flat_map}
-use Rattle.std.specs.Prelude.{Result, Ok, Err, All, cond, max, min, replicate}
+use Rattle.std.specs.Prelude.{Result, Ok, Err, cond, max, min, replicate}
 use Rattle.std.specs.Str.{is_utf8}
 use Rattle.njh_record.specs.Bytes.{two_bytes}
 use Rattle.njh_block.specs.declared.rcb.Form.TheVariants as form

@@ -1,9 +1,8 @@
-use Rattle.std.proofs.Common.{◌≡◌, ◌∙◌, ◌∷◌, ◌++◌, [], ap, rules}
+use Rattle.std.proofs.Common.{◌≡◌, ◌∷◌, ◌++◌, [], rules}
 use Rattle.njh_block.specs.Blocks.{Control}
 use Rattle.njh_encode.specs.Encoded.{next_block}
 use Rattle.njh_encode.specs.LineStates.{counted}
 use Rattle.njh_encode.specs.Packing.{blocks_script, data_set_record, job_record}
-use Rattle.njh_encode.specs.code.Puts.{OpenBlock}
 use Rattle.njh_encode.proofs.PostedLaws.{posted-all}
 use Rattle.njh_encode.proofs.posted.put_file.Goals as goal
 

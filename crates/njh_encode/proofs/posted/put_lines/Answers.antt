@@ -1,4 +1,4 @@
-use Rattle.std.proofs.Common.{◌≡◌, Err, rules}
+use Rattle.std.proofs.Common.{rules}
 use Rattle.njh_encode.proofs.PostedLaws.{if_err_from, if_err_is, put-all, put-bad, put-last-bad, put-line, put-none}
 use Rattle.njh_encode.proofs.posted.put_lines.Goals as goal
 

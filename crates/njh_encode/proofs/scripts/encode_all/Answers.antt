@@ -1,4 +1,4 @@
-use Rattle.std.proofs.Common.{rules, Some, None}
+use Rattle.std.proofs.Common.{rules, Some}
 use Rattle.njh_encode.proofs.EncodedSoFar.{end_read, on_err_of, part-on_err, piece_read, whole-on_ok}
 use Rattle.njh_encode.proofs.ReadingLaws.{on_err_at, on_err_for, on_ok_at, on_ok_for}
 use Rattle.njh_encode.proofs.EncodedSoFar.{IsEncoded-bad, IsEncoded-begun, IsEncoded-more, IsEncoded-part, IsEncoded-whole}
