@@ -7,5 +7,6 @@ mod PlainLines
 mod PrintSteps
 mod PrintedParts
 mod Printing
+mod ReasonLaws
 mod ReplayLaws
 mod StartLaws

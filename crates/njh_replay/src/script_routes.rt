@@ -51,7 +51,7 @@ fn routes_for(
 }
 
 /// The number of the customer that a word names.
-fn customer_named(tables: &Tables, word: &str) -> Option<u16>
+pub(crate) fn customer_named(tables: &Tables, word: &str) -> Option<u16>
     ensures number { result ≡ customer_named tables.now word.now }
     ensures known { IfSome result (λ customer. customer < length tables.now.customers) }
 {
@@ -77,7 +77,7 @@ fn is_named(customer: &NamedCustomer, name: Name) -> bool
 }
 
 /// The routes of pairs, where each is one.
-fn routes_of_pairs(
+pub(crate) fn routes_of_pairs(
     alloc: Global,
     tables: &Tables,
     pairs: Option<&str>,
@@ -149,7 +149,7 @@ fn second_by(tables: &Tables, second: Option<&str>) -> Option<Option<LineId>>
 }
 
 /// What stands before the first separator in a text, or all; and what stands behind that separator.
-fn first_part(text: &str, separator: char) -> (&str, Option<&str>)
+pub(crate) fn first_part(text: &str, separator: char) -> (&str, Option<&str>)
     requires { separator < 128 }
     ensures parts { slice_split (λ b. b == separator) text.now ≡ result.0.now ∷ parts_behind separator result.1 }
     ensures shorter { IfSome result.1 (λ behind. length behind.now < length text.now) }

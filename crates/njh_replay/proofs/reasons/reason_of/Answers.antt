@@ -1,0 +1,17 @@
+use Rattle.std.proofs.Common.{refl}
+use Rattle.std.proofs.lemmas.Str.{is_utf8-from_IsUtf8, IsUtf8-from_is_utf8}
+use Rattle.std.proofs.lemmas.Bool.{false_from_ne_true}
+use Rattle.njh_replay.specs.Reasons.{reason_of}
+use Rattle.njh_replay.proofs.reasons.reason_of.Goals as goal
+
+pub returns-in-Ok : goal.returns-in-Ok
+unfolding reason_of
+returns-in-Ok c =
+    let text = is_utf8-from_IsUtf8 c.args.line.now c.in-Ok.ensures.cases.1 in
+    rw (text, ← c.in-Ok.ensures.cases.0) c.reason_of_text.ensures
+
+pub returns-in-Err : goal.returns-in-Err
+unfolding reason_of
+returns-in-Err c =
+    let broken = false_from_ne_true _ (λ text. c.in-Err.ensures.cases.0 (IsUtf8-from_is_utf8 c.args.line.now text)) in
+    rw (broken, c.alone.ensures) refl

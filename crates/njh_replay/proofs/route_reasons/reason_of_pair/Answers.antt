@@ -1,0 +1,11 @@
+use Rattle.std.proofs.Common.{refl}
+use Rattle.njh_replay.proofs.Parting.{parts-some}
+use Rattle.njh_replay.proofs.route_reasons.reason_of_pair.Goals as goal
+
+pub returns-in_default-Some : goal.returns-in_default-Some
+returns-in_default-Some c =
+    let more = parts-some 58 c.in_default-Some.field-0-1.now in
+    let node = rw c.in-Some.is at c.first_part.ensures.parts in
+    let line = rw c.in-Some-behind.is at c.first_part-2.ensures.parts in
+    let second = rw c.in_default-Some.is-1 at c.first_part-3.ensures.parts in
+    rw (node, line, second, more.2) refl

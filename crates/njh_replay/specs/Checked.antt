@@ -1,0 +1,90 @@
+-- What the check of a script says.
+use Rattle.std.specs.Prelude.{ℕ, ◌-◌, ◌==◌, Bool, false, List, [], ◌∷◌, ◌++◌, codes, length, map, nat_lt}
+use Rattle.std.specs.Prelude.{Option, Some, None, Result, Ok, Err, get_or, is_ok, if◌then◌else◌}
+use Rattle.std.specs.Fmt.{decimal}
+use Rattle.njh_hub.specs.declared.event.Event.{Event}
+use Rattle.njh_table.specs.TableFile.{TableFile}
+use Rattle.njh_table.specs.declared.fault.TableFault.{TableFault}
+use Rattle.njh_table.specs.declared.fault.TableFault.TheVariants.{BadToml, MissingKey, BadValue, DoubleLine, DoubleNode}
+use Rattle.njh_table.specs.declared.fault.TableFault.TheVariants.{UnknownLine, QuotaOver, TooMany, Memory}
+use Rattle.njh_replay.specs.Reasons.{Told, reason_of}
+use Rattle.njh_replay.specs.Script.{lines_of, max_script_bytes, script_of}
+use Rattle.njh_replay.specs.declared.reason.Reason.{Reason}
+use Rattle.njh_replay.specs.declared.reason.Reason.TheVariants.{BadDigit, BadNode, MoreLines, MoreWords, NoBytes}
+use Rattle.njh_replay.specs.declared.reason.Reason.TheVariants.{NoColon, NoCustomer, NoCustomerName, NoEvent, NoLine}
+use Rattle.njh_replay.specs.declared.reason.Reason.TheVariants.{NoName, NotText, OddDigits, Routes}
+
+-- words as they are, kept whole
+unfoldable pub label : List ℕ → List ℕ
+label words = words
+
+-- a fault of routes by its number and name
+abbrev pub fault_words : TableFault → List ℕ
+fault_words BadToml = codes "K1 BadToml"
+fault_words MissingKey = codes "K2 MissingKey"
+fault_words BadValue = codes "K3 BadValue"
+fault_words DoubleLine = codes "K4 DoubleLine"
+fault_words DoubleNode = codes "K5 DoubleNode"
+fault_words UnknownLine = codes "K6 UnknownLine"
+fault_words QuotaOver = codes "K7 QuotaOver"
+fault_words TooMany = codes "K8 TooMany"
+fault_words Memory = codes "K9 Memory"
+
+-- why a line is bad, but for the word that is
+abbrev pub why_words : Reason → List ℕ
+why_words NotText = label (codes "not UTF-8")
+why_words NoEvent = label (codes "no event ")
+why_words NoName = label (codes "no line is named")
+why_words NoLine = label (codes "no line ")
+why_words MoreWords = label (codes "more words than the event has")
+why_words NoBytes = label (codes "no bytes")
+why_words OddDigits = label (codes "an odd number of hex digits")
+why_words (BadDigit index) = label (codes "no hex digit behind the first ") ++ decimal index
+why_words NoCustomerName = label (codes "no customer is named")
+why_words NoCustomer = label (codes "no customer ")
+why_words NoColon = label (codes "no colon in ")
+why_words BadNode = label (codes "no node's name is ")
+why_words MoreLines = label (codes "more than two lines in ")
+why_words (Routes fault) = label (codes "routes: ") ++ label (fault_words fault)
+
+-- a word, with `?` for each byte that would move a terminal
+abbrev pub shown_byte : ℕ → ℕ
+shown_byte b = if nat_lt b 32 then 63 else b
+
+abbrev pub shown_word : List ℕ → List ℕ
+shown_word word = map shown_byte word
+
+abbrev pub told_words : Option Told → List ℕ
+told_words None = []
+told_words (Some t) = why_words t.0 ++ shown_word t.1
+
+-- a bad line by its number, counted from 1, and why it is bad
+unfoldable pub bad_words : (number : ℕ) → Option Told → List ℕ
+bad_words number reason =
+    label (codes "line ") ++ decimal number ++ label (codes ": ") ++ told_words reason ++ 10 ∷ []
+
+-- a script without a bad line, by the number of its events
+unfoldable pub right_words : (events : ℕ) → List ℕ
+right_words events = label (codes "script: ") ++ decimal events
+    ++ label (if events == 1 then codes " event, no bad line\n" else codes " events, no bad line\n")
+
+-- a script that is too long
+abbrev pub long_words : List ℕ
+long_words = codes "script: more than 1048576 bytes\n"
+
+-- the line of a number, counted from 1
+abbrev pub line_at : (number : ℕ) → (text : List ℕ) → List ℕ
+line_at number text = get_or (lines_of text) (number - 1) []
+
+-- what is said of a script that isn't too long, by what it comes to
+abbrev pub found_words : TableFile → (text : List ℕ) → Result (List Event) ℕ → List ℕ
+found_words tables text (Ok events) = right_words (length events)
+found_words tables text (Err number) = bad_words number (reason_of tables (line_at number text))
+
+-- what is said of a script, and whether it is right
+abbrev pub check_words : TableFile → (text : List ℕ) → List ℕ
+check_words tables text =
+    if nat_lt max_script_bytes (length text) then long_words else found_words tables text (script_of tables text)
+
+abbrev pub is_right : TableFile → (text : List ℕ) → Bool
+is_right tables text = if nat_lt max_script_bytes (length text) then false else is_ok (script_of tables text)

@@ -1,0 +1,51 @@
+//! Why a line of a script is bad.
+
+use njh_table::TableFault;
+
+/// Why a line has no event.
+#[derive(Clone, Copy, Debug, PartialEq, Eq)]
+pub enum Reason {
+    /// The line is no UTF-8.
+    NotText,
+    /// There is no event of this word.
+    NoEvent,
+    /// No line's name stands behind the word.
+    NoName,
+    /// No line has this name.
+    NoLine,
+    /// More words stand there than the event has.
+    MoreWords,
+    /// No bytes stand behind the line's name.
+    NoBytes,
+    /// The number of hexadecimal digits is odd.
+    OddDigits,
+    /// A character is no hexadecimal digit.
+    BadDigit {
+        /// How many digits stand before it.
+        index: usize,
+    },
+    /// No customer's name stands behind `ROUTES`.
+    NoCustomerName,
+    /// No customer has this name.
+    NoCustomer,
+    /// A route has no colon.
+    NoColon,
+    /// The node of a route is no name.
+    BadNode,
+    /// A route has more than two lines.
+    MoreLines,
+    /// The customer may not have the routes.
+    Routes {
+        /// Why not.
+        fault: TableFault,
+    },
+}
+
+/// Why a line is bad, and the word of it that is.
+#[derive(Clone, Copy, Debug)]
+pub struct BadLine<'a> {
+    /// Why.
+    pub why: Reason,
+    /// The word, or nothing where it is none alone.
+    pub word: &'a str,
+}
