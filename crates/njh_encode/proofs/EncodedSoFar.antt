@@ -6,147 +6,172 @@ use Rattle.std.specs.Io.KnownBytes.{Appends, Consumes, IsAtEnd, ReadConsumes}
 use Rattle.std.proofs.KnownBytes.{Appends-nil, Appends-trans, Consumes-nil, Consumes-trans, Consumes-whole}
 use Rattle.njh_io.specs.Written.{AppendsBeginning}
 use Rattle.njh_encode.specs.declared.fault.EncodeFault.{EncodeFault}
-use Rattle.njh_encode.specs.Scripts.{Texts, Encoding, behind_script, encoding_of}
-use Rattle.njh_encode.specs.code.Reading.{EndsBad, Progress, Takes, encoding_behind}
-use Rattle.njh_encode.proofs.ReadingLaws.{known_then, Takes-bad, Takes-none, Takes-then}
-use Rattle.njh_encode.proofs.Writing.{beginning-after}
+use Rattle.njh_encode.specs.Lines.{lines_from}
+use Rattle.njh_encode.specs.Scripts.{Becomes, Encoding, IsEncodedInPart, IsEncodedTo, Texts, behind_script, encoding_of_lines}
+use Rattle.njh_encode.specs.code.Reading.{BecomesBehind, EndsBad, IsWritten, IsWrittenInPart, Progress, Takes}
+use Rattle.njh_encode.proofs.LineLaws.{becomes, some_texts}
+use Rattle.njh_encode.proofs.ReadingLaws.{known_then, Takes-bad, Takes-none, Takes-then, text-as}
+use Rattle.njh_encode.proofs.Writing.{beginning-after, beginning-none}
 
 abbrev pub start : Progress
 start = record { states = []; number = 1; front = [] }
 
--- a text became these lines, which were written, and it ended so
-abbrev pub IsWhole : (texts : Texts) (old new : Option (List ℕ)) (bad : Option EncodeFault) (text : List ℕ) → Type 0
-IsWhole texts old new bad text = ((encoding_of texts text).bad ≡ bad) × Appends old new (encoding_of texts text).script
-
 -- these bytes were read, and what their lines become was written
-pub record IsEncoded (texts : Texts) (first now old new : Option (List ℕ)) (at : Progress) : Type 0 where
+pub record IsEncoded (known : Option Texts) (first now old new : Option (List ℕ)) (at : Progress) : Type 0 where
   pub seen : List ℕ
   pub lines : List ℕ
   pub read : Consumes first now seen
   pub written : Appends old new lines
-  pub takes : Takes texts start seen lines at
+  pub takes : Takes known start seen lines at
 
-pub IsEncoded-none : (texts : Texts) (known held : Option (List ℕ)) → IsEncoded texts known known held held start
-IsEncoded-none texts known held = record {
+pub IsEncoded-none : (known : Option Texts) (left held : Option (List ℕ)) → IsEncoded known left left held held start
+IsEncoded-none known left held = record {
   seen = [];
   lines = [];
-  read = Consumes-nil known;
+  read = Consumes-nil left;
   written = Appends-nil held;
-  takes = Takes-none texts start;
+  takes = Takes-none known start;
 }
 
 -- a piece more
-pub IsEncoded-more : (texts : Texts) (first now later old then new : Option (List ℕ)) (a b : Progress) (piece lines : List ℕ)
-    → IsEncoded texts first now old then a → Consumes now later piece → Appends then new lines → Takes texts a piece lines b
-    → IsEncoded texts first later old new b
-IsEncoded-more texts first now later old then new a b piece lines x read written takes = record {
+pub IsEncoded-more : (known : Option Texts) (first now later old then new : Option (List ℕ)) (a b : Progress) (piece lines : List ℕ)
+    → IsEncoded known first now old then a → Consumes now later piece → Appends then new lines → Takes known a piece lines b
+    → IsEncoded known first later old new b
+IsEncoded-more known first now later old then new a b piece lines x read written takes = record {
   seen = x.seen ++ piece;
   lines = x.lines ++ lines;
   read = Consumes-trans first now later x.seen piece x.read read;
   written = Appends-trans old then new x.lines lines x.written written;
-  takes = Takes-then texts start a b x.seen piece x.lines lines x.takes takes;
+  takes = Takes-then known start a b x.seen piece x.lines lines x.takes takes;
 }
 
--- a whole text, by what is still encoded of it
-whole-of : (texts : Texts) (old then new : Option (List ℕ)) (bad : Option EncodeFault) (text lines : List ℕ) (e : Encoding)
-    → encoding_of texts text ≡ behind_script lines e → Appends old then lines → e.bad ≡ bad → Appends then new e.script
-    → IsWhole texts old new bad text
-whole-of texts old then new bad text lines e is before ended after =
-    (ap (λ (x : Encoding). x.bad) is ∙ ended, rw is (Appends-trans old then new lines e.script before after))
+-- a whole text, by what still becomes of it
+whole-of : (known : Option Texts) (old then new : Option (List ℕ)) (bad : Option EncodeFault) (text lines : List ℕ) (e : Encoding)
+    → Becomes known text (behind_script lines e) → Appends old then lines → e.bad ≡ bad → Appends then new e.script
+    → IsEncodedTo known bad old new text
+whole-of known old then new bad text lines e is before ended after =
+    (behind_script lines e, is, ended, Appends-trans old then new lines e.script before after)
 
-begun-of : (texts : Texts) (old then new : Option (List ℕ)) (text lines : List ℕ) (e : Encoding) → encoding_of texts text ≡ behind_script lines e
-    → Appends old then lines → AppendsBeginning then new e.script → AppendsBeginning old new (encoding_of texts text).script
-begun-of texts old then new text lines e is before after =
-    beginning-after old then new lines e.script [] (encoding_of texts text).script before after
-    (ap (λ (xs : List ℕ). lines ++ xs) (append-nil e.script) ∙ sym (ap (λ (x : Encoding). x.script) is))
+begun-of : (known : Option Texts) (old then new : Option (List ℕ)) (text lines : List ℕ) (e : Encoding)
+    → Becomes known text (behind_script lines e) → Appends old then lines → AppendsBeginning then new e.script
+    → IsEncodedInPart known old new text
+begun-of known old then new text lines e is before after = (
+  behind_script lines e,
+  is,
+  beginning-after old then new lines e.script [] (lines ++ e.script) before after
+      (ap (λ (xs : List ℕ). lines ++ xs) (append-nil e.script)),
+)
 
 -- what all that was read becomes
-all-of : (texts : Texts) (at : Progress) (seen lines : List ℕ) → Takes texts start seen lines at
-    → encoding_of texts seen ≡ behind_script lines (encoding_behind texts at [])
-all-of texts at seen lines takes = ap (encoding_behind texts start) (sym (append-nil seen)) ∙ takes []
+all-of : (known : Option Texts) (at : Progress) (seen lines : List ℕ) (e : Encoding) → Takes known start seen lines at
+    → BecomesBehind known at [] e → Becomes known seen (behind_script lines e)
+all-of known at seen lines e takes last =
+    text-as known start (seen ++ []) seen (behind_script lines e) (append-nil seen) (takes [] e last)
 
 -- all was read, and then the last line was taken
-pub IsEncoded-whole : (texts : Texts) (first now old then new : Option (List ℕ)) (bad : Option EncodeFault) (at : Progress)
-    → IsEncoded texts first now old then at → IsAtEnd now → (encoding_behind texts at []).bad ≡ bad
-    → Appends then new (encoding_behind texts at []).script → IfSome first (IsWhole texts old new bad)
-IsEncoded-whole texts first now old then new bad at x end ended last =
-    Consumes-whole first now x.seen (IsWhole texts old new bad) x.read end
-    (whole-of texts old then new bad x.seen x.lines (encoding_behind texts at []) (all-of texts at x.seen x.lines x.takes) x.written ended last)
+pub IsEncoded-whole : (known : Option Texts) (first now old then new : Option (List ℕ)) (bad : Option EncodeFault) (at : Progress)
+    → IsEncoded known first now old then at → IsAtEnd now → IsWritten known bad at then new
+    → IfSome first (IsEncodedTo known bad old new)
+IsEncoded-whole known first now old then new bad at x end last =
+    Consumes-whole first now x.seen (IsEncodedTo known bad old new) x.read end
+    (whole-of known old then new bad x.seen x.lines last.0 (all-of known at x.seen x.lines last.0 x.takes last.1) x.written
+    last.2 last.3)
 
 -- the last line was written in part
-pub IsEncoded-last_part : (texts : Texts) (first now old then new : Option (List ℕ)) (at : Progress)
-    → IsEncoded texts first now old then at → IsAtEnd now → AppendsBeginning then new (encoding_behind texts at []).script
-    → IfSome first (λ text. AppendsBeginning old new (encoding_of texts text).script)
-IsEncoded-last_part texts first now old then new at x end begun =
-    Consumes-whole first now x.seen (λ text. AppendsBeginning old new (encoding_of texts text).script) x.read end
-    (begun-of texts old then new x.seen x.lines (encoding_behind texts at []) (all-of texts at x.seen x.lines x.takes) x.written begun)
+pub IsEncoded-last_part : (known : Option Texts) (first now old then new : Option (List ℕ)) (at : Progress)
+    → IsEncoded known first now old then at → IsAtEnd now → IsWrittenInPart known at then new []
+    → IfSome first (IsEncodedInPart known old new)
+IsEncoded-last_part known first now old then new at x end begun =
+    Consumes-whole first now x.seen (IsEncodedInPart known old new) x.read end
+    (begun-of known old then new x.seen x.lines begun.0 (all-of known at x.seen x.lines begun.0 x.takes begun.1) x.written begun.2)
 
 -- a piece has a bad line
-pub IsEncoded-bad : (texts : Texts) (first now later old then new : Option (List ℕ)) (at : Progress) (piece lines : List ℕ) (fault : EncodeFault)
-    → IsEncoded texts first now old then at → Consumes now later piece → Appends then new lines
-    → EndsBad texts at piece (record { script = lines; bad = Some fault }) → IfSome first (IsWhole texts old new (Some fault))
-IsEncoded-bad texts first now later old then new at piece lines fault x read written bad =
-    known_then first later (x.seen ++ piece) (IsWhole texts old new (Some fault))
+pub IsEncoded-bad : (known : Option Texts) (first now later old then new : Option (List ℕ)) (at : Progress) (piece lines : List ℕ)
+    (fault : EncodeFault) → IsEncoded known first now old then at → Consumes now later piece → Appends then new lines
+    → EndsBad known at piece (record { script = lines; bad = Some fault })
+    → IfSome first (IsEncodedTo known (Some fault) old new)
+IsEncoded-bad known first now later old then new at piece lines fault x read written bad =
+    let e : Encoding = record { script = lines; bad = Some fault } in
+    known_then first later (x.seen ++ piece) (IsEncodedTo known (Some fault) old new)
     (Consumes-trans first now later x.seen piece x.read read)
-    (λ more. whole-of texts old then new (Some fault) ((x.seen ++ piece) ++ more) x.lines (record { script = lines; bad = Some fault })
-    (Takes-bad texts start at x.seen piece x.lines (record { script = lines; bad = Some fault }) x.takes bad more) x.written refl written)
+    (λ more. whole-of known old then new (Some fault) ((x.seen ++ piece) ++ more) x.lines e
+    (Takes-bad known start at x.seen piece x.lines e x.takes bad more) x.written refl written)
 
 -- a piece was written in part
-pub IsEncoded-part : (texts : Texts) (first now later old then new : Option (List ℕ)) (at : Progress) (piece : List ℕ)
-    → IsEncoded texts first now old then at → Consumes now later piece
-    → ((more : List ℕ) → AppendsBeginning then new (encoding_behind texts at (piece ++ more)).script)
-    → IfSome first (λ text. AppendsBeginning old new (encoding_of texts text).script)
-IsEncoded-part texts first now later old then new at piece x read begun =
-    known_then first later (x.seen ++ piece) (λ text. AppendsBeginning old new (encoding_of texts text).script)
+pub IsEncoded-part : (known : Option Texts) (first now later old then new : Option (List ℕ)) (at : Progress) (piece : List ℕ)
+    → IsEncoded known first now old then at → Consumes now later piece
+    → ((more : List ℕ) → IsWrittenInPart known at then new (piece ++ more))
+    → IfSome first (IsEncodedInPart known old new)
+IsEncoded-part known first now later old then new at piece x read begun =
+    known_then first later (x.seen ++ piece) (IsEncodedInPart known old new)
     (Consumes-trans first now later x.seen piece x.read read)
     (λ more.
-    begun-of texts old then new ((x.seen ++ piece) ++ more) x.lines (encoding_behind texts at (piece ++ more))
-    (ap (encoding_behind texts start) (append_assoc x.seen piece more) ∙ x.takes (piece ++ more)) x.written (begun more))
+    let part = begun more in
+    begun-of known old then new ((x.seen ++ piece) ++ more) x.lines part.0
+    (text-as known start (x.seen ++ (piece ++ more)) ((x.seen ++ piece) ++ more) (behind_script x.lines part.0)
+    (sym (append_assoc x.seen piece more)) (x.takes (piece ++ more) part.0 part.1)) x.written part.2)
+
+-- something becomes of what follows
+pub rest_becomes : (known : Option Texts) (at : Progress) (text : List ℕ) → (e : Encoding) × BecomesBehind known at text e
+rest_becomes known at text =
+    (encoding_of_lines (some_texts known) at.states at.number (lines_from at.front text), becomes known (lines_from at.front text) at.states at.number)
 
 -- it ended where all that was read is written
-pub IsEncoded-begun : (texts : Texts) (first now old new : Option (List ℕ)) (at : Progress) → IsEncoded texts first now old new at
-    → IfSome first (λ text. AppendsBeginning old new (encoding_of texts text).script)
-IsEncoded-begun texts first now old new at x =
-    known_then first now x.seen (λ text. AppendsBeginning old new (encoding_of texts text).script) x.read
-    (λ more. (x.lines, (encoding_behind texts at more).script, sym (ap (λ (e : Encoding). e.script) (x.takes more)), x.written))
+pub IsEncoded-begun : (known : Option Texts) (first now old new : Option (List ℕ)) (at : Progress) → IsEncoded known first now old new at
+    → IfSome first (IsEncodedInPart known old new)
+IsEncoded-begun known first now old new at x =
+    known_then first now x.seen (IsEncodedInPart known old new) x.read
+    (λ more.
+    let rest = rest_becomes known at more in
+    (behind_script x.lines rest.0, x.takes more rest.0 rest.1, (x.lines, rest.0.script, refl, x.written)))
+
+-- nothing is a beginning of what becomes of the rest
+pub none_written : (known : Option Texts) (at : Progress) (held : Option (List ℕ)) (text : List ℕ)
+    → IsWrittenInPart known at held held text
+none_written known at held text =
+    let rest = rest_becomes known at text in
+    (rest.0, rest.1, beginning-none held rest.0.script)
 
 -- what a piece's lines become was appended to nothing, and then written
-pub written_whole : (texts : Texts) (old new : Option (List ℕ)) (a b : Progress) (piece before after written : List ℕ)
-    → before ≡ [] → written ≡ after → ((lines : List ℕ) × (after ≡ before ++ lines) × Takes texts a piece lines b)
-    → Appends old new written → (lines : List ℕ) × Appends old new lines × Takes texts a piece lines b
-written_whole texts old new a b piece before after written empty same t wrote =
+pub written_whole : (known : Option Texts) (old new : Option (List ℕ)) (a b : Progress) (piece before after written : List ℕ)
+    → before ≡ [] → written ≡ after → ((lines : List ℕ) × (after ≡ before ++ lines) × Takes known a piece lines b)
+    → Appends old new written → (lines : List ℕ) × Appends old new lines × Takes known a piece lines b
+written_whole known old new a b piece before after written empty same t wrote =
     (t.0, subst (Appends old new) (same ∙ t.1 ∙ ap (λ (xs : List ℕ). xs ++ t.0) empty) wrote, t.2)
 
-pub written_bad : (texts : Texts) (old new : Option (List ℕ)) (a : Progress) (piece before after written : List ℕ) (fault : EncodeFault)
+pub written_bad : (known : Option Texts) (old new : Option (List ℕ)) (a : Progress) (piece before after written : List ℕ) (fault : EncodeFault)
     → before ≡ [] → written ≡ after
-    → ((lines : List ℕ) × (after ≡ before ++ lines) × EndsBad texts a piece (record { script = lines; bad = Some fault }))
+    → ((lines : List ℕ) × (after ≡ before ++ lines) × EndsBad known a piece (record { script = lines; bad = Some fault }))
     → Appends old new written
-    → (lines : List ℕ) × Appends old new lines × EndsBad texts a piece (record { script = lines; bad = Some fault })
-written_bad texts old new a piece before after written fault empty same t wrote =
+    → (lines : List ℕ) × Appends old new lines × EndsBad known a piece (record { script = lines; bad = Some fault })
+written_bad known old new a piece before after written fault empty same t wrote =
     (t.0, subst (Appends old new) (same ∙ t.1 ∙ ap (λ (xs : List ℕ). xs ++ t.0) empty) wrote, t.2)
 
 -- or was written in part
-pub written_part : (texts : Texts) (old new : Option (List ℕ)) (a b : Progress) (piece before after written : List ℕ)
-    → before ≡ [] → written ≡ after → ((lines : List ℕ) × (after ≡ before ++ lines) × Takes texts a piece lines b)
-    → AppendsBeginning old new written → (more : List ℕ) → AppendsBeginning old new (encoding_behind texts a (piece ++ more)).script
-written_part texts old new a b piece before after written empty same t begun more =
-    let later = (encoding_behind texts b more).script in
+pub written_part : (known : Option Texts) (old new : Option (List ℕ)) (a b : Progress) (piece before after written : List ℕ)
+    → before ≡ [] → written ≡ after → ((lines : List ℕ) × (after ≡ before ++ lines) × Takes known a piece lines b)
+    → AppendsBeginning old new written → (more : List ℕ) → IsWrittenInPart known a old new (piece ++ more)
+written_part known old new a b piece before after written empty same t begun more =
+    let rest = rest_becomes known b more in
+    let later = rest.0.script in
     let is : written ≡ t.0 = same ∙ t.1 ∙ ap (λ (xs : List ℕ). xs ++ t.0) empty in (
-      begun.0,
-      begun.1 ++ later,
-      sym (append_assoc begun.0 begun.1 later) ∙ ap (λ (xs : List ℕ). xs ++ later) (begun.2 ∙ is)
-          ∙ sym (ap (λ (e : Encoding). e.script) (t.2 more)),
-      begun.3,
+      behind_script t.0 rest.0,
+      t.2 more rest.0 rest.1,
+      (
+        begun.0,
+        begun.1 ++ later,
+        sym (append_assoc begun.0 begun.1 later) ∙ ap (λ (xs : List ℕ). xs ++ later) (begun.2 ∙ is),
+        begun.3,
+      ),
     )
 
-pub bad_part : (texts : Texts) (old new : Option (List ℕ)) (a : Progress) (piece before after written : List ℕ) (fault : EncodeFault)
+pub bad_part : (known : Option Texts) (old new : Option (List ℕ)) (a : Progress) (piece before after written : List ℕ) (fault : EncodeFault)
     → before ≡ [] → written ≡ after
-    → ((lines : List ℕ) × (after ≡ before ++ lines) × EndsBad texts a piece (record { script = lines; bad = Some fault }))
-    → AppendsBeginning old new written → (more : List ℕ) → AppendsBeginning old new (encoding_behind texts a (piece ++ more)).script
-bad_part texts old new a piece before after written fault empty same t begun more =
-    let is : written ≡ (encoding_behind texts a (piece ++ more)).script =
-    same ∙ t.1 ∙ ap (λ (xs : List ℕ). xs ++ t.0) empty ∙ sym (ap (λ (e : Encoding). e.script) (t.2 more)) in
-    subst (AppendsBeginning old new) is begun
+    → ((lines : List ℕ) × (after ≡ before ++ lines) × EndsBad known a piece (record { script = lines; bad = Some fault }))
+    → AppendsBeginning old new written → (more : List ℕ) → IsWrittenInPart known a old new (piece ++ more)
+bad_part known old new a piece before after written fault empty same t begun more =
+    let is : written ≡ t.0 = same ∙ t.1 ∙ ap (λ (xs : List ℕ). xs ++ t.0) empty in
+    (record { script = t.0; bad = Some fault }, t.2 more, subst (AppendsBeginning old new) is begun)
 
 pub on_err_of : {T E : Type 0} (r : Result T E) (P : Type 0) → P → OnErr r P
 on_err_of (Ok x) P so = tt
@@ -182,20 +207,27 @@ piece_read (Some m) n now later piece front said is at =
     subst (Consumes now later) (ap (λ (k : ℕ). take k piece) same ∙ sym at) said.1
 
 -- on Ok, and on Err, of the last line
-pub whole-on_ok : {T E : Type 0} (texts : Texts) (r : Result T E) (first now old then new : Option (List ℕ)) (at : Progress)
-    → IsEncoded texts first now old then at → IsAtEnd now
-    → OnOk r (((encoding_behind texts at []).bad ≡ None) × Appends then new (encoding_behind texts at []).script)
-    → OnOk r (IfSome first (IsWhole texts old new None))
-whole-on_ok texts (Ok x) first now old then new at read end last = IsEncoded-whole texts first now old then new None at read end last.0 last.1
-whole-on_ok texts (Err e) first now old then new at read end last = tt
+pub whole-on_ok : {T E : Type 0} (known : Option Texts) (r : Result T E) (first now old then new : Option (List ℕ)) (at : Progress)
+    → IsEncoded known first now old then at → IsAtEnd now → OnOk r (IsWritten known None at then new)
+    → OnOk r (IfSome first (IsEncodedTo known None old new))
+whole-on_ok known (Ok x) first now old then new at read end last = IsEncoded-whole known first now old then new None at read end last
+whole-on_ok known (Err e) first now old then new at read end last = tt
 
-pub part-on_err : {T E : Type 0} (texts : Texts) (r : Result T E) (first now old then new : Option (List ℕ)) (at : Progress)
-    → IsEncoded texts first now old then at → IsAtEnd now
-    → OnErr r (AppendsBeginning then new (encoding_behind texts at []).script)
-    → OnErr r (IfSome first (λ text. AppendsBeginning old new (encoding_of texts text).script))
-part-on_err texts (Ok x) first now old then new at read end last = tt
-part-on_err texts (Err e) first now old then new at read end last = IsEncoded-last_part texts first now old then new at read end last
+pub part-on_err : {T E : Type 0} (known : Option Texts) (r : Result T E) (first now old then new : Option (List ℕ)) (at : Progress)
+    → IsEncoded known first now old then at → IsAtEnd now → OnErr r (IsWrittenInPart known at then new [])
+    → OnErr r (IfSome first (IsEncodedInPart known old new))
+part-on_err known (Ok x) first now old then new at read end last = tt
+part-on_err known (Err e) first now old then new at read end last = IsEncoded-last_part known first now old then new at read end last
 
-pub end_part : (old new : Option (List ℕ)) (written whole : List ℕ) → written ≡ whole → AppendsBeginning old new written
-    → AppendsBeginning old new whole
-end_part old new written whole same begun = subst (AppendsBeginning old new) same begun
+-- a bad last line: nothing came of it
+pub last_bad_whole : (known : Option Texts) (at : Progress) (old new : Option (List ℕ)) (before after written : List ℕ) (fault : EncodeFault)
+    → before ≡ [] → written ≡ after → after ≡ before → BecomesBehind known at [] (record { script = []; bad = Some fault })
+    → Appends old new written → IsWritten known (Some fault) at old new
+last_bad_whole known at old new before after written fault empty same kept becomes wrote =
+    (record { script = []; bad = Some fault }, becomes, refl, subst (Appends old new) (same ∙ kept ∙ empty) wrote)
+
+pub last_bad_part : (known : Option Texts) (at : Progress) (old new : Option (List ℕ)) (before after written : List ℕ) (fault : EncodeFault)
+    → before ≡ [] → written ≡ after → after ≡ before → BecomesBehind known at [] (record { script = []; bad = Some fault })
+    → AppendsBeginning old new written → IsWrittenInPart known at old new []
+last_bad_part known at old new before after written fault empty same kept becomes wrote =
+    (record { script = []; bad = Some fault }, becomes, subst (AppendsBeginning old new) (same ∙ kept ∙ empty) wrote)

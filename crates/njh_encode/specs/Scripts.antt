@@ -1,6 +1,8 @@
 -- What a text in words becomes, line by line.
-use Rattle.std.specs.Prelude.{ℕ, ◌+◌, List, [], ◌∷◌, ◌++◌, Option, Some, None, Result, Ok, Err, cond}
+use Rattle.std.specs.Prelude.{◌≡◌, ℕ, ◌+◌, List, [], ◌∷◌, ◌++◌, Option, Some, None, Result, Ok, Err, cond, ⊤}
 use Rattle.std.specs.Str.{is_utf8}
+use Rattle.std.specs.Io.KnownBytes.{Appends}
+use Rattle.njh_io.specs.Written.{AppendsBeginning}
 use Rattle.njh_encode.specs.declared.fault.EncodeFault.{EncodeFault}
 use Rattle.njh_encode.specs.declared.fault.Reason.{Reason}
 use Rattle.njh_encode.specs.declared.fault.Reason.TheVariants.{LongFile, LongLine, Memory, NoFile, NoLine, NoSuchFile}
@@ -97,3 +99,38 @@ encoding_of_lines texts states number (line ∷ lines) =
 -- of a text
 abbrev pub encoding_of : Texts → List ℕ → Encoding
 encoding_of texts text = encoding_of_lines texts [] 1 (lines_of text)
+
+-- ---- texts whose names give what isn't known
+
+-- texts by which a line may be taken: those that are known, or any
+abbrev pub AreAnswered : (known : Option Texts) (texts : Texts) → Type 0
+AreAnswered None texts = ⊤
+AreAnswered (Some known) texts = texts ≡ known
+
+-- a line with this number, and then those behind it, become this
+abbrev pub BecomesThen : ℕ → Result Outcome Reason → (behind : List LineState → Encoding → Type 0) → Encoding → Type 0
+BecomesThen number (Ok outcome) behind encoding =
+    (rest : Encoding) × behind outcome.states rest × (encoding ≡ behind_script outcome.script rest)
+BecomesThen number (Err reason) behind encoding = encoding ≡ bad_line number reason
+
+-- Lines that are counted from a number on become this. Each is taken by texts of its own where none are known: a file
+-- may have changed when its name comes again.
+abbrev pub LinesBecome : (known : Option Texts) → List LineState → ℕ → List (List ℕ) → Encoding → Type 0
+LinesBecome known states number [] encoding = encoding ≡ record { script = []; bad = None }
+LinesBecome known states number (line ∷ lines) encoding = (texts : Texts) × AreAnswered known texts
+    × BecomesThen number (outcome_in_text texts states line) (λ after. LinesBecome known after (number + 1) lines)
+    encoding
+
+-- a text becomes this
+abbrev pub Becomes : (known : Option Texts) (text : List ℕ) (encoding : Encoding) → Type 0
+Becomes known text encoding = LinesBecome known [] 1 (lines_of text) encoding
+
+-- What a text becomes was written, and this is its first bad line, or it has none; or a beginning of that was written.
+abbrev pub IsEncodedTo : (known : Option Texts) (bad : Option EncodeFault) (old new : Option (List ℕ))
+    → (text : List ℕ) → Type 0
+IsEncodedTo known bad old new text = (encoding : Encoding) × Becomes known text encoding × (encoding.bad ≡ bad)
+    × Appends old new encoding.script
+
+abbrev pub IsEncodedInPart : (known : Option Texts) (old new : Option (List ℕ)) → (text : List ℕ) → Type 0
+IsEncodedInPart known old new text = (encoding : Encoding) × Becomes known text encoding
+    × AppendsBeginning old new encoding.script

@@ -2,10 +2,10 @@
 
 ghost use Rattle.std.specs.Prelude.{◌≡◌, ◌≢◌, ℕ, ◌≤◌, ◌<◌, ◌+◌, ◌∷◌, ◌++◌, [], List, length, false, All, ◌==◌};
 ghost use Rattle.std.specs.Prelude.{OnOk, Err, Some, None};
-ghost use Rattle.njh_encode.specs.Scripts.{Texts, file_taken, words_taken};
+ghost use Rattle.njh_encode.specs.Scripts.{AreAnswered, Texts, file_taken, words_taken};
 ghost use Rattle.njh_encode.specs.Encoded.{IsAppended};
-ghost use Rattle.njh_encode.specs.Scripts.{behind_script, bytes_taken, encoding_of_lines, outcome_in_text};
-ghost use Rattle.njh_encode.specs.code.Reading.{EndsBad, Takes, encoding_behind};
+ghost use Rattle.njh_encode.specs.Scripts.{bytes_taken, outcome_in_text};
+ghost use Rattle.njh_encode.specs.code.Reading.{BecomesBehind, EndsBad, IsBadLine, Takes, TakesLine};
 
 use crate::encoder::Encoder;
 use crate::fault::{EncodeEnd, EncodeFault, Reason};
@@ -60,13 +60,11 @@ impl Reading {
         letters: &L,
         script: &mut Vec<u8>,
     ) -> Result<(), EncodeEnd>
-        ensures taken { OnOk result ((texts : Texts) → L.texts letters.now ≡ Some texts
+        ensures taken { OnOk result ((lines : List ℕ) × (script.new.items ≡ script.old.items ++ lines)
+            × Takes (L.texts letters.now) self.old piece.now lines self.new) }
+        ensures bad { (fault : EncodeFault) → result ≡ Err (EncodeEnd.BadLine fault)
             → (lines : List ℕ) × (script.new.items ≡ script.old.items ++ lines)
-            × Takes texts self.old piece.now lines self.new) }
-        ensures bad { (texts : Texts) → L.texts letters.now ≡ Some texts
-            → (fault : EncodeFault) → result ≡ Err (EncodeEnd.BadLine fault)
-            → (lines : List ℕ) × (script.new.items ≡ script.old.items ++ lines)
-            × EndsBad texts self.old piece.now (record { script = lines; bad = Some fault }) }
+            × EndsBad (L.texts letters.now) self.old piece.now (record { script = lines; bad = Some fault }) }
     {
         let mut left = piece;
         'lines: loop {
@@ -86,13 +84,11 @@ impl Reading {
         letters: &L,
         script: &mut Vec<u8>,
     ) -> Result<(), EncodeEnd>
-        ensures taken { OnOk result ((texts : Texts) → L.texts letters.now ≡ Some texts
-            → (script.new.items ≡ script.old.items ++ (encoding_behind texts self.old []).script)
-            × ((encoding_behind texts self.old []).bad ≡ None)) }
-        ensures bad { (texts : Texts) → L.texts letters.now ≡ Some texts
-            → (fault : EncodeFault) → result ≡ Err (EncodeEnd.BadLine fault)
+        ensures taken { OnOk result ((lines : List ℕ) × (script.new.items ≡ script.old.items ++ lines)
+            × BecomesBehind (L.texts letters.now) self.old [] (record { script = lines; bad = None })) }
+        ensures bad { (fault : EncodeFault) → result ≡ Err (EncodeEnd.BadLine fault)
             → (script.new.items ≡ script.old.items)
-            × (encoding_behind texts self.old [] ≡ record { script = []; bad = Some fault }) }
+            × BecomesBehind (L.texts letters.now) self.old [] (record { script = []; bad = Some fault }) }
     {
         if self.front.is_empty() {
             Ok(())
@@ -109,14 +105,12 @@ impl Reading {
         script: &mut Vec<u8>,
     ) -> Result<(), EncodeEnd>
         requires { All (λ b. (b == 10) ≡ false) end.now }
-        ensures taken { OnOk result ((texts : Texts) → L.texts letters.now ≡ Some texts
-            → (lines : List ℕ) × (script.new.items ≡ script.old.items ++ lines)
-            × Takes texts self.old (end.now ++ 10 ∷ []) lines self.new) }
-        ensures bad { (texts : Texts) → L.texts letters.now ≡ Some texts
-            → (fault : EncodeFault) → result ≡ Err (EncodeEnd.BadLine fault)
+        ensures taken { OnOk result ((lines : List ℕ) × (script.new.items ≡ script.old.items ++ lines)
+            × Takes (L.texts letters.now) self.old (end.now ++ 10 ∷ []) lines self.new) }
+        ensures bad { (fault : EncodeFault) → result ≡ Err (EncodeEnd.BadLine fault)
             → (script.new.items ≡ script.old.items)
-            × ((more : List ℕ) → encoding_behind texts self.old (end.now ++ 10 ∷ more)
-            ≡ record { script = []; bad = Some fault }) }
+            × ((more : List ℕ) → BecomesBehind (L.texts letters.now) self.old (end.now ++ 10 ∷ more)
+            (record { script = []; bad = Some fault })) }
     {
         self.keep(end)?;
         self.take_front(letters, script)
@@ -138,16 +132,12 @@ impl Reading {
 
     /// Takes the line that has come, appends what it becomes, and counts it.
     fn take_front<L: Letters>(&mut self, letters: &L, script: &mut Vec<u8>) -> Result<(), EncodeEnd>
-        ensures taken { OnOk result ((texts : Texts) → L.texts letters.now ≡ Some texts
-            → (lines : List ℕ) × (script.new.items ≡ script.old.items ++ lines)
-            × ((rest : List (List ℕ)) → encoding_of_lines texts self.old.states self.old.number (self.old.front ∷ rest)
-            ≡ behind_script lines (encoding_of_lines texts self.new.states self.new.number rest))) }
+        ensures taken { OnOk result ((lines : List ℕ) × (script.new.items ≡ script.old.items ++ lines)
+            × TakesLine (L.texts letters.now) self.old self.old.front lines self.new) }
         ensures cleared { OnOk result (self.new.front ≡ []) }
-        ensures bad { (texts : Texts) → L.texts letters.now ≡ Some texts
-            → (fault : EncodeFault) → result ≡ Err (EncodeEnd.BadLine fault)
+        ensures bad { (fault : EncodeFault) → result ≡ Err (EncodeEnd.BadLine fault)
             → (script.new.items ≡ script.old.items)
-            × ((rest : List (List ℕ)) → encoding_of_lines texts self.old.states self.old.number (self.old.front ∷ rest)
-            ≡ record { script = []; bad = Some fault }) }
+            × IsBadLine (L.texts letters.now) self.old self.old.front (record { script = []; bad = Some fault }) }
     {
         match take_short(&mut self.encoder, &self.front, letters, script) {
             Ok(()) => {}
@@ -170,8 +160,8 @@ fn take_short<L: Letters>(
     script: &mut Vec<u8>,
 ) -> Result<(), Reason>
     requires { length line.now ≤ 1048576 }
-    ensures { (texts : Texts) → L.texts letters.now ≡ Some texts
-        → IsAppended result (outcome_in_text texts encoder.old line.now) encoder.old encoder.new script.old.items
+    ensures { (texts : Texts) × AreAnswered (L.texts letters.now) texts
+        × IsAppended result (outcome_in_text texts encoder.old line.now) encoder.old encoder.new script.old.items
         script.new.items }
 {
     take_bytes(encoder, line, letters, script)
@@ -184,8 +174,8 @@ fn take_bytes<L: Letters>(
     letters: &L,
     script: &mut Vec<u8>,
 ) -> Result<(), Reason>
-    ensures { (texts : Texts) → L.texts letters.now ≡ Some texts
-        → IsAppended result (bytes_taken texts encoder.old line.now) encoder.old encoder.new script.old.items
+    ensures { (texts : Texts) × AreAnswered (L.texts letters.now) texts
+        × IsAppended result (bytes_taken texts encoder.old line.now) encoder.old encoder.new script.old.items
         script.new.items }
 {
     match str::from_utf8(line) {
@@ -202,8 +192,8 @@ fn take_words<L: Letters>(
     letters: &L,
     script: &mut Vec<u8>,
 ) -> Result<(), Reason>
-    ensures { (texts : Texts) → L.texts letters.now ≡ Some texts
-        → IsAppended result (words_taken texts encoder.old line.now) encoder.old encoder.new script.old.items
+    ensures { (texts : Texts) × AreAnswered (L.texts letters.now) texts
+        × IsAppended result (words_taken texts encoder.old line.now) encoder.old encoder.new script.old.items
         script.new.items }
 {
     if is_of_file(line) {
@@ -221,8 +211,8 @@ fn take_file<L: Letters>(
     letters: &L,
     script: &mut Vec<u8>,
 ) -> Result<(), Reason>
-    ensures { (texts : Texts) → L.texts letters.now ≡ Some texts
-        → IsAppended result (file_taken texts encoder.old line.now) encoder.old encoder.new script.old.items
+    ensures { (texts : Texts) × AreAnswered (L.texts letters.now) texts
+        × IsAppended result (file_taken texts encoder.old line.now) encoder.old encoder.new script.old.items
         script.new.items }
 {
     let (name, rest) = parted(line, ':');

@@ -4,8 +4,8 @@ ghost use Rattle.std.specs.Prelude.{◌≡◌, ◌<◌, ◌≤◌, ℕ, [], ◌+
 ghost use Rattle.std.specs.Prelude.{Err, Some, None, MatchOption};
 ghost use Rattle.std.specs.Io.KnownBytes.{Appends, Consumes, IsAtEnd};
 ghost use Rattle.njh_io.specs.Written.{AppendsBeginning};
-ghost use Rattle.njh_encode.specs.Scripts.{Texts, encoding_of};
-ghost use Rattle.njh_encode.specs.code.Reading.{EndsBad, Takes, encoding_behind};
+ghost use Rattle.njh_encode.specs.Scripts.{IsEncodedInPart, IsEncodedTo};
+ghost use Rattle.njh_encode.specs.code.Reading.{EndsBad, IsWritten, IsWrittenInPart, Takes};
 
 use crate::fault::{EncodeEnd, EncodeFault};
 use crate::letters::Letters;
@@ -29,20 +29,16 @@ pub fn encode_script<R: Read, L: Letters, W: Write>(
     out: &mut W,
 ) -> Result<(), EncodeEnd>
     // No line of all that the reader had is bad, and what they become is written.
-    ensures done { OnOk result ((texts : Texts) → L.texts letters.now ≡ Some texts
-        → IfSome (R.remaining input.old) (λ text. ((encoding_of texts text).bad ≡ None)
-        × Appends (W.contents out.old) (W.contents out.new) (encoding_of texts text).script)) }
+    ensures done { OnOk result (IfSome (R.remaining input.old)
+        (IsEncodedTo (L.texts letters.now) None (W.contents out.old) (W.contents out.new))) }
 
     // This is the first bad line, and what those before it become is written.
-    ensures bad { (texts : Texts) → L.texts letters.now ≡ Some texts
-        → (fault : EncodeFault) → result ≡ Err (EncodeEnd.BadLine fault)
-        → IfSome (R.remaining input.old) (λ text. ((encoding_of texts text).bad ≡ Some fault)
-        × Appends (W.contents out.old) (W.contents out.new) (encoding_of texts text).script) }
+    ensures bad { (fault : EncodeFault) → result ≡ Err (EncodeEnd.BadLine fault) → IfSome (R.remaining input.old)
+        (IsEncodedTo (L.texts letters.now) (Some fault) (W.contents out.old) (W.contents out.new)) }
 
     // However it ends early, a beginning of the same script is written.
-    ensures begun { OnErr result ((texts : Texts) → L.texts letters.now ≡ Some texts
-        → IfSome (R.remaining input.old)
-        (λ text. AppendsBeginning (W.contents out.old) (W.contents out.new) (encoding_of texts text).script)) }
+    ensures begun { OnErr result (IfSome (R.remaining input.old)
+        (IsEncodedInPart (L.texts letters.now) (W.contents out.old) (W.contents out.new))) }
 {
     let mut reading = Reading::new(alloc);
     let mut script = Vec::new(alloc);
@@ -59,16 +55,12 @@ fn encode_all<R: Read, L: Letters, W: Write>(
 ) -> Result<(), EncodeEnd>
     requires none { reading.old ≡ record { states = []; number = 1; front = [] } }
     requires empty { script.old.items ≡ [] }
-    ensures done { OnOk result ((texts : Texts) → L.texts letters.now ≡ Some texts
-        → IfSome (R.remaining input.old) (λ text. ((encoding_of texts text).bad ≡ None)
-        × Appends (W.contents out.old) (W.contents out.new) (encoding_of texts text).script)) }
-    ensures bad { (texts : Texts) → L.texts letters.now ≡ Some texts
-        → (fault : EncodeFault) → result ≡ Err (EncodeEnd.BadLine fault)
-        → IfSome (R.remaining input.old) (λ text. ((encoding_of texts text).bad ≡ Some fault)
-        × Appends (W.contents out.old) (W.contents out.new) (encoding_of texts text).script) }
-    ensures begun { OnErr result ((texts : Texts) → L.texts letters.now ≡ Some texts
-        → IfSome (R.remaining input.old)
-        (λ text. AppendsBeginning (W.contents out.old) (W.contents out.new) (encoding_of texts text).script)) }
+    ensures done { OnOk result (IfSome (R.remaining input.old)
+        (IsEncodedTo (L.texts letters.now) None (W.contents out.old) (W.contents out.new))) }
+    ensures bad { (fault : EncodeFault) → result ≡ Err (EncodeEnd.BadLine fault) → IfSome (R.remaining input.old)
+        (IsEncodedTo (L.texts letters.now) (Some fault) (W.contents out.old) (W.contents out.new)) }
+    ensures begun { OnErr result (IfSome (R.remaining input.old)
+        (IsEncodedInPart (L.texts letters.now) (W.contents out.old) (W.contents out.new))) }
 {
     let mut piece = [0; PIECE];
     for _ in 0..u64::MAX {
@@ -111,17 +103,14 @@ fn encode_piece<L: Letters, W: Write>(
     out: &mut W,
 ) -> Result<(), EncodeEnd>
     requires { script.old.items ≡ [] }
-    ensures taken { OnOk result ((texts : Texts) → L.texts letters.now ≡ Some texts
-        → (lines : List ℕ) × Appends (W.contents out.old) (W.contents out.new) lines
-        × Takes texts reading.old piece.now lines reading.new) }
+    ensures taken { OnOk result ((lines : List ℕ) × Appends (W.contents out.old) (W.contents out.new) lines
+        × Takes (L.texts letters.now) reading.old piece.now lines reading.new) }
     ensures empty { OnOk result (script.new.items ≡ []) }
-    ensures bad { (texts : Texts) → L.texts letters.now ≡ Some texts
-        → (fault : EncodeFault) → result ≡ Err (EncodeEnd.BadLine fault)
+    ensures bad { (fault : EncodeFault) → result ≡ Err (EncodeEnd.BadLine fault)
         → (lines : List ℕ) × Appends (W.contents out.old) (W.contents out.new) lines
-        × EndsBad texts reading.old piece.now (record { script = lines; bad = Some fault }) }
-    ensures begun { OnErr result ((texts : Texts) → L.texts letters.now ≡ Some texts
-        → (more : List ℕ) → AppendsBeginning (W.contents out.old) (W.contents out.new)
-        (encoding_behind texts reading.old (piece.now ++ more)).script) }
+        × EndsBad (L.texts letters.now) reading.old piece.now (record { script = lines; bad = Some fault }) }
+    ensures begun { OnErr result ((more : List ℕ) → IsWrittenInPart (L.texts letters.now) reading.old
+        (W.contents out.old) (W.contents out.new) (piece.now ++ more)) }
 {
     match reading.take(piece, letters, script) {
         Ok(()) => {
@@ -146,16 +135,12 @@ fn encode_end<L: Letters, W: Write>(
     out: &mut W,
 ) -> Result<(), EncodeEnd>
     requires { script.old.items ≡ [] }
-    ensures done { OnOk result ((texts : Texts) → L.texts letters.now ≡ Some texts
-        → ((encoding_behind texts reading.old []).bad ≡ None)
-        × Appends (W.contents out.old) (W.contents out.new) (encoding_behind texts reading.old []).script) }
-    ensures bad { (texts : Texts) → L.texts letters.now ≡ Some texts
-        → (fault : EncodeFault) → result ≡ Err (EncodeEnd.BadLine fault)
-        → ((encoding_behind texts reading.old []).bad ≡ Some fault)
-        × Appends (W.contents out.old) (W.contents out.new) (encoding_behind texts reading.old []).script }
-    ensures begun { OnErr result ((texts : Texts) → L.texts letters.now ≡ Some texts
-        → AppendsBeginning (W.contents out.old) (W.contents out.new)
-        (encoding_behind texts reading.old []).script) }
+    ensures done { OnOk result (IsWritten (L.texts letters.now) None reading.old (W.contents out.old)
+        (W.contents out.new)) }
+    ensures bad { (fault : EncodeFault) → result ≡ Err (EncodeEnd.BadLine fault)
+        → IsWritten (L.texts letters.now) (Some fault) reading.old (W.contents out.old) (W.contents out.new) }
+    ensures begun { OnErr result (IsWrittenInPart (L.texts letters.now) reading.old (W.contents out.old)
+        (W.contents out.new) []) }
 {
     match reading.end(letters, script) {
         Ok(()) => write_last(out, script),

@@ -1,12 +1,10 @@
-use Rattle.std.proofs.Common.{◌≡◌, length, Some}
-use Rattle.njh_encode.specs.Scripts.{Texts}
+use Rattle.std.proofs.Common.{length}
 use Rattle.njh_encode.proofs.ReadingLaws.{IsReadUpTo}
 use Rattle.njh_encode.proofs.reading.Reading.take.Given as goal
 
 -- what was read of the piece so far
 abbrev pub invariant-lines : goal.invariant-lines
-invariant-lines g l = (texts : Texts) → g.L.Letters.texts l.fn.letters ≡ Some texts
-    → IsReadUpTo texts l.fn.self l.fn.piece l.fn.script.items l.left l.script.items l.self
+invariant-lines g l = IsReadUpTo (g.L.Letters.texts l.fn.letters) l.fn.self l.fn.piece l.fn.script.items l.left l.script.items l.self
 
 abbrev pub decreases-lines : goal.decreases-lines
 decreases-lines g l = length l.left
