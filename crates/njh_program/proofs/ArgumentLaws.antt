@@ -16,8 +16,8 @@ use Rattle.clap.specs.declared.parser.matches.ArgMatches.{ArgMatches}
 use Rattle.clap.specs.declared.parser.matches.ArgMatches.TheViews.{out-ArgMatches, out-SubCommand}
 use Rattle.njh_program.specs.declared.arguments.Request.{Request}
 use Rattle.njh_program.specs.declared.serve_options.Unasked.{Unasked}
-use Rattle.njh_program.specs.declared.serve_options.Unasked.TheVariants.{Missing, NoAddress}
-use Rattle.njh_program.specs.Arguments.{AsksFor, AsksIn, HasNoAddress, IsUnasked, IsUnaskedBy, program_app}
+use Rattle.njh_program.specs.declared.serve_options.Unasked.TheVariants.{Missing, NoAddress, Nothing}
+use Rattle.njh_program.specs.Arguments.{AsksFor, AsksIn, HasNoAddress, HasNothing, IsUnasked, IsUnaskedBy, program_app}
 
 cond-map : {X Y : Type 0} (f : X → Y) (b : Bool) (x : X) (o : Option Y) (later : Option X) → o ≡ option_map f later
     → cond b (Some (f x)) o ≡ option_map f (cond b (Some x) later)
@@ -88,6 +88,7 @@ pub serves_refused : (m : ArgMatches) (named : Text × List Row) → subcommand_
     → IfErr r (IsUnasked named.1) → IfErr r (IsUnaskedBy (subcommand_rows_of m))
 serves_refused m named is (Ok request) unasked = tt
 serves_refused m named is (Err Missing) unasked = tt
+serves_refused m named is (Err Nothing) unasked = subst HasNothing (sym is) unasked
 serves_refused m named is (Err (NoAddress text)) unasked = subst HasNoAddress (sym is) unasked
 
 -- a text that is tested for a word

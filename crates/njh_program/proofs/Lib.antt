@@ -1,1 +1,2 @@
 mod ArgumentLaws
+mod CheckLaws

@@ -9,11 +9,11 @@ use Rattle.clap.specs.Words.{App, HasKind, Row, Rule, Text, fault_of, first_of, 
 use Rattle.clap.specs.Words.{subcommand_of, with_rule, with_subcommand}
 use Rattle.clap.specs.declared.builder.ArgAction.TheVariants.{Set, SetTrue}
 use Rattle.clap.specs.declared.error.Error.{Error}
-use Rattle.clap.specs.declared.error.kind.ErrorKind.TheVariants.{MissingSubcommand, ValueValidation}
+use Rattle.clap.specs.declared.error.kind.ErrorKind.TheVariants.{MissingRequiredArgument, MissingSubcommand, ValueValidation}
 use Rattle.njh_program.specs.declared.arguments.Request.{Request}
-use Rattle.njh_program.specs.declared.arguments.Request.TheVariants.{Decode, Replay, Serve}
+use Rattle.njh_program.specs.declared.arguments.Request.TheVariants.{CheckScript, CheckTables, Decode, Encode, Replay, Serve}
 use Rattle.njh_program.specs.declared.serve_options.Unasked.{Unasked}
-use Rattle.njh_program.specs.declared.serve_options.Unasked.TheVariants.{Missing, NoAddress}
+use Rattle.njh_program.specs.declared.serve_options.Unasked.TheVariants.{Missing, NoAddress, Nothing}
 
 -- a text is this number's digits, before which a plus may stand
 abbrev pub Spells : Text → ℕ → Type 0
@@ -62,6 +62,21 @@ serve_app = with_rule (with_rule bounded_serve_app listen_rule) (flag_rule (code
 abbrev pub decode_app : App
 decode_app = with_rule (new_app (codes "decode")) (flag_rule (codes "hex"))
 
+-- `encode`, which has no option
+abbrev pub encode_app : App
+encode_app = new_app (codes "encode")
+
+-- `check`, and its options: a table file, and a script
+abbrev pub script_rule : Rule
+script_rule = record (new_rule (codes "script")) {
+  long = Some (codes "script");
+  value_names = 1;
+  action = Some Set;
+}
+
+abbrev pub check_app : App
+check_app = with_rule (with_rule (new_app (codes "check")) tables_rule) script_rule
+
 -- a program whose first word is a subcommand
 abbrev pub bare_app : App
 bare_app = let a = new_app (codes "njehub") in record a {
@@ -76,8 +91,14 @@ replaying_app = with_subcommand bare_app replay_app.top
 abbrev pub serving_app : App
 serving_app = with_subcommand replaying_app serve_app.top
 
+abbrev pub decoding_app : App
+decoding_app = with_subcommand serving_app decode_app.top
+
+abbrev pub encoding_app : App
+encoding_app = with_subcommand decoding_app encode_app.top
+
 abbrev pub program_app : App
-program_app = with_subcommand serving_app decode_app.top
+program_app = with_subcommand encoding_app check_app.top
 
 -- as many turns as a text spells, or no end of them where there is none
 abbrev pub CountsTurns : Option Text → Option ℕ → Type 0
@@ -93,12 +114,19 @@ abbrev pub IsFlag : Text → List Row → Bool → Type 0
 IsFlag flag rows set = IsTrue set ↔ (first_of flag rows ≡ Some (codes "true"))
 
 -- What a subcommand and its rows ask for: to replay by these tables, in words or not; to serve those of this file, for
--- so many turns, at that address, and with a log or without; or to say a trace in words, with hex or without.
+-- so many turns, at that address, and with a log or without; to say a trace in words, with hex or without; to encode
+-- lines in words; or to check this table file, or a script by these tables.
 abbrev pub AsksFor : Text × List Row → Request → Type 0
 AsksFor named (Replay tables in_words) = (named.0 ≡ codes "replay")
     × (first_of (codes "tables") named.1 ≡ option_map (λ s. s.now) tables)
     × IsFlag (codes "decode") named.1 in_words
 AsksFor named (Decode hex) = (named.0 ≡ codes "decode") × IsFlag (codes "hex") named.1 hex
+AsksFor named Encode = named.0 ≡ codes "encode"
+AsksFor named (CheckTables tables) = (named.0 ≡ codes "check")
+    × (first_of (codes "tables") named.1 ≡ Some tables.now) × (first_of (codes "script") named.1 ≡ None)
+AsksFor named (CheckScript tables file) = (named.0 ≡ codes "check")
+    × (first_of (codes "tables") named.1 ≡ option_map (λ s. s.now) tables)
+    × (first_of (codes "script") named.1 ≡ Some file.now)
 AsksFor named (Serve tables turns listen quiet) = (named.0 ≡ codes "serve")
     × (first_of (codes "tables") named.1 ≡ Some tables.now)
     × CountsTurns (first_of (codes "turns") named.1) turns
@@ -120,22 +148,34 @@ NamesNoAddress rows = IsSomeAnd (first_of (codes "listen") rows) (λ text. (addr
 abbrev pub HasNoAddress : Option (Text × List Row) → Type 0
 HasNoAddress named = IsSomeAnd named (λ p. NamesNoAddress p.1)
 
--- why the rows of `serve` ask for nothing
+-- neither a table file nor a script is named
+abbrev pub NamesNothing : List Row → Type 0
+NamesNothing rows = (first_of (codes "tables") rows ≡ None) × (first_of (codes "script") rows ≡ None)
+
+abbrev pub HasNothing : Option (Text × List Row) → Type 0
+HasNothing named = IsSomeAnd named (λ p. NamesNothing p.1)
+
+-- why the rows of `serve` or of `check` ask for nothing
 abbrev pub IsUnasked : List Row → Unasked → Type 0
 IsUnasked rows Missing = ⊤
+IsUnasked rows Nothing = NamesNothing rows
 IsUnasked rows (NoAddress text) = NamesNoAddress rows
 
 -- and why a parse does
 abbrev pub IsUnaskedBy : Option (Text × List Row) → Unasked → Type 0
 IsUnaskedBy named Missing = ⊤
+IsUnaskedBy named Nothing = HasNothing named
 IsUnaskedBy named (NoAddress text) = HasNoAddress named
 
 -- the refusal that says so
 abbrev pub IsRefusalOf : Unasked → Error → Type 0
 IsRefusalOf Missing error = kind_of error ≡ MissingSubcommand
+IsRefusalOf Nothing error = kind_of error ≡ MissingRequiredArgument
 IsRefusalOf (NoAddress text) error = kind_of error ≡ ValueValidation
 
--- The arguments are refused so: as clap's definitions say of this program, or since an address is none.
+-- The arguments are refused so: as clap's definitions say of this program, or since an address is none, or nothing is
+-- named to be checked.
 abbrev pub AreRefusedBy : List Text → Error → Type 0
 AreRefusedBy arguments error = HasKind (MissingSubcommand ∷ fault_of program_app arguments) error
     ⊎ ((kind_of error ≡ ValueValidation) × HasNoAddress (subcommand_of program_app arguments))
+    ⊎ ((kind_of error ≡ MissingRequiredArgument) × HasNothing (subcommand_of program_app arguments))

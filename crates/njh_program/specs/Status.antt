@@ -1,8 +1,9 @@
 -- Why the program ends, and the status that it ends with.
 use Rattle.std.specs.Prelude.{◌≡◌, ◌≢◌, ◌⊎◌, ℕ, Result, Ok, Err}
 use Rattle.njh_program.specs.declared.failure.Failure.{Failure}
-use Rattle.njh_program.specs.declared.failure.Failure.TheVariants.{Arguments, Tables, Replay, Trace}
+use Rattle.njh_program.specs.declared.failure.Failure.TheVariants.{Arguments, Encode, Found, Replay, Tables, Trace}
 use Rattle.njh_program.specs.declared.failure.Failure.TheVariants as failure
+use Rattle.njh_encode.specs.declared.fault.EncodeEnd.TheVariants as encode
 use Rattle.njh_replay.specs.declared.fault.ReplayFault.TheVariants.{TooLong, Script, Device, Hub}
 use Rattle.njh_serve.specs.declared.fault.ServeFault.{ServeFault}
 use Rattle.njh_serve.specs.declared.fault.ServeFault.TheVariants as serve
@@ -15,7 +16,8 @@ abbrev pub table_status : TableFault → ℕ
 table_status Memory = 2
 table_status fault = 1
 
--- 1 where arguments, tables, the script or the trace are refused, 2 where a device or memory fails
+-- 1 where arguments, tables, the script, the trace or a line in words are refused, or a check found a fault; 2 where a
+-- device or memory fails
 abbrev pub status_of : Failure → ℕ
 status_of (Arguments error) = 1
 status_of (Tables fault) = table_status fault
@@ -26,13 +28,19 @@ status_of (Replay (Hub fault)) = 2
 status_of (Trace trace.TooLong) = 1
 status_of (Trace trace.Device) = 2
 status_of (Trace trace.Memory) = 2
+status_of (Encode (encode.BadLine fault)) = 1
+status_of (Encode encode.Device) = 2
+status_of (Encode encode.Memory) = 2
+status_of Found = 1
 status_of failure.Device = 2
 status_of failure.Memory = 2
 
--- What is refused before anything is written: all that has status 1 but a trace, of which the lines before a line that is
--- too long were told.
+-- What is refused before anything is written: all that has status 1 but a trace, of which the lines before a line that
+-- is too long were told, a line in words, where what the lines before it become was written, and what a check found.
 abbrev pub ComesFirst : Failure → Type 0
 ComesFirst (Trace fault) = ⊥
+ComesFirst (Encode end) = ⊥
+ComesFirst Found = ⊥
 ComesFirst failure = status_of failure ≡ 1
 
 -- the status to end with: 0 where nothing failed

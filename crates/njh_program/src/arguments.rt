@@ -4,9 +4,11 @@ ghost use Rattle.std.specs.Prelude.{◌≡◌, ◌≢◌, [], ◌∷◌, false, 
 ghost use Rattle.clap.specs.Words.{app_of, fault_of, kind_of, subcommand_of, subcommand_rows_of};
 ghost use Rattle.clap.specs.Words.{HasKind};
 ghost use Rattle.njh_program.specs.Arguments.{AreRefusedBy, Asks, AsksIn, IsRefusalOf, IsUnaskedBy, bare_app};
-ghost use Rattle.njh_program.specs.Arguments.{program_app, replaying_app, serving_app};
+ghost use Rattle.njh_program.specs.Arguments.{decoding_app, encoding_app, program_app, replaying_app, serving_app};
 
+use crate::check_options::{check_command, checked_in};
 use crate::decode_options::decode_command;
+use crate::encode_options::encode_command;
 use crate::options::is_set;
 use crate::replay_options::{replay_command, replayed_in};
 use crate::serve_options::{Unasked, serve_command, served_in};
@@ -41,6 +43,20 @@ pub enum Request<'a> {
     Decode {
         /// With bytes in hex beside the words.
         hex: bool,
+    },
+    /// To make a script of lines in words.
+    Encode,
+    /// To check a table file.
+    CheckTables {
+        /// The table file.
+        tables: &'a str,
+    },
+    /// To check a script.
+    CheckScript {
+        /// The table file; the built-in tables where none is named.
+        tables: Option<&'a str>,
+        /// The file with the script.
+        file: &'a str,
     },
 }
 
@@ -92,6 +108,8 @@ fn request_in<'a>(found: &ArgMatches<'a>) -> Result<Request<'a>, Unasked<'a>>
         Some(("decode", options)) => Ok(Request::Decode {
             hex: is_set(options, "hex"),
         }),
+        Some(("encode", _)) => Ok(Request::Encode),
+        Some(("check", options)) => checked_in(options),
         _ => Err(Unasked::Missing),
     }
 }
@@ -106,6 +124,10 @@ fn refusal_of(
 {
     match why {
         Unasked::Missing => program.error(ErrorKind::MissingSubcommand, "no subcommand"),
+        Unasked::Nothing => program.error(
+            ErrorKind::MissingRequiredArgument,
+            "nothing to check: name --tables F, --script F or both",
+        ),
         Unasked::NoAddress(text) => {
             let message = format!(in alloc;
                 "invalid value '{text}' for '--listen <ADDRESS>': invalid IP address syntax"
@@ -118,6 +140,23 @@ fn refusal_of(
 /// The program and its subcommands.
 fn program_command<'a>(alloc: Global) -> Result<Command<'a>, AllocError>
     ensures { IfOk result (λ command. app_of command ≡ program_app) }
+{
+    let check = check_command(alloc)?;
+    let program = encoding_command(alloc)?;
+    program.subcommand(check)
+}
+
+/// The program and its first four subcommands.
+fn encoding_command<'a>(alloc: Global) -> Result<Command<'a>, AllocError>
+    ensures { IfOk result (λ command. app_of command ≡ encoding_app) }
+{
+    let program = decoding_command(alloc)?;
+    program.subcommand(encode_command(alloc))
+}
+
+/// The program and its first three subcommands.
+fn decoding_command<'a>(alloc: Global) -> Result<Command<'a>, AllocError>
+    ensures { IfOk result (λ command. app_of command ≡ decoding_app) }
 {
     let decode = decode_command(alloc)?;
     let program = serving_command(alloc)?;

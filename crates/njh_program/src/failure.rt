@@ -6,6 +6,7 @@ ghost use Rattle.clap.specs.Words.{kind_of};
 ghost use Rattle.njh_program.specs.Status.{status_of, failure_of, Becomes};
 
 use clap::error::ErrorKind;
+use njh_encode::EncodeEnd;
 use njh_hub::HubFault;
 use njh_replay::ReplayFault;
 use njh_serve::ServeFault;
@@ -25,6 +26,10 @@ pub enum Failure {
     Replay(ReplayFault),
     /// The trace wasn't said to its end.
     Trace(TraceFault),
+    /// The lines in words weren't all encoded.
+    Encode(EncodeEnd),
+    /// A check found a fault, and said it on standard output.
+    Found,
     /// A file or a stream failed outside a replay, or lines could not be served.
     Device,
     /// There was no memory, outside a replay.
@@ -32,8 +37,8 @@ pub enum Failure {
 }
 
 impl Failure {
-    /// The status to end with: 1 where the arguments, the tables, the script or the trace are refused, 2 where a file,
-    /// a stream or memory fails.
+    /// The status to end with: 1 where the arguments, the tables, the script, the trace or a line in words are refused,
+    /// or a check found a fault; 2 where a file, a stream or memory fails.
     pub fn status(&self) -> u8
         ensures { result ≡ status_of self.now }
     {
@@ -48,6 +53,10 @@ impl Failure {
             Failure::Trace(TraceFault::TooLong) => 1,
             Failure::Trace(TraceFault::Device) => 2,
             Failure::Trace(TraceFault::Memory) => 2,
+            Failure::Encode(EncodeEnd::BadLine(_)) => 1,
+            Failure::Encode(EncodeEnd::Device) => 2,
+            Failure::Encode(EncodeEnd::Memory) => 2,
+            Failure::Found => 1,
             Failure::Device => 2,
             Failure::Memory => 2,
         }
@@ -55,13 +64,15 @@ impl Failure {
 }
 
 impl fmt::Display for Failure {
-    /// One line, but for the text of arguments that are refused.
+    /// One line, but for the text of arguments that are refused; nothing of what a check found.
     fn fmt<W: fmt::Write>(&self, f: &mut fmt::Formatter<W>) -> fmt::Result {
         match self {
             Failure::Arguments(error) => write!(f, "{error}"),
             Failure::Tables(fault) => writeln!(f, "njehub: {fault}"),
             Failure::Replay(fault) => writeln!(f, "njehub: {fault}"),
             Failure::Trace(fault) => writeln!(f, "njehub: {fault}"),
+            Failure::Encode(end) => writeln!(f, "njehub: {end}"),
+            Failure::Found => Ok(()),
             Failure::Device => writeln!(f, "njehub: {}", ReplayFault::Device),
             Failure::Memory => writeln!(f, "njehub: {}", HubFault::Memory),
         }
@@ -109,6 +120,16 @@ impl From<TraceFault> for Failure {
 
     fn from(fault: TraceFault) -> Failure {
         Failure::Trace(fault)
+    }
+}
+
+impl From<EncodeEnd> for Failure {
+    ghost use Rattle.njh_program.specs.declared.failure.Failure.TheVariants.{Encode};
+
+    ghost from_gives = { λ end failure. failure ≡ Encode end };
+
+    fn from(end: EncodeEnd) -> Failure {
+        Failure::Encode(end)
     }
 }
 

@@ -1,16 +1,21 @@
 //! All of the program: arguments, the table file, and what they ask for: to replay a script, to serve lines on sockets,
-//! or to say a trace in words.
+//! to say a trace in words, to make a script of lines in words, or to check a table file or a script.
 #![tactic(auto)]
 
 mod arguments;
+mod check_options;
+mod checking;
 mod decode_options;
+mod encode_options;
 mod failure;
+mod letters;
 mod options;
 mod program;
 mod replay_options;
 mod serve_options;
 mod service;
 mod standard_error;
+mod table_check;
 mod table_file;
 mod table_source;
 mod words;

@@ -1,17 +1,23 @@
 //! The whole of the program, over any files and streams.
 
-ghost use Rattle.std.specs.Prelude.{◌≡◌, ◌≤◌, ◌⊎◌, map, IfErr, OnOk, OnErr};
+ghost use Rattle.std.specs.Prelude.{◌≡◌, ◌≤◌, ◌⊎◌, map, Err, IfErr, OnOk, OnErr};
 ghost use Rattle.std.specs.Io.KnownBytes.{Keeps};
 ghost use Rattle.std.specs.Process.{exit_status};
-ghost use Rattle.njh_program.specs.ProgramOutcome.{IsBegunFor, IsRunDone, IsFailed};
+ghost use Rattle.njh_encode.specs.declared.fault.EncodeEnd.TheVariants.{BadLine};
+ghost use Rattle.njh_encode.specs.declared.fault.EncodeFault.{EncodeFault};
+ghost use Rattle.njh_program.specs.ProgramOutcome.{IsBegunFor, IsEncodedBefore, IsFailed, IsFound, IsRunDone};
 ghost use Rattle.njh_program.specs.Status.{status_after, ComesFirst};
 
 use crate::arguments::{Request, not_utf8, request_of};
+use crate::checking::check_script_file;
 use crate::failure::Failure;
+use crate::letters::FileLetters;
 use crate::service::{Options, serve_file};
 use crate::standard_error::StandardError;
+use crate::table_check::check_tables_file;
 use crate::table_file::tables_of;
 use crate::words::replay_in_words;
+use njh_encode::encode_script;
 use njh_replay::replay;
 use njh_service::Log;
 use njh_trace::decode_trace;
@@ -78,7 +84,8 @@ fn arguments_of<R: Env + AllocGlobal>(rt: &R) -> Result<Vec<String>, Failure> {
 }
 
 /// Does what the arguments ask for: the arguments are checked first, then the tables, then the script. The log of a
-/// service goes to `log`. `script` is what the program is given to read: a script, or for `decode` a trace.
+/// service goes to `log`. `script` is what the program is given to read: a script, for `decode` a trace, for `encode`
+/// lines in words.
 pub fn carry_out<
     F: Files + Net + Clock + AllocGlobal,
     S: AsStr,
@@ -89,6 +96,11 @@ pub fn carry_out<
     ensures done { OnOk result (IsRunDone (map S.text arguments.now) (R.remaining script.old) (W.contents out.old)
         (W.contents out.new)) }
     ensures failed { IfErr result (IsFailed (map S.text arguments.now) (R.remaining script.old)) }
+    // Of a bad line in words, and of what a check found, it is exact.
+    ensures bad { (fault : EncodeFault) → result ≡ Err (Failure.Encode (BadLine fault)) → IsEncodedBefore
+        (map S.text arguments.now) fault (R.remaining script.old) (W.contents out.old) (W.contents out.new) }
+    ensures found { result ≡ Err Failure.Found
+        → IsFound (map S.text arguments.now) (W.contents out.old) (W.contents out.new) }
     ensures begun { OnErr result (Keeps (W.contents out.old) (W.contents out.new)
         ⊎ IsBegunFor (map S.text arguments.now) (R.remaining script.old) (W.contents out.old) (W.contents out.new)) }
     ensures silent { IfErr result (λ failure. ComesFirst failure → Keeps (W.contents out.old) (W.contents out.new)) }
@@ -106,6 +118,12 @@ pub fn carry_out<
             decode_trace(rt.alloc(), script, out, hex)?;
             Ok(())
         }
+        Request::Encode => {
+            encode_script(rt.alloc(), script, &FileLetters::new(rt), out)?;
+            Ok(())
+        }
+        Request::CheckTables { tables } => check_tables_file(rt, tables, out),
+        Request::CheckScript { tables, file } => check_script_file(rt, tables, file, out),
         Request::Serve {
             tables,
             turns,

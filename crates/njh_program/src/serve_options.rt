@@ -25,6 +25,8 @@ Example:
 pub(crate) enum Unasked<'a> {
     /// It has no subcommand, or lacks what `clap` sees to.
     Missing,
+    /// Nothing is named that is to be checked.
+    Nothing,
     /// The text of `--listen` is no address.
     NoAddress(&'a str),
 }

@@ -5,8 +5,9 @@ ghost use Rattle.njh_program.specs.ProgramOutcome.{AreServedOf};
 ghost use Rattle.njh_program.specs.TableBytes.{AreRefused, IsUnread};
 
 use crate::failure::Failure;
-use crate::table_file::tables_twice;
+use crate::table_file::{table_bytes, tables_twice};
 use crate::table_source::TableFileSource;
+use njh_check::fault_text;
 use njh_serve::{serve, utc_seconds};
 use njh_service::{Log, Revision};
 use std::fmt;
@@ -43,6 +44,7 @@ pub(crate) fn serve_file<F: Files + Net + Clock + AllocGlobal, L: Write + Drop>(
             Ok(())
         }
         Err(failure) => {
+            log_fault(rt, path, &mut log);
             if is_device(&failure) {
                 log.write(
                     utc_seconds(rt),
@@ -54,6 +56,24 @@ pub(crate) fn serve_file<F: Files + Net + Clock + AllocGlobal, L: Write + Drop>(
             }
             Err(failure)
         }
+    }
+}
+
+/// Logs the first fault of a table file and where it is, where it has one.
+fn log_fault<F: Files + Clock + AllocGlobal, L: Write + Drop>(
+    rt: &F,
+    path: &str,
+    log: &mut Log<L>,
+) {
+    let Ok(bytes) = table_bytes(rt, path) else {
+        return;
+    };
+    let Ok(text) = str::from_utf8(&bytes) else {
+        return;
+    };
+    if let Ok(Some(fault)) = fault_text(rt.alloc(), text) {
+        let why = fault.as_str();
+        log.write(utc_seconds(rt), &Unread { path, why });
     }
 }
 
@@ -77,11 +97,11 @@ fn why_unread<F: Files>(rt: &F, path: &str) -> &'static str {
     }
 }
 
-/// A table file that can't be read.
+/// A table file that can't be read, or has a fault.
 #[derive(Clone, Copy, Drop)]
 struct Unread<'a> {
     path: &'a str,
-    why: &'static str,
+    why: &'a str,
 }
 
 impl fmt::Display for Unread<'_> {

@@ -42,7 +42,7 @@ pub(crate) fn tables_twice<R: Files + AllocGlobal>(
 }
 
 /// The bytes of a table file.
-fn table_bytes<R: Files + AllocGlobal>(rt: &R, path: &str) -> Result<Vec<u8>, Failure>
+pub(crate) fn table_bytes<R: Files + AllocGlobal>(rt: &R, path: &str) -> Result<Vec<u8>, Failure>
     ensures { IfErr result IsUnread }
 {
     let mut file = File::open(rt, path)?;

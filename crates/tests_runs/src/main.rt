@@ -6,6 +6,7 @@
 //! program itself on its own arguments, whose tables are refused, and ends as the program ends then.
 #![tactic(auto)]
 
+mod bad_lines;
 mod customers;
 mod damage;
 mod devices;
@@ -46,6 +47,7 @@ fn tried<R: Files + Net + Clock + Print + AllocGlobal>(rt: &R) -> Result<(), Fai
     new_routes::refuse(rt)?;
     route_lines::try_each(rt)?;
     man_page::compare(rt)?;
+    bad_lines::say(rt)?;
     steps::refuse(rt)?;
     soak::run_all(rt)
 }

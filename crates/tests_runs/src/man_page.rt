@@ -9,7 +9,7 @@ use std::{fs, io};
 const PAGE: &str = "njehub.1";
 
 /// The subcommands.
-const NAMES: [&str; 3] = ["replay", "serve", "decode"];
+const NAMES: [&str; 5] = ["replay", "serve", "decode", "encode", "check"];
 
 /// Says of each subcommand how many options the help has, and which of them the man page lacks.
 pub fn compare<R: Files + Net + Clock + Print + AllocGlobal>(rt: &R) -> Result<(), Failure> {

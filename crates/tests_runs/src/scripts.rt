@@ -1,7 +1,8 @@
 //! Stored scripts: the program with each, and what it prints.
 //!
 //! `NAME.script` is the script and `NAME.out` what the program prints, with the line of its failure at the end where it
-//! fails; a file of tables is named by the arguments.
+//! fails; a file of tables is named by the arguments. `NAME.words`, where it is there, is what `decode` prints of
+//! `NAME.out`.
 
 use crate::registry::{self, Entry, entry_of};
 use njh_program::{Failure, carry_out};
@@ -36,6 +37,26 @@ fn compare<R: Files + Net + Clock + Print + AllocGlobal>(
     match first_difference(&text, &wanted) {
         None => println!(rt; "{name}: same, status {status}")?,
         Some(number) => println!(rt; "{name}: differs in line {number}, status {status}")?,
+    }
+    compare_words(rt, name, &wanted)
+}
+
+/// Says whether what is stored says what is stored of it in words, where that is.
+fn compare_words<R: Files + Net + Clock + Print + AllocGlobal>(
+    rt: &R,
+    name: &str,
+    output: &[u8],
+) -> Result<(), Failure> {
+    let file = format!(in rt.alloc(); "{name}.words")?;
+    let Ok(wanted) = fs::read(rt, file.as_str()) else {
+        return Ok(());
+    };
+    let mut words = Vec::new(rt.alloc());
+    let mut left = output;
+    carry_out(rt, &["njehub", "decode"], &mut left, &mut words, io::sink())?;
+    match first_difference(&words, &wanted) {
+        None => println!(rt; "{name}: same in words")?,
+        Some(number) => println!(rt; "{name}: differs in words in line {number}")?,
     }
     Ok(())
 }
