@@ -11,23 +11,58 @@ use std::net::Net;
 use std::rt::{Clock, Files};
 use std::{fs, io};
 
-/// Compares what each script prints with what is stored.
+/// Compares what each script prints with what is stored, and says how many scripts `decode` and `encode` bring back.
 pub fn compare_all<R: Files + Net + Clock + Print + AllocGlobal>(rt: &R) -> Result<(), Failure> {
     let table = fs::read_to_string(rt, registry::FILE)?;
+    let mut brought = 0u32;
     for line in table.as_str().lines() {
         match entry_of(line) {
-            Some(entry) if entry.how.starts_with("program") => compare(rt, entry)?,
+            Some(entry) if entry.how.starts_with("program") => {
+                let status = compare(rt, entry)?;
+                if status == 0 && entry.with.starts_with("replay") && is_brought(rt, entry.name)? {
+                    brought = brought.saturating_add(1);
+                }
+            }
             _ => {}
         }
     }
+    println!(rt; "scripts that decode and encode bring back: {brought}")?;
     Ok(())
 }
 
-/// Says whether a script prints what is stored, and the program's status.
+/// Whether `encode` makes a script of what `decode --hex` says of it; the end of the last line may be new.
+fn is_brought<R: Files + Net + Clock + Print + AllocGlobal>(
+    rt: &R,
+    name: &str,
+) -> Result<bool, Failure> {
+    let file = format!(in rt.alloc(); "{name}.script")?;
+    let script = fs::read(rt, file.as_str())?;
+    let mut told = Vec::new(rt.alloc());
+    let mut left = script.as_slice();
+    carry_out(
+        rt,
+        &["njehub", "decode", "--hex"],
+        &mut left,
+        &mut told,
+        io::sink(),
+    )?;
+    let mut back = Vec::new(rt.alloc());
+    let mut words = told.as_slice();
+    carry_out(rt, &["njehub", "encode"], &mut words, &mut back, io::sink())?;
+    let text = back.as_slice();
+    let whole = text.strip_suffix(b"\n").unwrap_or(text);
+    let brought = text == script.as_slice() || whole == script.as_slice();
+    if !brought {
+        println!(rt; "{name}: decode and encode make another script")?;
+    }
+    Ok(brought)
+}
+
+/// Says whether a script prints what is stored, and the program's status, which it answers.
 fn compare<R: Files + Net + Clock + Print + AllocGlobal>(
     rt: &R,
     entry: Entry<'_>,
-) -> Result<(), Failure> {
+) -> Result<u8, Failure> {
     let name = entry.name;
     let arguments = entry.arguments(rt.alloc())?;
     let mut text = Vec::new(rt.alloc());
@@ -38,7 +73,8 @@ fn compare<R: Files + Net + Clock + Print + AllocGlobal>(
         None => println!(rt; "{name}: same, status {status}")?,
         Some(number) => println!(rt; "{name}: differs in line {number}, status {status}")?,
     }
-    compare_words(rt, name, &wanted)
+    compare_words(rt, name, &wanted)?;
+    Ok(status)
 }
 
 /// Says whether what is stored says what is stored of it in words, where that is.

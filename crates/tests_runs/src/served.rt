@@ -30,6 +30,10 @@ impl Write for Kept<'_> {
 pub fn serve<R: Files + Net + Clock + Print + AllocGlobal>(rt: &R) -> Result<(), Failure> {
     refuse(rt, &["njehub", "serve", "--tables", "no_such.toml"])?;
     refuse(rt, &["njehub", "serve", "--tables", "same_port.toml"])?;
+    refuse(
+        rt,
+        &["njehub", "serve", "--tables", "quotas_over_capacity.toml"],
+    )?;
     refuse(rt, &["njehub", "serve", "--tables", "acme_alone.toml"])?;
     refuse(
         rt,
