@@ -1,5 +1,6 @@
 pub mod FrameLaws
 mod EncodedSoFar
+mod FrameBackLaws
 mod LineLaws
 mod OrderLaws
 mod PackingLaws

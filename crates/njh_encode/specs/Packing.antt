@@ -10,7 +10,7 @@ use Rattle.njh_encode.specs.declared.fault.Reason.{Reason}
 use Rattle.njh_encode.specs.declared.fault.Reason.TheVariants.{NoText}
 use Rattle.njh_encode.specs.declared.line_states.LineState.{LineState}
 use Rattle.njh_encode.specs.declared.posting.Posting.{Posting}
-use Rattle.njh_encode.specs.Encoded.{bytes_line, bytes_of_frame, frame_of_block, next_block}
+use Rattle.njh_encode.specs.Encoded.{ReadsFrame, bytes_line, bytes_of_frame, frame_of_block, next_block}
 use Rattle.njh_encode.specs.Characters.{bytes_of_text}
 use Rattle.njh_encode.specs.LineStates.{counted}
 
@@ -114,3 +114,7 @@ IsData (General srcb rest) = ⊥
 -- a block's text is that block
 abbrev pub ReadsItself : Block → Type 0
 ReadsItself b = read_block (text_of b.bcb b.fcs b.items) ≡ Ok b
+
+-- The bytes of a block's frame are that frame and no other.
+abbrev pub ReadsAsFrame : Block → Type 0
+ReadsAsFrame b = ReadsFrame (frame_of_block b)

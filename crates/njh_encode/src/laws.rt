@@ -3,7 +3,7 @@
 ghost use Rattle.std.specs.Prelude.{◌≡◌, ℕ, [], All, List, Option, Some, false};
 ghost use Rattle.njh_block.specs.Blocks.{Item};
 ghost use Rattle.njh_encode.specs.Lines.{lines_of};
-ghost use Rattle.njh_encode.specs.Packing.{IsData, ReadsItself, items_of_blocks, packed};
+ghost use Rattle.njh_encode.specs.Packing.{IsData, ReadsAsFrame, ReadsItself, items_of_blocks, packed};
 ghost use Rattle.njh_encode.specs.Posted.{is_of_file};
 ghost use Rattle.njh_encode.specs.Scripts.{Becomes, Encoding, Texts, encoding_of};
 ghost use Rattle.njh_encode.specs.declared.line_states.LineState as declared;
@@ -19,6 +19,15 @@ pub fn packed_reads_back()
         → All ReadsItself (packed state [] items) }
 {
     njh_block::reads_back();
+}
+
+/// The bytes of each packed block's frame read as that frame and nothing else, by the grammar of frames.
+pub fn packed_frames_read_back()
+    ensures { (state : declared.LineState) (items : List Item) → All IsData items
+        → All ReadsAsFrame (packed state [] items) }
+{
+    njh_bisync::text_reads_back();
+    njh_record::spelling_bounds();
 }
 
 /// What a text becomes is one thing where it is known what each name gives.

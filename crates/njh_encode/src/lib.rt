@@ -30,7 +30,10 @@ mod words;
 pub use characters::bytes_are_told;
 pub use encoder::Encoder;
 pub use fault::{EncodeEnd, EncodeFault, Reason};
-pub use laws::{known_texts_settle, no_file_settles, packed_in_order, packed_reads_back};
+pub use laws::{
+    known_texts_settle, no_file_settles, packed_frames_read_back, packed_in_order,
+    packed_reads_back,
+};
 pub use letters::{LetterFault, Letters};
 pub use reading::MAX_LINE_BYTES;
 pub use scripts::encode_script;
