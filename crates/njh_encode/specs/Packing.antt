@@ -19,8 +19,8 @@ use Rattle.njh_encode.specs.LineStates.{counted}
 -- a prefix, and a general section with the number, the job's name, the user who gave it, origin and execution
 abbrev pub job_record : Posting → List ℕ
 job_record p =
-    (0 ∷ 100 ∷ 0 ∷ 0 ∷ 0 ∷ 96 ∷ 0 ∷ 0 ∷ []) ++ two_bytes p.number ++ replicate 18 0 ++ p.owner ++ p.owner ++ replicate 24 0
-    ++ p.origin ++ p.owner ++ p.destination ++ p.receiver
+    (0 ∷ 100 ∷ 0 ∷ 0 ∷ 0 ∷ 96 ∷ 0 ∷ 0 ∷ []) ++ two_bytes p.number ++ replicate 18 0 ++ p.owner ++ p.owner
+    ++ replicate 24 0 ++ p.origin ++ p.owner ++ p.destination ++ p.receiver
 
 -- a prefix, and a general section with the destination
 abbrev pub data_set_record : Posting → List ℕ
@@ -76,7 +76,8 @@ writing_on state items = record {
   items = items;
 }
 
--- records as blocks, where these are in the first one already: each goes into the block before it, as long as that has room
+-- records as blocks, where these are in the first one already: each goes into the block before it, as long as that has
+-- room
 abbrev pub packed : LineState → List Item → List Item → List Block
 packed state begun [] = block_of state begun ∷ []
 packed state begun (item ∷ items) =
