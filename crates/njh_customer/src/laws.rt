@@ -106,8 +106,8 @@ pub fn files_leave_so()
 
 /// Which whole files are new: after all that comes, the files are some of those that were there, in their order and
 /// each of its number, of its kind and with its records but for what REROUTE wrote, and behind them others, at most as
-/// many as were counted (`arrived`). So all but the last, as many as the count went on by, were there, and the number of
-/// each says which it was. The count mustn't be at its greatest.
+/// many as were counted (`arrived`). So all but the last, as many as the count went on by, were there, and the number
+/// of each says which it was. The count mustn't be at its greatest.
 pub fn files_survive()
     ensures moves { FilesSurvive }
     ensures events { EventsKeepFiles }

@@ -10,8 +10,8 @@ use Rattle.njh_spool.specs.declared.State.{State}
 use Rattle.njh_texts.specs.Texts.{file_text}
 use Rattle.njh_hub.specs.WholeHub.{Part, part}
 
--- A whole file's name, owner and destination, as its headers say. The headers of every whole file of a hub read (`headers`
--- of `Hub::files` and `Hub::summary_at`), so nothing is ever shown in place of one that doesn't.
+-- A whole file's name, owner and destination, as its headers say. The headers of every whole file of a hub read
+-- (`headers` of `Hub::files` and `Hub::summary_at`), so nothing is ever shown in place of one that doesn't.
 abbrev pub said_name : List Stored → FileName
 said_name records = unwrap_or (name_of records) (record { node = []; number = 0 })
 

@@ -85,7 +85,8 @@ IsRunDone arguments left old new = (request : Request) × Asks arguments request
 abbrev pub IsBegunFor : (arguments : List Text) (left old new : Option (List ℕ)) → Type 0
 IsBegunFor arguments left old new = (request : Request) × Asks arguments request × IsDoneInPart request left old new
 
--- what a check found is that a table file has a fault or that a script isn't right, and what is said of that was written
+-- what a check found is that a table file has a fault or that a script isn't right, and what is said of that was
+-- written
 abbrev pub FindsFault : Request → (old new : Option (List ℕ)) → Type 0
 FindsFault (CheckTables tables) old new = IsTablesTold false old new
 FindsFault (CheckScript tables file) old new = FindsBad tables old new

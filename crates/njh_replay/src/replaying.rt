@@ -101,8 +101,8 @@ fn print_all<W: Write>(
     }
 }
 
-/// Runs events through a hub, and prints each frame that it sends. A frame that couldn't be printed is counted, and that
-/// alone is `Device`.
+/// Runs events through a hub, and prints each frame that it sends. A frame that couldn't be printed is counted, and
+/// that alone is `Device`.
 fn print_run<W: Write>(
     hub: &mut Hub,
     events: &[Event],

@@ -10,7 +10,8 @@ abbrev pub candidate_first : Option Candidate → (Outlet → CustomerSpool → 
 candidate_first None later o s = later o s
 candidate_first (Some c) later o s = c ∷ later c.outlet c.spool
 
--- All that may come of some sources, in order, whether it has room or not: each in the state that those before it leave.
+-- All that may come of some sources, in order, whether it has room or not: each in the state that those before it
+-- leave.
 abbrev pub candidates : (WholeFile → Bool) → List Source → Outlet → CustomerSpool → List Candidate
 candidates goes [] o s = []
 candidates goes (source ∷ more) o s =

@@ -19,8 +19,8 @@ abbrev pub last_line : List ℕ → List (List ℕ)
 last_line [] = []
 last_line (b ∷ bs) = (b ∷ bs) ∷ []
 
--- the lines of a text, each ended by the byte 0A, the last by that or by the text's end; `front` is what has come of the
--- first
+-- the lines of a text, each ended by the byte 0A, the last by that or by the text's end; `front` is what has come of
+-- the first
 abbrev pub lines_from : List ℕ → List ℕ → List (List ℕ)
 lines_from front [] = last_line front
 lines_from front (b ∷ text) = if b == 10 then front ∷ lines_from [] text else lines_from (front ++ b ∷ []) text

@@ -11,7 +11,8 @@ use std::rt::{Clock, Files};
 /// How ACME's lines begin: frames on its lines to its peers, and its files.
 const OWN: [&[u8]; 3] = [b"a1 ", b"a2 ", b"ACME "];
 
-/// Says of each run with other customers whether ACME's lines are those of the first. ACME's events are the same in all.
+/// Says of each run with other customers whether ACME's lines are those of the first. ACME's events are the same in
+/// all.
 pub fn compare<R: Files + Net + Clock + Print + AllocGlobal>(rt: &R) -> Result<(), Failure> {
     let table = fs::read_to_string(rt, registry::FILE)?;
     let mut wanted = Vec::new(rt.alloc());
