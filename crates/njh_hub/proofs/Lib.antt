@@ -15,3 +15,5 @@ pub mod OwnWires
 pub mod SetRoutesLaws
 pub mod ServiceLaws
 pub mod OwnRoutes
+pub mod KeepingLaws
+pub mod BreakLaws

@@ -12,7 +12,7 @@ use Rattle.njh_hub.specs.declared.event.Event.{Event}
 use Rattle.njh_hub.specs.declared.event.Event.TheVariants.{Routes}
 use Rattle.njh_hub.specs.Service.{Happening, Round, NewRoutes, happening_events, happening_quiets, happening_rounds}
 use Rattle.njh_hub.specs.Service.{happening_turns, IsPossible, ArePossible, service_events, service_quiets}
-use Rattle.njh_hub.specs.Service.{service_rounds, service_turns, AreStill, IsGiven}
+use Rattle.njh_hub.specs.Service.{service_rounds, service_turns, AreStill, IsAttended, IsGiven}
 use Rattle.std.specs.List.{flat_map}
 use Rattle.njh_hub.specs.Turns.{Turn, Placed, HadTurn, HadTurns, IsRound, turn_at, placed_acts, quiets_after}
 use Rattle.njh_hub.specs.Turns.{round_events}
@@ -102,6 +102,22 @@ pub record IsAt {S : Type 0} (passed : S → S → List WireAct → Type 0) (cou
   pub calm : now_quiets ≡ service_quiets quiets story
   pub had : (i : ℕ) (d : S) → i < length lines →
       HadTurns passed count (service_turns parts lines quiets i story) (get_or wires i d) (get_or now_wires i d)
+
+-- what is said of it where so many of its happenings are rounds
+pub attended_at : {S : Type 0} (passed : S → S → List WireAct → Type 0) (count : S → ℕ) (lines : List LineId) (parts : List Part)
+    (quiets : List ℕ) (wires : List S) (story : List Happening) (now : List Part) (now_quiets : List ℕ) (now_wires : List S)
+    {turns : ℕ} → length (service_rounds story) ≡ turns →
+    IsAt passed count lines parts quiets wires story now now_quiets now_wires →
+    IsAttended passed count lines turns parts quiets wires now now_quiets now_wires
+attended_at passed count lines parts quiets wires story now now_quiets now_wires many h = record {
+  story = story;
+  many = many;
+  each = h.each;
+  possible = h.possible;
+  hub = h.hub;
+  calm = h.calm;
+  had = h.had;
+}
 
 pub at_first : {S : Type 0} (passed : S → S → List WireAct → Type 0) (count : S → ℕ) (lines : List LineId) (parts : List Part)
     (quiets : List ℕ) (wires : List S) → ((s : S) → passed s s []) → IsAt passed count lines parts quiets wires [] parts quiets wires

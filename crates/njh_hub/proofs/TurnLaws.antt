@@ -1,5 +1,5 @@
 -- A turn of a wire: its read, and what comes of the answer.
-use Rattle.std.proofs.Common.{◌≡◌, ℕ, ◌<◌, ◌≤◌, List, [], ◌∷◌, ◌++◌, Option, Result, Ok, Err, ⊎_elim, arith, inl, inr}
+use Rattle.std.proofs.Common.{◌≡◌, ℕ, ◌<◌, ◌≤◌, List, ◌++◌, Option, Result, Ok, Err, ⊎_elim, arith, inl, inr}
 use Rattle.std.specs.Prelude.{OnErr, IsSome}
 use Rattle.std.proofs.lemmas.Bool.{cases_lt}
 use Rattle.njh_table.specs.declared.LineId.{LineId}

@@ -13,6 +13,7 @@ ghost use Rattle.njh_hub.specs.WholeHub.{part, HasLine};
 
 mod looking;
 mod new_routes;
+mod reading;
 mod restoring;
 
 use crate::fault::HubFault;

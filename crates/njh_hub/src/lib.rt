@@ -2,6 +2,7 @@
 #![tactic(auto)]
 
 mod attendant;
+mod depot;
 mod event;
 mod fault;
 mod file_summary;
@@ -9,6 +10,7 @@ mod file_view;
 mod given_routes;
 mod headline;
 mod hub;
+mod keeper;
 mod laws;
 mod opening;
 mod rounds;
@@ -23,13 +25,15 @@ mod wire_laws;
 mod wire_reading;
 
 pub use attendant::{Attendant, NewRoutes};
+pub use depot::{Depot, DepotFault};
 pub use event::{Event, Piece, SHORT_PIECE};
-pub use fault::{Cause, HubFault, RunFault};
+pub use fault::{Cause, HubFault, RunFault, TurnsFault};
 pub use file_summary::FileSummaryView;
 pub use file_view::{FileRecord, FileView};
 pub use given_routes::GivenRoutes;
 pub use headline::{Trial, outcome, two_runs};
 pub use hub::Hub;
+pub use keeper::{KeepFault, Keeper, KeepsNothing, kept_is_own};
 pub use laws::{
     customers_never_meet, each_is_alone, others_stay, own_step_is_own, sent_in_order,
     two_lists_are_like,

@@ -1,12 +1,15 @@
 //! Rounds of turns: each wire of some lines has one in each.
 
-ghost use Rattle.std.specs.Prelude.{◌≡◌, ◌<◌, List, length, All, IfOk, OnErr, Err};
+ghost use Rattle.std.specs.Prelude.{◌≡◌, ◌<◌, List, length, All, IfOk, OnOk, OnErr, Err};
+ghost use Rattle.njh_hub.specs.Breaks.{RoundBreaks};
+ghost use Rattle.njh_hub.specs.Keeping.{IsSettled, Keeps};
 ghost use Rattle.njh_hub.specs.Turns.{Turn, IsRound, no_quiets};
 ghost use Rattle.njh_hub.specs.WholeHub.{HasLine, SameLines};
 
 use crate::attendant::Attendant;
 use crate::fault::HubFault;
 use crate::hub::Hub;
+use crate::keeper::{KeepFault, Keeper};
 use crate::turn::{TurnRoom, wire_turn};
 use crate::wire::Wire;
 use njh_table::LineId;
@@ -54,90 +57,141 @@ impl Rounds {
         self.lines.as_slice()
     }
 
-    /// One turn of each wire, in the order of the lines. Takes no memory.
-    pub fn take<W: Wire>(&mut self, hub: &mut Hub, wires: &mut [W])
-        requires same { length wires.old ≡ length self.old.lines }
-        requires known { All (HasLine hub.old) self.old.lines }
-        ensures round { (round : List Turn) × (length round ≡ length self.old.lines) ×
-            IsRound W.passed W.count self.old.lines hub.old self.old.quiets wires.old round
-            hub.new self.new.quiets wires.new }
-        ensures same { self.new.lines ≡ self.old.lines }
-        ensures lines { SameLines hub.old hub.new }
-    {
-        serve_round(hub, wires, &self.lines, &mut self.quiets, &mut self.room);
-    }
-
-    /// One turn of each wire, in the order of the lines, where only those are visited that are due. Any other has the
-    /// turn of an answer `Pending`. Takes no memory.
-    pub fn take_due<W: Wire, A: Attendant<W>>(
+    /// One turn of each wire, in the order of the lines, up to a fault of the keeper. Takes no memory.
+    pub fn take<W: Wire, K: Keeper>(
         &mut self,
         hub: &mut Hub,
+        keeper: &mut K,
         wires: &mut [W],
-        attendant: &A,
-    )
+    ) -> Result<(), KeepFault>
         requires same { length wires.old ≡ length self.old.lines }
         requires known { All (HasLine hub.old) self.old.lines }
-        ensures round { (round : List Turn) × (length round ≡ length self.old.lines) ×
+        requires settled { IsSettled K.may_leave keeper.old hub.old }
+        ensures round { OnOk result ((round : List Turn) × (length round ≡ length self.old.lines) ×
             IsRound W.passed W.count self.old.lines hub.old self.old.quiets wires.old round
-            hub.new self.new.quiets wires.new }
+            hub.new self.new.quiets wires.new) }
+        ensures breaks { OnErr result (RoundBreaks W.passed W.count K.may_leave self.old.lines hub.old self.old.quiets
+            wires.old hub.new wires.new keeper.new) }
+        ensures keeps { Keeps K.may_leave K.count keeper.old result hub.new keeper.new }
         ensures same { self.new.lines ≡ self.old.lines }
         ensures lines { SameLines hub.old hub.new }
     {
-        serve_due(
+        serve_round(
             hub,
+            keeper,
             wires,
             &self.lines,
             &mut self.quiets,
             &mut self.room,
+        )
+    }
+
+    /// One turn of each wire, in the order of the lines, where only those are visited that are due, up to a fault of
+    /// the keeper. Any other has the turn of an answer `Pending`. Takes no memory.
+    pub fn take_due<W: Wire, K: Keeper, A: Attendant<W>>(
+        &mut self,
+        hub: &mut Hub,
+        keeper: &mut K,
+        wires: &mut [W],
+        attendant: &A,
+    ) -> Result<(), KeepFault>
+        requires same { length wires.old ≡ length self.old.lines }
+        requires known { All (HasLine hub.old) self.old.lines }
+        requires settled { IsSettled K.may_leave keeper.old hub.old }
+        ensures round { OnOk result ((round : List Turn) × (length round ≡ length self.old.lines) ×
+            IsRound W.passed W.count self.old.lines hub.old self.old.quiets wires.old round
+            hub.new self.new.quiets wires.new) }
+        ensures breaks { OnErr result (RoundBreaks W.passed W.count K.may_leave self.old.lines hub.old self.old.quiets
+            wires.old hub.new wires.new keeper.new) }
+        ensures keeps { Keeps K.may_leave K.count keeper.old result hub.new keeper.new }
+        ensures same { self.new.lines ≡ self.old.lines }
+        ensures lines { SameLines hub.old hub.new }
+    {
+        let due = Due {
+            lines: &self.lines,
             attendant,
-        );
+        };
+        serve_due(hub, keeper, wires, due, &mut self.quiets, &mut self.room)
+    }
+}
+
+/// Lines, and who says which of their wires are visited.
+struct Due<'a, A> {
+    lines: &'a [LineId],
+    attendant: &'a A,
+}
+
+// It is lent, so an attendant that isn't `Drop` does as well.
+impl<'a, A> Drop for Due<'a, A> {
+    fn drop(self) {
+        let Due {
+            lines: _,
+            attendant: _,
+        } = self;
     }
 }
 
 /// One turn of each wire, in their order.
-fn serve_round<W: Wire>(
+fn serve_round<W: Wire, K: Keeper>(
     hub: &mut Hub,
+    keeper: &mut K,
     wires: &mut [W],
     lines: &[LineId],
     quiets: &mut [u8],
     room: &mut TurnRoom,
-)
+) -> Result<(), KeepFault>
     requires same { length wires.old ≡ length lines.now }
     requires counts { length quiets.old ≡ length lines.now }
     requires known { All (HasLine hub.old) lines.now }
+    requires settled { IsSettled K.may_leave keeper.old hub.old }
     requires few { All (λ quiet. quiet < 10) quiets.old }
-    ensures round { (round : List Turn) × (length round ≡ length lines.now) ×
-        IsRound W.passed W.count lines.now hub.old quiets.old wires.old round hub.new quiets.new wires.new }
+    ensures round { OnOk result ((round : List Turn) × (length round ≡ length lines.now) ×
+        IsRound W.passed W.count lines.now hub.old quiets.old wires.old round hub.new quiets.new wires.new) }
+    ensures breaks { OnErr result (RoundBreaks W.passed W.count K.may_leave lines.now hub.old quiets.old wires.old
+        hub.new wires.new keeper.new) }
+    ensures keeps { Keeps K.may_leave K.count keeper.old result hub.new keeper.new }
     ensures few { All (λ quiet. quiet < 10) quiets.new }
     ensures lines { SameLines hub.old hub.new }
 {
     for i in 0..lines.len() {
-        quiets[i] = wire_turn(hub, lines[i], &mut wires[i], quiets[i], room);
+        match wire_turn(hub, keeper, lines[i], &mut wires[i], quiets[i], room) {
+            Ok(quiet) => quiets[i] = quiet,
+            Err(fault) => return Err(fault),
+        }
     }
+    Ok(())
 }
 
 /// One turn of each wire, in their order, where only those are visited that are due.
-fn serve_due<W: Wire, A: Attendant<W>>(
+fn serve_due<W: Wire, K: Keeper, A: Attendant<W>>(
     hub: &mut Hub,
+    keeper: &mut K,
     wires: &mut [W],
-    lines: &[LineId],
+    due: Due<'_, A>,
     quiets: &mut [u8],
     room: &mut TurnRoom,
-    attendant: &A,
-)
-    requires same { length wires.old ≡ length lines.now }
-    requires counts { length quiets.old ≡ length lines.now }
-    requires known { All (HasLine hub.old) lines.now }
+) -> Result<(), KeepFault>
+    requires same { length wires.old ≡ length due.lines.now }
+    requires counts { length quiets.old ≡ length due.lines.now }
+    requires known { All (HasLine hub.old) due.lines.now }
+    requires settled { IsSettled K.may_leave keeper.old hub.old }
     requires few { All (λ quiet. quiet < 10) quiets.old }
-    ensures round { (round : List Turn) × (length round ≡ length lines.now) ×
-        IsRound W.passed W.count lines.now hub.old quiets.old wires.old round hub.new quiets.new wires.new }
+    ensures round { OnOk result ((round : List Turn) × (length round ≡ length due.entry.lines.now) ×
+        IsRound W.passed W.count due.entry.lines.now hub.old quiets.old wires.old round hub.new quiets.new wires.new) }
+    ensures breaks { OnErr result (RoundBreaks W.passed W.count K.may_leave due.entry.lines.now hub.old quiets.old
+        wires.old hub.new wires.new keeper.new) }
+    ensures keeps { Keeps K.may_leave K.count keeper.old result hub.new keeper.new }
     ensures few { All (λ quiet. quiet < 10) quiets.new }
     ensures lines { SameLines hub.old hub.new }
 {
-    for i in 0..lines.len() {
-        if !attendant.is_due(i) {
+    for i in 0..due.lines.len() {
+        if !due.attendant.is_due(i) {
             continue;
         }
-        quiets[i] = wire_turn(hub, lines[i], &mut wires[i], quiets[i], room);
+        match wire_turn(hub, keeper, due.lines[i], &mut wires[i], quiets[i], room) {
+            Ok(quiet) => quiets[i] = quiet,
+            Err(fault) => return Err(fault),
+        }
     }
+    Ok(())
 }

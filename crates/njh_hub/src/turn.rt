@@ -1,18 +1,22 @@
 //! One turn of a wire.
 
-ghost use Rattle.std.specs.Prelude.{◌≡◌, ℕ, ◌<◌, ◌≤◌, [], ◌∷◌, length, Option, OnOk, OnErr, IfOk};
+ghost use Rattle.std.specs.Prelude.{◌≡◌, ℕ, ◌<◌, ◌≤◌, [], ◌∷◌, length, Option, Some, OnOk, OnErr, IfOk};
 ghost use Rattle.std.specs.Vec.{vec_capacity};
 ghost use Rattle.njh_bisync.specs.Limits.{longest_frame};
 ghost use Rattle.njh_customer.specs.Part.{part_after_bytes, part_after_signal};
 ghost use Rattle.njh_hub.specs.declared.event.Event.TheVariants.{Bytes, Lost};
+ghost use Rattle.njh_hub.specs.Breaks.{Break, BrokenTurn, EventBreaks, TurnBreaks};
+ghost use Rattle.njh_hub.specs.Keeping.{Keeps, IsSettled, LeavesEither};
 ghost use Rattle.njh_hub.specs.OwnEvents.{event_by};
 ghost use Rattle.njh_hub.specs.Sent.{IsCounted};
+ghost use Rattle.njh_hub.specs.declared.event.Event.{Event};
 ghost use Rattle.njh_hub.specs.Turns.{Turn, IsTurn, IsHeard, wire_event, quiet_after};
 ghost use Rattle.njh_hub.specs.WholeHub.{part, HasLine, SameLines, hub_run};
 ghost use Rattle.njh_hub.specs.Wires.{IsDone, Unsent, IsReading, heard_of, frame_acts, IsTaken};
 
 use crate::fault::HubFault;
 use crate::hub::Hub;
+use crate::keeper::{KeepFault, Keeper};
 use crate::wire::Wire;
 use crate::wire_reading::{Reading, WireFault};
 use njh_bisync::LONGEST_FRAME;
@@ -47,11 +51,13 @@ impl Model for TurnRoom {
     ghost invariant = { λ room. (0 < length room.buffer.items) × (longest_frame ≤ vec_capacity room.out) };
 }
 
-/// What a read answered, and the buffer that it was given: bytes that came stand at its front.
+/// What a read answered, and the buffer that it was given: bytes that came stand at its front. So many quiets in a row
+/// came before.
 #[derive(Clone, Copy)]
 struct Answer<'a> {
     reading: Result<Reading, WireFault>,
     buffer: &'a [u8],
+    quiet: u8,
 }
 
 impl TurnRoom {
@@ -67,84 +73,131 @@ impl TurnRoom {
 }
 
 /// One turn of a wire of a line: reads it once, hands the hub what came of that, and writes each frame that the hub
-/// sends.
+/// sends, once the keeper has kept what the step made of the customer's files.
 ///
 /// Bytes that came are handed over until they are used. Each tenth quiet in a row is a tick; `quiet` is how many came
 /// before, and the answer how many there are now: as many as before where the wire's answer is pending. A wire that is
 /// closed or can't be read loses its line. So does one that can't be written, and what was left of the bytes is
 /// dropped. Takes no memory, and clears none.
-pub fn wire_turn<W: Wire>(
+///
+/// Where the keeper fails the frame of that step isn't written, and nothing is done after it.
+pub fn wire_turn<W: Wire, K: Keeper>(
     hub: &mut Hub,
+    keeper: &mut K,
     id: LineId,
     wire: &mut W,
     quiet: u8,
     room: &mut TurnRoom,
-) -> u8
+) -> Result<u8, KeepFault>
     requires known { HasLine hub.old id }
+    requires settled { IsSettled K.may_leave keeper.old hub.old }
     requires few { quiet < 10 }
-    ensures turn { (turn : Turn) × IsTurn W.passed W.count hub.old id quiet turn wire.old hub.new wire.new
-        × (result ≡ quiet_after quiet turn.heard) }
-    ensures few { result < 10 }
+    ensures turn { IfOk result (λ quiets. (turn : Turn)
+        × IsTurn W.passed W.count hub.old id quiet turn wire.old hub.new wire.new
+        × (quiets ≡ quiet_after quiet turn.heard)) }
+    ensures breaks { OnErr result ((turn : BrokenTurn)
+        × TurnBreaks W.passed W.count K.may_leave hub.old id quiet turn wire.old hub.new wire.new keeper.new) }
+    ensures keeps { Keeps K.may_leave K.count keeper.old result hub.new keeper.new }
+    ensures few { IfOk result (λ quiets. quiets < 10) }
     ensures lines { SameLines hub.old hub.new }
 {
     let buffer = room.buffer.as_mut_slice();
     let reading = wire.read(buffer);
-    let answer = Answer { reading, buffer };
-    act_on(answer, hub, id, wire, quiet, &mut room.out)
+    let answer = Answer {
+        reading,
+        buffer,
+        quiet,
+    };
+    let quiets = quiets_behind(answer);
+    match act_on(answer, hub, keeper, id, wire, &mut room.out) {
+        Ok(()) => {}
+        Err(fault) => return Err(fault),
+    }
+    Ok(quiets)
 }
 
-/// Hands the hub what a read answered. Answers the quiets in a row.
-fn act_on<W: Wire>(
+/// The quiets in a row behind an answer.
+fn quiets_behind(answer: Answer<'_>) -> u8
+    requires few { answer.quiet < 10 }
+    ensures quiets { result ≡ quiet_after answer.entry.quiet
+        (heard_of answer.entry.reading answer.entry.buffer.now) }
+    ensures few { result < 10 }
+{
+    match answer.reading {
+        Ok(Reading::Quiet) => {
+            if answer.quiet < QUIETS {
+                answer.quiet + 1
+            } else {
+                0
+            }
+        }
+        Ok(Reading::Pending) => answer.quiet,
+        Ok(Reading::Bytes(_)) => 0,
+        Ok(Reading::Closed) => 0,
+        Ok(Reading::Absent) => 0,
+        Err(_) => 0,
+    }
+}
+
+/// Hands the hub what a read answered.
+fn act_on<W: Wire, K: Keeper>(
     answer: Answer<'_>,
     hub: &mut Hub,
+    keeper: &mut K,
     id: LineId,
     wire: &mut W,
-    quiet: u8,
     out: &mut Vec<u8>,
-) -> u8
+) -> Result<(), KeepFault>
     requires within { IfOk answer.reading (IsReading (length answer.buffer.now)) }
     requires known { HasLine hub.old id }
-    requires few { quiet < 10 }
+    requires settled { IsSettled K.may_leave keeper.old hub.old }
+    requires few { answer.quiet < 10 }
     requires room { longest_frame ≤ vec_capacity out.old }
     ensures heard { let heard = heard_of answer.entry.reading answer.entry.buffer.now in
-        (cut : Option ℕ)
-        × IsHeard W.passed W.count hub.old (wire_event id quiet heard) cut wire.old hub.new wire.new }
-    ensures quiets { result ≡ quiet_after quiet (heard_of answer.entry.reading answer.entry.buffer.now) }
-    ensures few { result < 10 }
+        OnOk result ((cut : Option ℕ) × IsHeard W.passed W.count hub.old
+        (wire_event id answer.entry.quiet heard) cut wire.old hub.new wire.new) }
+    ensures breaks { let heard = heard_of answer.entry.reading answer.entry.buffer.now in
+        OnErr result ((event : Event) × (wire_event id answer.entry.quiet heard ≡ Some event) × (break : Break)
+        × EventBreaks W.passed W.count K.may_leave hub.old event break wire.old hub.new wire.new keeper.new) }
+    ensures keeps { Keeps K.may_leave K.count keeper.old result hub.new keeper.new }
     ensures lines { SameLines hub.old hub.new }
     ensures room { longest_frame ≤ vec_capacity out.new }
 {
     match answer.reading {
         Ok(Reading::Bytes(count)) => {
-            pass_bytes(hub, id, &answer.buffer[..count], wire, out);
-            0
+            pass_bytes(hub, keeper, id, &answer.buffer[..count], wire, out)
         }
         Ok(Reading::Quiet) => {
-            if quiet < QUIETS {
-                return quiet + 1;
+            if answer.quiet < QUIETS {
+                return Ok(());
             }
-            pass_signal(hub, id, Signal::Tick, wire, out);
-            0
+            pass_signal(hub, keeper, id, Signal::Tick, wire, out)
         }
-        Ok(Reading::Pending) => quiet,
-        Ok(Reading::Closed) => {
-            pass_signal(hub, id, Signal::Lost, wire, out);
-            0
-        }
-        Ok(Reading::Absent) => 0,
-        Err(_) => {
-            pass_signal(hub, id, Signal::Lost, wire, out);
-            0
-        }
+        Ok(Reading::Pending) => Ok(()),
+        Ok(Reading::Closed) => pass_signal(hub, keeper, id, Signal::Lost, wire, out),
+        Ok(Reading::Absent) => Ok(()),
+        Err(_) => pass_signal(hub, keeper, id, Signal::Lost, wire, out),
     }
 }
 
-/// Hands the hub bytes of a line and writes each frame that it sends. Where a write fails the line is lost.
-fn pass_bytes<W: Wire>(hub: &mut Hub, id: LineId, piece: &[u8], wire: &mut W, out: &mut Vec<u8>)
+/// Hands the hub bytes of a line and writes each frame that it sends, once what its step made of the customer's files
+/// is kept. Where a write fails the line is lost.
+fn pass_bytes<W: Wire, K: Keeper>(
+    hub: &mut Hub,
+    keeper: &mut K,
+    id: LineId,
+    piece: &[u8],
+    wire: &mut W,
+    out: &mut Vec<u8>,
+) -> Result<(), KeepFault>
     requires known { HasLine hub.old id }
+    requires settled { IsSettled K.may_leave keeper.old hub.old }
     requires room { longest_frame ≤ vec_capacity out.old }
-    ensures done { (cut : Option ℕ)
-        × IsDone W.passed W.count hub.old (Bytes id piece.now) cut wire.old hub.new wire.new }
+    ensures done { OnOk result ((cut : Option ℕ)
+        × IsDone W.passed W.count hub.old (Bytes id piece.now) cut wire.old hub.new wire.new) }
+    ensures breaks { OnErr result ((break : Break) × EventBreaks W.passed W.count K.may_leave hub.old
+        (Bytes id piece.now) break wire.old hub.new wire.new keeper.new) }
+    ensures keeps { Keeps K.may_leave K.count keeper.old result hub.new keeper.new }
     ensures lines { SameLines hub.old hub.new }
     ensures room { longest_frame ≤ vec_capacity out.new }
 {
@@ -154,31 +207,69 @@ fn pass_bytes<W: Wire>(hub: &mut Hub, id: LineId, piece: &[u8], wire: &mut W, ou
     let mut taken = 0;
     while taken < piece.len() {
         let (_, left) = piece.split_at(taken);
-        taken += take_bytes(hub, id, left, out);
+        let used = take_bytes(hub, id, left, out);
+        match keeper.keep(hub, id.customer) {
+            Ok(()) => {}
+            Err(fault) => return Err(fault),
+        }
+        taken += used;
         match send(wire, out) {
             Ok(()) => {}
-            Err(_) => {
-                take_signal(hub, id, Signal::Lost, out);
-                return;
-            }
+            Err(_) => return lose(hub, keeper, id, out),
         }
     }
+    Ok(())
 }
 
-/// Hands the hub a signal on a line and writes the frame that it sends. Where the write fails the line is lost.
-fn pass_signal<W: Wire>(hub: &mut Hub, id: LineId, signal: Signal, wire: &mut W, out: &mut Vec<u8>)
+/// Hands the hub a signal on a line and writes the frame that it sends, once what the step made of the customer's files
+/// is kept. Where the write fails the line is lost.
+fn pass_signal<W: Wire, K: Keeper>(
+    hub: &mut Hub,
+    keeper: &mut K,
+    id: LineId,
+    signal: Signal,
+    wire: &mut W,
+    out: &mut Vec<u8>,
+) -> Result<(), KeepFault>
     requires known { HasLine hub.old id }
+    requires settled { IsSettled K.may_leave keeper.old hub.old }
     requires room { longest_frame ≤ vec_capacity out.old }
-    ensures done { (cut : Option ℕ)
-        × IsDone W.passed W.count hub.old (event_by signal id) cut wire.old hub.new wire.new }
+    ensures done { OnOk result ((cut : Option ℕ)
+        × IsDone W.passed W.count hub.old (event_by signal id) cut wire.old hub.new wire.new) }
+    ensures breaks { OnErr result ((break : Break) × EventBreaks W.passed W.count K.may_leave hub.old
+        (event_by signal id) break wire.old hub.new wire.new keeper.new) }
+    ensures keeps { Keeps K.may_leave K.count keeper.old result hub.new keeper.new }
     ensures lines { SameLines hub.old hub.new }
     ensures room { longest_frame ≤ vec_capacity out.new }
 {
     take_signal(hub, id, signal, out);
-    match send(wire, out) {
+    match keeper.keep(hub, id.customer) {
         Ok(()) => {}
-        Err(_) => take_signal(hub, id, Signal::Lost, out),
+        Err(fault) => return Err(fault),
     }
+    match send(wire, out) {
+        Ok(()) => Ok(()),
+        Err(_) => lose(hub, keeper, id, out),
+    }
+}
+
+/// The loss of a line, and its customer's files kept behind it. No frame goes out.
+fn lose<K: Keeper>(
+    hub: &mut Hub,
+    keeper: &mut K,
+    id: LineId,
+    out: &mut Vec<u8>,
+) -> Result<(), KeepFault>
+    requires known { HasLine hub.old id }
+    requires settled { IsSettled K.may_leave keeper.old hub.old }
+    requires room { longest_frame ≤ vec_capacity out.old }
+    ensures step { let t = part_after_signal (part id.customer hub.old) id.number Signal.Lost in
+        IsTaken hub.old id t.after t.frame hub.new out.new }
+    ensures crash { LeavesEither K.may_leave keeper.new hub.old hub.new }
+    ensures keeps { Keeps K.may_leave K.count keeper.old result hub.new keeper.new }
+{
+    take_signal(hub, id, Signal::Lost, out);
+    keeper.keep(hub, id.customer)
 }
 
 /// A step by bytes, in the room that `out` has.

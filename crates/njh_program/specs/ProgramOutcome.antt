@@ -6,7 +6,7 @@ use Rattle.njh_table.specs.TableFile.{TableFile}
 use Rattle.njh_hub.specs.declared.fault.HubFault.TheVariants.{Memory}
 use Rattle.njh_encode.specs.Scripts.{IsEncodedInPart, IsEncodedTo}
 use Rattle.njh_encode.specs.declared.fault.EncodeFault.{EncodeFault}
-use Rattle.njh_serve.specs.Serving.{AreServed}
+use Rattle.njh_serve.specs.Serving.{AreServed, IsOpenedEmpty}
 use Rattle.njh_replay.specs.declared.fault.ReplayFault.TheVariants.{TooLong, Script, Device, Hub}
 use Rattle.njh_hub.specs.declared.event.Event.{Event}
 use Rattle.njh_io.specs.Written.{AppendsBeginning}
@@ -24,9 +24,11 @@ use Rattle.njh_program.specs.Checks.{FindsBad, FindsInPart, IsScriptChecked}
 use Rattle.njh_program.specs.TableChecks.{IsTablesBegun, IsTablesTold}
 use Rattle.njh_program.specs.TableBytes.{AreGiven, AreRefused}
 
--- the lines of the tables that the bytes of a file gave were served for so many turns
+-- the lines of the tables that the bytes of a file gave were served for so many turns, by a hub that had no files at
+-- first
 abbrev pub AreServedOf : (file : Text) (turns : Option ℕ) → Type 0
-AreServedOf file turns = (tables : TableFile) × AreGiven (Some file) tables × AreServed tables turns
+AreServedOf file turns =
+    (tables : TableFile) × AreGiven (Some file) tables × AreServed (IsOpenedEmpty tables) tables turns
 
 -- A script was replayed, and what a trace of the text of its run says came after what had been written; or a beginning
 -- of it did.

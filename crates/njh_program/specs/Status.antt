@@ -52,6 +52,7 @@ status_after (Err failure) = status_of failure
 abbrev pub failure_of : ServeFault → Failure
 failure_of serve.Device = failure.Device
 failure_of serve.Memory = failure.Memory
+failure_of serve.Refused = failure.Device
 
 -- an error becomes this failure, but out of memory where its kind says that
 abbrev pub Becomes : {Kind : Type 0} → (kind memory : Kind) → Failure → Failure → Type 0

@@ -138,7 +138,7 @@ impl From<ServeFault> for Failure {
 
     fn from(fault: ServeFault) -> Failure {
         match fault {
-            ServeFault::Device => Failure::Device,
+            ServeFault::Device | ServeFault::Refused => Failure::Device,
             ServeFault::Memory => Failure::Memory,
         }
     }

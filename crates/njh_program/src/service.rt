@@ -8,7 +8,8 @@ use crate::failure::Failure;
 use crate::table_file::{table_bytes, tables_twice};
 use crate::table_source::TableFileSource;
 use njh_check::fault_text;
-use njh_serve::{serve, utc_seconds};
+use njh_hub::KeepsNothing;
+use njh_serve::{Setup, serve, utc_seconds};
 use njh_service::{Log, Revision};
 use std::fmt;
 use std::fs::File;
@@ -40,7 +41,12 @@ pub(crate) fn serve_file<F: Files + Net + Clock + AllocGlobal, L: Write + Drop>(
     match tables_twice(rt, path) {
         Ok((tables, known)) => {
             let revision = Revision::new(rt.alloc(), known, source)?;
-            serve(rt, tables, revision, options.listen, options.turns, log)?;
+            let setup = Setup {
+                address: options.listen,
+                log,
+                revision,
+            };
+            serve(rt, &mut KeepsNothing, tables, setup, options.turns)?;
             Ok(())
         }
         Err(failure) => {

@@ -33,13 +33,14 @@ opened_line t id known =
     length-map (customer_at t id.customer).lines (λ (l : NamedLine). l.entry) in
     omega (arith, known, here, states, entries)
 
--- so the lines of endpoints are lines of the hub
+-- so the lines of endpoints are lines of a hub that has as many
 pub opened_endpoints : (t : TableFile) (parts : List Part) (endpoints : List Endpoint)
-    → parts ≡ map part_at_open (entries_of t)
+    → hub.SameLines (map part_at_open (entries_of t)) parts
     → All (λ endpoint. HasLine t endpoint.line) endpoints → All (λ endpoint. hub.HasLine parts endpoint.line) endpoints
-opened_endpoints t parts endpoints fresh known = λ k port within.
-    let here = opened_line t (get_or endpoints k port).line (known k port within) in
-    subst (λ (ps : List Part). hub.HasLine ps (get_or endpoints k port).line) (sym fresh) here
+opened_endpoints t parts endpoints same known = λ k port within.
+    let id = (get_or endpoints k port).line in
+    let here = opened_line t id (known k port within) in
+    subst (λ (n : ℕ). id.number < n) (sym (same id.customer)) here
 
 pub opened_lines : (parts : List Part) (endpoints : List Endpoint) (lines : List LineId)
     → lines ≡ map (λ endpoint. endpoint.line) endpoints → All (λ endpoint. hub.HasLine parts endpoint.line) endpoints
@@ -56,10 +57,3 @@ filter_map_more {X} h xs n x within at =
     let front : take (n + 1) xs ≡ take n xs ++ x ∷ [] =
     take_more xs n x within ∙ ap (λ (y : X). take n xs ++ y ∷ []) (sym at) in
     rw (front, filter_map-append) refl
-
--- lines that are served: one for each wire, and known to a hub of their tables
-pub served_lines : (t : TableFile) (parts : List Part) (endpoints : List Endpoint) (lines : List LineId)
-    → parts ≡ map part_at_open (entries_of t) → lines ≡ map (λ endpoint. endpoint.line) endpoints
-    → All (λ endpoint. HasLine t endpoint.line) endpoints → All (hub.HasLine parts) lines
-served_lines t parts endpoints lines fresh same known =
-    opened_lines parts endpoints lines same (opened_endpoints t parts endpoints fresh known)

@@ -1,18 +1,32 @@
 //! Why lines aren't served.
 
+use njh_hub::DepotFault;
 use std::alloc::{AllocError, AllocFailed};
 use std::io;
 use thiserror::Error;
 
-/// Why lines weren't served. No wire was read then.
+/// Why lines weren't served, or not to the end.
 #[derive(Clone, Copy, Debug, PartialEq, Eq, Error)]
 pub enum ServeFault {
-    /// A port can't be listened on.
+    /// A port can't be listened on, or what is kept can't be read, and no wire was read; or files couldn't be kept.
     #[error("device")]
     Device,
-    /// There was no memory.
+    /// There was no memory, and no wire was read.
     #[error("U3 Memory")]
     Memory,
+    /// A whole file that was kept can't be put back, and no wire was read. Which one, and why, the depot tells.
+    #[error("a kept file can't be put back")]
+    Refused,
+}
+
+impl From<DepotFault> for ServeFault {
+    fn from(fault: DepotFault) -> ServeFault {
+        match fault {
+            DepotFault::Memory => ServeFault::Memory,
+            DepotFault::Device => ServeFault::Device,
+            DepotFault::Refused => ServeFault::Refused,
+        }
+    }
 }
 
 impl From<AllocError> for ServeFault {

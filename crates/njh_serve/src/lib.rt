@@ -16,4 +16,4 @@ pub use fault::ServeFault;
 pub use network::{MioListener, MioNetwork, utc_seconds};
 pub use opening::{OpenCause, OpenFault, open};
 pub use service::Service;
-pub use serving::{Station, serve, service_on};
+pub use serving::{Setup, Station, serve, service_on};

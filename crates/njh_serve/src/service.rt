@@ -1,16 +1,15 @@
 //! A hub, the wires of its lines that are served, and who attends them.
 
-ghost use Rattle.std.specs.Prelude.{◌≡◌, length, map, All, IfOk, OnErr, Err};
-ghost use Rattle.njh_hub.specs.Parts.{entries_of};
+ghost use Rattle.std.specs.Prelude.{◌≡◌, length, All, IfOk, OnOk, OnErr, Err};
+ghost use Rattle.njh_hub.specs.Keeping.{IsSettled, Keeps};
 ghost use Rattle.njh_hub.specs.Turns.{no_quiets};
-ghost use Rattle.njh_hub.specs.WholeHub.{part_at_open};
-ghost use Rattle.njh_table.specs.TableFile.{HasLine};
+ghost use Rattle.njh_hub.specs.WholeHub.{HasLine};
 ghost use Rattle.njh_serve.specs.Endpoints.{lines_of};
-ghost use Rattle.njh_serve.specs.Serving.{HasServed, turn_count};
+ghost use Rattle.njh_serve.specs.Serving.{HasServed, IsBrokenOff, turn_count};
 
 use crate::endpoints::Endpoint;
-use njh_hub::{Attendant, Hub, HubFault, Rounds, Wire, attend};
-use njh_table::{LineId, Tables};
+use njh_hub::{Attendant, Hub, HubFault, KeepFault, Keeper, Rounds, Wire, attend};
+use njh_table::LineId;
 use std::alloc::{AllocError, Global};
 use std::marker::Model;
 
@@ -41,18 +40,25 @@ impl<W: Drop, A: Drop> Model for Service<W, A> {
 }
 
 impl<W: Wire + Drop, A: Attendant<W> + Drop> Service<W, A> {
-    /// So many turns of each line, or turns without an end where no number is given: as many as can be counted.
-    pub fn run(&mut self, turns: Option<u32>)
-        ensures { HasServed W.passed W.count (turn_count turns) self.old self.new }
+    /// So many turns of each line, or turns without an end where no number is given: as many as can be counted. What
+    /// becomes of the customers' whole files is kept by this keeper before it shows on a line. `Err` where the keeper
+    /// fails; nothing is read or written after that.
+    pub fn run<K: Keeper>(&mut self, keeper: &mut K, turns: Option<u32>) -> Result<(), KeepFault>
+        requires settled { IsSettled K.may_leave keeper.old self.old.hub }
+        ensures served { OnOk result (HasServed W.passed W.count (turn_count turns) self.old self.new) }
+        ensures breaks { OnErr result (IsBrokenOff W.passed W.count K.may_leave (turn_count turns) self.old self.new
+            keeper.new) }
+        ensures keeps { Keeps K.may_leave K.count keeper.old result self.new.hub keeper.new }
     {
         let turns = turn_count(turns);
         attend(
             &mut self.hub,
+            keeper,
             &mut self.wires,
             &mut self.rounds,
             &mut self.attendant,
             turns,
-        );
+        )
     }
 }
 
@@ -67,18 +73,17 @@ fn turn_count(turns: Option<u32>) -> u64
 }
 
 impl<W: Drop, A: Drop> Service<W, A> {
-    /// A hub of these tables, of which these lines are served, each on its own wire. Want of memory is the only
-    /// refusal.
+    /// This hub, of which these lines are served, each on its own wire. Want of memory is the only refusal.
     pub fn new(
         alloc: Global,
-        tables: Tables,
+        hub: Hub,
         endpoints: &[Endpoint],
         wires: Vec<W>,
         attendant: A,
     ) -> Result<Service<W, A>, HubFault>
         requires same { length wires.items ≡ length endpoints.now }
-        requires known { All (λ endpoint. HasLine tables endpoint.line) endpoints.now }
-        ensures hub { IfOk result (λ service. service.hub ≡ map part_at_open (entries_of tables)) }
+        requires known { All (λ endpoint. HasLine hub endpoint.line) endpoints.now }
+        ensures hub { IfOk result (λ service. service.hub ≡ hub) }
         ensures lines { IfOk result (λ service. service.lines ≡ lines_of endpoints.now) }
         ensures calm { IfOk result (λ service. service.quiets ≡ no_quiets (lines_of endpoints.now)) }
         ensures wires { IfOk result (λ service. service.wires ≡ wires.items) }
@@ -86,7 +91,6 @@ impl<W: Drop, A: Drop> Service<W, A> {
     {
         let lines = lines_of(alloc, endpoints)?;
         let rounds = Rounds::new(alloc, &lines)?;
-        let hub = Hub::open(alloc, tables)?;
         Ok(Service {
             hub,
             wires,

@@ -1,13 +1,13 @@
 //! Serves the lines of tables on sockets of this machine.
 
-ghost use Rattle.std.specs.Prelude.{◌≡◌, length, map, All, IfOk, OnOk};
-ghost use Rattle.njh_hub.specs.Parts.{entries_of};
+ghost use Rattle.std.specs.Prelude.{◌≡◌, length, All, IfOk, OnOk};
+ghost use Rattle.njh_hub.specs.Keeping.{IsSettled};
 ghost use Rattle.njh_hub.specs.Turns.{no_quiets};
-ghost use Rattle.njh_hub.specs.WholeHub.{part_at_open};
+ghost use Rattle.njh_hub.specs.WholeHub.{HasLine as HubHasLine};
 ghost use Rattle.njh_table.specs.TableFile.{HasLine};
 ghost use Rattle.njh_serve.specs.Endpoints.{endpoints_of, lines_of};
 ghost use Rattle.njh_serve.specs.Opened.{IsApart};
-ghost use Rattle.njh_serve.specs.Serving.{AreServed, IsOpened, IsOpenedOn};
+ghost use Rattle.njh_serve.specs.Serving.{AreServedFrom, IsOpened, IsOpenedOn};
 
 use crate::endpoints::{Endpoint, endpoints_of};
 use crate::fault::ServeFault;
@@ -15,6 +15,7 @@ use crate::network::{MioNetwork, utc_seconds};
 use crate::opening::{OpenCause, open};
 use crate::refusal::Refusal;
 use crate::service::Service;
+use njh_hub::{Depot, Hub};
 use njh_service::{Exchange, LineNames, Log, Revision, TableSource, Way};
 use njh_table::{LineId, Tables};
 use njh_wire::{Connection, LineWire, Network};
@@ -36,40 +37,66 @@ pub struct Station<N: Drop, L: Write + Drop, S: TableSource + Drop> {
     pub revision: Revision<S>,
 }
 
+/// What lines are served with on sockets of this machine.
+#[derive(Drop)]
+pub struct Setup<L: Write + Drop, S: TableSource + Drop> {
+    /// Where ports are listened on.
+    pub address: IpAddr,
+    /// The log.
+    pub log: Log<L>,
+    /// Where new tables come from.
+    pub revision: Revision<S>,
+}
+
 /// Serves the lines of tables that have a port or a peer, on sockets of this machine, for so many turns; where no
-/// number is given, until the program is ended. Ports are listened on at this address. Where new tables come, customers
-/// are given new routes by `revision`.
+/// number is given, until the program is ended. Each customer has the whole files that the depot kept of it, and what
+/// becomes of them is kept there before it shows on a line. Where new tables come, customers are given new routes.
 ///
-/// `Device` where a port can't be listened on, or where no line has a port or a peer and no number of turns is given:
-/// the log says why.
-/// `Memory` where there is no room for the hub or its wires. Nothing was read then.
-pub fn serve<R: Net + Clock + AllocGlobal, L: Write + Drop, S: TableSource + Drop>(
+/// `Device` where a port can't be listened on, where what is kept can't be read, or where no line has a port or a peer
+/// and no number of turns is given: of ports and lines the log says why. `Refused` where a kept file can't be put back.
+/// `Memory` where there is no room for the hub or its wires. Nothing was read then. `Device` too where files couldn't
+/// be kept: nothing was read or written after that.
+pub fn serve<R: Net + Clock + AllocGlobal, L: Write + Drop, S: TableSource + Drop, D: Depot>(
     rt: &R,
+    depot: &mut D,
     tables: Tables,
-    revision: Revision<S>,
-    address: IpAddr,
+    setup: Setup<L, S>,
     turns: Option<u32>,
-    log: Log<L>,
 ) -> Result<(), ServeFault>
-    ensures { OnOk result (AreServed tables turns) }
+    ensures { OnOk result (AreServedFrom D.opens D.may_leave tables turns) }
 {
-    let mut log = log;
-    let network = match network_on(rt, &mut log) {
-        Ok(network) => network,
+    match station_of(rt, setup) {
+        Ok(station) => serve_on(rt.alloc(), depot, tables, station, turns),
+        Err(fault) => {
+            drop(tables);
+            Err(fault)
+        }
+    }
+}
+
+/// A station on the sockets of this machine.
+fn station_of<'a, R: Net + Clock + AllocGlobal, L: Write + Drop, S: TableSource + Drop>(
+    rt: &'a R,
+    setup: Setup<L, S>,
+) -> Result<Station<MioNetwork<'a, R>, L, S>, ServeFault> {
+    let Setup {
+        address,
+        mut log,
+        revision,
+    } = setup;
+    match network_on(rt, &mut log) {
+        Ok(network) => Ok(Station {
+            network,
+            address,
+            log,
+            revision,
+        }),
         Err(fault) => {
             drop(log);
             drop(revision);
-            drop(tables);
-            return Err(fault);
+            Err(fault)
         }
-    };
-    let station = Station {
-        network,
-        address,
-        log,
-        revision,
-    };
-    serve_on(rt.alloc(), tables, station, turns)
+    }
 }
 
 /// The sockets of this machine. Where they can't be waited for the log says so.
@@ -89,34 +116,44 @@ fn network_on<'a, R: Net + Clock + AllocGlobal, L: Write + Drop>(
     }
 }
 
-/// Serves the lines of tables at a station.
-fn serve_on<N: Network + Drop, L: Write + Drop, S: TableSource + Drop>(
+/// Serves the lines of tables at a station, over a depot.
+fn serve_on<N: Network + Drop, L: Write + Drop, S: TableSource + Drop, D: Depot>(
     alloc: Global,
+    depot: &mut D,
     tables: Tables,
     station: Station<N, L, S>,
     turns: Option<u32>,
 ) -> Result<(), ServeFault>
-    ensures { OnOk result (AreServed tables turns) }
+    ensures { OnOk result (AreServedFrom D.opens D.may_leave tables turns) }
 {
-    let mut service = service_on(alloc, tables, station, turns.is_none())?;
-    service.run(turns);
+    let mut service = service_on(alloc, depot, tables, station, turns.is_none())?;
+    match service.run(depot, turns) {
+        Ok(()) => {}
+        Err(_) => {
+            drop(service);
+            return Err(ServeFault::Device);
+        }
+    }
     drop(service);
     Ok(())
 }
 
-/// A service of the lines of tables that have a port or a peer. Where `needed`, tables without such a line are refused.
+/// A service of the lines of tables that have a port or a peer, of a hub that the depot opens. Where `needed`, tables
+/// without such a line are refused.
 ///
 /// Refusals are those of `serve`.
-pub fn service_on<N: Network + Drop, L: Write + Drop, S: TableSource + Drop>(
+pub fn service_on<N: Network + Drop, L: Write + Drop, S: TableSource + Drop, D: Depot>(
     alloc: Global,
+    depot: &mut D,
     tables: Tables,
     station: Station<N, L, S>,
     needed: bool,
 ) -> Result<Service<LineWire<N::Connection>, Exchange<N, L, S>>, ServeFault>
-    ensures { IfOk result (IsOpened tables) }
+    ensures opened { IfOk result (IsOpened (D.opens depot.new tables) tables) }
+    ensures settled { IfOk result (λ service. IsSettled D.may_leave depot.new service.hub) }
 {
     match endpoints_of(alloc, &tables) {
-        Ok(endpoints) => service_of(alloc, tables, &endpoints, station, needed),
+        Ok(endpoints) => service_of(alloc, depot, tables, &endpoints, station, needed),
         Err(_) => {
             drop(station);
             drop(tables);
@@ -126,15 +163,17 @@ pub fn service_on<N: Network + Drop, L: Write + Drop, S: TableSource + Drop>(
 }
 
 /// A service of lines of tables.
-fn service_of<N: Network + Drop, L: Write + Drop, S: TableSource + Drop>(
+fn service_of<N: Network + Drop, L: Write + Drop, S: TableSource + Drop, D: Depot>(
     alloc: Global,
+    depot: &mut D,
     tables: Tables,
     endpoints: &[Endpoint],
     station: Station<N, L, S>,
     needed: bool,
 ) -> Result<Service<LineWire<N::Connection>, Exchange<N, L, S>>, ServeFault>
     requires { All (λ endpoint. HasLine tables endpoint.line) endpoints.now }
-    ensures { IfOk result (IsOpenedOn tables endpoints.now) }
+    ensures opened { IfOk result (IsOpenedOn (D.opens depot.new tables) endpoints.now) }
+    ensures settled { IfOk result (λ service. IsSettled D.may_leave depot.new service.hub) }
 {
     let exchange = match exchange_on(alloc, &tables, endpoints, station, needed) {
         Ok(exchange) => exchange,
@@ -143,15 +182,56 @@ fn service_of<N: Network + Drop, L: Write + Drop, S: TableSource + Drop>(
             return Err(fault);
         }
     };
+    let hub = match hub_of(alloc, depot, tables, endpoints) {
+        Ok(hub) => hub,
+        Err(fault) => {
+            drop(exchange);
+            return Err(fault);
+        }
+    };
+    service_over(alloc, hub, endpoints, exchange)
+}
+
+/// The hub that a depot opens for tables, with these lines of theirs.
+fn hub_of<D: Depot>(
+    alloc: Global,
+    depot: &mut D,
+    tables: Tables,
+    endpoints: &[Endpoint],
+) -> Result<Hub, ServeFault>
+    requires { All (λ endpoint. HasLine tables endpoint.line) endpoints.now }
+    ensures opened { IfOk result (λ hub. D.opens depot.new tables hub) }
+    ensures known { IfOk result (λ hub. All (λ endpoint. HubHasLine hub endpoint.line) endpoints.now) }
+    ensures settled { IfOk result (λ hub. IsSettled D.may_leave depot.new hub) }
+{
+    let _endpoints = endpoints;
+    match depot.open(alloc, tables) {
+        Ok(hub) => Ok(hub),
+        Err(fault) => Err(ServeFault::from(fault)),
+    }
+}
+
+/// A service of lines of a hub.
+fn service_over<N: Network + Drop, L: Write + Drop, S: TableSource + Drop>(
+    alloc: Global,
+    hub: Hub,
+    endpoints: &[Endpoint],
+    exchange: Exchange<N, L, S>,
+) -> Result<Service<LineWire<N::Connection>, Exchange<N, L, S>>, ServeFault>
+    requires { All (λ endpoint. HubHasLine hub endpoint.line) endpoints.now }
+    ensures hub { IfOk result (λ service. service.hub ≡ hub) }
+    ensures lines { IfOk result (λ service. service.lines ≡ lines_of endpoints.now) }
+    ensures calm { IfOk result (λ service. service.quiets ≡ no_quiets (lines_of endpoints.now)) }
+{
     let wires = match wires_for(alloc, endpoints) {
         Ok(wires) => wires,
         Err(_) => {
             drop(exchange);
-            drop(tables);
+            drop(hub);
             return Err(ServeFault::Memory);
         }
     };
-    match Service::new(alloc, tables, endpoints, wires, exchange) {
+    match Service::new(alloc, hub, endpoints, wires, exchange) {
         Ok(service) => Ok(service),
         Err(_) => Err(ServeFault::Memory),
     }

@@ -16,9 +16,13 @@ mod fault_tests;
 #[cfg(test)]
 mod header_tests;
 #[cfg(test)]
+mod keeper_tests;
+#[cfg(test)]
 mod line_tests;
 #[cfg(test)]
 mod memory_attendant;
+#[cfg(test)]
+mod memory_keeper;
 #[cfg(test)]
 mod memory_wire;
 #[cfg(test)]

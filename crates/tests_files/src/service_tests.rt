@@ -27,7 +27,7 @@ fn quiet_wire() -> [MemoryWire; 1] {
 }
 
 /// A route to METZ on a line, for the first customer.
-fn metz_by(alloc: Global, id: LineId) -> Result<NewRoutes, Fail> {
+pub fn metz_by(alloc: Global, id: LineId) -> Result<NewRoutes, Fail> {
     let node = Name::of_text("METZ")?;
     let entry = GivenRoute {
         node,

@@ -1,11 +1,12 @@
 //! A hub with four lines, served over wires in memory.
 
-ghost use Rattle.std.specs.Prelude.{◌≡◌, length, All, IfOk};
-ghost use Rattle.njh_hub.specs.WholeHub.{HasLine};
+ghost use Rattle.std.specs.Prelude.{◌≡◌, List, length, All, IfOk};
+ghost use Rattle.njh_hub.specs.Keeping.{IsSettled};
+ghost use Rattle.njh_hub.specs.WholeHub.{Part, HasLine};
 
 use crate::memory_attendant::MemoryAttendant;
 use crate::memory_wire::MemoryWire;
-use njh_hub::{Hub, Rounds, attend, serve_turns};
+use njh_hub::{Hub, KeepFault, Keeper, KeepsNothing, Rounds, TurnsFault, attend, serve_turns};
 use njh_table::{LineId, Tables};
 use std::alloc::{AllocError, Global};
 use std::process::Abort;
@@ -89,20 +90,22 @@ pub fn serve<R: Abort>(
     wires: &mut [MemoryWire],
     turns: u32,
 ) -> Result<(), Fail> {
-    let mut hub = opened(alloc)?;
-    serve_on(rt, alloc, &mut hub, wires, turns)
+    Ok(serve_kept(rt, alloc, &mut KeepsNothing, wires, turns)??)
 }
 
-/// So many turns of wires of a hub's first lines.
-fn serve_on<R: Abort>(
+/// The same with a keeper. Answers what the turns answer.
+pub fn serve_kept<R: Abort, K: Keeper>(
     rt: &R,
     alloc: Global,
-    hub: &mut Hub,
+    keeper: &mut K,
     wires: &mut [MemoryWire],
     turns: u32,
-) -> Result<(), Fail> {
-    let lines = first_lines(rt, alloc, hub, wires.len())?;
-    Ok(serve_turns(alloc, hub, wires, &lines, turns)?)
+) -> Result<Result<(), TurnsFault>, Fail>
+    requires fresh { (parts : List Part) → IsSettled K.may_leave keeper.old parts }
+{
+    let mut hub = opened(alloc)?;
+    let lines = first_lines(rt, alloc, &hub, wires.len())?;
+    Ok(serve_turns(alloc, &mut hub, keeper, wires, &lines, turns))
 }
 
 /// A service of wires of a hub's first lines, on a hub that is opened for them: so many rounds, and then so many more.
@@ -129,9 +132,26 @@ fn attend_on<R: Abort>(
 ) -> Result<(), Fail> {
     let lines = first_lines(rt, alloc, hub, wires.len())?;
     let mut rounds = Rounds::new(alloc, &lines)?;
-    attend(hub, wires, &mut rounds, attendant, first);
-    attend(hub, wires, &mut rounds, attendant, then);
+    attend(hub, &mut KeepsNothing, wires, &mut rounds, attendant, first)?;
+    attend(hub, &mut KeepsNothing, wires, &mut rounds, attendant, then)?;
     Ok(())
+}
+
+/// A round of a service of wires of a hub's first lines, with a keeper, on a hub that is opened for it. Answers what
+/// the service answers.
+pub fn attend_kept<R: Abort, K: Keeper>(
+    rt: &R,
+    alloc: Global,
+    keeper: &mut K,
+    wires: &mut [MemoryWire],
+    attendant: &mut MemoryAttendant,
+) -> Result<Result<(), KeepFault>, Fail>
+    requires fresh { (parts : List Part) → IsSettled K.may_leave keeper.old parts }
+{
+    let mut hub = opened(alloc)?;
+    let lines = first_lines(rt, alloc, &hub, wires.len())?;
+    let mut rounds = Rounds::new(alloc, &lines)?;
+    Ok(attend(&mut hub, keeper, wires, &mut rounds, attendant, 1))
 }
 
 /// The first lines of a hub, as many as there are wires.

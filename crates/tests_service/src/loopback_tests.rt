@@ -1,7 +1,7 @@
 //! A service over sockets of this machine, turn by turn beside its peers.
 
 use mio::net::TcpStream;
-use njh_hub::{Attendant, Wire};
+use njh_hub::{Attendant, KeepsNothing, Wire};
 use njh_serve::{MioNetwork, Service, Station, service_on};
 use njh_service::{Log, Revision};
 use njh_table::Tables;
@@ -52,7 +52,7 @@ fn closes_stalls_and_connects_again(rt: HostRuntime) -> Result<(), Fail> {
         log: Log::new(Some(io::sink())),
         revision: Revision::none(rt.alloc()),
     };
-    match service_on(rt.alloc(), tables, station, true) {
+    match service_on(rt.alloc(), &mut KeepsNothing, tables, station, true) {
         Ok(mut service) => try_lines(&rt, &mut service),
         Err(fault) => Err(Fail::from(fault)),
     }
@@ -100,7 +100,7 @@ fn is_refused<W: Wire + Drop, A: Attendant<W> + Drop, R: Net>(
         Err(error) => return Ok(error.kind() == ErrorKind::ConnectionRefused),
     };
     for _ in 0..TURNS {
-        service.run(Some(1));
+        let _ran = service.run(&mut KeepsNothing, Some(1));
         if let Some(error) = peer.take_error()? {
             return Ok(error.kind() == ErrorKind::ConnectionRefused);
         }
@@ -119,7 +119,7 @@ fn is_answered<W: Wire + Drop, A: Attendant<W> + Drop>(
     let mut is_sent = false;
     for _ in 0..TURNS {
         is_sent = is_sent || is_taken(peer, CONTACT)?;
-        service.run(Some(1));
+        let _ran = service.run(&mut KeepsNothing, Some(1));
         if let Some(answer) = heard(peer)? {
             return Ok(answer == ANSWER);
         }

@@ -4,6 +4,7 @@ use crate::memory_connection::MemoryConnection;
 use crate::memory_log::MemoryLog;
 use crate::memory_network::MemoryNetwork;
 use crate::world::{Happens, World};
+use njh_hub::KeepsNothing;
 use njh_serve::{Service, Station, service_on};
 use njh_service::{Exchange, Log, NoSource, Revision};
 use njh_table::Tables;
@@ -50,7 +51,7 @@ fn serve<'a>(alloc: Global, world: &'a World<'a>, tables: &str, end: u64) -> Res
         log: Log::new(Some(MemoryLog { world })),
         revision: Revision::none(alloc),
     };
-    match service_on(alloc, tables, station, true) {
+    match service_on(alloc, &mut KeepsNothing, tables, station, true) {
         Ok(mut service) => go_on(&mut service, world, end),
         Err(fault) => return Err(Fail::from(fault)),
     }
@@ -63,7 +64,7 @@ fn go_on<'a>(service: &mut Playing<'a>, world: &World<'_>, end: u64) {
         if world.now() >= end {
             return;
         }
-        service.run(Some(1));
+        let _ran = service.run(&mut KeepsNothing, Some(1));
     }
 }
 

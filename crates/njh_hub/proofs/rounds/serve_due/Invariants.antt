@@ -1,5 +1,6 @@
 use Rattle.std.proofs.Common.{◌≡◌, ◌<◌, List, length}
 use Rattle.std.specs.Prelude.{All}
+use Rattle.njh_hub.specs.Keeping.{IsSettled}
 use Rattle.njh_hub.specs.Turns.{Turn, IsRound}
 use Rattle.njh_hub.specs.WholeHub.{SameLines}
 use Rattle.njh_hub.proofs.rounds.serve_due.Given as goal
@@ -8,7 +9,9 @@ use Rattle.njh_hub.proofs.rounds.serve_due.Given as goal
 abbrev pub invariant-loop-i : goal.invariant-loop-i
 invariant-loop-i g l = record {
   turns : (turns : List Turn) × (length turns ≡ l.i) ×
-      IsRound g.W.Wire.passed g.W.Wire.count l.lines l.fn.hub l.fn.quiets l.fn.wires turns l.hub l.quiets l.wires;
+      IsRound g.W.Wire.passed g.W.Wire.count l.due.lines.now l.fn.hub l.fn.quiets l.fn.wires turns l.hub l.quiets l.wires;
   few : All (λ quiet. quiet < 10) l.quiets;
   same : SameLines l.fn.hub l.hub;
+  settled : IsSettled g.K.Keeper.may_leave l.keeper l.hub;
+  kept : g.K.Keeper.count l.keeper ≡ g.K.Keeper.count l.fn.keeper;
 }

@@ -1,4 +1,5 @@
 use Rattle.std.proofs.Common.{◌≡◌, List, length}
+use Rattle.njh_hub.specs.Keeping.{IsSettled}
 use Rattle.njh_hub.specs.Service.{Happening, service_rounds}
 use Rattle.njh_hub.specs.WholeHub.{SameLines}
 use Rattle.njh_hub.proofs.ServiceLaws.{IsAt}
@@ -11,4 +12,6 @@ invariant-loop-turn g l = record {
       IsAt g.W.Wire.passed g.W.Wire.count l.fn.rounds.lines l.fn.hub l.fn.rounds.quiets l.fn.wires story l.hub l.rounds.quiets l.wires;
   lines : l.rounds.lines ≡ l.fn.rounds.lines;
   same : SameLines l.fn.hub l.hub;
+  settled : IsSettled g.K.Keeper.may_leave l.keeper l.hub;
+  kept : g.K.Keeper.count l.keeper ≡ g.K.Keeper.count l.fn.keeper;
 }

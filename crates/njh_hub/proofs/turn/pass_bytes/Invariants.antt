@@ -1,12 +1,13 @@
 use Rattle.std.proofs.Common.{◌≡◌, ◌≤◌, ◌-◌, length, map, take}
 use Rattle.std.specs.Vec.{vec_capacity}
 use Rattle.njh_bisync.specs.Limits.{longest_frame}
+use Rattle.njh_hub.specs.Keeping.{IsSettled}
 use Rattle.njh_hub.specs.WholeHub.{SameLines}
 use Rattle.njh_hub.specs.Wires.{sent_act}
 use Rattle.njh_hub.proofs.PieceLaws.{after_bytes}
 use Rattle.njh_hub.proofs.turn.pass_bytes.Given as goal
 
--- so many bytes were used, and each frame was written
+-- so many bytes were used, what they made of the files is kept, and each frame was written
 abbrev pub invariant-loop-taken : goal.invariant-loop-taken
 invariant-loop-taken g l = record {
   within : l.taken ≤ length l.piece;
@@ -15,6 +16,8 @@ invariant-loop-taken g l = record {
   same : SameLines l.fn.hub l.hub;
   room : longest_frame ≤ vec_capacity l.out;
   counts : g.W.Wire.count l.fn.wire ≤ g.W.Wire.count l.wire;
+  settled : IsSettled g.K.Keeper.may_leave l.keeper l.hub;
+  kept : g.K.Keeper.count l.keeper ≡ g.K.Keeper.count l.fn.keeper;
 }
 
 abbrev pub decreases-loop-taken : goal.decreases-loop-taken

@@ -1,7 +1,7 @@
 use Rattle.std.proofs.Common.{length, sym, ap, ◌∙◌}
 use Rattle.std.proofs.lemmas.List.{length-map}
 use Rattle.njh_serve.specs.declared.endpoints.Endpoint.{Endpoint}
-use Rattle.njh_serve.proofs.EndpointLaws.{served_lines}
+use Rattle.njh_serve.proofs.EndpointLaws.{opened_lines}
 use Rattle.njh_serve.proofs.service.Service.new.Goals as goal
 
 pub invariant_of-result : goal.invariant_of-result
@@ -9,6 +9,5 @@ invariant_of-result g c =
     let lines = c.in_ok-rounds.ensures.lines ∙ (c.deref.ensures.value ∙ c.in_ok-lines.ensures) in
     let counted = length-map c.args.endpoints.now (λ (endpoint : Endpoint). endpoint.line) in
     let many = c.requires.same ∙ sym (ap length lines ∙ counted) in
-    let hub = c.in_ok-hub.hub in
     let served = c.in_ok-rounds.rounds.lines in
-    (many, served_lines c.args.tables hub c.args.endpoints.now served c.in_ok-hub.ensures.opened lines c.requires.known)
+    (many, opened_lines c.args.hub c.args.endpoints.now served lines c.requires.known)
