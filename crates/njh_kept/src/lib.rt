@@ -2,13 +2,21 @@
 #![tactic(auto)]
 
 mod fault;
+mod following;
+mod hub_records;
+mod keeper;
 mod kinds;
 mod laws;
 mod names;
 mod opening;
+mod own_files;
+mod portions;
 mod records;
 mod restoring;
+mod rows;
+mod writer;
 
 pub use fault::{FileFault, OpeningFault, RefusedFile};
+pub use keeper::SpoolKeeper;
 pub use laws::{a_file_of_another_does_not_show, files_stand_again, own_files_decide};
 pub use opening::open_from;

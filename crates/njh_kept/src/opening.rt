@@ -3,7 +3,7 @@
 ghost use Rattle.std.specs.Prelude.{◌≡◌, ◌<◌, ◌≤◌, ◌^◌, length, map, slice_index_or, IfOk, IfErr, OnOk};
 ghost use Rattle.sqlite.specs.State.{HasCleanDisk, Survives};
 ghost use Rattle.njh_hub.specs.Parts.{entries_of};
-ghost use Rattle.njh_hub.specs.WholeHub.{part_at_open};
+ghost use Rattle.njh_hub.specs.WholeHub.{SameLines, part_at_open};
 ghost use Rattle.njh_kept.specs.Faults.{IsNoFile, IsSpared, Tells};
 ghost use Rattle.njh_kept.specs.Opened.{AllAreBack, hub_opened};
 ghost use Rattle.njh_kept.specs.code.Restoring.{NoneFails, hub_with_all, wholes};
@@ -86,6 +86,7 @@ fn fill<S: Alter>(
     ensures refused { HasCleanDisk (shown S.Store store.new) → IfErr result (λ fault. (spool : Spool)
         → Holds spool (shown S.Store store.old).now.trees
         → StopsIn found.names.items hub spool found.files.items fault) }
+    ensures lines { IfOk result (λ opened. SameLines hub opened) }
     ensures same { HasCleanDisk (shown S.Store store.new) → OnOk result (Stays (shown S.Store store.old)
         (shown S.Store store.new)) }
     ensures spared { HasCleanDisk (shown S.Store store.new) → IfErr result (λ fault. IsSpared fault
@@ -121,6 +122,7 @@ pub fn open_from<S: Alter>(
         → Holds spool (shown S.Store store.old).now.trees → AllAreBack tables (kept spool)) }
     ensures refused { HasCleanDisk (shown S.Store store.new) → IfErr result (λ fault. (spool : Spool)
         → Holds spool (shown S.Store store.old).now.trees → Tells tables spool fault) }
+    ensures lines { IfOk result (λ opened. SameLines (map part_at_open (entries_of tables)) opened) }
     ensures same { HasCleanDisk (shown S.Store store.new) → OnOk result (Stays (shown S.Store store.old)
         (shown S.Store store.new)) }
     ensures spared { HasCleanDisk (shown S.Store store.new) → IfErr result (λ fault. IsSpared fault

@@ -3,7 +3,7 @@
 ghost use Rattle.std.specs.Prelude.{◌≡◌, ◌<◌, ◌≤◌, ◌^◌, length, map, slice_set, IsOk, IfErr, OnOk, OnErr};
 ghost use Rattle.std.specs.Prelude.{MatchOption, Err, None};
 ghost use Rattle.sqlite.specs.State.{HasCleanDisk, Survives};
-ghost use Rattle.njh_hub.specs.WholeHub.{part};
+ghost use Rattle.njh_hub.specs.WholeHub.{SameLines, part};
 ghost use Rattle.njh_kept.specs.Opened.{file_fault, with_file};
 ghost use Rattle.njh_kept.specs.code.Restoring.{NoneFails, StopsAt, StopsOn, IsOfFile, hub_fault, hub_with};
 ghost use Rattle.njh_kept.specs.code.Restoring.{hub_with_all, wholes};
@@ -55,6 +55,7 @@ fn put_back(
     ensures ok { OnOk result (hub.new ≡ slice_set hub.old customer
         (with_file (part customer hub.old) (file_of file.now) (map contents_of records.items))) }
     ensures err { OnErr result (hub.new ≡ hub.old) }
+    ensures lines { SameLines hub.old hub.new }
 {
     let Some(kind) = kind_of_word(file.kind.as_str()) else {
         return Err(FileFault::BadFile);
@@ -79,6 +80,7 @@ fn restore_one<S: Alter>(
     requires same { length hub.old ≡ length names.now }
     requires few { length names.now ≤ 2 ^ 16 }
     ensures count { length hub.new ≡ length hub.old }
+    ensures lines { SameLines hub.old hub.new }
     ensures ok { HasCleanDisk (shown S.Store store.new) → OnOk result ((spool : Spool)
         → Holds spool (shown S.Store store.old).now.trees
         → (hub.new ≡ hub_with names.now hub.old (whole_in spool (entry_of stored.now)))
@@ -121,6 +123,7 @@ pub(crate) fn restore_all<S: Alter>(
     ensures back { HasCleanDisk (shown S.Store store.new) → OnOk result ((spool : Spool)
         → Holds spool (shown S.Store store.old).now.trees → NoneFails names.now hub.old (wholes spool files.now)) }
     ensures at { IfErr result (λ stop. stop.at < length files.now) }
+    ensures lines { SameLines hub.old hub.new }
     ensures fault { HasCleanDisk (shown S.Store store.new) → IfErr result (λ stop. (spool : Spool)
         → Holds spool (shown S.Store store.old).now.trees → StopsAt names.now hub.old spool files.now stop) }
     ensures same { HasCleanDisk (shown S.Store store.new) → OnOk result (Stays (shown S.Store store.old)

@@ -1,7 +1,7 @@
 use Rattle.std.proofs.Common.{subst, sym, arith}
 use Rattle.sqlite.specs.Effect.{Database}
 use Rattle.sqlite.specs.State.{HasCleanDisk}
-use Rattle.njh_store.specs.Kept.{Holds, Spool}
+use Rattle.njh_store.specs.Kept.{Holds}
 use Rattle.njh_store.specs.Shelf.{shown}
 use Rattle.njh_kept.proofs.OpeningLaws.{Finds, come_back, if_err, if_ok, on_ok, opens, tells}
 use Rattle.njh_kept.proofs.opening.open_from.Goals as goal

@@ -1,8 +1,7 @@
-use Rattle.std.proofs.Common.{◌≡◌, ◌∙◌, length, take, subst, sym, arith}
+use Rattle.std.proofs.Common.{◌∙◌, subst, sym, arith}
 use Rattle.sqlite.specs.State.{HasCleanDisk}
 use Rattle.sqlite.specs.Effect.{Database}
 use Rattle.sqlite.proofs.StateLemmas.{survives_then}
-use Rattle.njh_hub.specs.WholeHub.{Part}
 use Rattle.njh_store.specs.Kept.{Holds}
 use Rattle.njh_store.specs.Shelf.{shown}
 use Rattle.njh_kept.proofs.StepLaws.{hub_more, none_more, stays_then}
@@ -18,6 +17,7 @@ files-preserved g c =
     let early : HasCleanDisk new → HasCleanDisk mid = λ clean. omega (arith, c.restore_one.ensures.crash.clean) in
     record {
       count = c.restore_one.ensures.count ∙ so_far.count;
+      lines = λ d. c.restore_one.ensures.lines d ∙ so_far.lines d;
       crash = survives_then old mid new _ _ (λ _. ⊥) (λ _ db none. none) (λ _ db none. none) so_far.crash c.restore_one.ensures.crash;
       same = λ clean. stays_then old mid new (so_far.same (early clean)) (done.same clean);
       hub = λ clean spool held.
@@ -29,3 +29,9 @@ files-preserved g c =
           none_more c.args.names.now c.args.hub.now c.files.hub spool c.args.files.now c.files.at c.index-files-at.result c.files-test.true c.index-files-at.is
           (so_far.hub (early clean) spool held) (so_far.back (early clean) spool held) (done.ok clean spool now).1;
     }
+
+pub returns-in-Err-clause-lines : goal.returns-in-Err-clause-lines
+returns-in-Err-clause-lines g c = λ d. c.restore_one.ensures.lines d ∙ c.files.invariant.lines d
+
+pub returns-clause-lines : goal.returns-clause-lines
+returns-clause-lines g c = c.files.invariant.lines

@@ -1,5 +1,6 @@
 use Rattle.std.proofs.Common.{◌≡◌, length, take}
 use Rattle.sqlite.specs.State.{HasCleanDisk, Survives}
+use Rattle.njh_hub.specs.WholeHub.{SameLines}
 use Rattle.njh_store.specs.Kept.{Spool, Holds}
 use Rattle.njh_store.specs.Shelf.{shown}
 use Rattle.njh_store.specs.Steps.{Stays}
@@ -13,6 +14,7 @@ invariant-files g l =
     let now = shown g.S.Store l.store in
     record {
       count : length l.hub ≡ length l.fn.hub;
+      lines : SameLines l.fn.hub l.hub;
       crash : Survives old now (λ _. ⊥);
       same : HasCleanDisk now → Stays old now;
       hub : HasCleanDisk now → (spool : Spool) → Holds spool old.now.trees → l.hub ≡ hub_with_all l.names l.fn.hub (wholes spool (take l.at l.files));

@@ -1,7 +1,7 @@
-use Rattle.std.proofs.Common.{◌≡◌, ℕ, List, length, map, Some, ap, sym, ◌∙◌, arith}
+use Rattle.std.proofs.Common.{◌≡◌, ℕ, List, map, Some, ap, sym, ◌∙◌, arith}
 use Rattle.njh_hub.specs.WholeHub.{part}
 use Rattle.njh_store.specs.Kept.{contents_of, entry_of, file_of, whole_in}
-use Rattle.njh_kept.specs.Opened.{Contents, file_fault}
+use Rattle.njh_kept.specs.Opened.{file_fault}
 use Rattle.njh_kept.specs.code.Restoring.{number_of}
 use Rattle.njh_kept.proofs.FileLaws.{no_fault, this_fault}
 use Rattle.njh_kept.proofs.HubLaws.{found}

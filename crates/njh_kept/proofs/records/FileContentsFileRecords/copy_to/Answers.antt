@@ -1,9 +1,9 @@
-use Rattle.std.proofs.Common.{◌≡◌, ◌<◌, ◌++◌, ℕ, List, length, map, Some, ap, subst, sym, ◌∙◌, arith}
+use Rattle.std.proofs.Common.{◌≡◌, ◌<◌, ◌++◌, List, length, map, Some, ap, sym, ◌∙◌, arith}
 use Rattle.std.specs.Prelude.{slice_get}
 use Rattle.std.proofs.lemmas.List.{length-map}
 use Rattle.njh_record.specs.Stored.{Stored}
 use Rattle.njh_store.specs.Kept.{contents_of}
-use Rattle.njh_kept.specs.Opened.{Contents, as_stored}
+use Rattle.njh_kept.specs.Opened.{as_stored}
 use Rattle.njh_kept.proofs.FileLaws.{got}
 use Rattle.njh_kept.proofs.records.FileContentsFileRecords.copy_to.Goals as goal
 

@@ -1,0 +1,132 @@
+//! The records of a hub's file, as they are written into a spool file.
+
+ghost use Rattle.std.specs.Prelude.{◌≤◌, ◌<◌, ◌^◌};
+
+use crate::own_files::HubFile;
+use crate::writer::{PLACES, SpoolWriter};
+use njh_ebcdic::Name;
+use njh_header::{DataSetHeader, JobHeader, srcb};
+use njh_hub::Hub;
+use njh_record::Record;
+use njh_spool::RecordReader;
+use njh_store::KeptRecord;
+use sqlite::{Alter, Error};
+
+/// Blanks, where a field has nothing.
+const BLANKS: [u8; 8] = [0x40; 8];
+
+/// Writes a file's records from a place on.
+pub(crate) fn write_records<S: Alter + Drop>(
+    writer: &mut SpoolWriter<S>,
+    hub: &Hub,
+    file: HubFile,
+    key: u32,
+    from: u32,
+) -> Result<(), Error> {
+    let Some(mut records) = hub.read_file(file.customer, file.number) else {
+        return Ok(());
+    };
+    let mut record = Record::new();
+    for place in 0..PLACES {
+        let Some(srcb) = records.next(&mut record) else {
+            return Ok(());
+        };
+        if place >= from {
+            let bytes = &record;
+            writer.add_record(&KeptRecord {
+                key,
+                place,
+                srcb,
+                bytes,
+            })?;
+        }
+    }
+    Ok(())
+}
+
+/// Writes a file's headers anew, as after a REROUTE.
+pub(crate) fn rewrite_headers<S: Alter + Drop>(
+    writer: &mut SpoolWriter<S>,
+    hub: &Hub,
+    file: HubFile,
+    key: u32,
+) -> Result<(), Error> {
+    let Some(mut records) = hub.read_file(file.customer, file.number) else {
+        return Ok(());
+    };
+    let mut record = Record::new();
+    for place in 0..PLACES {
+        let Some(srcb) = records.next(&mut record) else {
+            return Ok(());
+        };
+        if srcb == srcb::JOB_HEADER || srcb == srcb::DATA_SET_HEADER {
+            let bytes = &record;
+            writer.replace_record(&KeptRecord {
+                key,
+                place,
+                srcb,
+                bytes,
+            })?;
+        }
+    }
+    Ok(())
+}
+
+/// Whether a file's data set headers name more than one node.
+pub(crate) fn is_mixed(hub: &Hub, file: HubFile) -> bool {
+    let Some(mut records) = hub.read_file(file.customer, file.number) else {
+        return false;
+    };
+    let Some(first) = next_node(&mut records) else {
+        return false;
+    };
+    for _ in 0..PLACES {
+        match next_node(&mut records) {
+            Some(node) => {
+                if node != first {
+                    return true;
+                }
+            }
+            None => return false,
+        }
+    }
+    false
+}
+
+/// The node that the next data set header names, of those records that are left.
+fn next_node(records: &mut RecordReader<'_>) -> Option<Name> {
+    let mut record = Record::new();
+    for _ in 0..PLACES {
+        let srcb = records.next(&mut record)?;
+        if let Some(node) = node_of(srcb, &record) {
+            return Some(node);
+        }
+    }
+    None
+}
+
+/// The node that a record names, where it is a data set header that reads.
+fn node_of(srcb: u8, bytes: &[u8]) -> Option<Name> {
+    if srcb != srcb::DATA_SET_HEADER {
+        return None;
+    }
+    match DataSetHeader::read(bytes) {
+        Ok(header) => Some(header.destination_node()),
+        Err(_) => None,
+    }
+}
+
+/// The job's name, as a file's job header has it; blanks where it doesn't read.
+pub(crate) fn job_of(hub: &Hub, file: HubFile) -> [u8; 8] {
+    let Some(mut records) = hub.read_file(file.customer, file.number) else {
+        return BLANKS;
+    };
+    let mut record = Record::new();
+    match records.next(&mut record) {
+        Some(srcb::JOB_HEADER) => match JobHeader::read(&record) {
+            Ok(header) => header.name(),
+            Err(_) => BLANKS,
+        },
+        _ => BLANKS,
+    }
+}

@@ -1,0 +1,298 @@
+//! The whole files of a hub's customers are kept in a spool file.
+
+ghost use Rattle.std.specs.Prelude.{◌≡◌, ◌≤◌};
+ghost use Rattle.njh_hub.specs.Sent.{IsCounted};
+
+use crate::fault::{OpeningFault, RefusedFile};
+use crate::following::follow;
+use crate::hub_records::is_mixed;
+use crate::names::{names_of, number_of};
+use crate::opening::open_from;
+use crate::own_files::{HubFile, KeptWhole, OwnFiles};
+use crate::portions::keep_portions;
+use crate::writer::SpoolWriter;
+use njh_ebcdic::Name;
+use njh_hub::{Depot, DepotFault, FileSummaryView, Hub, KeepFault, Keeper};
+use njh_record::Kind;
+use njh_spool::State;
+use njh_store::{Store, StoredFile};
+use njh_table::Tables;
+use sqlite::{Alter, Error, ErrorCode};
+use std::alloc::{AllocError, Global};
+use std::marker::Model;
+use std::rt::Clock;
+use std::time::{SystemTime, UNIX_EPOCH};
+
+/// Keeps the whole files of a hub's customers in a spool file: a depot for `serve`. A contract sees how often it
+/// failed. After a failure each further call fails.
+#[derive(Drop)]
+pub struct SpoolKeeper<'a, R, S: Alter + Drop> {
+    rt: &'a R,
+    writer: SpoolWriter<S>,
+    /// In the order of the tables.
+    customers: Vec<OwnFiles>,
+    refused: Option<RefusedFile>,
+    skipped: u32,
+    failures: u64,
+}
+
+impl<'a, R, S: Alter + Drop> Model for SpoolKeeper<'a, R, S> {
+    ghost use Rattle.std.specs.Prelude.{ℕ};
+
+    ghost Value = { ℕ };
+
+    ghost view = { λ keeper. keeper.failures };
+}
+
+impl<'a, R: Clock, S: Alter + Drop> SpoolKeeper<'a, R, S> {
+    /// Keeps files in a spool file that was just opened. Each row has the time by this clock.
+    pub fn new(rt: &'a R, alloc: Global, store: Store<S>) -> SpoolKeeper<'a, R, S>
+        ensures { result ≡ 0 }
+    {
+        SpoolKeeper {
+            rt,
+            writer: SpoolWriter::new(alloc, store),
+            customers: Vec::new(alloc),
+            refused: None,
+            skipped: 0,
+            failures: 0,
+        }
+    }
+}
+
+impl<'a, R: Clock, S: Alter + Drop> SpoolKeeper<'a, R, S> {
+    /// The whole file that couldn't be put back when a hub was opened, and why; none where there is no such file.
+    pub fn refused(&self) -> Option<&RefusedFile> {
+        self.refused.as_ref()
+    }
+
+    /// How many whole files of the spool file are of customers that the tables don't have. They stay there.
+    pub fn skipped(&self) -> u32 {
+        self.skipped
+    }
+
+    /// The spool file. What isn't committed is dropped when it is closed.
+    pub fn into_store(self) -> Store<S> {
+        let SpoolKeeper {
+            writer,
+            customers,
+            ..
+        } = self;
+        drop(customers);
+        writer.into_store()
+    }
+
+    /// Keeps what a step made of a customer's files.
+    fn keep_files(&mut self, hub: &Hub, customer: u16) -> Result<(), Error>
+        ensures { self.new ≡ self.old }
+    {
+        if self.failures > 0 || usize::from(customer) >= self.customers.len() {
+            return Err(Error::SqliteFailure(ErrorCode::Closed));
+        }
+        self.writer.now = seconds_on(self.rt);
+        let own = &mut self.customers[usize::from(customer)];
+        follow(&mut self.writer, own, hub, customer)?;
+        keep_portions(&mut self.writer, own, hub, customer)?;
+        self.writer.sweep()?;
+        self.writer.settle()
+    }
+
+    /// Counts a failure.
+    fn fail(&mut self)
+        ensures counts { self.old ≤ self.new }
+        ensures counted { IsCounted self.old self.new }
+    {
+        self.failures = self.failures.saturating_add(1);
+    }
+
+    /// Notes why no hub could be opened.
+    fn refuse(&mut self, fault: OpeningFault) -> DepotFault
+        ensures { self.new ≡ self.old }
+    {
+        match fault {
+            OpeningFault::Memory => DepotFault::Memory,
+            OpeningFault::Store(error) => depot_fault(error),
+            OpeningFault::File(file) => {
+                self.refused = Some(file);
+                DepotFault::Refused
+            }
+        }
+    }
+
+    /// Remembers what is kept of the files of a hub that was opened from the spool file, for customers of these names.
+    fn remember(&mut self, hub: &Hub, names: &[Name]) -> Result<(), Error>
+        ensures { self.new ≡ self.old }
+    {
+        let alloc = self.writer.alloc;
+        self.customers = customers_named(alloc, hub, names)?;
+        let files = self.writer.store.files(alloc)?;
+        let found = remember_all(&mut self.customers, hub, names, &files);
+        let begun = match found {
+            Ok(skipped) => {
+                self.skipped = skipped;
+                self.writer.begin_numbers(&files)
+            }
+            Err(_) => Err(Error::SqliteFailure(ErrorCode::OutOfMemory)),
+        };
+        drop(files);
+        begun
+    }
+}
+
+impl<'a, R: Clock, S: Alter + Drop> Keeper for SpoolKeeper<'a, R, S> {
+    ghost may_leave = { λ keeper left. ⊥ };
+
+    ghost count = { λ keeper. keeper };
+
+    fn failures(&self) -> u64 {
+        self.failures
+    }
+
+    fn keep(&mut self, hub: &Hub, customer: u16) -> Result<(), KeepFault> {
+        match self.keep_files(hub, customer) {
+            Ok(()) => Ok(()),
+            Err(_) => {
+                self.fail();
+                Err(KeepFault)
+            }
+        }
+    }
+}
+
+impl<'a, R: Clock, S: Alter + Drop> Depot for SpoolKeeper<'a, R, S> {
+    ghost use Rattle.std.specs.Prelude.{map};
+    ghost use Rattle.njh_hub.specs.Parts.{entries_of};
+    ghost use Rattle.njh_hub.specs.WholeHub.{SameLines, part_at_open};
+
+    ghost opens = { λ keeper table parts. SameLines (map part_at_open (entries_of table)) parts };
+
+    fn open(&mut self, alloc: Global, tables: Tables) -> Result<Hub, DepotFault> {
+        let names = match names_of(alloc, &tables) {
+            Ok(names) => names,
+            Err(_) => {
+                drop(tables);
+                return Err(DepotFault::Memory);
+            }
+        };
+        let hub = match open_from(alloc, tables, &mut self.writer.store) {
+            Ok(hub) => hub,
+            Err(fault) => {
+                drop(names);
+                return Err(self.refuse(fault));
+            }
+        };
+        let remembered = self.remember(&hub, &names);
+        drop(names);
+        match remembered {
+            Ok(()) => Ok(hub),
+            Err(error) => {
+                drop(hub);
+                Err(depot_fault(error))
+            }
+        }
+    }
+}
+
+/// Why no hub is opened, where the spool file fails.
+fn depot_fault(error: Error) -> DepotFault {
+    match error {
+        Error::SqliteFailure(ErrorCode::OutOfMemory) => DepotFault::Memory,
+        _ => DepotFault::Device,
+    }
+}
+
+/// The customers of a hub, without their files.
+fn customers_named(alloc: Global, hub: &Hub, names: &[Name]) -> Result<Vec<OwnFiles>, AllocError> {
+    let mut customers = Vec::with_capacity(alloc, names.len())?;
+    for (customer, name) in names.iter().enumerate() {
+        customers.push(OwnFiles {
+            name: *name,
+            arrived: hub.arrived(u16::try_from(customer).unwrap_or(u16::MAX)),
+            whole: Vec::new(alloc),
+            partial: Vec::new(alloc),
+        })?;
+    }
+    Ok(customers)
+}
+
+/// The number of the customer whose name a text is.
+fn number_among(names: &[Name], text: &str) -> Option<u16> {
+    if names.len() > usize::from(u16::MAX) {
+        return None;
+    }
+    number_of(names, text)
+}
+
+/// Remembers whole files of the spool file. Answers how many are of customers that aren't there.
+fn remember_all(
+    customers: &mut [OwnFiles],
+    hub: &Hub,
+    names: &[Name],
+    files: &[StoredFile],
+) -> Result<u32, AllocError> {
+    let mut skipped = 0u32;
+    for stored in files {
+        match number_among(names, stored.file.customer.as_str()) {
+            Some(customer) if usize::from(customer) < customers.len() => {
+                let own = &mut customers[usize::from(customer)];
+                remember_one(own, hub, customer, stored)?;
+            }
+            _ => skipped = skipped.saturating_add(1),
+        }
+    }
+    Ok(skipped)
+}
+
+/// Remembers a whole file that was put back behind those that are remembered.
+fn remember_one(
+    own: &mut OwnFiles,
+    hub: &Hub,
+    customer: u16,
+    stored: &StoredFile,
+) -> Result<(), AllocError> {
+    let Ok(index) = u32::try_from(own.whole.len()) else {
+        return Ok(());
+    };
+    if index >= hub.file_count(customer) {
+        return Ok(());
+    }
+    let summary = hub.summary_at(customer, index);
+    let number = hub.number_at(customer, index);
+    let file = HubFile { customer, number };
+    own.whole.push(found_whole(hub, file, stored, &summary))?;
+    Ok(())
+}
+
+/// What is remembered of a whole file that was put back. It was kept as Held or not.
+fn found_whole(
+    hub: &Hub,
+    file: HubFile,
+    stored: &StoredFile,
+    summary: &FileSummaryView,
+) -> KeptWhole {
+    KeptWhole {
+        id: stored.id,
+        key: stored.file.key,
+        number: file.number,
+        records: summary.records,
+        state: if stored.file.held {
+            State::Held
+        } else {
+            State::Ready
+        },
+        destination: summary.destination,
+        is_mixed: summary.kind == Kind::Out && is_mixed(hub, file),
+        came: stored.file.came,
+    }
+}
+
+/// Seconds since the beginning of 1970 by the clock; 0 where it fails, stands before that, or past the year 2105.
+fn seconds_on<R: Clock>(rt: &R) -> u32 {
+    match SystemTime::now(rt) {
+        Ok(time) => match time.duration_since(UNIX_EPOCH) {
+            Ok(since) => u32::try_from(since.as_secs()).unwrap_or(0),
+            Err(_) => 0,
+        },
+        Err(_) => 0,
+    }
+}
