@@ -80,6 +80,7 @@ pub script_end : {T Path : Type 0} (r : Result T Failure) (path : Option Path) â
 script_end (Ok x) path ended = tt
 script_end (Err (Tables fault)) path ended = absurd ended
 script_end (Err Found) path ended = tt
+script_end (Err (failure.Files fault)) path ended = absurd ended
 script_end (Err (Replay TooLong)) path ended = tt
 script_end (Err (Replay Device)) path ended = tt
 script_end (Err (Replay (Hub fault))) path ended = ended

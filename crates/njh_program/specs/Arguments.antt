@@ -11,7 +11,7 @@ use Rattle.clap.specs.declared.builder.ArgAction.TheVariants.{Set, SetTrue}
 use Rattle.clap.specs.declared.error.Error.{Error}
 use Rattle.clap.specs.declared.error.kind.ErrorKind.TheVariants.{MissingRequiredArgument, MissingSubcommand, ValueValidation}
 use Rattle.njh_program.specs.declared.arguments.Request.{Request}
-use Rattle.njh_program.specs.declared.arguments.Request.TheVariants.{CheckScript, CheckTables, Decode, Encode, Replay, Serve}
+use Rattle.njh_program.specs.declared.arguments.Request.TheVariants.{CheckScript, CheckTables, Decode, Encode, Files, Replay, Serve}
 use Rattle.njh_program.specs.declared.serve_options.Unasked.{Unasked}
 use Rattle.njh_program.specs.declared.serve_options.Unasked.TheVariants.{Missing, NoAddress, Nothing}
 
@@ -55,8 +55,15 @@ listen_rule = record (new_rule (codes "listen")) {
 abbrev pub bounded_serve_app : App
 bounded_serve_app = with_rule (with_rule (new_app (codes "serve")) wanted_tables_rule) turns_rule
 
+abbrev pub listening_app : App
+listening_app = with_rule (with_rule bounded_serve_app listen_rule) (flag_rule (codes "quiet"))
+
+-- the option `--spool FILE`
+abbrev pub spool_rule : Rule
+spool_rule = record (new_rule (codes "spool")) { long = Some (codes "spool"); value_names = 1; action = Some Set }
+
 abbrev pub serve_app : App
-serve_app = with_rule (with_rule bounded_serve_app listen_rule) (flag_rule (codes "quiet"))
+serve_app = with_rule listening_app spool_rule
 
 -- `decode`, and its option
 abbrev pub decode_app : App
@@ -76,6 +83,34 @@ script_rule = record (new_rule (codes "script")) {
 
 abbrev pub check_app : App
 check_app = with_rule (with_rule (new_app (codes "check")) tables_rule) script_rule
+
+-- `files`, and its options: a spool file, which it must have, a customer, a file's name and number, and the flag `--raw`
+abbrev pub wanted_spool_rule : Rule
+wanted_spool_rule = record spool_rule { required = true }
+
+abbrev pub customer_rule : Rule
+customer_rule = record (new_rule (codes "customer")) {
+  long = Some (codes "customer");
+  value_names = 1;
+  action = Some Set;
+}
+
+abbrev pub export_rule : Rule
+export_rule = record (new_rule (codes "export")) { long = Some (codes "export"); value_names = 1; action = Some Set }
+
+abbrev pub number_rule : Rule
+number_rule = record (new_rule (codes "number")) {
+  long = Some (codes "number");
+  value_names = 1;
+  action = Some Set;
+  parser = Some (Signed (pos 1) (pos 1000000));
+}
+
+abbrev pub listing_app : App
+listing_app = with_rule (with_rule (new_app (codes "files")) wanted_spool_rule) customer_rule
+
+abbrev pub files_app : App
+files_app = with_rule (with_rule (with_rule listing_app export_rule) number_rule) (flag_rule (codes "raw"))
 
 -- a program whose first word is a subcommand
 abbrev pub bare_app : App
@@ -97,10 +132,13 @@ decoding_app = with_subcommand serving_app decode_app.top
 abbrev pub encoding_app : App
 encoding_app = with_subcommand decoding_app encode_app.top
 
-abbrev pub program_app : App
-program_app = with_subcommand encoding_app check_app.top
+abbrev pub checking_app : App
+checking_app = with_subcommand encoding_app check_app.top
 
--- as many turns as a text spells, or no end of them where there is none
+abbrev pub program_app : App
+program_app = with_subcommand checking_app files_app.top
+
+-- as many turns as a text spells, or no end of them where there is none; of `files` the number of a file
 abbrev pub CountsTurns : Option Text → Option ℕ → Type 0
 CountsTurns None turns = turns ≡ None
 CountsTurns (Some text) turns = IsSomeAnd turns (Spells text)
@@ -115,7 +153,8 @@ IsFlag flag rows set = IsTrue set ↔ (first_of flag rows ≡ Some (codes "true"
 
 -- What a subcommand and its rows ask for: to replay by these tables, in words or not; to serve those of this file, for
 -- so many turns, at that address, and with a log or without; to say a trace in words, with hex or without; to encode
--- lines in words; or to check this table file, or a script by these tables.
+-- lines in words; to check this table file, or a script by these tables; or to print of a spool file the files or a
+-- file's records.
 abbrev pub AsksFor : Text × List Row → Request → Type 0
 AsksFor named (Replay tables in_words) = (named.0 ≡ codes "replay")
     × (first_of (codes "tables") named.1 ≡ option_map (λ s. s.now) tables)
@@ -127,11 +166,18 @@ AsksFor named (CheckTables tables) = (named.0 ≡ codes "check")
 AsksFor named (CheckScript tables file) = (named.0 ≡ codes "check")
     × (first_of (codes "tables") named.1 ≡ option_map (λ s. s.now) tables)
     × (first_of (codes "script") named.1 ≡ Some file.now)
-AsksFor named (Serve tables turns listen quiet) = (named.0 ≡ codes "serve")
+AsksFor named (Files spool asked) = (named.0 ≡ codes "files")
+    × (first_of (codes "spool") named.1 ≡ Some spool.now)
+    × (first_of (codes "customer") named.1 ≡ option_map (λ s. s.now) asked.customer)
+    × (first_of (codes "export") named.1 ≡ option_map (λ s. s.now) asked.file)
+    × CountsTurns (first_of (codes "number") named.1) asked.number
+    × IsFlag (codes "raw") named.1 asked.raw
+AsksFor named (Serve tables turns listen quiet spool) = (named.0 ≡ codes "serve")
     × (first_of (codes "tables") named.1 ≡ Some tables.now)
     × CountsTurns (first_of (codes "turns") named.1) turns
     × ListensAt (first_of (codes "listen") named.1) listen
     × IsFlag (codes "quiet") named.1 quiet
+    × (first_of (codes "spool") named.1 ≡ option_map (λ s. s.now) spool)
 
 -- what a parse asks for
 abbrev pub AsksIn : Option (Text × List Row) → Request → Type 0

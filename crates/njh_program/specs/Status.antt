@@ -4,6 +4,7 @@ use Rattle.njh_program.specs.declared.failure.Failure.{Failure}
 use Rattle.njh_program.specs.declared.failure.Failure.TheVariants.{Arguments, Encode, Found, Replay, Tables, Trace}
 use Rattle.njh_program.specs.declared.failure.Failure.TheVariants as failure
 use Rattle.njh_encode.specs.declared.fault.EncodeEnd.TheVariants as encode
+use Rattle.njh_files.specs.declared.fault.FilesFault.TheVariants as files
 use Rattle.njh_replay.specs.declared.fault.ReplayFault.TheVariants.{TooLong, Script, Device, Hub}
 use Rattle.njh_serve.specs.declared.fault.ServeFault.{ServeFault}
 use Rattle.njh_serve.specs.declared.fault.ServeFault.TheVariants as serve
@@ -16,8 +17,8 @@ abbrev pub table_status : TableFault → ℕ
 table_status Memory = 2
 table_status fault = 1
 
--- 1 where arguments, tables, the script, the trace or a line in words are refused, or a check found a fault; 2 where a
--- device or memory fails
+-- 1 where arguments, tables, the script, the trace or a line in words are refused, a check found a fault, or
+-- a spool file has no such file, several, or one that can't be put back; 2 where another thing fails
 abbrev pub status_of : Failure → ℕ
 status_of (Arguments error) = 1
 status_of (Tables fault) = table_status fault
@@ -32,6 +33,10 @@ status_of (Encode (encode.BadLine fault)) = 1
 status_of (Encode encode.Device) = 2
 status_of (Encode encode.Memory) = 2
 status_of Found = 1
+status_of (failure.Files (files.NoFile name)) = 1
+status_of (failure.Files (files.Several list)) = 1
+status_of (failure.Files (files.Refused why)) = 1
+status_of (failure.Files fault) = 2
 status_of failure.Device = 2
 status_of failure.Memory = 2
 

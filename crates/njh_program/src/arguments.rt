@@ -4,16 +4,18 @@ ghost use Rattle.std.specs.Prelude.{◌≡◌, ◌≢◌, [], ◌∷◌, false, 
 ghost use Rattle.clap.specs.Words.{app_of, fault_of, kind_of, subcommand_of, subcommand_rows_of};
 ghost use Rattle.clap.specs.Words.{HasKind};
 ghost use Rattle.njh_program.specs.Arguments.{AreRefusedBy, Asks, AsksIn, IsRefusalOf, IsUnaskedBy, bare_app};
-ghost use Rattle.njh_program.specs.Arguments.{decoding_app, encoding_app, program_app, replaying_app, serving_app};
+ghost use Rattle.njh_program.specs.Arguments.{checking_app, decoding_app, encoding_app, program_app, replaying_app, serving_app};
 
 use crate::check_options::{check_command, checked_in};
 use crate::decode_options::decode_command;
 use crate::encode_options::encode_command;
+use crate::files_options::{files_command, files_in};
 use crate::options::is_set;
 use crate::replay_options::{replay_command, replayed_in};
 use crate::serve_options::{Unasked, serve_command, served_in};
 use clap::error::ErrorKind;
 use clap::{ArgMatches, Command, Error};
+use njh_files::Asked;
 use std::alloc::{AllocError, Global};
 use std::convert::AsStr;
 use std::net::IpAddr;
@@ -38,6 +40,15 @@ pub enum Request<'a> {
         listen: IpAddr,
         /// Without a log.
         quiet: bool,
+        /// The spool file that keeps whole files, if there is one.
+        spool: Option<&'a str>,
+    },
+    /// To print what a spool file holds.
+    Files {
+        /// The spool file.
+        spool: &'a str,
+        /// What of it.
+        asked: Asked<'a>,
     },
     /// To say a trace in words.
     Decode {
@@ -110,6 +121,7 @@ fn request_in<'a>(found: &ArgMatches<'a>) -> Result<Request<'a>, Unasked<'a>>
         }),
         Some(("encode", _)) => Ok(Request::Encode),
         Some(("check", options)) => checked_in(options),
+        Some(("files", options)) => files_in(options),
         _ => Err(Unasked::Missing),
     }
 }
@@ -140,6 +152,15 @@ fn refusal_of(
 /// The program and its subcommands.
 fn program_command<'a>(alloc: Global) -> Result<Command<'a>, AllocError>
     ensures { IfOk result (λ command. app_of command ≡ program_app) }
+{
+    let files = files_command(alloc)?;
+    let program = checking_command(alloc)?;
+    program.subcommand(files)
+}
+
+/// The program and its first five subcommands.
+fn checking_command<'a>(alloc: Global) -> Result<Command<'a>, AllocError>
+    ensures { IfOk result (λ command. app_of command ≡ checking_app) }
 {
     let check = check_command(alloc)?;
     let program = encoding_command(alloc)?;

@@ -7,6 +7,7 @@ ghost use Rattle.njh_program.specs.Status.{status_of, failure_of, Becomes};
 
 use clap::error::ErrorKind;
 use njh_encode::EncodeEnd;
+use njh_files::FilesFault;
 use njh_hub::HubFault;
 use njh_replay::ReplayFault;
 use njh_serve::ServeFault;
@@ -28,6 +29,8 @@ pub enum Failure {
     Trace(TraceFault),
     /// The lines in words weren't all encoded.
     Encode(EncodeEnd),
+    /// A spool file wasn't printed, or not all of what was asked for, or no hub was opened from it.
+    Files(FilesFault),
     /// A check found a fault, and said it on standard output.
     Found,
     /// A file or a stream failed outside a replay, or lines could not be served.
@@ -38,7 +41,7 @@ pub enum Failure {
 
 impl Failure {
     /// The status to end with: 1 where the arguments, the tables, the script, the trace or a line in words are refused,
-    /// or a check found a fault; 2 where a file, a stream or memory fails.
+    /// a check found a fault, or a spool file has no such file, several, or one that can't be put back; 2 where a file, a stream or memory fails.
     pub fn status(&self) -> u8
         ensures { result ≡ status_of self.now }
     {
@@ -56,6 +59,10 @@ impl Failure {
             Failure::Encode(EncodeEnd::BadLine(_)) => 1,
             Failure::Encode(EncodeEnd::Device) => 2,
             Failure::Encode(EncodeEnd::Memory) => 2,
+            Failure::Files(FilesFault::NoFile(_)) => 1,
+            Failure::Files(FilesFault::Several(_)) => 1,
+            Failure::Files(FilesFault::Refused(_)) => 1,
+            Failure::Files(_) => 2,
             Failure::Found => 1,
             Failure::Device => 2,
             Failure::Memory => 2,
@@ -72,6 +79,7 @@ impl fmt::Display for Failure {
             Failure::Replay(fault) => writeln!(f, "njehub: {fault}"),
             Failure::Trace(fault) => writeln!(f, "njehub: {fault}"),
             Failure::Encode(end) => writeln!(f, "njehub: {end}"),
+            Failure::Files(fault) => writeln!(f, "njehub: {fault}"),
             Failure::Found => Ok(()),
             Failure::Device => writeln!(f, "njehub: {}", ReplayFault::Device),
             Failure::Memory => writeln!(f, "njehub: {}", HubFault::Memory),
@@ -130,6 +138,16 @@ impl From<EncodeEnd> for Failure {
 
     fn from(end: EncodeEnd) -> Failure {
         Failure::Encode(end)
+    }
+}
+
+impl From<FilesFault> for Failure {
+    ghost use Rattle.njh_program.specs.declared.failure.Failure.TheVariants.{Files};
+
+    ghost from_gives = { λ fault failure. failure ≡ Files fault };
+
+    fn from(fault: FilesFault) -> Failure {
+        Failure::Files(fault)
     }
 }
 

@@ -1,5 +1,6 @@
 //! All of the program: arguments, the table file, and what they ask for: to replay a script, to serve lines on sockets,
-//! to say a trace in words, to make a script of lines in words, or to check a table file or a script.
+//! to say a trace in words, to make a script of lines in words, to check a table file or a script, or
+//! to print what a spool file holds.
 #![tactic(auto)]
 
 mod arguments;
@@ -8,12 +9,14 @@ mod checking;
 mod decode_options;
 mod encode_options;
 mod failure;
+mod files_options;
 mod letters;
 mod options;
 mod program;
 mod replay_options;
 mod serve_options;
 mod service;
+mod spool_files;
 mod standard_error;
 mod table_check;
 mod table_file;

@@ -2,7 +2,7 @@
 
 ghost use Rattle.std.specs.Prelude.{◌≡◌, false};
 ghost use Rattle.clap.specs.Words.{found_of, rows_of, rule_of};
-ghost use Rattle.njh_program.specs.Arguments.{IsFlag, flag_rule, tables_rule};
+ghost use Rattle.njh_program.specs.Arguments.{IsFlag, flag_rule, spool_rule, tables_rule};
 
 use clap::{Arg, ArgAction, ArgMatches};
 use std::alloc::Global;
@@ -16,6 +16,18 @@ pub(crate) fn tables_option<'a>(alloc: Global) -> Arg<'a>
         .long("tables")
         .value_name("F")
         .help("The table file; replay has built-in tables where none is named")
+        .action(ArgAction::Set)
+}
+
+/// `--spool FILE`.
+pub(crate) fn spool_option<'a>(alloc: Global, help: &'a str) -> Arg<'a>
+    ensures rule { rule_of result ≡ spool_rule }
+    ensures local { result.global ≡ false }
+{
+    Arg::new(alloc, "spool")
+        .long("spool")
+        .value_name("FILE")
+        .help(help)
         .action(ArgAction::Set)
 }
 

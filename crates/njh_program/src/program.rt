@@ -12,12 +12,14 @@ use crate::arguments::{Request, not_utf8, request_of};
 use crate::checking::check_script_file;
 use crate::failure::Failure;
 use crate::letters::FileLetters;
-use crate::service::{Options, serve_file};
+use crate::service::{Options, serve_file, serve_spool_file};
+use crate::spool_files::print_spool_file;
 use crate::standard_error::StandardError;
 use crate::table_check::check_tables_file;
 use crate::table_file::tables_of;
 use crate::words::replay_in_words;
 use njh_encode::encode_script;
+use njh_files::SpoolFiles;
 use njh_replay::replay;
 use njh_service::Log;
 use njh_trace::decode_trace;
@@ -32,7 +34,7 @@ use std::{env, io};
 const WRITTEN_AT_ONCE: usize = 65_536;
 
 /// Runs the program, and answers the status to end with. Why it failed, if it did, goes to `errors`.
-pub fn run<R: Env + Files + Net + Clock + Input + Print + AllocGlobal, E: Print>(
+pub fn run<R: Env + Files + SpoolFiles + Net + Clock + Input + Print + AllocGlobal, E: Print>(
     rt: &R,
     errors: &E,
 ) -> ExitCode
@@ -56,7 +58,7 @@ pub fn end<E: Print>(outcome: Result<(), Failure>, errors: &E) -> ExitCode
 }
 
 /// Does what the program's own arguments ask for, over its own streams. The log of a service goes to `errors`.
-fn outcome_of<R: Env + Files + Net + Clock + Input + Print + AllocGlobal, E: Print>(
+fn outcome_of<R: Env + Files + SpoolFiles + Net + Clock + Input + Print + AllocGlobal, E: Print>(
     rt: &R,
     errors: &E,
 ) -> Result<(), Failure> {
@@ -87,7 +89,7 @@ fn arguments_of<R: Env + AllocGlobal>(rt: &R) -> Result<Vec<String>, Failure> {
 /// service goes to `log`. `script` is what the program is given to read: a script, for `decode` a trace, for `encode`
 /// lines in words.
 pub fn carry_out<
-    F: Files + Net + Clock + AllocGlobal,
+    F: Files + SpoolFiles + Net + Clock + AllocGlobal,
     S: AsStr,
     R: Read,
     W: Write,
@@ -124,14 +126,20 @@ pub fn carry_out<
         }
         Request::CheckTables { tables } => check_tables_file(rt, tables, out),
         Request::CheckScript { tables, file } => check_script_file(rt, tables, file, out),
+        Request::Files { spool, asked } => print_spool_file(rt, spool, &asked, out),
         Request::Serve {
             tables,
             turns,
             listen,
             quiet,
+            spool,
         } => {
             let log = Log::new(if quiet { None } else { Some(log) });
-            serve_file(rt, tables, Options { turns, listen }, log)
+            let options = Options { turns, listen };
+            match spool {
+                Some(spool) => serve_spool_file(rt, tables, spool, options, log),
+                None => serve_file(rt, tables, options, log),
+            }
         }
     }
 }

@@ -4,10 +4,10 @@ ghost use Rattle.std.specs.Prelude.{◌≡◌, codes, false, IfOk, IfErr};
 ghost use Rattle.clap.specs.Words.{app_of, first_of, found_of, new_app, rows_of, rule_of};
 ghost use Rattle.clap.specs.declared.builder.command.Command.TheViews.{out-Command};
 ghost use Rattle.njh_program.specs.Arguments.{AsksFor, CountsTurns, IsUnasked, ListensAt, bounded_serve_app};
-ghost use Rattle.njh_program.specs.Arguments.{listen_rule, serve_app, turns_rule};
+ghost use Rattle.njh_program.specs.Arguments.{listen_rule, listening_app, serve_app, turns_rule};
 
 use crate::arguments::Request;
-use crate::options::{flag, is_set, tables_option};
+use crate::options::{flag, is_set, spool_option, tables_option};
 use clap::builder::ValueParser;
 use clap::{Arg, ArgAction, ArgMatches, Command};
 use std::alloc::{AllocError, Global};
@@ -46,6 +46,7 @@ pub(crate) fn served_in<'a>(options: &ArgMatches<'a>) -> Result<Request<'a>, Una
         turns,
         listen,
         quiet: is_set(options, "quiet"),
+        spool: options.get_str("spool"),
     })
 }
 
@@ -81,6 +82,19 @@ fn address_in<'a>(options: &ArgMatches<'a>) -> Result<IpAddr, Unasked<'a>>
 /// `serve`, with its options.
 pub(crate) fn serve_command<'a>(alloc: Global) -> Result<Command<'a>, AllocError>
     ensures app { IfOk result (λ command. app_of command ≡ serve_app) }
+    ensures local { IfOk result (λ command. (out-Command command).has_globals ≡ false) }
+{
+    let listening = listening_command(alloc)?;
+    let spool = spool_option(
+        alloc,
+        "Keeps whole files in this file, and opens the hub with those that are there",
+    );
+    listening.arg(spool)
+}
+
+/// `serve`, with its tables, turns, address and quiet.
+fn listening_command<'a>(alloc: Global) -> Result<Command<'a>, AllocError>
+    ensures app { IfOk result (λ command. app_of command ≡ listening_app) }
     ensures local { IfOk result (λ command. (out-Command command).has_globals ≡ false) }
 {
     let bounded = bounded_command(alloc)?;

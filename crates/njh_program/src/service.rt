@@ -1,16 +1,22 @@
 //! Serves the lines of a table file.
 
-ghost use Rattle.std.specs.Prelude.{Some, OnOk, IfErr};
-ghost use Rattle.njh_program.specs.ProgramOutcome.{AreServedOf};
-ghost use Rattle.njh_program.specs.TableBytes.{AreRefused, IsUnread};
+ghost use Rattle.std.specs.Prelude.{◌≡◌, ◌⊎◌, ⊤, None, Some, OnOk, IfErr};
+ghost use Rattle.njh_program.specs.ProgramOutcome.{AreServedOf, IsFilesEnd};
+ghost use Rattle.njh_program.specs.TableBytes.{AreGiven, AreRefused, IsUnread};
+ghost use Rattle.njh_serve.specs.Serving.{AreServedFrom};
+ghost use Rattle.njh_table.specs.TableFile.{TableFile};
 
 use crate::failure::Failure;
-use crate::table_file::{table_bytes, tables_twice};
+use crate::table_file::{table_bytes, tables_of, tables_twice};
 use crate::table_source::TableFileSource;
 use njh_check::fault_text;
-use njh_hub::KeepsNothing;
+use njh_files::{FilesFault, SpoolFiles};
+use njh_hub::{Depot, KeepsNothing};
+use njh_kept::SpoolKeeper;
 use njh_serve::{Setup, serve, utc_seconds};
 use njh_service::{Log, Revision};
+use sqlite::Alter;
+use std::alloc::Global;
 use std::fmt;
 use std::fs::File;
 use std::io::{ErrorKind, Write};
@@ -26,14 +32,107 @@ pub(crate) struct Options {
     pub(crate) listen: IpAddr,
 }
 
-/// Serves the lines of a table file. Where it can't be read, or its lines can't be served, the log says why.
+/// Serves the lines of a table file. No file is kept. Where the table file can't be read, or its lines can't be served,
+/// the log says why.
 pub(crate) fn serve_file<F: Files + Net + Clock + AllocGlobal, L: Write + Drop>(
     rt: &F,
     path: &str,
     options: Options,
+    log: Log<L>,
+) -> Result<(), Failure>
+    ensures served { OnOk result (AreServedOf {Spool = ⊤} path.now options.turns None) }
+    ensures refused { IfErr result (AreRefused (Some path.now)) }
+{
+    serve_over(rt, path, options, log, &mut KeepsNothing)
+}
+
+/// Serves the lines of a table file, and keeps whole files in a spool file. Where the table file can't be read, or its
+/// lines can't be served, the log says why. The table file's fault comes before that of the spool file.
+pub(crate) fn serve_spool_file<F: Files + SpoolFiles + Net + Clock + AllocGlobal, L: Write + Drop>(
+    rt: &F,
+    path: &str,
+    spool: &str,
+    options: Options,
     mut log: Log<L>,
 ) -> Result<(), Failure>
-    ensures served { OnOk result (AreServedOf path.now options.turns) }
+    ensures served { OnOk result (AreServedOf path.now options.turns (Some spool.now)) }
+    ensures refused { IfErr result (λ failure. AreRefused (Some path.now) failure ⊎ IsFilesEnd failure) }
+{
+    let store = match rt.open_spool(spool) {
+        Ok(store) => store,
+        Err(fault) => {
+            let failure = first_failure(rt, path, fault);
+            log_failure(rt, path, &mut log, &failure);
+            return Err(failure);
+        }
+    };
+    let mut keeper = SpoolKeeper::new(rt, rt.alloc(), store);
+    let served = serve_over(rt, path, options, log, &mut keeper);
+    let refusal = refusal_of(rt.alloc(), &keeper);
+    drop(keeper);
+    match served {
+        Ok(()) => {
+            drop(refusal);
+            Ok(())
+        }
+        Err(failure) => Err(or_refusal(failure, refusal)),
+    }
+}
+
+/// The table file's failure, where it has one, and else that of the spool file.
+fn first_failure<F: Files + AllocGlobal>(rt: &F, path: &str, fault: FilesFault) -> Failure
+    ensures { AreRefused (Some path.now) result ⊎ IsFilesEnd result }
+{
+    match tables_of(rt, Some(path)) {
+        Ok(tables) => {
+            drop(tables);
+            Failure::Files(fault)
+        }
+        Err(failure) => {
+            drop(fault);
+            failure
+        }
+    }
+}
+
+/// What is told of a whole file that couldn't be put back; none where there is no such file, or no memory.
+fn refusal_of<R: Clock, S: Alter + Drop>(
+    alloc: Global,
+    keeper: &SpoolKeeper<'_, R, S>,
+) -> Option<String> {
+    match keeper.refused() {
+        Some(refused) => {
+            let fault = refused.fault;
+            let customer = refused.file.file.customer.as_str();
+            format!(in alloc; "{fault}: customer {customer}").ok()
+        }
+        None => None,
+    }
+}
+
+/// Why lines weren't served: a whole file that couldn't be put back, where there is one.
+fn or_refusal(failure: Failure, refusal: Option<String>) -> Failure
+    ensures { (result ≡ failure) ⊎ IsFilesEnd result }
+{
+    match refusal {
+        Some(why) => {
+            drop(failure);
+            Failure::Files(FilesFault::Refused(why))
+        }
+        None => failure,
+    }
+}
+
+/// Serves the lines of a table file, over a depot.
+fn serve_over<F: Files + Net + Clock + AllocGlobal, L: Write + Drop, D: Depot>(
+    rt: &F,
+    path: &str,
+    options: Options,
+    mut log: Log<L>,
+    depot: &mut D,
+) -> Result<(), Failure>
+    ensures served { OnOk result ((tables : TableFile) × AreGiven (Some path.now) tables
+        × AreServedFrom D.opens D.may_leave tables options.turns) }
     ensures refused { IfErr result (AreRefused (Some path.now)) }
 {
     // Before the tables are read, so that no change is missed.
@@ -46,22 +145,32 @@ pub(crate) fn serve_file<F: Files + Net + Clock + AllocGlobal, L: Write + Drop>(
                 log,
                 revision,
             };
-            serve(rt, &mut KeepsNothing, tables, setup, options.turns)?;
+            serve(rt, depot, tables, setup, options.turns)?;
             Ok(())
         }
         Err(failure) => {
-            log_fault(rt, path, &mut log);
-            if is_device(&failure) {
-                log.write(
-                    utc_seconds(rt),
-                    &Unread {
-                        path,
-                        why: why_unread(rt, path),
-                    },
-                );
-            }
+            log_failure(rt, path, &mut log, &failure);
             Err(failure)
         }
+    }
+}
+
+/// Logs why a table file gives no tables, where it gives none.
+fn log_failure<F: Files + Clock + AllocGlobal, L: Write + Drop>(
+    rt: &F,
+    path: &str,
+    log: &mut Log<L>,
+    failure: &Failure,
+) {
+    log_fault(rt, path, log);
+    if is_device(failure) {
+        log.write(
+            utc_seconds(rt),
+            &Unread {
+                path,
+                why: why_unread(rt, path),
+            },
+        );
     }
 }
 

@@ -1,5 +1,6 @@
 //! What is said of bad lines: in a script of one line, and in scripts that are stored.
 
+use njh_files::SpoolFiles;
 use njh_program::{Failure, carry_out};
 use njh_replay::check_script;
 use njh_table::Tables;
@@ -21,7 +22,9 @@ const SCRIPTS: [&str; 6] = [
 ];
 
 /// Says how many bad lines are said as they are to be, and what the program says of stored scripts.
-pub fn say<R: Files + Net + Clock + Print + AllocGlobal>(rt: &R) -> Result<(), Failure> {
+pub fn say<R: Files + SpoolFiles + Net + Clock + Print + AllocGlobal>(
+    rt: &R,
+) -> Result<(), Failure> {
     let tables = Tables::base(rt.alloc())?;
     say_lines(rt, &tables)?;
     for name in SCRIPTS {
@@ -63,7 +66,7 @@ fn is_said<R: AllocGlobal>(
 }
 
 /// Says what the program says of a stored script.
-fn say_script<R: Files + Net + Clock + Print + AllocGlobal>(
+fn say_script<R: Files + SpoolFiles + Net + Clock + Print + AllocGlobal>(
     rt: &R,
     name: &str,
 ) -> Result<(), Failure> {

@@ -2,6 +2,7 @@
 
 use crate::registry::{self, Entry, entry_of};
 use crate::scripts::print_run;
+use njh_files::SpoolFiles;
 use njh_program::Failure;
 use std::alloc::{AllocError, Global};
 use std::fs;
@@ -13,7 +14,9 @@ const OWN: [&[u8]; 3] = [b"a1 ", b"a2 ", b"ACME "];
 
 /// Says of each run with other customers whether ACME's lines are those of the first. ACME's events are the same in
 /// all.
-pub fn compare<R: Files + Net + Clock + Print + AllocGlobal>(rt: &R) -> Result<(), Failure> {
+pub fn compare<R: Files + SpoolFiles + Net + Clock + Print + AllocGlobal>(
+    rt: &R,
+) -> Result<(), Failure> {
     let table = fs::read_to_string(rt, registry::FILE)?;
     let mut wanted = Vec::new(rt.alloc());
     for line in table.as_str().lines() {
@@ -35,7 +38,7 @@ pub fn compare<R: Files + Net + Clock + Print + AllocGlobal>(rt: &R) -> Result<(
 }
 
 /// Says whether ACME's lines of a run are those of the first.
-fn say_same<R: Files + Net + Clock + Print + AllocGlobal>(
+fn say_same<R: Files + SpoolFiles + Net + Clock + Print + AllocGlobal>(
     rt: &R,
     entry: Entry<'_>,
     wanted: &[u8],
@@ -51,7 +54,7 @@ fn say_same<R: Files + Net + Clock + Print + AllocGlobal>(
 }
 
 /// ACME's lines of what a run prints.
-fn own_lines<R: Files + Net + Clock + Print + AllocGlobal>(
+fn own_lines<R: Files + SpoolFiles + Net + Clock + Print + AllocGlobal>(
     rt: &R,
     entry: Entry<'_>,
 ) -> Result<Vec<u8>, Failure> {

@@ -5,6 +5,7 @@
 ghost use Rattle.std.specs.Prelude.{◌≤◌, IfOk};
 
 use crate::registry::{self, Entry, entry_of};
+use njh_files::SpoolFiles;
 use njh_program::{Failure, carry_out};
 use std::alloc::Global;
 use std::io::{ErrorKind, Read, Write};
@@ -95,7 +96,9 @@ impl Write for Drain {
 }
 
 /// Tries each script over streams that fail, fall short or are interrupted.
-pub fn compare_all<R: Files + Net + Clock + Print + AllocGlobal>(rt: &R) -> Result<(), Failure> {
+pub fn compare_all<R: Files + SpoolFiles + Net + Clock + Print + AllocGlobal>(
+    rt: &R,
+) -> Result<(), Failure> {
     let table = fs::read_to_string(rt, registry::FILE)?;
     for line in table.as_str().lines() {
         match entry_of(line) {
@@ -107,7 +110,7 @@ pub fn compare_all<R: Files + Net + Clock + Print + AllocGlobal>(rt: &R) -> Resu
 }
 
 /// Says how a script ends where one read, or one write, goes amiss.
-fn compare<R: Files + Net + Clock + Print + AllocGlobal>(
+fn compare<R: Files + SpoolFiles + Net + Clock + Print + AllocGlobal>(
     rt: &R,
     entry: Entry<'_>,
 ) -> Result<(), Failure> {
@@ -133,7 +136,7 @@ fn compare<R: Files + Net + Clock + Print + AllocGlobal>(
 }
 
 /// The first call at which a mishap ends otherwise than it must, if there is one.
-fn first_other<R: Files + Net + Clock + AllocGlobal>(
+fn first_other<R: Files + SpoolFiles + Net + Clock + AllocGlobal>(
     rt: &R,
     arguments: &[&str],
     script: &[u8],

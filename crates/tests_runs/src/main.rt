@@ -25,6 +25,7 @@ mod soak;
 mod steps;
 mod streams;
 
+use njh_files::SpoolFiles;
 use njh_program::Failure;
 use std::alloc::Global;
 use std::net::Net;
@@ -32,7 +33,7 @@ use std::process::ExitCode;
 use std::rt::{Clock, Files};
 
 /// Tries all but the end of the program.
-fn tried<R: Files + Net + Clock + Print + AllocGlobal>(rt: &R) -> Result<(), Failure> {
+fn tried<R: Files + SpoolFiles + Net + Clock + Print + AllocGlobal>(rt: &R) -> Result<(), Failure> {
     scripts::compare_all(rt)?;
     damage::compare_all(rt)?;
     devices::compare_all(rt)?;

@@ -1,5 +1,6 @@
 //! The man page: each option that a subcommand's help tells of stands in it.
 
+use njh_files::SpoolFiles;
 use njh_program::{Failure, carry_out};
 use std::net::Net;
 use std::rt::{Clock, Files};
@@ -9,10 +10,12 @@ use std::{fs, io};
 const PAGE: &str = "njehub.1";
 
 /// The subcommands.
-const NAMES: [&str; 5] = ["replay", "serve", "decode", "encode", "check"];
+const NAMES: [&str; 6] = ["replay", "serve", "decode", "encode", "check", "files"];
 
 /// Says of each subcommand how many options the help has, and which of them the man page lacks.
-pub fn compare<R: Files + Net + Clock + Print + AllocGlobal>(rt: &R) -> Result<(), Failure> {
+pub fn compare<R: Files + SpoolFiles + Net + Clock + Print + AllocGlobal>(
+    rt: &R,
+) -> Result<(), Failure> {
     let page = fs::read_to_string(rt, PAGE)?;
     for name in NAMES {
         say_options(rt, page.as_str(), name)?;
@@ -21,7 +24,7 @@ pub fn compare<R: Files + Net + Clock + Print + AllocGlobal>(rt: &R) -> Result<(
 }
 
 /// Says how many options the help of a subcommand has, and which of them the page lacks.
-fn say_options<R: Files + Net + Clock + Print + AllocGlobal>(
+fn say_options<R: Files + SpoolFiles + Net + Clock + Print + AllocGlobal>(
     rt: &R,
     page: &str,
     name: &str,
@@ -43,7 +46,10 @@ fn say_options<R: Files + Net + Clock + Print + AllocGlobal>(
 }
 
 /// The text of a subcommand's help.
-fn help_of<R: Files + Net + Clock + AllocGlobal>(rt: &R, name: &str) -> Result<String, Failure> {
+fn help_of<R: Files + SpoolFiles + Net + Clock + AllocGlobal>(
+    rt: &R,
+    name: &str,
+) -> Result<String, Failure> {
     let mut out = Vec::new(rt.alloc());
     let words = ["njehub", name, "--help"];
     match carry_out(rt, &words, &mut io::empty(), &mut out, io::sink()) {

@@ -5,6 +5,7 @@
 //! `NAME.out`.
 
 use crate::registry::{self, Entry, entry_of};
+use njh_files::SpoolFiles;
 use njh_program::{Failure, carry_out};
 use std::alloc::Global;
 use std::net::Net;
@@ -12,7 +13,9 @@ use std::rt::{Clock, Files};
 use std::{fs, io};
 
 /// Compares what each script prints with what is stored, and says how many scripts `decode` and `encode` bring back.
-pub fn compare_all<R: Files + Net + Clock + Print + AllocGlobal>(rt: &R) -> Result<(), Failure> {
+pub fn compare_all<R: Files + SpoolFiles + Net + Clock + Print + AllocGlobal>(
+    rt: &R,
+) -> Result<(), Failure> {
     let table = fs::read_to_string(rt, registry::FILE)?;
     let mut brought = 0u32;
     for line in table.as_str().lines() {
@@ -31,7 +34,7 @@ pub fn compare_all<R: Files + Net + Clock + Print + AllocGlobal>(rt: &R) -> Resu
 }
 
 /// Whether `encode` makes a script of what `decode --hex` says of it; the end of the last line may be new.
-fn is_brought<R: Files + Net + Clock + Print + AllocGlobal>(
+fn is_brought<R: Files + SpoolFiles + Net + Clock + Print + AllocGlobal>(
     rt: &R,
     name: &str,
 ) -> Result<bool, Failure> {
@@ -59,7 +62,7 @@ fn is_brought<R: Files + Net + Clock + Print + AllocGlobal>(
 }
 
 /// Says whether a script prints what is stored, and the program's status, which it answers.
-fn compare<R: Files + Net + Clock + Print + AllocGlobal>(
+fn compare<R: Files + SpoolFiles + Net + Clock + Print + AllocGlobal>(
     rt: &R,
     entry: Entry<'_>,
 ) -> Result<u8, Failure> {
@@ -78,7 +81,7 @@ fn compare<R: Files + Net + Clock + Print + AllocGlobal>(
 }
 
 /// Says whether what is stored says what is stored of it in words, where that is.
-fn compare_words<R: Files + Net + Clock + Print + AllocGlobal>(
+fn compare_words<R: Files + SpoolFiles + Net + Clock + Print + AllocGlobal>(
     rt: &R,
     name: &str,
     output: &[u8],
@@ -99,7 +102,7 @@ fn compare_words<R: Files + Net + Clock + Print + AllocGlobal>(
 
 /// Runs the program with a stored script, and gives its status; the line of its failure follows what it prints. The
 /// text for arguments that are refused is that of `clap`, and isn't compared.
-pub fn print_run<R: Files + Net + Clock + Print + AllocGlobal>(
+pub fn print_run<R: Files + SpoolFiles + Net + Clock + Print + AllocGlobal>(
     rt: &R,
     entry: Entry<'_>,
     arguments: &[&str],

@@ -1,6 +1,7 @@
 //! The program on `serve`: lines of one hub that are joined by `connect`, where lines listen, and starts that are
 //! refused. Of the log's lines the times are left out.
 
+use njh_files::SpoolFiles;
 use njh_program::{Failure, carry_out};
 use std::io;
 use std::io::{ErrorKind, Write};
@@ -27,7 +28,9 @@ impl Write for Kept<'_> {
 }
 
 /// Starts that are refused, and lines that are joined.
-pub fn serve<R: Files + Net + Clock + Print + AllocGlobal>(rt: &R) -> Result<(), Failure> {
+pub fn serve<R: Files + SpoolFiles + Net + Clock + Print + AllocGlobal>(
+    rt: &R,
+) -> Result<(), Failure> {
     refuse(rt, &["njehub", "serve", "--tables", "no_such.toml"])?;
     refuse(rt, &["njehub", "serve", "--tables", "same_port.toml"])?;
     refuse(
@@ -45,7 +48,7 @@ pub fn serve<R: Files + Net + Clock + Print + AllocGlobal>(rt: &R) -> Result<(),
 }
 
 /// Runs the program, and answers its status. What it logs goes to `told`.
-fn status_of<R: Files + Net + Clock + AllocGlobal>(
+fn status_of<R: Files + SpoolFiles + Net + Clock + AllocGlobal>(
     rt: &R,
     words: &[&str],
     told: &mut Vec<u8>,
@@ -59,7 +62,7 @@ fn status_of<R: Files + Net + Clock + AllocGlobal>(
 }
 
 /// Prints the status and the log of a start that is refused.
-fn refuse<R: Files + Net + Clock + Print + AllocGlobal>(
+fn refuse<R: Files + SpoolFiles + Net + Clock + Print + AllocGlobal>(
     rt: &R,
     words: &[&str],
 ) -> Result<(), Failure> {
@@ -90,7 +93,7 @@ fn behind_time(line: &[u8]) -> &[u8] {
 }
 
 /// Serves two lines of one hub, of which one dials the other, until both sessions are up.
-fn join<R: Files + Net + Clock + Print + AllocGlobal>(rt: &R) -> Result<(), Failure> {
+fn join<R: Files + SpoolFiles + Net + Clock + Print + AllocGlobal>(rt: &R) -> Result<(), Failure> {
     let words = [
         "njehub",
         "serve",
@@ -108,7 +111,9 @@ fn join<R: Files + Net + Clock + Print + AllocGlobal>(rt: &R) -> Result<(), Fail
 }
 
 /// Serves two pairs of lines of two customers, each pair joined, until all four sessions are up.
-fn join_two<R: Files + Net + Clock + Print + AllocGlobal>(rt: &R) -> Result<(), Failure> {
+fn join_two<R: Files + SpoolFiles + Net + Clock + Print + AllocGlobal>(
+    rt: &R,
+) -> Result<(), Failure> {
     let words = [
         "njehub",
         "serve",
@@ -133,7 +138,9 @@ fn join_two<R: Files + Net + Clock + Print + AllocGlobal>(rt: &R) -> Result<(), 
 
 /// A line dials another of the same hub at 127.0.0.2: first where lines listen on 127.0.0.1, then where they listen
 /// there.
-fn listen<R: Files + Net + Clock + Print + AllocGlobal>(rt: &R) -> Result<(), Failure> {
+fn listen<R: Files + SpoolFiles + Net + Clock + Print + AllocGlobal>(
+    rt: &R,
+) -> Result<(), Failure> {
     let words = ["njehub", "serve", "--tables", "apart.toml", "--turns", "5"];
     let mut told = Vec::new(rt.alloc());
     let status = status_of(rt, &words, &mut told);
@@ -144,7 +151,9 @@ fn listen<R: Files + Net + Clock + Print + AllocGlobal>(rt: &R) -> Result<(), Fa
 }
 
 /// Lines listen on 127.0.0.2.
-fn listen_there<R: Files + Net + Clock + Print + AllocGlobal>(rt: &R) -> Result<(), Failure> {
+fn listen_there<R: Files + SpoolFiles + Net + Clock + Print + AllocGlobal>(
+    rt: &R,
+) -> Result<(), Failure> {
     let words = [
         "njehub",
         "serve",

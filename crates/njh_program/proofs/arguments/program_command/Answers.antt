@@ -5,8 +5,8 @@ use Rattle.njh_program.proofs.arguments.program_command.Goals as goal
 
 pub returns : goal.returns
 returns c =
-    let check_is = c.in_ok-check.ensures.app in
+    let files_is = c.in_ok-files.ensures.app in
     IfOk-weaker c.subcommand.result _ _
-    (λ command added. added.shape c.in_ok-check.ensures.local
-    ∙ ap₂ with_subcommand c.in_ok-program.ensures (ap (λ (a : App). a.top) check_is))
+    (λ command added. added.shape c.in_ok-files.ensures.local
+    ∙ ap₂ with_subcommand c.in_ok-program.ensures (ap (λ (a : App). a.top) files_is))
     c.subcommand.ensures

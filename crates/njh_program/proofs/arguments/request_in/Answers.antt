@@ -76,3 +76,23 @@ returns-in-Some-serve-default-clause-refused c =
     subcommand_is c.args.found.now name rows c.in-Some-serve-default.ensures.name c.in-Some-serve-default.ensures.rows
     ∙ ap (λ (n : Text). Some (n, rows)) serve in
     serves_refused c.args.found.now (codes "serve", rows) named c.served_in.result c.served_in.ensures.refused
+
+pub returns-in-Some-files-default-clause-asked : goal.returns-in-Some-files-default-clause-asked
+returns-in-Some-files-default-clause-asked c =
+    let name = c.in-Some-files-default.field-0-0.now in
+    let rows = rows_of (found_of c.in-Some-files-default.options.now) in
+    let files : name ≡ codes "files" = search rules in
+    let named : subcommand_rows_of c.args.found.now ≡ Some (codes "files", rows) =
+    subcommand_is c.args.found.now name rows c.in-Some-files-default.ensures.name c.in-Some-files-default.ensures.rows
+    ∙ ap (λ (n : Text). Some (n, rows)) files in
+    asks_in c.args.found.now (codes "files", rows) named c.files_in.result c.files_in.ensures.asked
+
+pub returns-in-Some-files-default-clause-refused : goal.returns-in-Some-files-default-clause-refused
+returns-in-Some-files-default-clause-refused c =
+    let name = c.in-Some-files-default.field-0-0.now in
+    let rows = rows_of (found_of c.in-Some-files-default.options.now) in
+    let files : name ≡ codes "files" = search rules in
+    let named : subcommand_rows_of c.args.found.now ≡ Some (codes "files", rows) =
+    subcommand_is c.args.found.now name rows c.in-Some-files-default.ensures.name c.in-Some-files-default.ensures.rows
+    ∙ ap (λ (n : Text). Some (n, rows)) files in
+    serves_refused c.args.found.now (codes "files", rows) named c.files_in.result c.files_in.ensures.refused

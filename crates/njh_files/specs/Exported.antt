@@ -1,0 +1,44 @@
+-- What is written of a file's records.
+use Rattle.std.specs.Prelude.{ℕ, ◌==◌, Bool, true, false, ◌||◌, cond, List, [], ◌∷◌, ◌++◌, slice_index}
+use Rattle.std.specs.Prelude.{encode_utf8, flat_map, Option}
+use Rattle.std.specs.Io.KnownBytes.{Appends}
+use Rattle.njh_io.specs.Written.{AppendsBeginning}
+use Rattle.njh_files.specs.declared.characters.TheConstants.{PAGE}
+
+-- the character of a byte in EBCDIC (IBM code page 37), by its number in Unicode; a full stop where nothing is seen
+unfoldable pub character_at : ℕ → ℕ
+character_at byte = slice_index PAGE byte
+
+unfoldable pub character_words : ℕ → List ℕ
+character_words byte = encode_utf8 (character_at byte)
+
+-- bytes as characters
+abbrev pub text_words : List ℕ → List ℕ
+text_words bytes = flat_map character_words bytes
+
+-- of a record its place, its SRCB and its bytes
+abbrev pub Contents : Type 0
+Contents = ℕ × ℕ × List ℕ
+
+-- a header or a trailer, of a job or of a data set
+unfoldable pub is_header : ℕ → Bool
+is_header srcb = (srcb == 0xc0) || ((srcb == 0xd0) || ((srcb == 0xe0) || (srcb == 0xf0)))
+
+-- a record as a line of text, with its blanks at the end; nothing of a header or a trailer
+unfoldable pub record_line : Contents → List ℕ
+record_line r = cond (is_header r.1) [] (text_words r.2 ++ 10 ∷ [])
+
+abbrev pub record_bytes : Contents → List ℕ
+record_bytes r = r.2
+
+-- the bytes of all records, one after the other; or a line for each record of data
+abbrev pub export_text : Bool → List Contents → List ℕ
+export_text true records = flat_map record_bytes records
+export_text false records = flat_map record_line records
+
+-- What is written of some records came after what had been written; or a beginning of it did.
+abbrev pub IsExported : Bool → (old new : Option (List ℕ)) → Type 0
+IsExported raw old new = (records : List Contents) × Appends old new (export_text raw records)
+
+abbrev pub IsExportedInPart : Bool → (old new : Option (List ℕ)) → Type 0
+IsExportedInPart raw old new = (records : List Contents) × AppendsBeginning old new (export_text raw records)

@@ -1,0 +1,4 @@
+pub mod Exported
+pub mod Faults
+pub mod Listed
+pub mod Printed

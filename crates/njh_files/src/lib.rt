@@ -1,0 +1,18 @@
+//! What a spool file holds, printed for people: its whole files, and a file's records.
+#![tactic(auto)]
+
+mod characters;
+mod exporting;
+mod fault;
+mod finding;
+mod listing;
+mod opening;
+mod printing;
+mod writing;
+
+pub use characters::each_is_seen;
+pub use fault::FilesFault;
+pub use finding::Asked;
+pub use listing::print_files;
+pub use opening::SpoolFiles;
+pub use printing::print;
