@@ -115,9 +115,9 @@ def seconds_used(pid):
         return (int(times[11]) + int(times[12])) / os.sysconf("SC_CLK_TCK")
 
 
-def connected(port, timeout=20, source=None, **options):
-    """A connection to a line, as soon as the program listens."""
-    end = time.monotonic() + 20
+def connected(port, timeout=20, source=None, patience=20, **options):
+    """A connection to a line, as soon as the program listens, which is tried for so many seconds."""
+    end = time.monotonic() + patience
     while True:
         peer = socket.socket()
         for name, value in options.items():

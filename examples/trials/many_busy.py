@@ -24,7 +24,7 @@ CARDS = [ebcdic(f"{number:04} THE QUICK BROWN FOX JUMPS OVER THE LAZY DOG".ljust
 class Sender(FilePeer):
     """A peer that always has another file to send, and keeps count of those that came."""
 
-    came, denied = 0, 0
+    came, denied, other = 0, 0, None
 
     def turn(self, frame):
         if not self.to_send:
