@@ -6,30 +6,112 @@ ghost use Rattle.njh_files.specs.Faults.{IsOfSpool};
 use crate::fault::FilesFault;
 use njh_store::Store;
 use sqlite::{Alter, FileFrom, FileStore, Unknown};
-use std::fs::File;
+use std::fs::{File, OpenOptions, Permissions};
+use std::io::ErrorKind;
+use std::os::unix::fs::{OpenOptionsExt, PermissionsExt};
 use std::rt::HostRuntime;
+use std::{fs, io};
+
+/// The mode of a spool file and of its log: whole files are their users' letters, and none of other users of the host.
+const MODE: u32 = 0o600;
 
 /// What opens spool files.
 pub trait SpoolFiles {
     /// What a spool file that is open is kept in.
     type Kept: Alter + Drop;
 
-    /// Opens the spool file at the path, or makes it.
+    /// Opens the spool file at the path, or makes it, and gives it and its log the mode 0600.
     fn open_spool(&self, path: &str) -> Result<Store<Self::Kept>, FilesFault>
         ensures { IfErr result IsOfSpool };
 
-    /// Opens the spool file at the path, which has to be there.
+    /// Opens the spool file at the path, which has to be there, and leaves its mode.
     fn find_spool(&self, path: &str) -> Result<Store<Self::Kept>, FilesFault>
         ensures { IfErr result IsOfSpool };
+}
+
+/// What a failure of the file system is told as.
+fn fault_of(error: io::Error) -> FilesFault
+    ensures { IsOfSpool result }
+{
+    match error.kind() {
+        ErrorKind::OutOfMemory => FilesFault::Memory,
+        _ => FilesFault::Device,
+    }
+}
+
+/// Makes an empty file where none is: a database that has nothing yet. SQLite takes two kinds of names for no file.
+fn make_empty(rt: &HostRuntime, path: &str) -> Result<(), FilesFault>
+    ensures { IfErr result IsOfSpool }
+{
+    if path == ":memory:" || path.starts_with("file:") {
+        return Ok(());
+    }
+    let made = OpenOptions::new()
+        .write(true)
+        .create_new(true)
+        .mode(MODE)
+        .open(rt, path);
+    match made {
+        Ok(file) => {
+            drop(file);
+            Ok(())
+        }
+        Err(error) => match error.kind() {
+            ErrorKind::AlreadyExists => Ok(()),
+            _ => Err(fault_of(error)),
+        },
+    }
+}
+
+/// Sets the mode of a file, where it is there.
+fn set_mode(rt: &HostRuntime, path: &str) -> Result<(), FilesFault>
+    ensures { IfErr result IsOfSpool }
+{
+    match fs::set_permissions(rt, path, Permissions::from_mode(MODE)) {
+        Ok(()) => Ok(()),
+        Err(error) => match error.kind() {
+            ErrorKind::NotFound => Ok(()),
+            _ => Err(fault_of(error)),
+        },
+    }
+}
+
+/// Sets the mode of a spool file and of its log, which lie where links lead.
+fn set_modes(rt: &HostRuntime, path: &str) -> Result<(), FilesFault>
+    ensures { IfErr result IsOfSpool }
+{
+    let found = match fs::canonicalize(rt, path) {
+        Ok(found) => found,
+        Err(error) => return Err(fault_of(error)),
+    };
+    let file = found.as_str();
+    set_mode(rt, file)?;
+    let log = format!(in rt.alloc(); "{file}-wal")?;
+    set_mode(rt, log.as_str())
+}
+
+/// Opens the spool file at the path, or makes it.
+fn open_store(
+    rt: &HostRuntime,
+    path: &str,
+) -> Result<Store<FileStore<FileFrom<Unknown>>>, FilesFault>
+    ensures { IfErr result IsOfSpool }
+{
+    match Store::open(rt, path, Unknown) {
+        Ok(store) => Ok(store),
+        Err(fault) => Err(FilesFault::from(fault)),
+    }
 }
 
 impl SpoolFiles for HostRuntime {
     type Kept = FileStore<FileFrom<Unknown>>;
 
     fn open_spool(&self, path: &str) -> Result<Store<FileStore<FileFrom<Unknown>>>, FilesFault> {
-        match Store::open(self, path, Unknown) {
-            Ok(store) => Ok(store),
-            Err(fault) => Err(FilesFault::from(fault)),
+        make_empty(self, path)?;
+        let store = open_store(self, path)?;
+        match set_modes(self, path) {
+            Ok(()) => Ok(store),
+            Err(fault) => Err(fault),
         }
     }
 
@@ -38,6 +120,6 @@ impl SpoolFiles for HostRuntime {
             Ok(file) => drop(file),
             Err(_) => return Err(FilesFault::Device),
         }
-        self.open_spool(path)
+        open_store(self, path)
     }
 }
