@@ -1,1 +1,2 @@
+mod AskedLaws
 mod MapLaws

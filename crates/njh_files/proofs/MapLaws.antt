@@ -4,7 +4,7 @@ use Rattle.std.proofs.Common.{subst, inr, Result, Ok, Err, Option, Some, append-
 use Rattle.std.specs.Prelude.{◌||◌, bytes_eq, cond, slice_get, string_bytes, OnOk, OnErr, IfOk}
 use Rattle.std.specs.List.{flat_map, list_any}
 use Rattle.std.specs.Io.KnownBytes.{Keeps}
-use Rattle.std.proofs.lemmas.List.{take-map, length-map}
+use Rattle.std.proofs.lemmas.List.{take-map}
 use Rattle.std.proofs.lemmas.Option.{slice_get-map, slice_get-get_or}
 use Rattle.njh_io.specs.Written.{AppendsBeginning}
 use Rattle.njh_store.specs.Kept.{File, entry_of}

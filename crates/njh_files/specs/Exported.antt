@@ -1,8 +1,10 @@
 -- What is written of a file's records.
-use Rattle.std.specs.Prelude.{ℕ, ◌==◌, Bool, true, false, ◌||◌, cond, List, [], ◌∷◌, ◌++◌, slice_index}
-use Rattle.std.specs.Prelude.{encode_utf8, flat_map, Option}
+use Rattle.std.specs.Prelude.{◌≡◌, ℕ, ◌==◌, Bool, true, false, ◌||◌, cond, List, [], ◌∷◌, ◌++◌, slice_index}
+use Rattle.std.specs.Prelude.{encode_utf8, flat_map, map, Option}
 use Rattle.std.specs.Io.KnownBytes.{Appends}
 use Rattle.njh_io.specs.Written.{AppendsBeginning}
+use Rattle.njh_store.specs.Kept.{Spool, contents, records_of}
+use Rattle.njh_files.specs.Asked.{asked_of, key_in}
 use Rattle.njh_files.specs.declared.characters.TheConstants.{PAGE}
 
 -- the character of a byte in EBCDIC (IBM code page 37), by its number in Unicode; a full stop where nothing is seen
@@ -42,3 +44,16 @@ IsExported raw old new = (records : List Contents) × Appends old new (export_te
 
 abbrev pub IsExportedInPart : Bool → (old new : Option (List ℕ)) → Type 0
 IsExportedInPart raw old new = (records : List Contents) × AppendsBeginning old new (export_text raw records)
+
+-- One file of a spool is asked for, and no other; and this is what is written of its records, all in their order.
+abbrev pub IsTextOf : (customer : Option (List ℕ)) → (number : Option ℕ) → (name : List ℕ) → (raw : Bool) → Spool
+    → (text : List ℕ) → Type 0
+IsTextOf customer number name raw spool text = (key : ℕ)
+    × (map key_in (asked_of customer number name spool.files) ≡ key ∷ [])
+    × (text ≡ export_text raw (map contents (records_of key spool)))
+
+-- It came after what had been written.
+abbrev pub IsExportedOf : (customer : Option (List ℕ)) → (number : Option ℕ) → (name : List ℕ) → (raw : Bool) → Spool
+    → (old new : Option (List ℕ)) → Type 0
+IsExportedOf customer number name raw spool old new = (text : List ℕ)
+    × IsTextOf customer number name raw spool text × Appends old new text

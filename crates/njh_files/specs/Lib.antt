@@ -1,4 +1,6 @@
+pub mod Asked
 pub mod Exported
 pub mod Faults
 pub mod Listed
 pub mod Printed
+pub mod code

@@ -1,5 +1,5 @@
 -- What is printed of the whole files of a spool file: a line a file.
-use Rattle.std.specs.Prelude.{◌≡◌, ℕ, zero, suc, Bool, cond, List, [], ◌∷◌, ◌++◌, codes, bytes_eq, flat_map}
+use Rattle.std.specs.Prelude.{ℕ, zero, suc, Bool, cond, List, [], ◌++◌, codes, bytes_eq, flat_map}
 use Rattle.std.specs.Prelude.{Option, None, Some, length, slice_get, take}
 use Rattle.std.specs.Fmt.{decimal}
 use Rattle.std.specs.List.{list_any}

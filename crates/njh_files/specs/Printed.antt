@@ -1,7 +1,9 @@
 -- What is printed of a spool file.
 use Rattle.std.specs.Prelude.{ℕ, Bool, List, Option, None, Some}
-use Rattle.njh_files.specs.Exported.{IsExported, IsExportedInPart}
-use Rattle.njh_files.specs.Listed.{IsListed, IsListedInPart}
+use Rattle.std.specs.Io.KnownBytes.{Appends}
+use Rattle.njh_store.specs.Kept.{Spool}
+use Rattle.njh_files.specs.Exported.{IsExported, IsExportedInPart, IsExportedOf}
+use Rattle.njh_files.specs.Listed.{IsListed, IsListedInPart, listing_text}
 
 -- where no file is named the listing, and else what is written of a file's records
 abbrev pub IsPrinted : {Name : Type 0} → Option (List ℕ) → (file : Option Name) → (raw : Bool)
@@ -13,3 +15,10 @@ abbrev pub IsPrintedInPart : {Name : Type 0} → Option (List ℕ) → (file : O
     → (old new : Option (List ℕ)) → Type 0
 IsPrintedInPart customer None raw old new = IsListedInPart customer old new
 IsPrintedInPart customer (Some name) raw old new = IsExportedInPart raw old new
+
+-- Of a spool: the listing of its files, of all or of the customer's; or where a file is named the records of the one
+-- that is asked for.
+abbrev pub IsPrintedOf : (customer : Option (List ℕ)) → (file : Option (List ℕ)) → (number : Option ℕ) → (raw : Bool)
+    → Spool → (old new : Option (List ℕ)) → Type 0
+IsPrintedOf customer None number raw spool old new = Appends old new (listing_text customer spool.files)
+IsPrintedOf customer (Some name) number raw spool old new = IsExportedOf customer number name raw spool old new

@@ -1,12 +1,14 @@
 //! Writes the records of a file.
 
 ghost use Rattle.std.specs.Prelude.{◌≡◌, ◌++◌, ◌⊎◌, List, map, true, false, IfErr, IfOk, OnErr, OnOk};
-ghost use Rattle.std.specs.Prelude.{flat_map};
+ghost use Rattle.std.specs.Prelude.{flat_map, option_map};
 ghost use Rattle.std.specs.Io.KnownBytes.{Appends, Keeps};
 ghost use Rattle.njh_files.specs.Exported.{Contents, IsExported, IsExportedInPart, export_text, is_header};
-ghost use Rattle.njh_files.specs.Exported.{record_line};
+ghost use Rattle.njh_files.specs.Exported.{IsExportedOf, IsTextOf, record_line};
 ghost use Rattle.njh_files.specs.Faults.{IsOfSpool};
-ghost use Rattle.njh_store.specs.Kept.{contents_of};
+ghost use Rattle.njh_store.specs.Kept.{Holds, Spool, contents_of};
+ghost use Rattle.njh_store.specs.Shelf.{shown};
+ghost use Rattle.sqlite.specs.State.{HasCleanDisk};
 
 use crate::characters::put_text;
 use crate::fault::FilesFault;
@@ -88,6 +90,9 @@ fn export<S: Alter>(
     asked: &Asked<'_>,
     name: &str,
 ) -> Result<Vec<u8>, FilesFault>
+    ensures kept { HasCleanDisk (shown S.Store store.new) → IfOk result (λ text. (spool : Spool)
+        → Holds spool (shown S.Store store.old).now.trees → IsTextOf (option_map (λ c. c.now) asked.now.customer)
+        asked.now.number name.now asked.now.raw spool text.items) }
     ensures some { IfOk result (λ text. (records : List Contents)
         × (text.items ≡ export_text asked.now.raw records)) }
 {
@@ -107,6 +112,9 @@ pub(crate) fn export_file<S: Alter, W: Write>(
     name: &str,
     out: &mut W,
 ) -> Result<(), FilesFault>
+    ensures kept { HasCleanDisk (shown S.Store store.new) → OnOk result ((spool : Spool)
+        → Holds spool (shown S.Store store.old).now.trees → IsExportedOf (option_map (λ c. c.now) asked.now.customer)
+        asked.now.number name.now asked.now.raw spool (W.contents out.old) (W.contents out.new)) }
     ensures done { OnOk result (IsExported asked.now.raw (W.contents out.old) (W.contents out.new)) }
     ensures begun { OnErr result (Keeps (W.contents out.old) (W.contents out.new)
         ⊎ IsExportedInPart asked.now.raw (W.contents out.old) (W.contents out.new)) }

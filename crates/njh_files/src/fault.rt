@@ -13,7 +13,7 @@ use std::fmt;
 pub enum FilesFault {
     /// The customer has no such file; with what it was called.
     NoFile(String),
-    /// The customer has several such files; with a line for each of them.
+    /// The customer has several such files; with the end of a line and a line for each of them.
     Several(String),
     /// A whole file can't be put back into a hub; with why, and whose it is.
     Refused(String),
@@ -36,7 +36,7 @@ impl fmt::Display for FilesFault {
     fn fmt<W: fmt::Write>(&self, f: &mut fmt::Formatter<W>) -> fmt::Result {
         match self {
             FilesFault::NoFile(name) => write!(f, "no file {name}"),
-            FilesFault::Several(list) => write!(f, "several files, say which by --number\n{list}"),
+            FilesFault::Several(list) => write!(f, "several files, say which by --number{list}"),
             FilesFault::Refused(why) => f.write_str(why.as_str()),
             FilesFault::InUse => f.write_str("spool in use"),
             FilesFault::NotASpool => f.write_str("spool is another database"),

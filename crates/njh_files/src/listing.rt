@@ -64,7 +64,7 @@ fn state_words(held: bool) -> &'static str
 
 /// What NJH001 says of a file, behind its number.
 #[tactic(auto, unfolding(crate::specs::Listed::said_of))]
-fn said_of(alloc: Global, file: &KeptFile) -> Result<String, AllocError>
+pub(crate) fn said_of(alloc: Global, file: &KeptFile) -> Result<String, AllocError>
     ensures { IfOk result (λ text. string_bytes text ≡ said_of (file_of file.now)) }
 {
     let name = name_text(alloc, file)?;
@@ -78,7 +78,7 @@ fn said_of(alloc: Global, file: &KeptFile) -> Result<String, AllocError>
 
 /// The line of a file.
 #[tactic(auto, unfolding(crate::specs::Listed::file_line))]
-pub(crate) fn file_line(alloc: Global, file: &KeptFile) -> Result<String, AllocError>
+fn file_line(alloc: Global, file: &KeptFile) -> Result<String, AllocError>
     ensures { IfOk result (λ line. string_bytes line ≡ file_line (file_of file.now)) }
 {
     let said = said_of(alloc, file)?;

@@ -1,4 +1,4 @@
-use Rattle.std.proofs.Common.{List, map, sym, ap, ◌∙◌, Bool}
+use Rattle.std.proofs.Common.{map, sym, ap, ◌∙◌, Bool}
 use Rattle.njh_store.specs.Kept.{contents_of}
 use Rattle.njh_files.specs.Exported.{export_text, record_bytes, record_line}
 use Rattle.njh_files.proofs.MapLaws.{flat_map_mapped, ok_other}

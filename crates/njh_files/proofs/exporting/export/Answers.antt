@@ -1,0 +1,26 @@
+use Rattle.std.proofs.Common.{◌∙◌, ap, arith, map, option_map, subst, sym}
+use Rattle.sqlite.specs.Effect.{Database}
+use Rattle.sqlite.specs.State.{HasCleanDisk}
+use Rattle.njh_store.proofs.ReadingLaws.{of_file}
+use Rattle.njh_store.specs.Kept.{Holds, contents, contents_of, entry_of}
+use Rattle.njh_store.specs.Shelf.{shown}
+use Rattle.njh_files.specs.Asked.{asked_of, key_in}
+use Rattle.njh_files.specs.Exported.{export_text}
+use Rattle.njh_files.proofs.exporting.export.Goals as goal
+
+pub returns-clause-kept : goal.returns-clause-kept
+returns-clause-kept g c clean spool held =
+    let customer = option_map (λ c'. c'.now) c.args.asked.now.customer in
+    let early : HasCleanDisk (shown g.S.Store c.files.new.self) = omega (arith, c.records.ensures.crash.clean) in
+    let stays = c.in_ok-files.ensures.same early in
+    let still : Holds spool (shown g.S.Store c.files.new.self).now.trees =
+    subst (λ (d : Database). Holds spool d.trees) (sym stays.now) held in (
+      c.in_ok-key.key,
+      ap (λ es. map key_in (asked_of customer c.args.asked.now.number c.args.name.now es))
+          (sym (ap (map entry_of) c.as_slice.ensures.value ∙ c.in_ok-files.ensures.files early spool held))
+          ∙ c.in_ok-key.ensures.found,
+      c.in_ok-export_text.ensures
+          ∙ ap (export_text c.args.asked.now.raw)
+          (ap (map contents_of) c.as_slice-2.ensures.value ∙ c.in_ok-records.ensures.records clean spool still
+          ∙ ap (map contents) (of_file c.in_ok-key.key spool.records held.numbered)),
+    )
