@@ -1,5 +1,6 @@
 -- The text of a fault with its place: its name, the part of the file, the key, and what is wrong.
-use Rattle.std.specs.Prelude.{◌≡◌, ℕ, List, [], codes, Option, Some, None, option_and_then, MatchOption}
+use Rattle.std.specs.Prelude.{◌≡◌, ℕ, ◌+◌, ◌≤◌, ◌==◌, List, [], length, take, count_by, codes, Option, Some, None}
+use Rattle.std.specs.Prelude.{option_and_then, MatchOption}
 use Rattle.std.specs.Fmt.{decimal}
 use Rattle.toml.specs.Data.{Members, get_member, as_str}
 use Rattle.toml.specs.Parse.{parse_document}
@@ -57,12 +58,21 @@ fault_words document placed =
     +++ codes ": "
     +++ reason_words placed.fault document placed.part placed.key (value_at placed.part placed.key document)
 
--- a text that is no TOML from a line of this number on
+-- how many lines end in a text
+abbrev pub line_ends : List ℕ → ℕ
+line_ends text = count_by (λ byte. byte == 10) text
+
+-- the number of the line, from 1 on, in which a place of a text is
+unfoldable pub line_at : List ℕ → ℕ → ℕ
+line_at text place = line_ends (take place text) + 1
+
+-- a text that is no TOML, which shows in a line of this number
 unfoldable pub toml_words : ℕ → List ℕ
 toml_words line = codes "K1 BadToml: line " +++ decimal line +++ codes ": no TOML"
 
--- what is told of a fault of a text. Of a text that is no TOML no definition says in which line that shows.
+-- what is told of a fault of a text. Of a text that is no TOML a line of it is told, counted from 1 on; no definition
+-- says in which that shows.
 abbrev pub IsFaultText : List ℕ → PlacedFault → List ℕ → Type 0
 IsFaultText text placed told =
-    MatchOption (parse_document text) ((line : ℕ) × (told ≡ toml_words line))
+    MatchOption (parse_document text) ((place : ℕ) × (place ≤ length text) × (told ≡ toml_words (line_at text place)))
     (λ document. told ≡ fault_words document placed)

@@ -1,11 +1,12 @@
 //! Checks a table file and tells what it says.
 
-ghost use Rattle.std.specs.Prelude.{◌≡◌, ◌++◌, ◌∷◌, [], ℕ, List, Option, IfErr, IfOk, Err, option_map, string_bytes};
+ghost use Rattle.std.specs.Prelude.{◌≡◌, ◌≤◌, ◌++◌, ◌∷◌, [], ℕ, List, Option, IfErr, IfOk, Err, length, option_map};
+ghost use Rattle.std.specs.Prelude.{string_bytes};
 ghost use Rattle.std.specs.Io.KnownBytes.{Appends};
 ghost use Rattle.njh_io.specs.Written.{AppendsBeginning};
 ghost use Rattle.njh_table.specs.declared.places.PlacedFault.{PlacedFault};
 ghost use Rattle.njh_check.specs.Checks.{Tells, TellsFault};
-ghost use Rattle.njh_check.specs.FaultTexts.{IsFaultText};
+ghost use Rattle.njh_check.specs.FaultTexts.{IsFaultText, line_at, line_ends};
 
 use crate::fault::CheckFault;
 use crate::line::{fault_words, toml_words};
@@ -15,13 +16,22 @@ use njh_table::{PlacedFault, TableFault, Tables};
 use std::alloc::Global;
 use std::io::Write;
 
+/// How many lines end in a text.
+fn line_ends(text: &[u8]) -> usize
+    ensures ends { result ≡ line_ends text.now }
+    ensures few { result ≤ length text.now }
+{
+    text.iter().filter(|byte| **byte == b'\n').count()
+}
+
 /// The number of the line, from 1 on, in which a place of a text is.
-fn line_number(text: &str, place: usize) -> usize {
-    let before = text.as_bytes().iter().take(place);
-    before
-        .filter(|byte| **byte == b'\n')
-        .count()
-        .saturating_add(1)
+#[tactic(auto, unfolding(crate::specs::FaultTexts::line_at))]
+fn line_number(text: &str, place: usize) -> usize
+    requires { place ≤ length text.now }
+    ensures { result ≡ line_at text.now place }
+{
+    let before = &text.as_bytes()[..place];
+    line_ends(before) + 1
 }
 
 /// The text of a fault of a table file.
