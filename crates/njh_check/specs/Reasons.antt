@@ -13,16 +13,17 @@ use Rattle.njh_table.specs.declared.places.Part.{Part}
 use Rattle.njh_table.specs.declared.places.Part.TheVariants as parts
 use Rattle.njh_table.specs.declared.places.PlacedFault.{PlacedFault}
 use Rattle.njh_table.specs.Keys.{number}
-use Rattle.njh_table.specs.Limits.{max_quota}
+use Rattle.njh_table.specs.Limits.{max_block, max_capacity, max_customers, max_files, max_line_name, max_lines}
+use Rattle.njh_table.specs.Limits.{max_port, max_quota, max_routes, max_streams, min_block}
 use Rattle.njh_table.specs.Places.{key_name}
 use Rattle.njh_check.specs.Elements.{value_at}
-use Rattle.njh_check.specs.Words.{◌+++◌, found_words}
+use Rattle.njh_check.specs.Words.{◌+++◌, between_words, found_words}
 
 -- what a name of a part may be
 unfoldable pub name_words : Part → List ℕ
 name_words parts.File = codes "a name"
 name_words (parts.Customer c) = codes "a name: 1 to 8 of A to Z, 0 to 9, $, # and @"
-name_words (parts.Line c n) = codes "1 to 8 letters and digits"
+name_words (parts.Line c n) = between_words 1 max_line_name +++ codes " letters and digits"
 name_words (parts.Route c n) = codes "a name"
 
 -- what the key `line` of a part may be
@@ -34,29 +35,29 @@ line_words (parts.Route c n) = codes "a line's name"
 
 -- what may stand at a key
 unfoldable pub wanted_words : Part → Key → List ℕ
-wanted_words part named.Capacity = codes "1 to 4194240"
+wanted_words part named.Capacity = between_words 1 max_capacity
 wanted_words part named.Customer = codes "a list of customers"
 wanted_words part named.Name = name_words part
 wanted_words part named.Hub = codes "a name: 1 to 8 of A to Z, 0 to 9, $, # and @"
-wanted_words part named.Quota = codes "1 to 65535"
-wanted_words part named.Files = codes "1 to 1024"
+wanted_words part named.Quota = between_words 1 max_quota
+wanted_words part named.Files = between_words 1 max_files
 wanted_words part named.Line = line_words part
 wanted_words part named.Route = codes "a list of routes"
 wanted_words part named.Node = codes "a name: 1 to 8 of A to Z, 0 to 9, $, # and @"
 wanted_words part named.Role = codes "\"call\" or \"answer\""
-wanted_words part named.Block = codes "300 to 4096"
-wanted_words part named.Streams = codes "1 to 4"
+wanted_words part named.Block = between_words min_block max_block
+wanted_words part named.Streams = between_words 1 max_streams
 wanted_words part named.Password = codes "empty or a name: 1 to 8 of A to Z, 0 to 9, $, # and @"
-wanted_words part named.Port = codes "0 to 65535"
+wanted_words part named.Port = between_words 0 max_port
 wanted_words part named.Connect = codes "an IP address and a port, on a line without a port of its own"
 wanted_words part named.Second = codes "the name of another line"
 
 -- how many of a part there may be
 unfoldable pub most_words : Part → List ℕ
 most_words parts.File = codes "the file is too long"
-most_words (parts.Customer c) = codes "at most 64 customers"
-most_words (parts.Line c n) = codes "at most 256 lines on the whole hub"
-most_words (parts.Route c n) = codes "at most 512 routes"
+most_words (parts.Customer c) = codes "at most " +++ decimal max_customers +++ codes " customers"
+most_words (parts.Line c n) = codes "at most " +++ decimal max_lines +++ codes " lines on the whole hub"
+most_words (parts.Route c n) = codes "at most " +++ decimal max_routes +++ codes " routes"
 
 -- whether a value is a name
 unfoldable pub is_name_value : Option Data → Bool

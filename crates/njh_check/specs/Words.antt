@@ -45,3 +45,7 @@ label_words (Some name) = cond (is_shown name) (codes " (" +++ name +++ codes ")
 -- a word with a number, which people count from 1 on, and a name
 unfoldable pub numbered : List ℕ → ℕ → Option (List ℕ) → List ℕ
 numbered word number name = word +++ codes " " +++ decimal (number + 1) +++ label_words name
+
+-- the numbers from one to another, both among them
+abbrev pub between_words : ℕ → ℕ → List ℕ
+between_words low high = decimal low +++ codes " to " +++ decimal high
