@@ -1,2 +1,3 @@
 mod AskedLaws
+mod FaultLaws
 mod MapLaws

@@ -1,5 +1,5 @@
 -- Which of the files of a spool file is asked for.
-use Rattle.std.specs.Prelude.{◌≡◌, ℕ, ◌<◌, ◌-◌, Bool, true, List, [], filter, take, drop, length, bytes_eq}
+use Rattle.std.specs.Prelude.{map, ◌≡◌, ℕ, ◌<◌, ◌-◌, Bool, true, List, [], filter, take, drop, length, bytes_eq}
 use Rattle.std.specs.Prelude.{Option, None, Some, ⊤}
 use Rattle.njh_store.specs.Kept.{File}
 use Rattle.njh_files.specs.Listed.{name_text}
@@ -34,3 +34,8 @@ abbrev pub FitsFault : (keys : List ℕ) → FilesFault → Type 0
 FitsFault keys (NoFile name) = keys ≡ []
 FitsFault keys (Several list) = 1 < length keys
 FitsFault keys fault = ⊤
+
+-- as these files say it of those that are asked for
+abbrev pub IsRefusedOf : (customer : Option (List ℕ)) → (number : Option ℕ) → (name : List ℕ) → List (ℕ × File)
+    → FilesFault → Type 0
+IsRefusedOf customer number name es fault = FitsFault (map key_in (asked_of customer number name es)) fault

@@ -2,6 +2,9 @@
 use Rattle.std.specs.Prelude.{ℕ, Bool, List, Option, None, Some}
 use Rattle.std.specs.Io.KnownBytes.{Appends}
 use Rattle.njh_store.specs.Kept.{Spool}
+use Rattle.njh_files.specs.Asked.{IsRefusedOf}
+use Rattle.njh_files.specs.Faults.{IsOfSpool}
+use Rattle.njh_files.specs.declared.fault.FilesFault.{FilesFault}
 use Rattle.njh_files.specs.Exported.{IsExported, IsExportedInPart, IsExportedOf}
 use Rattle.njh_files.specs.Listed.{IsListed, IsListedInPart, listing_text}
 
@@ -22,3 +25,9 @@ abbrev pub IsPrintedOf : (customer : Option (List ℕ)) → (file : Option (List
     → Spool → (old new : Option (List ℕ)) → Type 0
 IsPrintedOf customer None number raw spool old new = Appends old new (listing_text customer spool.files)
 IsPrintedOf customer (Some name) number raw spool old new = IsExportedOf customer number name raw spool old new
+
+-- Why nothing, or not all, of that: the spool file, the writer or memory failed, or the file that is named isn't one.
+abbrev pub IsFaultOf : (customer : Option (List ℕ)) → (file : Option (List ℕ)) → (number : Option ℕ) → Spool
+    → FilesFault → Type 0
+IsFaultOf customer None number spool fault = IsOfSpool fault
+IsFaultOf customer (Some name) number spool fault = IsRefusedOf customer number name spool.files fault

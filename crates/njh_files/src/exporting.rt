@@ -3,6 +3,7 @@
 ghost use Rattle.std.specs.Prelude.{◌≡◌, ◌++◌, ◌⊎◌, List, map, true, false, IfErr, IfOk, OnErr, OnOk};
 ghost use Rattle.std.specs.Prelude.{flat_map, option_map};
 ghost use Rattle.std.specs.Io.KnownBytes.{Appends, Keeps};
+ghost use Rattle.njh_files.specs.Asked.{IsRefusedOf};
 ghost use Rattle.njh_files.specs.Exported.{Contents, IsExported, IsExportedInPart, export_text, is_header};
 ghost use Rattle.njh_files.specs.Exported.{IsExportedOf, IsTextOf, record_line};
 ghost use Rattle.njh_files.specs.Faults.{IsOfSpool};
@@ -93,6 +94,9 @@ fn export<S: Alter>(
     ensures kept { HasCleanDisk (shown S.Store store.new) → IfOk result (λ text. (spool : Spool)
         → Holds spool (shown S.Store store.old).now.trees → IsTextOf (option_map (λ c. c.now) asked.now.customer)
         asked.now.number name.now asked.now.raw spool text.items) }
+    ensures refused { HasCleanDisk (shown S.Store store.new) → IfErr result (λ fault. (spool : Spool)
+        → Holds spool (shown S.Store store.old).now.trees → IsRefusedOf (option_map (λ c. c.now) asked.now.customer)
+        asked.now.number name.now spool.files fault) }
     ensures some { IfOk result (λ text. (records : List Contents)
         × (text.items ≡ export_text asked.now.raw records)) }
 {
@@ -115,6 +119,9 @@ pub(crate) fn export_file<S: Alter, W: Write>(
     ensures kept { HasCleanDisk (shown S.Store store.new) → OnOk result ((spool : Spool)
         → Holds spool (shown S.Store store.old).now.trees → IsExportedOf (option_map (λ c. c.now) asked.now.customer)
         asked.now.number name.now asked.now.raw spool (W.contents out.old) (W.contents out.new)) }
+    ensures refused { HasCleanDisk (shown S.Store store.new) → IfErr result (λ fault. (spool : Spool)
+        → Holds spool (shown S.Store store.old).now.trees → IsRefusedOf (option_map (λ c. c.now) asked.now.customer)
+        asked.now.number name.now spool.files fault) }
     ensures done { OnOk result (IsExported asked.now.raw (W.contents out.old) (W.contents out.new)) }
     ensures begun { OnErr result (Keeps (W.contents out.old) (W.contents out.new)
         ⊎ IsExportedInPart asked.now.raw (W.contents out.old) (W.contents out.new)) }

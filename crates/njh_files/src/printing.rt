@@ -3,7 +3,7 @@
 ghost use Rattle.std.specs.Prelude.{◌⊎◌, option_map, IfErr, OnErr, OnOk};
 ghost use Rattle.std.specs.Io.KnownBytes.{Keeps};
 ghost use Rattle.njh_files.specs.Faults.{IsOfSpool};
-ghost use Rattle.njh_files.specs.Printed.{IsPrinted, IsPrintedInPart, IsPrintedOf};
+ghost use Rattle.njh_files.specs.Printed.{IsFaultOf, IsPrinted, IsPrintedInPart, IsPrintedOf};
 ghost use Rattle.njh_store.specs.Kept.{Holds, Spool};
 ghost use Rattle.njh_store.specs.Shelf.{shown};
 ghost use Rattle.sqlite.specs.State.{HasCleanDisk};
@@ -30,6 +30,9 @@ pub fn print<S: Alter, W: Write>(
         → Holds spool (shown S.Store store.old).now.trees → IsPrintedOf (option_map (λ c. c.now) asked.now.customer)
         (option_map (λ f. f.now) asked.now.file) asked.now.number asked.now.raw spool (W.contents out.old)
         (W.contents out.new)) }
+    ensures refused { HasCleanDisk (shown S.Store store.new) → IfErr result (λ fault. (spool : Spool)
+        → Holds spool (shown S.Store store.old).now.trees → IsFaultOf (option_map (λ c. c.now) asked.now.customer)
+        (option_map (λ f. f.now) asked.now.file) asked.now.number spool fault) }
     ensures done { OnOk result (IsPrinted (option_map (λ c. c.now) asked.now.customer) asked.now.file asked.now.raw
         (W.contents out.old) (W.contents out.new)) }
     ensures begun { OnErr result (Keeps (W.contents out.old) (W.contents out.new)
