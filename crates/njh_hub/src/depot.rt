@@ -31,12 +31,13 @@ pub trait Depot: Keeper {
     ghost use Rattle.njh_table.specs.TableFile.{TableFile};
     ghost use Rattle.njh_hub.specs.WholeHub.{Part};
 
-    /// Which customers' parts a hub of tables has that was just opened, by what is kept.
-    ghost opens: { Self → TableFile → List Part → Type 0 };
+    /// Which customers' parts a hub of tables has that was just opened, by what was kept before the opening, and by the
+    /// depot behind it.
+    ghost opens: { Self → Self → TableFile → List Part → Type 0 };
 
     /// Opens a hub of these tables. All lines are down, and each customer has those of its entry.
     fn open(&mut self, alloc: Global, tables: Tables) -> Result<Hub, DepotFault>
-        ensures opened { IfOk result (λ hub. opens self.new tables hub) }
+        ensures opened { IfOk result (λ hub. opens self.old self.new tables hub) }
         ensures lines { IfOk result (λ hub. SameLines (map part_at_open (entries_of tables)) hub) }
         ensures settled { IfOk result (λ hub. IsSettled Self.may_leave self.new hub) };
 }
@@ -46,7 +47,7 @@ impl Depot for KeepsNothing {
     ghost use Rattle.njh_hub.specs.Parts.{entries_of};
     ghost use Rattle.njh_hub.specs.WholeHub.{part_at_open};
 
-    ghost opens = { λ keeper table parts. parts ≡ map part_at_open (entries_of table) };
+    ghost opens = { λ before behind table parts. parts ≡ map part_at_open (entries_of table) };
 
     fn open(&mut self, alloc: Global, tables: Tables) -> Result<Hub, DepotFault> {
         match Hub::open(alloc, tables) {

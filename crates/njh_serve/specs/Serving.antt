@@ -70,8 +70,9 @@ pub record AreServed (opened : List Part → Type 0) (tables : TableFile) (turns
   pub each : All (λ round. length round ≡ length lines) (service_rounds story)
   pub possible : ArePossible hub lines quiets story
 
--- The hub was opened by a depot: with what was kept there then, and nothing else could have been left of it by a crash.
-abbrev pub AreServedFrom : {D : Type 0} → (D → TableFile → List Part → Type 0) → (D → List (List KeptFile) → Type 0)
-    → TableFile → Option ℕ → Type 0
-AreServedFrom {D} opens may_leave tables turns =
-    (depot : D) × AreServed (λ parts. opens depot tables parts × IsSettled may_leave depot parts) tables turns
+-- The hub was opened by this depot: with what was kept there, and nothing else could have been left of it then by a
+-- crash.
+abbrev pub AreServedFrom : {D : Type 0} → (D → D → TableFile → List Part → Type 0)
+    → (D → List (List KeptFile) → Type 0) → D → TableFile → Option ℕ → Type 0
+AreServedFrom {D} opens may_leave depot tables turns =
+    (opened : D) × AreServed (λ parts. opens depot opened tables parts × IsSettled may_leave opened parts) tables turns

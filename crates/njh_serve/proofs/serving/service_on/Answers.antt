@@ -8,5 +8,5 @@ use Rattle.njh_serve.proofs.serving.service_on.Goals as goal
 pub returns-in-Ok-clause-opened : goal.returns-in-Ok-clause-opened
 returns-in-Ok-clause-opened g c =
     subst (λ (endpoints : List Endpoint). IfOk c.service_of.result
-    (IsOpenedOn (g.D.Depot.opens c.service_of.new.depot c.args.tables) endpoints))
+    (IsOpenedOn (g.D.Depot.opens c.args.depot.now c.service_of.new.depot c.args.tables) endpoints))
     (c.deref.ensures.value ∙ c.in-Ok.ensures.all) c.service_of.ensures.opened
