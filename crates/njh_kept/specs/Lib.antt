@@ -1,4 +1,5 @@
 pub mod Opened
 pub mod OpenedFiles
 pub mod Faults
+pub mod Keeper
 pub mod code

@@ -6,7 +6,7 @@ ghost use Rattle.njh_hub.specs.WholeHub.{part};
 use crate::hub_records::{is_mixed, job_of, rewrite_headers, write_records};
 use crate::own_files::{HubFile, KeptWhole, OwnFiles};
 use crate::rows::{is_held, row_of};
-use crate::writer::SpoolWriter;
+use crate::writer::{SpoolWriter, astray};
 use njh_hub::{FileSummaryView, Hub};
 use njh_record::Kind;
 use njh_spool::{FileId, State};
@@ -15,7 +15,8 @@ use sqlite::{Alter, Error};
 /// Keeps a customer's whole files as a hub has them now: those that came are added, those that left are taken out, and
 /// of each other one what changed is written anew.
 ///
-/// The last files are the new ones, as many as became whole; each other one was there, and is known by its number.
+/// The last files are the new ones, as many as became whole; each other one was there, and is known by its number. One
+/// that isn't found is a fault.
 pub(crate) fn follow<S: Alter + Drop>(
     writer: &mut SpoolWriter<S>,
     own: &mut OwnFiles,
@@ -29,18 +30,13 @@ pub(crate) fn follow<S: Alter + Drop>(
     for index in 0..old {
         let number = hub.number_at(customer, index);
         drop_before(writer, own, place, Some(number))?;
-        if place < own.whole.len() {
-            let summary = hub.summary_at(customer, index);
-            follow_one(
-                writer,
-                own,
-                place,
-                hub,
-                HubFile { customer, number },
-                &summary,
-            )?;
-            place += 1;
+        if place >= own.whole.len() {
+            return Err(astray());
         }
+        let summary = hub.summary_at(customer, index);
+        let file = HubFile { customer, number };
+        follow_one(writer, own, place, hub, file, &summary)?;
+        place += 1;
     }
     drop_before(writer, own, place, None)?;
     for index in old..count {
@@ -115,12 +111,8 @@ fn follow_one<S: Alter + Drop>(
 /// Whether a file's headers were rewritten: its destination is another, or its data set headers named more than one
 /// node and don't any more.
 fn is_rewritten(kept: &KeptWhole, hub: &Hub, file: HubFile, summary: &FileSummaryView) -> bool {
-    if kept.destination != summary.destination {
-        return true;
-    }
-    // Nothing rewrites a file while it goes out.
-    let is_going = kept.state == State::Sending && summary.state == State::Sending;
-    kept.is_mixed && !is_going && !is_mixed(hub, file)
+    // One that goes out may have been refused, sent elsewhere and asked for again in one step.
+    kept.destination != summary.destination || kept.is_mixed && !is_mixed(hub, file)
 }
 
 /// Adds a file that became whole. Records of it that were kept before stay.

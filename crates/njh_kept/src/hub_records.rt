@@ -3,7 +3,7 @@
 ghost use Rattle.std.specs.Prelude.{◌≤◌, ◌<◌, ◌^◌};
 
 use crate::own_files::HubFile;
-use crate::writer::{PLACES, SpoolWriter};
+use crate::writer::{PLACES, SpoolWriter, astray};
 use njh_ebcdic::Name;
 use njh_header::{DataSetHeader, JobHeader, srcb};
 use njh_hub::Hub;
@@ -24,7 +24,7 @@ pub(crate) fn write_records<S: Alter + Drop>(
     from: u32,
 ) -> Result<(), Error> {
     let Some(mut records) = hub.read_file(file.customer, file.number) else {
-        return Ok(());
+        return Err(astray());
     };
     let mut record = Record::new();
     for place in 0..PLACES {
@@ -52,7 +52,7 @@ pub(crate) fn rewrite_headers<S: Alter + Drop>(
     key: u32,
 ) -> Result<(), Error> {
     let Some(mut records) = hub.read_file(file.customer, file.number) else {
-        return Ok(());
+        return Err(astray());
     };
     let mut record = Record::new();
     for place in 0..PLACES {
@@ -77,11 +77,12 @@ pub(crate) fn is_mixed(hub: &Hub, file: HubFile) -> bool {
     let Some(mut records) = hub.read_file(file.customer, file.number) else {
         return false;
     };
-    let Some(first) = next_node(&mut records) else {
+    let mut before = 0;
+    let Some(first) = next_node(&mut records, &mut before) else {
         return false;
     };
     for _ in 0..PLACES {
-        match next_node(&mut records) {
+        match next_node(&mut records, &mut before) {
             Some(node) => {
                 if node != first {
                     return true;
@@ -93,13 +94,18 @@ pub(crate) fn is_mixed(hub: &Hub, file: HubFile) -> bool {
     false
 }
 
-/// The node that the next data set header names, of those records that are left.
-fn next_node(records: &mut RecordReader<'_>) -> Option<Name> {
+/// The node that the next data set header names, of those records that are left. One directly behind another goes on
+/// with that, and names none. The SRCB of the record before is given, and that of the header is left in its place.
+fn next_node(records: &mut RecordReader<'_>, before: &mut u8) -> Option<Name> {
     let mut record = Record::new();
     for _ in 0..PLACES {
         let srcb = records.next(&mut record)?;
-        if let Some(node) = node_of(srcb, &record) {
-            return Some(node);
+        let is_continued = *before == srcb::DATA_SET_HEADER;
+        *before = srcb;
+        if !is_continued {
+            if let Some(node) = node_of(srcb, &record) {
+                return Some(node);
+            }
         }
     }
     None

@@ -1,7 +1,10 @@
 //! The whole files of a hub's customers are kept in a spool file.
 
-ghost use Rattle.std.specs.Prelude.{◌≡◌, ◌≤◌};
+ghost use Rattle.std.specs.Prelude.{◌≡◌, ◌≤◌, ⊤, OnOk};
+ghost use Rattle.sqlite.specs.State.{HasCleanDisk, Survives};
 ghost use Rattle.njh_hub.specs.Sent.{IsCounted};
+ghost use Rattle.njh_store.specs.Shelf.{shown};
+ghost use Rattle.njh_store.specs.Steps.{Stays};
 
 use crate::fault::{OpeningFault, RefusedFile};
 use crate::following::follow;
@@ -32,29 +35,29 @@ pub struct SpoolKeeper<'a, R, S: Alter + Drop> {
     /// In the order of the tables.
     customers: Vec<OwnFiles>,
     refused: Option<RefusedFile>,
-    skipped: u32,
     failures: u64,
 }
 
 impl<'a, R, S: Alter + Drop> Model for SpoolKeeper<'a, R, S> {
-    ghost use Rattle.std.specs.Prelude.{ℕ};
+    ghost use Rattle.njh_kept.specs.Keeper.{Keeping, keeping_code};
 
-    ghost Value = { ℕ };
+    ghost Value = { Keeping S };
 
-    ghost view = { λ keeper. keeper.failures };
+    ghost coded = { keeping_code S.code };
+
+    ghost view = { λ keeper. record { store = keeper.writer.store; failures = keeper.failures } };
 }
 
 impl<'a, R: Clock, S: Alter + Drop> SpoolKeeper<'a, R, S> {
     /// Keeps files in a spool file that was just opened. Each row has the time by this clock.
     pub fn new(rt: &'a R, alloc: Global, store: Store<S>) -> SpoolKeeper<'a, R, S>
-        ensures { result ≡ 0 }
+        ensures { result ≡ record { store = store; failures = 0 } }
     {
         SpoolKeeper {
             rt,
             writer: SpoolWriter::new(alloc, store),
             customers: Vec::new(alloc),
             refused: None,
-            skipped: 0,
             failures: 0,
         }
     }
@@ -66,13 +69,31 @@ impl<'a, R: Clock, S: Alter + Drop> SpoolKeeper<'a, R, S> {
         self.refused.as_ref()
     }
 
-    /// How many whole files of the spool file are of customers that the tables don't have. They stay there.
-    pub fn skipped(&self) -> u32 {
-        self.skipped
+    /// How many whole files of the spool file are of customers that these tables don't have. They stay there.
+    pub fn strangers(&mut self, alloc: Global, tables: &Tables) -> Result<u32, Error>
+        ensures same { self.new.failures ≡ self.old.failures }
+        ensures stays { HasCleanDisk (shown S.Store self.new.store) → OnOk result (Stays (shown S.Store self.old.store)
+            (shown S.Store self.new.store)) }
+        ensures crash { Survives (shown S.Store self.old.store) (shown S.Store self.new.store) (λ _. ⊥) }
+    {
+        let names = names_of(alloc, tables)?;
+        let files = match self.writer.store.files(alloc) {
+            Ok(files) => files,
+            Err(error) => {
+                drop(names);
+                return Err(error);
+            }
+        };
+        let count = count_strangers(&names, &files);
+        drop(names);
+        drop(files);
+        Ok(count)
     }
 
     /// The spool file. What isn't committed is dropped when it is closed.
-    pub fn into_store(self) -> Store<S> {
+    pub fn into_store(self) -> Store<S>
+        ensures { result ≡ self.entry.store }
+    {
         let SpoolKeeper {
             writer,
             customers,
@@ -84,7 +105,7 @@ impl<'a, R: Clock, S: Alter + Drop> SpoolKeeper<'a, R, S> {
 
     /// Keeps what a step made of a customer's files.
     fn keep_files(&mut self, hub: &Hub, customer: u16) -> Result<(), Error>
-        ensures { self.new ≡ self.old }
+        ensures { self.new.failures ≡ self.old.failures }
     {
         if self.failures > 0 || usize::from(customer) >= self.customers.len() {
             return Err(Error::SqliteFailure(ErrorCode::Closed));
@@ -99,8 +120,8 @@ impl<'a, R: Clock, S: Alter + Drop> SpoolKeeper<'a, R, S> {
 
     /// Counts a failure.
     fn fail(&mut self)
-        ensures counts { self.old ≤ self.new }
-        ensures counted { IsCounted self.old self.new }
+        ensures counts { self.old.failures ≤ self.new.failures }
+        ensures counted { IsCounted self.old.failures self.new.failures }
     {
         self.failures = self.failures.saturating_add(1);
     }
@@ -121,17 +142,14 @@ impl<'a, R: Clock, S: Alter + Drop> SpoolKeeper<'a, R, S> {
 
     /// Remembers what is kept of the files of a hub that was opened from the spool file, for customers of these names.
     fn remember(&mut self, hub: &Hub, names: &[Name]) -> Result<(), Error>
-        ensures { self.new ≡ self.old }
+        ensures same { self.new.failures ≡ self.old.failures }
+        ensures crash { Survives (shown S.Store self.old.store) (shown S.Store self.new.store) (λ _. ⊤) }
     {
         let alloc = self.writer.alloc;
         self.customers = customers_named(alloc, hub, names)?;
         let files = self.writer.store.files(alloc)?;
-        let found = remember_all(&mut self.customers, hub, names, &files);
-        let begun = match found {
-            Ok(skipped) => {
-                self.skipped = skipped;
-                self.writer.begin_numbers(&files)
-            }
+        let begun = match remember_all(&mut self.customers, hub, names, &files) {
+            Ok(()) => self.writer.begin_numbers(&files),
             Err(_) => Err(Error::SqliteFailure(ErrorCode::OutOfMemory)),
         };
         drop(files);
@@ -142,7 +160,7 @@ impl<'a, R: Clock, S: Alter + Drop> SpoolKeeper<'a, R, S> {
 impl<'a, R: Clock, S: Alter + Drop> Keeper for SpoolKeeper<'a, R, S> {
     ghost may_leave = { λ keeper left. ⊥ };
 
-    ghost count = { λ keeper. keeper };
+    ghost count = { λ keeper. keeper.failures };
 
     fn failures(&self) -> u64 {
         self.failures
@@ -160,11 +178,9 @@ impl<'a, R: Clock, S: Alter + Drop> Keeper for SpoolKeeper<'a, R, S> {
 }
 
 impl<'a, R: Clock, S: Alter + Drop> Depot for SpoolKeeper<'a, R, S> {
-    ghost use Rattle.std.specs.Prelude.{map};
-    ghost use Rattle.njh_hub.specs.Parts.{entries_of};
-    ghost use Rattle.njh_hub.specs.WholeHub.{SameLines, part_at_open};
+    ghost use Rattle.njh_kept.specs.Keeper.{IsOpenedFrom};
 
-    ghost opens = { λ keeper table parts. SameLines (map part_at_open (entries_of table)) parts };
+    ghost opens = { λ before behind table parts. IsOpenedFrom S.Store before behind table parts };
 
     fn open(&mut self, alloc: Global, tables: Tables) -> Result<Hub, DepotFault> {
         let names = match names_of(alloc, &tables) {
@@ -223,24 +239,34 @@ fn number_among(names: &[Name], text: &str) -> Option<u16> {
     number_of(names, text)
 }
 
-/// Remembers whole files of the spool file. Answers how many are of customers that aren't there.
+/// How many of these whole files are of customers without such a name.
+fn count_strangers(names: &[Name], files: &[StoredFile]) -> u32 {
+    let mut count = 0u32;
+    for stored in files {
+        if number_among(names, stored.file.customer.as_str()).is_none() {
+            count = count.saturating_add(1);
+        }
+    }
+    count
+}
+
+/// Remembers whole files of the spool file, but for those of customers that aren't there.
 fn remember_all(
     customers: &mut [OwnFiles],
     hub: &Hub,
     names: &[Name],
     files: &[StoredFile],
-) -> Result<u32, AllocError> {
-    let mut skipped = 0u32;
+) -> Result<(), AllocError> {
     for stored in files {
         match number_among(names, stored.file.customer.as_str()) {
             Some(customer) if usize::from(customer) < customers.len() => {
                 let own = &mut customers[usize::from(customer)];
                 remember_one(own, hub, customer, stored)?;
             }
-            _ => skipped = skipped.saturating_add(1),
+            _ => {}
         }
     }
-    Ok(skipped)
+    Ok(())
 }
 
 /// Remembers a whole file that was put back behind those that are remembered.

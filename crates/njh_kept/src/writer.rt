@@ -1,6 +1,8 @@
 //! Writes into a spool file.
 
-ghost use Rattle.std.specs.Prelude.{◌≤◌, ◌<◌, ◌^◌};
+ghost use Rattle.std.specs.Prelude.{◌≡◌, ◌≤◌, ◌<◌, ◌^◌, ⊤};
+ghost use Rattle.sqlite.specs.State.{Survives};
+ghost use Rattle.njh_store.specs.Shelf.{shown};
 
 use crate::own_files::KeptWhole;
 use njh_store::{KeptFile, KeptRecord, Store, StoredFile};
@@ -56,9 +58,16 @@ fn full() -> Error {
     Error::SqliteFailure(ErrorCode::DiskFull)
 }
 
+/// A file isn't where the last step left it, so nothing more can be kept.
+pub(crate) fn astray() -> Error {
+    Error::SqliteFailure(ErrorCode::DatabaseCorrupt)
+}
+
 impl<S: Alter + Drop> SpoolWriter<S> {
     /// Writes into a spool file that was just opened.
-    pub(crate) fn new(alloc: Global, store: Store<S>) -> SpoolWriter<S> {
+    pub(crate) fn new(alloc: Global, store: Store<S>) -> SpoolWriter<S>
+        ensures { result.store ≡ store }
+    {
         SpoolWriter {
             store,
             next_id: 1,
@@ -174,7 +183,9 @@ impl<S: Alter + Drop> SpoolWriter<S> {
     }
 
     /// The spool file.
-    pub(crate) fn into_store(self) -> Store<S> {
+    pub(crate) fn into_store(self) -> Store<S>
+        ensures { result ≡ self.store }
+    {
         let SpoolWriter {
             store,
             free_keys,
@@ -188,24 +199,43 @@ impl<S: Alter + Drop> SpoolWriter<S> {
 
     /// Begins behind the numbers of these files, which are all. What stands under numbers of no file is dropped, as far
     /// as it is looked for.
-    pub(crate) fn begin_numbers(&mut self, files: &[StoredFile]) -> Result<(), Error> {
-        for stored in files {
-            self.next_id = self.next_id.max(stored.id.saturating_add(1));
-            self.next_key = self.next_key.max(stored.file.key.saturating_add(1));
-        }
-        if self.next_key <= LOOKED_FOR {
-            let mut marks = vec![in self.alloc; false; LOOKED_FOR as usize]?;
-            mark_keys(&mut marks, files);
-            let emptied = self.empty_unmarked(&marks);
-            drop(marks);
-            emptied?;
-        }
+    pub(crate) fn begin_numbers(&mut self, files: &[StoredFile]) -> Result<(), Error>
+        ensures { Survives (shown S.Store self.old.store) (shown S.Store self.new.store) (λ _. ⊤) }
+    {
+        self.go_behind(files);
+        self.empty_others(files)?;
         self.store.commit()
     }
 
+    /// The next numbers are behind those of these files.
+    fn go_behind(&mut self, files: &[StoredFile])
+        ensures { self.new.store ≡ self.old.store }
+    {
+        'files: for stored in files {
+            self.next_id = self.next_id.max(stored.id.saturating_add(1));
+            self.next_key = self.next_key.max(stored.file.key.saturating_add(1));
+        }
+    }
+
+    /// Drops what stands under numbers of none of these files, as far as it is looked for.
+    fn empty_others(&mut self, files: &[StoredFile]) -> Result<(), Error>
+        ensures { Survives (shown S.Store self.old.store) (shown S.Store self.new.store) (λ _. ⊥) }
+    {
+        if self.next_key > LOOKED_FOR {
+            return Ok(());
+        }
+        let mut marks = vec![in self.alloc; false; LOOKED_FOR as usize]?;
+        mark_keys(&mut marks, files);
+        let emptied = self.empty_unmarked(&marks);
+        drop(marks);
+        emptied
+    }
+
     /// Drops what stands under numbers without a mark, up to a few behind those of files.
-    fn empty_unmarked(&mut self, marks: &[bool]) -> Result<(), Error> {
-        for key in 0..self.next_key.saturating_add(MARGIN) {
+    fn empty_unmarked(&mut self, marks: &[bool]) -> Result<(), Error>
+        ensures { Survives (shown S.Store self.old.store) (shown S.Store self.new.store) (λ _. ⊥) }
+    {
+        'keys: for key in 0..self.next_key.saturating_add(MARGIN) {
             let is_used = (key as usize) < marks.len() && marks[key as usize];
             if !is_used {
                 self.store.drop_records(key, 0, PLACES)?;
