@@ -67,6 +67,14 @@ pub(crate) fn serve_spool_file<F: Files + SpoolFiles + Net + Clock + AllocGlobal
         }
     };
     let mut keeper = SpoolKeeper::new(rt, rt.alloc(), store);
+    match log_strangers(rt, path, spool, &mut keeper, &mut log) {
+        Ok(()) => {}
+        Err(failure) => {
+            drop(keeper);
+            drop(log);
+            return Err(failure);
+        }
+    }
     let served = serve_over(rt, path, options, log, &mut keeper);
     let refusal = refusal_of(rt.alloc(), &keeper);
     drop(keeper);
@@ -76,6 +84,31 @@ pub(crate) fn serve_spool_file<F: Files + SpoolFiles + Net + Clock + AllocGlobal
             Ok(())
         }
         Err(failure) => Err(or_refusal(failure, refusal)),
+    }
+}
+
+/// Logs how many whole files of a spool file are of customers that the table file doesn't have, where there are any.
+fn log_strangers<F: Files + Clock + AllocGlobal, R: Clock, S: Alter + Drop, L: Write + Drop>(
+    rt: &F,
+    path: &str,
+    spool: &str,
+    keeper: &mut SpoolKeeper<'_, R, S>,
+    log: &mut Log<L>,
+) -> Result<(), Failure>
+    ensures { IfErr result IsFilesEnd }
+{
+    let Ok(tables) = tables_of(rt, Some(path)) else {
+        return Ok(());
+    };
+    let strangers = keeper.strangers(rt.alloc(), &tables);
+    drop(tables);
+    match strangers {
+        Ok(0) => Ok(()),
+        Ok(count) => {
+            log.write(utc_seconds(rt), &Strangers { spool, count });
+            Ok(())
+        }
+        Err(error) => Err(Failure::Files(FilesFault::from(error))),
     }
 }
 
@@ -132,7 +165,7 @@ fn serve_over<F: Files + Net + Clock + AllocGlobal, L: Write + Drop, D: Depot>(
     depot: &mut D,
 ) -> Result<(), Failure>
     ensures served { OnOk result ((tables : TableFile) × AreGiven (Some path.now) tables
-        × AreServedFrom D.opens D.may_leave tables options.turns) }
+        × AreServedFrom D.opens D.may_leave depot.old tables options.turns) }
     ensures refused { IfErr result (AreRefused (Some path.now)) }
 {
     // Before the tables are read, so that no change is missed.
@@ -209,6 +242,23 @@ fn why_unread<F: Files>(rt: &F, path: &str) -> &'static str {
             ErrorKind::PermissionDenied => "not permitted",
             _ => "not readable",
         },
+    }
+}
+
+/// Whole files of a spool file that are of customers which the table file doesn't have.
+#[derive(Clone, Copy, Drop)]
+struct Strangers<'a> {
+    spool: &'a str,
+    count: u32,
+}
+
+impl fmt::Display for Strangers<'_> {
+    fn fmt<W: fmt::Write>(&self, f: &mut fmt::Formatter<W>) -> fmt::Result {
+        write!(
+            f,
+            "spool file {}: {} files of customers that the table file doesn't have stay there",
+            self.spool, self.count
+        )
     }
 }
 
