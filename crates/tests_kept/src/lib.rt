@@ -1,0 +1,19 @@
+//! Tests of the keeper of a hub's whole files: after each step what a killed program would leave is what the hub has.
+#![tactic(auto)]
+
+#[cfg(test)]
+mod arrival_tests;
+#[cfg(test)]
+mod change_tests;
+#[cfg(test)]
+mod networks;
+#[cfg(test)]
+mod numbered_lines;
+#[cfg(test)]
+mod playing;
+#[cfg(test)]
+mod portion_tests;
+#[cfg(test)]
+mod same;
+#[cfg(test)]
+mod spool_files;

@@ -1,0 +1,58 @@
+//! The tables of two customers, whose networks have the same names.
+
+use njh_table::LineId;
+
+/// Both customers' hub is BUREAU, and both have LYON and METZ. Lines of ACME alone lead to NICE and to nowhere.
+pub const TABLES: &str = r#"
+capacity = 4000
+[[customer]]
+name = "ACME"
+hub = "BUREAU"
+quota = 2000
+files = 16
+line = [
+  { name = "a1", node = "LYON", role = "answer", block = 1024, streams = 4 },
+  { name = "a2", node = "METZ", role = "answer", block = 1024, streams = 4 },
+  { name = "a3", node = "NICE", role = "answer", block = 1024, streams = 4 },
+]
+route = [
+  { node = "LYON", line = "a1" },
+  { node = "METZ", line = "a2" },
+  { node = "NICE", line = "a3" },
+]
+[[customer]]
+name = "BOLT"
+hub = "BUREAU"
+quota = 2000
+files = 16
+line = [
+  { name = "b1", node = "LYON", role = "answer", block = 1024, streams = 4 },
+  { name = "b2", node = "METZ", role = "answer", block = 1024, streams = 4 },
+]
+route = [{ node = "LYON", line = "b1" }, { node = "METZ", line = "b2" }]
+"#;
+
+/// The customers' numbers.
+pub const CUSTOMERS: [u16; 2] = [0, 1];
+
+/// The line of a name.
+pub fn line_of(name: &str) -> Option<LineId> {
+    let (customer, number) = match name {
+        "a1" => (0, 0),
+        "a2" => (0, 1),
+        "a3" => (0, 2),
+        "b1" => (1, 0),
+        "b2" => (1, 1),
+        _ => return None,
+    };
+    Some(LineId { customer, number })
+}
+
+/// The number of the customer of a name.
+pub fn customer_of(name: &str) -> Option<u16> {
+    match name {
+        "ACME" => Some(0),
+        "BOLT" => Some(1),
+        _ => None,
+    }
+}

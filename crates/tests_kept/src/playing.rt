@@ -1,0 +1,141 @@
+//! Plays what peers send, in words, on a hub whose files are kept after each step, and looks at what is kept.
+
+use crate::networks::{CUSTOMERS, customer_of, line_of};
+use crate::numbered_lines::NumberedLines;
+use crate::same::{check_same, listing};
+use crate::spool_files::{FileKeeper, SpoolFiles, hub_of, kill};
+use njh_encode::encode_script;
+use njh_hub::{Hub, Keeper};
+use njh_table::LineId;
+use std::rt::HostRuntime;
+use std::str;
+use std::test::Fail;
+
+/// Behind this line the program is killed, and begins again.
+const KILL: &str = "# kill\n";
+
+/// Plays lines of words. Beside those of `encode` these are known:
+///
+/// `# kill`: the program is killed and begins again, with all lines down.
+/// `# cut 20`: of the file that follows 20 blocks come, up to `# uncut`.
+/// `# ACME has LYON.42 TO METZ PAUL OUT 4 RECORDS READY, ..`: these whole files of the customer are kept. Then and
+/// before the program is killed all that is kept is what the hub has.
+pub fn play(rt: &HostRuntime, name: &str, words: &str) -> Result<(), Fail> {
+    let alloc = rt.alloc();
+    let files = SpoolFiles::of(rt, name)?;
+    let mut script = Vec::new(alloc);
+    encode_script(alloc, &mut words.as_bytes(), &NumberedLines, &mut script)?;
+    for run in str::from_utf8(&script)?.split(KILL) {
+        play_run(&files, run)?;
+    }
+    Ok(())
+}
+
+/// Plays a run of the program, at whose end it is killed.
+fn play_run(files: &SpoolFiles<'_>, run: &str) -> Result<(), Fail> {
+    let mut keeper = files.keeper()?;
+    let played = play_kept(files, &mut keeper, run);
+    kill(keeper);
+    played
+}
+
+/// Plays a run with a keeper.
+fn play_kept(files: &SpoolFiles<'_>, keeper: &mut FileKeeper<'_>, run: &str) -> Result<(), Fail> {
+    let mut hub = hub_of(files.allocator(), keeper)?;
+    let mut left = u32::MAX;
+    for line in run.lines() {
+        if let Some(note) = line.strip_prefix("# ") {
+            left = take_note(files, &hub, note, left)?;
+        } else if left > 0 && !line.is_empty() {
+            left = left.saturating_sub(1);
+            play_event(files, keeper, &mut hub, line)?;
+        }
+    }
+    check_kept(files, &hub, "at the end", None)
+}
+
+/// Does what a note says, and answers how many blocks come from now on.
+fn take_note(files: &SpoolFiles<'_>, hub: &Hub, note: &str, left: u32) -> Result<u32, Fail> {
+    let (word, rest) = note.split_once(" ").unwrap_or((note, ""));
+    if word == "cut" {
+        return Ok(rest.parse::<u32>()?);
+    }
+    if word == "uncut" {
+        return Ok(u32::MAX);
+    }
+    if let (Some(customer), Some(wanted)) = (customer_of(word), rest.strip_prefix("has")) {
+        check_kept(files, hub, note, Some((customer, wanted.trim())))?;
+    }
+    Ok(left)
+}
+
+/// Plays a line of a script.
+fn play_event(
+    files: &SpoolFiles<'_>,
+    keeper: &mut FileKeeper<'_>,
+    hub: &mut Hub,
+    line: &str,
+) -> Result<(), Fail> {
+    let (event, rest) = line.split_once(" ").ok_or("no event")?;
+    let (name, digits) = rest.split_once(" ").unwrap_or((rest, ""));
+    let id = line_of(name).ok_or("no line")?;
+    let mut out = Vec::new(files.allocator());
+    match event {
+        "BYTES" => return play_bytes(files, keeper, hub, id, digits),
+        "TICK" => hub.tick(id, &mut out)?,
+        "LOST" => hub.lost(id, &mut out)?,
+        _ => return Err("no such event".into()),
+    }
+    keep(keeper, hub, id)
+}
+
+/// Plays bytes, in as many steps as they need.
+fn play_bytes(
+    files: &SpoolFiles<'_>,
+    keeper: &mut FileKeeper<'_>,
+    hub: &mut Hub,
+    id: LineId,
+    digits: &str,
+) -> Result<(), Fail> {
+    let bytes = hex::decode(files.allocator(), digits)?;
+    let mut left = bytes.as_slice();
+    for _ in 0..bytes.len() {
+        if left.is_empty() {
+            return Ok(());
+        }
+        let mut out = Vec::new(files.allocator());
+        let taken = hub.take(id, left, &mut out)?;
+        left = left.get(taken..).unwrap_or(&[]);
+        keep(keeper, hub, id)?;
+    }
+    Ok(())
+}
+
+/// Keeps what a step made of the files.
+fn keep(keeper: &mut FileKeeper<'_>, hub: &Hub, id: LineId) -> Result<(), Fail> {
+    if hub.used(id.customer).is_ok() {
+        keeper.keep(hub, id.customer)?;
+    }
+    Ok(())
+}
+
+/// Checks that what is kept is what the hub has, and that these files of a customer are, where they are given.
+fn check_kept(
+    files: &SpoolFiles<'_>,
+    hub: &Hub,
+    moment: &str,
+    wanted: Option<(u16, &str)>,
+) -> Result<(), Fail> {
+    let kept = files.hub_left()?;
+    for customer in CUSTOMERS {
+        check_same(&kept, hub, customer, moment)?;
+    }
+    let Some((customer, wanted)) = wanted else {
+        return Ok(());
+    };
+    let found = listing(files.allocator(), &kept, customer)?;
+    if found.as_str() != wanted {
+        return Err(Fail::new(format_args!("{found} is kept, and not {wanted}")));
+    }
+    Ok(())
+}
