@@ -5,7 +5,8 @@
 A hub is run, killed and run again, with one peer that sends files, holds, releases, reroutes and cancels them, each act
 behind the answer to the one before; so the listing behind each act is known, and each file's bytes. Then copies of the
 spool file and its log are damaged, one each time: the file cut at so many places and with a byte changed at so many
-places, the same for the log, and the log left out. It is asserted of each copy that
+places, the same for the log, for the file alone after SQLite put the log into it, and the log left out. It is asserted
+of each copy that
 
 - `njehub files` prints one of the listings that there were, in the order of the acts, with status 0; or nothing, with
   one line on standard error and status 2;
@@ -19,6 +20,7 @@ says "right", or the script ends with status 1 and says what is wrong.
 """
 
 import random
+import sqlite3
 import subprocess
 import sys
 
@@ -201,11 +203,19 @@ def wal_of(copy):
     return copy.with_name(copy.name + "-wal")
 
 
+def alone(copy):
+    """The file with all that was in its log, which is gone then."""
+    connection = sqlite3.connect(copy)
+    connection.execute("pragma wal_checkpoint(truncate)")
+    connection.close()
+    return copy
+
+
 def harms(built, places, chance):
     """Each kind of damage, as its name and what is done to a copy at each of its places."""
     served = built.runs.served
-    for name, of in (("file", lambda copy: copy), ("log", wal_of)):
-        path = of(served.spool)
+    for name, of in (("file", lambda copy: copy), ("log", wal_of), ("alone", alone)):
+        path = of(served.copy(built.runs.folder / "sized"))
         size = path.stat().st_size if path.exists() else 0
         print(f"the {name} has {size} bytes")
         if size:
