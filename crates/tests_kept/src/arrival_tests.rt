@@ -70,6 +70,37 @@ a1: sign on as LYON block 1024
 # ACME has LYON.4 TO METZ PAUL OUT 4 RECORDS READY, LYON.6 TO METZ PAUL OUT 4 RECORDS READY
 "#;
 
+/// METZ is sent two files and takes one before the line is lost.
+const TAKEN: &str = r#"
+a1: contact
+a1: sign on as LYON block 1024
+a1: file LYON.1 of ANNA to PAUL@METZ, lines from 2
+a1: file LYON.2 of ANNA to PAUL@METZ, lines from 3
+a1: file LYON.3 of ANNA to PAUL@METZ, lines from 4
+a2: contact
+a2: sign on as METZ block 1024
+a2: ack
+a2: permit SYSOUT 1
+# ACME has LYON.1 TO METZ PAUL OUT 5 RECORDS READY, LYON.2 TO METZ PAUL OUT 6 RECORDS READY, LYON.3 TO METZ PAUL OUT 7 RECORDS READY
+a2: complete SYSOUT 1
+# ACME has LYON.2 TO METZ PAUL OUT 6 RECORDS READY, LYON.3 TO METZ PAUL OUT 7 RECORDS READY
+a2: permit SYSOUT 1
+a2: lost
+# ACME has LYON.2 TO METZ PAUL OUT 6 RECORDS READY, LYON.3 TO METZ PAUL OUT 7 RECORDS READY
+# kill
+a1: contact
+a1: sign on as LYON block 1024
+a2: contact
+a2: sign on as METZ block 1024
+a2: ack
+a2: permit SYSOUT 1
+a2: complete SYSOUT 1
+# ACME has LYON.3 TO METZ PAUL OUT 7 RECORDS READY
+a2: permit SYSOUT 2
+a2: complete SYSOUT 2
+# ACME has
+"#;
+
 /// Each customer's files are kept under its own name.
 #[test]
 fn names_are_apart(rt: HostRuntime) -> Result<(), Fail> {
@@ -86,4 +117,10 @@ fn order_is_kept(rt: HostRuntime) -> Result<(), Fail> {
 #[test]
 fn one_step_is_kept(rt: HostRuntime) -> Result<(), Fail> {
     play(&rt, "one_step_is_kept", AT_ONCE)
+}
+
+/// A file leaves once its peer has it.
+#[test]
+fn taken_files_leave(rt: HostRuntime) -> Result<(), Fail> {
+    play(&rt, "taken_files_leave", TAKEN)
 }
