@@ -2,3 +2,4 @@ pub mod CountLaws
 pub mod RowLaws
 pub mod TableLaws
 pub mod UpLaws
+pub mod AnsweringLaws

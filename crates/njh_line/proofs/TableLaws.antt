@@ -22,7 +22,7 @@ use Rattle.njh_line.specs.LineTable.{Input, Enquiry, Ack0, Nak, Eot, Lost, Tick,
 use Rattle.njh_line.specs.LineTable.{table_outcome, act, by_count, call, cell, contact, end, end_with, i_sign_on}
 use Rattle.njh_line.specs.LineTable.{j_sign_on, none, signed_on, try_again, try_with, with_reply}
 use Rattle.njh_line.specs.Openings.{First}
-use Rattle.njh_line.specs.Sessions.{down_session, in_session}
+use Rattle.njh_line.specs.Sessions.{in_session}
 use Rattle.njh_line.proofs.CountLaws.{clash}
 use Rattle.njh_line.proofs.RowLaws as rows
 

@@ -1,6 +1,7 @@
 //! Laws of the line table, each the contract of a function that does nothing.
 
 ghost use Rattle.std.specs.Prelude.{◌≡◌, ℕ, ◌+◌, ◌%◌, ◌<◌, ◌≤◌, ◌==◌, ◌||◌, Bool, true, false, Option, Some, None};
+ghost use Rattle.njh_line.specs.Answering.{ActingIsAnswered, DownStaysDown};
 ghost use Rattle.njh_line.specs.declared.config.Config.{Config};
 ghost use Rattle.njh_line.specs.declared.counts.Counted.TheVariants.{Acts, Repeats, OutOfSequence};
 ghost use Rattle.njh_line.specs.declared.session.Session.{Session};
@@ -65,4 +66,11 @@ pub fn sessions_begin_afresh()
 /// A line that is up stays so until its session ends, and then it isn't.
 pub fn inputs_keep_up()
     ensures { InputsKeepUp }
+{}
+
+/// A block whose records act is answered by the next block, or by ACK0 in its place. On a line that is down what comes
+/// does nothing and leaves it down, or a control frame is sent for it; no record acts.
+pub fn inputs_are_answered()
+    ensures acting { ActingIsAnswered }
+    ensures down { DownStaysDown }
 {}
