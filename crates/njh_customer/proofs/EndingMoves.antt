@@ -26,7 +26,7 @@ marked_ready n state (f ∷ fs) = at_number (f.number == n) (marked_ready n stat
     at_number true rest = ap (λ more. ready f ∷ more) rest
     at_number false rest = ap (λ more. ready f ∷ more) rest
 
-tried_ready : (entry : CustomerEntry) (l : ℕ) (files : List WholeFile) → map ready (map (λ f. cond (may_go_again entry l f) (ready f) f) files) ≡ map ready files
+pub tried_ready : (entry : CustomerEntry) (l : ℕ) (files : List WholeFile) → map ready (map (λ f. cond (may_go_again entry l f) (ready f) f) files) ≡ map ready files
 tried_ready entry l [] = refl
 tried_ready entry l (f ∷ fs) = at_test (may_go_again entry l f) (tried_ready entry l fs)
   where
@@ -47,7 +47,7 @@ ended_ready x s = at_file (file_in x)
     at_file None = refl
     at_file (Some n) = marked_ready n Ready s.whole
 
-all_ended_ready : (xs : List Sender) (s : CustomerSpool) → map ready (all_ended xs s).whole ≡ map ready s.whole
+pub all_ended_ready : (xs : List Sender) (s : CustomerSpool) → map ready (all_ended xs s).whole ≡ map ready s.whole
 all_ended_ready [] s = refl
 all_ended_ready (x ∷ xs) s = all_ended_ready xs (spool_after_session x s) ∙ ended_ready x s
 
@@ -69,7 +69,7 @@ ended_arrived x s = at_file (file_in x)
     at_file None = refl
     at_file (Some n) = refl
 
-all_ended_arrived : (xs : List Sender) (s : CustomerSpool) → (all_ended xs s).arrived ≡ s.arrived
+pub all_ended_arrived : (xs : List Sender) (s : CustomerSpool) → (all_ended xs s).arrived ≡ s.arrived
 all_ended_arrived [] s = refl
 all_ended_arrived (x ∷ xs) s = all_ended_arrived xs (spool_after_session x s) ∙ ended_arrived x s
 

@@ -29,3 +29,11 @@ pub mod NewRouteLaws
 pub mod RoutesMoves
 pub mod KeepingLaws
 pub mod MarkLaws
+pub mod GrowingLaws
+pub mod PartialNumbers
+pub mod RecordsGrow
+pub mod BlockSizes
+pub mod RestLengths
+pub mod SendingGrows
+pub mod DownLines
+pub mod StepsGrow

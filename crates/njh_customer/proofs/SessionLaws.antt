@@ -59,7 +59,7 @@ ended_limits x s = at_file (file_in x)
     at_file None = refl
     at_file (Some n) = refl
 
-all_ended_partial : (xs : List Sender) (s : CustomerSpool) → (all_ended xs s).partial ≡ s.partial
+pub all_ended_partial : (xs : List Sender) (s : CustomerSpool) → (all_ended xs s).partial ≡ s.partial
 all_ended_partial [] s = refl
 all_ended_partial (x ∷ xs) s = all_ended_partial xs (spool_after_session x s) ∙ ended_partial x s
 

@@ -1,8 +1,7 @@
 -- Which of a customer's whole files are still there after moves.
 use Rattle.std.proofs.Common.{◌≡◌, ◌<◌, ◌≤◌, ℕ, zero, suc, ◌+◌, ◌-◌, Bool, true, false, cond, not, ◌==◌, ◌⊎◌, inl, inr}
-use Rattle.std.proofs.Common.{List, [], ◌∷◌, ◌++◌, length, map, filter, find, count_by, take, Option, Some, None, IsSomeAnd}
-use Rattle.std.proofs.Common.{refl, sym, ap, subst, ◌∙◌, arith, length-append, append_assoc, append-nil, eq-eqb, ne_eqb}
-use Rattle.std.proofs.lemmas.Bool.{eqb-true}
+use Rattle.std.proofs.Common.{List, [], ◌∷◌, ◌++◌, length, map, filter, find, count_by, take, Some, None, IsSomeAnd}
+use Rattle.std.proofs.Common.{refl, sym, ap, subst, ◌∙◌, arith, length-append, append_assoc, append-nil, eq-eqb}
 use Rattle.std.proofs.lemmas.List.{take-append-le}
 use Rattle.std.proofs.lemmas.List.Elements.{Contains-append_cases, Contains-push_cases}
 use Rattle.std.proofs.lemmas.List.Sums.{sum_by-cons}
@@ -31,7 +30,7 @@ use Rattle.njh_customer.specs.Moves.{Acts, Coming, Records, Routes, LeadsByMoves
 use Rattle.njh_customer.specs.Moves.{by_record, by_sending, by_end, Sends, without_files, busy_numbers, with_changed}
 use Rattle.njh_customer.specs.MovingLaws.{EventsMoveSo, TakesMoveSo, coming}
 use Rattle.njh_customer.specs.Surviving.{IsRerouted, as_before, to_node, IsStill, Survive, none, stays, leaves, FilesGoOn}
-use Rattle.njh_customer.specs.Surviving.{FilesSurvive, EventsKeepFiles, TakesKeepFiles, files_before, FirstFilesSurvive}
+use Rattle.njh_customer.specs.Surviving.{FilesSurvive, EventsKeepFiles, TakesKeepFiles, FirstFilesSurvive}
 use Rattle.njh_customer.specs.Surviving.{FilesGoOnFurther, RunsKeepFiles, SurvivorsAreNumbered}
 use Rattle.njh_customer.specs.Runs.{OwnBytes, alone_run, event_run}
 use Rattle.njh_customer.specs.Part.{part_after_bytes}
@@ -49,12 +48,12 @@ is_same before now number kind records =
 itself : (f : WholeFile) → IsStill f f
 itself f = is_same f f refl refl refl
 
-rerouted_then : (kind : Kind) (a b c : List Stored) → IsRerouted kind a b → IsRerouted kind b c → IsRerouted kind a c
+pub rerouted_then : (kind : Kind) (a b c : List Stored) → IsRerouted kind a b → IsRerouted kind b c → IsRerouted kind a c
 rerouted_then kind _ _ c (as_before records) second = second
 rerouted_then kind _ _ c (to_node node before after is more) second =
     to_node node before c is (rerouted_then kind (records_to_node kind node None before) after c more second)
 
-still_then : (f g h : WholeFile) → IsStill f g → IsStill g h → IsStill f h
+pub still_then : (f g h : WholeFile) → IsStill f g → IsStill g h → IsStill f h
 still_then f g h first second =
     record {
       number = second.number ∙ first.number;
@@ -65,15 +64,15 @@ still_then f g h first second =
 
 -- ---- files that are still there
 
-all_still : (h : WholeFile → WholeFile) → ((f : WholeFile) → IsStill f (h f)) → (fs : List WholeFile) → Survive fs (map h fs)
+pub all_still : (h : WholeFile → WholeFile) → ((f : WholeFile) → IsStill f (h f)) → (fs : List WholeFile) → Survive fs (map h fs)
 all_still h each [] = none
 all_still h each (f ∷ fs) = stays f (h f) fs (map h fs) (each f) (all_still h each fs)
 
-same_files : (fs : List WholeFile) → Survive fs fs
+pub same_files : (fs : List WholeFile) → Survive fs fs
 same_files [] = none
 same_files (f ∷ fs) = stays f f fs fs (itself f) (same_files fs)
 
-some_still : (p : WholeFile → Bool) (fs : List WholeFile) → Survive fs (filter p fs)
+pub some_still : (p : WholeFile → Bool) (fs : List WholeFile) → Survive fs (filter p fs)
 some_still p [] = none
 some_still p (f ∷ fs) = at_test (p f) (some_still p fs)
   where
@@ -81,7 +80,7 @@ some_still p (f ∷ fs) = at_test (p f) (some_still p fs)
     at_test true rest = stays f f fs (filter p fs) (itself f) rest
     at_test false rest = leaves f fs (filter p fs) rest
 
-but_states : (fs gs : List WholeFile) → map ready gs ≡ map ready fs → Survive fs gs
+pub but_states : (fs gs : List WholeFile) → map ready gs ≡ map ready fs → Survive fs gs
 but_states [] [] e = none
 but_states [] (g ∷ gs) e = absurd (cc e)
 but_states (f ∷ fs) [] e = absurd (cc e)
@@ -94,27 +93,27 @@ all_gone : (fs : List WholeFile) → Survive fs []
 all_gone [] = none
 all_gone (f ∷ fs) = leaves f fs [] (all_gone fs)
 
-survive_then : (fs gs hs : List WholeFile) → Survive fs gs → Survive gs hs → Survive fs hs
+pub survive_then : (fs gs hs : List WholeFile) → Survive fs gs → Survive gs hs → Survive fs hs
 survive_then _ _ hs none second = second
 survive_then _ gs hs (leaves f fs _ more) second = leaves f fs hs (survive_then fs gs hs more second)
 survive_then _ _ _ (stays f g fs gs one more) (stays _ h _ hs next later) =
     stays f h fs hs (still_then f g h one next) (survive_then fs gs hs more later)
 survive_then _ _ hs (stays f g fs gs one more) (leaves _ _ _ later) = leaves f fs hs (survive_then fs gs hs more later)
 
-no_more : (fs gs : List WholeFile) → Survive fs gs → length gs ≤ length fs
+pub no_more : (fs gs : List WholeFile) → Survive fs gs → length gs ≤ length fs
 no_more _ _ none = omega arith
 no_more _ _ (stays f g fs gs one more) = omega (arith, no_more fs gs more)
 no_more _ _ (leaves f fs gs more) = omega (arith, no_more fs gs more)
 
 -- those of two lists, one behind the other
-record SurviveBoth (fs gs still : List WholeFile) : Type 0 where
-  first : List WholeFile
-  second : List WholeFile
-  both : still ≡ first ++ second
-  of_first : Survive fs first
-  of_second : Survive gs second
+pub record SurviveBoth (fs gs still : List WholeFile) : Type 0 where
+  pub first : List WholeFile
+  pub second : List WholeFile
+  pub both : still ≡ first ++ second
+  pub of_first : Survive fs first
+  pub of_second : Survive gs second
 
-survive_both : (fs gs still : List WholeFile) → Survive (fs ++ gs) still → SurviveBoth fs gs still
+pub survive_both : (fs gs still : List WholeFile) → Survive (fs ++ gs) still → SurviveBoth fs gs still
 survive_both [] gs still all = record { first = []; second = still; both = refl; of_first = none; of_second = all }
 survive_both (f ∷ fs) gs _ (stays _ g _ still one more) =
     let rest = survive_both fs gs still more in
@@ -172,7 +171,7 @@ goes_on_then x y z first second =
       counted = omega (arith, first.counted, second.counted, length-append parts.second second.new, no_more first.new parts.second parts.of_second);
     }
 
-changed_still :
+pub changed_still :
     (p : WholeFile → Bool) (change : WholeFile → WholeFile) → ((f : WholeFile) → IsStill f (change f)) → (f : WholeFile)
     → IsStill f (changed_file p change f)
 changed_still p change each f = at_test (may_change p f)
@@ -181,10 +180,10 @@ changed_still p change each f = at_test (may_change p f)
     at_test true = each f
     at_test false = itself f
 
-in_state_still : (s : State) (f : WholeFile) → IsStill f (record f { state = s })
+pub in_state_still : (s : State) (f : WholeFile) → IsStill f (record f { state = s })
 in_state_still s f = is_same f (record f { state = s }) refl refl refl
 
-marked_still : (n : ℕ) (s : State) (fs : List WholeFile) → Survive fs (with_file_state n s fs)
+pub marked_still : (n : ℕ) (s : State) (fs : List WholeFile) → Survive fs (with_file_state n s fs)
 marked_still n s fs = all_still (λ f. cond (f.number == n) (record f { state = s }) f) each fs
   where
     at_test : (b : Bool) (f : WholeFile) → IsStill f (cond b (record f { state = s }) f)
@@ -194,7 +193,7 @@ marked_still n s fs = all_still (λ f. cond (f.number == n) (record f { state = 
     each : (f : WholeFile) → IsStill f (cond (f.number == n) (record f { state = s }) f)
     each f = at_test (f.number == n) f
 
-held_still : (entry : CustomerEntry) (fs : List WholeFile) → Survive fs (map (λ f. cond (has_lost_route entry f) (held_file f) f) fs)
+pub held_still : (entry : CustomerEntry) (fs : List WholeFile) → Survive fs (map (λ f. cond (has_lost_route entry f) (held_file f) f) fs)
 held_still entry fs = all_still (λ f. cond (has_lost_route entry f) (held_file f) f) each fs
   where
     at_test : (b : Bool) (f : WholeFile) → IsStill f (cond b (held_file f) f)
@@ -210,7 +209,7 @@ without_files_arrived (n ∷ ns) x = without_files_arrived ns (each_stream (with
 
 module _ (by_records : (kind : Kind) (node : List ℕ) (records : List Stored) → records_to_node kind node None records ≡ with_destination kind node records)
     (names : ReroutesNameNodes) where
-  rerouted_still : (node : List ℕ) → is_name node ≡ true → (f : WholeFile) → IsStill f (with_new_destination node f)
+  pub rerouted_still : (node : List ℕ) → is_name node ≡ true → (f : WholeFile) → IsStill f (with_new_destination node f)
   rerouted_still node is f =
       record {
         number = refl;

@@ -13,6 +13,7 @@ pub mod Moves
 pub mod FrameEffects
 pub mod MovingLaws
 pub mod Surviving
+pub mod Growing
 pub mod Disregarding
 pub mod NewRoutes
 pub mod code

@@ -5,6 +5,9 @@ ghost use Rattle.njh_table.specs.Entries.{CustomerEntry};
 ghost use Rattle.njh_customer.specs.Customer.{fresh_customer};
 ghost use Rattle.njh_customer.specs.code.Coherence.{IsCoherent};
 ghost use Rattle.njh_customer.specs.Disregarding.{BadBlocksAreDisregarded, GarbledIsDisregarded, SpoiledIsDisregarded};
+ghost use Rattle.njh_customer.specs.Growing.{EventsKeepShortRests, FilesGrowFurther, ManyRecordsGoOn};
+ghost use Rattle.njh_customer.specs.Growing.{OpenedHasShortRests, PartialsAreNumbered, ReroutesKeepCounts};
+ghost use Rattle.njh_customer.specs.Growing.{RoutesGrowFiles, SignalsGrowFiles, TakesGrowFiles, TakesKeepShortRests};
 ghost use Rattle.njh_customer.specs.Laws.{CutsAreLike, FirstBytesSendFirst, NoBytesDoNothing, StepsFollowBytes};
 ghost use Rattle.njh_customer.specs.Laws.{EventsKeepEntries, EventsKeepFaults, EventsKeepLines, MarksAreRight};
 ghost use Rattle.njh_customer.specs.Laws.{TakesKeepEntries};
@@ -16,7 +19,7 @@ ghost use Rattle.njh_customer.specs.Surviving.{RunsKeepFiles, SurvivorsAreNumber
 
 use njh_command::{commands_move_files_so, reroutes_name_nodes};
 use njh_header::redirected_by_records;
-use njh_line::inputs_keep_up;
+use njh_line::{inputs_are_answered, inputs_keep_up};
 use njh_sched::{
     blocks_carry_files_in_order, nothing_where_all_is_suspended, sources_fill_the_block,
     sources_move_streams_so,
@@ -120,6 +123,32 @@ pub fn files_survive()
     redirected_by_records();
     reroutes_name_nodes();
     events_move_so();
+}
+
+/// What becomes of a customer's files whose end hasn't come, in a step by bytes of a line, by a signal and by new
+/// routes. A file that becomes whole, and a file that is partial afterwards, goes on from a partial file of its number
+/// and its kind: it has that one's records, and behind them at most as many as the step brought; or it has no more
+/// than these. So a file with more has that partial file's records, but for what REROUTE wrote once it was whole. The
+/// records of one block at most act in a step, of which fewer than 1,366 have data; by a signal and by new routes none
+/// comes. What has come of a line's next frame must be of no more than the 4,096 bytes of a text, and it is, whatever
+/// came since the customer was opened. Which partial file it was says its number. A file that was given up just isn't
+/// there.
+pub fn files_grow()
+    ensures takes { TakesGrowFiles }
+    ensures signals { SignalsGrowFiles }
+    ensures routes { RoutesGrowFiles }
+    ensures further { FilesGrowFurther }
+    ensures opened { OpenedHasShortRests }
+    ensures events { EventsKeepShortRests }
+    ensures steps { TakesKeepShortRests }
+    ensures rerouted { ReroutesKeepCounts }
+    ensures many { ManyRecordsGoOn }
+    ensures numbers { PartialsAreNumbered }
+{
+    redirected_by_records();
+    reroutes_name_nodes();
+    commands_move_files_so();
+    inputs_are_answered();
 }
 
 /// How a stream from the hub moves. It takes a file only where it is idle. A0 makes it send the file it asked for, from

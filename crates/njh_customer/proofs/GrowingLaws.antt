@@ -1,0 +1,256 @@
+-- How a customer's files grow from one spool to another, and which become whole.
+use Rattle.std.proofs.Common.{◌≡◌, ◌<◌, ◌≤◌, ℕ, ◌+◌, Bool, true, false, cond, not, ◌==◌, ◌⊎◌, inl, inr, List, [], ◌∷◌}
+use Rattle.std.proofs.Common.{◌++◌, length, find, Option, Some, None, refl, sym, ap, subst, ◌∙◌, arith, length-append}
+use Rattle.std.proofs.Common.{append_assoc, append-nil}
+use Rattle.std.proofs.lemmas.List.Elements.{Contains-append_cases, Contains-append_right, Contains-push_cases}
+use Rattle.std.specs.List.{Contains}
+use Rattle.njh_header.specs.Redirecting.{records_to_node}
+use Rattle.njh_record.specs.Stored.{Stored}
+use Rattle.njh_record.specs.declared.Kind.{Kind}
+use Rattle.njh_spool.specs.CustomerSpool.{CustomerSpool, PartialFile, WholeFile, max_arrived, next_number}
+use Rattle.njh_spool.specs.CustomerSpool.{with_new_partial, with_appended, without_partial, as_whole, with_arrived}
+use Rattle.njh_spool.specs.CustomerSpool.{partial_numbered, with_finished}
+use Rattle.njh_customer.specs.Surviving.{IsRerouted, as_before, to_node, IsStill, Survive, none, stays, leaves}
+use Rattle.njh_customer.specs.Growing.{HasCome, few, goes_on, HasBecomeWhole, FilesGrow, FilesGrowFurther}
+use Rattle.njh_customer.specs.Growing.{ReroutesKeepCounts, ManyRecordsGoOn}
+use Rattle.njh_customer.proofs.FileListLaws.{from_map, from_filter}
+use Rattle.njh_customer.proofs.SurvivingLaws.{rerouted_then, same_files, survive_then, no_more, SurviveBoth, survive_both}
+
+-- ---- records that have come
+
+more_come :
+    (j k : ℕ) (before : List PartialFile) (n : ℕ) (kind : Kind) (rs : List Stored) → j ≤ k → HasCome j before n kind rs
+    → HasCome k before n kind rs
+more_come j k before n kind rs within (few short) = few (omega (arith, within, short))
+more_come j k before n kind rs within (goes_on f more at number same short is) = goes_on f more at number same (omega (arith, within, short)) is
+
+come_then :
+    (j k : ℕ) (x y : List PartialFile) → ((f : PartialFile) → Contains y f → HasCome j x f.number f.kind f.records) → (n : ℕ) (kind : Kind) (rs : List Stored)
+    → HasCome k y n kind rs → HasCome (j + k) x n kind rs
+come_then j k x y each n kind rs (few short) = few (omega (arith, short))
+come_then j k x y each n kind rs (goes_on f more at number same short is) = at_file (each f at)
+  where
+    at_file : HasCome j x f.number f.kind f.records → HasCome (j + k) x n kind rs
+    at_file (few less) =
+        few (omega (arith, less, short, ap (λ (all : List Stored). length all) is, length-append f.records more))
+    at_file (goes_on e first there before_number before_kind less was) =
+        goes_on e (first ++ more) there (before_number ∙ number) (before_kind ∙ same) (omega (arith, less, short, length-append first more))
+        (is ∙ ap (λ all. all ++ more) was ∙ append_assoc e.records first more)
+
+-- a partial file that stays
+pub left_come : (before : List PartialFile) (f : PartialFile) → Contains before f → HasCome 0 before f.number f.kind f.records
+left_come before f at = goes_on f [] at refl refl (omega arith) (sym (append-nil f.records))
+
+-- ---- a file that became whole
+
+later_whole : (k : ℕ) (before : List PartialFile) (f g : WholeFile) → IsStill f g → HasBecomeWhole k before f → HasBecomeWhole k before g
+later_whole k before f g still whole =
+    record {
+      came = whole.came;
+      has_come = subst (λ n. HasCome k before n g.kind whole.came) (sym still.number)
+          (subst (λ kind. HasCome k before f.number kind whole.came) (sym still.kind) whole.has_come);
+      records = subst (λ kind. IsRerouted kind whole.came g.records) (sym still.kind)
+          (rerouted_then f.kind whole.came f.records g.records whole.records still.records);
+    }
+
+-- one of those that are still there was there
+was_there : (fs gs : List WholeFile) → Survive fs gs → (g : WholeFile) → Contains gs g → (f : WholeFile) × Contains fs f × IsStill f g
+was_there _ _ none g at = absurd (omega (arith, at.1))
+was_there _ _ (leaves f fs gs more) g at =
+    let found = was_there fs gs more g at in
+    (found.0, Contains-append_right (f ∷ []) fs found.0 found.1, found.2)
+was_there _ _ (stays f h fs gs one more) g at = at_first (Contains-append_cases (h ∷ []) gs g at) (was_there fs gs more g)
+  where
+    at_only : Contains {X = WholeFile} [] g ⊎ (h ≡ g) → (e : WholeFile) × Contains (f ∷ fs) e × IsStill e g
+    at_only (inl none_there) = absurd (omega (arith, none_there.1))
+    at_only (inr same) = (f, (0, omega arith, refl), subst (IsStill f) same one)
+
+    at_first :
+        Contains (h ∷ []) g ⊎ Contains gs g → (Contains gs g → (e : WholeFile) × Contains fs e × IsStill e g)
+        → (e : WholeFile) × Contains (f ∷ fs) e × IsStill e g
+    at_first (inl first) rest = at_only (Contains-push_cases [] h g first)
+    at_first (inr later) rest =
+        let found = rest later in
+        (found.0, Contains-append_right (f ∷ []) fs found.0 found.1, found.2)
+
+-- ---- one thing and then another
+
+pub grow_then : FilesGrowFurther
+grow_then j k x y z first second =
+    record {
+      still = parts.first;
+      new = parts.second ++ second.new;
+      files =
+          second.files ∙ ap (λ files. files ++ second.new) parts.both ∙ append_assoc parts.first parts.second second.new;
+      survive = survive_then x.whole first.still parts.first first.survive parts.of_first;
+      counted = counted;
+      became_whole = λ f at. became_whole f (Contains-append_cases parts.second second.new f at);
+      partial = λ f at. come_then j k x.partial y.partial first.partial f.number f.kind f.records (second.partial f at);
+    }
+  where
+    parts : SurviveBoth first.still first.new second.still
+    parts = survive_both first.still first.new second.still (subst (λ files. Survive files second.still) first.files second.survive)
+
+    counted : z.arrived < max_arrived → x.arrived + length (parts.second ++ second.new) ≤ z.arrived
+    counted below =
+        let later = second.counted below in
+        omega (
+          arith,
+          first.counted (omega (arith, later, below)),
+          later,
+          length-append parts.second second.new,
+          no_more first.new parts.second parts.of_second,
+        )
+
+    became_whole : (f : WholeFile) → Contains parts.second f ⊎ Contains second.new f → HasBecomeWhole (j + k) x.partial f
+    became_whole f (inl at) =
+        let found = was_there first.new parts.second parts.of_second f at in
+        let whole = later_whole j x.partial found.0 f found.2 (first.became_whole found.0 found.1) in
+        record {
+          came = whole.came;
+          has_come = more_come j (j + k) x.partial f.number f.kind whole.came (omega arith) whole.has_come;
+          records = whole.records;
+        }
+    became_whole f (inr at) =
+        let whole = second.became_whole f at in
+        record {
+          came = whole.came;
+          has_come = come_then j k x.partial y.partial first.partial f.number f.kind whole.came whole.has_come;
+          records = whole.records;
+        }
+
+pub grow_within : (j k : ℕ) (x y : CustomerSpool) → j ≤ k → FilesGrow j x y → FilesGrow k x y
+grow_within j k x y within grow =
+    record {
+      still = grow.still;
+      new = grow.new;
+      files = grow.files;
+      survive = grow.survive;
+      counted = grow.counted;
+      became_whole = λ f at.
+          let whole = grow.became_whole f at in
+          record {
+            came = whole.came;
+            has_come = more_come j k x.partial f.number f.kind whole.came within whole.has_come;
+            records = whole.records;
+          };
+      partial = λ f at. more_come j k x.partial f.number f.kind f.records within (grow.partial f at);
+    }
+
+pub then_quietly : (k : ℕ) (x y z : CustomerSpool) → FilesGrow k x y → FilesGrow 0 y z → FilesGrow k x z
+then_quietly k x y z first second = grow_within (k + 0) k x z (omega arith) (grow_then k 0 x y z first second)
+
+pub quietly_then : (k : ℕ) (x y z : CustomerSpool) → FilesGrow 0 x y → FilesGrow k y z → FilesGrow k x z
+quietly_then k x y z first second = grow_within (0 + k) k x z (omega arith) (grow_then 0 k x y z first second)
+
+-- ---- what leaves most as it is
+
+-- none has become whole
+pub none_whole :
+    (k : ℕ) (x y : CustomerSpool) → Survive x.whole y.whole → y.arrived ≡ x.arrived
+    → ((f : PartialFile) → Contains y.partial f → HasCome k x.partial f.number f.kind f.records) → FilesGrow k x y
+none_whole k x y survive same each =
+    record {
+      still = y.whole;
+      new = [];
+      files = sym (append-nil y.whole);
+      survive = survive;
+      counted = λ below. omega (arith, same);
+      became_whole = λ f at. absurd (omega (arith, at.1));
+      partial = each;
+    }
+
+-- and no partial file has changed
+pub quiet : (x y : CustomerSpool) → Survive x.whole y.whole → y.arrived ≡ x.arrived → y.partial ≡ x.partial → FilesGrow 0 x y
+quiet x y survive same partial =
+    none_whole 0 x y survive same (λ f at. left_come x.partial f (subst (λ (fs : List PartialFile). Contains fs f) partial at))
+
+pub unchanged : (x : CustomerSpool) → FilesGrow 0 x x
+unchanged x = quiet x x (same_files x.whole) refl refl
+
+-- ---- what becomes of partial files
+
+pub without_grows : (n : ℕ) (s : CustomerSpool) → FilesGrow 0 s (without_partial n s)
+without_grows n s =
+    none_whole 0 s (without_partial n s) (same_files s.whole) refl
+    (λ f at. left_come s.partial f (from_filter (λ (g : PartialFile). not (g.number == n)) s.partial f at))
+
+pub begun_grows : (kind : Kind) (s : CustomerSpool) → FilesGrow 0 s (with_new_partial kind s)
+begun_grows kind s =
+    none_whole 0 s (with_new_partial kind s) (same_files s.whole) refl (λ f at. at_last f (Contains-push_cases s.partial begun f at))
+  where
+    begun : PartialFile
+    begun = record { number = next_number s; kind = kind; records = [] }
+
+    at_last : (f : PartialFile) → Contains s.partial f ⊎ (begun ≡ f) → HasCome 0 s.partial f.number f.kind f.records
+    at_last f (inl there) = left_come s.partial f there
+    at_last f (inr same) = subst (λ (g : PartialFile). HasCome 0 s.partial g.number g.kind g.records) same (few (omega arith))
+
+pub appended_grows : (n : ℕ) (r : Stored) (s : CustomerSpool) → FilesGrow 1 s (with_appended n r s)
+appended_grows n r s = none_whole 1 s (with_appended n r s) (same_files s.whole) refl (λ g at. at_map g (from_map one s.partial g g at))
+  where
+    with_record : PartialFile → PartialFile
+    with_record f = record f { records = f.records ++ r ∷ [] }
+
+    one : PartialFile → PartialFile
+    one f = cond (f.number == n) (with_record f) f
+
+    by_test : (b : Bool) (g f : PartialFile) → Contains s.partial f → g ≡ cond b (with_record f) f → HasCome 1 s.partial g.number g.kind g.records
+    by_test true g f there e =
+        goes_on f (r ∷ []) there (sym (ap (λ h. h.number) e)) (sym (ap (λ h. h.kind) e)) (omega arith) (ap (λ h. h.records) e)
+    by_test false g f there e =
+        goes_on f [] there (sym (ap (λ h. h.number) e)) (sym (ap (λ h. h.kind) e)) (omega arith) (ap (λ h. h.records) e ∙ sym (append-nil f.records))
+
+    at_map : (g : PartialFile) → (f : PartialFile) × Contains s.partial f × (g ≡ one f) → HasCome 1 s.partial g.number g.kind g.records
+    at_map g found = by_test (found.0.number == n) g found.0 found.1 found.2
+
+found_there : (p : PartialFile → Bool) (fs : List PartialFile) (f : PartialFile) → find p fs ≡ Some f → Contains fs f
+found_there p [] f e = absurd (cc e)
+found_there p (g ∷ gs) f e = at_test (p g) (found_there p gs f) e
+  where
+    at_test : (b : Bool) → (find p gs ≡ Some f → Contains gs f) → cond b (Some g) (find p gs) ≡ Some f → Contains (g ∷ gs) f
+    at_test true rest e =
+        let same : g ≡ f = cc e in
+        subst (Contains (g ∷ gs)) same (0, omega arith, refl)
+    at_test false rest e = Contains-append_right (g ∷ []) gs f (rest e)
+
+pub finished_grows : (n : ℕ) (s : CustomerSpool) → FilesGrow 0 s (with_finished n s)
+finished_grows n s = at_file (partial_numbered n s) refl
+  where
+    came : (f : PartialFile) (g : WholeFile) → Contains s.partial f → Contains {X = WholeFile} [] g ⊎ (as_whole f ≡ g) → HasBecomeWhole 0 s.partial g
+    came f g there (inl none_there) = absurd (omega (arith, none_there.1))
+    came f g there (inr same) =
+        subst (HasBecomeWhole 0 s.partial) same
+        (record { came = f.records; has_come = left_come s.partial f there; records = as_before f.records })
+
+    at_file :
+        (o : Option PartialFile) → partial_numbered n s ≡ o
+        → FilesGrow 0 s (elim o [ None ↦ s | Some f ↦ with_arrived (as_whole f) (without_partial n s) ])
+    at_file None e = unchanged s
+    at_file (Some f) e =
+        record {
+          still = s.whole;
+          new = as_whole f ∷ [];
+          files = refl;
+          survive = same_files s.whole;
+          counted = λ below. omega (arith, below);
+          became_whole = λ g at.
+              came f g (found_there (λ (h : PartialFile). h.number == n) s.partial f e) (Contains-push_cases [] (as_whole f) g at);
+          partial = (without_grows n s).partial;
+        }
+
+-- ---- what is read from it
+
+redirected_count : (kind : Kind) (node : List ℕ) (before : Option ℕ) (rs : List Stored) → length (records_to_node kind node before rs) ≡ length rs
+redirected_count kind node before [] = refl
+redirected_count kind node before (r ∷ rs) = omega (arith, redirected_count kind node (Some r.srcb) rs)
+
+pub rerouted_count : ReroutesKeepCounts
+rerouted_count kind _ _ (as_before records) = refl
+rerouted_count kind _ _ (to_node node before after is more) =
+    rerouted_count kind (records_to_node kind node None before) after more ∙ redirected_count kind node None before
+
+pub many_go_on : ManyRecordsGoOn
+many_go_on k n before kind records many (few short) = absurd (omega (arith, many, short))
+many_go_on k n before kind records many (goes_on f more at number same short is) =
+    record { file = f; more = more; there = at; same_number = number; same_kind = same; records_are = is }

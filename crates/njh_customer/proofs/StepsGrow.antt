@@ -1,0 +1,184 @@
+-- In a step by bytes of a line the records of one block act at most: a block whose records act is answered, or one of
+-- them ends the session, and then none acts before the line has answered a call.
+use Rattle.std.proofs.Common.{◌≡◌, ℕ, ◌<◌, ◌≤◌, ◌*◌, Bool, true, false, cond, nat_lt, List, [], ◌∷◌, length}
+use Rattle.std.proofs.Common.{Option, Some, None, Result, Ok, Err, refl, sym, subst, arith}
+use Rattle.njh_bisync.specs.ByteSteps.{rest_step}
+use Rattle.njh_bisync.specs.Frames as frame
+use Rattle.njh_bisync.specs.Frames.{Received, IsShort}
+use Rattle.njh_bisync.specs.Reading.{Rest}
+use Rattle.njh_block.specs.Blocks.{Block, read_block}
+use Rattle.njh_block.specs.declared.fault.BlockFault.{BlockFault}
+use Rattle.njh_command.specs.CommandLaws.{CommandsMoveFilesSo, ReroutesNameNodes}
+use Rattle.njh_line.specs.Answering.{ActingIsAnswered, DownStaysDown}
+use Rattle.njh_line.specs.LineTable as input
+use Rattle.njh_line.specs.LineTable.{Input, table_outcome}
+use Rattle.njh_line.specs.declared.Phase.TheVariants.{Down}
+use Rattle.njh_line.specs.declared.verdict.LineReply.TheVariants as reply
+use Rattle.njh_line.specs.declared.verdict.Verdict.{Verdict}
+use Rattle.njh_spool.specs.CustomerSpool.{CustomerSpool}
+use Rattle.njh_customer.specs.Acting.{Acted, acted_where, all_acted}
+use Rattle.njh_customer.specs.Alone.{CustomerStep, silent, replied_to, session_ended}
+use Rattle.njh_customer.specs.Alone.{carried_out, verdict_on, accepted_on, block_input, behind_records}
+use Rattle.njh_customer.specs.Alone.{after_block, text_read, after_received, after_frame}
+use Rattle.njh_customer.specs.Customer.{Customer, line_at}
+use Rattle.njh_customer.specs.Feeding.{acted_on, Taking, or_later, take_step}
+use Rattle.njh_customer.specs.Growing.{FilesGrow, IsShortRest, TakesGrowFiles}
+use Rattle.njh_customer.specs.Part.{rest_on}
+use Rattle.njh_customer.proofs.GrowingLaws.{grow_within, then_quietly, quietly_then, unchanged}
+use Rattle.njh_customer.proofs.RecordsGrow.{data_count, RedirectsByRecords, all_grow}
+use Rattle.njh_customer.proofs.BlockSizes.{BlockIsFew, block_few}
+use Rattle.njh_customer.proofs.RestLengths.{IsShortFrame, step_short}
+use Rattle.njh_customer.proofs.DownLines.{phase_on, IsSent, ended_down, next_sent, carried_grows, input_grows, ended_grows}
+use Rattle.njh_customer.proofs.DownLines.{StaysDown, answers_call, still_down, frame_down}
+
+-- ---- a frame on any line
+
+data Steps (l : ℕ) (c : Customer) (s : CustomerStep) : Type 0 where
+  idles : FilesGrow 0 c.spool s.after.spool → Steps l c s
+  answers : (k : ℕ) → k < 1366 → FilesGrow k c.spool s.after.spool → IsSent s.frame → Steps l c s
+  goes_down : (k : ℕ) → k < 1366 → FilesGrow k c.spool s.after.spool → phase_on l s.after ≡ Down → Steps l c s
+
+-- what is left of a step behind its first frame
+or_grows :
+    (k n : ℕ) (rest : Rest) (x : CustomerSpool) (after : Customer) (sent : List ℕ) (later : Taking)
+    → (sent ≡ [] → FilesGrow k x later.after.spool) → FilesGrow k x after.spool
+    → FilesGrow k x (or_later n rest (record { after = after; frame = sent }) later).after.spool
+or_grows k n rest x after [] later silently grow = silently refl
+or_grows k n rest x after (byte ∷ bytes) later silently grow = grow
+
+no_more : {A : Type 0} (sent : List ℕ) → IsSent sent → sent ≡ [] → A
+no_more sent is none = absurd (subst IsSent none is)
+
+-- a line that is down, as long as nothing is sent
+abbrev TakesQuietly : Rest → ℕ → List ℕ → Type 0
+TakesQuietly rest l piece = (c : Customer) → phase_on l c ≡ Down → FilesGrow 0 c.spool (take_step rest c l piece).after.spool
+
+abbrev taken_on : Rest → ℕ → List ℕ → CustomerStep → Taking
+taken_on rest l bytes s = or_later 1 rest (record { after = s.after; frame = s.frame }) (take_step rest s.after l bytes)
+
+down_takes : DownStaysDown → (rest : Rest) (l : ℕ) (piece : List ℕ) → TakesQuietly rest l piece
+down_takes stays_down rest l [] c down = unchanged c.spool
+down_takes stays_down rest l (byte ∷ bytes) c down = at_frame (rest_step rest byte).frame (down_takes stays_down (rest_step rest byte).rest l bytes)
+  where
+    next : Rest
+    next = (rest_step rest byte).rest
+
+    at_stays : (s : CustomerStep) → TakesQuietly next l bytes → StaysDown l c s → FilesGrow 0 c.spool (taken_on next l bytes s).after.spool
+    at_stays s quietly (answers_call grow sent) =
+        or_grows 0 1 next c.spool s.after s.frame (take_step next s.after l bytes) (no_more s.frame sent) grow
+    at_stays s quietly (still_down grow low) =
+        let later = take_step next s.after l bytes in
+        or_grows 0 1 next c.spool s.after s.frame later
+        (λ silent. then_quietly 0 c.spool s.after.spool later.after.spool grow (quietly s.after low)) grow
+
+    at_frame : (o : Option Received) → TakesQuietly next l bytes → FilesGrow 0 c.spool (taken_on next l bytes (acted_on l o c)).after.spool
+    at_frame None quietly = quietly c down
+    at_frame (Some received) quietly = at_stays (after_frame l received c) quietly (frame_down stays_down l received c down)
+
+-- a step brings fewer than 1,366 records
+abbrev GrowsInStep : CustomerSpool → CustomerSpool → Type 0
+GrowsInStep x y = (k : ℕ) × (k < 1366) × FilesGrow k x y
+
+module _ (by_records : RedirectsByRecords) (names : ReroutesNameNodes) (commands : CommandsMoveFilesSo) (acting : ActingIsAnswered)
+    (stays_down : DownStaysDown) where
+  block_steps : (l : ℕ) (b : Block) (c : Customer) → 3 * data_count b.items ≤ 4096 → Steps l c (after_block l b c)
+  block_steps l b c short = at_acts v.acts refl
+    where
+      v : Verdict
+      v = verdict_on l (block_input b) c
+
+      d : Customer
+      d = accepted_on l (block_input b) c
+
+      a : Acted
+      a = all_acted l b.items d
+
+      k : ℕ
+      k = data_count b.items
+
+      below : k < 1366
+      below = omega (arith, short)
+
+      grow : FilesGrow k c.spool a.customer.spool
+      grow = all_grow by_records names commands l b.items d
+
+      next : v.acts ≡ true → v.reply ≡ reply.Next true
+      next acts =
+          let x = (line_at l c.lines).state in acting x.config x.session (block_input b) acts
+
+      at_end : v.acts ≡ true → (ended : Bool) → Steps l c (behind_records ended l v a.customer)
+      at_end acts true =
+          goes_down k below (then_quietly k c.spool a.customer.spool (session_ended l a.customer).spool grow (ended_grows l a.customer))
+          (ended_down l a.customer)
+      at_end acts false =
+          answers k below (then_quietly k c.spool a.customer.spool (carried_out l v a.customer).after.spool grow (carried_grows l v a.customer))
+          (subst (λ r. IsSent (replied_to l r a.customer).frame) (sym (next acts)) (next_sent l a.customer))
+
+      at_acts :
+          (acts : Bool) → v.acts ≡ acts
+          → Steps l c (behind_records (acted_where acts l b.items d).ended l v (acted_where acts l b.items d).customer)
+      at_acts true e = at_end e a.ended
+      at_acts false e = idles (carried_grows l v d)
+
+  received_steps : (l : ℕ) (x : Received) (c : Customer) → IsShort x → Steps l c (after_received l x c)
+  received_steps l frame.Enquiry c short = idles (input_grows l input.Enquiry c)
+  received_steps l frame.Ack0 c short = idles (input_grows l input.Ack0 c)
+  received_steps l frame.Nak c short = idles (input_grows l input.Nak c)
+  received_steps l frame.Eot c short = idles (input_grows l input.Eot c)
+  received_steps l (frame.Text text) c short = at_block (read_block text) (block_few text)
+    where
+      at_block : (b : Result Block BlockFault) → BlockIsFew (length text) b → Steps l c (text_read l b c)
+      at_block (Ok b) few = block_steps l b c (omega (arith, few, short))
+      at_block (Err e) few = idles (input_grows l input.Bad c)
+  received_steps l frame.Spoiled c short = idles (input_grows l input.Spoiled c)
+
+  there_steps : (l : ℕ) (b : Bool) (s : CustomerStep) (c : Customer) → Steps l c s → Steps l c (cond b s (silent c))
+  there_steps l true s c steps = steps
+  there_steps l false s c steps = idles (unchanged c.spool)
+
+  frame_steps : (l : ℕ) (x : Received) (c : Customer) → IsShort x → Steps l c (after_frame l x c)
+  unfolding after_frame
+  frame_steps l x c short = there_steps l (nat_lt l (length c.lines)) (after_received l x c) c (received_steps l x c short)
+
+  -- ---- a step by bytes
+
+  takes : (rest : Rest) (l : ℕ) (piece : List ℕ) (c : Customer) → IsShortRest rest → GrowsInStep c.spool (take_step rest c l piece).after.spool
+  takes rest l [] c short = (0, omega arith, unchanged c.spool)
+  takes rest l (byte ∷ bytes) c short =
+      let t = step_short rest byte short in
+      at_frame (rest_step rest byte).frame t.1 (λ d. takes (rest_step rest byte).rest l bytes d t.0)
+    where
+      next : Rest
+      next = (rest_step rest byte).rest
+
+      Later : Type 0
+      Later = (d : Customer) → GrowsInStep d.spool (take_step next d l bytes).after.spool
+
+      at_steps : (s : CustomerStep) → Later → Steps l c s → GrowsInStep c.spool (taken_on next l bytes s).after.spool
+      at_steps s takes_later (idles grow) =
+          let later = take_step next s.after l bytes in
+          let behind = takes_later s.after in
+          let k = behind.0 in (
+            k,
+            behind.1,
+            or_grows k 1 next c.spool s.after s.frame later
+                (λ silent. quietly_then k c.spool s.after.spool later.after.spool grow behind.2)
+                (grow_within 0 k c.spool s.after.spool (omega arith) grow),
+          )
+      at_steps s takes_later (answers k below grow sent) =
+          (k, below, or_grows k 1 next c.spool s.after s.frame (take_step next s.after l bytes) (no_more s.frame sent) grow)
+      at_steps s takes_later (goes_down k below grow low) =
+          let later = take_step next s.after l bytes in (
+            k,
+            below,
+            or_grows k 1 next c.spool s.after s.frame later
+                (λ silent. then_quietly k c.spool s.after.spool later.after.spool grow (down_takes stays_down next l bytes s.after low)) grow,
+          )
+
+      at_frame : (o : Option Received) → IsShortFrame o → Later → GrowsInStep c.spool (taken_on next l bytes (acted_on l o c)).after.spool
+      at_frame None short_frame takes_later = takes_later c
+      at_frame (Some received) short_frame takes_later =
+          at_steps (after_frame l received c) takes_later (frame_steps l received c short_frame)
+
+  pub takes_grow : TakesGrowFiles
+  takes_grow p l piece short = takes (rest_on l p) l piece p.customer short
