@@ -17,6 +17,9 @@ pub trait Wire {
     /// Between these two states this passed on it, in this order, and nothing else.
     ghost passed: { Self → Self → List WireAct → Type 0 };
 
+    /// Between these two states no byte went out of it: what was written waits.
+    ghost withheld: { Self → Self → Type 0 };
+
     /// How often it failed.
     ghost count: { Self → ℕ };
 
@@ -28,14 +31,16 @@ pub trait Wire {
     fn read(&mut self, into: &mut [u8]) -> Result<Reading, WireFault>
         requires { 0 < length into.old }
         ensures answered { passed self.old self.new (answer_acts (heard_of result into.new)) }
+        ensures withheld { withheld self.old self.new }
         ensures within { IfOk result (IsReading (length into.new)) }
         ensures counts { count self.old ≤ count self.new }
         ensures counted { OnErr result (IsCounted (count self.old) (count self.new)) };
 
-    /// Sends a frame whole, or answers a fault.
+    /// Takes a frame whole, to be sent once it is let out, or answers a fault.
     fn write(&mut self, frame: &[u8]) -> Result<(), WireFault>
         ensures ok { OnOk result (passed self.old self.new (Sent frame.now ∷ [])) }
         ensures err { OnErr result (passed self.old self.new (Unsent frame.now ∷ [])) }
+        ensures withheld { withheld self.old self.new }
         ensures counts { count self.old ≤ count self.new }
         ensures counted { OnErr result (IsCounted (count self.old) (count self.new)) };
 
@@ -44,4 +49,10 @@ pub trait Wire {
 
     /// Some acts, and then more.
     ghost more: { (a b c : Self) (xs ys : List WireAct) → passed a b xs → passed b c ys → passed a c (xs ++ ys) };
+
+    /// Nothing goes out where nothing happens.
+    ghost withheld_none: { (s : Self) → withheld s s };
+
+    /// Nor in what comes after the other.
+    ghost withheld_more: { (a b c : Self) → withheld a b → withheld b c → withheld a c };
 }

@@ -1,1 +1,2 @@
 pub mod MovedLaws
+pub mod WithheldLaws

@@ -1,5 +1,5 @@
 -- What a wire of a line answers, and how it stands then.
-use Rattle.std.specs.Prelude.{◌≡◌, ◌≢◌, ℕ, ◌-◌, ◌<◌, ◌≤◌, ◌⊎◌, false, IsTrue, List, [], ◌++◌, length, take, drop}
+use Rattle.std.specs.Prelude.{◌≡◌, ◌≢◌, ℕ, ◌-◌, ◌<◌, ◌≤◌, ◌⊎◌, IsTrue, List, [], ◌++◌, length, take}
 use Rattle.std.specs.Prelude.{Option, Some, None, IsSome, Result, Ok, Err}
 use Rattle.njh_hub.specs.declared.wire_reading.Reading.{Reading}
 use Rattle.njh_hub.specs.declared.wire_reading.Reading.TheVariants as reading
@@ -28,10 +28,6 @@ IsAnswer s (Ok (reading.Bytes n)) new = ⊥
 IsAnswer s (Ok reading.Quiet) new = (s.parting ≡ None) × IsSilence s reading.Quiet new
 IsAnswer s (Ok reading.Pending) new = (s.parting ≡ None) × IsSilence s reading.Pending new
 IsAnswer s (Ok reading.Absent) new = (s.parting ≡ None) × IsSilence s reading.Absent new
-
--- a wire that begins to read
-abbrev pub before_answer : {C : Type 0} → Standing C → Standing C
-before_answer s = record s { answered = false }
 
 -- something may be there to read, and no end is to be told
 abbrev pub IsOpen : {C : Type 0} → Standing C → Type 0
@@ -91,16 +87,9 @@ pub record Sends {C : Type 0} (moved : C → C → List ℕ → List ℕ → Typ
   pub moves : moved before after [] bytes
   pub stands : new ≡ Some after
 
--- A frame was written: so many bytes of it went out, and the others wait. None goes out past what waits, nor of a
--- second frame after one read.
-pub record IsWritten {C : Type 0} (moved : C → C → List ℕ → List ℕ → Type 0) (s : Standing C) (frame : List ℕ)
-    (new : Standing C) : Type 0 where
-  pub went : ℕ
-  pub within : went ≤ length frame
-  pub sends : Sends moved s.connection (take went frame) new.connection
-  pub once : IsTrue s.answered → went ≡ 0
-  pub order : 0 < length s.waiting → went ≡ 0
-  pub stands : new ≡ record (keeping (drop went frame) s) { connection = new.connection }
+-- A frame was written: somebody is connected, and it waits behind what waited.
+abbrev pub IsWritten : {C : Type 0} → Standing C → List ℕ → Standing C → Type 0
+IsWritten s frame new = IsSome s.connection × (new ≡ keeping frame s)
 
 -- Bytes that waited were put out as far as they go now, and the rest still waits.
 pub record IsSentOn {C : Type 0} (moved : C → C → List ℕ → List ℕ → Type 0) (s new : Standing C) : Type 0 where

@@ -23,8 +23,6 @@ pub record Standing (C : Type 0) : Type 0 where
   pub since : ℕ
   -- whether something may be there to read
   pub readable : Bool
-  -- whether a frame was written since the last read
-  pub answered : Bool
   -- the time now, when silence is a quiet, and when bytes last came
   pub clock : ℕ
   pub deadline : ℕ
@@ -47,7 +45,6 @@ first_standing place = record {
   waiting = [];
   since = 0;
   readable = false;
-  answered = false;
   clock = 0;
   deadline = 0;
   heard = 0;
@@ -63,7 +60,6 @@ with_connection connection s = record s {
   parting = None;
   waiting = [];
   readable = true;
-  answered = false;
   deadline = later s.clock;
   heard = s.clock;
 }
@@ -106,10 +102,9 @@ after_stop stops.Failed s = record s { parting = Some Failed; end = Some ends.Fa
 abbrev pub hearing : {C : Type 0} → Standing C → Standing C
 hearing s = record s { deadline = later s.clock; heard = s.clock }
 
--- bytes of a frame wait behind what waited, since now where nothing did
+-- a frame waits behind what waited, since now where nothing did
 abbrev pub keeping : {C : Type 0} → List ℕ → Standing C → Standing C
-keeping rest s = record s {
-  answered = true;
-  waiting = s.waiting ++ rest;
+keeping frame s = record s {
+  waiting = s.waiting ++ frame;
   since = if length s.waiting == 0 then s.clock else s.since;
 }

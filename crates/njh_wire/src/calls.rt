@@ -1,6 +1,6 @@
 //! Calls of a connection that may be there.
 
-ghost use Rattle.std.specs.Prelude.{◌≡◌, ◌≢◌, ◌≤◌, [], length, take, IsSome, IfOk, IfSome};
+ghost use Rattle.std.specs.Prelude.{◌≡◌, ◌≢◌, ◌≤◌, [], length, take, IsSome, IfOk};
 ghost use Rattle.std.specs.Option.{option_map};
 ghost use Rattle.njh_wire.specs.Readings.{Sends};
 ghost use Rattle.njh_wire.specs.declared.end.Stop.TheVariants.{Full};
@@ -60,14 +60,4 @@ pub(crate) fn send_on<C: Connection + Drop>(
         Some(connection) => connection.send(bytes),
         None => Err(ConnectionFault),
     }
-}
-
-/// Sends no bytes on a connection, if there is one.
-pub(crate) fn send_none<C: Connection + Drop>(connection: &mut Option<C>) -> Option<usize>
-    ensures none { IfSome result (λ count. count ≡ 0) }
-    ensures moved { IfSome result (λ count. Sends C.moved connection.old [] connection.new) }
-    ensures succeeds { IsSome connection.old → IsSome result }
-    ensures same { connection.new ≡ connection.old }
-{
-    if connection.is_some() { Some(0) } else { None }
 }

@@ -9,7 +9,8 @@ ghost use Rattle.njh_wire.specs.Standing.{first_standing, with_connection, witho
 ghost use Rattle.njh_wire.specs.Standing.{after_displacement, after_admission, after_close};
 ghost use Rattle.std.specs.Option.{option_map};
 ghost use Rattle.njh_wire.specs.Places.{IsAt, IsOwn};
-ghost use Rattle.njh_wire.specs.Readings.{IsOpen, IsWait, IsRead, IsWritten, IsFlushed, before_answer};
+ghost use Rattle.njh_wire.specs.Readings.{IsOpen, IsWait, IsRead, IsWritten, IsFlushed};
+ghost use Rattle.njh_wire.specs.Withheld.{IsWithheld};
 
 mod reading;
 mod writing;
@@ -40,7 +41,6 @@ pub struct LineWire<C: Connection + Drop> {
     waiting: Outbox,
     since: u64,
     readable: bool,
-    answered: bool,
     clock: u64,
     deadline: u64,
     heard: u64,
@@ -63,7 +63,6 @@ impl<C: Connection + Drop> Model for LineWire<C> {
       waiting = wire.waiting;
       since = wire.since;
       readable = wire.readable;
-      answered = wire.answered;
       clock = wire.clock;
       deadline = wire.deadline;
       heard = wire.heard;
@@ -89,7 +88,6 @@ impl<C: Connection + Drop> LineWire<C> {
             waiting: Outbox::new(alloc)?,
             since: 0,
             readable: false,
-            answered: false,
             clock: 0,
             deadline: 0,
             heard: 0,
@@ -224,7 +222,6 @@ impl<C: Connection + Drop> LineWire<C> {
         self.parting = None;
         self.waiting.clear();
         self.readable = true;
-        self.answered = false;
         self.deadline = self.clock.saturating_add(QUIET_TIME);
         self.heard = self.clock;
     }
@@ -278,15 +275,23 @@ impl<C: Connection + Drop> LineWire<C> {
 impl<C: Connection + Drop> Wire for LineWire<C> {
     ghost use Rattle.std.specs.Prelude.{refl};
     ghost use Rattle.njh_wire.specs.code.PlaceLaws.{same_then};
+    ghost use Rattle.njh_wire.specs.code.WithheldLaws.{withheld_then};
+    ghost use Rattle.njh_wire.specs.Withheld.{IsWithheld, nothing};
 
     // What passes is in the clauses of `read` and `write`; here, that it stays the wire of its line.
     ghost passed = { λ before after acts. before.place ≡ after.place };
+
+    ghost withheld = { λ before after. IsWithheld C.moved before after };
 
     ghost count = { λ wire. wire.failures };
 
     ghost none = { λ s. refl };
 
     ghost more = { λ a b c xs ys first then. same_then first then };
+
+    ghost withheld_none = { λ s. nothing s };
+
+    ghost withheld_more = { λ a b c first then. withheld_then C.moved first then };
 
     fn failures(&self) -> u64 {
         self.failures
@@ -295,14 +300,13 @@ impl<C: Connection + Drop> Wire for LineWire<C> {
     fn read(&mut self, into: &mut [u8]) -> Result<Reading, WireFault>
         requires { 0 < length into.old }
         ensures answered { self.old.place ≡ self.new.place }
-        ensures waits { 0 < length self.old.waiting → IsWait (before_answer self.old) result self.new }
-        ensures reads { self.old.waiting ≡ []
-            → IsRead C.moved C.stops (before_answer self.old) result into.new self.new }
+        ensures withheld { IsWithheld C.moved self.old self.new }
+        ensures waits { 0 < length self.old.waiting → IsWait self.old result self.new }
+        ensures reads { self.old.waiting ≡ [] → IsRead C.moved C.stops self.old result into.new self.new }
         ensures within { IfOk result (IsReading (length into.new)) }
         ensures counts { self.old.failures ≤ self.new.failures }
         ensures counted { OnErr result (IsCounted self.old.failures self.new.failures) }
     {
-        self.answered = false;
         if !self.waiting.is_empty() {
             return self.wait_to_send();
         }
@@ -312,9 +316,10 @@ impl<C: Connection + Drop> Wire for LineWire<C> {
     fn write(&mut self, frame: &[u8]) -> Result<(), WireFault>
         ensures ok { OnOk result (self.old.place ≡ self.new.place) }
         ensures err { OnErr result (self.old.place ≡ self.new.place) }
-        ensures written { OnOk result (IsWritten C.moved self.old frame.now self.new) }
+        ensures withheld { IsWithheld C.moved self.old self.new }
+        ensures written { OnOk result (IsWritten self.old frame.now self.new) }
         ensures failed { OnErr result (self.new ≡ given_up Failed self.old) }
-        ensures succeeds { IsSome self.old.connection → IsTrue self.old.answered →
+        ensures succeeds { IsSome self.old.connection →
             length self.old.waiting + length frame.now ≤ ROOM → IsOk result }
         ensures counts { self.old.failures ≤ self.new.failures }
         ensures counted { OnErr result (IsCounted self.old.failures self.new.failures) }

@@ -149,11 +149,17 @@ impl Wire for MemoryWire {
     // What passes is compared when a test runs.
     ghost passed = { λ before after acts. ⊤ };
 
+    ghost withheld = { λ before after. ⊤ };
+
     ghost count = { λ wire. wire.failures };
 
     ghost none = { λ s. tt };
 
     ghost more = { λ a b c xs ys first then. tt };
+
+    ghost withheld_none = { λ s. tt };
+
+    ghost withheld_more = { λ a b c first then. tt };
 
     fn failures(&self) -> u64 {
         self.failures

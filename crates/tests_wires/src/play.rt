@@ -22,9 +22,9 @@ pub enum Step {
     Breaks(usize),
     /// A peer takes so many bytes more, and then none.
     Takes(usize, usize),
-    /// A frame of so many bytes is written, which is Ok or not.
+    /// A frame of so many bytes is written, which is Ok or not. It waits.
     Write(usize, bool),
-    /// What waits is sent on.
+    /// What waits is let out.
     Flush,
     /// The connection is closed from here.
     Close,

@@ -89,6 +89,8 @@ fn slow_reader(rt: HostRuntime) -> Result<(), Fail> {
         bytes(2),
         Step::Takes(0, 10),
         Step::Write(30, true),
+        Step::Took(0, 0, 0),
+        Step::Flush,
         Step::Took(0, 10, 1),
         Step::Is(false, true),
         Step::Due(1000),
@@ -128,7 +130,7 @@ fn reader_that_stalls(rt: HostRuntime) -> Result<(), Fail> {
 }
 
 #[test]
-fn answers_of_one_read_take_two_sends(rt: HostRuntime) -> Result<(), Fail> {
+fn answers_wait_until_they_are_let_out(rt: HostRuntime) -> Result<(), Fail> {
     let steps = [
         Step::Connect(0),
         Step::Comes(0, 8),
@@ -136,13 +138,16 @@ fn answers_of_one_read_take_two_sends(rt: HostRuntime) -> Result<(), Fail> {
         Step::Write(2, true),
         Step::Write(2, true),
         Step::Write(2, true),
-        Step::Took(0, 2, 1),
+        Step::Is(false, true),
+        Step::Took(0, 0, 0),
         Step::Flush,
-        Step::Took(0, 6, 2),
+        Step::Took(0, 6, 1),
         Step::Comes(0, 2),
         bytes(2),
         Step::Write(2, true),
-        Step::Took(0, 8, 3),
+        Step::Took(0, 6, 1),
+        Step::Flush,
+        Step::Took(0, 8, 2),
         Step::Is(false, false),
     ];
     play(&rt, rt.alloc(), "flood", &steps)
@@ -152,7 +157,6 @@ fn answers_of_one_read_take_two_sends(rt: HostRuntime) -> Result<(), Fail> {
 fn no_room(rt: HostRuntime) -> Result<(), Fail> {
     let steps = [
         Step::Connect(0),
-        Step::Takes(0, 0),
         Step::Write(65_535, true),
         Step::Write(1, true),
         Step::Write(1, false),
@@ -179,6 +183,8 @@ fn ends(rt: HostRuntime) -> Result<(), Fail> {
         Step::Ends(0),
         bytes(3),
         Step::Write(2, true),
+        Step::Is(false, true),
+        Step::Flush,
         Step::Took(0, 2, 1),
         Step::Is(true, false),
         CLOSED,
@@ -192,7 +198,6 @@ fn ends(rt: HostRuntime) -> Result<(), Fail> {
 fn another_takes_its_place(rt: HostRuntime) -> Result<(), Fail> {
     let steps = [
         Step::Connect(0),
-        Step::Takes(0, 0),
         Step::Write(4, true),
         Step::Connect(1),
         Step::Comes(1, 6),
@@ -203,6 +208,7 @@ fn another_takes_its_place(rt: HostRuntime) -> Result<(), Fail> {
         Step::Ended(Some(End::Replaced)),
         CLOSED,
         PENDING,
+        Step::Took(0, 0, 0),
         Step::Took(1, 0, 0),
     ];
     play(&rt, rt.alloc(), "replaced", &steps)

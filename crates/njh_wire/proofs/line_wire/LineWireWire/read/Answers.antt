@@ -1,0 +1,12 @@
+use Rattle.njh_wire.proofs.WithheldLaws.{wait_withholds, read_withholds}
+use Rattle.njh_wire.proofs.line_wire.LineWireWire.read.Goals as goal
+
+pub returns-then-not-is_empty-clause-withheld : goal.returns-then-not-is_empty-clause-withheld
+returns-then-not-is_empty-clause-withheld g c =
+    wait_withholds g.C.Connection.moved c.args.self.now c.wait_to_send.result c.wait_to_send.new.self
+    c.wait_to_send.ensures.answer
+
+pub returns-clause-withheld : goal.returns-clause-withheld
+returns-clause-withheld g c =
+    read_withholds g.C.Connection.moved g.C.Connection.stops c.args.self.now c.read_open.result c.read_open.new.into
+    c.read_open.new.self c.read_open.ensures.read
