@@ -119,12 +119,7 @@ impl<N: Network + Drop, L: Write + Drop> Desk<N, L> {
         if gave_up {
             wire.close();
         }
-        // An end is told once the hub has heard of it.
-        let end = if wire.is_connected() {
-            None
-        } else {
-            wire.take_end()
-        };
+        let end = heard_end(wire, gave_up);
         let ending = if gave_up {
             Ending::NoAnswer
         } else if end.is_some() || post.label.lost {
@@ -287,6 +282,22 @@ impl<N: Network + Drop, L: Write + Drop> Desk<N, L> {
         let place = Place::Line(label.customer, label.line.as_str());
         self.log.write(second, &LogEntry { place, event });
     }
+}
+
+/// Why a connection ended, once the hub has heard of it. It need not hear of one that was ended as its session gave up.
+fn heard_end<C: Connection + Drop>(wire: &mut LineWire<C>, gave_up: bool) -> Option<End>
+    ensures counts { wire.old.failures ≤ wire.new.failures }
+    ensures place { wire.new.place ≡ wire.old.place }
+    ensures kept { wire.new.connection ≡ wire.old.connection }
+{
+    if wire.is_connected() {
+        return None;
+    }
+    // The next read is to tell the hub.
+    if wire.is_ready() && !gave_up {
+        return None;
+    }
+    wire.take_end()
 }
 
 /// How far a line's session is.

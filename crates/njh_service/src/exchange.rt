@@ -34,8 +34,8 @@ const NOTHING: Readiness = Readiness {
     writes: false,
 };
 
-/// What stands beside the turns of a service's lines: it waits for the network, accepts, dials, ends connections, sends
-/// what waits, brings new routes, and writes the log.
+/// What stands beside the turns of a service's lines: it waits for the network, accepts, dials, ends connections, lets
+/// out what waits, brings new routes, and writes the log.
 #[derive(Drop)]
 pub struct Exchange<N: Network + Drop, L: Write + Drop, S: TableSource + Drop> {
     pub(crate) desk: Desk<N, L>,
@@ -218,8 +218,8 @@ impl<N: Network + Drop, L: Write + Drop, S: TableSource + Drop> Exchange<N, L, S
         }
     }
 
-    /// Of each line that was looked at, sends what waits, ends a connection whose session gave up, and tells what
-    /// changed.
+    /// Of each line that was looked at, which are all that had a turn, lets out what waits, ends a connection whose
+    /// session gave up, and tells what changed.
     pub(crate) fn end_round(&mut self, hub: &Hub, wires: &mut [LineWire<N::Connection>])
         ensures still { AreStill (λ a b acts. a.place ≡ b.place) (λ wire. wire.failures) wires.old wires.new }
         ensures lines { self.new ≡ self.old }
@@ -272,7 +272,7 @@ impl<N: Network + Drop, L: Write + Drop, S: TableSource + Drop> Exchange<N, L, S
         }
     }
 
-    /// Sends what waits on a line that was looked at, and settles it. Answers when a line wants to be looked at next.
+    /// Lets out what waits on a line that was looked at, and settles it. Answers when the line wants to be looked at.
     fn end(&mut self, place: usize, hub: &Hub, wire: &mut LineWire<N::Connection>) -> u64
         ensures counts { wire.old.failures ≤ wire.new.failures }
         ensures place { wire.new.place ≡ wire.old.place }

@@ -33,6 +33,12 @@ const SIGN_ON: Act = Act::Sends(
     \x00\x10\x26",
 );
 
+/// ANNA at LYON asks for LIST.
+const LIST: Act = Act::Sends(
+    b"\x10\x02\x80\x8f\xcf\x9a\x80\xca\xa0\x77\x00\x04\xc2\xe4\xd9\xc5\xc1\xe4\x82\xc5\x00\
+    \xc1\xd5\xd5\xc1\x84\xc4\xd3\xe8\xd6\xd5\x84\xc5\x00\xd3\xc9\xe2\xe3\x00\x00\x10\x26",
+);
+
 /// LYON makes contact, signs on, and ANNA there asks for LIST.
 const ALL: Act = Act::Sends(
     b"\x01\x2d\x10\x02\xa0\x8f\xcf\xf0\xc9\x29\xd3\xe8\xd6\xd5\x40\x40\x40\x40\x01\x00\x00\x00\x00\x00\
@@ -156,6 +162,32 @@ fn reset_in_a_frame(rt: HostRuntime) -> Result<(), Fail> {
     let wanted = "\
 1970-01-01T00:00:01Z ACME a1: connected from 10.0.0.0:5000
 1000 to 0: 1070
+1970-01-01T00:00:01Z ACME a1: failed: a read or a write failed
+1970-01-01T00:00:02Z ACME a1: connected from 10.0.0.1:5000
+2500 to 1: 1070
+";
+    play(&rt, rt.alloc(), TABLES, &acts, 2700, wanted)
+}
+
+/// Where an answer fails to go out the hub hears of it first: the session goes down, and then the end is told.
+#[test]
+fn answer_that_fails(rt: HostRuntime) -> Result<(), Fail> {
+    let acts = [
+        at(1000, 0, Act::Connects(1)),
+        at(1000, 0, CONTACT),
+        at(1050, 0, SIGN_ON),
+        at(1100, 0, Act::Deafens),
+        at(1200, 0, LIST),
+        at(2500, 1, Act::Connects(1)),
+        at(2500, 1, CONTACT),
+    ];
+    let wanted = "\
+1970-01-01T00:00:01Z ACME a1: connected from 10.0.0.0:5000
+1000 to 0: 1070
+1050 to 0: 1002a08fcff0d129c2e4d9c5c1e4404001000000000000040040404040404040404040404040404040\
+0000000000001026
+1970-01-01T00:00:01Z ACME a1: session up with LYON
+1970-01-01T00:00:01Z ACME a1: session down: the line was lost
 1970-01-01T00:00:01Z ACME a1: failed: a read or a write failed
 1970-01-01T00:00:02Z ACME a1: connected from 10.0.0.1:5000
 2500 to 1: 1070

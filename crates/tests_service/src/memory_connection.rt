@@ -81,7 +81,7 @@ impl<'a> Connection for MemoryConnection<'a> {
     }
 
     fn send(&mut self, bytes: &[u8]) -> Result<usize, ConnectionFault> {
-        if self.peer.is_broken() {
+        if self.peer.is_deaf() {
             return Err(ConnectionFault);
         }
         let count = self.peer.take(bytes.len()).min(bytes.len());

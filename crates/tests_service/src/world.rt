@@ -26,6 +26,8 @@ pub enum Act {
     Ends,
     /// It is gone: every call on its connection fails.
     Resets,
+    /// It takes no more for good: every send on its connection fails. Nothing is ready by that.
+    Deafens,
     /// From now on this becomes of dials to it.
     Answers(Answer),
     /// From now on the log's writer takes so many bytes of a line, of whatever peer this is said.
@@ -85,6 +87,7 @@ pub struct Peer {
     room: Cell<usize>,
     ended: Cell<bool>,
     broken: Cell<bool>,
+    deaf: Cell<bool>,
     answer: Cell<Answer>,
     /// Whether a dial to it was answered and nobody was told.
     reports: Cell<bool>,
@@ -100,6 +103,7 @@ impl Peer {
             room: Cell::new(1_000_000),
             ended: Cell::new(false),
             broken: Cell::new(false),
+            deaf: Cell::new(false),
             answer: Cell::new(Answer::Nothing),
             reports: Cell::new(false),
         }
@@ -114,6 +118,11 @@ impl Peer {
     /// Whether calls on its connection fail.
     pub fn is_broken(&self) -> bool {
         self.broken.get()
+    }
+
+    /// Whether sends on its connection fail.
+    pub fn is_deaf(&self) -> bool {
+        self.deaf.get() || self.broken.get()
     }
 
     /// Whether it sends no more.
@@ -152,6 +161,7 @@ impl Peer {
             Act::Takes(count) => self.room.set(count),
             Act::Ends => self.ended.set(true),
             Act::Resets => self.broken.set(true),
+            Act::Deafens => self.deaf.set(true),
             Act::Answers(answer) => self.answer.set(answer),
             Act::LogTakes(_) => {}
         }
@@ -164,6 +174,7 @@ impl Peer {
         self.coming.set(&[]);
         self.ended.set(false);
         self.broken.set(false);
+        self.deaf.set(false);
     }
 }
 
@@ -305,7 +316,7 @@ impl<'a> World<'a> {
                 mark.reads = true;
                 mark.writes = true;
             }
-            Act::LogTakes(_) => {}
+            Act::Deafens | Act::LogTakes(_) => {}
         }
         mark
     }
