@@ -1,6 +1,10 @@
 -- What is kept of the whole files of a hub's customers, and what a crash may leave of it.
 use Rattle.std.specs.Prelude.{◌≡◌, ◌⊎◌, ℕ, ◌<◌, ◌≤◌, Bool, true, false, List, [], length, map, slice_index_or}
 use Rattle.std.specs.Prelude.{slice_set, Result, OnOk, OnErr}
+use Rattle.njh_table.specs.Entries.{RouteEntry}
+use Rattle.njh_customer.specs.NewRoutes.{part_after_routes}
+use Rattle.njh_customer.specs.Part.{part_after_bytes, part_after_signal}
+use Rattle.njh_customer.specs.declared.signal.Signal.{Signal}
 pub use Rattle.njh_restore.specs.Restoring.{KeptFile}
 use Rattle.njh_restore.specs.Restoring.{kept}
 use Rattle.njh_spool.specs.CustomerSpool.{WholeFile}
@@ -36,27 +40,57 @@ kept_of parts = map kept_files parts
 abbrev pub left_of : ℕ → List (List KeptFile) → List KeptFile
 left_of c left = slice_index_or left c []
 
+-- ---- one step
+
+-- A step of a customer, or new routes of it, lead its part there.
+pub data IsLed (p after : Part) : Type 0 where
+  by_bytes : (l : ℕ) (piece : List ℕ) → l < length p.rests → after ≡ (part_after_bytes p l piece).after → IsLed p after
+  by_signal : (l : ℕ) (signal : Signal) → after ≡ (part_after_signal p l signal).after → IsLed p after
+  by_routes : (routes : List RouteEntry) → after ≡ part_after_routes routes p → IsLed p after
+
+-- One of customer c leads the hub there.
+abbrev pub LeadsHub : ℕ → (before now : List Part) → Type 0
+LeadsHub c before now = (after : Part) × IsLed (part c before) after × (now ≡ slice_set before c after)
+
 -- ---- what a crash may leave
 
--- What it may leave now is what the hub has, and nothing else.
-abbrev pub IsSettled : {K : Type 0} → (K → List (List KeptFile) → Type 0) → K → List Part → Type 0
-IsSettled may_leave keeper parts = (left : List (List KeptFile)) → may_leave keeper left → left ≡ kept_of parts
+-- It is what a hub of these parts has, and nothing else.
+abbrev pub LeavesOnly : {K : Type 0} → (K → List (List KeptFile) → Type 0) → K → List Part → Type 0
+LeavesOnly may_leave keeper parts = (left : List (List KeptFile)) → may_leave keeper left → left ≡ kept_of parts
 
--- But for one customer's files it is what the hub has.
-abbrev pub IsSettledBut : {K : Type 0} → (K → List (List KeptFile) → Type 0) → K → ℕ → List Part → Type 0
-IsSettledBut may_leave keeper c parts =
-    (left : List (List KeptFile)) → may_leave keeper left → slice_set left c (kept_files (part c parts)) ≡ kept_of parts
+-- It is nothing that it wasn't before.
+abbrev pub LeavesNoMore : {K : Type 0} → (K → List (List KeptFile) → Type 0) → K → K → Type 0
+LeavesNoMore may_leave keeper new_keeper =
+    (left : List (List KeptFile)) → may_leave new_keeper left → may_leave keeper left
 
--- It is what the hub had before a step, or what it has behind it.
+-- It is what the hub had before, or what it has behind.
 abbrev pub LeavesEither : {K : Type 0} → (K → List (List KeptFile) → Type 0) → K → (before behind : List Part) → Type 0
 LeavesEither may_leave keeper before behind =
     (left : List (List KeptFile)) → may_leave keeper left → (left ≡ kept_of before) ⊎ (left ≡ kept_of behind)
 
--- Where all went well, what the hub has now is kept, and the keeper has counted no fault; where a fault is told, it has
--- counted one.
-pub record Keeps {K A E : Type 0} (may_leave : K → List (List KeptFile) → Type 0) (count : K → ℕ) (keeper : K)
-    (result : Result A E) (parts : List Part) (new_keeper : K) : Type 0 where
-  pub settled : OnOk result (IsSettled may_leave new_keeper parts)
+-- The keeper knows what the hub has, and a crash leaves that.
+pub record IsSettled {K : Type 0} (may_leave : K → List (List KeptFile) → Type 0) (knows : K → List Part → Type 0)
+    (keeper : K) (parts : List Part) : Type 0 where
+  pub known : knows keeper parts
+  pub leaves : LeavesOnly may_leave keeper parts
+
+-- ---- what calls leave of a keeper
+
+-- In turns: where all went well, it knows what the hub has now, and has counted no fault; where a fault is told, it has
+-- counted one. Nothing of it is kept yet.
+pub record Follows {K A E : Type 0} (may_leave : K → List (List KeptFile) → Type 0) (knows : K → List Part → Type 0)
+    (count : K → ℕ) (keeper : K) (result : Result A E) (parts : List Part) (new_keeper : K) : Type 0 where
+  pub known : OnOk result (knows new_keeper parts)
+  pub leaves : LeavesNoMore may_leave keeper new_keeper
+  pub faultless : OnOk result (count new_keeper ≡ count keeper)
+  pub counts : count keeper ≤ count new_keeper
+  pub counted : OnErr result (IsCounted (count keeper) (count new_keeper))
+
+-- Behind rounds: where all went well, what the hub has now is kept, and it has counted no fault; where a fault is told,
+-- it has counted one.
+pub record Keeps {K A E : Type 0} (may_leave : K → List (List KeptFile) → Type 0) (knows : K → List Part → Type 0)
+    (count : K → ℕ) (keeper : K) (result : Result A E) (parts : List Part) (new_keeper : K) : Type 0 where
+  pub settled : OnOk result (IsSettled may_leave knows new_keeper parts)
   pub faultless : OnOk result (count new_keeper ≡ count keeper)
   pub counts : count keeper ≤ count new_keeper
   pub counted : OnErr result (IsCounted (count keeper) (count new_keeper))

@@ -39,7 +39,7 @@ IsReading room reading.Pending = ⊤
 IsReading room reading.Closed = ⊤
 IsReading room reading.Absent = ⊤
 
--- What passes on a wire: the answer of a read that isn't pending, a frame that went out, and one whose write failed.
+-- What passes on a wire: the answer of a read that isn't pending, a frame that was written, and one whose write failed.
 pub data WireAct : Type 0 where
   Answered : (heard : Heard) → WireAct
   Sent : (frame : List ℕ) → WireAct

@@ -17,7 +17,7 @@ pub struct NewRoutes {
 }
 
 /// Sees to the wires before and after each round of a service, says which of them are visited in it, and brings new
-/// routes. No byte passes on a wire by it, and the hub is told of the routes alone.
+/// routes. Nothing is read or written by it: it may let out what was written. The hub is told of the routes alone.
 pub trait Attendant<W: Wire> {
     /// Comes before each round, as the wait for what the wires have.
     fn before(&mut self, wires: &mut [W])

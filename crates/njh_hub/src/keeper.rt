@@ -1,9 +1,9 @@
 //! Who keeps whole files, so that they outlive the program.
 
-ghost use Rattle.std.specs.Prelude.{◌≡◌, ◌⊎◌, ℕ, ◌<◌, ◌≤◌, List, length, OnOk, OnErr};
-ghost use Rattle.njh_restore.specs.Restoring.{KeptFile};
-ghost use Rattle.njh_hub.specs.Keeping.{IsSettled, IsSettledBut, KeptIsOwn, kept_of};
+ghost use Rattle.std.specs.Prelude.{◌≡◌, ℕ, ◌≤◌, List, OnOk, OnErr, ⊤};
+ghost use Rattle.njh_hub.specs.Keeping.{IsSettled, KeptIsOwn, LeadsHub, LeavesEither, LeavesNoMore, LeavesOnly};
 ghost use Rattle.njh_hub.specs.Sent.{IsCounted};
+ghost use Rattle.njh_hub.specs.WholeHub.{Part};
 
 use crate::hub::Hub;
 use thiserror::Error;
@@ -15,15 +15,19 @@ pub struct KeepFault;
 
 /// Keeps the whole files of a hub's customers, so that they are found again after a crash.
 ///
-/// It is called after each step of a customer that may change that customer's files, before the step's frame goes out.
-/// A fault is answered only where the count of failures rose, or stands at its greatest value; else it stays.
+/// It follows each step of a customer, and settles once a round, before the round's frames go out. A fault is answered
+/// only where the count of failures rose, or stands at its greatest value; else it stays.
 pub trait Keeper {
     ghost use Rattle.std.specs.Prelude.{ℕ, List};
     ghost use Rattle.njh_restore.specs.Restoring.{KeptFile};
+    ghost use Rattle.njh_hub.specs.WholeHub.{Part};
 
     /// What a crash at this moment may leave: of each customer, by its number, what is kept of its whole files, in
     /// their order of arrival.
     ghost may_leave: { Self → List (List KeptFile) → Type 0 };
+
+    /// It has taken in all that a hub whose customers have these parts has of files.
+    ghost knows: { Self → List Part → Type 0 };
 
     /// How often it failed.
     ghost count: { Self → ℕ };
@@ -32,16 +36,22 @@ pub trait Keeper {
     fn failures(&self) -> u64
         ensures { result ≡ count self.now };
 
-    /// Keeps a customer's whole files as the hub has them; those of all others are kept as it has them.
-    ///
-    /// After a fault, or where the call itself is broken off, a crash leaves what it might have left before, or all
-    /// files as the hub has them.
-    fn keep(&mut self, hub: &Hub, customer: u16) -> Result<(), KeepFault>
-        requires known { customer < length hub.now }
-        requires others { IsSettledBut may_leave self.old customer hub.now }
-        ensures settled { OnOk result (IsSettled may_leave self.new hub.now) }
-        ensures crash { (left : List (List KeptFile)) → may_leave self.new left
-            → may_leave self.old left ⊎ (left ≡ kept_of hub.now) }
+    /// Takes in what one step of a customer, or new routes of it, made of its files. Nothing more is kept by that.
+    fn follow(&mut self, hub: &Hub, customer: u16) -> Result<(), KeepFault>
+        requires led { (before : List Part) × knows self.old before × LeadsHub customer before hub.now }
+        ensures known { OnOk result (knows self.new hub.now) }
+        ensures leaves { LeavesNoMore may_leave self.old self.new }
+        ensures faultless { OnOk result (count self.new ≡ count self.old) }
+        ensures counts { count self.old ≤ count self.new }
+        ensures counted { OnErr result (IsCounted (count self.old) (count self.new)) };
+
+    /// Keeps all that it has taken in. After a fault, or where the call itself is broken off, a crash leaves what was
+    /// kept before, or all.
+    fn settle(&mut self) -> Result<(), KeepFault>
+        ensures settled { OnOk result ((parts : List Part) → knows self.old parts
+            → IsSettled may_leave knows self.new parts) }
+        ensures crash { (before parts : List Part) → LeavesOnly may_leave self.old before → knows self.old parts
+            → LeavesEither may_leave self.new before parts }
         ensures faultless { OnOk result (count self.new ≡ count self.old) }
         ensures counts { count self.old ≤ count self.new }
         ensures counted { OnErr result (IsCounted (count self.old) (count self.new)) };
@@ -54,13 +64,19 @@ pub struct KeepsNothing;
 impl Keeper for KeepsNothing {
     ghost may_leave = { λ keeper left. ⊥ };
 
+    ghost knows = { λ keeper parts. ⊤ };
+
     ghost count = { λ keeper. 0 };
 
     fn failures(&self) -> u64 {
         0
     }
 
-    fn keep(&mut self, _hub: &Hub, _customer: u16) -> Result<(), KeepFault> {
+    fn follow(&mut self, _hub: &Hub, _customer: u16) -> Result<(), KeepFault> {
+        Ok(())
+    }
+
+    fn settle(&mut self) -> Result<(), KeepFault> {
         Ok(())
     }
 }

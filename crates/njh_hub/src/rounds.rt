@@ -1,8 +1,8 @@
 //! Rounds of turns: each wire of some lines has one in each.
 
 ghost use Rattle.std.specs.Prelude.{◌≡◌, ◌<◌, List, length, All, IfOk, OnOk, OnErr, Err};
-ghost use Rattle.njh_hub.specs.Breaks.{RoundBreaks};
-ghost use Rattle.njh_hub.specs.Keeping.{IsSettled, Keeps};
+ghost use Rattle.njh_hub.specs.Breaks.{AreWithheld, RoundBreaks, RoundStops};
+ghost use Rattle.njh_hub.specs.Keeping.{Follows, IsSettled, Keeps};
 ghost use Rattle.njh_hub.specs.Turns.{Turn, IsRound, no_quiets};
 ghost use Rattle.njh_hub.specs.WholeHub.{HasLine, SameLines};
 
@@ -57,7 +57,8 @@ impl Rounds {
         self.lines.as_slice()
     }
 
-    /// One turn of each wire, in the order of the lines, up to a fault of the keeper. Takes no memory.
+    /// One turn of each wire, in the order of the lines, and then what the turns made of the files is kept; up to a
+    /// fault of the keeper. No byte goes out. Takes no memory.
     pub fn take<W: Wire, K: Keeper>(
         &mut self,
         hub: &mut Hub,
@@ -66,17 +67,17 @@ impl Rounds {
     ) -> Result<(), KeepFault>
         requires same { length wires.old ≡ length self.old.lines }
         requires known { All (HasLine hub.old) self.old.lines }
-        requires settled { IsSettled K.may_leave keeper.old hub.old }
+        requires settled { IsSettled K.may_leave K.knows keeper.old hub.old }
         ensures round { OnOk result ((round : List Turn) × (length round ≡ length self.old.lines) ×
             IsRound W.passed W.count self.old.lines hub.old self.old.quiets wires.old round
             hub.new self.new.quiets wires.new) }
-        ensures breaks { OnErr result (RoundBreaks W.passed W.count K.may_leave self.old.lines hub.old self.old.quiets
-            wires.old hub.new wires.new keeper.new) }
-        ensures keeps { Keeps K.may_leave K.count keeper.old result hub.new keeper.new }
+        ensures breaks { OnErr result (RoundBreaks W.passed W.count W.withheld K.may_leave self.old.lines hub.old
+            self.old.quiets wires.old hub.new wires.new keeper.new) }
+        ensures keeps { Keeps K.may_leave K.knows K.count keeper.old result hub.new keeper.new }
         ensures same { self.new.lines ≡ self.old.lines }
         ensures lines { SameLines hub.old hub.new }
     {
-        serve_round(
+        keep_round(
             hub,
             keeper,
             wires,
@@ -86,8 +87,7 @@ impl Rounds {
         )
     }
 
-    /// One turn of each wire, in the order of the lines, where only those are visited that are due, up to a fault of
-    /// the keeper. Any other has the turn of an answer `Pending`. Takes no memory.
+    /// The same, where only those wires are visited that are due. Any other has the turn of an answer `Pending`.
     pub fn take_due<W: Wire, K: Keeper, A: Attendant<W>>(
         &mut self,
         hub: &mut Hub,
@@ -97,13 +97,13 @@ impl Rounds {
     ) -> Result<(), KeepFault>
         requires same { length wires.old ≡ length self.old.lines }
         requires known { All (HasLine hub.old) self.old.lines }
-        requires settled { IsSettled K.may_leave keeper.old hub.old }
+        requires settled { IsSettled K.may_leave K.knows keeper.old hub.old }
         ensures round { OnOk result ((round : List Turn) × (length round ≡ length self.old.lines) ×
             IsRound W.passed W.count self.old.lines hub.old self.old.quiets wires.old round
             hub.new self.new.quiets wires.new) }
-        ensures breaks { OnErr result (RoundBreaks W.passed W.count K.may_leave self.old.lines hub.old self.old.quiets
-            wires.old hub.new wires.new keeper.new) }
-        ensures keeps { Keeps K.may_leave K.count keeper.old result hub.new keeper.new }
+        ensures breaks { OnErr result (RoundBreaks W.passed W.count W.withheld K.may_leave self.old.lines hub.old
+            self.old.quiets wires.old hub.new wires.new keeper.new) }
+        ensures keeps { Keeps K.may_leave K.knows K.count keeper.old result hub.new keeper.new }
         ensures same { self.new.lines ≡ self.old.lines }
         ensures lines { SameLines hub.old hub.new }
     {
@@ -111,7 +111,7 @@ impl Rounds {
             lines: &self.lines,
             attendant,
         };
-        serve_due(hub, keeper, wires, due, &mut self.quiets, &mut self.room)
+        keep_due(hub, keeper, wires, due, &mut self.quiets, &mut self.room)
     }
 }
 
@@ -131,6 +131,64 @@ impl<'a, A> Drop for Due<'a, A> {
     }
 }
 
+/// One turn of each wire, in their order, and then what the turns made of the files is kept.
+fn keep_round<W: Wire, K: Keeper>(
+    hub: &mut Hub,
+    keeper: &mut K,
+    wires: &mut [W],
+    lines: &[LineId],
+    quiets: &mut [u8],
+    room: &mut TurnRoom,
+) -> Result<(), KeepFault>
+    requires same { length wires.old ≡ length lines.now }
+    requires counts { length quiets.old ≡ length lines.now }
+    requires known { All (HasLine hub.old) lines.now }
+    requires settled { IsSettled K.may_leave K.knows keeper.old hub.old }
+    requires few { All (λ quiet. quiet < 10) quiets.old }
+    ensures round { OnOk result ((round : List Turn) × (length round ≡ length lines.now) ×
+        IsRound W.passed W.count lines.now hub.old quiets.old wires.old round hub.new quiets.new wires.new) }
+    ensures breaks { OnErr result (RoundBreaks W.passed W.count W.withheld K.may_leave lines.now hub.old quiets.old
+        wires.old hub.new wires.new keeper.new) }
+    ensures keeps { Keeps K.may_leave K.knows K.count keeper.old result hub.new keeper.new }
+    ensures few { All (λ quiet. quiet < 10) quiets.new }
+    ensures lines { SameLines hub.old hub.new }
+{
+    match serve_round(hub, keeper, wires, lines, quiets, room) {
+        Ok(()) => {}
+        Err(fault) => return Err(fault),
+    }
+    keeper.settle()
+}
+
+/// One turn of each wire that is due, in their order, and then what the turns made of the files is kept.
+fn keep_due<W: Wire, K: Keeper, A: Attendant<W>>(
+    hub: &mut Hub,
+    keeper: &mut K,
+    wires: &mut [W],
+    due: Due<'_, A>,
+    quiets: &mut [u8],
+    room: &mut TurnRoom,
+) -> Result<(), KeepFault>
+    requires same { length wires.old ≡ length due.lines.now }
+    requires counts { length quiets.old ≡ length due.lines.now }
+    requires known { All (HasLine hub.old) due.lines.now }
+    requires settled { IsSettled K.may_leave K.knows keeper.old hub.old }
+    requires few { All (λ quiet. quiet < 10) quiets.old }
+    ensures round { OnOk result ((round : List Turn) × (length round ≡ length due.entry.lines.now) ×
+        IsRound W.passed W.count due.entry.lines.now hub.old quiets.old wires.old round hub.new quiets.new wires.new) }
+    ensures breaks { OnErr result (RoundBreaks W.passed W.count W.withheld K.may_leave due.entry.lines.now hub.old quiets.old
+        wires.old hub.new wires.new keeper.new) }
+    ensures keeps { Keeps K.may_leave K.knows K.count keeper.old result hub.new keeper.new }
+    ensures few { All (λ quiet. quiet < 10) quiets.new }
+    ensures lines { SameLines hub.old hub.new }
+{
+    match serve_due(hub, keeper, wires, due, quiets, room) {
+        Ok(()) => {}
+        Err(fault) => return Err(fault),
+    }
+    keeper.settle()
+}
+
 /// One turn of each wire, in their order.
 fn serve_round<W: Wire, K: Keeper>(
     hub: &mut Hub,
@@ -143,13 +201,14 @@ fn serve_round<W: Wire, K: Keeper>(
     requires same { length wires.old ≡ length lines.now }
     requires counts { length quiets.old ≡ length lines.now }
     requires known { All (HasLine hub.old) lines.now }
-    requires settled { IsSettled K.may_leave keeper.old hub.old }
+    requires follows { K.knows keeper.old hub.old }
     requires few { All (λ quiet. quiet < 10) quiets.old }
     ensures round { OnOk result ((round : List Turn) × (length round ≡ length lines.now) ×
         IsRound W.passed W.count lines.now hub.old quiets.old wires.old round hub.new quiets.new wires.new) }
-    ensures breaks { OnErr result (RoundBreaks W.passed W.count K.may_leave lines.now hub.old quiets.old wires.old
-        hub.new wires.new keeper.new) }
-    ensures keeps { Keeps K.may_leave K.count keeper.old result hub.new keeper.new }
+    ensures stops { OnErr result (RoundStops W.passed W.count lines.now hub.old quiets.old wires.old hub.new
+        wires.new) }
+    ensures follows { Follows K.may_leave K.knows K.count keeper.old result hub.new keeper.new }
+    ensures withheld { AreWithheld W.withheld wires.old wires.new }
     ensures few { All (λ quiet. quiet < 10) quiets.new }
     ensures lines { SameLines hub.old hub.new }
 {
@@ -174,13 +233,14 @@ fn serve_due<W: Wire, K: Keeper, A: Attendant<W>>(
     requires same { length wires.old ≡ length due.lines.now }
     requires counts { length quiets.old ≡ length due.lines.now }
     requires known { All (HasLine hub.old) due.lines.now }
-    requires settled { IsSettled K.may_leave keeper.old hub.old }
+    requires follows { K.knows keeper.old hub.old }
     requires few { All (λ quiet. quiet < 10) quiets.old }
     ensures round { OnOk result ((round : List Turn) × (length round ≡ length due.entry.lines.now) ×
         IsRound W.passed W.count due.entry.lines.now hub.old quiets.old wires.old round hub.new quiets.new wires.new) }
-    ensures breaks { OnErr result (RoundBreaks W.passed W.count K.may_leave due.entry.lines.now hub.old quiets.old
-        wires.old hub.new wires.new keeper.new) }
-    ensures keeps { Keeps K.may_leave K.count keeper.old result hub.new keeper.new }
+    ensures stops { OnErr result (RoundStops W.passed W.count due.entry.lines.now hub.old quiets.old wires.old hub.new
+        wires.new) }
+    ensures follows { Follows K.may_leave K.knows K.count keeper.old result hub.new keeper.new }
+    ensures withheld { AreWithheld W.withheld wires.old wires.new }
     ensures few { All (λ quiet. quiet < 10) quiets.new }
     ensures lines { SameLines hub.old hub.new }
 {

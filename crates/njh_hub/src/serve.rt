@@ -31,15 +31,15 @@ pub fn serve_turns<W: Wire, K: Keeper>(
 ) -> Result<(), TurnsFault>
     requires same { length wires.old ≡ length lines.now }
     requires known { All (HasLine hub.old) lines.now }
-    requires settled { IsSettled K.may_leave keeper.old hub.old }
+    requires settled { IsSettled K.may_leave K.knows keeper.old hub.old }
     ensures served { OnOk result (IsServed W.passed W.count lines.now turns hub.old wires.old hub.new wires.new) }
-    ensures settled { OnOk result (IsSettled K.may_leave keeper.new hub.new) }
+    ensures settled { OnOk result (IsSettled K.may_leave K.knows keeper.new hub.new) }
     ensures faultless { OnOk result (K.count keeper.new ≡ K.count keeper.old) }
     ensures lines { SameLines hub.old hub.new }
     ensures memory { result ≡ Err TurnsFault.Memory → (hub.new ≡ hub.old) × (wires.new ≡ wires.old)
         × (keeper.new ≡ keeper.old) }
     ensures breaks { IfErr result (λ fault. fault ≢ TurnsFault.Memory → IsCounted (K.count keeper.old)
-        (K.count keeper.new) × TurnsBreak W.passed W.count K.may_leave lines.now turns hub.old wires.old hub.new
+        (K.count keeper.new) × TurnsBreak W.passed W.count W.withheld K.may_leave lines.now turns hub.old wires.old hub.new
         wires.new keeper.new) }
 {
     let mut rounds = match Rounds::new(alloc, lines) {
@@ -62,13 +62,13 @@ fn serve_rounds<W: Wire, K: Keeper>(
 ) -> Result<(), KeepFault>
     requires same { length wires.old ≡ length rounds.old.lines }
     requires known { All (HasLine hub.old) rounds.old.lines }
-    requires settled { IsSettled K.may_leave keeper.old hub.old }
+    requires settled { IsSettled K.may_leave K.knows keeper.old hub.old }
     requires calm { rounds.old.quiets ≡ no_quiets rounds.old.lines }
     ensures served { OnOk result (IsServed W.passed W.count rounds.old.lines turns hub.old wires.old hub.new
         wires.new) }
-    ensures breaks { OnErr result (TurnsBreak W.passed W.count K.may_leave rounds.old.lines turns hub.old wires.old
+    ensures breaks { OnErr result (TurnsBreak W.passed W.count W.withheld K.may_leave rounds.old.lines turns hub.old wires.old
         hub.new wires.new keeper.new) }
-    ensures keeps { Keeps K.may_leave K.count keeper.old result hub.new keeper.new }
+    ensures keeps { Keeps K.may_leave K.knows K.count keeper.old result hub.new keeper.new }
     ensures lines { SameLines hub.old hub.new }
 {
     for turn in 0..turns {

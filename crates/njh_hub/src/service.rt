@@ -29,12 +29,12 @@ pub fn attend<W: Wire, K: Keeper, A: Attendant<W>>(
 ) -> Result<(), KeepFault>
     requires same { length wires.old ≡ length rounds.old.lines }
     requires known { All (HasLine hub.old) rounds.old.lines }
-    requires settled { IsSettled K.may_leave keeper.old hub.old }
+    requires settled { IsSettled K.may_leave K.knows keeper.old hub.old }
     ensures attended { OnOk result (IsAttended W.passed W.count rounds.old.lines turns hub.old rounds.old.quiets
         wires.old hub.new rounds.new.quiets wires.new) }
-    ensures breaks { OnErr result (ServiceBreaks W.passed W.count K.may_leave rounds.old.lines turns hub.old
+    ensures breaks { OnErr result (ServiceBreaks W.passed W.count W.withheld K.may_leave rounds.old.lines turns hub.old
         rounds.old.quiets wires.old hub.new wires.new keeper.new) }
-    ensures keeps { Keeps K.may_leave K.count keeper.old result hub.new keeper.new }
+    ensures keeps { Keeps K.may_leave K.knows K.count keeper.old result hub.new keeper.new }
     ensures same { rounds.new.lines ≡ rounds.old.lines }
     ensures lines { SameLines hub.old hub.new }
 {
@@ -59,11 +59,11 @@ fn give_routes<W: Wire, K: Keeper, A: Attendant<W>>(
     keeper: &mut K,
     attendant: &mut A,
 ) -> Result<(), KeepFault>
-    requires settled { IsSettled K.may_leave keeper.old hub.old }
+    requires settled { IsSettled K.may_leave K.knows keeper.old hub.old }
     ensures given { OnOk result ((given : Option (ℕ × List GivenRoute)) × IsGiven hub.old given hub.new) }
     ensures breaks { OnErr result ((given : ℕ × List GivenRoute)
         × RoutesBreak K.may_leave hub.old given hub.new keeper.new) }
-    ensures keeps { Keeps K.may_leave K.count keeper.old result hub.new keeper.new }
+    ensures keeps { Keeps K.may_leave K.knows K.count keeper.old result hub.new keeper.new }
     ensures lines { SameLines hub.old hub.new }
 {
     match attendant.new_routes() {
@@ -79,11 +79,11 @@ fn give<W: Wire, K: Keeper, A: Attendant<W>>(
     attendant: &mut A,
     new: &NewRoutes,
 ) -> Result<(), KeepFault>
-    requires settled { IsSettled K.may_leave keeper.old hub.old }
+    requires settled { IsSettled K.may_leave K.knows keeper.old hub.old }
     ensures given { OnOk result ((given : Option (ℕ × List GivenRoute)) × IsGiven hub.old given hub.new) }
     ensures breaks { OnErr result ((given : ℕ × List GivenRoute)
         × RoutesBreak K.may_leave hub.old given hub.new keeper.new) }
-    ensures keeps { Keeps K.may_leave K.count keeper.old result hub.new keeper.new }
+    ensures keeps { Keeps K.may_leave K.knows K.count keeper.old result hub.new keeper.new }
     ensures lines { SameLines hub.old hub.new }
 {
     match set_kept(hub, keeper, new) {
@@ -99,18 +99,22 @@ fn set_kept<K: Keeper>(
     keeper: &mut K,
     new: &NewRoutes,
 ) -> Result<Result<(), HubFault>, KeepFault>
-    requires settled { IsSettled K.may_leave keeper.old hub.old }
+    requires settled { IsSettled K.may_leave K.knows keeper.old hub.old }
     ensures given { OnOk result ((given : Option (ℕ × List GivenRoute)) × IsGiven hub.old given hub.new) }
     ensures breaks { OnErr result ((given : ℕ × List GivenRoute)
         × RoutesBreak K.may_leave hub.old given hub.new keeper.new) }
-    ensures keeps { Keeps K.may_leave K.count keeper.old result hub.new keeper.new }
+    ensures keeps { Keeps K.may_leave K.knows K.count keeper.old result hub.new keeper.new }
     ensures lines { SameLines hub.old hub.new }
 {
     match hub.set_routes(new.customer, new.routes.routes()) {
         Ok(()) => {}
         Err(fault) => return Ok(Err(fault)),
     }
-    match keeper.keep(hub, new.customer) {
+    match keeper.follow(hub, new.customer) {
+        Ok(()) => {}
+        Err(fault) => return Err(fault),
+    }
+    match keeper.settle() {
         Ok(()) => Ok(Ok(())),
         Err(fault) => Err(fault),
     }

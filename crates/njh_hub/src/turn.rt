@@ -6,7 +6,7 @@ ghost use Rattle.njh_bisync.specs.Limits.{longest_frame};
 ghost use Rattle.njh_customer.specs.Part.{part_after_bytes, part_after_signal};
 ghost use Rattle.njh_hub.specs.declared.event.Event.TheVariants.{Bytes, Lost};
 ghost use Rattle.njh_hub.specs.Breaks.{Break, BrokenTurn, EventBreaks, TurnBreaks};
-ghost use Rattle.njh_hub.specs.Keeping.{Keeps, IsSettled, LeavesEither};
+ghost use Rattle.njh_hub.specs.Keeping.{Follows};
 ghost use Rattle.njh_hub.specs.OwnEvents.{event_by};
 ghost use Rattle.njh_hub.specs.Sent.{IsCounted};
 ghost use Rattle.njh_hub.specs.declared.event.Event.{Event};
@@ -73,7 +73,8 @@ impl TurnRoom {
 }
 
 /// One turn of a wire of a line: reads it once, hands the hub what came of that, and writes each frame that the hub
-/// sends, once the keeper has kept what the step made of the customer's files.
+/// sends, once the keeper has taken in what the step made of the customer's files. No byte goes out: what is written
+/// waits until it is kept.
 ///
 /// Bytes that came are handed over until they are used. Each tenth quiet in a row is a tick; `quiet` is how many came
 /// before, and the answer how many there are now: as many as before where the wire's answer is pending. A wire that is
@@ -90,14 +91,15 @@ pub fn wire_turn<W: Wire, K: Keeper>(
     room: &mut TurnRoom,
 ) -> Result<u8, KeepFault>
     requires known { HasLine hub.old id }
-    requires settled { IsSettled K.may_leave keeper.old hub.old }
+    requires follows { K.knows keeper.old hub.old }
     requires few { quiet < 10 }
     ensures turn { IfOk result (λ quiets. (turn : Turn)
         × IsTurn W.passed W.count hub.old id quiet turn wire.old hub.new wire.new
         × (quiets ≡ quiet_after quiet turn.heard)) }
     ensures breaks { OnErr result ((turn : BrokenTurn)
-        × TurnBreaks W.passed W.count K.may_leave hub.old id quiet turn wire.old hub.new wire.new keeper.new) }
-    ensures keeps { Keeps K.may_leave K.count keeper.old result hub.new keeper.new }
+        × TurnBreaks W.passed W.count hub.old id quiet turn wire.old hub.new wire.new) }
+    ensures follows { Follows K.may_leave K.knows K.count keeper.old result hub.new keeper.new }
+    ensures withheld { W.withheld wire.old wire.new }
     ensures few { IfOk result (λ quiets. quiets < 10) }
     ensures lines { SameLines hub.old hub.new }
 {
@@ -150,7 +152,7 @@ fn act_on<W: Wire, K: Keeper>(
 ) -> Result<(), KeepFault>
     requires within { IfOk answer.reading (IsReading (length answer.buffer.now)) }
     requires known { HasLine hub.old id }
-    requires settled { IsSettled K.may_leave keeper.old hub.old }
+    requires follows { K.knows keeper.old hub.old }
     requires few { answer.quiet < 10 }
     requires room { longest_frame ≤ vec_capacity out.old }
     ensures heard { let heard = heard_of answer.entry.reading answer.entry.buffer.now in
@@ -158,8 +160,9 @@ fn act_on<W: Wire, K: Keeper>(
         (wire_event id answer.entry.quiet heard) cut wire.old hub.new wire.new) }
     ensures breaks { let heard = heard_of answer.entry.reading answer.entry.buffer.now in
         OnErr result ((event : Event) × (wire_event id answer.entry.quiet heard ≡ Some event) × (break : Break)
-        × EventBreaks W.passed W.count K.may_leave hub.old event break wire.old hub.new wire.new keeper.new) }
-    ensures keeps { Keeps K.may_leave K.count keeper.old result hub.new keeper.new }
+        × EventBreaks W.passed W.count hub.old event break wire.old hub.new wire.new) }
+    ensures follows { Follows K.may_leave K.knows K.count keeper.old result hub.new keeper.new }
+    ensures withheld { W.withheld wire.old wire.new }
     ensures lines { SameLines hub.old hub.new }
     ensures room { longest_frame ≤ vec_capacity out.new }
 {
@@ -180,8 +183,8 @@ fn act_on<W: Wire, K: Keeper>(
     }
 }
 
-/// Hands the hub bytes of a line and writes each frame that it sends, once what its step made of the customer's files
-/// is kept. Where a write fails the line is lost.
+/// Hands the hub bytes of a line and writes each frame that it sends, once the keeper has followed the step. Where a
+/// write fails the line is lost.
 fn pass_bytes<W: Wire, K: Keeper>(
     hub: &mut Hub,
     keeper: &mut K,
@@ -191,13 +194,14 @@ fn pass_bytes<W: Wire, K: Keeper>(
     out: &mut Vec<u8>,
 ) -> Result<(), KeepFault>
     requires known { HasLine hub.old id }
-    requires settled { IsSettled K.may_leave keeper.old hub.old }
+    requires follows { K.knows keeper.old hub.old }
     requires room { longest_frame ≤ vec_capacity out.old }
     ensures done { OnOk result ((cut : Option ℕ)
         × IsDone W.passed W.count hub.old (Bytes id piece.now) cut wire.old hub.new wire.new) }
-    ensures breaks { OnErr result ((break : Break) × EventBreaks W.passed W.count K.may_leave hub.old
-        (Bytes id piece.now) break wire.old hub.new wire.new keeper.new) }
-    ensures keeps { Keeps K.may_leave K.count keeper.old result hub.new keeper.new }
+    ensures breaks { OnErr result ((break : Break) × EventBreaks W.passed W.count hub.old
+        (Bytes id piece.now) break wire.old hub.new wire.new) }
+    ensures follows { Follows K.may_leave K.knows K.count keeper.old result hub.new keeper.new }
+    ensures withheld { W.withheld wire.old wire.new }
     ensures lines { SameLines hub.old hub.new }
     ensures room { longest_frame ≤ vec_capacity out.new }
 {
@@ -208,7 +212,7 @@ fn pass_bytes<W: Wire, K: Keeper>(
     while taken < piece.len() {
         let (_, left) = piece.split_at(taken);
         let used = take_bytes(hub, id, left, out);
-        match keeper.keep(hub, id.customer) {
+        match keeper.follow(hub, id.customer) {
             Ok(()) => {}
             Err(fault) => return Err(fault),
         }
@@ -221,8 +225,8 @@ fn pass_bytes<W: Wire, K: Keeper>(
     Ok(())
 }
 
-/// Hands the hub a signal on a line and writes the frame that it sends, once what the step made of the customer's files
-/// is kept. Where the write fails the line is lost.
+/// Hands the hub a signal on a line and writes the frame that it sends, once the keeper has followed the step. Where
+/// the write fails the line is lost.
 fn pass_signal<W: Wire, K: Keeper>(
     hub: &mut Hub,
     keeper: &mut K,
@@ -232,18 +236,19 @@ fn pass_signal<W: Wire, K: Keeper>(
     out: &mut Vec<u8>,
 ) -> Result<(), KeepFault>
     requires known { HasLine hub.old id }
-    requires settled { IsSettled K.may_leave keeper.old hub.old }
+    requires follows { K.knows keeper.old hub.old }
     requires room { longest_frame ≤ vec_capacity out.old }
     ensures done { OnOk result ((cut : Option ℕ)
         × IsDone W.passed W.count hub.old (event_by signal id) cut wire.old hub.new wire.new) }
-    ensures breaks { OnErr result ((break : Break) × EventBreaks W.passed W.count K.may_leave hub.old
-        (event_by signal id) break wire.old hub.new wire.new keeper.new) }
-    ensures keeps { Keeps K.may_leave K.count keeper.old result hub.new keeper.new }
+    ensures breaks { OnErr result ((break : Break) × EventBreaks W.passed W.count hub.old
+        (event_by signal id) break wire.old hub.new wire.new) }
+    ensures follows { Follows K.may_leave K.knows K.count keeper.old result hub.new keeper.new }
+    ensures withheld { W.withheld wire.old wire.new }
     ensures lines { SameLines hub.old hub.new }
     ensures room { longest_frame ≤ vec_capacity out.new }
 {
     take_signal(hub, id, signal, out);
-    match keeper.keep(hub, id.customer) {
+    match keeper.follow(hub, id.customer) {
         Ok(()) => {}
         Err(fault) => return Err(fault),
     }
@@ -253,7 +258,7 @@ fn pass_signal<W: Wire, K: Keeper>(
     }
 }
 
-/// The loss of a line, and its customer's files kept behind it. No frame goes out.
+/// The loss of a line, which the keeper follows. It sends no frame.
 fn lose<K: Keeper>(
     hub: &mut Hub,
     keeper: &mut K,
@@ -261,15 +266,14 @@ fn lose<K: Keeper>(
     out: &mut Vec<u8>,
 ) -> Result<(), KeepFault>
     requires known { HasLine hub.old id }
-    requires settled { IsSettled K.may_leave keeper.old hub.old }
+    requires follows { K.knows keeper.old hub.old }
     requires room { longest_frame ≤ vec_capacity out.old }
     ensures step { let t = part_after_signal (part id.customer hub.old) id.number Signal.Lost in
         IsTaken hub.old id t.after t.frame hub.new out.new }
-    ensures crash { LeavesEither K.may_leave keeper.new hub.old hub.new }
-    ensures keeps { Keeps K.may_leave K.count keeper.old result hub.new keeper.new }
+    ensures follows { Follows K.may_leave K.knows K.count keeper.old result hub.new keeper.new }
 {
     take_signal(hub, id, Signal::Lost, out);
-    keeper.keep(hub, id.customer)
+    keeper.follow(hub, id.customer)
 }
 
 /// A step by bytes, in the room that `out` has.
@@ -308,6 +312,7 @@ fn take_signal(hub: &mut Hub, id: LineId, signal: Signal, out: &mut Vec<u8>)
 fn send<W: Wire>(wire: &mut W, frame: &[u8]) -> Result<(), WireFault>
     ensures ok { OnOk result (W.passed wire.old wire.new (frame_acts frame.now)) }
     ensures err { OnErr result (W.passed wire.old wire.new (Unsent frame.now ∷ []) × (0 < length frame.now)) }
+    ensures withheld { W.withheld wire.old wire.new }
     ensures counts { W.count wire.old ≤ W.count wire.new }
     ensures counted { OnErr result (IsCounted (W.count wire.old) (W.count wire.new)) }
 {

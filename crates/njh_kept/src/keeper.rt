@@ -103,8 +103,8 @@ impl<'a, R: Clock, S: Alter + Drop> SpoolKeeper<'a, R, S> {
         writer.into_store()
     }
 
-    /// Keeps what a step made of a customer's files.
-    fn keep_files(&mut self, hub: &Hub, customer: u16) -> Result<(), Error>
+    /// Writes what a step made of a customer's files. Nothing of it is committed.
+    fn follow_files(&mut self, hub: &Hub, customer: u16) -> Result<(), Error>
         ensures { self.new.failures ≡ self.old.failures }
     {
         if self.failures > 0 || usize::from(customer) >= self.customers.len() {
@@ -114,7 +114,16 @@ impl<'a, R: Clock, S: Alter + Drop> SpoolKeeper<'a, R, S> {
         let own = &mut self.customers[usize::from(customer)];
         follow(&mut self.writer, own, hub, customer)?;
         keep_portions(&mut self.writer, own, hub, customer)?;
-        self.writer.sweep()?;
+        self.writer.sweep()
+    }
+
+    /// Commits what was written, where whole files changed or much waits.
+    fn settle_files(&mut self) -> Result<(), Error>
+        ensures { self.new.failures ≡ self.old.failures }
+    {
+        if self.failures > 0 {
+            return Err(Error::SqliteFailure(ErrorCode::Closed));
+        }
         self.writer.settle()
     }
 
@@ -160,14 +169,26 @@ impl<'a, R: Clock, S: Alter + Drop> SpoolKeeper<'a, R, S> {
 impl<'a, R: Clock, S: Alter + Drop> Keeper for SpoolKeeper<'a, R, S> {
     ghost may_leave = { λ keeper left. ⊥ };
 
+    ghost knows = { λ keeper parts. ⊤ };
+
     ghost count = { λ keeper. keeper.failures };
 
     fn failures(&self) -> u64 {
         self.failures
     }
 
-    fn keep(&mut self, hub: &Hub, customer: u16) -> Result<(), KeepFault> {
-        match self.keep_files(hub, customer) {
+    fn follow(&mut self, hub: &Hub, customer: u16) -> Result<(), KeepFault> {
+        match self.follow_files(hub, customer) {
+            Ok(()) => Ok(()),
+            Err(_) => {
+                self.fail();
+                Err(KeepFault)
+            }
+        }
+    }
+
+    fn settle(&mut self) -> Result<(), KeepFault> {
+        match self.settle_files() {
             Ok(()) => Ok(()),
             Err(_) => {
                 self.fail();

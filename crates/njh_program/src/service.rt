@@ -165,7 +165,7 @@ fn serve_over<F: Files + Net + Clock + AllocGlobal, L: Write + Drop, D: Depot>(
     depot: &mut D,
 ) -> Result<(), Failure>
     ensures served { OnOk result ((tables : TableFile) × AreGiven (Some path.now) tables
-        × AreServedFrom D.opens D.may_leave depot.old tables options.turns) }
+        × AreServedFrom D.opens D.may_leave D.knows depot.old tables options.turns) }
     ensures refused { IfErr result (AreRefused (Some path.now)) }
 {
     // Before the tables are read, so that no change is missed.

@@ -34,9 +34,10 @@ pub record HasServed {W : Type 0} (passed : W → W → List WireAct → Type 0)
 
 -- Such a service that the keeper's fault broke off.
 pub record IsBrokenOff {W K : Type 0} (passed : W → W → List WireAct → Type 0) (count : W → ℕ)
-    (may_leave : K → List (List KeptFile) → Type 0) (turns : ℕ) (old new : Served W) (new_keeper : K) : Type 0 where
-  pub breaks : ServiceBreaks passed count may_leave old.lines turns old.hub old.quiets old.wires new.hub new.wires
-      new_keeper
+    (withheld : W → W → Type 0) (may_leave : K → List (List KeptFile) → Type 0) (turns : ℕ) (old new : Served W)
+    (new_keeper : K) : Type 0 where
+  pub breaks : ServiceBreaks passed count withheld may_leave old.lines turns old.hub old.quiets old.wires new.hub
+      new.wires new_keeper
   pub lines : new.lines ≡ old.lines
 
 -- A service that was just opened: a hub that was opened so, and these lines of it, no two on one port.
@@ -73,6 +74,7 @@ pub record AreServed (opened : List Part → Type 0) (tables : TableFile) (turns
 -- The hub was opened by this depot: with what was kept there, and nothing else could have been left of it then by a
 -- crash.
 abbrev pub AreServedFrom : {D : Type 0} → (D → D → TableFile → List Part → Type 0)
-    → (D → List (List KeptFile) → Type 0) → D → TableFile → Option ℕ → Type 0
-AreServedFrom {D} opens may_leave depot tables turns =
-    (opened : D) × AreServed (λ parts. opens depot opened tables parts × IsSettled may_leave opened parts) tables turns
+    → (D → List (List KeptFile) → Type 0) → (D → List Part → Type 0) → D → TableFile → Option ℕ → Type 0
+AreServedFrom {D} opens may_leave knows depot tables turns =
+    (opened : D)
+    × AreServed (λ parts. opens depot opened tables parts × IsSettled may_leave knows opened parts) tables turns

@@ -41,14 +41,14 @@ impl<W: Drop, A: Drop> Model for Service<W, A> {
 
 impl<W: Wire + Drop, A: Attendant<W> + Drop> Service<W, A> {
     /// So many turns of each line, or turns without an end where no number is given: as many as can be counted. What
-    /// becomes of the customers' whole files is kept by this keeper before it shows on a line. `Err` where the keeper
-    /// fails; nothing is read or written after that.
+    /// becomes of the customers' whole files in a round is kept by this keeper before a byte of that round goes out.
+    /// `Err` where the keeper fails; nothing is read or written after that.
     pub fn run<K: Keeper>(&mut self, keeper: &mut K, turns: Option<u32>) -> Result<(), KeepFault>
-        requires settled { IsSettled K.may_leave keeper.old self.old.hub }
+        requires settled { IsSettled K.may_leave K.knows keeper.old self.old.hub }
         ensures served { OnOk result (HasServed W.passed W.count (turn_count turns) self.old self.new) }
-        ensures breaks { OnErr result (IsBrokenOff W.passed W.count K.may_leave (turn_count turns) self.old self.new
-            keeper.new) }
-        ensures keeps { Keeps K.may_leave K.count keeper.old result self.new.hub keeper.new }
+        ensures breaks { OnErr result (IsBrokenOff W.passed W.count W.withheld K.may_leave (turn_count turns) self.old
+            self.new keeper.new) }
+        ensures keeps { Keeps K.may_leave K.knows K.count keeper.old result self.new.hub keeper.new }
     {
         let turns = turn_count(turns);
         attend(

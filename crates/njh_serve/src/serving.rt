@@ -63,7 +63,7 @@ pub fn serve<R: Net + Clock + AllocGlobal, L: Write + Drop, S: TableSource + Dro
     setup: Setup<L, S>,
     turns: Option<u32>,
 ) -> Result<(), ServeFault>
-    ensures { OnOk result (AreServedFrom D.opens D.may_leave depot.old tables turns) }
+    ensures { OnOk result (AreServedFrom D.opens D.may_leave D.knows depot.old tables turns) }
 {
     match station_of(rt, setup) {
         Ok(station) => serve_on(rt.alloc(), depot, tables, station, turns),
@@ -124,7 +124,7 @@ fn serve_on<N: Network + Drop, L: Write + Drop, S: TableSource + Drop, D: Depot>
     station: Station<N, L, S>,
     turns: Option<u32>,
 ) -> Result<(), ServeFault>
-    ensures { OnOk result (AreServedFrom D.opens D.may_leave depot.old tables turns) }
+    ensures { OnOk result (AreServedFrom D.opens D.may_leave D.knows depot.old tables turns) }
 {
     let mut service = service_on(alloc, depot, tables, station, turns.is_none())?;
     match service.run(depot, turns) {
@@ -150,7 +150,7 @@ pub fn service_on<N: Network + Drop, L: Write + Drop, S: TableSource + Drop, D: 
     needed: bool,
 ) -> Result<Service<LineWire<N::Connection>, Exchange<N, L, S>>, ServeFault>
     ensures opened { IfOk result (IsOpened (D.opens depot.old depot.new tables) tables) }
-    ensures settled { IfOk result (λ service. IsSettled D.may_leave depot.new service.hub) }
+    ensures settled { IfOk result (λ service. IsSettled D.may_leave D.knows depot.new service.hub) }
 {
     match endpoints_of(alloc, &tables) {
         Ok(endpoints) => service_of(alloc, depot, tables, &endpoints, station, needed),
@@ -173,7 +173,7 @@ fn service_of<N: Network + Drop, L: Write + Drop, S: TableSource + Drop, D: Depo
 ) -> Result<Service<LineWire<N::Connection>, Exchange<N, L, S>>, ServeFault>
     requires { All (λ endpoint. HasLine tables endpoint.line) endpoints.now }
     ensures opened { IfOk result (IsOpenedOn (D.opens depot.old depot.new tables) endpoints.now) }
-    ensures settled { IfOk result (λ service. IsSettled D.may_leave depot.new service.hub) }
+    ensures settled { IfOk result (λ service. IsSettled D.may_leave D.knows depot.new service.hub) }
 {
     let exchange = match exchange_on(alloc, &tables, endpoints, station, needed) {
         Ok(exchange) => exchange,
@@ -202,7 +202,7 @@ fn hub_of<D: Depot>(
     requires { All (λ endpoint. HasLine tables endpoint.line) endpoints.now }
     ensures opened { IfOk result (λ hub. D.opens depot.old depot.new tables hub) }
     ensures known { IfOk result (λ hub. All (λ endpoint. HubHasLine hub endpoint.line) endpoints.now) }
-    ensures settled { IfOk result (λ hub. IsSettled D.may_leave depot.new hub) }
+    ensures settled { IfOk result (λ hub. IsSettled D.may_leave D.knows depot.new hub) }
 {
     let _endpoints = endpoints;
     match depot.open(alloc, tables) {

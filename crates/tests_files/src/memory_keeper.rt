@@ -8,21 +8,26 @@ use njh_hub::{Hub, KeepFault, Keeper};
 /// Counts what it is called for, and fails at one of its calls. It keeps nothing.
 #[derive(Drop)]
 pub struct MemoryKeeper {
-    /// How often it was called.
-    pub calls: u32,
-    /// Whose files it was to keep last.
+    /// How many steps it was to follow.
+    pub steps: u32,
+    /// How often it was to settle.
+    pub settlings: u32,
+    /// Whose step it was to follow last.
     pub customer: u16,
-    broken_call: u32,
+    broken_step: u32,
+    broken_settling: u32,
     failures: u64,
 }
 
 impl MemoryKeeper {
-    /// One that fails at a call, by its number from 1 on; 0 is none.
-    pub fn new(broken_call: u32) -> MemoryKeeper {
+    /// One that fails at a step, and at a settling, by their numbers from 1 on; 0 is none.
+    pub fn new(broken_step: u32, broken_settling: u32) -> MemoryKeeper {
         MemoryKeeper {
-            calls: 0,
+            steps: 0,
+            settlings: 0,
             customer: 0,
-            broken_call,
+            broken_step,
+            broken_settling,
             failures: 0,
         }
     }
@@ -37,7 +42,11 @@ impl MemoryKeeper {
 }
 
 impl Keeper for MemoryKeeper {
+    ghost use Rattle.std.specs.Prelude.{⊤};
+
     ghost may_leave = { λ keeper left. ⊥ };
+
+    ghost knows = { λ keeper parts. ⊤ };
 
     ghost count = { λ keeper. keeper.failures };
 
@@ -45,10 +54,19 @@ impl Keeper for MemoryKeeper {
         self.failures
     }
 
-    fn keep(&mut self, _hub: &Hub, customer: u16) -> Result<(), KeepFault> {
-        self.calls = self.calls.saturating_add(1);
+    fn follow(&mut self, _hub: &Hub, customer: u16) -> Result<(), KeepFault> {
+        self.steps = self.steps.saturating_add(1);
         self.customer = customer;
-        if self.calls == self.broken_call {
+        if self.steps == self.broken_step {
+            self.fail();
+            return Err(KeepFault);
+        }
+        Ok(())
+    }
+
+    fn settle(&mut self) -> Result<(), KeepFault> {
+        self.settlings = self.settlings.saturating_add(1);
+        if self.settlings == self.broken_settling {
             self.fail();
             return Err(KeepFault);
         }

@@ -101,7 +101,7 @@ pub fn serve_kept<R: Abort, K: Keeper>(
     wires: &mut [MemoryWire],
     turns: u32,
 ) -> Result<Result<(), TurnsFault>, Fail>
-    requires fresh { (parts : List Part) → IsSettled K.may_leave keeper.old parts }
+    requires fresh { (parts : List Part) → IsSettled K.may_leave K.knows keeper.old parts }
 {
     let mut hub = opened(alloc)?;
     let lines = first_lines(rt, alloc, &hub, wires.len())?;
@@ -146,7 +146,7 @@ pub fn attend_kept<R: Abort, K: Keeper>(
     wires: &mut [MemoryWire],
     attendant: &mut MemoryAttendant,
 ) -> Result<Result<(), KeepFault>, Fail>
-    requires fresh { (parts : List Part) → IsSettled K.may_leave keeper.old parts }
+    requires fresh { (parts : List Part) → IsSettled K.may_leave K.knows keeper.old parts }
 {
     let mut hub = opened(alloc)?;
     let lines = first_lines(rt, alloc, &hub, wires.len())?;

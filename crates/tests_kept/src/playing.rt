@@ -7,6 +7,7 @@ use crate::spool_files::{FileKeeper, SpoolFiles, hub_of, kill};
 use njh_encode::encode_script;
 use njh_hub::{Hub, Keeper};
 use njh_table::LineId;
+use std::alloc::Global;
 use std::rt::HostRuntime;
 use std::str;
 use std::test::Fail;
@@ -79,14 +80,40 @@ fn play_event(
     let (event, rest) = line.split_once(" ").ok_or("no event")?;
     let (name, digits) = rest.split_once(" ").unwrap_or((rest, ""));
     let id = line_of(name).ok_or("no line")?;
-    let mut out = Vec::new(files.allocator());
     match event {
-        "BYTES" => return play_bytes(files, keeper, hub, id, digits),
-        "TICK" => hub.tick(id, &mut out)?,
-        "LOST" => hub.lost(id, &mut out)?,
-        _ => return Err("no such event".into()),
+        "BYTES" => play_bytes(files, keeper, hub, id, digits),
+        "TICK" => play_tick(files.allocator(), keeper, hub, id),
+        "LOST" => play_loss(files.allocator(), keeper, hub, id),
+        _ => Err("no such event".into()),
     }
-    keep(keeper, hub, id)
+}
+
+/// Plays a tick.
+fn play_tick(
+    alloc: Global,
+    keeper: &mut FileKeeper<'_>,
+    hub: &mut Hub,
+    id: LineId,
+) -> Result<(), Fail> {
+    let mut out = Vec::new(alloc);
+    hub.tick(id, &mut out)?;
+    drop(out);
+    keeper.follow(hub, id.customer)?;
+    Ok(keeper.settle()?)
+}
+
+/// Plays the loss of a line.
+fn play_loss(
+    alloc: Global,
+    keeper: &mut FileKeeper<'_>,
+    hub: &mut Hub,
+    id: LineId,
+) -> Result<(), Fail> {
+    let mut out = Vec::new(alloc);
+    hub.lost(id, &mut out)?;
+    drop(out);
+    keeper.follow(hub, id.customer)?;
+    Ok(keeper.settle()?)
 }
 
 /// Plays bytes, in as many steps as they need.
@@ -103,20 +130,26 @@ fn play_bytes(
         if left.is_empty() {
             return Ok(());
         }
-        let mut out = Vec::new(files.allocator());
-        let taken = hub.take(id, left, &mut out)?;
+        let taken = play_step(files.allocator(), keeper, hub, id, left)?;
         left = left.get(taken..).unwrap_or(&[]);
-        keep(keeper, hub, id)?;
     }
     Ok(())
 }
 
-/// Keeps what a step made of the files.
-fn keep(keeper: &mut FileKeeper<'_>, hub: &Hub, id: LineId) -> Result<(), Fail> {
-    if hub.used(id.customer).is_ok() {
-        keeper.keep(hub, id.customer)?;
-    }
-    Ok(())
+/// Plays a step by bytes, and answers how many it took.
+fn play_step(
+    alloc: Global,
+    keeper: &mut FileKeeper<'_>,
+    hub: &mut Hub,
+    id: LineId,
+    piece: &[u8],
+) -> Result<usize, Fail> {
+    let mut out = Vec::new(alloc);
+    let taken = hub.take(id, piece, &mut out)?;
+    drop(out);
+    keeper.follow(hub, id.customer)?;
+    keeper.settle()?;
+    Ok(taken)
 }
 
 /// Checks that what is kept is what the hub has, and that these files of a customer are, where they are given.

@@ -2,8 +2,8 @@ use Rattle.std.proofs.Common.{ℕ, ◌<◌, [], ◌∷◌, ◌++◌, get_or, set
 use Rattle.std.proofs.lemmas.List.{length-append}
 use Rattle.std.proofs.lemmas.List.Elements.{All-set}
 use Rattle.njh_hub.specs.Turns.{IsRound, no_line_id}
-use Rattle.njh_hub.proofs.BreakLaws.{round_breaks}
-use Rattle.njh_hub.proofs.KeepingLaws.{keeps_ill, keeps_well}
+use Rattle.njh_hub.proofs.BreakLaws.{round_stops, withheld_on}
+use Rattle.njh_hub.proofs.KeepingLaws.{follows_ill, follows_well, no_more_then}
 use Rattle.njh_hub.proofs.RoundLaws.{GoesRound, round_more, round_none}
 use Rattle.njh_hub.proofs.RunningLaws.{counted_from}
 use Rattle.njh_hub.proofs.rounds.serve_round.Goals as goal
@@ -13,7 +13,9 @@ loop-i-init g c = record {
   turns = ([], refl, round_none g.W.Wire.passed g.W.Wire.count c.args.lines.now c.args.hub.now c.args.quiets.now c.args.wires.now);
   few = c.requires.few;
   same = λ d. refl;
-  settled = c.requires.settled;
+  withheld = λ k d. g.met.W.Wire.withheld_none (get_or c.args.wires.now k d);
+  knows = c.requires.follows;
+  leaves = λ left now. now;
   kept = refl;
 }
 
@@ -52,22 +54,35 @@ loop-i-preserved g c =
       );
       few = All-set (λ (q : ℕ). q < 10) c.loop-i.quiets c.loop-i.i c.in-Ok.quiet c.in-Ok.ensures.few c.loop-i.invariant.few;
       same = λ d. c.in-Ok.ensures.lines d ∙ c.loop-i.invariant.same d;
-      settled = c.in-Ok.ensures.keeps.settled;
-      kept = c.in-Ok.ensures.keeps.faultless ∙ c.loop-i.invariant.kept;
+      withheld = withheld_on g.W.Wire.withheld g.met.W.Wire.withheld_more c.args.wires.now c.loop-i.wires c.loop-i.i
+          (get_or c.loop-i.wires c.loop-i.i c.index-wires-i.result) c.wire_turn.new.wire (omega (arith, c.requires.same))
+          (ap (get_or c.loop-i.wires c.loop-i.i) c.index-wires-i.is) c.loop-i.invariant.withheld c.in-Ok.ensures.withheld;
+      knows = c.in-Ok.ensures.follows.known;
+      leaves = no_more_then g.K.Keeper.may_leave c.args.keeper.now c.loop-i.keeper c.wire_turn.new.keeper c.loop-i.invariant.leaves
+          c.in-Ok.ensures.follows.leaves;
+      kept = c.in-Ok.ensures.follows.faultless ∙ c.loop-i.invariant.kept;
     }
 
-pub returns-in-Err-clause-breaks : goal.returns-in-Err-clause-breaks
-returns-in-Err-clause-breaks g c =
+pub returns-in-Err-clause-stops : goal.returns-in-Err-clause-stops
+returns-in-Err-clause-stops g c =
     let so_far = c.loop-i.invariant.turns in
     let broke = c.in-Err.ensures.breaks in
-    round_breaks c.loop-i.i (get_or c.loop-i.wires c.loop-i.i c.index-wires-i.result) broke.0 so_far.2 so_far.1 c.loop-i-test.true
+    round_stops c.loop-i.i (get_or c.loop-i.wires c.loop-i.i c.index-wires-i.result) broke.0 so_far.2 so_far.1 c.loop-i-test.true
     (omega (arith, c.requires.same)) (ap (get_or c.loop-i.wires c.loop-i.i) c.index-wires-i.is) broke.1
 
-pub returns-in-Err-clause-keeps : goal.returns-in-Err-clause-keeps
-returns-in-Err-clause-keeps g c =
-    keeps_ill g.K.Keeper.may_leave g.K.Keeper.count c.args.keeper.now c.wire_turn.new.keeper c.in-Err.fault c.wire_turn.new.hub
-    (omega (arith, c.loop-i.invariant.kept, c.in-Err.ensures.keeps.counts))
-    (counted_from _ _ _ (omega (arith, c.loop-i.invariant.kept)) c.in-Err.ensures.keeps.counted)
+pub returns-in-Err-clause-follows : goal.returns-in-Err-clause-follows
+returns-in-Err-clause-follows g c =
+    follows_ill g.K.Keeper.may_leave g.K.Keeper.knows g.K.Keeper.count c.args.keeper.now c.wire_turn.new.keeper c.in-Err.fault
+    c.wire_turn.new.hub (no_more_then g.K.Keeper.may_leave c.args.keeper.now c.loop-i.keeper c.wire_turn.new.keeper
+    c.loop-i.invariant.leaves c.in-Err.ensures.follows.leaves)
+    (omega (arith, c.loop-i.invariant.kept, c.in-Err.ensures.follows.counts))
+    (counted_from _ _ _ (omega (arith, c.loop-i.invariant.kept)) c.in-Err.ensures.follows.counted)
+
+pub returns-in-Err-clause-withheld : goal.returns-in-Err-clause-withheld
+returns-in-Err-clause-withheld g c =
+    withheld_on g.W.Wire.withheld g.met.W.Wire.withheld_more c.args.wires.now c.loop-i.wires c.loop-i.i
+    (get_or c.loop-i.wires c.loop-i.i c.index-wires-i.result) c.wire_turn.new.wire (omega (arith, c.requires.same))
+    (ap (get_or c.loop-i.wires c.loop-i.i) c.index-wires-i.is) c.loop-i.invariant.withheld c.in-Err.ensures.withheld
 
 pub returns-in-Err-clause-few : goal.returns-in-Err-clause-few
 returns-in-Err-clause-few g c = c.loop-i.invariant.few
@@ -80,10 +95,13 @@ returns-clause-round g c =
     let turns = c.loop-i.invariant.turns in
     (turns.0, omega (arith, turns.1), turns.2)
 
-pub returns-clause-keeps : goal.returns-clause-keeps
-returns-clause-keeps g c =
-    keeps_well g.K.Keeper.may_leave g.K.Keeper.count c.args.keeper.now c.loop-i.keeper tt c.loop-i.hub
-    c.loop-i.invariant.settled c.loop-i.invariant.kept
+pub returns-clause-follows : goal.returns-clause-follows
+returns-clause-follows g c =
+    follows_well g.K.Keeper.may_leave g.K.Keeper.knows g.K.Keeper.count c.args.keeper.now c.loop-i.keeper tt c.loop-i.hub
+    c.loop-i.invariant.knows c.loop-i.invariant.leaves c.loop-i.invariant.kept
+
+pub returns-clause-withheld : goal.returns-clause-withheld
+returns-clause-withheld g c = c.loop-i.invariant.withheld
 
 pub returns-clause-few : goal.returns-clause-few
 returns-clause-few g c = c.loop-i.invariant.few

@@ -1,6 +1,7 @@
 use Rattle.std.proofs.Common.{◌≡◌, ◌<◌, List, length}
 use Rattle.std.specs.Prelude.{All}
-use Rattle.njh_hub.specs.Keeping.{IsSettled}
+use Rattle.njh_hub.specs.Breaks.{AreWithheld}
+use Rattle.njh_hub.specs.Keeping.{LeavesNoMore}
 use Rattle.njh_hub.specs.Turns.{Turn, IsRound}
 use Rattle.njh_hub.specs.WholeHub.{SameLines}
 use Rattle.njh_hub.proofs.rounds.serve_round.Given as goal
@@ -12,6 +13,8 @@ invariant-loop-i g l = record {
       IsRound g.W.Wire.passed g.W.Wire.count l.lines l.fn.hub l.fn.quiets l.fn.wires turns l.hub l.quiets l.wires;
   few : All (λ quiet. quiet < 10) l.quiets;
   same : SameLines l.fn.hub l.hub;
-  settled : IsSettled g.K.Keeper.may_leave l.keeper l.hub;
+  withheld : AreWithheld g.W.Wire.withheld l.fn.wires l.wires;
+  knows : g.K.Keeper.knows l.keeper l.hub;
+  leaves : LeavesNoMore g.K.Keeper.may_leave l.fn.keeper l.keeper;
   kept : g.K.Keeper.count l.keeper ≡ g.K.Keeper.count l.fn.keeper;
 }

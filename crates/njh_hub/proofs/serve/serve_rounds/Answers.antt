@@ -61,7 +61,7 @@ loop-turn-preserved g c =
 pub returns-in-Err-clause-breaks : goal.returns-in-Err-clause-breaks
 returns-in-Err-clause-breaks g c =
     let so_far = c.loop-turn.invariant.rounds in
-    let P : List LineId → Type 0 = λ ls. RoundBreaks g.W.Wire.passed g.W.Wire.count g.K.Keeper.may_leave ls c.loop-turn.hub
+    let P : List LineId → Type 0 = λ ls. RoundBreaks g.W.Wire.passed g.W.Wire.count g.W.Wire.withheld g.K.Keeper.may_leave ls c.loop-turn.hub
     c.loop-turn.rounds.quiets c.loop-turn.wires c.take.new.hub c.take.new.wires c.take.new.keeper in
     record {
       rounds = c.loop-turn.turn;
@@ -82,7 +82,7 @@ returns-in-Err-clause-breaks g c =
 
 pub returns-in-Err-clause-keeps : goal.returns-in-Err-clause-keeps
 returns-in-Err-clause-keeps g c =
-    keeps_ill g.K.Keeper.may_leave g.K.Keeper.count c.args.keeper.now c.take.new.keeper c.in-Err.fault c.take.new.hub
+    keeps_ill g.K.Keeper.may_leave g.K.Keeper.knows g.K.Keeper.count c.args.keeper.now c.take.new.keeper c.in-Err.fault c.take.new.hub
     (omega (arith, c.loop-turn.invariant.kept, c.in-Err.ensures.keeps.counts))
     (counted_from _ _ _ (omega (arith, c.loop-turn.invariant.kept)) c.in-Err.ensures.keeps.counted)
 
@@ -91,7 +91,7 @@ returns-in-Err-clause-lines g c = λ d. c.in-Err.ensures.lines d ∙ c.loop-turn
 
 pub returns-clause-keeps : goal.returns-clause-keeps
 returns-clause-keeps g c =
-    keeps_well g.K.Keeper.may_leave g.K.Keeper.count c.args.keeper.now c.loop-turn.keeper tt c.loop-turn.hub
+    keeps_well g.K.Keeper.may_leave g.K.Keeper.knows g.K.Keeper.count c.args.keeper.now c.loop-turn.keeper tt c.loop-turn.hub
     c.loop-turn.invariant.settled c.loop-turn.invariant.kept
 
 pub returns-clause-served : goal.returns-clause-served

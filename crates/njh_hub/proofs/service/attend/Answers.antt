@@ -96,7 +96,7 @@ returns-in-Err-clause-breaks g c =
 
 pub returns-in-Err-clause-keeps : goal.returns-in-Err-clause-keeps
 returns-in-Err-clause-keeps g c =
-    keeps_ill g.K.Keeper.may_leave g.K.Keeper.count c.args.keeper.now c.give_routes.new.keeper c.in-Err.fault c.give_routes.new.hub
+    keeps_ill g.K.Keeper.may_leave g.K.Keeper.knows g.K.Keeper.count c.args.keeper.now c.give_routes.new.keeper c.in-Err.fault c.give_routes.new.hub
     (omega (arith, c.loop-turn.invariant.kept, c.in-Err.ensures.keeps.counts))
     (counted_from _ _ _ (omega (arith, c.loop-turn.invariant.kept)) c.in-Err.ensures.keeps.counted)
 
@@ -118,7 +118,7 @@ returns-in-Err-take_due-clause-breaks g c =
     c.before-in-loop-turn.ensures in
     let routed = at_given passed count lines c.args.hub.now quiets c.args.wires.now so_far.0 c.loop-turn.hub c.loop-turn.rounds.quiets
     c.before-in-loop-turn.new.wires given.0 c.give_routes.new.hub before given.1 in
-    let P : List LineId → Type 0 = λ ls. RoundBreaks passed count g.K.Keeper.may_leave ls c.give_routes.new.hub
+    let P : List LineId → Type 0 = λ ls. RoundBreaks passed count g.W.Wire.withheld g.K.Keeper.may_leave ls c.give_routes.new.hub
     c.loop-turn.rounds.quiets c.before-in-loop-turn.new.wires c.take_due.new.hub c.take_due.new.wires c.take_due.new.keeper in
     record {
       rounds = c.loop-turn.turn;
@@ -134,7 +134,7 @@ returns-in-Err-take_due-clause-breaks g c =
 
 pub returns-in-Err-take_due-clause-keeps : goal.returns-in-Err-take_due-clause-keeps
 returns-in-Err-take_due-clause-keeps g c =
-    keeps_ill g.K.Keeper.may_leave g.K.Keeper.count c.args.keeper.now c.take_due.new.keeper c.in-Err-take_due.fault c.take_due.new.hub
+    keeps_ill g.K.Keeper.may_leave g.K.Keeper.knows g.K.Keeper.count c.args.keeper.now c.take_due.new.keeper c.in-Err-take_due.fault c.take_due.new.hub
     (omega (arith, c.loop-turn.invariant.kept, c.in-Ok.ensures.keeps.counts, c.in-Err-take_due.ensures.keeps.counts))
     (counted_from _ _ _ (omega (arith, c.loop-turn.invariant.kept, c.in-Ok.ensures.keeps.faultless))
     c.in-Err-take_due.ensures.keeps.counted)
@@ -150,7 +150,7 @@ returns-in-Err-take_due-clause-lines g c = λ d.
 
 pub returns-clause-keeps : goal.returns-clause-keeps
 returns-clause-keeps g c =
-    keeps_well g.K.Keeper.may_leave g.K.Keeper.count c.args.keeper.now c.loop-turn.keeper tt c.loop-turn.hub
+    keeps_well g.K.Keeper.may_leave g.K.Keeper.knows g.K.Keeper.count c.args.keeper.now c.loop-turn.keeper tt c.loop-turn.hub
     c.loop-turn.invariant.settled c.loop-turn.invariant.kept
 
 pub take_due-requires-clause-same : goal.take_due-requires-clause-same

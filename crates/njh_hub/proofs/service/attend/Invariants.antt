@@ -12,6 +12,6 @@ invariant-loop-turn g l = record {
       IsAt g.W.Wire.passed g.W.Wire.count l.fn.rounds.lines l.fn.hub l.fn.rounds.quiets l.fn.wires story l.hub l.rounds.quiets l.wires;
   lines : l.rounds.lines ≡ l.fn.rounds.lines;
   same : SameLines l.fn.hub l.hub;
-  settled : IsSettled g.K.Keeper.may_leave l.keeper l.hub;
+  settled : IsSettled g.K.Keeper.may_leave g.K.Keeper.knows l.keeper l.hub;
   kept : g.K.Keeper.count l.keeper ≡ g.K.Keeper.count l.fn.keeper;
 }

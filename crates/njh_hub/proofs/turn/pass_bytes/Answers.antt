@@ -2,13 +2,14 @@ use Rattle.std.proofs.Common.{◌≡◌, ℕ, ◌+◌, ◌<◌, ◌≤◌, List,
 use Rattle.std.proofs.Common.{refl, arith}
 use Rattle.std.proofs.lemmas.List.{take_all}
 use Rattle.njh_hub.specs.Breaks.{AtStep, AtLoss}
+use Rattle.njh_hub.specs.Keeping.{by_bytes}
 use Rattle.njh_hub.specs.declared.event.Event.TheVariants.{Bytes}
 use Rattle.njh_hub.specs.WholeHub.{HubRun, HasLine, hub_run}
 use Rattle.njh_hub.specs.Wires.{WireAct, Unsent, sent_act, frame_acts}
 use Rattle.njh_hub.proofs.BreakLaws.{bytes_break, bytes_unsent, loss_breaks}
-use Rattle.njh_hub.proofs.KeepingLaws.{keeps_ill, keeps_on, keeps_well, leaves_either, on_err, on_ok, settled_but}
+use Rattle.njh_hub.proofs.KeepingLaws.{follows_ill, follows_on, follows_well, no_more_then, on_err, on_ok}
 use Rattle.njh_hub.proofs.PieceLaws.{after_bytes, after_bytes-none}
-use Rattle.njh_hub.proofs.RunningLaws.{GoesOn, counted_from, known-there, step_done, whole_done}
+use Rattle.njh_hub.proofs.RunningLaws.{GoesOn, counted_from, step_done, whole_done}
 use Rattle.njh_hub.proofs.WireLaws.{step_written}
 use Rattle.njh_hub.proofs.turn.pass_bytes.Goals as goal
 
@@ -23,7 +24,9 @@ loop-taken-init g c =
       same = λ d. refl;
       room = c.requires.room;
       counts = omega arith;
-      settled = c.requires.settled;
+      withheld = g.met.W.Wire.withheld_none c.args.wire.now;
+      knows = c.requires.follows;
+      leaves = λ left now. now;
       kept = refl;
     }
 
@@ -33,20 +36,14 @@ take_bytes-used-requires-clause-known g c = omega (arith, c.requires.known, c.lo
 pub take_bytes-used-requires-clause-room : goal.take_bytes-used-requires-clause-room
 take_bytes-used-requires-clause-room g c = c.loop-taken.invariant.room
 
-pub keep-requires-clause-known : goal.keep-requires-clause-known
-keep-requires-clause-known g c =
-    known-there c.take_bytes-used.new.hub c.args.id (omega (
-      arith,
-      c.requires.known,
-      c.loop-taken.invariant.same c.args.id.customer,
-      c.take_bytes-used.ensures.step.lines c.args.id.customer,
-    ))
-
-pub keep-requires-clause-others : goal.keep-requires-clause-others
-keep-requires-clause-others g c =
-    settled_but g.K.Keeper.may_leave c.loop-taken.keeper c.loop-taken.hub c.take_bytes-used.new.hub c.args.id.customer _
-    c.loop-taken.invariant.settled c.take_bytes-used.ensures.step.hub
-    (known-there c.loop-taken.hub c.args.id (omega (arith, c.requires.known, c.loop-taken.invariant.same c.args.id.customer)))
+pub follow-requires : goal.follow-requires
+follow-requires g c = record {
+  led = (
+    c.loop-taken.hub,
+    c.loop-taken.invariant.knows,
+    (_, by_bytes c.args.id.number _ c.take_bytes-used.ensures.rests refl, c.take_bytes-used.ensures.step.hub),
+  );
+}
 
 pub loop-taken-preserved : goal.loop-taken-preserved
 loop-taken-preserved g c =
@@ -78,7 +75,11 @@ loop-taken-preserved g c =
       same = λ d. did.lines d ∙ c.loop-taken.invariant.same d;
       room = did.room;
       counts = omega (arith, c.loop-taken.invariant.counts, c.in-Ok-send.ensures.counts);
-      settled = c.in-Ok.ensures.settled;
+      withheld = g.met.W.Wire.withheld_more c.args.wire.now c.loop-taken.wire c.send.new.wire c.loop-taken.invariant.withheld
+          c.in-Ok-send.ensures.withheld;
+      knows = c.in-Ok.ensures.known;
+      leaves = no_more_then g.K.Keeper.may_leave c.args.keeper.now c.loop-taken.keeper c.follow.new.self
+          c.loop-taken.invariant.leaves c.in-Ok.ensures.leaves;
       kept = c.in-Ok.ensures.faultless ∙ c.loop-taken.invariant.kept;
     }
 
@@ -102,17 +103,16 @@ returns-in-Err-clause-breaks g c =
       frame_is = did.frame;
     } in (
       AtStep c.loop-taken.taken (c.loop-taken.taken + c.take_bytes-used.result),
-      bytes_break g.W.Wire.passed g.W.Wire.count g.K.Keeper.may_leave c.args.wire.now c.loop-taken.wire c.keep.new.self
-          c.no_bytes_do_nothing.ensures step
+      bytes_break g.W.Wire.passed g.W.Wire.count c.args.wire.now c.loop-taken.wire c.no_bytes_do_nothing.ensures step
           (omega (arith, c.take_bytes-used.ensures.within, c.split_at.ensures.back_len))
-          c.loop-taken.invariant.acts c.loop-taken.invariant.counts
-          (leaves_either g.K.Keeper.may_leave c.loop-taken.keeper c.keep.new.self c.loop-taken.hub c.take_bytes-used.new.hub
-          c.loop-taken.invariant.settled c.in-Err.ensures.crash),
+          c.loop-taken.invariant.acts c.loop-taken.invariant.counts,
     )
 
-pub returns-in-Err-clause-keeps : goal.returns-in-Err-clause-keeps
-returns-in-Err-clause-keeps g c =
-    keeps_ill g.K.Keeper.may_leave g.K.Keeper.count c.args.keeper.now c.keep.new.self c.in-Err.fault c.take_bytes-used.new.hub
+pub returns-in-Err-clause-follows : goal.returns-in-Err-clause-follows
+returns-in-Err-clause-follows g c =
+    follows_ill g.K.Keeper.may_leave g.K.Keeper.knows g.K.Keeper.count c.args.keeper.now c.follow.new.self c.in-Err.fault
+    c.take_bytes-used.new.hub (no_more_then g.K.Keeper.may_leave c.args.keeper.now c.loop-taken.keeper c.follow.new.self
+    c.loop-taken.invariant.leaves c.in-Err.ensures.leaves)
     (omega (arith, c.loop-taken.invariant.kept, c.in-Err.ensures.counts))
     (counted_from _ _ _ (omega (arith, c.loop-taken.invariant.kept)) c.in-Err.ensures.counted)
 
@@ -184,21 +184,26 @@ returns-in-Err-send-clause-breaks g c =
     let some : 0 < length frame = omega (arith, c.in-Err-send.ensures.err.1, ap (λ (b : List ℕ). length b) c.deref.ensures.value) in
     let any : 0 < c.take_bytes-used.result = c.take_bytes-used.ensures.progress (omega (arith, c.split_at.ensures.back_len)) in
     let within : n ≤ length c.args.piece.now = omega (arith, c.take_bytes-used.ensures.within, c.split_at.ensures.back_len) in
-    let here : c.take_bytes-used.new.hub ≡ (hub_run start (Bytes id (take n c.args.piece.now) ∷ [])).parts =
-    sym (ap (λ (h : HubRun). h.parts) (whole_done start (Bytes id (take n c.args.piece.now)) ∙ step_done step)) in
     on_err c.lose.result (
       AtLoss n,
-      loss_breaks g.W.Wire.passed g.W.Wire.count g.K.Keeper.may_leave start c.take_bytes-used.new.hub c.lose.new.hub
-          (Bytes id c.args.piece.now) n c.args.wire.now c.send.new.wire c.lose.new.keeper
+      loss_breaks g.W.Wire.passed g.W.Wire.count start c.lose.new.hub (Bytes id c.args.piece.now) n c.args.wire.now
+          c.send.new.wire
           (bytes_unsent g.W.Wire.passed g.W.Wire.count c.args.wire.now c.loop-taken.wire c.send.new.wire g.met.W.Wire.more
           c.cuts_are_like.ensures c.lose.new.hub step some any within c.loop-taken.invariant.acts c.loop-taken.invariant.counts
-          unsent c.in-Err-send.ensures.counts c.in-Err-send.ensures.counted c.lose.ensures.step.hub) here c.lose.ensures.crash,
+          unsent c.in-Err-send.ensures.counts c.in-Err-send.ensures.counted c.lose.ensures.step.hub),
     )
 
-pub returns-in-Err-send-clause-keeps : goal.returns-in-Err-send-clause-keeps
-returns-in-Err-send-clause-keeps g c =
-    keeps_on g.K.Keeper.may_leave g.K.Keeper.count c.args.keeper.now c.keep.new.self c.lose.new.keeper c.lose.result c.lose.new.hub
-    (c.in-Ok.ensures.faultless ∙ c.loop-taken.invariant.kept) c.lose.ensures.keeps
+pub returns-in-Err-send-clause-follows : goal.returns-in-Err-send-clause-follows
+returns-in-Err-send-clause-follows g c =
+    follows_on g.K.Keeper.may_leave g.K.Keeper.knows g.K.Keeper.count c.args.keeper.now c.follow.new.self c.lose.new.keeper c.lose.result
+    c.lose.new.hub (no_more_then g.K.Keeper.may_leave c.args.keeper.now c.loop-taken.keeper c.follow.new.self
+    c.loop-taken.invariant.leaves c.in-Ok.ensures.leaves) (c.in-Ok.ensures.faultless ∙ c.loop-taken.invariant.kept)
+    c.lose.ensures.follows
+
+pub returns-in-Err-send-clause-withheld : goal.returns-in-Err-send-clause-withheld
+returns-in-Err-send-clause-withheld g c =
+    g.met.W.Wire.withheld_more c.args.wire.now c.loop-taken.wire c.send.new.wire c.loop-taken.invariant.withheld
+    c.in-Err-send.ensures.withheld
 
 pub returns-in-Err-send-clause-lines : goal.returns-in-Err-send-clause-lines
 returns-in-Err-send-clause-lines g c = λ d. c.lose.ensures.step.lines d ∙ c.take_bytes-used.ensures.step.lines d ∙ c.loop-taken.invariant.same d
@@ -222,10 +227,16 @@ returns-clause-done g c =
       },
     )
 
-pub returns-clause-keeps : goal.returns-clause-keeps
-returns-clause-keeps g c =
-    keeps_well g.K.Keeper.may_leave g.K.Keeper.count c.args.keeper.now c.loop-taken.keeper tt c.loop-taken.hub
-    c.loop-taken.invariant.settled c.loop-taken.invariant.kept
+pub returns-clause-follows : goal.returns-clause-follows
+returns-clause-follows g c =
+    follows_well g.K.Keeper.may_leave g.K.Keeper.knows g.K.Keeper.count c.args.keeper.now c.loop-taken.keeper tt c.loop-taken.hub
+    c.loop-taken.invariant.knows c.loop-taken.invariant.leaves c.loop-taken.invariant.kept
+
+pub returns-clause-withheld : goal.returns-clause-withheld
+returns-clause-withheld g c = c.loop-taken.invariant.withheld
+
+pub returns-in-Err-clause-withheld : goal.returns-in-Err-clause-withheld
+returns-in-Err-clause-withheld g c = c.loop-taken.invariant.withheld
 
 pub returns-clause-lines : goal.returns-clause-lines
 returns-clause-lines g c = c.loop-taken.invariant.same

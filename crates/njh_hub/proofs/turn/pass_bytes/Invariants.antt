@@ -1,13 +1,13 @@
 use Rattle.std.proofs.Common.{◌≡◌, ◌≤◌, ◌-◌, length, map, take}
 use Rattle.std.specs.Vec.{vec_capacity}
 use Rattle.njh_bisync.specs.Limits.{longest_frame}
-use Rattle.njh_hub.specs.Keeping.{IsSettled}
+use Rattle.njh_hub.specs.Keeping.{LeavesNoMore}
 use Rattle.njh_hub.specs.WholeHub.{SameLines}
 use Rattle.njh_hub.specs.Wires.{sent_act}
 use Rattle.njh_hub.proofs.PieceLaws.{after_bytes}
 use Rattle.njh_hub.proofs.turn.pass_bytes.Given as goal
 
--- so many bytes were used, what they made of the files is kept, and each frame was written
+-- so many bytes were used, the keeper followed, each frame was written, and none went out
 abbrev pub invariant-loop-taken : goal.invariant-loop-taken
 invariant-loop-taken g l = record {
   within : l.taken ≤ length l.piece;
@@ -16,7 +16,9 @@ invariant-loop-taken g l = record {
   same : SameLines l.fn.hub l.hub;
   room : longest_frame ≤ vec_capacity l.out;
   counts : g.W.Wire.count l.fn.wire ≤ g.W.Wire.count l.wire;
-  settled : IsSettled g.K.Keeper.may_leave l.keeper l.hub;
+  withheld : g.W.Wire.withheld l.fn.wire l.wire;
+  knows : g.K.Keeper.knows l.keeper l.hub;
+  leaves : LeavesNoMore g.K.Keeper.may_leave l.fn.keeper l.keeper;
   kept : g.K.Keeper.count l.keeper ≡ g.K.Keeper.count l.fn.keeper;
 }
 
