@@ -3,7 +3,7 @@
 ghost use Rattle.std.specs.Prelude.{◌<◌, ◌≤◌, length};
 ghost use Rattle.njh_hub.specs.WholeHub.{part};
 
-use crate::hub_records::{is_mixed, job_of, rewrite_headers, write_records};
+use crate::hub_records::{finish_records, is_mixed, job_of, rewrite_headers};
 use crate::own_files::{HubFile, KeptWhole, OwnFiles};
 use crate::rows::{is_held, row_of};
 use crate::writer::{SpoolWriter, astray};
@@ -115,7 +115,7 @@ fn is_rewritten(kept: &KeptWhole, hub: &Hub, file: HubFile, summary: &FileSummar
     kept.destination != summary.destination || kept.is_mixed && !is_mixed(hub, file)
 }
 
-/// Adds a file that became whole. Records of it that were kept before stay.
+/// Adds a file that became whole. Records of it that were kept before stay, but for its headers.
 fn add_one<S: Alter + Drop>(
     writer: &mut SpoolWriter<S>,
     own: &mut OwnFiles,
@@ -123,11 +123,11 @@ fn add_one<S: Alter + Drop>(
     file: HubFile,
     summary: &FileSummaryView,
 ) -> Result<(), Error> {
-    let (key, from) = match own.take_partial(file.number, summary.records) {
+    let (key, written) = match own.take_partial(file.number, summary.records) {
         Some(partial) => (partial.key, partial.written),
         None => (writer.take_key()?, 0),
     };
-    write_records(writer, hub, file, key, from)?;
+    finish_records(writer, hub, file, key, written)?;
     let kept = KeptWhole {
         id: writer.take_id()?,
         key,

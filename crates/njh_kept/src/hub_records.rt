@@ -44,6 +44,44 @@ pub(crate) fn write_records<S: Alter + Drop>(
     Ok(())
 }
 
+/// Writes the records of a file that is whole now, of which so many stand there. Of these the headers are written anew:
+/// the file may have been sent elsewhere since.
+pub(crate) fn finish_records<S: Alter + Drop>(
+    writer: &mut SpoolWriter<S>,
+    hub: &Hub,
+    file: HubFile,
+    key: u32,
+    written: u32,
+) -> Result<(), Error> {
+    let Some(mut records) = hub.read_file(file.customer, file.number) else {
+        return Err(astray());
+    };
+    let mut record = Record::new();
+    for place in 0..PLACES {
+        let Some(srcb) = records.next(&mut record) else {
+            return Ok(());
+        };
+        let bytes = &record;
+        let kept = KeptRecord {
+            key,
+            place,
+            srcb,
+            bytes,
+        };
+        if place >= written {
+            writer.add_record(&kept)?;
+        } else if is_header(srcb) {
+            writer.replace_record(&kept)?;
+        }
+    }
+    Ok(())
+}
+
+/// Whether a record is a header, in which a node stands.
+fn is_header(srcb: u8) -> bool {
+    srcb == srcb::JOB_HEADER || srcb == srcb::DATA_SET_HEADER
+}
+
 /// Writes a file's headers anew, as after a REROUTE.
 pub(crate) fn rewrite_headers<S: Alter + Drop>(
     writer: &mut SpoolWriter<S>,
@@ -59,7 +97,7 @@ pub(crate) fn rewrite_headers<S: Alter + Drop>(
         let Some(srcb) = records.next(&mut record) else {
             return Ok(());
         };
-        if srcb == srcb::JOB_HEADER || srcb == srcb::DATA_SET_HEADER {
+        if is_header(srcb) {
             let bytes = &record;
             writer.replace_record(&KeptRecord {
                 key,

@@ -86,6 +86,22 @@ a1: sign on as LYON block 1024
 # ACME has LYON.2 TO METZ PAUL OUT 3003 RECORDS READY
 "#;
 
+/// The last records of a file, which many came before, its end, and a command that sends it elsewhere are in one block.
+const REROUTED: &str = r#"
+a1: contact
+a1: sign on as LYON block 1024
+# cut 40
+a1: file LYON.1 of ANNA to PAUL@METZ, lines from 5000
+# uncut
+# ACME has
+a1: bytes 1002888fcf9980c3d6d5c50099d0c400040000009980009a80caa0770013c2e4d9c5c1e482c500c1d5d5c184c4d3e8d6d584d400d9c5d9d6e4e3c540d3e8d6d54bf140d5c9c3c500001026
+# ACME has LYON.1 TO NICE PAUL OUT 3130 RECORDS READY
+# kill
+a1: contact
+a1: sign on as LYON block 1024
+# ACME has LYON.1 TO NICE PAUL OUT 3130 RECORDS READY
+"#;
+
 /// A long file is kept whole.
 #[test]
 fn long_files_are_kept(rt: HostRuntime) -> Result<(), Fail> {
@@ -108,4 +124,10 @@ fn nothing_is_left_in_one_step(rt: HostRuntime) -> Result<(), Fail> {
 #[test]
 fn nothing_is_left_of_a_killed_program(rt: HostRuntime) -> Result<(), Fail> {
     play(&rt, "nothing_is_left_of_a_killed_program", KILLED)
+}
+
+/// The headers of a file that is sent elsewhere as it becomes whole are kept as they are then.
+#[test]
+fn new_headers_are_kept(rt: HostRuntime) -> Result<(), Fail> {
+    play(&rt, "new_headers_are_kept", REROUTED)
 }
