@@ -100,7 +100,7 @@ fn follow_one<S: Alter + Drop>(
     };
     own.whole[place] = now;
     if is_rewritten || is_held(summary.state) != is_held(kept.state) {
-        let row = row_of(writer.alloc, own.name, &now, summary, job_of(hub, file))?;
+        let row = row_of(writer.alloc, own.text.as_str(), &now, summary, job_of(hub, file))?;
         let changed = writer.change_file(now.id, &row);
         drop(row);
         return changed;
@@ -139,7 +139,7 @@ fn add_one<S: Alter + Drop>(
         came: writer.now,
     };
     own.whole.push(kept)?;
-    let row = row_of(writer.alloc, own.name, &kept, summary, job_of(hub, file))?;
+    let row = row_of(writer.alloc, own.text.as_str(), &kept, summary, job_of(hub, file))?;
     let added = writer.add_file(kept.id, &row);
     drop(row);
     added

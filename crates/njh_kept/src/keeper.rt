@@ -13,6 +13,7 @@ use crate::names::{names_of, number_of};
 use crate::opening::open_from;
 use crate::own_files::{HubFile, KeptWhole, OwnFiles};
 use crate::portions::keep_portions;
+use crate::rows::name_text;
 use crate::writer::SpoolWriter;
 use njh_ebcdic::Name;
 use njh_hub::{Depot, DepotFault, FileSummaryView, Hub, KeepFault, Keeper};
@@ -239,17 +240,25 @@ fn depot_fault(error: Error) -> DepotFault {
 }
 
 /// The customers of a hub, without their files.
-fn customers_named(alloc: Global, hub: &Hub, names: &[Name]) -> Result<Vec<OwnFiles>, AllocError> {
+fn customers_named(alloc: Global, hub: &Hub, names: &[Name]) -> Result<Vec<OwnFiles>, Error> {
     let mut customers = Vec::with_capacity(alloc, names.len())?;
     for (customer, name) in names.iter().enumerate() {
-        customers.push(OwnFiles {
-            name: *name,
-            arrived: hub.arrived(u16::try_from(customer).unwrap_or(u16::MAX)),
-            whole: Vec::new(alloc),
-            partial: Vec::new(alloc),
-        })?;
+        let customer = u16::try_from(customer).unwrap_or(u16::MAX);
+        customers.push(customer_named(alloc, hub, customer, *name)?)?;
     }
     Ok(customers)
+}
+
+/// A customer of a hub, without its files.
+fn customer_named(alloc: Global, hub: &Hub, customer: u16, name: Name) -> Result<OwnFiles, Error> {
+    let text = name_text(alloc, name)?;
+    Ok(OwnFiles {
+        name,
+        text,
+        arrived: hub.arrived(customer),
+        whole: Vec::new(alloc),
+        partial: Vec::new(alloc),
+    })
 }
 
 /// The number of the customer whose name a text is.

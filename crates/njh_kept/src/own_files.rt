@@ -45,6 +45,8 @@ pub(crate) struct KeptPartial {
 pub(crate) struct OwnFiles {
     /// The customer's name.
     pub(crate) name: Name,
+    /// It as each row has it: a text that reads as this very name.
+    pub(crate) text: String,
     /// How many files had become whole after the last step.
     pub(crate) arrived: u64,
     /// Those that are whole, in order of arrival.

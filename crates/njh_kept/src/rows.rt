@@ -1,11 +1,15 @@
 //! The row of a whole file.
 
+ghost use Rattle.std.specs.Prelude.{◌≡◌, true, string_bytes, IfOk};
+ghost use Rattle.njh_kept.specs.Opened.{is_name_of};
+
 use crate::kinds::kind_word;
 use crate::own_files::KeptWhole;
 use njh_ebcdic::{Name, text_of};
 use njh_hub::FileSummaryView;
 use njh_spool::State;
 use njh_store::KeptFile;
+use sqlite::{Error, ErrorCode};
 use std::alloc::{AllocError, Global};
 
 /// A blank.
@@ -39,16 +43,39 @@ fn field_text(alloc: Global, field: &[u8]) -> Result<String, AllocError> {
     Ok(text)
 }
 
-/// The row of a whole file of the customer of this name, whose job has this name.
+/// A customer's name as each row of its files has it. A name whose text doesn't read as that very name is a fault; there
+/// is none.
+pub(crate) fn name_text(alloc: Global, name: Name) -> Result<String, Error>
+    ensures { IfOk result (λ text. is_name_of (string_bytes text) name ≡ true) }
+{
+    let text = field_text(alloc, &name.bytes())?;
+    if reads_as(text.as_str(), name) {
+        return Ok(text);
+    }
+    drop(text);
+    Err(Error::SqliteFailure(ErrorCode::DatabaseCorrupt))
+}
+
+/// Whether a text is this name.
+fn reads_as(text: &str, name: Name) -> bool
+    ensures { result ≡ is_name_of text.now name }
+{
+    match Name::of_text(text) {
+        Ok(read) => read == name,
+        Err(_) => false,
+    }
+}
+
+/// The row of a whole file of a customer whose name is this text, and whose job has this name.
 pub(crate) fn row_of(
     alloc: Global,
-    customer: Name,
+    customer: &str,
     kept: &KeptWhole,
     file: &FileSummaryView,
     job: [u8; 8],
 ) -> Result<KeptFile, AllocError> {
     Ok(KeptFile {
-        customer: field_text(alloc, &customer.bytes())?,
+        customer: String::from_str(alloc, customer)?,
         key: kept.key,
         kind: String::from_str(alloc, kind_word(file.kind))?,
         job: field_text(alloc, &job)?,
