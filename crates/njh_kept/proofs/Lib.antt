@@ -3,3 +3,5 @@ pub mod FileLaws
 pub mod OpenedLaws
 pub mod StepLaws
 pub mod OpeningLaws
+pub mod WriterLaws
+pub mod OpeningNumbers
