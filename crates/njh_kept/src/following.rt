@@ -2,6 +2,8 @@
 
 ghost use Rattle.std.specs.Prelude.{◌<◌, ◌≤◌, length};
 ghost use Rattle.njh_hub.specs.WholeHub.{part};
+ghost use Rattle.njh_store.specs.Shelf.{shown};
+ghost use Rattle.sqlite.specs.State.{Survives};
 
 use crate::hub_records::{finish_records, is_mixed, job_of, rewrite_headers};
 use crate::own_files::{HubFile, KeptWhole, OwnFiles};
@@ -100,12 +102,32 @@ fn follow_one<S: Alter + Drop>(
     };
     own.whole[place] = now;
     if is_rewritten || is_held(summary.state) != is_held(kept.state) {
-        let row = row_of(writer.alloc, own.text.as_str(), &now, summary, job_of(hub, file))?;
-        let changed = writer.change_file(now.id, &row);
-        drop(row);
-        return changed;
+        return change_row(writer, own, hub, file, &now, summary);
     }
     Ok(())
+}
+
+/// Puts a whole file's row as it is now in the place of the one that it had.
+pub(crate) fn change_row<S: Alter + Drop>(
+    writer: &mut SpoolWriter<S>,
+    own: &OwnFiles,
+    hub: &Hub,
+    file: HubFile,
+    kept: &KeptWhole,
+    summary: &FileSummaryView,
+) -> Result<(), Error>
+    ensures { Survives (shown S.Store writer.old.store) (shown S.Store writer.new.store) (λ _. ⊥) }
+{
+    let row = row_of(
+        writer.alloc,
+        own.text.as_str(),
+        kept,
+        summary,
+        job_of(hub, file),
+    )?;
+    let changed = writer.change_file(kept.id, &row);
+    drop(row);
+    changed
 }
 
 /// Whether a file's headers were rewritten: its destination is another, or its data set headers named more than one
@@ -139,7 +161,13 @@ fn add_one<S: Alter + Drop>(
         came: writer.now,
     };
     own.whole.push(kept)?;
-    let row = row_of(writer.alloc, own.text.as_str(), &kept, summary, job_of(hub, file))?;
+    let row = row_of(
+        writer.alloc,
+        own.text.as_str(),
+        &kept,
+        summary,
+        job_of(hub, file),
+    )?;
     let added = writer.add_file(kept.id, &row);
     drop(row);
     added

@@ -8,21 +8,18 @@ ghost use Rattle.njh_store.specs.Steps.{Stays};
 
 use crate::fault::{OpeningFault, RefusedFile};
 use crate::following::follow;
-use crate::hub_records::is_mixed;
-use crate::names::{names_of, number_of};
+use crate::names::{names_of, number_among};
 use crate::opening::open_from;
-use crate::own_files::{HubFile, KeptWhole, OwnFiles};
+use crate::own_files::OwnFiles;
 use crate::portions::keep_portions;
-use crate::rows::name_text;
+use crate::remembering::{customers_named, remember_all};
 use crate::writer::SpoolWriter;
 use njh_ebcdic::Name;
-use njh_hub::{Depot, DepotFault, FileSummaryView, Hub, KeepFault, Keeper};
-use njh_record::Kind;
-use njh_spool::State;
+use njh_hub::{Depot, DepotFault, Hub, KeepFault, Keeper};
 use njh_store::{Store, StoredFile};
 use njh_table::Tables;
 use sqlite::{Alter, Error, ErrorCode};
-use std::alloc::{AllocError, Global};
+use std::alloc::Global;
 use std::marker::Model;
 use std::rt::Clock;
 use std::time::{SystemTime, UNIX_EPOCH};
@@ -151,6 +148,7 @@ impl<'a, R: Clock, S: Alter + Drop> SpoolKeeper<'a, R, S> {
     }
 
     /// Remembers what is kept of the files of a hub that was opened from the spool file, for customers of these names.
+    /// From then on the spool file has them as the hub has.
     fn remember(&mut self, hub: &Hub, names: &[Name]) -> Result<(), Error>
         ensures same { self.new.failures ≡ self.old.failures }
         ensures crash { Survives (shown S.Store self.old.store) (shown S.Store self.new.store) (λ _. ⊤) }
@@ -158,9 +156,9 @@ impl<'a, R: Clock, S: Alter + Drop> SpoolKeeper<'a, R, S> {
         let alloc = self.writer.alloc;
         self.customers = customers_named(alloc, hub, names)?;
         let files = self.writer.store.files(alloc)?;
-        let begun = match remember_all(&mut self.customers, hub, names, &files) {
+        let begun = match remember_all(&mut self.writer, &mut self.customers, hub, names, &files) {
             Ok(()) => self.writer.begin_numbers(&files),
-            Err(_) => Err(Error::SqliteFailure(ErrorCode::OutOfMemory)),
+            Err(error) => Err(error),
         };
         drop(files);
         begun
@@ -239,36 +237,6 @@ fn depot_fault(error: Error) -> DepotFault {
     }
 }
 
-/// The customers of a hub, without their files.
-fn customers_named(alloc: Global, hub: &Hub, names: &[Name]) -> Result<Vec<OwnFiles>, Error> {
-    let mut customers = Vec::with_capacity(alloc, names.len())?;
-    for (customer, name) in names.iter().enumerate() {
-        let customer = u16::try_from(customer).unwrap_or(u16::MAX);
-        customers.push(customer_named(alloc, hub, customer, *name)?)?;
-    }
-    Ok(customers)
-}
-
-/// A customer of a hub, without its files.
-fn customer_named(alloc: Global, hub: &Hub, customer: u16, name: Name) -> Result<OwnFiles, Error> {
-    let text = name_text(alloc, name)?;
-    Ok(OwnFiles {
-        name,
-        text,
-        arrived: hub.arrived(customer),
-        whole: Vec::new(alloc),
-        partial: Vec::new(alloc),
-    })
-}
-
-/// The number of the customer whose name a text is.
-fn number_among(names: &[Name], text: &str) -> Option<u16> {
-    if names.len() > usize::from(u16::MAX) {
-        return None;
-    }
-    number_of(names, text)
-}
-
 /// How many of these whole files are of customers without such a name.
 fn count_strangers(names: &[Name], files: &[StoredFile]) -> u32 {
     let mut count = 0u32;
@@ -278,68 +246,6 @@ fn count_strangers(names: &[Name], files: &[StoredFile]) -> u32 {
         }
     }
     count
-}
-
-/// Remembers whole files of the spool file, but for those of customers that aren't there.
-fn remember_all(
-    customers: &mut [OwnFiles],
-    hub: &Hub,
-    names: &[Name],
-    files: &[StoredFile],
-) -> Result<(), AllocError> {
-    for stored in files {
-        match number_among(names, stored.file.customer.as_str()) {
-            Some(customer) if usize::from(customer) < customers.len() => {
-                let own = &mut customers[usize::from(customer)];
-                remember_one(own, hub, customer, stored)?;
-            }
-            _ => {}
-        }
-    }
-    Ok(())
-}
-
-/// Remembers a whole file that was put back behind those that are remembered.
-fn remember_one(
-    own: &mut OwnFiles,
-    hub: &Hub,
-    customer: u16,
-    stored: &StoredFile,
-) -> Result<(), AllocError> {
-    let Ok(index) = u32::try_from(own.whole.len()) else {
-        return Ok(());
-    };
-    if index >= hub.file_count(customer) {
-        return Ok(());
-    }
-    let summary = hub.summary_at(customer, index);
-    let number = hub.number_at(customer, index);
-    let file = HubFile { customer, number };
-    own.whole.push(found_whole(hub, file, stored, &summary))?;
-    Ok(())
-}
-
-/// What is remembered of a whole file that was put back. It was kept as Held or not.
-fn found_whole(
-    hub: &Hub,
-    file: HubFile,
-    stored: &StoredFile,
-    summary: &FileSummaryView,
-) -> KeptWhole {
-    KeptWhole {
-        id: stored.id,
-        key: stored.file.key,
-        number: file.number,
-        records: summary.records,
-        state: if stored.file.held {
-            State::Held
-        } else {
-            State::Ready
-        },
-        destination: summary.destination,
-        is_mixed: summary.kind == Kind::Out && is_mixed(hub, file),
-        came: stored.file.came,
-    }
 }
 
 /// Seconds since the beginning of 1970 by the clock; 0 where it fails, stands before that, or past the year 2105.

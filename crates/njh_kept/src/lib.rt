@@ -12,6 +12,7 @@ mod opening;
 mod own_files;
 mod portions;
 mod records;
+mod remembering;
 mod restoring;
 mod rows;
 mod writer;

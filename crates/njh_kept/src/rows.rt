@@ -43,8 +43,8 @@ fn field_text(alloc: Global, field: &[u8]) -> Result<String, AllocError> {
     Ok(text)
 }
 
-/// A customer's name as each row of its files has it. A name whose text doesn't read as that very name is a fault; there
-/// is none.
+/// A customer's name as each row of its files has it: a text that reads as this very name. A name without such a text,
+/// of which there is none, is a fault.
 pub(crate) fn name_text(alloc: Global, name: Name) -> Result<String, Error>
     ensures { IfOk result (λ text. is_name_of (string_bytes text) name ≡ true) }
 {

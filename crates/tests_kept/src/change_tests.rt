@@ -72,6 +72,24 @@ a1: command from LYON ANNA to BUREAU: RELEASE LYON.3
 # ACME has LYON.1 TO METZ PAUL OUT 5 RECORDS READY, LYON.2 TO METZ PAUL OUT 5 RECORDS READY, LYON.3 TO METZ IN 3 RECORDS READY
 "#;
 
+/// NICE has no route when the program begins again, and has one later.
+const UNROUTED: &str = r#"
+a1: contact
+a1: sign on as LYON block 1024
+a1: file LYON.1 of ANNA to PAUL@NICE, lines from 2
+a1: file LYON.2 of ANNA to PAUL@METZ, lines from 2
+# ACME has LYON.1 TO NICE PAUL OUT 5 RECORDS READY, LYON.2 TO METZ PAUL OUT 5 RECORDS READY
+# kill
+# NICE has no route
+# ACME has LYON.1 TO NICE PAUL OUT 5 RECORDS HELD, LYON.2 TO METZ PAUL OUT 5 RECORDS READY
+# kill
+# ACME has LYON.1 TO NICE PAUL OUT 5 RECORDS HELD, LYON.2 TO METZ PAUL OUT 5 RECORDS READY
+a1: contact
+a1: sign on as LYON block 1024
+a1: command from LYON ANNA to BUREAU: RELEASE LYON.1
+# ACME has LYON.1 TO NICE PAUL OUT 5 RECORDS READY, LYON.2 TO METZ PAUL OUT 5 RECORDS READY
+"#;
+
 /// Held is Held again, and Ready is Ready.
 #[test]
 fn held_is_kept(rt: HostRuntime) -> Result<(), Fail> {
@@ -88,4 +106,10 @@ fn cancelled_files_leave(rt: HostRuntime) -> Result<(), Fail> {
 #[test]
 fn nodes_are_kept(rt: HostRuntime) -> Result<(), Fail> {
     play(&rt, "nodes_are_kept", REROUTED)
+}
+
+/// What is Held at the opening, since its node has no route, is Held from then on.
+#[test]
+fn held_at_the_opening_is_kept(rt: HostRuntime) -> Result<(), Fail> {
+    play(&rt, "held_at_the_opening_is_kept", UNROUTED)
 }

@@ -1,9 +1,10 @@
 //! The tables of two customers, whose networks have the same names.
 
 use njh_table::LineId;
+use std::alloc::{AllocError, Global};
 
 /// Both customers' hub is BUREAU, and both have LYON and METZ. Lines of ACME alone lead to NICE and to nowhere.
-pub const TABLES: &str = r#"
+const TABLES: &str = r#"
 capacity = 4000
 [[customer]]
 name = "ACME"
@@ -31,6 +32,21 @@ line = [
 ]
 route = [{ node = "LYON", line = "b1" }, { node = "METZ", line = "b2" }]
 "#;
+
+/// The line of the tables for the route to NICE.
+const ROUTE_TO_NICE: &str = "  { node = \"NICE\", line = \"a3\" },\n";
+
+/// The tables, with a route to NICE or without.
+pub fn tables(alloc: Global, has_nice: bool) -> Result<String, AllocError> {
+    let (before, behind) = TABLES.split_once(ROUTE_TO_NICE).unwrap_or((TABLES, ""));
+    let mut text = String::new(alloc);
+    text.push_str(before)?;
+    if has_nice {
+        text.push_str(ROUTE_TO_NICE)?;
+    }
+    text.push_str(behind)?;
+    Ok(text)
+}
 
 /// The customers' numbers.
 pub const CUSTOMERS: [u16; 2] = [0, 1];

@@ -3,7 +3,7 @@
 use crate::networks::{CUSTOMERS, customer_of, line_of};
 use crate::numbered_lines::NumberedLines;
 use crate::same::{check_same, listing};
-use crate::spool_files::{FileKeeper, SpoolFiles, hub_of, kill};
+use crate::spool_files::{FileKeeper, SpoolFiles, kill};
 use njh_encode::encode_script;
 use njh_hub::{Hub, Keeper};
 use njh_table::LineId;
@@ -15,18 +15,23 @@ use std::test::Fail;
 /// Behind this line the program is killed, and begins again.
 const KILL: &str = "# kill\n";
 
+/// With this line a run begins in which no route leads to NICE.
+const WITHOUT_NICE: &str = "# NICE has no route\n";
+
 /// Plays lines of words. Beside those of `encode` these are known:
 ///
 /// `# kill`: the program is killed and begins again, with all lines down.
+/// `# NICE has no route`, directly behind that: in this run no route leads to NICE.
 /// `# cut 20`: of the file that follows 20 blocks come, up to `# uncut`.
 /// `# ACME has LYON.42 TO METZ PAUL OUT 4 RECORDS READY, ..`: these whole files of the customer are kept. Then and
 /// before the program is killed all that is kept is what the hub has.
 pub fn play(rt: &HostRuntime, name: &str, words: &str) -> Result<(), Fail> {
     let alloc = rt.alloc();
-    let files = SpoolFiles::of(rt, name)?;
+    let mut files = SpoolFiles::of(rt, name)?;
     let mut script = Vec::new(alloc);
     encode_script(alloc, &mut words.as_bytes(), &NumberedLines, &mut script)?;
     for run in str::from_utf8(&script)?.split(KILL) {
+        files.give_routes(!run.starts_with(WITHOUT_NICE))?;
         play_run(&files, run)?;
     }
     Ok(())
@@ -42,7 +47,7 @@ fn play_run(files: &SpoolFiles<'_>, run: &str) -> Result<(), Fail> {
 
 /// Plays a run with a keeper.
 fn play_kept(files: &SpoolFiles<'_>, keeper: &mut FileKeeper<'_>, run: &str) -> Result<(), Fail> {
-    let mut hub = hub_of(files.allocator(), keeper)?;
+    let mut hub = files.hub_of(keeper)?;
     let mut left = u32::MAX;
     for line in run.lines() {
         if let Some(note) = line.strip_prefix("# ") {

@@ -1,6 +1,6 @@
 //! The files of a test: a spool file with its log, and a copy of both as they are at some moment.
 
-use crate::networks::TABLES;
+use crate::networks::tables;
 use njh_hub::{Depot, Hub};
 use njh_kept::{SpoolKeeper, open_from};
 use njh_store::Store;
@@ -22,6 +22,7 @@ pub struct SpoolFiles<'a> {
     kept_log: String,
     left: String,
     left_log: String,
+    tables: String,
 }
 
 impl<'a> SpoolFiles<'a> {
@@ -34,10 +35,17 @@ impl<'a> SpoolFiles<'a> {
             kept_log: format!(in alloc; "{name}.db-wal")?,
             left: format!(in alloc; "{name}_left.db")?,
             left_log: format!(in alloc; "{name}_left.db-wal")?,
+            tables: tables(alloc, true)?,
         };
         let _ = fs::remove_file(rt, files.kept.as_str());
         let _ = fs::remove_file(rt, files.kept_log.as_str());
         Ok(files)
+    }
+
+    /// From the next hub on there is a route to NICE, or there is none.
+    pub fn give_routes(&mut self, has_nice: bool) -> Result<(), Fail> {
+        self.tables = tables(self.rt.alloc(), has_nice)?;
+        Ok(())
     }
 
     /// Where memory comes from.
@@ -50,6 +58,13 @@ impl<'a> SpoolFiles<'a> {
         keeper_of(self.rt, self.kept.as_str())
     }
 
+    /// A hub of the tables that a keeper opens.
+    pub fn hub_of(&self, keeper: &mut FileKeeper<'_>) -> Result<Hub, Fail> {
+        let alloc = self.rt.alloc();
+        let tables = Tables::read(alloc, self.tables.as_str())?;
+        Ok(keeper.open(alloc, tables)?)
+    }
+
     /// The hub that is opened from the spool file where the program is killed now.
     pub fn hub_left(&self) -> Result<Hub, Fail> {
         let _ = fs::remove_file(self.rt, self.left.as_str());
@@ -59,15 +74,19 @@ impl<'a> SpoolFiles<'a> {
             fs::copy(self.rt, self.kept_log.as_str(), self.left_log.as_str())?;
         }
         let mut store = Store::open(self.rt, self.left.as_str(), Unknown)?;
-        let opened = hub_in(self.rt.alloc(), &mut store);
+        let opened = hub_in(self.rt.alloc(), self.tables.as_str(), &mut store);
         drop(store.stop().close());
         opened
     }
 }
 
-/// The hub that is opened from a spool file.
-fn hub_in(alloc: Global, store: &mut Store<FileStore<FileFrom<Unknown>>>) -> Result<Hub, Fail> {
-    let tables = Tables::read(alloc, TABLES)?;
+/// The hub of these tables that is opened from a spool file.
+fn hub_in(
+    alloc: Global,
+    tables: &str,
+    store: &mut Store<FileStore<FileFrom<Unknown>>>,
+) -> Result<Hub, Fail> {
+    let tables = Tables::read(alloc, tables)?;
     Ok(open_from(alloc, tables, store)?)
 }
 
@@ -80,10 +99,4 @@ fn keeper_of<'a>(rt: &'a HostRuntime, path: &str) -> Result<FileKeeper<'a>, Fail
 /// Lets go of a keeper as a program does that is killed.
 pub fn kill(keeper: FileKeeper<'_>) {
     drop(keeper.into_store().stop().close());
-}
-
-/// A hub of the tables that a keeper opens.
-pub fn hub_of(alloc: Global, keeper: &mut FileKeeper<'_>) -> Result<Hub, Fail> {
-    let tables = Tables::read(alloc, TABLES)?;
-    Ok(keeper.open(alloc, tables)?)
 }
