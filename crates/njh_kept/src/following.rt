@@ -24,12 +24,14 @@ pub(crate) fn follow<S: Alter + Drop>(
     own: &mut OwnFiles,
     hub: &Hub,
     customer: u16,
-) -> Result<(), Error> {
+) -> Result<(), Error>
+    ensures crash { Survives (shown S.Store writer.old.store) (shown S.Store writer.new.store) (λ _. ⊥) }
+{
     let count = hub.file_count(customer);
     let arrived = hub.arrived(customer);
     let old = count.saturating_sub(new_files(own.arrived, arrived));
     let mut place = 0;
-    for index in 0..old {
+    'old: for index in 0..old {
         let number = hub.number_at(customer, index);
         drop_before(writer, own, place, Some(number))?;
         if place >= own.whole.len() {
@@ -41,7 +43,7 @@ pub(crate) fn follow<S: Alter + Drop>(
         place += 1;
     }
     drop_before(writer, own, place, None)?;
-    for index in old..count {
+    'new: for index in old..count {
         let summary = hub.summary_at(customer, index);
         let number = hub.number_at(customer, index);
         add_one(writer, own, hub, HubFile { customer, number }, &summary)?;
@@ -64,8 +66,10 @@ fn drop_before<S: Alter + Drop>(
     own: &mut OwnFiles,
     place: usize,
     number: Option<FileId>,
-) -> Result<(), Error> {
-    for _ in 0..own.whole.len() {
+) -> Result<(), Error>
+    ensures crash { Survives (shown S.Store writer.old.store) (shown S.Store writer.new.store) (λ _. ⊥) }
+{
+    'whole: for _ in 0..own.whole.len() {
         if place >= own.whole.len() || Some(own.whole[place].number) == number {
             return Ok(());
         }
@@ -85,6 +89,7 @@ fn follow_one<S: Alter + Drop>(
     summary: &FileSummaryView,
 ) -> Result<(), Error>
     requires { place < length own.old.whole.items }
+    ensures crash { Survives (shown S.Store writer.old.store) (shown S.Store writer.new.store) (λ _. ⊥) }
 {
     let kept = own.whole[place];
     let is_rewritten = is_rewritten(&kept, hub, file, summary);
@@ -144,7 +149,9 @@ fn add_one<S: Alter + Drop>(
     hub: &Hub,
     file: HubFile,
     summary: &FileSummaryView,
-) -> Result<(), Error> {
+) -> Result<(), Error>
+    ensures crash { Survives (shown S.Store writer.old.store) (shown S.Store writer.new.store) (λ _. ⊥) }
+{
     let (key, written) = match own.take_partial(file.number, summary.records) {
         Some(partial) => (partial.key, partial.written),
         None => (writer.take_key()?, 0),

@@ -1,6 +1,8 @@
 //! The records of a hub's file, as they are written into a spool file.
 
 ghost use Rattle.std.specs.Prelude.{◌≤◌, ◌<◌, ◌^◌};
+ghost use Rattle.njh_store.specs.Shelf.{shown};
+ghost use Rattle.sqlite.specs.State.{Survives};
 
 use crate::own_files::HubFile;
 use crate::writer::{PLACES, SpoolWriter, astray};
@@ -22,12 +24,14 @@ pub(crate) fn write_records<S: Alter + Drop>(
     file: HubFile,
     key: u32,
     from: u32,
-) -> Result<(), Error> {
+) -> Result<(), Error>
+    ensures crash { Survives (shown S.Store writer.old.store) (shown S.Store writer.new.store) (λ _. ⊥) }
+{
     let Some(mut records) = hub.read_file(file.customer, file.number) else {
         return Err(astray());
     };
     let mut record = Record::new();
-    for place in 0..PLACES {
+    'places: for place in 0..PLACES {
         let Some(srcb) = records.next(&mut record) else {
             return Ok(());
         };
@@ -52,12 +56,14 @@ pub(crate) fn finish_records<S: Alter + Drop>(
     file: HubFile,
     key: u32,
     written: u32,
-) -> Result<(), Error> {
+) -> Result<(), Error>
+    ensures crash { Survives (shown S.Store writer.old.store) (shown S.Store writer.new.store) (λ _. ⊥) }
+{
     let Some(mut records) = hub.read_file(file.customer, file.number) else {
         return Err(astray());
     };
     let mut record = Record::new();
-    for place in 0..PLACES {
+    'places: for place in 0..PLACES {
         let Some(srcb) = records.next(&mut record) else {
             return Ok(());
         };
@@ -88,12 +94,14 @@ pub(crate) fn rewrite_headers<S: Alter + Drop>(
     hub: &Hub,
     file: HubFile,
     key: u32,
-) -> Result<(), Error> {
+) -> Result<(), Error>
+    ensures crash { Survives (shown S.Store writer.old.store) (shown S.Store writer.new.store) (λ _. ⊥) }
+{
     let Some(mut records) = hub.read_file(file.customer, file.number) else {
         return Err(astray());
     };
     let mut record = Record::new();
-    for place in 0..PLACES {
+    'places: for place in 0..PLACES {
         let Some(srcb) = records.next(&mut record) else {
             return Ok(());
         };

@@ -1,5 +1,8 @@
 //! The records of a file are kept as they come, before it is whole.
 
+ghost use Rattle.njh_store.specs.Shelf.{shown};
+ghost use Rattle.sqlite.specs.State.{Survives};
+
 use crate::hub_records::write_records;
 use crate::own_files::{HubFile, KeptPartial, OwnFiles};
 use crate::writer::SpoolWriter;
@@ -23,19 +26,35 @@ pub(crate) fn keep_portions<S: Alter + Drop>(
     own: &mut OwnFiles,
     hub: &Hub,
     customer: u16,
-) -> Result<(), Error> {
-    for number in 0..u16::MAX {
+) -> Result<(), Error>
+    ensures crash { Survives (shown S.Store writer.old.store) (shown S.Store writer.new.store) (λ _. ⊥) }
+{
+    'lines: for number in 0..u16::MAX {
         let Ok(receivers) = hub.receivers(LineId { customer, number }) else {
             return drop_given_up(writer, own);
         };
-        for receiver in receivers {
-            if let Receiver::Open { file, .. } = *receiver {
-                let number = file;
-                keep_portion(writer, own, hub, HubFile { customer, number })?;
-            }
-        }
+        keep_of_line(writer, own, hub, customer, receivers)?;
     }
     drop_given_up(writer, own)
+}
+
+/// Keeps records of the files that a line's streams are about.
+fn keep_of_line<S: Alter + Drop>(
+    writer: &mut SpoolWriter<S>,
+    own: &mut OwnFiles,
+    hub: &Hub,
+    customer: u16,
+    receivers: &[Receiver],
+) -> Result<(), Error>
+    ensures crash { Survives (shown S.Store writer.old.store) (shown S.Store writer.new.store) (λ _. ⊥) }
+{
+    'streams: for receiver in receivers {
+        if let Receiver::Open { file, .. } = *receiver {
+            let number = file;
+            keep_portion(writer, own, hub, HubFile { customer, number })?;
+        }
+    }
+    Ok(())
 }
 
 /// Keeps records of a file, where it has many and enough of them wait.
@@ -44,7 +63,9 @@ fn keep_portion<S: Alter + Drop>(
     own: &mut OwnFiles,
     hub: &Hub,
     file: HubFile,
-) -> Result<(), Error> {
+) -> Result<(), Error>
+    ensures crash { Survives (shown S.Store writer.old.store) (shown S.Store writer.new.store) (λ _. ⊥) }
+{
     let count = hub.record_count(file.customer, file.number);
     if count < MANY {
         return Ok(());
@@ -65,7 +86,9 @@ fn begin<S: Alter + Drop>(
     hub: &Hub,
     file: HubFile,
     key: u32,
-) -> Result<(), Error> {
+) -> Result<(), Error>
+    ensures crash { Survives (shown S.Store writer.old.store) (shown S.Store writer.new.store) (λ _. ⊥) }
+{
     let count = hub.record_count(file.customer, file.number);
     let partial = KeptPartial {
         number: file.number,
@@ -93,7 +116,9 @@ fn go_on<S: Alter + Drop>(
     hub: &Hub,
     file: HubFile,
     place: usize,
-) -> Result<(), Error> {
+) -> Result<(), Error>
+    ensures crash { Survives (shown S.Store writer.old.store) (shown S.Store writer.new.store) (λ _. ⊥) }
+{
     if place >= own.partial.len() {
         return Ok(());
     }
@@ -127,9 +152,11 @@ fn place_of(own: &OwnFiles, number: FileId, count: u32) -> Option<usize> {
 fn drop_given_up<S: Alter + Drop>(
     writer: &mut SpoolWriter<S>,
     own: &mut OwnFiles,
-) -> Result<(), Error> {
+) -> Result<(), Error>
+    ensures crash { Survives (shown S.Store writer.old.store) (shown S.Store writer.new.store) (λ _. ⊥) }
+{
     let mut place = 0;
-    for _ in 0..own.partial.len() {
+    'partial: for _ in 0..own.partial.len() {
         if place >= own.partial.len() {
             return Ok(());
         }
