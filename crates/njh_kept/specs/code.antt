@@ -2,3 +2,7 @@
 pub mod Restoring
 pub mod Refusing
 pub mod Writing
+pub mod Mirrored
+pub mod Remembered
+pub mod Walking
+pub mod Nodes
