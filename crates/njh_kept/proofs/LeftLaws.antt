@@ -52,3 +52,13 @@ left_are s (own ∷ owns) [] each = absurd each
 left_are s (own ∷ owns) (files ∷ all) each =
     let first = found_all (λ (w : Whole). file_in w.file w.records) (own_files own.name s) (map kept_file files) (mirrored_is_read_back s own files each.0) in
     λ i. first i ∷ left_are s owns all each.1 i
+
+-- where each customer has the files of a part of a hub
+pub left_of_parts : {P : Type 0} (whole : P → List WholeFile) (s : Spool) (owns : List OwnFiles) (parts : List P) → AllZip (λ own p. Mirrored s own (whole p)) owns parts
+    → left_in (map (λ own. own.name) owns) s ≡ map (λ p. map kept_file (whole p)) parts
+left_of_parts whole s [] [] each = refl
+left_of_parts whole s [] (p ∷ parts) each = absurd each
+left_of_parts whole s (own ∷ owns) [] each = absurd each
+left_of_parts whole s (own ∷ owns) (p ∷ parts) each =
+    let first = found_all (λ (w : Whole). file_in w.file w.records) (own_files own.name s) (map kept_file (whole p)) (mirrored_is_read_back s own (whole p) each.0) in
+    λ i. first i ∷ left_of_parts whole s owns parts each.1 i

@@ -25,3 +25,9 @@ pub mod RerouteLaws
 pub mod AlikeLaws
 pub mod NodeLaws
 pub mod FollowLaws
+pub mod FinishLaws
+pub mod PartialLaws
+pub mod CallLaws
+pub mod CustomerLaws
+pub mod ReadBackLaws
+pub mod LeadingLaws

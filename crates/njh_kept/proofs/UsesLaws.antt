@@ -1,5 +1,5 @@
 -- How often each number is used, while files come and leave and numbers are given out.
-use Rattle.std.proofs.Common.{◌≡◌, ℕ, ◌+◌, ◌<◌, ◌≤◌, ◌==◌, nat_le, List, [], ◌∷◌, ◌++◌, length, get_or, set, remove, ap, arith}
+use Rattle.std.proofs.Common.{◌≡◌, ℕ, ◌+◌, ◌<◌, ◌≤◌, ◌==◌, nat_le, List, [], ◌∷◌, ◌++◌, length, get_or, set, remove, ap, arith, ◌⊎◌, inl, inr, Bool, true, false, cond}
 use Rattle.std.proofs.lemmas.Bool.Decides.{nat_tests}
 use Rattle.njh_kept.specs.code.Remembered.{AreApart, KeptPartial, KeptWhole, Numbers, OwnFiles, Sweep, claim, keyed, one_if, uses, with_key}
 use Rattle.njh_kept.proofs.KeyLaws.{keyed-append, keyed-remove, keyed-set, keyed_at, one_itself}
@@ -9,6 +9,11 @@ key_of_whole k = k.key
 
 same_key : (n a b : ℕ) → a ≡ b → one_if (a == n) ≡ one_if (b == n)
 same_key n a b same = ap (λ k. one_if (k == n)) same
+
+either_counts : (b : Bool) (n : ℕ) (further sweep : Sweep) → one_if (further.key == n) ≡ one_if (sweep.key == n)
+    → keyed (λ (x : Sweep). x.key) n (cond b (further ∷ []) []) + keyed (λ (k : ℕ). k) n (cond b [] (sweep.key ∷ [])) ≡ one_if (sweep.key == n)
+either_counts true n further sweep same = omega (arith, same)
+either_counts false n further sweep same = omega arith
 
 module _ (w : Numbers) (own : OwnFiles) where
   -- ---- whole files
@@ -84,6 +89,35 @@ module _ (w : Numbers) (own : OwnFiles) where
       let before = keyed-append (λ (x : Sweep). x.key) n rest (sweep ∷ []) in
       let free = keyed-append (λ (k : ℕ). k) n w.free_keys (sweep.key ∷ []) in
       omega (arith, all, before, free)
+
+  -- the last of the free ones, or where none is free the first that was never given out
+  pub uses_as_key_is_taken : (key : ℕ) (left : List ℕ) (behind : ℕ)
+      → ((w.free_keys ≡ left ++ key ∷ []) × (behind ≡ w.next_key)) ⊎ ((w.free_keys ≡ []) × (left ≡ []) × (key ≡ w.next_key) × (behind ≡ w.next_key + 1))
+      → (n : ℕ) → (with_key key (claim (record w { free_keys = left; next_key = behind }) own)).uses n ≡ uses n w own
+  uses_as_key_is_taken key left behind (inl free) n =
+      let all : keyed (λ k. k) n w.free_keys ≡ keyed (λ k. k) n (left ++ key ∷ []) = ap (keyed (λ k. k) n) free.0 in
+      let last = keyed-append (λ (k : ℕ). k) n left (key ∷ []) in
+      let same : one_if (nat_le behind n) ≡ one_if (nat_le w.next_key n) = ap (λ m. one_if (nat_le m n)) free.1 in
+      omega (arith, all, last, same)
+  uses_as_key_is_taken key left behind (inr new) n =
+      let none : keyed (λ k. k) n w.free_keys ≡ 0 = ap (keyed (λ k. k) n) new.0 in
+      let still : keyed (λ k. k) n left ≡ 0 = ap (keyed (λ k. k) n) new.1 in
+      let first : one_if (key == n) ≡ one_if (w.next_key == n) = same_key n key w.next_key new.2 in
+      let next : one_if (nat_le behind n) ≡ one_if (nat_le (w.next_key + 1) n) = ap (λ m. one_if (nat_le m n)) new.3 in
+      let further = one_further w.next_key n in
+      omega (arith, none, still, first, next, further)
+
+  -- a sweep goes on, or its number is free
+  pub uses_as_one_is_swept : (rest : List Sweep) (sweep further : Sweep) (b : Bool) → w.sweeps ≡ rest ++ sweep ∷ [] → further.key ≡ sweep.key
+      → (n : ℕ) → uses n (record w { sweeps = rest ++ cond b (further ∷ []) []; free_keys = w.free_keys ++ cond b [] (sweep.key ∷ []) }) own ≡ uses n w own
+  uses_as_one_is_swept rest sweep further b are same n =
+      let all : keyed (λ (x : Sweep). x.key) n w.sweeps ≡ keyed (λ (x : Sweep). x.key) n (rest ++ sweep ∷ []) = ap (keyed (λ (x : Sweep). x.key) n) are in
+      let before = keyed-append (λ (x : Sweep). x.key) n rest (sweep ∷ []) in
+      let behind = keyed-append (λ (x : Sweep). x.key) n rest (cond b (further ∷ []) []) in
+      let free = keyed-append (λ (k : ℕ). k) n w.free_keys (cond b [] (sweep.key ∷ [])) in
+      let alike = same_key n further.key sweep.key same in
+      let either = either_counts b n further sweep alike in
+      omega (arith, all, before, behind, free, either)
 
   -- ---- no number is used twice
 

@@ -6,3 +6,5 @@ pub mod Mirrored
 pub mod Remembered
 pub mod Walking
 pub mod Nodes
+pub mod Leading
+pub mod Memory

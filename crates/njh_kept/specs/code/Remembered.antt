@@ -1,7 +1,7 @@
 -- What the keeper of a spool file remembers of a customer's files, and what its calls make of a spool file.
 use Rattle.std.specs.Prelude.{◌≡◌, ◌≢◌, ℕ, ◌+◌, ◌<◌, ◌≤◌, ◌==◌, nat_le, Bool, false, cond, None}
-use Rattle.std.specs.Prelude.{List, [], ◌∷◌, length, map, ⊤}
-use Rattle.std.specs.List.{AllByRecursion, filter_map}
+use Rattle.std.specs.Prelude.{List, [], ◌∷◌, length, map, take, ⊤}
+use Rattle.std.specs.List.{AllByRecursion, AllZip, filter_map}
 use Rattle.njh_ebcdic.specs.Users.{User}
 use Rattle.njh_header.specs.Redirecting.{records_to_node}
 use Rattle.njh_record.specs.Stored.{Stored}
@@ -98,6 +98,15 @@ pub record IsKept (spool : Spool) (k : KeptWhole) (e : ℕ × File) (f : WholeFi
 abbrev pub Mirrored : Spool → OwnFiles → List WholeFile → Type 0
 Mirrored spool own files = AllBeside (IsKept spool) own.whole (own_rows own.name spool) files
 
+-- of a file that isn't whole so many records are there
+pub record IsPartlyKept (spool : Spool) (p : KeptPartial) (records : List Stored) : Type 0 where
+  pub written : p.written ≤ length records
+  pub stored : HasRecords p.key (take p.written records) spool
+
+-- of each of a customer's, with its records when it was last seen
+abbrev pub PartlyMirrored : Spool → OwnFiles → List (List Stored) → Type 0
+PartlyMirrored spool own partial = AllZip (IsPartlyKept spool) own.partial partial
+
 -- what the spool file has of each customer, as a hub would have it
 abbrev pub left_in : List (List ℕ) → Spool → List (List KeptFile)
 left_in names spool = map (λ name. filter_map (λ w. file_in w.file w.records) (own_files name spool)) names
@@ -123,6 +132,15 @@ uses_of_numbers n w = keyed (λ s. s.key) n w.sweeps + keyed (λ k. k) n w.free_
 -- and both
 abbrev pub uses : ℕ → Numbers → OwnFiles → ℕ
 uses n w own = uses_of_files n own + uses_of_numbers n w
+
+-- how often it is one of all customers' files
+abbrev pub uses_of_all : ℕ → List OwnFiles → ℕ
+uses_of_all n [] = 0
+uses_of_all n (own ∷ owns) = uses_of_files n own + uses_of_all n owns
+
+-- no number is used twice, by the files of all customers and by the writer
+abbrev pub AllAreApart : Numbers → List OwnFiles → Type 0
+AllAreApart w owns = (n : ℕ) → uses_of_all n owns + uses_of_numbers n w ≤ 1
 
 -- ---- what a call makes of a spool file
 
