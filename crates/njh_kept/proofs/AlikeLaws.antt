@@ -2,7 +2,7 @@
 use Rattle.std.proofs.Common.{◌≡◌, ℕ, zero, suc, ◌<◌, ◌≤◌, ◌==◌, ◌&&◌, ◌||◌, ◌⊎◌, inl, inr, Bool, true, false, cond, not, List, [], ◌∷◌, length, get_or, Option, Some, None}
 use Rattle.std.proofs.Common.{Result, refl, sym, ap, subst, ◌∙◌, arith}
 use Rattle.std.specs.Prelude.{unwrap_or}
-use Rattle.std.specs.List.{AllByRecursion, AllZip}
+use Rattle.std.specs.List.{AllByRecursion}
 use Rattle.std.specs.Option.{option_map}
 use Rattle.std.specs.Result.{result_ok}
 use Rattle.njh_ebcdic.specs.Names.{is_name}
@@ -16,22 +16,11 @@ use Rattle.njh_header.specs.Headers.{JobHeader, data_set_header, job_header}
 use Rattle.njh_header.specs.Redirecting.{destination_place, is_after_header, records_to_node, redirected_record}
 use Rattle.njh_customer.specs.Surviving.{IsRerouted}
 use Rattle.njh_hub.specs.Files.{said_destination}
+pub use Rattle.njh_kept.specs.code.Alike.{AreAlike, IsAlike, is_header}
 use Rattle.njh_kept.specs.code.Mirrored.{FitsHub}
 use Rattle.njh_kept.specs.code.Remembered.{NameOneNode}
 use Rattle.njh_kept.proofs.HeaderBytes.{job_stands, length_still, node_long}
 use Rattle.njh_kept.proofs.RerouteLaws.{AreSentTo, last_decides, read_where, stands_still, under}
-
--- job headers and data set headers
-abbrev pub is_header : ℕ → Bool
-is_header srcb = (srcb == 0xc0) || (srcb == 0xe0)
-
-pub record IsAlike (before now : Stored) : Type 0 where
-  pub srcb : now.srcb ≡ before.srcb
-  pub long : length now.bytes ≡ length before.bytes
-  pub same : is_header now.srcb ≡ false → now ≡ before
-
-abbrev pub AreAlike : List Stored → List Stored → Type 0
-AreAlike before now = AllZip IsAlike before now
 
 alike_itself : (r : Stored) → IsAlike r r
 alike_itself r = record { srcb = refl; long = refl; same = λ other. refl }

@@ -1,8 +1,9 @@
 -- Calls of the keeper one after the other.
-use Rattle.std.proofs.Common.{◌≡◌, refl, sym, subst}
-use Rattle.sqlite.specs.State.{State}
+use Rattle.std.proofs.Common.{◌≡◌, inl, refl, sym, subst, arith}
+use Rattle.sqlite.specs.State.{State, Survives}
+use Rattle.sqlite.proofs.StateLemmas.{survives_then}
+use Rattle.sqlite_trees.specs.Tree.{Trees}
 use Rattle.njh_store.specs.Kept.{Holds, Spool}
-use Rattle.njh_store.specs.Standing.{Standing, Stands}
 use Rattle.njh_store.specs.Steps.{Changes}
 use Rattle.njh_kept.specs.code.Leading.{Leads}
 
@@ -39,3 +40,19 @@ leads_by change old new by = record {
     refl,
   );
 }
+
+-- ---- what a crash leaves
+
+pub survives_here : (at : State) (P : Trees → Type 0) → Survives at at P
+survives_here at P = record {
+  clean = omega arith;
+  shield = λ h. h;
+  counts = omega arith;
+  limit = refl;
+  closes = λ clean h. inl h;
+  crash = λ clean db h. inl h;
+}
+
+-- neither of two calls commits
+pub survives_both : (old mid new : State) → Survives old mid (λ _. ⊥) → Survives mid new (λ _. ⊥) → Survives old new (λ _. ⊥)
+survives_both old mid new one more = survives_then old mid new (λ _. ⊥) (λ _. ⊥) (λ _. ⊥) (λ clean db none. none) (λ clean db none. none) one more

@@ -31,3 +31,5 @@ pub mod CallLaws
 pub mod CustomerLaws
 pub mod ReadBackLaws
 pub mod LeadingLaws
+pub mod ReachLaws
+pub mod NextNodeLaws

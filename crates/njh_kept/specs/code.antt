@@ -6,5 +6,6 @@ pub mod Mirrored
 pub mod Remembered
 pub mod Walking
 pub mod Nodes
+pub mod Alike
 pub mod Leading
 pub mod Memory

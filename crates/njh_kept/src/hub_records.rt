@@ -1,8 +1,13 @@
 //! The records of a hub's file, as they are written into a spool file.
 
-ghost use Rattle.std.specs.Prelude.{◌≤◌, ◌<◌, ◌^◌};
+ghost use Rattle.std.specs.Prelude.{◌≡◌, ◌≤◌, ◌<◌, ◌^◌, true, false, [], length, IsSome, OnOk, Some, None};
+ghost use Rattle.sqlite.specs.State.{HasCleanDisk, Survives};
+ghost use Rattle.njh_stream.specs.SpoolFiles.{records_in};
+ghost use Rattle.njh_hub.specs.WholeHub.{part};
 ghost use Rattle.njh_store.specs.Shelf.{shown};
-ghost use Rattle.sqlite.specs.State.{Survives};
+ghost use Rattle.njh_kept.specs.code.Alike.{Finishes, Rewrites, WritesFrom, is_header};
+ghost use Rattle.njh_kept.specs.code.Leading.{Leads};
+ghost use Rattle.njh_kept.specs.code.Nodes.{AreOne, named_node, named_nodes, with_first};
 
 use crate::own_files::HubFile;
 use crate::writer::{PLACES, SpoolWriter, astray};
@@ -25,6 +30,11 @@ pub(crate) fn write_records<S: Alter + Drop>(
     key: u32,
     from: u32,
 ) -> Result<(), Error>
+    ensures led { HasCleanDisk (shown S.Store writer.new.store) → OnOk result (Leads (WritesFrom key from
+        (records_in file.number (part file.customer hub.now).customer.spool))
+        (shown S.Store writer.old.store) (shown S.Store writer.new.store)) }
+    ensures others { OnOk result (writer.new
+        ≡ record writer.old { store = writer.new.store; waiting = writer.new.waiting }) }
     ensures crash { Survives (shown S.Store writer.old.store) (shown S.Store writer.new.store) (λ _. ⊥) }
 {
     let Some(mut records) = hub.read_file(file.customer, file.number) else {
@@ -45,7 +55,7 @@ pub(crate) fn write_records<S: Alter + Drop>(
             })?;
         }
     }
-    Ok(())
+    Err(astray())
 }
 
 /// Writes the records of a file that is whole now, of which so many stand there. Of these the headers are written anew:
@@ -57,6 +67,11 @@ pub(crate) fn finish_records<S: Alter + Drop>(
     key: u32,
     written: u32,
 ) -> Result<(), Error>
+    ensures led { HasCleanDisk (shown S.Store writer.new.store) → OnOk result (Leads (Finishes key written
+        (records_in file.number (part file.customer hub.now).customer.spool))
+        (shown S.Store writer.old.store) (shown S.Store writer.new.store)) }
+    ensures others { OnOk result (writer.new
+        ≡ record writer.old { store = writer.new.store; waiting = writer.new.waiting }) }
     ensures crash { Survives (shown S.Store writer.old.store) (shown S.Store writer.new.store) (λ _. ⊥) }
 {
     let Some(mut records) = hub.read_file(file.customer, file.number) else {
@@ -80,11 +95,13 @@ pub(crate) fn finish_records<S: Alter + Drop>(
             writer.replace_record(&kept)?;
         }
     }
-    Ok(())
+    Err(astray())
 }
 
 /// Whether a record is a header, in which a node stands.
-fn is_header(srcb: u8) -> bool {
+fn is_header(srcb: u8) -> bool
+    ensures { result ≡ is_header srcb }
+{
     srcb == srcb::JOB_HEADER || srcb == srcb::DATA_SET_HEADER
 }
 
@@ -95,6 +112,11 @@ pub(crate) fn rewrite_headers<S: Alter + Drop>(
     file: HubFile,
     key: u32,
 ) -> Result<(), Error>
+    ensures led { HasCleanDisk (shown S.Store writer.new.store) → OnOk result (Leads (Rewrites key
+        (records_in file.number (part file.customer hub.now).customer.spool))
+        (shown S.Store writer.old.store) (shown S.Store writer.new.store)) }
+    ensures others { OnOk result (writer.new
+        ≡ record writer.old { store = writer.new.store; waiting = writer.new.waiting }) }
     ensures crash { Survives (shown S.Store writer.old.store) (shown S.Store writer.new.store) (λ _. ⊥) }
 {
     let Some(mut records) = hub.read_file(file.customer, file.number) else {
@@ -115,20 +137,35 @@ pub(crate) fn rewrite_headers<S: Alter + Drop>(
             })?;
         }
     }
-    Ok(())
+    Err(astray())
 }
 
 /// Whether a file's data set headers name more than one node.
-pub(crate) fn is_mixed(hub: &Hub, file: HubFile) -> bool {
-    let Some(mut records) = hub.read_file(file.customer, file.number) else {
-        return false;
-    };
+pub(crate) fn is_mixed(hub: &Hub, file: HubFile) -> bool
+    ensures one { result ≡ false
+        → AreOne (named_nodes None (records_in file.number (part file.customer hub.now).customer.spool)) }
+    ensures several { result ≡ true
+        → ¬ AreOne (named_nodes None (records_in file.number (part file.customer hub.now).customer.spool)) }
+{
+    let count = hub.record_count(file.customer, file.number);
+    match hub.read_file(file.customer, file.number) {
+        Some(records) => are_mixed(records, count),
+        None => false,
+    }
+}
+
+/// Whether the data set headers among so many records at most name more than one node.
+fn are_mixed(mut records: RecordReader<'_>, count: u32) -> bool
+    requires { length records ≤ count }
+    ensures one { result ≡ false → AreOne (named_nodes None records.entry) }
+    ensures several { result ≡ true → ¬ AreOne (named_nodes None records.entry) }
+{
     let mut before = 0;
-    let Some(first) = next_node(&mut records, &mut before) else {
+    let Some(first) = next_node(&mut records, &mut before, count) else {
         return false;
     };
-    for _ in 0..PLACES {
-        match next_node(&mut records, &mut before) {
+    for _ in 0..count {
+        match next_node(&mut records, &mut before, count) {
             Some(node) => {
                 if node != first {
                     return true;
@@ -140,26 +177,34 @@ pub(crate) fn is_mixed(hub: &Hub, file: HubFile) -> bool {
     false
 }
 
-/// The node that the next data set header names, of those records that are left. One directly behind another goes on
-/// with that, and names none. The SRCB of the record before is given, and that of the header is left in its place.
-fn next_node(records: &mut RecordReader<'_>, before: &mut u8) -> Option<Name> {
+/// The node that the next data set header names, of those records that are left, so many at most. One directly behind
+/// another goes on with that, and names none. The SRCB of the record before is given, and that of the header is left in
+/// its place.
+fn next_node(records: &mut RecordReader<'_>, before: &mut u8, count: u32) -> Option<Name>
+    requires { length records.old ≤ count }
+    ensures nodes { named_nodes (Some before.old) records.old
+        ≡ with_first result (named_nodes (Some before.new) records.new) }
+    ensures none { result ≡ None → records.new ≡ [] }
+    ensures fewer { length records.new ≤ length records.old }
+    ensures fewer_where { IsSome result → length records.new < length records.old }
+{
     let mut record = Record::new();
-    for _ in 0..PLACES {
+    for _ in 0..count {
         let srcb = records.next(&mut record)?;
-        let is_continued = *before == srcb::DATA_SET_HEADER;
+        let node = node_of(*before, srcb, &record);
         *before = srcb;
-        if !is_continued {
-            if let Some(node) = node_of(srcb, &record) {
-                return Some(node);
-            }
+        if node.is_some() {
+            return node;
         }
     }
     None
 }
 
-/// The node that a record names, where it is a data set header that reads.
-fn node_of(srcb: u8, bytes: &[u8]) -> Option<Name> {
-    if srcb != srcb::DATA_SET_HEADER {
+/// The node that a record names, behind one with an SRCB, where it is a data set header that reads.
+fn node_of(before: u8, srcb: u8, bytes: &[u8]) -> Option<Name>
+    ensures { result ≡ named_node (Some before) (record { srcb = srcb; bytes = bytes.now }) }
+{
+    if srcb != srcb::DATA_SET_HEADER || before == srcb::DATA_SET_HEADER {
         return None;
     }
     match DataSetHeader::read(bytes) {

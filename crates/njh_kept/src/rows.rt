@@ -1,7 +1,12 @@
 //! The row of a whole file.
 
-ghost use Rattle.std.specs.Prelude.{◌≡◌, true, string_bytes, IfOk};
-ghost use Rattle.njh_kept.specs.Opened.{is_name_of};
+ghost use Rattle.std.specs.Prelude.{◌≡◌, ℕ, List, true, string_bytes, IfOk};
+ghost use Rattle.njh_spool.specs.CustomerSpool.{WholeFile};
+ghost use Rattle.njh_hub.specs.Keeping.{is_held};
+ghost use Rattle.njh_hub.specs.Views.{file_summary};
+ghost use Rattle.njh_store.specs.Kept.{file_of};
+ghost use Rattle.njh_kept.specs.Opened.{is_name_of, is_own};
+ghost use Rattle.njh_kept.specs.code.Remembered.{IsRowOf};
 
 use crate::kinds::kind_word;
 use crate::own_files::KeptWhole;
@@ -16,7 +21,9 @@ use std::alloc::{AllocError, Global};
 const BLANK: u8 = 0x40;
 
 /// Whether a file is Held.
-pub(crate) fn is_held(state: State) -> bool {
+pub(crate) fn is_held(state: State) -> bool
+    ensures { result ≡ is_held state }
+{
     match state {
         State::Held => true,
         State::Ready => false,
@@ -73,7 +80,12 @@ pub(crate) fn row_of(
     kept: &KeptWhole,
     file: &FileSummaryView,
     job: [u8; 8],
-) -> Result<KeptFile, AllocError> {
+) -> Result<KeptFile, AllocError>
+    ensures row { (f : WholeFile) → file.now ≡ file_summary f
+        → IfOk result (λ row. IsRowOf kept.now.key f (file_of row)) }
+    ensures owned { (name : List ℕ) → is_name_of customer.now name ≡ true
+        → IfOk result (λ row. is_own name (file_of row) ≡ true) }
+{
     Ok(KeptFile {
         customer: String::from_str(alloc, customer)?,
         key: kept.key,

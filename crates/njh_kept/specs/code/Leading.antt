@@ -1,4 +1,4 @@
--- What the calls of the keeper do to the connection of a spool file, where what they make of the spool is known in part.
+-- What the calls of the keeper do to the connection of a spool file.
 use Rattle.sqlite.specs.State.{State}
 use Rattle.njh_store.specs.Kept.{Spool}
 use Rattle.njh_store.specs.Standing.{Standing, Stands}

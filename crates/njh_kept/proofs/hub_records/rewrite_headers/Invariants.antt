@@ -1,7 +1,22 @@
-use Rattle.sqlite.specs.State.{Survives}
+use Rattle.std.proofs.Common.{◌≡◌, drop}
+use Rattle.sqlite.specs.State.{HasCleanDisk, Survives}
+use Rattle.njh_stream.specs.SpoolFiles.{records_in}
+use Rattle.njh_hub.specs.WholeHub.{part}
 use Rattle.njh_store.specs.Shelf.{shown}
+use Rattle.njh_kept.specs.code.Alike.{AreAlike}
+use Rattle.njh_kept.specs.code.Leading.{Leads}
+use Rattle.njh_kept.proofs.ReachLaws.{Reaches}
 use Rattle.njh_kept.proofs.hub_records.rewrite_headers.Given as goal
 
--- nothing was committed
+-- so many records were gone through, and those are left
 abbrev pub invariant-places : goal.invariant-places
-invariant-places g l = Survives (shown g.S.Store l.fn.writer.store) (shown g.S.Store l.writer.store) (λ _. ⊥)
+invariant-places g l =
+    let old = shown g.S.Store l.fn.writer.store in
+    let now = shown g.S.Store l.writer.store in
+    let all = records_in l.fn.file.number (part l.fn.file.customer l.hub).customer.spool in
+    record {
+      crash : Survives old now (λ _. ⊥);
+      led : HasCleanDisk now → Leads (Reaches l.key (λ before. AreAlike before all) all l.place) old now;
+      left : l.records ≡ drop l.place all;
+      others : l.writer ≡ record l.fn.writer { store = l.writer.store; waiting = l.writer.waiting };
+    }
