@@ -33,3 +33,7 @@ pub mod ReadBackLaws
 pub mod LeadingLaws
 pub mod ReachLaws
 pub mod NextNodeLaws
+pub mod FollowingLaws
+pub mod WalkedLaws
+pub mod PartlyLaws
+pub mod StillLaws

@@ -9,3 +9,5 @@ pub mod Nodes
 pub mod Alike
 pub mod Leading
 pub mod Memory
+pub mod Following
+pub mod Partly

@@ -1,9 +1,15 @@
 //! A customer's whole files are kept as a step left them.
 
-ghost use Rattle.std.specs.Prelude.{◌<◌, ◌≤◌, length};
+ghost use Rattle.std.specs.Prelude.{◌≡◌, ◌<◌, ◌≤◌, true, false, None, List, get_or, length, remove, set, string_bytes, ⊤, OnOk};
+ghost use Rattle.njh_stream.specs.SpoolFiles.{records_in};
 ghost use Rattle.njh_hub.specs.WholeHub.{part};
+ghost use Rattle.njh_spool.specs.CustomerSpool.{WholeFile};
 ghost use Rattle.njh_store.specs.Shelf.{shown};
-ghost use Rattle.sqlite.specs.State.{Survives};
+ghost use Rattle.sqlite.specs.State.{HasCleanDisk, Survives};
+ghost use Rattle.njh_kept.specs.declared.own_files.KeptWhole.{KeptWhole};
+ghost use Rattle.njh_kept.specs.code.Following.{ChangesRow, IsHubFile, IsNext, IsReached, IsStillAt, LeadsFiles, memory_of};
+ghost use Rattle.njh_kept.specs.code.Nodes.{AreOne, named_nodes};
+ghost use Rattle.njh_kept.specs.code.Walking.{IsWalkedTo};
 
 use crate::hub_records::{finish_records, is_mixed, job_of, rewrite_headers};
 use crate::own_files::{HubFile, KeptWhole, OwnFiles};
@@ -67,16 +73,37 @@ fn drop_before<S: Alter + Drop>(
     place: usize,
     number: Option<FileId>,
 ) -> Result<(), Error>
+    ensures led { (still : List WholeFile) → IsNext number still place → HasCleanDisk (shown S.Store writer.new.store)
+        → OnOk result (LeadsFiles (memory_of writer.old own.old) (memory_of writer.new own.new)
+        (λ s files. IsWalkedTo still files place) (λ files now. IsWalkedTo still now place × IsReached number now place)
+        (shown S.Store writer.old.store) (shown S.Store writer.new.store)) }
     ensures crash { Survives (shown S.Store writer.old.store) (shown S.Store writer.new.store) (λ _. ⊥) }
 {
     'whole: for _ in 0..own.whole.len() {
         if place >= own.whole.len() || Some(own.whole[place].number) == number {
             return Ok(());
         }
-        let gone = own.whole.remove(place);
-        writer.drop_file(&gone)?;
+        drop_at(writer, own, place)?;
     }
     Ok(())
+}
+
+/// Takes out the file at a place.
+fn drop_at<S: Alter + Drop>(
+    writer: &mut SpoolWriter<S>,
+    own: &mut OwnFiles,
+    place: usize,
+) -> Result<(), Error>
+    requires { place < length own.old.whole.items }
+    ensures led { HasCleanDisk (shown S.Store writer.new.store) → OnOk result (LeadsFiles
+        (memory_of writer.old own.old) (memory_of writer.new own.new)
+        (λ _ _. ⊤) (λ files now. now ≡ remove files place)
+        (shown S.Store writer.old.store) (shown S.Store writer.new.store)) }
+    ensures memory { own.new.whole.items ≡ remove own.old.whole.items place }
+    ensures crash { Survives (shown S.Store writer.old.store) (shown S.Store writer.new.store) (λ _. ⊥) }
+{
+    let gone = own.whole.remove(place);
+    writer.drop_file(&gone)
 }
 
 /// Writes anew what changed of a file that was there.
@@ -89,26 +116,84 @@ fn follow_one<S: Alter + Drop>(
     summary: &FileSummaryView,
 ) -> Result<(), Error>
     requires { place < length own.old.whole.items }
+    ensures led { (g : WholeFile) → IsHubFile hub.now file summary.now g → HasCleanDisk (shown S.Store writer.new.store)
+        → OnOk result (LeadsFiles (memory_of writer.old own.old) (memory_of writer.new own.new)
+        (λ s files. IsStillAt files place g) (λ files now. now ≡ set files place g)
+        (shown S.Store writer.old.store) (shown S.Store writer.new.store)) }
+    ensures long { length own.new.whole.items ≡ length own.old.whole.items }
     ensures crash { Survives (shown S.Store writer.old.store) (shown S.Store writer.new.store) (λ _. ⊥) }
 {
     let kept = own.whole[place];
-    let is_rewritten = is_rewritten(&kept, hub, file, summary);
-    if !is_rewritten && kept.state == summary.state {
-        return Ok(());
-    }
+    let looked_at = file;
+    let is_rewritten = is_rewritten(&kept, hub, looked_at, summary);
     if is_rewritten {
-        rewrite_headers(writer, hub, file, kept.key)?;
+        return rewrite_one(writer, own, place, hub, file, summary);
     }
+    change_state(writer, own, place, hub, file, summary)
+}
+
+/// Writes a file's headers and its row anew.
+fn rewrite_one<S: Alter + Drop>(
+    writer: &mut SpoolWriter<S>,
+    own: &mut OwnFiles,
+    place: usize,
+    hub: &Hub,
+    file: HubFile,
+    summary: &FileSummaryView,
+) -> Result<(), Error>
+    requires { place < length own.old.whole.items }
+    ensures led { (g : WholeFile) → IsHubFile hub.now file summary.now g
+        → (k : KeptWhole) → k ≡ get_or own.old.whole.items place k
+        → (k.destination ≡ summary.now.destination → AreOne (named_nodes None g.records))
+        → HasCleanDisk (shown S.Store writer.new.store)
+        → OnOk result (LeadsFiles (memory_of writer.old own.old) (memory_of writer.new own.new)
+        (λ s files. IsStillAt files place g) (λ files now. now ≡ set files place g)
+        (shown S.Store writer.old.store) (shown S.Store writer.new.store)) }
+    ensures long { length own.new.whole.items ≡ length own.old.whole.items }
+    ensures crash { Survives (shown S.Store writer.old.store) (shown S.Store writer.new.store) (λ _. ⊥) }
+{
+    let kept = own.whole[place];
+    let written = file;
+    rewrite_headers(writer, hub, written, kept.key)?;
     let now = KeptWhole {
         state: summary.state,
         destination: summary.destination,
-        is_mixed: kept.is_mixed && !is_rewritten,
+        is_mixed: false,
         ..kept
     };
+    change_row(writer, own, hub, file, &now, summary)?;
     own.whole[place] = now;
-    if is_rewritten || is_held(summary.state) != is_held(kept.state) {
-        return change_row(writer, own, hub, file, &now, summary);
+    Ok(())
+}
+
+/// Notes a file's state. Where it is Held now and wasn't, or the other way, its row is written anew.
+fn change_state<S: Alter + Drop>(
+    writer: &mut SpoolWriter<S>,
+    own: &mut OwnFiles,
+    place: usize,
+    hub: &Hub,
+    file: HubFile,
+    summary: &FileSummaryView,
+) -> Result<(), Error>
+    requires { place < length own.old.whole.items }
+    ensures led { (g : WholeFile) → IsHubFile hub.now file summary.now g
+        → (k : KeptWhole) → k ≡ get_or own.old.whole.items place k → k.destination ≡ summary.now.destination
+        → (k.is_mixed ≡ true → ¬ AreOne (named_nodes None g.records)) → HasCleanDisk (shown S.Store writer.new.store)
+        → OnOk result (LeadsFiles (memory_of writer.old own.old) (memory_of writer.new own.new)
+        (λ s files. IsStillAt files place g) (λ files now. now ≡ set files place g)
+        (shown S.Store writer.old.store) (shown S.Store writer.new.store)) }
+    ensures long { length own.new.whole.items ≡ length own.old.whole.items }
+    ensures crash { Survives (shown S.Store writer.old.store) (shown S.Store writer.new.store) (λ _. ⊥) }
+{
+    let kept = own.whole[place];
+    let now = KeptWhole {
+        state: summary.state,
+        ..kept
+    };
+    if is_held(summary.state) != is_held(kept.state) {
+        change_row(writer, own, hub, file, &now, summary)?;
     }
+    own.whole[place] = now;
     Ok(())
 }
 
@@ -121,7 +206,12 @@ pub(crate) fn change_row<S: Alter + Drop>(
     kept: &KeptWhole,
     summary: &FileSummaryView,
 ) -> Result<(), Error>
-    ensures { Survives (shown S.Store writer.old.store) (shown S.Store writer.new.store) (λ _. ⊥) }
+    ensures changed { HasCleanDisk (shown S.Store writer.new.store) → OnOk result (ChangesRow
+        (string_bytes own.now.text) kept.now.id kept.now.key summary.now
+        (shown S.Store writer.old.store) (shown S.Store writer.new.store)) }
+    ensures others { writer.new
+        ≡ record writer.old { store = writer.new.store; is_changed = writer.new.is_changed } }
+    ensures crash { Survives (shown S.Store writer.old.store) (shown S.Store writer.new.store) (λ _. ⊥) }
 {
     let row = row_of(
         writer.alloc,
@@ -137,7 +227,13 @@ pub(crate) fn change_row<S: Alter + Drop>(
 
 /// Whether a file's headers were rewritten: its destination is another, or its data set headers named more than one
 /// node and don't any more.
-fn is_rewritten(kept: &KeptWhole, hub: &Hub, file: HubFile, summary: &FileSummaryView) -> bool {
+fn is_rewritten(kept: &KeptWhole, hub: &Hub, file: HubFile, summary: &FileSummaryView) -> bool
+    ensures same { result ≡ false → kept.now.destination ≡ summary.now.destination }
+    ensures several { result ≡ false → kept.now.is_mixed ≡ true
+        → ¬ AreOne (named_nodes None (records_in file.number (part file.customer hub.now).customer.spool)) }
+    ensures one { result ≡ true → kept.now.destination ≡ summary.now.destination
+        → AreOne (named_nodes None (records_in file.number (part file.customer hub.now).customer.spool)) }
+{
     // One that goes out may have been refused, sent elsewhere and asked for again in one step.
     kept.destination != summary.destination || kept.is_mixed && !is_mixed(hub, file)
 }

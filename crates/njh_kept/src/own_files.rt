@@ -1,5 +1,10 @@
 //! What a keeper remembers of a customer's files.
 
+ghost use Rattle.std.specs.Prelude.{◌≡◌, ℕ, ◌<◌, ◌≤◌, List, length, take, get_or, remove, slice_get, None, IfSome};
+ghost use Rattle.std.specs.Prelude.{IsSomeAnd};
+ghost use Rattle.std.specs.List.{AllByRecursion};
+ghost use Rattle.njh_kept.specs.code.Partly.{IsAnother};
+
 use njh_ebcdic::Name;
 use njh_header::Destination;
 use njh_spool::{FileId, State};
@@ -65,19 +70,36 @@ pub(crate) struct HubFile {
 }
 
 impl OwnFiles {
-    /// The file of this number that wasn't whole, where it can be the one with so many records now. It is remembered no
-    /// more.
-    pub(crate) fn take_partial(&mut self, number: FileId, records: u32) -> Option<KeptPartial> {
-        let mut found = None;
+    /// The first place where a file of this number is remembered that wasn't whole, and can be the one with so many
+    /// records now.
+    pub(crate) fn place_of(&self, number: FileId, records: u32) -> Option<usize>
+        ensures within { IfSome result (λ place. place < length self.now.partial.items) }
+        ensures found { IfSome result (λ place. IsSomeAnd (slice_get self.now.partial.items place) (λ p.
+            (p.number ≡ number) × (p.seen ≤ records))) }
+        ensures first { IfSome result (λ place. AllByRecursion (IsAnother number records)
+            (take place self.now.partial.items)) }
+        ensures none { result ≡ None → AllByRecursion (IsAnother number records) self.now.partial.items }
+    {
         for place in 0..self.partial.len() {
-            let partial = self.partial[place];
-            if partial.number == number && partial.seen <= records {
-                found = Some(place);
+            if self.partial[place].number == number && self.partial[place].seen <= records {
+                return Some(place);
             }
         }
-        match found {
-            Some(place) if place < self.partial.len() => Some(self.partial.remove(place)),
-            _ => None,
-        }
+        None
+    }
+
+    /// The file of this number that wasn't whole, where it can be the one with so many records now. It is remembered no
+    /// more.
+    pub(crate) fn take_partial(&mut self, number: FileId, records: u32) -> Option<KeptPartial>
+        ensures taken { IfSome result (λ p. (place : ℕ) × (place < length self.old.partial.items)
+            × (p ≡ get_or self.old.partial.items place p)
+            × (self.new.partial.items ≡ remove self.old.partial.items place)
+            × (p.number ≡ number) × (p.seen ≤ records)) }
+        ensures none { result ≡ None → (self.new ≡ self.old)
+            × AllByRecursion (IsAnother number records) self.old.partial.items }
+        ensures others { self.new ≡ record self.old { partial = self.new.partial } }
+    {
+        let place = self.place_of(number, records)?;
+        Some(self.partial.remove(place))
     }
 }

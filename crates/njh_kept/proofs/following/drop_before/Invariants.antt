@@ -1,7 +1,19 @@
-use Rattle.sqlite.specs.State.{Survives}
+use Rattle.std.proofs.Common.{◌≡◌, ◌+◌, ◌≤◌, List, length}
+use Rattle.sqlite.specs.State.{HasCleanDisk, Survives}
+use Rattle.njh_spool.specs.CustomerSpool.{WholeFile}
 use Rattle.njh_store.specs.Shelf.{shown}
+use Rattle.njh_kept.specs.code.Following.{IsNext, LeadsFiles, memory_of}
+use Rattle.njh_kept.specs.code.Walking.{IsWalkedTo}
 use Rattle.njh_kept.proofs.following.drop_before.Given as goal
 
--- nothing was committed
+-- so many files were taken out
 abbrev pub invariant-whole : goal.invariant-whole
-invariant-whole g l = Survives (shown g.S.Store l.fn.writer.store) (shown g.S.Store l.writer.store) (λ _. ⊥)
+invariant-whole g l =
+    let old = shown g.S.Store l.fn.writer.store in
+    let now = shown g.S.Store l.writer.store in
+    record {
+      crash : Survives old now (λ _. ⊥);
+      led : (still : List WholeFile) → IsNext l.number still l.place → HasCleanDisk now
+          → LeadsFiles (memory_of l.fn.writer l.fn.own) (memory_of l.writer l.own) (λ s files. IsWalkedTo still files l.place) (λ files here. IsWalkedTo still here l.place) old now;
+      fewer : length l.own.whole.items + l.counter ≤ length l.fn.own.whole.items;
+    }
