@@ -14,7 +14,7 @@ module _ (k : KeptWhole) (f g : WholeFile) (d : User) (remembers : Remembers k f
   pub records_alike : AreAlike f.records g.records
   records_alike = rerouted_alike f.kind f.records g.records d reads still.records
 
-  destination_still : k.destination ≡ said_destination g.kind g.records → said_destination f.kind g.records ≡ said_destination f.kind f.records
+  pub destination_still : k.destination ≡ said_destination g.kind g.records → said_destination f.kind g.records ≡ said_destination f.kind f.records
   destination_still same = ap (λ kind. said_destination kind g.records) (sym still.kind) ∙ sym same ∙ remembers.destination
 
   either_same : (g.records ≡ f.records) ⊎ NameOneNode f.kind g.records → (NameOneNode g.kind g.records → ⊥) → g.records ≡ f.records

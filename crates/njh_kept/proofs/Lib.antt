@@ -37,3 +37,5 @@ pub mod FollowingLaws
 pub mod WalkedLaws
 pub mod PartlyLaws
 pub mod StillLaws
+pub mod HandLaws
+pub mod NewFilesLaws

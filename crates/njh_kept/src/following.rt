@@ -1,20 +1,27 @@
 //! A customer's whole files are kept as a step left them.
 
-ghost use Rattle.std.specs.Prelude.{◌≡◌, ◌<◌, ◌≤◌, true, false, None, List, get_or, length, remove, set, string_bytes, ⊤, OnOk};
+ghost use Rattle.std.specs.Prelude.{◌≡◌, ◌<◌, ◌≤◌, ◌+◌, ◌-◌, ◌^◌, ◌++◌, [], ◌∷◌, true, false, None, List, get_or, length, min, remove, set, string_bytes, take, ⊤, IfOk, OnOk};
 ghost use Rattle.njh_stream.specs.SpoolFiles.{records_in};
+ghost use Rattle.njh_customer.specs.Surviving.{Survive};
+ghost use Rattle.njh_hub.specs.Keeping.{is_held};
 ghost use Rattle.njh_hub.specs.WholeHub.{part};
-ghost use Rattle.njh_spool.specs.CustomerSpool.{WholeFile};
+ghost use Rattle.njh_spool.specs.CustomerSpool.{WholeFile, max_arrived};
 ghost use Rattle.njh_store.specs.Shelf.{shown};
 ghost use Rattle.sqlite.specs.State.{HasCleanDisk, Survives};
 ghost use Rattle.njh_kept.specs.declared.own_files.KeptWhole.{KeptWhole};
-ghost use Rattle.njh_kept.specs.code.Following.{ChangesRow, IsHubFile, IsNext, IsReached, IsStillAt, LeadsFiles, memory_of};
+ghost use Rattle.njh_kept.specs.code.Following.{AddsRow, AreFronts, AreHubFiles, ChangesRow, GoOnIn, IsAt, IsHubFile};
+ghost use Rattle.njh_kept.specs.code.Following.{IsNext, IsReached, IsStillAt};
+ghost use Rattle.njh_kept.specs.code.Following.{LeadsFiles, LeadsInHand, memory_of};
+ghost use Rattle.njh_kept.specs.code.Memory.{own_of};
+ghost use Rattle.njh_kept.specs.code.Remembered.{NameOneNode};
 ghost use Rattle.njh_kept.specs.code.Nodes.{AreOne, named_nodes};
-ghost use Rattle.njh_kept.specs.code.Walking.{IsWalkedTo};
+ghost use Rattle.njh_kept.specs.code.Walking.{AreNumbered, IsWalkedTo};
 
 use crate::hub_records::{finish_records, is_mixed, job_of, rewrite_headers};
 use crate::own_files::{HubFile, KeptWhole, OwnFiles};
 use crate::rows::{is_held, row_of};
 use crate::writer::{SpoolWriter, astray};
+use njh_customer::files_survive;
 use njh_hub::{FileSummaryView, Hub};
 use njh_record::Kind;
 use njh_spool::{FileId, State};
@@ -31,35 +38,112 @@ pub(crate) fn follow<S: Alter + Drop>(
     hub: &Hub,
     customer: u16,
 ) -> Result<(), Error>
+    ensures led { AreHubFiles (part customer hub.now).customer.spool.whole
+        → HasCleanDisk (shown S.Store writer.new.store)
+        → OnOk result (LeadsFiles (memory_of writer.old own.old) (memory_of writer.new own.new)
+        (λ s files. GoOnIn own.old.arrived files (part customer hub.now).customer
+        × AreFronts s (own_of own.old).partial (part customer hub.now).customer.spool.whole)
+        (λ files now. now ≡ (part customer hub.now).customer.spool.whole)
+        (shown S.Store writer.old.store) (shown S.Store writer.new.store)) }
+    ensures arrived { OnOk result (own.new.arrived ≡ (part customer hub.now).customer.spool.arrived) }
     ensures crash { Survives (shown S.Store writer.old.store) (shown S.Store writer.new.store) (λ _. ⊥) }
 {
+    files_survive();
     let count = hub.file_count(customer);
     let arrived = hub.arrived(customer);
     let old = count.saturating_sub(new_files(own.arrived, arrived));
+    follow_old(writer, own, hub, customer, old)?;
+    add_new(writer, own, hub, customer, old)?;
+    own.arrived = arrived;
+    Ok(())
+}
+
+/// Follows the first so many files, which were there, and takes out each other one.
+fn follow_old<S: Alter + Drop>(
+    writer: &mut SpoolWriter<S>,
+    own: &mut OwnFiles,
+    hub: &Hub,
+    customer: u16,
+    old: u32,
+) -> Result<(), Error>
+    requires { old ≤ length (part customer hub.now).customer.spool.whole }
+    ensures led { AreHubFiles (part customer hub.now).customer.spool.whole
+        → HasCleanDisk (shown S.Store writer.new.store)
+        → OnOk result (LeadsFiles (memory_of writer.old own.old) (memory_of writer.new own.new)
+        (λ s files. Survive files (take old (part customer hub.now).customer.spool.whole) × AreNumbered files)
+        (λ files now. now ≡ take old (part customer hub.now).customer.spool.whole)
+        (shown S.Store writer.old.store) (shown S.Store writer.new.store)) }
+    ensures crash { Survives (shown S.Store writer.old.store) (shown S.Store writer.new.store) (λ _. ⊥) }
+{
     let mut place = 0;
     'old: for index in 0..old {
-        let number = hub.number_at(customer, index);
-        drop_before(writer, own, place, Some(number))?;
-        if place >= own.whole.len() {
-            return Err(astray());
-        }
-        let summary = hub.summary_at(customer, index);
-        let file = HubFile { customer, number };
-        follow_one(writer, own, place, hub, file, &summary)?;
+        follow_at(writer, own, place, hub, customer, index)?;
         place += 1;
     }
-    drop_before(writer, own, place, None)?;
+    drop_before(writer, own, place, None)
+}
+
+/// Finds the file that is at this index in the hub, from a place on, and follows it.
+fn follow_at<S: Alter + Drop>(
+    writer: &mut SpoolWriter<S>,
+    own: &mut OwnFiles,
+    place: usize,
+    hub: &Hub,
+    customer: u16,
+    index: u32,
+) -> Result<(), Error>
+    requires { index < length (part customer hub.now).customer.spool.whole }
+    ensures led { (still : List WholeFile) → (f : WholeFile)
+        → AreHubFiles (part customer hub.now).customer.spool.whole
+        → IsAt (part customer hub.now).customer.spool.whole index f → IsAt still place f
+        → HasCleanDisk (shown S.Store writer.new.store)
+        → OnOk result (LeadsFiles (memory_of writer.old own.old) (memory_of writer.new own.new)
+        (λ s files. IsWalkedTo still files place) (λ files now. IsWalkedTo still now (place + 1))
+        (shown S.Store writer.old.store) (shown S.Store writer.new.store)) }
+    ensures crash { Survives (shown S.Store writer.old.store) (shown S.Store writer.new.store) (λ _. ⊥) }
+{
+    let number = hub.number_at(customer, index);
+    drop_before(writer, own, place, Some(number))?;
+    if place >= own.whole.len() {
+        return Err(astray());
+    }
+    let summary = hub.summary_at(customer, index);
+    let file = HubFile { customer, number };
+    follow_one(writer, own, place, hub, file, &summary)
+}
+
+/// Adds the files from this index on, which became whole.
+fn add_new<S: Alter + Drop>(
+    writer: &mut SpoolWriter<S>,
+    own: &mut OwnFiles,
+    hub: &Hub,
+    customer: u16,
+    old: u32,
+) -> Result<(), Error>
+    requires { old ≤ length (part customer hub.now).customer.spool.whole }
+    ensures led { AreHubFiles (part customer hub.now).customer.spool.whole
+        → HasCleanDisk (shown S.Store writer.new.store)
+        → OnOk result (LeadsFiles (memory_of writer.old own.old) (memory_of writer.new own.new)
+        (λ s files. (files ≡ take old (part customer hub.now).customer.spool.whole)
+        × AreFronts s (own_of own.old).partial (part customer hub.now).customer.spool.whole)
+        (λ files now. now ≡ (part customer hub.now).customer.spool.whole)
+        (shown S.Store writer.old.store) (shown S.Store writer.new.store)) }
+    ensures crash { Survives (shown S.Store writer.old.store) (shown S.Store writer.new.store) (λ _. ⊥) }
+{
+    let count = hub.file_count(customer);
     'new: for index in old..count {
         let summary = hub.summary_at(customer, index);
         let number = hub.number_at(customer, index);
         add_one(writer, own, hub, HubFile { customer, number }, &summary)?;
     }
-    own.arrived = arrived;
     Ok(())
 }
 
 /// How many files became whole between two counts; all there may be where it isn't known.
-fn new_files(before: u64, now: u64) -> u32 {
+fn new_files(before: u64, now: u64) -> u32
+    ensures all { now ≡ max_arrived → result ≡ 2 ^ 32 - 1 }
+    ensures some { now < max_arrived → result ≡ min (now - before) (2 ^ 32 - 1) }
+{
     if now == u64::MAX {
         return u32::MAX;
     }
@@ -190,11 +274,18 @@ fn change_state<S: Alter + Drop>(
         state: summary.state,
         ..kept
     };
-    if is_held(summary.state) != is_held(kept.state) {
+    if changes_hold(kept.state, summary.state) {
         change_row(writer, own, hub, file, &now, summary)?;
     }
     own.whole[place] = now;
     Ok(())
+}
+
+/// Whether a file is Held now and wasn't, or the other way.
+fn changes_hold(before: State, now: State) -> bool
+    ensures { result ≡ false → is_held now ≡ is_held before }
+{
+    is_held(now) != is_held(before)
 }
 
 /// Puts a whole file's row as it is now in the place of the one that it had.
@@ -246,13 +337,68 @@ fn add_one<S: Alter + Drop>(
     file: HubFile,
     summary: &FileSummaryView,
 ) -> Result<(), Error>
+    ensures led { (g : WholeFile) → IsHubFile hub.now file summary.now g → HasCleanDisk (shown S.Store writer.new.store)
+        → OnOk result (LeadsFiles (memory_of writer.old own.old) (memory_of writer.new own.new)
+        (λ s files. AreFronts s (own_of own.old).partial (g ∷ [])) (λ files now. now ≡ files ++ g ∷ [])
+        (shown S.Store writer.old.store) (shown S.Store writer.new.store)) }
     ensures crash { Survives (shown S.Store writer.old.store) (shown S.Store writer.new.store) (λ _. ⊥) }
 {
-    let (key, written) = match own.take_partial(file.number, summary.records) {
-        Some(partial) => (partial.key, partial.written),
-        None => (writer.take_key()?, 0),
-    };
-    finish_records(writer, hub, file, key, written)?;
+    let place = place_for(writer, own, file.number, summary.records)?;
+    let RecordPlace { key, written } = place;
+    let finished = file;
+    finish_records(writer, hub, finished, key, written)?;
+    add_row(writer, own, hub, file, key, summary)
+}
+
+/// Where records of a file are to stand, and how many stand there already.
+#[derive(Clone, Copy)]
+struct RecordPlace {
+    key: u32,
+    written: u32,
+}
+
+/// The place for a file of this number that has so many records: that of the file that wasn't whole, or a new one.
+fn place_for<S: Alter + Drop>(
+    writer: &mut SpoolWriter<S>,
+    own: &mut OwnFiles,
+    number: FileId,
+    records: u32,
+) -> Result<RecordPlace, Error>
+    ensures led { (g : WholeFile) → number ≡ g.number → records ≡ length g.records
+        → HasCleanDisk (shown S.Store writer.new.store)
+        → IfOk result (λ place. LeadsInHand place.key place.written g
+        (memory_of writer.old own.old) (memory_of writer.new own.new)
+        (shown S.Store writer.old.store) (shown S.Store writer.new.store)) }
+    ensures crash { Survives (shown S.Store writer.old.store) (shown S.Store writer.new.store) (λ _. ⊥) }
+{
+    match own.take_partial(number, records) {
+        Some(partial) => Ok(RecordPlace {
+            key: partial.key,
+            written: partial.written,
+        }),
+        None => Ok(RecordPlace {
+            key: writer.take_key()?,
+            written: 0,
+        }),
+    }
+}
+
+/// Adds the row of a file whose records stand under this number.
+fn add_row<S: Alter + Drop>(
+    writer: &mut SpoolWriter<S>,
+    own: &mut OwnFiles,
+    hub: &Hub,
+    file: HubFile,
+    key: u32,
+    summary: &FileSummaryView,
+) -> Result<(), Error>
+    ensures added { (g : WholeFile) → IsHubFile hub.now file summary.now g
+        → HasCleanDisk (shown S.Store writer.new.store) → OnOk result (AddsRow key summary.now g
+        (memory_of writer.old own.old) (memory_of writer.new own.new)
+        (shown S.Store writer.old.store) (shown S.Store writer.new.store)) }
+    ensures crash { Survives (shown S.Store writer.old.store) (shown S.Store writer.new.store) (λ _. ⊥) }
+{
+    let looked_at = file;
     let kept = KeptWhole {
         id: writer.take_id()?,
         key,
@@ -260,7 +406,7 @@ fn add_one<S: Alter + Drop>(
         records: summary.records,
         state: summary.state,
         destination: summary.destination,
-        is_mixed: summary.kind == Kind::Out && is_mixed(hub, file),
+        is_mixed: names_several(hub, looked_at, summary),
         came: writer.now,
     };
     own.whole.push(kept)?;
@@ -274,4 +420,14 @@ fn add_one<S: Alter + Drop>(
     let added = writer.add_file(kept.id, &row);
     drop(row);
     added
+}
+
+/// Whether a file's headers name more than one node.
+fn names_several(hub: &Hub, file: HubFile, summary: &FileSummaryView) -> bool
+    ensures { (g : WholeFile) → IsHubFile hub.now file summary.now g → result ≡ false → NameOneNode g.kind g.records }
+{
+    match summary.kind {
+        Kind::In => false,
+        Kind::Out => is_mixed(hub, file),
+    }
 }

@@ -1,8 +1,10 @@
 -- What calls of the keeper make of a customer's whole files on a spool file.
-use Rattle.std.specs.Prelude.{◌≡◌, ℕ, ◌<◌, ◌≤◌, true, Bool, List, [], ◌∷◌, length, get_or, take, string_bytes, Option, Some, None}
+use Rattle.std.specs.Prelude.{◌≡◌, ℕ, ◌+◌, ◌<◌, ◌≤◌, true, Bool, List, [], ◌∷◌, ◌++◌, length, get_or, take, string_bytes, Option, Some, None}
 use Rattle.std.specs.List.{AllByRecursion}
 use Rattle.sqlite.specs.State.{State}
-use Rattle.njh_customer.specs.Surviving.{IsStill}
+use Rattle.njh_customer.specs.Surviving.{FilesGoOn, IsStill}
+use Rattle.njh_customer.specs.Customer.{Customer}
+use Rattle.njh_customer.specs.OutgoingFiles.{outgoing}
 use Rattle.njh_stream.specs.SpoolFiles.{records_in}
 use Rattle.njh_hub.specs.Views.{file_summary}
 use Rattle.njh_hub.specs.WholeHub.{Part, part}
@@ -10,8 +12,8 @@ use Rattle.njh_hub.specs.declared.file_summary.FileSummaryView.{FileSummaryView}
 use Rattle.njh_store.specs.Steps.{Changes}
 use Rattle.njh_header.specs.WholeFiles.{HasHeaders}
 use Rattle.njh_record.specs.Stored.{Stored}
-use Rattle.njh_spool.specs.CustomerSpool.{WholeFile}
-use Rattle.njh_store.specs.Kept.{File, Spool, records_of, with_changed}
+use Rattle.njh_spool.specs.CustomerSpool.{WholeFile, max_arrived}
+use Rattle.njh_store.specs.Kept.{File, Spool, records_of, with_changed, with_file}
 use Rattle.njh_kept.specs.Opened.{is_name_of, is_own}
 use Rattle.njh_kept.specs.declared.own_files.HubFile.{HubFile}
 use Rattle.njh_kept.specs.declared.own_files.OwnFiles as own_files
@@ -19,8 +21,9 @@ use Rattle.njh_kept.specs.declared.writer.SpoolWriter as spool_writer
 use Rattle.njh_kept.specs.code.Leading.{Leads}
 use Rattle.njh_kept.specs.code.Memory.{numbers_of, own_of}
 use Rattle.njh_kept.specs.code.Mirrored.{FitsHub, HasRecords, IsOrdered}
-use Rattle.njh_kept.specs.code.Remembered.{AreApart, AreBelow, Claim, IsRowOf, KeptPartial, Mirrored, Moves, Numbers, OwnFiles, claim}
+use Rattle.njh_kept.specs.code.Remembered.{AreApart, AreBelow, Claim, IsRowOf, KeptPartial, KeptWhole, Mirrored, Moves, Numbers, OwnFiles, Remembers, claim, with_key}
 use Rattle.njh_kept.specs.code.Alike.{AreAlike}
+use Rattle.njh_kept.specs.code.Walking.{AreNumbered}
 
 -- what is remembered of a customer and of the numbers, and the customer's name as each row has it
 pub record Memory : Type 0 where
@@ -125,3 +128,56 @@ pub record ChangesRow (text : List ℕ) (id key : ℕ) (summary : FileSummaryVie
   pub row : File
   pub is_row : IsRowFor text key summary row
   pub changes : Changes (with_changed id row) old new
+
+-- It is remembered as one more, under the number in hand, and so is its row added.
+pub record AddsRow (key : ℕ) (summary : FileSummaryView) (g : WholeFile) (m m' : Memory) (old new : State) : Type 0 where
+  pub kept : KeptWhole
+  pub row : File
+  pub id : kept.id ≡ m.numbers.next_id
+  pub key_is : kept.key ≡ key
+  pub remembers : Remembers kept g
+  pub memory : m' ≡ record {
+    numbers = record m.numbers { next_id = m.numbers.next_id + 1 };
+    own = record m.own { whole = m.own.whole ++ kept ∷ [] };
+    text = m.text;
+  }
+  pub is_row : IsRowFor m.text key summary row
+  pub changes : Changes (with_file kept.id row) old new
+
+-- ---- a number in hand
+
+-- This number is in hand; under it stand so many records, a front of a file's but for headers. The files are what they
+-- were.
+pub record IsInHand (key written : ℕ) (m m' : Memory) (s t : Spool) (files : List WholeFile) (now : List Stored) : Type 0 where
+  pub moves : Moves (claim_of m) (with_key key (claim_of m')) s t
+  pub text : m'.text ≡ m.text
+  pub mirrored : Mirrored t m'.own files
+  pub remain : Remain m.own.partial m'.own.partial
+  pub records : AllByRecursion (λ p. records_of p.key t ≡ records_of p.key s) m'.own.partial
+  pub before : List Stored
+  pub long : length before ≡ written
+  pub within : written ≤ length now
+  pub stored : HasRecords key before t
+  pub alike : AreAlike before (take written now)
+
+abbrev pub LeadsInHand : (key written : ℕ) → WholeFile → (m m' : Memory) → State → State → Type 0
+LeadsInHand key written g m m' old new =
+    Leads (λ s t. (files : List WholeFile) → HasFiles m s files → AreFronts s m.own.partial (g ∷ [])
+      → IsInHand key written m m' s t files g.records) old new
+
+-- ---- all of a hub's files
+
+-- no two whole files of a customer have one number, and each record can be given back
+pub record AreHubFiles (files : List WholeFile) : Type 0 where
+  pub numbered : AreNumbered files
+  pub fit : AllByRecursion (λ f. AllByRecursion FitsHub f.records) files
+
+-- this is the file at the place
+pub record IsAt (files : List WholeFile) (place : ℕ) (file : WholeFile) : Type 0 where
+  pub there : place < length files
+  pub is : file ≡ get_or files place file
+
+-- These were a customer's whole files when so many had become whole; since then they went on to be those that it has now.
+pub record GoOnIn (arrived : ℕ) (files : List WholeFile) (now : Customer) : Type 0 where
+  pub numbered : AreNumbered files
+  pub goes : now.spool.arrived < max_arrived → FilesGoOn (record (outgoing now) { files = files; arrived = arrived }) (outgoing now)

@@ -1,0 +1,58 @@
+use Rattle.std.proofs.Common.{rules, ◌≡◌, ◌<◌, length, get_or, refl, sym, ap, subst, ◌∙◌, arith}
+use Rattle.std.proofs.lemmas.List.{get_or_default, take_all}
+use Rattle.sqlite.specs.State.{HasCleanDisk}
+use Rattle.sqlite.proofs.StateLemmas.{survives_then}
+use Rattle.njh_spool.specs.CustomerSpool.{WholeFile}
+use Rattle.njh_hub.specs.Views.{file_summary}
+use Rattle.njh_hub.specs.WholeHub.{part}
+use Rattle.njh_store.specs.Shelf.{shown}
+use Rattle.njh_kept.specs.code.Following.{memory_of}
+use Rattle.njh_kept.proofs.FollowingLaws.{goes_nowhere}
+use Rattle.njh_kept.proofs.LeadingLaws.{leads_nothing, leads_weaker}
+use Rattle.njh_kept.proofs.NewFilesLaws.{added_further, any_file, hub_file_at, is_at}
+use Rattle.njh_kept.proofs.following.add_new.Goals as goal
+
+pub new-init : goal.new-init
+new-init g c =
+    let at = shown g.S.Store c.args.writer.now.store in
+    let m = memory_of c.args.writer.now c.args.own.now in
+    record {
+      crash = search rules;
+      led = λ hub_files clean. leads_nothing _ at (λ s files has given. (files, given.0, goes_nowhere m s files has));
+    }
+
+pub new-preserved : goal.new-preserved
+new-preserved g c =
+    let old = shown g.S.Store c.args.writer.now.store in
+    let mid = shown g.S.Store c.new.writer.store in
+    let new = shown g.S.Store c.add_one.new.writer.store in
+    let early : HasCleanDisk new → HasCleanDisk mid = λ clean. omega (arith, c.add_one.ensures.crash.clean) in
+    let m = memory_of c.args.writer.now c.args.own.now in
+    let m1 = memory_of c.new.writer c.new.own in
+    let m2 = memory_of c.add_one.new.writer c.add_one.new.own in
+    let parts = c.args.hub.now in
+    let whole = (part c.args.customer parts).customer.spool.whole in
+    let index = c.new.index in
+    let there : index < length whole = omega (arith, c.new-test.true, c.file_count-count.ensures) in
+    let f = get_or whole index any_file in
+    let here = is_at whole index there in
+    let number = c.number_at-number.result in
+    let number_is : number ≡ f.number = c.number_at-number.ensures ∙ ap (λ (x : WholeFile). x.number) (get_or_default whole index _ any_file there) in
+    let summary_is : c.summary_at-summary.result ≡ file_summary f = c.summary_at-summary.ensures.summary ∙ ap file_summary (get_or_default whole index _ any_file there) in
+    record {
+      crash = survives_then old mid new _ _ (λ _. ⊥) (λ _ db none. none) (λ _ db none. none) c.new.invariant.crash c.add_one.ensures.crash;
+      led = λ hub_files clean.
+          let hub_file = hub_file_at parts (record { customer = c.args.customer; number = number }) c.summary_at-summary.result index f hub_files c.summary_at-summary.ensures.headers here number_is summary_is in
+          added_further m m1 m2 old mid new whole c.args.old index f here (c.new.invariant.led hub_files (early clean)) (c.in_ok-add_one.ensures.led f hub_file clean);
+    }
+
+pub returns-clause-led : goal.returns-clause-led
+returns-clause-led g c hub_files clean =
+    let old = shown g.S.Store c.args.writer.now.store in
+    let new = shown g.S.Store c.new.writer.store in
+    let whole = (part c.args.customer c.args.hub.now).customer.spool.whole in
+    leads_weaker _ _ old new
+    (λ s t led files has given.
+    let a = led files has given in
+    (a.0, a.1 ∙ take_all c.new.index whole (omega (arith, c.new-test.false, c.file_count-count.ensures)), a.2))
+    (c.new.invariant.led hub_files clean)

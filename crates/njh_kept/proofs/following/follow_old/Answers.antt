@@ -1,0 +1,73 @@
+use Rattle.std.proofs.Common.{rules, ◌≡◌, ◌+◌, ◌<◌, ◌≤◌, None, length, get_or, take, refl, sym, ap, subst, ◌∙◌, arith}
+use Rattle.std.proofs.lemmas.List.{length-take-le}
+use Rattle.sqlite.specs.State.{HasCleanDisk}
+use Rattle.sqlite.proofs.StateLemmas.{survives_then}
+use Rattle.njh_spool.specs.CustomerSpool.{WholeFile}
+use Rattle.njh_hub.specs.WholeHub.{part}
+use Rattle.njh_store.proofs.ReadingLaws.{ok_then}
+use Rattle.njh_store.specs.Shelf.{shown}
+use Rattle.njh_kept.specs.code.Following.{IsAt, IsNext, IsReached, LeadsFiles, memory_of}
+use Rattle.njh_kept.specs.code.Walking.{IsWalkedTo}
+use Rattle.njh_kept.proofs.FollowingLaws.{goes_nowhere}
+use Rattle.njh_kept.proofs.LeadingLaws.{leads_nothing}
+use Rattle.njh_kept.proofs.NewFilesLaws.{any_file, is_at, is_at_of_first, walked_further, walked_to_end}
+use Rattle.njh_kept.proofs.WalkLaws.{walk_begins}
+use Rattle.njh_kept.proofs.following.follow_old.Goals as goal
+
+pub old-init : goal.old-init
+old-init g c =
+    let at = shown g.S.Store c.args.writer.now.store in
+    let m = memory_of c.args.writer.now c.args.own.now in
+    let still = take c.args.old (part c.args.customer c.args.hub.now).customer.spool.whole in
+    record {
+      crash = search rules;
+      place = refl;
+      led = λ hub_files clean. leads_nothing _ at (λ s files has given. (files, walk_begins still files given.0 given.1, goes_nowhere m s files has));
+    }
+
+pub old-preserved : goal.old-preserved
+old-preserved g c =
+    let first = shown g.S.Store c.args.writer.now.store in
+    let mid = shown g.S.Store c.old.writer.store in
+    let new = shown g.S.Store c.follow_at.new.writer.store in
+    let early : HasCleanDisk new → HasCleanDisk mid = λ clean. omega (arith, c.follow_at.ensures.crash.clean) in
+    let m = memory_of c.args.writer.now c.args.own.now in
+    let m1 = memory_of c.old.writer c.old.own in
+    let m2 = memory_of c.follow_at.new.writer c.follow_at.new.own in
+    let whole = (part c.args.customer c.args.hub.now).customer.spool.whole in
+    let still = take c.args.old whole in
+    let index = c.old.index in
+    let place : c.old.place ≡ index = c.old.invariant.place in
+    let there : index < length whole = omega (arith, c.old-test.true, c.requires) in
+    let f = get_or whole index any_file in
+    let here = is_at whole index there in
+    let next : IsAt still index f = is_at_of_first whole c.args.old index f c.requires (omega (arith, c.old-test.true)) here in
+    record {
+      crash = survives_then first mid new _ _ (λ _. ⊥) (λ _ db none. none) (λ _ db none. none) c.old.invariant.crash c.follow_at.ensures.crash;
+      place = ap (λ n. n + 1) place;
+      led = λ hub_files clean.
+          walked_further m m1 m2 first mid new _ still index (c.old.invariant.led hub_files (early clean))
+          (subst (λ n. LeadsFiles m1 m2 (λ s files. IsWalkedTo still files n) (λ files now. IsWalkedTo still now (n + 1)) mid new) place
+          (c.in_ok-follow_at.ensures.led still f hub_files here (subst (λ n. IsAt still n f) (sym place) next) clean));
+    }
+
+pub returns-clause-led : goal.returns-clause-led
+returns-clause-led g c hub_files clean =
+    let first = shown g.S.Store c.args.writer.now.store in
+    let mid = shown g.S.Store c.old.writer.store in
+    let new = shown g.S.Store c.drop_before.new.writer.store in
+    let early : HasCleanDisk mid = omega (arith, c.drop_before.ensures.crash.clean, clean) in
+    let m = memory_of c.args.writer.now c.args.own.now in
+    let m1 = memory_of c.old.writer c.old.own in
+    let m2 = memory_of c.drop_before.new.writer c.drop_before.new.own in
+    let whole = (part c.args.customer c.args.hub.now).customer.spool.whole in
+    let still = take c.args.old whole in
+    let index = c.old.index in
+    let place : c.old.place ≡ index = c.old.invariant.place in
+    let long = length-take-le c.args.old whole c.requires in
+    let last : length still ≤ index = omega (arith, long, c.old-test.false) in
+    ok_then c.drop_before.result _ _
+    (λ more.
+    walked_to_end m m1 m2 first mid new _ still index last (c.old.invariant.led hub_files early)
+    (subst (λ n. LeadsFiles m1 m2 (λ s files. IsWalkedTo still files n) (λ files now. IsWalkedTo still now n × IsReached None now n) mid new) place more))
+    (c.drop_before.ensures.led still (subst (λ n. length still ≤ n) (sym place) last) clean)
