@@ -9,7 +9,8 @@ use Rattle.njh_store.specs.Kept.{File, Spool, Whole, contents, records_of}
 use Rattle.njh_kept.specs.Opened.{file_in, kind_of_word, kind_word, own_files}
 use Rattle.njh_kept.specs.code.Mirrored.{FitsHub, ReadsAs, own_rows}
 use Rattle.njh_hub.specs.Keeping.{kept_file}
-use Rattle.njh_kept.specs.code.Remembered.{AllBeside, IsKept, KeptWhole, Mirrored, OwnFiles, left_in}
+use Rattle.njh_kept.specs.Keeper.{left_in}
+use Rattle.njh_kept.specs.code.Remembered.{AllBeside, IsKept, KeptWhole, Mirrored, OwnFiles}
 use Rattle.njh_kept.proofs.OwnFileLaws.{own_files_read_back}
 use Rattle.njh_kept.proofs.RecordLaws.{file_reads_back}
 

@@ -39,3 +39,4 @@ pub mod PartlyLaws
 pub mod StillLaws
 pub mod HandLaws
 pub mod NewFilesLaws
+pub mod KeeperLaws

@@ -1,23 +1,36 @@
 -- What keeps whole files in a spool file, and the hub that it opens.
-use Rattle.std.specs.Prelude.{◌≡◌, ℕ, List, map, refl}
-use Rattle.std.specs.Coded.{Coded, code_by, coded×, coded_ℕ}
+use Rattle.std.specs.Prelude.{◌≡◌, ℕ, Bool, false, List, map, refl}
+use Rattle.std.specs.List.{filter_map}
+use Rattle.std.specs.Coded.{Coded, code_by, coded×, coded_bool, coded_list, coded_ℕ}
 use Rattle.sqlite.specs.State.{HasCleanDisk}
 use Rattle.sqlite.specs.Store.{Ghosts}
+use Rattle.sqlite.specs.Tree.{Trees}
 use Rattle.njh_hub.specs.Parts.{entries_of}
 use Rattle.njh_hub.specs.WholeHub.{Part, SameLines, part_at_open}
 use Rattle.njh_store.specs.Kept.{Spool, Holds, kept}
 use Rattle.njh_store.specs.Shelf.{Shelf, shelf_code, shown}
+use Rattle.njh_store.specs.Standing.{Standing, Stands}
+use Rattle.njh_restore.specs.Restoring.{KeptFile}
 use Rattle.njh_table.specs.TableFile.{TableFile}
-use Rattle.njh_kept.specs.Opened.{AllAreBack, hub_opened}
+use Rattle.njh_kept.specs.Opened.{AllAreBack, file_in, hub_opened, own_files}
 
--- the spool file, and how often keeping failed
+-- The spool file, how often keeping failed, and the names of the customers in the order of the tables. Since the last
+-- commit whole files changed, or didn't, and so many records were written or dropped.
 pub record Keeping (S : Type 0) : Type 0 where
   pub store : Shelf S
   pub failures : ℕ
+  pub names : List (List ℕ)
+  pub is_changed : Bool
+  pub waiting : ℕ
 
 abbrev pub keeping_code : {S : Type 0} → Coded S → Coded (Keeping S)
-keeping_code {S} store = code_by (Shelf S × ℕ) (coded× (shelf_code store) coded_ℕ) (λ k. (k.store, k.failures))
-    (λ p. record { store = p.0; failures = p.1 }) (λ _. refl)
+keeping_code {S} store = code_by (Shelf S × (ℕ × (List (List ℕ) × (Bool × ℕ))))
+    (coded× (shelf_code store) (coded× coded_ℕ (coded× (coded_list (coded_list coded_ℕ)) (coded× coded_bool coded_ℕ))))
+    (λ k. (k.store, (k.failures, (k.names, (k.is_changed, k.waiting)))))
+    (λ p. record { store = p.0; failures = p.1.0; names = p.1.1.0; is_changed = p.1.1.1.0; waiting = p.1.1.1.1 })
+    (λ _. refl)
+
+-- ---- the opening
 
 -- Each customer of the tables has the lines of its entry and, as far as the disk told the truth up to the end of the
 -- opening, its own whole files of the spool file as it was before. All of them could be put back.
@@ -28,3 +41,28 @@ pub record IsOpenedFrom {S : Type 0} (g : Ghosts S) (before behind : Keeping S) 
       → parts ≡ hub_opened table spool
   pub back : HasCleanDisk (shown g behind.store) → (spool : Spool) → Holds spool (shown g before.store).now.trees
       → AllAreBack table (kept spool)
+
+-- ---- what a crash may leave
+
+-- of each customer of these names its whole files on a spool file, as a hub has them
+abbrev pub left_in : List (List ℕ) → Spool → List (List KeptFile)
+left_in names spool = map (λ name. filter_map (λ w. file_in w.file w.records) (own_files name spool)) names
+
+-- A crash at this moment may leave this of the customers' whole files, as far as the disk told the truth so far.
+pub record MayLeave {S : Type 0} (g : Ghosts S) (keeper : Keeping S) (left : List (List KeptFile)) : Type 0 where
+  pub clean : HasCleanDisk (shown g keeper.store)
+  pub trees : Trees
+  pub may : (shown g keeper.store).may_leave trees
+  pub spool : Spool
+  pub holds : Holds spool trees
+  pub is : left ≡ left_in keeper.names spool
+
+-- Where no whole file changed since the last commit, the customers' are those that were committed.
+abbrev pub IsAsKept : {S : Type 0} → Keeping S → Standing → Type 0
+IsAsKept keeper s = keeper.is_changed ≡ false → left_in keeper.names s.kept ≡ left_in keeper.names s.now
+
+-- This spool stands there, and the customers' whole files are committed as they are now.
+pub record IsKeptNow {S : Type 0} (g : Ghosts S) (keeper : Keeping S) (now : Spool) : Type 0 where
+  pub kept : Spool
+  pub stands : Stands (record { now = now; kept = kept }) (shown g keeper.store)
+  pub same : left_in keeper.names kept ≡ left_in keeper.names now

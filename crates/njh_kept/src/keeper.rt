@@ -1,10 +1,14 @@
 //! The whole files of a hub's customers are kept in a spool file.
 
-ghost use Rattle.std.specs.Prelude.{◌≡◌, ◌≤◌, ⊤, OnOk};
+ghost use Rattle.std.specs.Prelude.{◌≡◌, ◌⊎◌, ◌≤◌, List, [], false, ⊤, OnOk};
 ghost use Rattle.sqlite.specs.State.{HasCleanDisk, Survives};
 ghost use Rattle.njh_hub.specs.Sent.{IsCounted};
+ghost use Rattle.njh_restore.specs.Restoring.{KeptFile};
+ghost use Rattle.njh_store.specs.Kept.{Spool, Holds};
 ghost use Rattle.njh_store.specs.Shelf.{shown};
+ghost use Rattle.njh_store.specs.Standing.{Standing, Stands};
 ghost use Rattle.njh_store.specs.Steps.{Stays};
+ghost use Rattle.njh_kept.specs.Keeper.{IsAsKept, IsKeptNow, MayLeave, left_in};
 
 use crate::fault::{OpeningFault, RefusedFile};
 use crate::following::follow;
@@ -37,19 +41,26 @@ pub struct SpoolKeeper<'a, R, S: Alter + Drop> {
 }
 
 impl<'a, R, S: Alter + Drop> Model for SpoolKeeper<'a, R, S> {
+    ghost use Rattle.std.specs.Prelude.{map};
     ghost use Rattle.njh_kept.specs.Keeper.{Keeping, keeping_code};
 
     ghost Value = { Keeping S };
 
     ghost coded = { keeping_code S.code };
 
-    ghost view = { λ keeper. record { store = keeper.writer.store; failures = keeper.failures } };
+    ghost view = { λ keeper. record {
+      store = keeper.writer.store;
+      failures = keeper.failures;
+      names = map (λ own. own.name) keeper.customers.items;
+      is_changed = keeper.writer.is_changed;
+      waiting = keeper.writer.waiting;
+    } };
 }
 
 impl<'a, R: Clock, S: Alter + Drop> SpoolKeeper<'a, R, S> {
     /// Keeps files in a spool file that was just opened. Each row has the time by this clock.
     pub fn new(rt: &'a R, alloc: Global, store: Store<S>) -> SpoolKeeper<'a, R, S>
-        ensures { result ≡ record { store = store; failures = 0 } }
+        ensures { result ≡ record { store = store; failures = 0; names = []; is_changed = false; waiting = 0 } }
     {
         SpoolKeeper {
             rt,
@@ -117,7 +128,12 @@ impl<'a, R: Clock, S: Alter + Drop> SpoolKeeper<'a, R, S> {
 
     /// Commits what was written, where whole files changed or much waits.
     fn settle_files(&mut self) -> Result<(), Error>
-        ensures { self.new.failures ≡ self.old.failures }
+        ensures same { (self.new.failures ≡ self.old.failures) × (self.new.names ≡ self.old.names) }
+        ensures settled { HasCleanDisk (shown S.Store self.new.store) → OnOk result ((s : Standing)
+            → Stands s (shown S.Store self.old.store) → IsAsKept self.old s → IsKeptNow S.Store self.new s.now) }
+        ensures crash { (left : List (List KeptFile)) → MayLeave S.Store self.new left
+            → MayLeave S.Store self.old left ⊎ ((now : Spool) → Holds now (shown S.Store self.old.store).now.trees
+            → left ≡ left_in self.old.names now) }
     {
         if self.failures > 0 {
             return Err(Error::SqliteFailure(ErrorCode::Closed));

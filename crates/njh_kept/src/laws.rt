@@ -1,15 +1,20 @@
-//! Laws of a hub that is opened from a spool file. Each function does nothing: its contract is the law.
+//! Laws of a spool file, and of a hub that is opened from it. Each function does nothing: its contract is the law.
 
 ghost use Rattle.std.specs.Prelude.{◌≡◌, ℕ, ◌<◌, false, List, length};
 ghost use Rattle.std.specs.List.{AllByRecursion};
 ghost use Rattle.njh_hub.specs.WholeHub.{part, part_at_open};
 ghost use Rattle.njh_kept.specs.Opened.{AreBack, hub_opened, is_own, own_files, part_opened};
 ghost use Rattle.njh_kept.specs.OpenedFiles.{HasOpened};
+ghost use Rattle.njh_kept.specs.Keeper.{Keeping, MayLeave, left_in};
+ghost use Rattle.njh_restore.specs.Restoring.{KeptFile};
 ghost use Rattle.njh_store.specs.Kept.{File, Spool, Whole, with_file};
+ghost use Rattle.njh_store.specs.Shelf.{shown};
+ghost use Rattle.njh_store.specs.Standing.{Standing, Stands};
 ghost use Rattle.njh_table.specs.Entries.{CustomerEntry};
 ghost use Rattle.njh_table.specs.TableFile.{TableFile, customer_at, entry_of};
 
-use njh_store::others_do_not_show;
+use njh_store::{only_the_last_commit, others_do_not_show};
+use sqlite::Alter;
 
 /// A customer of a hub that was opened from files of its own has these, in their order and with all their records: Held
 /// where they were Held or their node has no route, else Ready. Its lines are down, and nothing waits.
@@ -35,4 +40,12 @@ pub fn a_file_of_another_does_not_show()
         → part_opened entry (own_files name (with_file id file spool)) ≡ part_opened entry (own_files name spool) }
 {
     others_do_not_show();
+}
+
+/// While a spool file stands, a crash leaves of the customers' whole files those that were committed last.
+pub fn a_crash_leaves_what_was_committed<S: Alter>()
+    ensures { (keeper : Keeping S) (s : Standing) (left : List (List KeptFile)) → Stands s (shown S.Store keeper.store)
+        → MayLeave S.Store keeper left → left ≡ left_in keeper.names s.kept }
+{
+    only_the_last_commit::<S>();
 }

@@ -19,5 +19,8 @@ mod writer;
 
 pub use fault::{FileFault, OpeningFault, RefusedFile};
 pub use keeper::SpoolKeeper;
-pub use laws::{a_file_of_another_does_not_show, files_stand_again, own_files_decide};
+pub use laws::{
+    a_crash_leaves_what_was_committed, a_file_of_another_does_not_show, files_stand_again,
+    own_files_decide,
+};
 pub use opening::open_from;

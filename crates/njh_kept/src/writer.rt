@@ -74,7 +74,7 @@ pub(crate) fn astray() -> Error {
 impl<S: Alter + Drop> SpoolWriter<S> {
     /// Writes into a spool file that was just opened.
     pub(crate) fn new(alloc: Global, store: Store<S>) -> SpoolWriter<S>
-        ensures { result.store ≡ store }
+        ensures { (result.store ≡ store) × (result.is_changed ≡ false) × (result.waiting ≡ 0) }
     {
         SpoolWriter {
             store,

@@ -1,18 +1,17 @@
 -- What the keeper of a spool file remembers of a customer's files, and what its calls make of a spool file.
 use Rattle.std.specs.Prelude.{◌≡◌, ◌≢◌, ℕ, ◌+◌, ◌<◌, ◌≤◌, ◌==◌, nat_le, Bool, false, cond, None}
-use Rattle.std.specs.Prelude.{List, [], ◌∷◌, length, map, take, ⊤}
-use Rattle.std.specs.List.{AllByRecursion, AllZip, filter_map}
+use Rattle.std.specs.Prelude.{List, [], ◌∷◌, length, take, ⊤}
+use Rattle.std.specs.List.{AllByRecursion, AllZip}
 use Rattle.njh_ebcdic.specs.Users.{User}
 use Rattle.njh_header.specs.Redirecting.{records_to_node}
 use Rattle.njh_record.specs.Stored.{Stored}
 use Rattle.njh_record.specs.declared.Kind.{Kind}
-use Rattle.njh_restore.specs.Restoring.{KeptFile}
 use Rattle.njh_spool.specs.CustomerSpool.{WholeFile}
 use Rattle.njh_spool.specs.declared.State.{State}
 use Rattle.njh_store.specs.Kept.{File, Spool, records_of}
 use Rattle.njh_hub.specs.Files.{said_destination}
 use Rattle.njh_hub.specs.Keeping.{is_held}
-use Rattle.njh_kept.specs.Opened.{file_in, kind_word, own_files}
+use Rattle.njh_kept.specs.Opened.{kind_word}
 use Rattle.njh_kept.specs.code.Mirrored.{FitsHub, HasRecords, IsOrdered, own_rows}
 
 -- ---- what is remembered
@@ -106,10 +105,6 @@ pub record IsPartlyKept (spool : Spool) (p : KeptPartial) (records : List Stored
 -- of each of a customer's, with its records when it was last seen
 abbrev pub PartlyMirrored : Spool → OwnFiles → List (List Stored) → Type 0
 PartlyMirrored spool own partial = AllZip (IsPartlyKept spool) own.partial partial
-
--- what the spool file has of each customer, as a hub would have it
-abbrev pub left_in : List (List ℕ) → Spool → List (List KeptFile)
-left_in names spool = map (λ name. filter_map (λ w. file_in w.file w.records) (own_files name spool)) names
 
 -- ---- under which number records stand
 
