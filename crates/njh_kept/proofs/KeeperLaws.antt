@@ -31,13 +31,13 @@ module _ {S : Type 0} (g : Ghosts S) where
         let is : left ≡ left_in old.names m.spool = m.is ∙ ap (λ ns. left_in ns m.spool) names in
         elim (survives.crash m.clean m.trees m.may) [
           | inl may ↦ inl (record {
-              clean = omega (arith, survives.clean, m.clean);
-              trees = m.trees;
-              may = may;
-              spool = m.spool;
-              holds = m.holds;
-              is = is;
-            })
+            clean = omega (arith, survives.clean, m.clean);
+            trees = m.trees;
+            may = may;
+            spool = m.spool;
+            holds = m.holds;
+            is = is;
+          })
           | inr made ↦ inr (m.trees, made, m.spool, m.holds, is)
         ]
 

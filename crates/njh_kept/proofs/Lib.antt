@@ -40,3 +40,4 @@ pub mod StillLaws
 pub mod HandLaws
 pub mod NewFilesLaws
 pub mod KeeperLaws
+pub mod PortionLaws

@@ -114,7 +114,8 @@ impl<'a, R: Clock, S: Alter + Drop> SpoolKeeper<'a, R, S> {
 
     /// Writes what a step made of a customer's files. Nothing of it is committed.
     fn follow_files(&mut self, hub: &Hub, customer: u16) -> Result<(), Error>
-        ensures { self.new.failures ≡ self.old.failures }
+        ensures same { self.new.failures ≡ self.old.failures }
+        ensures crash { Survives (shown S.Store self.old.store) (shown S.Store self.new.store) (λ _. ⊥) }
     {
         if self.failures > 0 || usize::from(customer) >= self.customers.len() {
             return Err(Error::SqliteFailure(ErrorCode::Closed));
@@ -122,8 +123,7 @@ impl<'a, R: Clock, S: Alter + Drop> SpoolKeeper<'a, R, S> {
         self.writer.now = seconds_on(self.rt);
         let own = &mut self.customers[usize::from(customer)];
         follow(&mut self.writer, own, hub, customer)?;
-        keep_portions(&mut self.writer, own, hub, customer)?;
-        self.writer.sweep()
+        keep_portions(&mut self.writer, own, hub, customer)
     }
 
     /// Commits what was written, where whole files changed or much waits.

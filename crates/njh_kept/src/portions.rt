@@ -1,5 +1,12 @@
 //! The records of a file are kept as they come, before it is whole.
 
+ghost use Rattle.std.specs.Prelude.{◌≡◌, ◌<◌, ◌≤◌, ◌++◌, ◌∷◌, [], length, slice_get, IsSomeAnd, OnOk};
+ghost use Rattle.std.specs.List.{AllByRecursion};
+ghost use Rattle.njh_hub.specs.WholeHub.{part};
+ghost use Rattle.njh_kept.specs.code.Memory.{own_of};
+ghost use Rattle.njh_kept.specs.code.Partly.{AllClosed, AllUpToDate, AllSeen, KeepsPartly, KeepsPartlyNew};
+ghost use Rattle.njh_spool.specs.CustomerSpool.{CustomerSpool};
+ghost use Rattle.njh_stream.specs.SpoolFiles.{records_in};
 ghost use Rattle.njh_store.specs.Shelf.{shown};
 ghost use Rattle.sqlite.specs.State.{Survives};
 
@@ -20,22 +27,43 @@ const MANY: u32 = 1_366;
 /// How many records wait at least before they are kept, so that a file isn't read from its beginning at each step.
 const PORTION: u32 = 256;
 
-/// Keeps records of a customer's files that aren't whole. Those of files that were given up are dropped step by step.
+/// Keeps records of a customer's files that aren't whole. Those of files that were given up are dropped step by step, as
+/// those of files that have left: some of them now.
 pub(crate) fn keep_portions<S: Alter + Drop>(
     writer: &mut SpoolWriter<S>,
     own: &mut OwnFiles,
     hub: &Hub,
     customer: u16,
 ) -> Result<(), Error>
+    ensures kept { OnOk result (KeepsPartly S.Store (part customer hub.now).customer.spool writer.old own.old writer.new
+        own.new) }
+    ensures seen { AllClosed (own_of own.old) → OnOk result (AllUpToDate (part customer hub.now).customer.spool
+        (own_of own.new)) }
+    ensures crash { Survives (shown S.Store writer.old.store) (shown S.Store writer.new.store) (λ _. ⊥) }
+{
+    keep_of_lines(writer, own, hub, customer)?;
+    drop_given_up(writer, own)?;
+    writer.sweep()
+}
+
+/// Keeps records of the files that the streams of a customer's lines are about.
+fn keep_of_lines<S: Alter + Drop>(
+    writer: &mut SpoolWriter<S>,
+    own: &mut OwnFiles,
+    hub: &Hub,
+    customer: u16,
+) -> Result<(), Error>
+    ensures kept { OnOk result (KeepsPartly S.Store (part customer hub.now).customer.spool writer.old own.old writer.new
+        own.new) }
     ensures crash { Survives (shown S.Store writer.old.store) (shown S.Store writer.new.store) (λ _. ⊥) }
 {
     'lines: for number in 0..u16::MAX {
         let Ok(receivers) = hub.receivers(LineId { customer, number }) else {
-            return drop_given_up(writer, own);
+            return Ok(());
         };
         keep_of_line(writer, own, hub, customer, receivers)?;
     }
-    drop_given_up(writer, own)
+    Ok(())
 }
 
 /// Keeps records of the files that a line's streams are about.
@@ -46,6 +74,8 @@ fn keep_of_line<S: Alter + Drop>(
     customer: u16,
     receivers: &[Receiver],
 ) -> Result<(), Error>
+    ensures kept { OnOk result (KeepsPartly S.Store (part customer hub.now).customer.spool writer.old own.old writer.new
+        own.new) }
     ensures crash { Survives (shown S.Store writer.old.store) (shown S.Store writer.new.store) (λ _. ⊥) }
 {
     'streams: for receiver in receivers {
@@ -64,13 +94,15 @@ fn keep_portion<S: Alter + Drop>(
     hub: &Hub,
     file: HubFile,
 ) -> Result<(), Error>
+    ensures kept { OnOk result (KeepsPartly S.Store (part file.customer hub.now).customer.spool writer.old own.old
+        writer.new own.new) }
     ensures crash { Survives (shown S.Store writer.old.store) (shown S.Store writer.new.store) (λ _. ⊥) }
 {
     let count = hub.record_count(file.customer, file.number);
     if count < MANY {
         return Ok(());
     }
-    match place_of(own, file.number, count) {
+    match own.place_of(file.number, count) {
         Some(place) => go_on(writer, own, hub, file, place),
         None => {
             let key = writer.take_key()?;
@@ -87,6 +119,9 @@ fn begin<S: Alter + Drop>(
     file: HubFile,
     key: u32,
 ) -> Result<(), Error>
+    requires many { 1366 ≤ length (records_in file.number (part file.customer hub.now).customer.spool) }
+    ensures kept { OnOk result (KeepsPartlyNew S.Store key (part file.customer hub.now).customer.spool writer.old
+        own.old writer.new own.new) }
     ensures crash { Survives (shown S.Store writer.old.store) (shown S.Store writer.new.store) (λ _. ⊥) }
 {
     let count = hub.record_count(file.customer, file.number);
@@ -97,14 +132,15 @@ fn begin<S: Alter + Drop>(
         written: count,
         is_open: true,
     };
-    match write_records(writer, hub, file, key, 0) {
-        Ok(()) => remember(own, partial),
-        Err(error) => Err(error),
-    }
+    write_records(writer, hub, file, key, 0)?;
+    remember(own, partial)
 }
 
 /// Remembers a file of which records are kept.
-fn remember(own: &mut OwnFiles, partial: KeptPartial) -> Result<(), Error> {
+fn remember(own: &mut OwnFiles, partial: KeptPartial) -> Result<(), Error>
+    ensures last { OnOk result (own.new.partial.items ≡ own.old.partial.items ++ partial ∷ []) }
+    ensures others { own.new ≡ record own.old { partial = own.new.partial } }
+{
     own.partial.push(partial)?;
     Ok(())
 }
@@ -117,35 +153,33 @@ fn go_on<S: Alter + Drop>(
     file: HubFile,
     place: usize,
 ) -> Result<(), Error>
+    requires within { place < length own.old.partial.items }
+    requires found { IsSomeAnd (slice_get own.old.partial.items place) (λ p. (p.number ≡ file.number)
+        × (p.seen ≤ length (records_in file.number (part file.customer hub.now).customer.spool))) }
+    requires many { 1366 ≤ length (records_in file.number (part file.customer hub.now).customer.spool) }
+    ensures kept { OnOk result (KeepsPartly S.Store (part file.customer hub.now).customer.spool writer.old own.old
+        writer.new own.new) }
     ensures crash { Survives (shown S.Store writer.old.store) (shown S.Store writer.new.store) (λ _. ⊥) }
 {
-    if place >= own.partial.len() {
+    let partial = own.partial[place];
+    let seen = hub.record_count(file.customer, file.number);
+    let is_open = true;
+    if seen.saturating_sub(partial.written) < PORTION {
+        own.partial[place] = KeptPartial {
+            seen,
+            is_open,
+            ..partial
+        };
         return Ok(());
     }
-    let KeptPartial { key, written, .. } = own.partial[place];
-    let count = hub.record_count(file.customer, file.number);
-    let is_due = count.saturating_sub(written) >= PORTION;
-    if is_due {
-        write_records(writer, hub, file, key, written)?;
-    }
+    write_records(writer, hub, file, partial.key, partial.written)?;
     own.partial[place] = KeptPartial {
-        number: file.number,
-        key,
-        seen: count,
-        written: if is_due { count } else { written },
-        is_open: true,
+        seen,
+        written: seen,
+        is_open,
+        ..partial
     };
     Ok(())
-}
-
-/// Where the file of this number is remembered, which had no more records than now.
-fn place_of(own: &OwnFiles, number: FileId, count: u32) -> Option<usize> {
-    for place in 0..own.partial.len() {
-        if own.partial[place].number == number && own.partial[place].seen <= count {
-            return Some(place);
-        }
-    }
-    None
 }
 
 /// Has the records of files dropped that no stream is about any more.
@@ -153,13 +187,13 @@ fn drop_given_up<S: Alter + Drop>(
     writer: &mut SpoolWriter<S>,
     own: &mut OwnFiles,
 ) -> Result<(), Error>
+    ensures kept { (now : CustomerSpool) → OnOk result (KeepsPartly S.Store now writer.old own.old writer.new own.new) }
+    ensures seen { (now : CustomerSpool) → AllSeen now (own_of own.old)
+        → OnOk result (AllUpToDate now (own_of own.new)) }
     ensures crash { Survives (shown S.Store writer.old.store) (shown S.Store writer.new.store) (λ _. ⊥) }
 {
     let mut place = 0;
-    'partial: for _ in 0..own.partial.len() {
-        if place >= own.partial.len() {
-            return Ok(());
-        }
+    'partial: while place < own.partial.len() {
         if own.partial[place].is_open {
             own.partial[place].is_open = false;
             place += 1;
