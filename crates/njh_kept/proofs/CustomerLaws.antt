@@ -49,10 +49,10 @@ module _ (w w' : Numbers) (owns : List OwnFiles) (c : ℕ) (own own' : OwnFiles)
   pub one_is_apart : (n : ℕ) → uses n w own ≤ 1
   one_is_apart n = let one = uses_of_one n owns c own there is in let once = apart n in omega (arith, one, once)
 
-  abbrev IsApartFrom : OwnFiles → Type 0
+  abbrev pub IsApartFrom : OwnFiles → Type 0
   IsApartFrom o = (o.name ≢ own.name) × ((n : ℕ) → uses n w own + uses_of_files n o ≤ 1)
 
-  others_apart : AllByRecursion (λ o. o.name ≢ own.name) (remove owns c) → AllByRecursion IsApartFrom (remove owns c)
+  pub others_apart : AllByRecursion (λ o. o.name ≢ own.name) (remove owns c) → AllByRecursion IsApartFrom (remove owns c)
   others_apart named =
       both_all (λ o. o.name ≢ own.name) (λ o. (n : ℕ) → uses n w own + uses_of_files n o ≤ 1) (remove owns c) named
       (each_is_apart (λ n. uses n w own) (remove owns c) (λ n. let one = uses_of_one n owns c own there is in let once = apart n in omega (arith, one, once)))

@@ -1,11 +1,11 @@
 -- Calls of the keeper one after the other, with what is kept of a customer's files.
-use Rattle.std.proofs.Common.{◌≡◌, ℕ, zero, suc, ◌+◌, ◌<◌, ◌≤◌, true, List, [], ◌∷◌, ◌++◌, length, get_or, set, remove, map, Result, Ok, Err, OnOk, refl, sym, ap, subst, ◌∙◌, arith}
+use Rattle.std.proofs.Common.{◌≡◌, ℕ, zero, suc, ◌<◌, List, [], ◌∷◌, ◌++◌, length, get_or, set, remove, map, Result, Ok, Err, OnOk, refl, ap, ◌∙◌}
 use Rattle.std.specs.List.{AllByRecursion}
 use Rattle.njh_header.specs.WholeFiles.{HasHeaders}
 use Rattle.njh_spool.specs.CustomerSpool.{WholeFile}
 use Rattle.njh_store.specs.Kept.{Spool, records_of, without_file}
 use Rattle.njh_kept.specs.Opened.{is_name_of}
-use Rattle.njh_kept.specs.code.Remembered.{AreBelow, KeptPartial, KeptWhole, Mirrored, Moves, Numbers, OwnFiles, Sweep, claim}
+use Rattle.njh_kept.specs.code.Remembered.{KeptPartial, KeptWhole, Mirrored, Moves, Sweep}
 use Rattle.njh_kept.specs.code.Following.{GoesTo, HasFiles, Memory, Remain, claim_of, leaves, none, stays}
 use Rattle.njh_kept.proofs.CallLaws.{drop_follows}
 use Rattle.njh_kept.proofs.MirrorLaws.{all_of}

@@ -1,5 +1,5 @@
 -- A file that became whole is added: a number comes in hand, its records are finished under it, and its row is added.
-use Rattle.std.proofs.Common.{◌≡◌, ◌≢◌, ℕ, ◌+◌, ◌^◌, ◌<◌, ◌≤◌, true, List, [], ◌∷◌, ◌++◌, length, get_or, remove, refl, sym, ap, subst, ◌∙◌, arith}
+use Rattle.std.proofs.Common.{◌≡◌, ◌≢◌, ℕ, ◌+◌, ◌^◌, ◌<◌, ◌≤◌, List, [], ◌∷◌, ◌++◌, length, get_or, remove, refl, sym, subst, ◌∙◌, arith}
 use Rattle.std.specs.List.{AllByRecursion}
 use Rattle.std.proofs.lemmas.List.Elements.{All-from_recursion}
 use Rattle.sqlite.specs.State.{State}
@@ -13,8 +13,8 @@ use Rattle.njh_kept.specs.Opened.{is_name_of}
 use Rattle.njh_kept.specs.code.Alike.{Finishes}
 use Rattle.njh_kept.specs.code.Following.{AddsRow, AreFronts, GoesTo, HasFiles, IsFrontOf, IsInHand, IsRowFor, LeadsFiles, LeadsInHand, Memory, claim_of}
 use Rattle.njh_kept.specs.code.Leading.{Leads}
-use Rattle.njh_kept.specs.code.Mirrored.{FitsHub, WritesUnder}
-use Rattle.njh_kept.specs.code.Remembered.{AreApart, AreBelow, KeptPartial, KeptWhole, Numbers, Remembers, claim, keyed, with_key}
+use Rattle.njh_kept.specs.code.Mirrored.{FitsHub}
+use Rattle.njh_kept.specs.code.Remembered.{AreApart, KeptPartial, KeptWhole, Numbers, Remembers, claim, with_key}
 use Rattle.njh_kept.specs.code.Writing.{IsTaken}
 use Rattle.njh_kept.proofs.CallLaws.{add_follows, take_follows, taken_is_empty}
 use Rattle.njh_kept.proofs.FollowingLaws.{all_both, goes, remain_removed, remain_same}
@@ -133,10 +133,12 @@ module _ (m m1 : Memory) (g : WholeFile) (key written : ℕ) where
       (leads_then _ _ _ old mid mid2 hand finish (λ s t u first second files has fronts. (t, first files has fronts, second)))
       (leads_by (with_file row.kept.id row.row) mid2 new row.changes)
       (λ s u v both same files has fronts.
-      let found = both files has fronts in
-      (files ++ g ∷ [], refl,
-      subst (λ x. GoesTo m m2 s x (files ++ g ∷ [])) (sym same)
-      (added_goes m m1 s found.0 u files has g summary summary_is headers fits written key m2 mid2 new row found.1 found.2)))
+      let found = both files has fronts in (
+        files ++ g ∷ [],
+        refl,
+        subst (λ x. GoesTo m m2 s x (files ++ g ∷ [])) (sym same)
+            (added_goes m m1 s found.0 u files has g summary summary_is headers fits written key m2 mid2 new row found.1 found.2),
+      ))
 
   pub partial_leads : (i : ℕ) (p : KeptPartial) (at : State) → i < length m.own.partial → p ≡ get_or m.own.partial i p → g.number ≡ p.number → p.seen ≤ length g.records → p.key ≡ key → p.written ≡ written
       → m1 ≡ record { numbers = m.numbers; own = record m.own { partial = remove m.own.partial i }; text = m.text } → LeadsInHand key written g m m1 at at

@@ -41,3 +41,5 @@ pub mod HandLaws
 pub mod NewFilesLaws
 pub mod KeeperLaws
 pub mod PortionLaws
+pub mod KnowingLaws
+pub mod StepsLaws

@@ -1,5 +1,5 @@
 -- The hub's whole files beside those that are kept: which were there, and which one is at a place.
-use Rattle.std.proofs.Common.{◌≡◌, ℕ, zero, suc, ◌+◌, ◌-◌, ◌^◌, ◌<◌, ◌≤◌, ◌==◌, inl, inr, Bool, true, false, cond, List, [], ◌∷◌, ◌++◌, length, map, get_or, set, find, take, drop, Option, Some, None, min, refl, sym, ap, subst, ◌∙◌, arith}
+use Rattle.std.proofs.Common.{◌≡◌, ℕ, zero, suc, ◌+◌, ◌-◌, ◌^◌, ◌<◌, ◌≤◌, ◌==◌, inl, inr, Bool, true, false, cond, List, [], ◌∷◌, ◌++◌, length, map, get_or, set, find, take, Option, Some, None, min, refl, sym, ap, subst, ◌∙◌, arith}
 use Rattle.std.specs.Option.{option_map, option_or}
 use Rattle.std.specs.List.{AllByRecursion}
 use Rattle.std.proofs.lemmas.List.Elements.{All-from_recursion}
@@ -23,7 +23,7 @@ use Rattle.njh_customer.specs.OutgoingFiles.{outgoing}
 use Rattle.njh_kept.specs.code.Following.{AreFronts, AreHubFiles, GoesTo, GoOnIn, IsAt, IsFoundAt, IsFrontOf, IsHubFile, IsReached, IsStillAt, LeadsFiles, Memory, Remain}
 use Rattle.njh_kept.specs.code.Mirrored.{FitsHub}
 use Rattle.njh_kept.specs.declared.own_files.HubFile.{HubFile}
-use Rattle.njh_kept.specs.code.Remembered.{KeptPartial, keyed, one_if}
+use Rattle.njh_kept.specs.code.Remembered.{KeptPartial, one_if}
 use Rattle.njh_kept.specs.code.Walking.{AreNumbered, IsWalkedTo}
 use Rattle.njh_kept.proofs.FollowingLaws.{all_both, all_remain, goes_then}
 use Rattle.njh_kept.proofs.KeyLaws.{keyed_at}
@@ -70,7 +70,11 @@ fronts_still : (s t : Spool) (files : List WholeFile) (p : KeptPartial) → Fron
 fronts_still s t files p fronts same =
     all_weaker (λ (f : WholeFile). f.number ≡ p.number → p.seen ≤ length f.records → IsFrontOf s p f.records) (λ f. f.number ≡ p.number → p.seen ≤ length f.records → IsFrontOf t p f.records)
     (λ f front number seen. let x = front number seen in record {
-      before = x.before; long = x.long; within = x.within; stored = (λ i. map contents (same i)) ∙ x.stored; alike = x.alike
+      before = x.before;
+      long = x.long;
+      within = x.within;
+      stored = (λ i. map contents (same i)) ∙ x.stored;
+      alike = x.alike;
     }) files fronts
 
 pub fronts_stay : (s t : Spool) (files : List WholeFile) (before now : List KeptPartial) → Remain before now → AllByRecursion (λ p. records_of p.key t ≡ records_of p.key s) now
@@ -85,8 +89,8 @@ front_at s partial files i g there is fronts =
     all_weaker (FrontsOf s files) (FrontsOf s (g ∷ []))
     (λ p all. (
       subst (λ f. f.number ≡ p.number → p.seen ≤ length f.records → IsFrontOf s p f.records) (sym is)
-      (All-from_recursion (λ (f : WholeFile). f.number ≡ p.number → p.seen ≤ length f.records → IsFrontOf s p f.records) files all i g there),
-      tt
+          (All-from_recursion (λ (f : WholeFile). f.number ≡ p.number → p.seen ≤ length f.records → IsFrontOf s p f.records) files all i g there),
+      tt,
     )) partial fronts
 
 -- ---- the file at a place
@@ -129,9 +133,11 @@ module _ (m m1 m2 : Memory) (old mid new : State) where
       let a = first files has walk in
       let found : IsFoundAt number a.0 place = a.1.1 in
       let same : found.file.number ≡ f.number = found.number_is ∙ number_is in
-      let b = second a.0 a.2.has (record { before = found.file; is = found.is; still = walk_finds still a.0 place a.1.0 found.file found.there found.is f next.there next.is same }) in
-      (b.0, subst (λ x. IsWalkedTo still x (place + 1)) (sym b.1) (walk_goes_on still a.0 place a.1.0 found.file found.there found.is f next.there next.is same),
-      goes_then m m1 m2 s t u a.0 b.0 a.2 b.2))
+      let b = second a.0 a.2.has (record { before = found.file; is = found.is; still = walk_finds still a.0 place a.1.0 found.file found.there found.is f next.there next.is same }) in (
+        b.0,
+        subst (λ x. IsWalkedTo still x (place + 1)) (sym b.1) (walk_goes_on still a.0 place a.1.0 found.file found.there found.is f next.there next.is same),
+        goes_then m m1 m2 s t u a.0 b.0 a.2 b.2,
+      ))
 
   -- one more is followed
   pub walked_further : (Given : Spool → List WholeFile → Type 0) (still : List WholeFile) (index : ℕ)

@@ -83,6 +83,10 @@ module _ (now : CustomerSpool) (s t : Spool) where
   goes_on_still : (p : KeptPartial) → records_of p.key t ≡ records_of p.key s → GoesOn now s p → GoesOn now t p
   goes_on_still p same goes more = let one = goes more in record { written = one.written; stored = ap (map contents) same ∙ one.stored }
 
+  pub still_all : (ps : List KeptPartial) → AllByRecursion (λ p. records_of p.key t ≡ records_of p.key s) ps → AllByRecursion (GoesOn now s) ps → AllByRecursion (GoesOn now t) ps
+  still_all [] same all = tt
+  still_all (p ∷ ps) same all = (goes_on_still p same.0 all.0, still_all ps same.1 all.1)
+
   under_all : (key : ℕ) → WritesUnder key s t → (ps : List KeptPartial) → AllByRecursion (λ p. p.key ≢ key) ps → AllByRecursion (GoesOn now s) ps → AllByRecursion (GoesOn now t) ps
   under_all key under [] apart all = tt
   under_all key under (p ∷ ps) apart all = (goes_on_still p (under.others p.key apart.0) all.0, under_all key under ps apart.1 all.1)

@@ -1,5 +1,5 @@
 -- A file that is still there: what is written anew, and what is remembered of it then.
-use Rattle.std.proofs.Common.{◌≡◌, ◌≢◌, ℕ, ◌+◌, ◌<◌, ◌≤◌, ◌⊎◌, inl, inr, Bool, true, false, List, length, get_or, set, map, Some, None, refl, sym, ap, subst, ◌∙◌, arith}
+use Rattle.std.proofs.Common.{◌≡◌, ◌≢◌, ℕ, ◌<◌, ◌⊎◌, inl, inr, Bool, true, false, List, length, get_or, set, Some, None, refl, sym, ap, subst, ◌∙◌, arith}
 use Rattle.std.specs.List.{AllByRecursion}
 use Rattle.std.proofs.lemmas.List.{get_or_default}
 use Rattle.std.proofs.lemmas.List.Elements.{All-from_recursion}
@@ -21,7 +21,7 @@ use Rattle.njh_kept.specs.code.Alike.{AreAlike, Rewrites}
 use Rattle.njh_kept.specs.code.Following.{GoesTo, HasFiles, IsRowFor, IsStillAt, Memory, claim_of}
 use Rattle.njh_kept.specs.code.Mirrored.{FitsHub, HasRecords, WritesUnder, own_rows}
 use Rattle.njh_kept.specs.code.Nodes.{AreOne, named_nodes}
-use Rattle.njh_kept.specs.code.Remembered.{IsKept, IsRowOf, KeptPartial, KeptWhole, NameOneNode, Numbers, OwnFiles, Remembers, AreApart, claim, keyed}
+use Rattle.njh_kept.specs.code.Remembered.{IsKept, IsRowOf, KeptPartial, KeptWhole, NameOneNode, Remembers, AreApart}
 use Rattle.njh_kept.proofs.AlikeLaws.{alike_fit, alike_long, job_names_one}
 use Rattle.njh_kept.proofs.BesideLaws.{BesideAt}
 use Rattle.njh_kept.proofs.CallLaws.{change_follows}

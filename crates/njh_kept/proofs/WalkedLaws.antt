@@ -1,12 +1,11 @@
 -- The keeper goes through what it remembers of a customer's files, beside those that the hub has now.
-use Rattle.std.proofs.Common.{◌≡◌, ℕ, ◌+◌, ◌<◌, ◌≤◌, ◌==◌, Bool, true, false, List, length, get_or, set, remove, Option, Some, None, sym, ap, subst, ◌∙◌, arith, eqb-true}
+use Rattle.std.proofs.Common.{◌≡◌, ℕ, ◌<◌, ◌≤◌, ◌==◌, true, false, List, length, get_or, remove, Option, Some, None, sym, ap, ◌∙◌, arith, eqb-true}
 use Rattle.std.specs.Option.{option_eq}
 use Rattle.njh_spool.specs.CustomerSpool.{WholeFile}
-use Rattle.njh_store.specs.Kept.{File, Spool}
-use Rattle.njh_customer.specs.Surviving.{IsStill}
+use Rattle.njh_store.specs.Kept.{Spool}
 use Rattle.njh_kept.specs.code.Mirrored.{own_rows}
-use Rattle.njh_kept.specs.code.Remembered.{IsKept, KeptWhole, Mirrored, OwnFiles}
-use Rattle.njh_kept.specs.code.Following.{HasFiles, IsFoundAt, IsNext, IsReached, Memory}
+use Rattle.njh_kept.specs.code.Remembered.{IsKept, KeptWhole}
+use Rattle.njh_kept.specs.code.Following.{HasFiles, IsNext, IsReached, Memory}
 use Rattle.njh_kept.specs.code.Walking.{IsWalkedTo}
 use Rattle.njh_kept.proofs.BesideLaws.{BesideAt, beside_at, beside_lengths}
 use Rattle.njh_kept.proofs.NumberedLaws.{equal}

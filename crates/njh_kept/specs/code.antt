@@ -11,3 +11,4 @@ pub mod Leading
 pub mod Memory
 pub mod Following
 pub mod Partly
+pub mod Knowing

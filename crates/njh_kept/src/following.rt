@@ -1,6 +1,7 @@
 //! A customer's whole files are kept as a step left them.
 
-ghost use Rattle.std.specs.Prelude.{◌≡◌, ◌<◌, ◌≤◌, ◌+◌, ◌-◌, ◌^◌, ◌++◌, [], ◌∷◌, true, false, None, List, get_or, length, min, remove, set, string_bytes, take, ⊤, IfOk, OnOk};
+ghost use Rattle.std.specs.Prelude.{◌≡◌, ◌<◌, ◌≤◌, ◌+◌, ◌-◌, ◌^◌, ◌++◌, [], ◌∷◌, true, false, None, List, get_or};
+ghost use Rattle.std.specs.Prelude.{length, min, remove, set, string_bytes, take, ⊤, IfOk, OnOk};
 ghost use Rattle.njh_stream.specs.SpoolFiles.{records_in};
 ghost use Rattle.njh_customer.specs.Surviving.{Survive};
 ghost use Rattle.njh_hub.specs.Keeping.{is_held};

@@ -1,5 +1,6 @@
 -- What calls of the keeper make of a customer's whole files on a spool file.
-use Rattle.std.specs.Prelude.{◌≡◌, ℕ, ◌+◌, ◌<◌, ◌≤◌, true, Bool, List, [], ◌∷◌, ◌++◌, length, get_or, take, string_bytes, Option, Some, None}
+use Rattle.std.specs.Prelude.{◌≡◌, ℕ, ◌+◌, ◌<◌, ◌≤◌, true, List, [], ◌∷◌, ◌++◌, length, get_or, take, string_bytes}
+use Rattle.std.specs.Prelude.{Option, Some, None}
 use Rattle.std.specs.List.{AllByRecursion}
 use Rattle.sqlite.specs.State.{State}
 use Rattle.njh_customer.specs.Surviving.{FilesGoOn, IsStill}
@@ -21,7 +22,8 @@ use Rattle.njh_kept.specs.declared.writer.SpoolWriter as spool_writer
 use Rattle.njh_kept.specs.code.Leading.{Leads}
 use Rattle.njh_kept.specs.code.Memory.{numbers_of, own_of}
 use Rattle.njh_kept.specs.code.Mirrored.{FitsHub, HasRecords, IsOrdered}
-use Rattle.njh_kept.specs.code.Remembered.{AreApart, AreBelow, Claim, IsRowOf, KeptPartial, KeptWhole, Mirrored, Moves, Numbers, OwnFiles, Remembers, claim, with_key}
+use Rattle.njh_kept.specs.code.Remembered.{AreApart, AreBelow, Claim, IsRowOf, KeptPartial, KeptWhole, Mirrored, Moves}
+use Rattle.njh_kept.specs.code.Remembered.{Numbers, OwnFiles, Remembers, claim, with_key}
 use Rattle.njh_kept.specs.code.Alike.{AreAlike}
 use Rattle.njh_kept.specs.code.Walking.{AreNumbered}
 
@@ -61,10 +63,11 @@ pub record GoesTo (m m' : Memory) (s t : Spool) (files : List WholeFile) : Type 
   pub records : AllByRecursion (λ p. records_of p.key t ≡ records_of p.key s) m'.own.partial
 
 -- the same of a connection, where these whole files are given on the spool file
-abbrev pub LeadsFiles : (m m' : Memory) → (Spool → List WholeFile → Type 0) → (List WholeFile → List WholeFile → Type 0) → State → State → Type 0
+abbrev pub LeadsFiles : (m m' : Memory) → (Spool → List WholeFile → Type 0) → (List WholeFile → List WholeFile → Type 0)
+    → State → State → Type 0
 LeadsFiles m m' Given Becomes old new =
     Leads (λ s t. (files : List WholeFile) → HasFiles m s files → Given s files
-      → (now : List WholeFile) × Becomes files now × GoesTo m m' s t now) old new
+    → (now : List WholeFile) × Becomes files now × GoesTo m m' s t now) old new
 
 -- ---- beside the hub's files
 
@@ -89,7 +92,9 @@ pub record IsFrontOf (s : Spool) (p : KeptPartial) (now : List Stored) : Type 0 
 
 abbrev pub AreFronts : Spool → List KeptPartial → List WholeFile → Type 0
 AreFronts s partial files =
-    AllByRecursion (λ p. AllByRecursion (λ f. f.number ≡ p.number → p.seen ≤ length f.records → IsFrontOf s p f.records) files) partial
+    AllByRecursion
+    (λ p. AllByRecursion (λ f. f.number ≡ p.number → p.seen ≤ length f.records → IsFrontOf s p f.records) files)
+    partial
 
 -- This is the number of the next one of those that are still there; none where no further one is.
 pub record IsNextNumber (number : ℕ) (still : List WholeFile) (place : ℕ) : Type 0 where
@@ -130,7 +135,8 @@ pub record ChangesRow (text : List ℕ) (id key : ℕ) (summary : FileSummaryVie
   pub changes : Changes (with_changed id row) old new
 
 -- It is remembered as one more, under the number in hand, and so is its row added.
-pub record AddsRow (key : ℕ) (summary : FileSummaryView) (g : WholeFile) (m m' : Memory) (old new : State) : Type 0 where
+pub record AddsRow (key : ℕ) (summary : FileSummaryView) (g : WholeFile) (m m' : Memory)
+    (old new : State) : Type 0 where
   pub kept : KeptWhole
   pub row : File
   pub id : kept.id ≡ m.numbers.next_id
@@ -148,7 +154,8 @@ pub record AddsRow (key : ℕ) (summary : FileSummaryView) (g : WholeFile) (m m'
 
 -- This number is in hand; under it stand so many records, a front of a file's but for headers. The files are what they
 -- were.
-pub record IsInHand (key written : ℕ) (m m' : Memory) (s t : Spool) (files : List WholeFile) (now : List Stored) : Type 0 where
+pub record IsInHand (key written : ℕ) (m m' : Memory) (s t : Spool) (files : List WholeFile)
+    (now : List Stored) : Type 0 where
   pub moves : Moves (claim_of m) (with_key key (claim_of m')) s t
   pub text : m'.text ≡ m.text
   pub mirrored : Mirrored t m'.own files
@@ -163,7 +170,7 @@ pub record IsInHand (key written : ℕ) (m m' : Memory) (s t : Spool) (files : L
 abbrev pub LeadsInHand : (key written : ℕ) → WholeFile → (m m' : Memory) → State → State → Type 0
 LeadsInHand key written g m m' old new =
     Leads (λ s t. (files : List WholeFile) → HasFiles m s files → AreFronts s m.own.partial (g ∷ [])
-      → IsInHand key written m m' s t files g.records) old new
+    → IsInHand key written m m' s t files g.records) old new
 
 -- ---- all of a hub's files
 
@@ -177,7 +184,9 @@ pub record IsAt (files : List WholeFile) (place : ℕ) (file : WholeFile) : Type
   pub there : place < length files
   pub is : file ≡ get_or files place file
 
--- These were a customer's whole files when so many had become whole; since then they went on to be those that it has now.
+-- These were a customer's whole files when so many had become whole; since then they went on to be those that it has
+-- now.
 pub record GoOnIn (arrived : ℕ) (files : List WholeFile) (now : Customer) : Type 0 where
   pub numbered : AreNumbered files
-  pub goes : now.spool.arrived < max_arrived → FilesGoOn (record (outgoing now) { files = files; arrived = arrived }) (outgoing now)
+  pub goes : now.spool.arrived < max_arrived
+      → FilesGoOn (record (outgoing now) { files = files; arrived = arrived }) (outgoing now)

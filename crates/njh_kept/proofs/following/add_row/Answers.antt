@@ -1,4 +1,4 @@
-use Rattle.std.proofs.Common.{rules, ◌≡◌, ◌+◌, ◌++◌, [], ◌∷◌, map, refl, ap, subst, ◌∙◌}
+use Rattle.std.proofs.Common.{rules, ◌≡◌, [], ◌∷◌, map, refl, ap, subst, ◌∙◌}
 use Rattle.std.proofs.lemmas.List.{map-append}
 use Rattle.njh_hub.specs.declared.file_summary.FileSummaryView.{FileSummaryView}
 use Rattle.njh_store.proofs.ReadingLaws.{ok_then}
@@ -7,7 +7,7 @@ use Rattle.njh_store.specs.Shelf.{shown}
 use Rattle.njh_store.specs.Steps.{Changes}
 use Rattle.njh_kept.specs.declared.own_files.KeptWhole as declared
 use Rattle.njh_kept.specs.declared.writer.SpoolWriter.{SpoolWriter}
-use Rattle.njh_kept.specs.code.Following.{AddsRow, IsRowFor, memory_of}
+use Rattle.njh_kept.specs.code.Following.{IsRowFor, memory_of}
 use Rattle.njh_kept.specs.code.Memory.{numbers_of, whole_of}
 use Rattle.njh_kept.proofs.following.add_row.Goals as goal
 

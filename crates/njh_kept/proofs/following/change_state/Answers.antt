@@ -1,17 +1,15 @@
-use Rattle.std.proofs.Common.{◌≡◌, ◌<◌, true, false, None, length, get_or, set, map, refl, sym, ap, subst, ◌∙◌, arith}
+use Rattle.std.proofs.Common.{◌≡◌, ◌<◌, true, None, length, get_or, set, map, refl, sym, ap, subst, ◌∙◌, arith}
 use Rattle.std.proofs.lemmas.List.{get_or-map, get_or_default, length-map, map-set}
 use Rattle.std.specs.Vec.{with_item}
 use Rattle.sqlite.specs.State.{HasCleanDisk}
 use Rattle.njh_hub.specs.Keeping.{is_held}
-use Rattle.njh_spool.specs.CustomerSpool.{WholeFile}
-use Rattle.njh_store.specs.Kept.{Spool, with_changed}
+use Rattle.njh_store.specs.Kept.{with_changed}
 use Rattle.njh_store.specs.Shelf.{shown}
-use Rattle.njh_kept.specs.code.Alike.{Rewrites}
-use Rattle.njh_kept.specs.code.Following.{GoesTo, LeadsFiles, Memory, memory_of}
+use Rattle.njh_kept.specs.code.Following.{GoesTo, memory_of}
 use Rattle.njh_kept.specs.code.Memory.{numbers_of, whole_of}
 use Rattle.njh_kept.specs.code.Nodes.{AreOne, named_nodes}
 use Rattle.njh_kept.specs.declared.writer.SpoolWriter.{SpoolWriter}
-use Rattle.njh_kept.proofs.LeadingLaws.{leads_by, leads_nothing, leads_then, leads_weaker}
+use Rattle.njh_kept.proofs.LeadingLaws.{leads_by, leads_nothing, leads_weaker}
 use Rattle.njh_kept.proofs.StillLaws.{held_goes, kept_goes, memory_changed, now_kept}
 use Rattle.njh_kept.proofs.following.change_state.Goals.{then-changes_hold+in_ok-change_row, else-changes_hold}
 use Rattle.njh_kept.proofs.following.change_state.Goals as goal
@@ -42,11 +40,13 @@ returns-clause-led g c f hub_file kept kept_is said several clean =
           λ j. record { numbers = ap numbers_of w.change_row.ensures.others j; own = record m.own { whole = whole j }; text = m.text } in
           let changed = w.in_ok-change_row.ensures.changed (subst (λ (x : SpoolWriter g.row.S.Denot). HasCleanDisk (shown g.S.Store x.store)) w.writer-is clean) in
           leads_weaker (λ s t. t ≡ with_changed k.id changed.row s) _ old there_now
-          (λ s t is_changed files has before.
-          (set files i f, refl,
-          subst (λ x. GoesTo m x s t (set files i f)) (sym led)
-          (subst (λ x. GoesTo m to s x (set files i f)) (sym is_changed)
-          (held_goes m i k there is f summary hub_file.summary_is hub_file.headers s files has before said_first several_first changed.row changed.is_row))))
+          (λ s t is_changed files has before. (
+            set files i f,
+            refl,
+            subst (λ x. GoesTo m x s t (set files i f)) (sym led)
+                (subst (λ x. GoesTo m to s x (set files i f)) (sym is_changed)
+                (held_goes m i k there is f summary hub_file.summary_is hub_file.headers s files has before said_first several_first changed.row changed.is_row)),
+          ))
           (leads_by (with_changed k.id changed.row) old there_now changed.changes))
       | else-changes_hold w ↦
           let held : is_held summary.state ≡ is_held first.state = c.changes_hold.ensures w.if-changes_hold.false in
@@ -54,8 +54,10 @@ returns-clause-led g c f hub_file kept kept_is said several clean =
           let led : memory_of c.args.writer.now (record c.args.own.now { whole = with_item c.args.own.now.whole i now }) ≡ to =
           λ j. record { numbers = m.numbers; own = record m.own { whole = whole j }; text = m.text } in
           leads_nothing _ old
-          (λ s files has before.
-          (set files i f, refl,
-          subst (λ x. GoesTo m x s s (set files i f)) (sym led)
-          (kept_goes m i k there is f summary hub_file.summary_is hub_file.headers s files has before said_first several_first held))))
+          (λ s files has before. (
+            set files i f,
+            refl,
+            subst (λ x. GoesTo m x s s (set files i f)) (sym led)
+                (kept_goes m i k there is f summary hub_file.summary_is hub_file.headers s files has before said_first several_first held),
+          )))
     ]

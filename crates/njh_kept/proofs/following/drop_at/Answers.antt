@@ -1,12 +1,10 @@
-use Rattle.std.proofs.Common.{◌≡◌, ◌<◌, ◌++◌, [], ◌∷◌, List, length, get_or, remove, map, refl, sym, ap, subst, ◌∙◌, arith}
+use Rattle.std.proofs.Common.{◌≡◌, ◌<◌, ◌++◌, [], ◌∷◌, length, get_or, remove, map, refl, sym, ap, subst, ◌∙◌, arith}
 use Rattle.std.specs.Prelude.{⊤}
 use Rattle.std.proofs.lemmas.List.{get_or-map, length-map, map-append}
-use Rattle.njh_spool.specs.CustomerSpool.{WholeFile}
-use Rattle.njh_store.specs.Kept.{Spool, without_file}
+use Rattle.njh_store.specs.Kept.{without_file}
 use Rattle.njh_store.specs.Shelf.{shown}
-use Rattle.njh_kept.specs.code.Following.{GoesTo, HasFiles, LeadsFiles, Memory, memory_of}
+use Rattle.njh_kept.specs.code.Following.{GoesTo, LeadsFiles, memory_of}
 use Rattle.njh_kept.specs.code.Memory.{numbers_of, sweep_in, whole_of}
-use Rattle.njh_kept.specs.code.Remembered.{Numbers, OwnFiles}
 use Rattle.njh_kept.specs.code.Writing.{sweep_of}
 use Rattle.njh_kept.proofs.FollowingLaws.{file_goes, map-remove, memory_without, ok_both}
 use Rattle.njh_kept.proofs.LeadingLaws.{leads_by, leads_weaker}

@@ -1,9 +1,8 @@
-use Rattle.std.proofs.Common.{rules, ◌≡◌, ◌<◌, ◌≤◌, ℕ, List, length, get_or, remove, map, Some, refl, sym, ap, subst, ◌∙◌, arith}
+use Rattle.std.proofs.Common.{rules, ◌≡◌, ◌<◌, length, get_or, Some, sym, ap, subst, ◌∙◌, arith}
 use Rattle.std.proofs.lemmas.List.{get_or-map, length-map}
 use Rattle.std.proofs.lemmas.List.Edits.{length-remove}
 use Rattle.sqlite.specs.State.{HasCleanDisk}
 use Rattle.sqlite.proofs.StateLemmas.{survives_then}
-use Rattle.njh_spool.specs.CustomerSpool.{WholeFile}
 use Rattle.njh_store.specs.Shelf.{shown}
 use Rattle.njh_kept.specs.code.Following.{memory_of}
 use Rattle.njh_kept.specs.code.Memory.{whole_of}
@@ -62,15 +61,21 @@ returns-then-place-len-clause-led g c still next clean =
     let place = c.args.place in
     leads_weaker _ _ old new
     (λ s t first files has walk.
-    let one = first files has walk in
-    (one.0, (one.1, elim c.then-place-len.branch [
-      | then-place-len-via-then-place-len w ↦ reached_at_end m1 t one.0 one.2.has c.args.number still place next one.1 (omega (arith, long, w.if-place-len))
-      | then-place-len-via-else-place-len+then-eq w ↦ (
-          let low : place < length items = omega (arith, w.if-place-len.false, c.len.ensures) in
-          let k = whole_of w.index.result.now in
-          let is : k ≡ get_or m1.own.whole place k = ap whole_of w.index.ensures ∙ sym (get_or-map whole_of items place w.index.result.now k low) in
-          reached_here m1 t one.0 one.2.has place k (omega (arith, long, low)) is c.args.number (is_that k.number c.args.number (sym w.if-eq.ensures)))
-    ]), one.2))
+    let one = first files has walk in (
+      one.0,
+      (
+        one.1,
+        elim c.then-place-len.branch [
+          | then-place-len-via-then-place-len w ↦ reached_at_end m1 t one.0 one.2.has c.args.number still place next one.1 (omega (arith, long, w.if-place-len))
+          | then-place-len-via-else-place-len+then-eq w ↦ (
+              let low : place < length items = omega (arith, w.if-place-len.false, c.len.ensures) in
+              let k = whole_of w.index.result.now in
+              let is : k ≡ get_or m1.own.whole place k = ap whole_of w.index.ensures ∙ sym (get_or-map whole_of items place w.index.result.now k low) in
+              reached_here m1 t one.0 one.2.has place k (omega (arith, long, low)) is c.args.number (is_that k.number c.args.number (sym w.if-eq.ensures)))
+        ],
+      ),
+      one.2,
+    ))
     (c.whole.invariant.led still next clean)
 
 pub returns-clause-led : goal.returns-clause-led

@@ -1,4 +1,4 @@
-use Rattle.std.proofs.Common.{◌≡◌, ◌+◌, ◌≤◌, List, length}
+use Rattle.std.proofs.Common.{◌+◌, ◌≤◌, List, length}
 use Rattle.sqlite.specs.State.{HasCleanDisk, Survives}
 use Rattle.njh_spool.specs.CustomerSpool.{WholeFile}
 use Rattle.njh_store.specs.Shelf.{shown}

@@ -1,12 +1,11 @@
-use Rattle.std.proofs.Common.{rules, ◌≡◌, ◌+◌, ◌<◌, ◌≤◌, None, length, get_or, take, refl, sym, ap, subst, ◌∙◌, arith}
+use Rattle.std.proofs.Common.{rules, ◌≡◌, ◌+◌, ◌<◌, ◌≤◌, None, length, get_or, take, refl, sym, ap, subst, arith}
 use Rattle.std.proofs.lemmas.List.{length-take-le}
 use Rattle.sqlite.specs.State.{HasCleanDisk}
 use Rattle.sqlite.proofs.StateLemmas.{survives_then}
-use Rattle.njh_spool.specs.CustomerSpool.{WholeFile}
 use Rattle.njh_hub.specs.WholeHub.{part}
 use Rattle.njh_store.proofs.ReadingLaws.{ok_then}
 use Rattle.njh_store.specs.Shelf.{shown}
-use Rattle.njh_kept.specs.code.Following.{IsAt, IsNext, IsReached, LeadsFiles, memory_of}
+use Rattle.njh_kept.specs.code.Following.{IsAt, IsReached, LeadsFiles, memory_of}
 use Rattle.njh_kept.specs.code.Walking.{IsWalkedTo}
 use Rattle.njh_kept.proofs.FollowingLaws.{goes_nowhere}
 use Rattle.njh_kept.proofs.LeadingLaws.{leads_nothing}

@@ -1,6 +1,5 @@
-use Rattle.std.proofs.Common.{◌≡◌, List, take}
+use Rattle.std.proofs.Common.{◌≡◌, take}
 use Rattle.sqlite.specs.State.{HasCleanDisk, Survives}
-use Rattle.njh_spool.specs.CustomerSpool.{WholeFile}
 use Rattle.njh_customer.specs.Surviving.{Survive}
 use Rattle.njh_hub.specs.WholeHub.{part}
 use Rattle.njh_store.specs.Shelf.{shown}

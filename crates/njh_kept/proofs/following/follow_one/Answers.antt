@@ -1,4 +1,4 @@
-use Rattle.std.proofs.Common.{◌≡◌, true, None, sym, ap, subst, ◌∙◌}
+use Rattle.std.proofs.Common.{None, sym, subst}
 use Rattle.njh_kept.specs.code.Nodes.{AreOne, named_nodes}
 use Rattle.njh_kept.proofs.following.follow_one.Goals as goal
 

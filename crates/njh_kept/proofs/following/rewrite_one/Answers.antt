@@ -1,15 +1,13 @@
-use Rattle.std.proofs.Common.{◌≡◌, ◌<◌, true, false, None, length, get_or, set, map, refl, sym, ap, subst, ◌∙◌, arith}
+use Rattle.std.proofs.Common.{◌≡◌, ◌<◌, false, length, get_or, set, refl, sym, ap, subst, ◌∙◌, arith}
 use Rattle.std.proofs.lemmas.List.{get_or-map, get_or_default, length-map, map-set}
 use Rattle.std.specs.Vec.{with_item}
 use Rattle.sqlite.specs.State.{HasCleanDisk}
-use Rattle.njh_spool.specs.CustomerSpool.{WholeFile}
-use Rattle.njh_store.specs.Kept.{Spool, with_changed}
+use Rattle.njh_store.specs.Kept.{with_changed}
 use Rattle.njh_store.specs.Shelf.{shown}
 use Rattle.njh_kept.specs.code.Alike.{Rewrites}
-use Rattle.njh_kept.specs.code.Following.{GoesTo, LeadsFiles, Memory, memory_of}
+use Rattle.njh_kept.specs.code.Following.{GoesTo, memory_of}
 use Rattle.njh_kept.specs.code.Memory.{numbers_of, whole_of}
-use Rattle.njh_kept.specs.code.Nodes.{AreOne, named_nodes}
-use Rattle.njh_kept.proofs.LeadingLaws.{leads_by, leads_nothing, leads_then, leads_weaker}
+use Rattle.njh_kept.proofs.LeadingLaws.{leads_by, leads_then}
 use Rattle.njh_kept.proofs.StillLaws.{memory_changed, now_rewritten, rewritten_goes}
 use Rattle.njh_kept.proofs.following.rewrite_one.Goals as goal
 
@@ -38,9 +36,11 @@ returns-clause-led g c f hub_file kept kept_is one clean =
     } in
     let changed = c.in_ok-change_row.ensures.changed clean in
     leads_then _ (λ t u. u ≡ with_changed k.id changed.row t) _ old mid new (c.in_ok-rewrite_headers.ensures.led early) (leads_by (with_changed k.id changed.row) mid new changed.changes)
-    (λ s t u writes is_changed files has before.
-    (set files i f, refl,
-    subst (λ x. GoesTo m x s u (set files i f)) (sym led)
-    (subst (λ x. GoesTo m (memory_changed m i k there is (now_rewritten m i k there is f summary hub_file.summary_is hub_file.headers)) s x (set files i f)) (sym is_changed)
-    (rewritten_goes m i k there is f summary hub_file.summary_is hub_file.headers s files has before (λ said. one (ap (λ x. x.destination) same ∙ said)) t changed.row
-    (subst (λ rs. Rewrites k.key rs s t) hub_file.records_are writes) changed.is_row))))
+    (λ s t u writes is_changed files has before. (
+      set files i f,
+      refl,
+      subst (λ x. GoesTo m x s u (set files i f)) (sym led)
+          (subst (λ x. GoesTo m (memory_changed m i k there is (now_rewritten m i k there is f summary hub_file.summary_is hub_file.headers)) s x (set files i f)) (sym is_changed)
+          (rewritten_goes m i k there is f summary hub_file.summary_is hub_file.headers s files has before (λ said. one (ap (λ x. x.destination) same ∙ said)) t changed.row
+          (subst (λ rs. Rewrites k.key rs s t) hub_file.records_are writes) changed.is_row)),
+    ))
