@@ -1,5 +1,5 @@
 -- A whole file of a spool file, as a hub has it.
-use Rattle.std.proofs.Common.{◌≡◌, ℕ, zero, suc, get_or, ◌+◌, ◌<◌, ◌≤◌, ◌==◌, nat_lt, nat_le, Bool, true, false, cond, ◌&&◌, if◌then◌else◌, List, [], ◌∷◌, length, map, Option, Some, None, option_map, Result, Ok, Err, IsOk, MatchOption, refl, sym, ap, subst, ◌∙◌, arith}
+use Rattle.std.proofs.Common.{◌≡◌, ℕ, zero, suc, get_or, ◌+◌, ◌<◌, ◌≤◌, ◌==◌, nat_lt, nat_le, Bool, true, false, cond, ◌&&◌, List, [], ◌∷◌, length, map, Option, Some, None, option_map, Result, Ok, Err, IsOk, MatchOption, refl, sym, ap, subst, ◌∙◌, arith}
 use Rattle.std.specs.Prelude.{slice_get}
 use Rattle.std.specs.List.{AllByRecursion}
 use Rattle.std.proofs.lemmas.List.Elements.{All-from_recursion}
@@ -7,13 +7,11 @@ use Rattle.std.proofs.lemmas.Bool.Decides.{nat_tests}
 use Rattle.njh_record.specs.declared.Kind.{Kind}
 use Rattle.njh_restore.specs.Restoring.{KeptFile, restore_fault}
 use Rattle.njh_restore.specs.declared.fault.RestoreFault.{RestoreFault}
-use Rattle.njh_spool.specs.CustomerSpool.{CustomerSpool}
 use Rattle.njh_hub.specs.WholeHub.{Part}
 use Rattle.njh_store.specs.Kept.{File, contents_of}
 use Rattle.njh_store.specs.declared.kept.StoredRecord.{StoredRecord}
 use Rattle.njh_kept.specs.Opened.{Contents, as_stored, are_records_from, are_records_of, file_in, file_fault, is_record_at, kind_of_word}
 use Rattle.njh_kept.specs.code.Restoring.{HaveRoom}
-use Rattle.njh_kept.specs.declared.fault.FileFault.{FileFault}
 use Rattle.njh_kept.specs.declared.fault.FileFault.TheVariants.{BadFile, Refused}
 
 pub both : (a b : Bool) → (a && b) ≡ true → (a ≡ true) × (b ≡ true)

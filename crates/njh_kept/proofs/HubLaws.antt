@@ -1,6 +1,6 @@
 -- Whole files put back into a hub one after the other: each customer has its own.
-use Rattle.std.proofs.Common.{◌≡◌, ◌≢◌, ℕ, zero, suc, ◌+◌, ◌<◌, ◌≤◌, Bool, true, false, cond, if◌then◌else◌, List, [], ◌∷◌, ◌++◌, length, map, filter, get_or, set, slice_set, bytes_eq, Option, Some, None, Result, Ok, Err, refl, sym, ap, subst, ◌∙◌, ⊎_elim, eqb, arith}
-use Rattle.std.specs.Prelude.{fold, AllPairs}
+use Rattle.std.proofs.Common.{◌≡◌, ◌≢◌, ℕ, zero, suc, ◌+◌, ◌<◌, ◌≤◌, Bool, true, false, cond, List, [], ◌∷◌, ◌++◌, length, map, get_or, slice_set, bytes_eq, Option, Some, None, Result, Ok, Err, refl, sym, ap, subst, ◌∙◌, ⊎_elim, eqb, arith}
+use Rattle.std.specs.Prelude.{fold}
 use Rattle.std.proofs.lemmas.List.{ext_get_or, get_or-map, get_or-set_same, get_or-set_other, length-map, length-set}
 use Rattle.std.proofs.lemmas.List.Sums.{fold-append}
 use Rattle.std.proofs.lemmas.Bool.{cases_lt}
@@ -9,10 +9,9 @@ use Rattle.std.proofs.lemmas.Slice.Eq.{bytes_eq-Decides}
 use Rattle.njh_ebcdic.specs.Reading.{name_of_text}
 use Rattle.njh_ebcdic.specs.declared.name.NameFault.{NameFault}
 use Rattle.njh_table.specs.Accepted.{AreDistinct}
-use Rattle.njh_table.specs.Entries.{CustomerEntry}
 use Rattle.njh_table.specs.TableFile.{NamedCustomer, TableFile, customer_at, entry_of, no_customer}
 use Rattle.njh_hub.specs.WholeHub.{Part, no_part, part, part_at_open}
-use Rattle.njh_store.specs.Kept.{File, Spool, Whole, kept}
+use Rattle.njh_store.specs.Kept.{Spool, Whole, kept}
 use Rattle.njh_kept.specs.Opened.{AllAreBack, AreBack, IsRefused, hub_opened, is_name_of, is_own, own, own_files, part_opened, whole_fault, with_whole}
 use Rattle.njh_kept.specs.code.Restoring.{NoneFails, hub_fault, hub_with, hub_with_all, number_from, number_of}
 use Rattle.njh_kept.specs.declared.fault.FileFault.{FileFault}

@@ -1,6 +1,6 @@
 -- What a crash may leave of the customers' whole files.
-use Rattle.std.proofs.Common.{◌≡◌, ◌⊎◌, inl, inr, Bool, true, false, ◌||◌, ℕ, List, refl, sym, ap, subst, ◌∙◌, arith}
-use Rattle.sqlite.specs.State.{State, HasCleanDisk, Survives}
+use Rattle.std.proofs.Common.{◌≡◌, ◌⊎◌, inl, inr, Bool, true, false, ℕ, List, refl, sym, ap, subst, ◌∙◌, arith}
+use Rattle.sqlite.specs.State.{Survives}
 use Rattle.sqlite.specs.Effect.{Database}
 use Rattle.sqlite.specs.Store.{Ghosts}
 use Rattle.sqlite.specs.Tree.{Trees}
@@ -9,7 +9,7 @@ use Rattle.njh_store.specs.Kept.{Holds, Spool}
 use Rattle.njh_store.specs.Shelf.{shown}
 use Rattle.njh_store.specs.Standing.{Standing, Stands}
 use Rattle.njh_store.specs.Steps.{Commits}
-use Rattle.njh_kept.specs.Keeper.{IsAsKept, IsKeptNow, Keeping, MayLeave, left_in}
+use Rattle.njh_kept.specs.Keeper.{IsKeptNow, Keeping, MayLeave, left_in}
 use Rattle.njh_kept.specs.code.Writing.{is_due}
 use Rattle.njh_kept.proofs.OneSpool.{one_spool}
 

@@ -1,7 +1,6 @@
 -- What the keeper of a spool file knows of a hub's files: it goes on to know them step by step, and leaves them.
-use Rattle.std.proofs.Common.{◌≡◌, ◌≢◌, ℕ, ◌+◌, ◌<◌, ◌≤◌, List, [], ◌∷◌, ◌++◌, length, get_or, set, remove, map, take, sym, ap, subst, ◌∙◌, arith}
+use Rattle.std.proofs.Common.{◌≡◌, ℕ, ◌<◌, ◌≤◌, List, ◌++◌, length, get_or, set, map, take, sym, subst, arith}
 use Rattle.std.specs.Prelude.{⊤}
-use Rattle.std.specs.List.{AllByRecursion, AllZip}
 use Rattle.std.proofs.lemmas.List.{length-take-le, take-take}
 use Rattle.njh_record.specs.Stored.{Stored}
 use Rattle.njh_spool.specs.CustomerSpool.{CustomerSpool}
@@ -13,8 +12,8 @@ use Rattle.njh_kept.specs.code.Alike.{AreAlike}
 use Rattle.njh_kept.specs.code.Mirrored.{HasRecords}
 use Rattle.njh_kept.specs.code.Knowing.{AreNamedApart, HasSpool, Knows}
 use Rattle.njh_kept.specs.code.Partly.{AllUpToDate, Goes, GoesOn, IsUpToDate}
-use Rattle.njh_kept.specs.code.Remembered.{IsPartlyKept, KeptPartial, Mirrored, Moves, Numbers, OwnFiles, claim, keyed, uses, uses_of_files}
-use Rattle.njh_kept.proofs.CustomerLaws.{IsApartFrom, all_still_apart, one_is_apart, others_apart}
+use Rattle.njh_kept.specs.code.Remembered.{IsPartlyKept, KeptPartial, Mirrored, Moves, Numbers, OwnFiles, claim, keyed}
+use Rattle.njh_kept.proofs.CustomerLaws.{IsApartFrom, all_still_apart, others_apart}
 use Rattle.njh_kept.proofs.FinishLaws.{front_alike}
 use Rattle.njh_kept.proofs.KeyLaws.{each_counts}
 use Rattle.njh_kept.proofs.LeftLaws.{left_of_parts}

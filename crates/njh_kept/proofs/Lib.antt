@@ -43,3 +43,11 @@ pub mod KeeperLaws
 pub mod PortionLaws
 pub mod KnowingLaws
 pub mod StepsLaws
+pub mod OpeningKeys
+pub mod OpeningApart
+pub mod OpeningBegun
+pub mod OpeningFound
+pub mod OpeningSettled
+pub mod OpeningLists
+pub mod OpeningCustomers
+pub mod OpeningFiles

@@ -71,7 +71,7 @@ module _ (s : Spool) (own : OwnFiles) (files : List WholeFile) (h : IsOrdered s)
 
   pub leaving_moves : (a b : Claim) → a.name ≡ own.name → b.name ≡ a.name → b.next_id ≡ a.next_id → ((n : ℕ) → b.uses n ≤ a.uses n) → Moves a b s (without_file k.id s)
   leaving_moves a b mine name next uses =
-      moves_rows a b s name uses (without_file k.id s) (subst (λ who. WritesRowsOf who s (without_file k.id s)) (sym mine) leaving_row)
+      moves_rows a b s name uses (without_file k.id s) (subst (λ who. WritesRowsOf who s (without_file k.id s)) (sym mine) leaving_row) (omega (arith, next))
       (λ below. subst (λ end. AreBelow end (without_file k.id s)) (sym next) (below_without_file a.next_id k.id s below))
 
   -- only its state changes, and nothing is written
@@ -141,7 +141,7 @@ module _ (s : Spool) (own : OwnFiles) (files : List WholeFile) (h : IsOrdered s)
         let same : (n : ℕ) → a.uses n ≤ a.uses n = λ n. omega arith in
         let first = moves_under a a s refl same k.key t under busy refl in
         moves_then a a a s t (with_changed k.id file t) first
-        (moves_rows a a t refl same (with_changed k.id file t) (subst (λ who. WritesRowsOf who t (with_changed k.id file t)) (sym mine) changing_row)
+        (moves_rows a a t refl same (with_changed k.id file t) (subst (λ who. WritesRowsOf who t (with_changed k.id file t)) (sym mine) changing_row) (omega arith)
         (λ below.
         let low : k.id < a.next_id = subst (λ n. n < a.next_id) one.holds.id (row_below own.name t under.ordered i one.second there_still is_still a.next_id below) in
         below_with_changed a.next_id k.id file t low below))
@@ -171,5 +171,5 @@ module _ (s t : Spool) (own : OwnFiles) (files : List WholeFile) (all : Mirrored
       let same : (n : ℕ) → a.uses n ≤ a.uses n = λ n. omega arith in
       moves_then a a b s t (with_file k.id file t) (moves_under a a s refl same k.key t under busy refl)
       (moves_rows a b t name uses (with_file k.id file t)
-      (subst (λ who. WritesRowsOf who t (with_file k.id file t)) (sym mine) (adds_row own.name k.id file t under.ordered low_still owned))
+      (subst (λ who. WritesRowsOf who t (with_file k.id file t)) (sym mine) (adds_row own.name k.id file t under.ordered low_still owned)) (omega (arith, next, then))
       (λ below. subst (λ end. AreBelow end (with_file k.id file t)) (sym then) (below_with_file k.id file t low_still)))

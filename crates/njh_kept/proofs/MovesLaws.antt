@@ -12,6 +12,7 @@ moves_then a b c s t u one more = record {
   name = more.name ∙ one.name;
   uses = λ n. let first = one.uses n in let then = more.uses n in omega (arith, first, then);
   ordered = more.ordered;
+  next = let first = one.next in let then = more.next in omega (arith, first, then);
   below = λ below. more.below (one.below below);
   records = λ key free. more.records key (let less = one.uses key in omega (arith, free, less)) ∙ one.records key free;
   rows = λ other apart. more.rows other (λ here. apart (here ∙ one.name)) ∙ one.rows other apart;
@@ -28,6 +29,7 @@ module _ (a b : Claim) (s : Spool) (name : b.name ≡ a.name) (uses : (n : ℕ) 
     name = name;
     uses = uses;
     ordered = h;
+    next = more;
     below = all_weaker (λ (e : ℕ × File). e.0 < a.next_id) (λ e. e.0 < b.next_id) (λ e less. omega (arith, less, more)) s.files;
     records = λ key free. refl;
     rows = λ other apart. refl;
@@ -39,17 +41,19 @@ module _ (a b : Claim) (s : Spool) (name : b.name ≡ a.name) (uses : (n : ℕ) 
     name = name;
     uses = uses;
     ordered = w.ordered;
+    next = omega (arith, next);
     below = λ below. subst (λ end. AreBelow end t) (sym next) (subst (λ es. AllByRecursion (λ (e : ℕ × File). e.0 < a.next_id) es) (sym w.files) below);
     records = λ other free. w.others other (λ here. absurd (let none : a.uses key ≡ 0 = sym (ap a.uses here) ∙ free in omega (arith, none, busy)));
     rows = λ other apart. rows_stay key s t w other;
   }
 
   -- rows of the customer are written
-  pub moves_rows : (t : Spool) → WritesRowsOf a.name s t → (AreBelow a.next_id s → AreBelow b.next_id t) → Moves a b s t
-  moves_rows t w below = record {
+  pub moves_rows : (t : Spool) → WritesRowsOf a.name s t → a.next_id ≤ b.next_id → (AreBelow a.next_id s → AreBelow b.next_id t) → Moves a b s t
+  moves_rows t w more below = record {
     name = name;
     uses = uses;
     ordered = w.ordered;
+    next = more;
     below = below;
     records = λ other free. λ i. records_of other (record { files = t.files; records = w.records i });
     rows = w.others;

@@ -1,5 +1,5 @@
 -- A customer's files after the opening.
-use Rattle.std.proofs.Common.{◌≡◌, ℕ, Bool, true, false, cond, ◌&&◌, ◌||◌, List, [], ◌∷◌, ◌++◌, map, Option, Some, None, refl, sym, ap, subst, append_assoc, append-nil, ◌∙◌, arith}
+use Rattle.std.proofs.Common.{◌≡◌, ℕ, Bool, true, false, cond, ◌&&◌, ◌||◌, List, [], ◌∷◌, ◌++◌, map, Option, Some, None, refl, sym, ap, subst, append_assoc, append-nil, ◌∙◌}
 use Rattle.std.specs.Prelude.{fold}
 use Rattle.std.specs.List.{AllByRecursion}
 use Rattle.std.proofs.lemmas.List.{map-append}
@@ -7,16 +7,15 @@ use Rattle.njh_header.specs.FileHeaders.{destination_of}
 use Rattle.njh_record.specs.Stored.{Stored}
 use Rattle.njh_record.specs.declared.Kind.{Kind}
 use Rattle.njh_spool.specs.declared.State.TheVariants.{Ready, Held}
-use Rattle.njh_restore.specs.Restoring.{KeptFile, state_back, with_restored}
+use Rattle.njh_restore.specs.Restoring.{KeptFile, state_back}
 use Rattle.njh_spool.specs.CustomerSpool.{WholeFile, next_number}
 use Rattle.njh_stream.specs.Holding.{destination_unrouted, has_lost_route, held_file, waits_in_state}
 use Rattle.njh_table.specs.Entries.{CustomerEntry}
-use Rattle.njh_table.specs.Marks.{entry_unmarked}
 use Rattle.njh_hub.specs.Restored.{part_with_file}
 use Rattle.njh_hub.specs.WholeHub.{Part, part_at_open}
 use Rattle.njh_store.specs.Kept.{Whole}
-use Rattle.njh_kept.specs.Opened.{AreBack, file_in, part_opened, whole_fault, with_whole}
-use Rattle.njh_kept.specs.OpenedFiles.{HasOpened, OpenedFile, as_opened, opened_of, state_opened}
+use Rattle.njh_kept.specs.Opened.{AreBack, file_in, part_opened, with_whole}
+use Rattle.njh_kept.specs.OpenedFiles.{HasOpened, OpenedFile, as_opened, opened_of}
 use Rattle.njh_kept.proofs.FileLaws.{bad_file}
 
 -- ---- the last file

@@ -1,15 +1,15 @@
 -- A hub that is opened from a spool file, by what was found in it.
-use Rattle.std.proofs.Common.{◌≡◌, ℕ, ◌+◌, ◌<◌, List, [], ◌∷◌, ◌++◌, length, map, take, drop, get_or, Some, Result, Ok, Err, IfOk, IfErr, OnOk, refl, sym, ap, subst, append_assoc, ◌∙◌, arith}
+use Rattle.std.proofs.Common.{◌≡◌, ℕ, ◌+◌, ◌<◌, List, [], ◌∷◌, ◌++◌, length, map, take, drop, get_or, Result, Ok, Err, IfOk, IfErr, OnOk, sym, ap, subst, append_assoc, ◌∙◌}
 use Rattle.std.proofs.lemmas.List.{take-append-drop, take_more, map-append}
 use Rattle.njh_table.specs.Accepted.{AreDistinct}
 use Rattle.njh_table.specs.TableFile.{NamedCustomer, TableFile, entry_of as entry_in}
 use Rattle.njh_hub.specs.WholeHub.{Part, part_at_open}
-use Rattle.njh_store.specs.Kept.{File, Spool, Whole, entry_of, kept, whole_in}
+use Rattle.njh_store.specs.Kept.{Spool, Whole, entry_of, kept, whole_in}
 use Rattle.njh_store.specs.declared.kept.StoredFile.{StoredFile}
 use Rattle.njh_kept.specs.Faults.{Tells}
 use Rattle.njh_kept.specs.Opened.{AllAreBack, hub_opened}
-use Rattle.njh_kept.specs.code.Refusing.{IsRefusalOf, Refuses, StopsIn}
-use Rattle.njh_kept.specs.code.Restoring.{IsOfFile, NoneFails, StopsAt, StopsOn, hub_fault, hub_with_all, wholes}
+use Rattle.njh_kept.specs.code.Refusing.{IsRefusalOf, StopsIn}
+use Rattle.njh_kept.specs.code.Restoring.{NoneFails, StopsAt, StopsOn, hub_fault, hub_with_all, wholes}
 use Rattle.njh_kept.specs.declared.fault.OpeningFault.{OpeningFault}
 use Rattle.njh_kept.specs.declared.fault.OpeningFault.TheVariants.{Memory, Store, File as Refused}
 use Rattle.njh_kept.specs.declared.restoring.Stop.{Stop}

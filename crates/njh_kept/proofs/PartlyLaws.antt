@@ -1,21 +1,20 @@
 -- What is remembered of files that aren't whole, and what stands of them on a spool file, call by call.
-use Rattle.std.proofs.Common.{◌≡◌, ◌≢◌, ℕ, zero, suc, ◌+◌, ◌^◌, ◌<◌, ◌≤◌, Bool, true, false, cond, List, [], ◌∷◌, ◌++◌, length, get_or, set, remove, map, take, refl, sym, ap, subst, ◌∙◌, arith}
+use Rattle.std.proofs.Common.{◌≡◌, ◌≢◌, ℕ, zero, suc, ◌+◌, ◌^◌, ◌<◌, ◌≤◌, Bool, false, cond, List, [], ◌∷◌, ◌++◌, length, get_or, set, remove, map, take, refl, sym, ap, subst, ◌∙◌, arith}
 use Rattle.std.specs.Prelude.{⊤}
 use Rattle.std.specs.List.{AllByRecursion}
-use Rattle.njh_record.specs.Stored.{Stored}
-use Rattle.njh_spool.specs.CustomerSpool.{CustomerSpool, WholeFile}
+use Rattle.njh_spool.specs.CustomerSpool.{CustomerSpool}
 use Rattle.njh_stream.specs.SpoolFiles.{records_in}
 use Rattle.njh_store.specs.Kept.{Spool, contents, records_of, without_records}
 use Rattle.std.proofs.lemmas.List.{take_all}
 use Rattle.njh_kept.specs.code.Mirrored.{HasRecords, IsOrdered, WritesUnder}
-use Rattle.njh_kept.specs.code.Partly.{AllGoOn, Goes, GoesOn, IsSeen, IsUpToDate, KeepsNew, KeepsOn}
-use Rattle.njh_kept.specs.code.Remembered.{AreApart, Claim, IsPartlyKept, KeptPartial, KeptWhole, Mirrored, Moves, Numbers, OwnFiles, Sweep, claim, keyed, uses, with_key}
+use Rattle.njh_kept.specs.code.Partly.{GoesOn, KeepsNew, KeepsOn}
+use Rattle.njh_kept.specs.code.Remembered.{AreApart, IsPartlyKept, KeptPartial, Numbers, OwnFiles, Sweep, claim, keyed, uses, with_key}
 use Rattle.njh_kept.proofs.CallLaws.{take_follows, taken_is_empty}
 use Rattle.njh_kept.proofs.FrameLaws.{drops_records}
 use Rattle.njh_kept.proofs.KeyLaws.{keyed-append, keyed_apart, keyed_none, one_itself}
 use Rattle.njh_kept.proofs.MirrorLaws.{mirrored_under}
 use Rattle.njh_kept.proofs.MovesLaws.{moves_memory, moves_nothing, moves_then, moves_under, still_apart}
-use Rattle.njh_kept.proofs.NumberedLaws.{all_at, all_weaker}
+use Rattle.njh_kept.proofs.NumberedLaws.{all_at}
 use Rattle.njh_kept.proofs.UsesLaws.{in_hand_alone, in_hand_is_used, partial_is_apart, sweep_is_apart, uses_as_one_is_swept, uses_as_partial_changes, uses_as_partial_comes, uses_as_partial_is_swept}
 
 module _ {X : Type 0} (P : X → Type 0) where

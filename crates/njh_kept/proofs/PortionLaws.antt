@@ -1,12 +1,11 @@
 -- Records of files that aren't whole are kept, one call after the other.
 use Rattle.std.proofs.Common.{◌≡◌, ℕ, zero, suc, ◌+◌, ◌-◌, ◌^◌, ◌<◌, ◌≤◌, min, Bool, true, false, cond, if◌then◌else◌, ◌⊎◌, inl, inr, Result, Ok, Err, IsOk, OnOk, List, [], ◌∷◌, ◌++◌, length, get_or, set, remove, take, map, slice_get, IsSomeAnd, refl, sym, ap, subst, ◌∙◌, arith}
-use Rattle.std.specs.List.{AllByRecursion}
 use Rattle.std.proofs.lemmas.List.{get_or-map, length-map, map-append, map-set, take_all}
 use Rattle.std.proofs.lemmas.Bool.{false≢true}
 use Rattle.std.proofs.lemmas.Option.{slice_get-get_or}
 use Rattle.njh_record.specs.Stored.{Stored}
 use Rattle.njh_kept.specs.code.Alike.{WritesFrom}
-use Rattle.sqlite.specs.State.{State, HasCleanDisk}
+use Rattle.sqlite.specs.State.{HasCleanDisk}
 use Rattle.sqlite.specs.Store.{Ghosts}
 use Rattle.njh_spool.specs.CustomerSpool.{CustomerSpool}
 use Rattle.njh_stream.specs.SpoolFiles.{records_in}

@@ -1,13 +1,13 @@
 -- One whole file of a spool, put back or not.
-use Rattle.std.proofs.Common.{◌≡◌, ℕ, ◌<◌, ◌≤◌, ◌^◌, ◌==◌, nat_lt, nat_le, ◌&&◌, true, ◌+◌, List, [], ◌∷◌, ◌++◌, length, map, filter, take, get_or, slice_set, Option, Some, None, Result, Ok, Err, IsOk, MatchOption, refl, sym, ap, subst, ◌∙◌, arith}
+use Rattle.std.proofs.Common.{◌≡◌, ℕ, ◌<◌, ◌^◌, ◌==◌, nat_lt, nat_le, ◌&&◌, ◌+◌, List, [], ◌∷◌, ◌++◌, length, map, filter, take, get_or, slice_set, Option, Some, None, refl, sym, ap, subst, ◌∙◌, arith}
 use Rattle.std.specs.List.{AllByRecursion}
-use Rattle.std.proofs.lemmas.List.{length-set, map-append, take_more}
+use Rattle.std.proofs.lemmas.List.{map-append, take_more}
 use Rattle.std.proofs.lemmas.Simd.{map-map}
 use Rattle.std.proofs.lemmas.Bool.Decides.{nat_tests}
-use Rattle.sqlite.specs.State.{State, Survives}
+use Rattle.sqlite.specs.State.{State}
 use Rattle.sqlite.specs.Tree.{Trees}
 use Rattle.njh_hub.specs.WholeHub.{Part, part}
-use Rattle.njh_store.specs.Kept.{File, Record, Spool, Whole, Holds, IsNumbered, contents, contents_of, kept, record_number, records_between, records_of, whole_in, entry_of}
+use Rattle.njh_store.specs.Kept.{Record, Spool, Whole, Holds, IsNumbered, contents, contents_of, kept, record_number, records_between, records_of, whole_in, entry_of}
 use Rattle.njh_store.specs.Steps.{Stays}
 use Rattle.njh_store.specs.declared.kept.StoredFile.{StoredFile}
 use Rattle.njh_store.specs.declared.kept.StoredRecord.{StoredRecord}

@@ -1,7 +1,7 @@
 -- How often each number is used, while files come and leave and numbers are given out.
-use Rattle.std.proofs.Common.{◌≡◌, ℕ, ◌+◌, ◌<◌, ◌≤◌, ◌==◌, nat_le, List, [], ◌∷◌, ◌++◌, length, get_or, set, remove, ap, arith, ◌⊎◌, inl, inr, Bool, true, false, cond}
+use Rattle.std.proofs.Common.{◌≡◌, ℕ, ◌+◌, ◌<◌, ◌≤◌, ◌==◌, ◌-◌, ◌^◌, List, [], ◌∷◌, ◌++◌, length, get_or, set, remove, ap, arith, ◌⊎◌, inl, inr, Bool, true, false, cond}
 use Rattle.std.proofs.lemmas.Bool.Decides.{nat_tests}
-use Rattle.njh_kept.specs.code.Remembered.{AreApart, KeptPartial, KeptWhole, Numbers, OwnFiles, Sweep, claim, keyed, one_if, uses, with_key}
+use Rattle.njh_kept.specs.code.Remembered.{AreApart, KeptPartial, KeptWhole, Numbers, OwnFiles, Sweep, claim, keyed, may_be_given, one_if, uses, with_key}
 use Rattle.njh_kept.proofs.KeyLaws.{keyed-append, keyed-remove, keyed-set, keyed_at, one_itself}
 
 key_of_whole : KeptWhole → ℕ
@@ -67,11 +67,11 @@ module _ (w : Numbers) (own : OwnFiles) where
       let last = keyed-append (λ (k : ℕ). k) n free (key ∷ []) in
       omega (arith, all, last)
 
-  one_further : (first n : ℕ) → one_if (first == n) + one_if (nat_le (first + 1) n) ≡ one_if (nat_le first n)
-  one_further first n = grind (arith, nat_tests)
+  one_further : (first n : ℕ) → first < 2 ^ 32 - 1 → one_if (first == n) + one_if (may_be_given (first + 1) n) ≡ one_if (may_be_given first n)
+  one_further first n low = grind (arith, nat_tests, low)
 
-  pub uses_as_new_key_is_taken : (n : ℕ) → (with_key w.next_key (claim (record w { next_key = w.next_key + 1 }) own)).uses n ≡ uses n w own
-  uses_as_new_key_is_taken n = let further = one_further w.next_key n in omega (arith, further)
+  pub uses_as_new_key_is_taken : w.next_key < 2 ^ 32 - 1 → (n : ℕ) → (with_key w.next_key (claim (record w { next_key = w.next_key + 1 }) own)).uses n ≡ uses n w own
+  uses_as_new_key_is_taken low n = let further = one_further w.next_key n low in omega (arith, further)
 
   pub uses_as_sweep_goes_on : (rest : List Sweep) (sweep further : Sweep) → w.sweeps ≡ rest ++ sweep ∷ [] → further.key ≡ sweep.key
       → (n : ℕ) → uses n (record w { sweeps = rest ++ further ∷ [] }) own ≡ uses n w own
@@ -92,19 +92,19 @@ module _ (w : Numbers) (own : OwnFiles) where
 
   -- the last of the free ones, or where none is free the first that was never given out
   pub uses_as_key_is_taken : (key : ℕ) (left : List ℕ) (behind : ℕ)
-      → ((w.free_keys ≡ left ++ key ∷ []) × (behind ≡ w.next_key)) ⊎ ((w.free_keys ≡ []) × (left ≡ []) × (key ≡ w.next_key) × (behind ≡ w.next_key + 1))
+      → ((w.free_keys ≡ left ++ key ∷ []) × (behind ≡ w.next_key)) ⊎ ((w.free_keys ≡ []) × (left ≡ []) × (key ≡ w.next_key) × (behind ≡ w.next_key + 1) × (behind < 2 ^ 32))
       → (n : ℕ) → (with_key key (claim (record w { free_keys = left; next_key = behind }) own)).uses n ≡ uses n w own
   uses_as_key_is_taken key left behind (inl free) n =
       let all : keyed (λ k. k) n w.free_keys ≡ keyed (λ k. k) n (left ++ key ∷ []) = ap (keyed (λ k. k) n) free.0 in
       let last = keyed-append (λ (k : ℕ). k) n left (key ∷ []) in
-      let same : one_if (nat_le behind n) ≡ one_if (nat_le w.next_key n) = ap (λ m. one_if (nat_le m n)) free.1 in
+      let same : one_if (may_be_given behind n) ≡ one_if (may_be_given w.next_key n) = ap (λ m. one_if (may_be_given m n)) free.1 in
       omega (arith, all, last, same)
   uses_as_key_is_taken key left behind (inr new) n =
       let none : keyed (λ k. k) n w.free_keys ≡ 0 = ap (keyed (λ k. k) n) new.0 in
       let still : keyed (λ k. k) n left ≡ 0 = ap (keyed (λ k. k) n) new.1 in
       let first : one_if (key == n) ≡ one_if (w.next_key == n) = same_key n key w.next_key new.2 in
-      let next : one_if (nat_le behind n) ≡ one_if (nat_le (w.next_key + 1) n) = ap (λ m. one_if (nat_le m n)) new.3 in
-      let further = one_further w.next_key n in
+      let next : one_if (may_be_given behind n) ≡ one_if (may_be_given (w.next_key + 1) n) = ap (λ m. one_if (may_be_given m n)) new.3 in
+      let further = one_further w.next_key n (omega (arith, new.3, new.4)) in
       omega (arith, none, still, first, next, further)
 
   -- a sweep goes on, or its number is free

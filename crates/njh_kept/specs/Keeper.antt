@@ -6,6 +6,7 @@ use Rattle.sqlite.specs.State.{HasCleanDisk}
 use Rattle.sqlite.specs.Store.{Ghosts}
 use Rattle.sqlite.specs.Tree.{Trees}
 use Rattle.njh_hub.specs.Parts.{entries_of}
+use Rattle.njh_hub.specs.Keeping.{kept_of}
 use Rattle.njh_hub.specs.WholeHub.{Part, SameLines, part_at_open}
 use Rattle.njh_store.specs.Kept.{Spool, Holds, kept}
 use Rattle.njh_store.specs.Shelf.{Shelf, shelf_code, shown}
@@ -66,3 +67,17 @@ pub record IsKeptNow {S : Type 0} (g : Ghosts S) (keeper : Keeping S) (now : Spo
   pub kept : Spool
   pub stands : Stands (record { now = now; kept = kept }) (shown g keeper.store)
   pub same : left_in keeper.names kept ≡ left_in keeper.names now
+
+-- The spool file holds the whole files of this hub's customers, and they are committed so.
+pub record IsCommitted {S : Type 0} (g : Ghosts S) (keeper : Keeping S) (parts : List Part) : Type 0 where
+  pub spool : Spool
+  pub stands : Stands (record { now = spool; kept = spool }) (shown g keeper.store)
+  pub left : left_in keeper.names spool ≡ kept_of parts
+
+-- After the opening it has the customers of the tables, and as far as the spool file stood before and the disk told the
+-- truth, their whole files are committed as the hub has them.
+pub record IsSettledFrom {S : Type 0} (g : Ghosts S) (before behind : Keeping S) (table : TableFile)
+    (parts : List Part) : Type 0 where
+  pub names : behind.names ≡ map (λ c. c.name) table.customers
+  pub committed : HasCleanDisk (shown g behind.store) → (s : Standing) → Stands s (shown g before.store)
+      → IsCommitted g behind parts

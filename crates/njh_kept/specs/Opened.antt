@@ -8,7 +8,7 @@ use Rattle.njh_record.specs.declared.Kind.{Kind}
 use Rattle.njh_record.specs.declared.Kind.TheVariants.{In, Out}
 use Rattle.njh_restore.specs.Restoring.{KeptFile, restore_fault}
 use Rattle.njh_table.specs.Entries.{CustomerEntry}
-use Rattle.njh_table.specs.TableFile.{NamedCustomer, TableFile, customer_at, entry_of}
+use Rattle.njh_table.specs.TableFile.{TableFile, customer_at, entry_of}
 use Rattle.njh_hub.specs.Restored.{part_with_file}
 use Rattle.njh_hub.specs.WholeHub.{Part, part_at_open}
 use Rattle.njh_store.specs.Kept.{File, Spool, Whole, kept}

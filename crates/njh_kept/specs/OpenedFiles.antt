@@ -1,5 +1,5 @@
 -- What a customer has of its whole files after the opening, file by file.
-use Rattle.std.specs.Prelude.{◌≡◌, ◌||◌, if◌then◌else◌, List, [], map, Option, Some}
+use Rattle.std.specs.Prelude.{◌≡◌, ◌||◌, if◌then◌else◌, List, [], map, Some}
 use Rattle.njh_header.specs.FileHeaders.{destination_of}
 use Rattle.njh_record.specs.Stored.{Stored}
 use Rattle.njh_record.specs.declared.Kind.{Kind}

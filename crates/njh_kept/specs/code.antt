@@ -12,3 +12,5 @@ pub mod Memory
 pub mod Following
 pub mod Partly
 pub mod Knowing
+pub mod Opening
+pub mod Apart

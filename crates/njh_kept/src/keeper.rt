@@ -1,6 +1,6 @@
 //! The whole files of a hub's customers are kept in a spool file.
 
-ghost use Rattle.std.specs.Prelude.{◌≡◌, ◌⊎◌, ◌≤◌, List, [], false, ⊤, OnOk};
+ghost use Rattle.std.specs.Prelude.{◌≡◌, ◌⊎◌, ◌≤◌, List, [], false, length, ⊤, IfOk, OnOk};
 ghost use Rattle.sqlite.specs.State.{HasCleanDisk, Survives};
 ghost use Rattle.njh_hub.specs.Sent.{IsCounted};
 ghost use Rattle.njh_restore.specs.Restoring.{KeptFile};
@@ -8,18 +8,22 @@ ghost use Rattle.njh_store.specs.Kept.{Spool, Holds};
 ghost use Rattle.njh_store.specs.Shelf.{shown};
 ghost use Rattle.njh_store.specs.Standing.{Standing, Stands};
 ghost use Rattle.njh_store.specs.Steps.{Stays};
-ghost use Rattle.njh_kept.specs.Keeper.{IsAsKept, IsKeptNow, MayLeave, left_in};
+ghost use Rattle.njh_kept.specs.Keeper.{IsAsKept, IsCommitted, IsKeptNow, IsOpenedFrom, IsSettledFrom};
+ghost use Rattle.njh_kept.specs.Keeper.{MayLeave, left_in};
+ghost use Rattle.njh_kept.specs.code.Opening.{AllAreFound, AllAreRead};
+ghost use Rattle.njh_table.specs.Accepted.{AreDistinct};
 
+use crate::beginning::begin;
 use crate::fault::{OpeningFault, RefusedFile};
 use crate::following::follow;
 use crate::names::{names_of, number_among};
 use crate::opening::open_from;
 use crate::own_files::OwnFiles;
 use crate::portions::keep_portions;
-use crate::remembering::{customers_named, remember_all};
 use crate::writer::SpoolWriter;
 use njh_ebcdic::Name;
 use njh_hub::{Depot, DepotFault, Hub, KeepFault, Keeper};
+use njh_spool::next_number_is_least;
 use njh_store::{Store, StoredFile};
 use njh_table::Tables;
 use sqlite::{Alter, Error, ErrorCode};
@@ -167,17 +171,60 @@ impl<'a, R: Clock, S: Alter + Drop> SpoolKeeper<'a, R, S> {
     /// From then on the spool file has them as the hub has.
     fn remember(&mut self, hub: &Hub, names: &[Name]) -> Result<(), Error>
         ensures same { self.new.failures ≡ self.old.failures }
+        ensures names { OnOk result (self.new.names ≡ names.now) }
+        ensures settled { OnOk result ((self.new.is_changed ≡ false) × (self.new.waiting ≡ 0)) }
+        ensures kept { HasCleanDisk (shown S.Store self.new.store) → OnOk result ((s : Standing)
+            → Stands s (shown S.Store self.old.store) → AreDistinct names.now → AllAreFound names.now hub.now
+            → AllAreRead names.now hub.now s.now → length names.now ≡ length hub.now
+            → IsCommitted S.Store self.new hub.now) }
         ensures crash { Survives (shown S.Store self.old.store) (shown S.Store self.new.store) (λ _. ⊤) }
     {
-        let alloc = self.writer.alloc;
-        self.customers = customers_named(alloc, hub, names)?;
-        let files = self.writer.store.files(alloc)?;
-        let begun = match remember_all(&mut self.writer, &mut self.customers, hub, names, &files) {
-            Ok(()) => self.writer.begin_numbers(&files),
-            Err(error) => Err(error),
+        let customers = begin(&mut self.writer, hub, names)?;
+        self.customers = customers;
+        Ok(())
+    }
+
+    /// Opens a hub of these tables from the spool file, and remembers what it has.
+    fn open_hub(&mut self, alloc: Global, tables: Tables) -> Result<Hub, DepotFault>
+        ensures opened { IfOk result (λ hub. IsOpenedFrom S.Store self.old self.new tables hub) }
+        ensures settled { IfOk result (λ hub. IsSettledFrom S.Store self.old self.new tables hub) }
+    {
+        next_number_is_least();
+        let names = match names_of(alloc, &tables) {
+            Ok(names) => names,
+            Err(_) => {
+                drop(tables);
+                return Err(DepotFault::Memory);
+            }
         };
-        drop(files);
-        begun
+        let hub = match open_from(alloc, tables, &mut self.writer.store) {
+            Ok(hub) => hub,
+            Err(fault) => {
+                drop(names);
+                return Err(self.refuse(fault));
+            }
+        };
+        self.remember_hub(hub, names)
+    }
+
+    /// Gives the hub back once it is remembered.
+    fn remember_hub(&mut self, hub: Hub, names: Vec<Name>) -> Result<Hub, DepotFault>
+        ensures hub { IfOk result (λ remembered. remembered ≡ hub) }
+        ensures names { OnOk result (self.new.names ≡ names.items) }
+        ensures kept { HasCleanDisk (shown S.Store self.new.store) → OnOk result ((s : Standing)
+            → Stands s (shown S.Store self.old.store) → AreDistinct names.items → AllAreFound names.items hub
+            → AllAreRead names.items hub s.now → length names.items ≡ length hub → IsCommitted S.Store self.new hub) }
+        ensures crash { Survives (shown S.Store self.old.store) (shown S.Store self.new.store) (λ _. ⊤) }
+    {
+        let remembered = self.remember(&hub, &names);
+        drop(names);
+        match remembered {
+            Ok(()) => Ok(hub),
+            Err(error) => {
+                drop(hub);
+                Err(depot_fault(error))
+            }
+        }
     }
 }
 
@@ -214,34 +261,13 @@ impl<'a, R: Clock, S: Alter + Drop> Keeper for SpoolKeeper<'a, R, S> {
 }
 
 impl<'a, R: Clock, S: Alter + Drop> Depot for SpoolKeeper<'a, R, S> {
-    ghost use Rattle.njh_kept.specs.Keeper.{IsOpenedFrom};
+    ghost use Rattle.njh_kept.specs.Keeper.{IsOpenedFrom, IsSettledFrom};
 
-    ghost opens = { λ before behind table parts. IsOpenedFrom S.Store before behind table parts };
+    ghost opens = { λ before behind table parts. IsOpenedFrom S.Store before behind table parts
+        × IsSettledFrom S.Store before behind table parts };
 
     fn open(&mut self, alloc: Global, tables: Tables) -> Result<Hub, DepotFault> {
-        let names = match names_of(alloc, &tables) {
-            Ok(names) => names,
-            Err(_) => {
-                drop(tables);
-                return Err(DepotFault::Memory);
-            }
-        };
-        let hub = match open_from(alloc, tables, &mut self.writer.store) {
-            Ok(hub) => hub,
-            Err(fault) => {
-                drop(names);
-                return Err(self.refuse(fault));
-            }
-        };
-        let remembered = self.remember(&hub, &names);
-        drop(names);
-        match remembered {
-            Ok(()) => Ok(hub),
-            Err(error) => {
-                drop(hub);
-                Err(depot_fault(error))
-            }
-        }
+        self.open_hub(alloc, tables)
     }
 }
 

@@ -2,10 +2,11 @@
 
 ghost use Rattle.std.specs.Prelude.{◌≡◌, ℕ, ◌<◌, false, List, length};
 ghost use Rattle.std.specs.List.{AllByRecursion};
-ghost use Rattle.njh_hub.specs.WholeHub.{part, part_at_open};
+ghost use Rattle.njh_hub.specs.WholeHub.{Part, part, part_at_open};
 ghost use Rattle.njh_kept.specs.Opened.{AreBack, hub_opened, is_own, own_files, part_opened};
 ghost use Rattle.njh_kept.specs.OpenedFiles.{HasOpened};
-ghost use Rattle.njh_kept.specs.Keeper.{Keeping, MayLeave, left_in};
+ghost use Rattle.njh_kept.specs.Keeper.{IsSettledFrom, Keeping, MayLeave, left_in};
+ghost use Rattle.njh_hub.specs.Keeping.{LeavesOnly};
 ghost use Rattle.njh_restore.specs.Restoring.{KeptFile};
 ghost use Rattle.njh_store.specs.Kept.{File, Spool, Whole, with_file};
 ghost use Rattle.njh_store.specs.Shelf.{shown};
@@ -48,4 +49,14 @@ pub fn a_crash_leaves_what_was_committed<S: Alter>()
         → MayLeave S.Store keeper left → left ≡ left_in keeper.names s.kept }
 {
     only_the_last_commit::<S>();
+}
+
+/// Behind the opening of a hub, from a spool file that stood before, a crash leaves of the customers' whole files those
+/// that the hub has, until something else is committed.
+pub fn a_crash_leaves_what_was_opened<S: Alter>()
+    ensures { (before behind : Keeping S) (table : TableFile) (parts : List Part) (s : Standing)
+        → IsSettledFrom S.Store before behind table parts → Stands s (shown S.Store before.store)
+        → LeavesOnly (MayLeave S.Store) behind parts }
+{
+    a_crash_leaves_what_was_committed::<S>();
 }

@@ -1,6 +1,7 @@
 //! A hub whose customers have the whole files that a spool file keeps.
 #![tactic(auto)]
 
+mod beginning;
 mod fault;
 mod following;
 mod hub_records;
@@ -8,6 +9,7 @@ mod keeper;
 mod kinds;
 mod laws;
 mod names;
+mod numbers;
 mod opening;
 mod own_files;
 mod portions;
@@ -20,7 +22,7 @@ mod writer;
 pub use fault::{FileFault, OpeningFault, RefusedFile};
 pub use keeper::SpoolKeeper;
 pub use laws::{
-    a_crash_leaves_what_was_committed, a_file_of_another_does_not_show, files_stand_again,
-    own_files_decide,
+    a_crash_leaves_what_was_committed, a_crash_leaves_what_was_opened,
+    a_file_of_another_does_not_show, files_stand_again, own_files_decide,
 };
 pub use opening::open_from;

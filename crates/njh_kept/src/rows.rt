@@ -64,7 +64,7 @@ pub(crate) fn name_text(alloc: Global, name: Name) -> Result<String, Error>
 }
 
 /// Whether a text is this name.
-fn reads_as(text: &str, name: Name) -> bool
+pub(crate) fn reads_as(text: &str, name: Name) -> bool
     ensures { result ≡ is_name_of text.now name }
 {
     match Name::of_text(text) {

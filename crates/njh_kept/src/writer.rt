@@ -105,7 +105,7 @@ impl<S: Alter + Drop> SpoolWriter<S> {
         let key = match self.free_keys.pop() {
             Some(key) => key,
             None => {
-                if self.next_key == u32::MAX {
+                if self.next_key >= u32::MAX {
                     return Err(full());
                 }
                 self.next_key += 1;
@@ -287,6 +287,15 @@ impl<S: Alter + Drop> SpoolWriter<S> {
         drop(free_keys);
         drop(sweeps);
         store
+    }
+
+    /// No number is free, and nothing of a file that has left is to be dropped.
+    pub(crate) fn forget_numbers(&mut self)
+        ensures none { (self.new.free_keys.items ≡ []) × (self.new.sweeps.items ≡ []) }
+        ensures others { self.new ≡ record self.old { free_keys = self.new.free_keys; sweeps = self.new.sweeps } }
+    {
+        self.free_keys.clear();
+        self.sweeps.clear();
     }
 
     /// Begins behind the numbers of these files, which are all. What stands under numbers of no file is dropped, as far

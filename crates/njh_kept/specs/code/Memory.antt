@@ -1,6 +1,5 @@
 -- What a keeper's memory says of a customer's files and of the numbers, as plain values.
-use Rattle.std.specs.Prelude.{ℕ, List, map}
-use Rattle.sqlite.specs.Store.{Ghosts}
+use Rattle.std.specs.Prelude.{map}
 use Rattle.njh_kept.specs.declared.own_files.KeptPartial as kept_partial
 use Rattle.njh_kept.specs.declared.own_files.KeptWhole as kept_whole
 use Rattle.njh_kept.specs.declared.own_files.OwnFiles as own_files

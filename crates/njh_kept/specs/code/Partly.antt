@@ -1,5 +1,5 @@
 -- The files that aren't whole yet, as a hub goes on with them.
-use Rattle.std.specs.Prelude.{◌≡◌, ℕ, ◌<◌, ◌≤◌, Bool, true, false, List, [], length}
+use Rattle.std.specs.Prelude.{◌≡◌, ℕ, ◌<◌, ◌≤◌, true, false, List, [], length}
 use Rattle.std.specs.List.{AllByRecursion}
 use Rattle.njh_spool.specs.CustomerSpool.{CustomerSpool, WholeFile}
 use Rattle.njh_stream.specs.SpoolFiles.{records_in}

@@ -1,5 +1,6 @@
 -- What the keeper of a spool file remembers of a customer's files, and what its calls make of a spool file.
-use Rattle.std.specs.Prelude.{◌≡◌, ◌≢◌, ℕ, ◌+◌, ◌<◌, ◌≤◌, ◌==◌, nat_le, Bool, false, cond, None}
+use Rattle.std.specs.Prelude.{◌≡◌, ◌≢◌, ℕ, ◌+◌, ◌<◌, ◌≤◌, ◌==◌, ◌-◌, ◌^◌, ◌&&◌, nat_le, nat_lt}
+use Rattle.std.specs.Prelude.{Bool, false, cond, None}
 use Rattle.std.specs.Prelude.{List, [], ◌∷◌, length, take, ⊤}
 use Rattle.std.specs.List.{AllByRecursion, AllZip}
 use Rattle.njh_ebcdic.specs.Users.{User}
@@ -120,9 +121,13 @@ keyed key n (x ∷ xs) = one_if (key x == n) + keyed key n xs
 abbrev pub uses_of_files : ℕ → OwnFiles → ℕ
 uses_of_files n own = keyed (λ k. k.key) n own.whole + keyed (λ p. p.key) n own.partial
 
+-- whether the writer may still give it out for the first time
+abbrev pub may_be_given : ℕ → ℕ → Bool
+may_be_given next n = nat_le next n && nat_lt n (2 ^ 32 - 1)
+
 -- how often it is one of the writer's: of a file that has left, free, or not given out yet,
 abbrev pub uses_of_numbers : ℕ → Numbers → ℕ
-uses_of_numbers n w = keyed (λ s. s.key) n w.sweeps + keyed (λ k. k) n w.free_keys + one_if (nat_le w.next_key n)
+uses_of_numbers n w = keyed (λ s. s.key) n w.sweeps + keyed (λ k. k) n w.free_keys + one_if (may_be_given w.next_key n)
 
 -- and both
 abbrev pub uses : ℕ → Numbers → OwnFiles → ℕ
@@ -166,6 +171,7 @@ pub record Moves (a b : Claim) (s t : Spool) : Type 0 where
   pub name : b.name ≡ a.name
   pub uses : (n : ℕ) → b.uses n ≤ a.uses n
   pub ordered : IsOrdered t
+  pub next : a.next_id ≤ b.next_id
   pub below : AreBelow a.next_id s → AreBelow b.next_id t
   pub records : (key : ℕ) → a.uses key ≡ 0 → records_of key t ≡ records_of key s
   pub rows : (other : List ℕ) → other ≢ a.name → own_rows other t ≡ own_rows other s

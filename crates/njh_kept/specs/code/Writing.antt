@@ -15,7 +15,7 @@ with_replaced r spool = with_record r (without_records r.key r.place (r.place + 
 abbrev pub IsTaken : (free : List ℕ) (next key : ℕ) (left : List ℕ) (behind : ℕ) → Type 0
 IsTaken free next key left behind =
     ((free ≡ left ++ key ∷ []) × (behind ≡ next))
-    ⊎ ((free ≡ []) × (left ≡ []) × (key ≡ next) × (behind ≡ next + 1))
+    ⊎ ((free ≡ []) × (left ≡ []) × (key ≡ next) × (behind ≡ next + 1) × (behind < 2 ^ 32))
 
 -- so many records under a key are to be dropped, of those that a file may have
 abbrev pub sweep_of : (key end : ℕ) → Sweep

@@ -1,4 +1,4 @@
-use Rattle.std.proofs.Common.{◌≡◌, ◌≤◌, length, get_or, refl, true, arith}
+use Rattle.std.proofs.Common.{◌≡◌, ◌≤◌, length, refl, true, arith}
 use Rattle.njh_store.specs.Shelf.{shown}
 use Rattle.njh_stream.specs.SpoolFiles.{records_in}
 use Rattle.njh_hub.specs.WholeHub.{part}

@@ -1,7 +1,20 @@
-use Rattle.sqlite.specs.State.{Survives}
+use Rattle.std.proofs.Common.{◌≡◌, map, take}
+use Rattle.sqlite.specs.State.{HasCleanDisk, Survives}
 use Rattle.njh_store.specs.Shelf.{shown}
+use Rattle.njh_kept.specs.code.Leading.{Leads}
+use Rattle.njh_kept.specs.code.Memory.{own_of}
+use Rattle.njh_kept.specs.code.Opening.{AllAreFound, RememberingAll, entries}
 use Rattle.njh_kept.proofs.remembering.remember_all.Given as goal
 
--- nothing was committed
-abbrev pub invariant-files : goal.invariant-files
-invariant-files g l = Survives (shown g.S.Store l.fn.writer.store) (shown g.S.Store l.writer.store) (λ _. ⊥)
+-- so many customers' files are remembered
+abbrev pub invariant-names : goal.invariant-names
+invariant-names g l =
+    let old = shown g.S.Store l.fn.writer.store in
+    let now = shown g.S.Store l.writer.store in
+    record {
+      crash : Survives old now (λ _. ⊥);
+      writer : l.writer ≡ record l.fn.writer { store = l.writer.store; is_changed = l.writer.is_changed };
+      names : map (λ own. own.name) l.customers.items ≡ take l.place l.names;
+      led : AllAreFound l.names l.hub → HasCleanDisk now
+          → Leads (RememberingAll l.names l.hub (entries l.files) (map own_of l.customers.items)) old now;
+    }

@@ -1,0 +1,64 @@
+use Rattle.std.proofs.Common.{rules, ◌≡◌, ◌<◌, ◌++◌, [], ◌∷◌, length, map, refl, sym, ap, subst, ◌∙◌, arith}
+use Rattle.std.proofs.lemmas.List.{get_or_default, length-map, length-take, map-append, take_more}
+use Rattle.sqlite.specs.State.{HasCleanDisk}
+use Rattle.sqlite.proofs.StateLemmas.{survives_then}
+use Rattle.njh_hub.specs.WholeHub.{part}
+use Rattle.njh_store.specs.Shelf.{shown}
+use Rattle.njh_kept.specs.code.Memory.{own_of}
+use Rattle.njh_kept.specs.code.Opening.{AreRemembered, IsOwnOf, Remembering, entries, files_at, name_at}
+use Rattle.njh_kept.proofs.LeadingLaws.{leads_nothing, leads_then}
+use Rattle.njh_kept.proofs.OpeningCustomers.{none_remembered, one_more_remembered}
+use Rattle.njh_kept.proofs.remembering.remember_all.Goals as goal
+
+pub names-init : goal.names-init
+names-init g c =
+    let at = shown g.S.Store c.args.writer.now.store in
+    let names = c.args.names.now in
+    let hub = c.args.hub.now in
+    let none : c.in_ok-customers.customers.items ≡ [] = search rules in
+    record {
+      crash = search rules;
+      writer = refl;
+      names = ap (map (λ own. own.name)) none;
+      led = λ found clean.
+          leads_nothing _ at (λ s ordered rows distinct reads.
+          subst (λ xs. AreRemembered names hub (map own_of xs) s s) (sym none) (none_remembered names hub s ordered));
+    }
+
+pub names-preserved : goal.names-preserved
+names-preserved g c =
+    let old = shown g.S.Store c.args.writer.now.store in
+    let mid = shown g.S.Store c.names.writer.store in
+    let new = shown g.S.Store c.remember_customer.new.writer.store in
+    let early : HasCleanDisk new → HasCleanDisk mid = λ clean. omega (arith, c.remember_customer.ensures.crash.clean) in
+    let so_far = c.names.invariant in
+    let names = c.args.names.now in
+    let hub = c.args.hub.now in
+    let place = c.names.place in
+    let low : place < length names = c.names-test.true in
+    let items = c.names.customers.items in
+    let own = c.in_ok-own.own in
+    let pushed : c.push.new.self.items ≡ items ++ own ∷ [] = c.in_ok-push.ensures.items in
+    let name_is : c.index-names-place.result ≡ name_at names place =
+    c.index-names-place.is ∙ get_or_default names place c.index-names-place.result [] low in
+    let long : length (map own_of items) ≡ place =
+    (let a = length-map items own_of in let b = length-map items (λ own. own.name) in let d = ap length so_far.names in let e = length-take place names in omega (arith, a, b, d, e, low)) in
+    record {
+      crash = survives_then old mid new _ _ (λ _. ⊥) (λ _ db none. none) (λ _ db none. none) so_far.crash c.remember_customer.ensures.crash;
+      writer = search rules;
+      names =
+          ap (map (λ own. own.name)) pushed ∙ map-append (λ own. own.name) items (own ∷ [])
+          ∙ (λ i. so_far.names i ++ (c.in_ok-own.ensures.own.name_is ∙ c.index-names-place.is) i ∷ []) ∙ sym (take_more names place c.index-names-place.result low);
+      led = λ found clean.
+          let whose : IsOwnOf (name_at names (length (map own_of items))) (part (length (map own_of items)) hub).customer.spool (own_of own) =
+          subst (λ n. IsOwnOf (name_at names n) (part n hub).customer.spool (own_of own)) (sym long)
+          (subst (λ who. IsOwnOf who (part place hub).customer.spool (own_of own)) name_is c.in_ok-own.ensures.own) in
+          leads_then _ _ _ old mid new (so_far.led found (early clean)) (c.in_ok-own.ensures.led (found place low) clean)
+          (λ s t u first one ordered rows distinct reads.
+          let next : Remembering (name_at names (length (map own_of items))) (entries c.args.files.now) (files_at (length (map own_of items)) hub) (own_of own) t u =
+          subst (λ n. Remembering (name_at names n) (entries c.args.files.now) (files_at n hub) (own_of own) t u) (sym long)
+          (subst (λ who. Remembering who (entries c.args.files.now) (files_at place hub) (own_of own) t u) name_is one) in
+          subst (λ owns. AreRemembered names hub owns s u) (sym (ap (map own_of) pushed ∙ map-append own_of items (own ∷ [])))
+          (one_more_remembered names hub (entries c.args.files.now) (map own_of items) (own_of own) s t u rows distinct reads (omega (arith, long, low)) whose
+          (first ordered rows distinct reads) next));
+    }
