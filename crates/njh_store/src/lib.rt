@@ -5,6 +5,7 @@ mod kept;
 mod laws;
 mod making;
 mod opening;
+mod origin;
 mod reads;
 mod sequences;
 mod statements;
@@ -17,6 +18,7 @@ pub use laws::{
     others_do_not_show, records_in_part_do_not_show,
 };
 pub use opening::OpenFault;
+pub use origin::Origin;
 pub use sequences::{Change, Stopped, apply, apply_all};
 pub use statements::only_the_last_commit;
 pub use store::Store;

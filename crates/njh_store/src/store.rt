@@ -12,6 +12,7 @@ ghost use Rattle.sqlite_trees.specs.View.{IsClean};
 ghost use Rattle.sqlite.specs.Recovery.{Image};
 ghost use Rattle.sqlite.specs.Tree.{Trees};
 ghost use Rattle.njh_store.specs.Reopened.{OpensFrom};
+ghost use Rattle.njh_store.specs.Origin.{IsFoundIn};
 ghost use Rattle.njh_store.specs.Kept.{Spool, Holds, file_of, record_of, with_file, with_changed, with_record};
 ghost use Rattle.njh_store.specs.Kept.{without_file, without_records, whole_of, kept, entry_of, contents, contents_of};
 ghost use Rattle.njh_store.specs.Kept.{records_between};
@@ -21,7 +22,7 @@ ghost use Rattle.njh_store.specs.Tables.{spool_schema};
 ghost use Rattle.njh_store.specs.Steps.{Begins, Changes, Commits, IsIdle, Stays};
 
 use crate::kept::{KeptFile, KeptRecord, StoredFile, StoredRecord, WholeFile};
-use crate::opening::{OpenFault, prepare};
+use crate::opening::{OpenFault, is_live, prepare};
 use crate::{reads, statements};
 use sqlite::{Alter, Connection, Error, ErrorCode, FileFrom, FileStore, Files, Start};
 use sqlite_disk::Disk;
@@ -321,6 +322,9 @@ impl<S: Start> Store<FileStore<FileFrom<S>>> {
         ensures opened { IfOk result (λ store. HasCleanDisk (file_state store.conn)
             → OpensFrom (image_at S.Start) (file_state store.conn).now.trees) }
         ensures idle { IfOk result (λ store. HasCleanDisk (file_state store.conn) → IsIdle (file_state store.conn)) }
+        ensures stands { IfOk result (λ store. HasCleanDisk (file_state store.conn) → (spool : Spool)
+            → IsFoundIn (image_at S.Start) spool
+            → Stands (record { now = spool; kept = spool }) (file_state store.conn)) }
         ensures works { IfOk result (λ store. store.failed ≡ false) }
     {
         let mut conn = match Connection::open_from(rt, path, true, start) {
@@ -328,6 +332,7 @@ impl<S: Start> Store<FileStore<FileFrom<S>>> {
             Err((error, _)) => return Err(OpenFault::Database(error)),
         };
         prepare(rt.alloc(), &mut conn)?;
+        is_live(&conn);
         Ok(Store {
             conn,
             failed: false,

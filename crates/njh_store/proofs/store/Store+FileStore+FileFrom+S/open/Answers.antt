@@ -3,6 +3,8 @@ use Rattle.sqlite.specs.Effect.{Database}
 use Rattle.sqlite.specs.State.{HasCleanDisk}
 use Rattle.sqlite.specs.Files.{file_state}
 use Rattle.sqlite_catalog.specs.Listing.{IsSound}
+use Rattle.njh_store.specs.Kept.{Holds}
+use Rattle.njh_store.specs.Tables.{spool_schema}
 use Rattle.njh_store.proofs.store.Store+FileStore+FileFrom+S.open.Goals as goal
 
 pub prepare-requires : goal.prepare-requires
@@ -27,3 +29,11 @@ returns-clause-opened g c clean =
         | inr made ↦ inr (subst (λ s. IsSound s was.committed.trees) (sym (ap (λ (d : Database). d.schema) same) ∙ made.0) (opened.1 opened.0.is_open).1, made.1)
       ];
     }
+
+pub returns-clause-stands : goal.returns-clause-stands
+returns-clause-stands g c clean spool found =
+    let idle = c.in_ok-prepare.ensures.ready clean in
+    let at = file_state c.prepare.new.conn in
+    let sound : IsSound spool_schema at.now.trees = subst (λ s. IsSound s at.now.trees) idle.schema (c.is_live.ensures idle.is_open).0 in
+    let there : Holds spool at.now.trees = found at.now.trees sound (returns-clause-opened g c clean) in
+    record { is_open = idle.is_open; now = there; kept = subst (λ (d : Database). Holds spool d.trees) (sym idle.kept) there }
