@@ -17,3 +17,4 @@ pub mod ServiceLaws
 pub mod OwnRoutes
 pub mod KeepingLaws
 pub mod BreakLaws
+pub mod ComingLaws

@@ -1,9 +1,12 @@
 -- What is seen of a hub while it runs: of a line, and of a whole file without its records.
-use Rattle.std.specs.Prelude.{◌≡◌, ℕ, List, [], length, Option, Some, unwrap_or}
+use Rattle.std.specs.Prelude.{◌≡◌, ℕ, List, [], length, Option, Some, unwrap_or, ⊤}
 use Rattle.njh_line.specs.declared.Phase.TheVariants.{Down}
 use Rattle.njh_line.specs.declared.session.Session.{Session}
 use Rattle.njh_spool.specs.declared.file_headers.FileSummary.{FileSummary}
-use Rattle.njh_spool.specs.CustomerSpool.{WholeFile, cost, whole_numbered}
+use Rattle.njh_spool.specs.CustomerSpool.{CustomerSpool, WholeFile, cost, partial_records, whole_numbered}
+use Rattle.njh_stream.specs.SpoolFiles.{records_in}
+use Rattle.njh_stream.specs.declared.receiver.Receiver.{Receiver}
+use Rattle.njh_stream.specs.declared.receiver.Receiver.TheVariants.{Idle, Open, Draining}
 use Rattle.njh_texts.specs.Texts.{file_text}
 use Rattle.njh_table.specs.declared.LineId.{LineId}
 use Rattle.njh_customer.specs.Customer.{CustomerLine, line_at}
@@ -24,6 +27,12 @@ pub record HasGivenUp (parts : List Part) (id : LineId) : Type 0 where
   pub there : HasLine parts id
   pub phase : (hub_line id parts).state.session.phase ≡ Down
   pub tries : (hub_line id parts).state.session.tries ≡ 5
+
+-- A file that comes on a stream to the hub is partial: the records under its number are the partial file's.
+abbrev pub IsPartialOn : CustomerSpool → Receiver → Type 0
+IsPartialOn s Idle = ⊤
+IsPartialOn s (Open n progress) = records_in n s ≡ partial_records n s
+IsPartialOn s Draining = ⊤
 
 -- the whole file of a number of customer c
 abbrev pub whole_file_on : ℕ → ℕ → List Part → Option WholeFile

@@ -1,14 +1,17 @@
 //! The hub: each customer's files and lines, and a step for each event on one of these lines.
 
 ghost use Rattle.std.specs.Prelude.{◌≡◌, ℕ, ◌+◌, ◌<◌, ◌≤◌, ◌↔◌, length, IsTrue, OnOk, OnErr, IfOk, IsOk, Err};
+ghost use Rattle.std.specs.List.{AllByRecursion};
 ghost use Rattle.std.specs.Vec.{vec_len, vec_capacity};
 ghost use Rattle.njh_bisync.specs.Limits.{longest_frame};
 ghost use Rattle.njh_customer.specs.Customer.{IsMarked};
 ghost use Rattle.njh_customer.specs.Part.{part_after_bytes, part_after_signal};
 ghost use Rattle.njh_spool.specs.CustomerSpool.{used_blocks};
+ghost use Rattle.njh_spool.specs.Spools.{IsSound};
 ghost use Rattle.njh_stream.specs.WholeFiles.{HaveHeaders};
 ghost use Rattle.njh_hub.specs.Files.{files_at};
 ghost use Rattle.njh_hub.specs.Steps.{IsStep};
+ghost use Rattle.njh_hub.specs.Views.{IsPartialOn, hub_line};
 ghost use Rattle.njh_hub.specs.WholeHub.{part, HasLine};
 
 mod looking;
@@ -120,6 +123,17 @@ impl Hub {
         Ok(self.shared.spool.used(customer))
     }
 
+    /// Law: no two of a customer's files, whole or partial, have one number, they stand within its quota, and the
+    /// headers of its whole files read.
+    pub fn files_are_sound(&self, customer: u16)
+        ensures sound { IsSound (part customer self.now).customer.spool }
+        ensures headers { HaveHeaders (part customer self.now).customer.spool.whole }
+    {
+        if usize::from(customer) < self.lines.len() {
+            self.shared.spool.quota_holds(customer);
+        }
+    }
+
     /// Law: which of a customer's lines count as up where a route has a second line: those whose sessions are up, and
     /// no others.
     pub(crate) fn marks_hold(&self, customer: u16)
@@ -127,6 +141,15 @@ impl Hub {
         ensures { IsMarked (part customer self.now).customer }
     {
         let _tables = &self.shared.tables;
+    }
+
+    /// Law: a file that comes on a line's stream to the hub is partial.
+    pub(crate) fn comings_are_partial(&self, id: LineId)
+        requires { HasLine self.now id }
+        ensures { AllByRecursion (IsPartialOn (part id.customer self.now).customer.spool)
+            (hub_line id self.now).receivers }
+    {
+        self.shared.spool.quota_holds(id.customer);
     }
 
     /// Where the hub's memory comes from.

@@ -1,11 +1,12 @@
 //! What is seen of a hub while it runs: of a line and of a file, without a copy of any record.
 
 ghost use Rattle.std.specs.Prelude.{◌≡◌, ◌<◌, ◌↔◌, length, IsTrue, IfOk, IsOk, OnErr, OnSome, Err};
+ghost use Rattle.std.specs.List.{AllByRecursion};
 ghost use Rattle.std.specs.Option.{option_map};
 ghost use Rattle.njh_command.specs.Files.{file_at};
 ghost use Rattle.njh_customer.specs.Customer.{IsMarked};
 ghost use Rattle.njh_stream.specs.WholeFiles.{HaveHeaders};
-ghost use Rattle.njh_hub.specs.Views.{HasGivenUp, whole_file_on, file_summary, hub_line, session_view};
+ghost use Rattle.njh_hub.specs.Views.{HasGivenUp, IsPartialOn, whole_file_on, file_summary, hub_line, session_view};
 ghost use Rattle.njh_hub.specs.WholeHub.{part, HasLine};
 
 use crate::fault::HubFault;
@@ -61,15 +62,18 @@ impl Hub {
         }
     }
 
-    /// What each of a line's streams to the hub is about: SYSIN 1 to 4, SYSOUT 1 to 4. `UnknownLine` comes where the
-    /// hub has no such line.
+    /// What each of a line's streams to the hub is about: SYSIN 1 to 4, SYSOUT 1 to 4; a file that comes on one is
+    /// partial. `UnknownLine` comes where the hub has no such line.
     pub fn receivers(&self, id: LineId) -> Result<&[Receiver], HubFault>
         ensures receivers { IfOk result (λ receivers. receivers.now ≡ (hub_line id self.now).receivers) }
         ensures eight { IfOk result (λ receivers. length receivers.now ≡ 8) }
+        ensures partial { IfOk result (λ receivers. AllByRecursion
+            (IsPartialOn (part id.customer self.now).customer.spool) receivers.now) }
         ensures known { IsOk result ↔ HasLine self.now id }
         ensures unknown { OnErr result (result ≡ Err HubFault.UnknownLine) }
     {
         let lines = self.lines_of(id)?;
+        self.comings_are_partial(id);
         Ok(lines.receivers(id.number))
     }
 
