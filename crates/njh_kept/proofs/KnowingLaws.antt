@@ -3,8 +3,7 @@ use Rattle.std.proofs.Common.{◌≡◌, ℕ, ◌<◌, ◌≤◌, List, ◌++◌
 use Rattle.std.specs.Prelude.{⊤}
 use Rattle.std.proofs.lemmas.List.{length-take-le, take-take}
 use Rattle.njh_record.specs.Stored.{Stored}
-use Rattle.njh_spool.specs.CustomerSpool.{CustomerSpool}
-use Rattle.njh_stream.specs.SpoolFiles.{records_in}
+use Rattle.njh_spool.specs.CustomerSpool.{CustomerSpool, partial_records}
 use Rattle.njh_hub.specs.Keeping.{kept_file}
 use Rattle.njh_store.specs.Kept.{Spool, records_of}
 use Rattle.njh_kept.specs.Keeper.{left_in}
@@ -70,20 +69,20 @@ has_spool w w' own own' now s t goes up_to_date arrived = record { arrived = arr
 
 -- Where files of more than 1,365 records go on from those of their numbers, what is kept of one is a front of it still.
 pub still_goes_on : (before now : CustomerSpool) (s : Spool) (p : KeptPartial)
-    → (1366 ≤ length (records_in p.number now) → (rest : List Stored) × (records_in p.number now ≡ records_in p.number before ++ rest))
+    → (1366 ≤ length (partial_records p.number now) → (rest : List Stored) × (partial_records p.number now ≡ partial_records p.number before ++ rest))
     → IsUpToDate before p → GoesOn before s p → GoesOn now s p
 still_goes_on before now s p grows up go_on enough =
     let more = grows (omega (arith, up.many, enough)) in
-    subst (IsPartlyKept s p) (sym more.1) (partly_kept_of_more s p (records_in p.number before) more.0 (go_on (omega (arith, up.seen))))
+    subst (IsPartlyKept s p) (sym more.1) (partly_kept_of_more s p (partial_records p.number before) more.0 (go_on (omega (arith, up.seen))))
 
 -- Where one became whole, that is so but for headers: the file may have been sent elsewhere since.
 pub front_of_whole : (before : CustomerSpool) (s : Spool) (p : KeptPartial) (rs : List Stored)
     → (1366 ≤ length rs
-    → (length (records_in p.number before) ≤ length rs) × AreAlike (records_in p.number before) (take (length (records_in p.number before)) rs))
+    → (length (partial_records p.number before) ≤ length rs) × AreAlike (partial_records p.number before) (take (length (partial_records p.number before)) rs))
     → IsUpToDate before p → GoesOn before s p → p.seen ≤ length rs
     → (front : List Stored) × (length front ≡ p.written) × (p.written ≤ length rs) × HasRecords p.key front s × AreAlike front (take p.written rs)
 front_of_whole before s p rs grows up go_on enough =
-    let was = records_in p.number before in
+    let was = partial_records p.number before in
     let more = grows (omega (arith, up.many, enough)) in
     let here = go_on (omega (arith, up.seen)) in (
       take p.written was,

@@ -51,3 +51,4 @@ pub mod OpeningSettled
 pub mod OpeningLists
 pub mod OpeningCustomers
 pub mod OpeningFiles
+pub mod BegunLaws

@@ -11,7 +11,7 @@ use Rattle.njh_kept.specs.code.Opening.{HasBegun}
 use Rattle.njh_kept.specs.code.Remembered.{Mirrored, Numbers}
 use Rattle.njh_kept.proofs.LeftLaws.{left_of_parts}
 
-zip_by_place : {X Y : Type 0} (R : X → Y → Type 0) (xs : List X) (ys : List Y) (d : Y) → length xs ≡ length ys → ((c : ℕ) → (x : X) → c < length xs → x ≡ get_or xs c x → R x (get_or ys c d)) → AllZip R xs ys
+pub zip_by_place : {X Y : Type 0} (R : X → Y → Type 0) (xs : List X) (ys : List Y) (d : Y) → length xs ≡ length ys → ((c : ℕ) → (x : X) → c < length xs → x ≡ get_or xs c x → R x (get_or ys c d)) → AllZip R xs ys
 zip_by_place R [] [] d long each = tt
 zip_by_place R [] (y ∷ ys) d long each = absurd (omega (arith, long))
 zip_by_place R (x ∷ xs) [] d long each = absurd (omega (arith, long))

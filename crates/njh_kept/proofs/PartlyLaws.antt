@@ -2,8 +2,7 @@
 use Rattle.std.proofs.Common.{◌≡◌, ◌≢◌, ℕ, zero, suc, ◌+◌, ◌^◌, ◌<◌, ◌≤◌, Bool, false, cond, List, [], ◌∷◌, ◌++◌, length, get_or, set, remove, map, take, refl, sym, ap, subst, ◌∙◌, arith}
 use Rattle.std.specs.Prelude.{⊤}
 use Rattle.std.specs.List.{AllByRecursion}
-use Rattle.njh_spool.specs.CustomerSpool.{CustomerSpool}
-use Rattle.njh_stream.specs.SpoolFiles.{records_in}
+use Rattle.njh_spool.specs.CustomerSpool.{CustomerSpool, partial_records}
 use Rattle.njh_store.specs.Kept.{Spool, contents, records_of, without_records}
 use Rattle.std.proofs.lemmas.List.{take_all}
 use Rattle.njh_kept.specs.code.Mirrored.{HasRecords, IsOrdered, WritesUnder}
@@ -141,8 +140,8 @@ module _ (now : CustomerSpool) (w : Numbers) (own : OwnFiles) where
   -- ---- the calls
 
   -- one comes
-  pub keeps_begun : (p : KeptPartial) (s t : Spool) → p.written ≡ length (records_in p.number now)
-      → (IsOrdered s → HasRecords p.key [] s → WritesUnder p.key s t × HasRecords p.key (records_in p.number now) t)
+  pub keeps_begun : (p : KeptPartial) (s t : Spool) → p.written ≡ length (partial_records p.number now)
+      → (IsOrdered s → HasRecords p.key [] s → WritesUnder p.key s t × HasRecords p.key (partial_records p.number now) t)
       → KeepsNew p.key w own w (record own { partial = own.partial ++ p ∷ [] }) now s t
   keeps_begun p s t whole written files h apart empty all go_on =
       let wrote = written h empty in
@@ -156,7 +155,7 @@ module _ (now : CustomerSpool) (w : Numbers) (own : OwnFiles) where
             all_push (GoesOn now t) own.partial p (under_all now s t p.key wrote.0 own.partial (keyed_none (λ (x : KeptPartial). x.key) p.key own.partial none) go_on)
             (λ more. record {
               written = omega (arith, whole);
-              stored = subst (λ rs. HasRecords p.key rs t) (sym (ap (λ n. take n (records_in p.number now)) whole ∙ take_all (length (records_in p.number now)) (records_in p.number now) (omega arith))) wrote.1;
+              stored = subst (λ rs. HasRecords p.key rs t) (sym (ap (λ n. take n (partial_records p.number now)) whole ∙ take_all (length (partial_records p.number now)) (partial_records p.number now) (omega arith))) wrote.1;
             });
       }
 
@@ -179,8 +178,8 @@ module _ (now : CustomerSpool) (w : Numbers) (own : OwnFiles) where
 
   module _ (i : ℕ) (p : KeptPartial) (there : i < length own.partial) (is : p ≡ get_or own.partial i p) where
     -- of one more records come
-    pub keeps_gone_on : (q : KeptPartial) (s t : Spool) → q.key ≡ p.key → q.number ≡ p.number → p.seen ≤ length (records_in p.number now)
-        → (IsOrdered s → IsPartlyKept s p (records_in p.number now) → WritesUnder p.key s t × IsPartlyKept t q (records_in p.number now))
+    pub keeps_gone_on : (q : KeptPartial) (s t : Spool) → q.key ≡ p.key → q.number ≡ p.number → p.seen ≤ length (partial_records p.number now)
+        → (IsOrdered s → IsPartlyKept s p (partial_records p.number now) → WritesUnder p.key s t × IsPartlyKept t q (partial_records p.number now))
         → KeepsOn w own w (record own { partial = set own.partial i q }) now s t
     keeps_gone_on q s t key number grown written files h apart all go_on =
         let here = all_at (GoesOn now s) own.partial i p go_on there is in
@@ -195,7 +194,7 @@ module _ (now : CustomerSpool) (w : Numbers) (own : OwnFiles) where
           go_on =
               all_set (GoesOn now t) own.partial i q
               (under_all now s t p.key wrote.0 (remove own.partial i) (keyed_apart (λ (x : KeptPartial). x.key) own.partial i p there is once) (all_remove (GoesOn now s) own.partial i go_on))
-              (λ more. subst (λ n. IsPartlyKept t q (records_in n now)) (sym number) wrote.1);
+              (λ more. subst (λ n. IsPartlyKept t q (partial_records n now)) (sym number) wrote.1);
         }
 
     -- no stream is known to be about it

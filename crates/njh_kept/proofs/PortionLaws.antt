@@ -7,8 +7,7 @@ use Rattle.njh_record.specs.Stored.{Stored}
 use Rattle.njh_kept.specs.code.Alike.{WritesFrom}
 use Rattle.sqlite.specs.State.{HasCleanDisk}
 use Rattle.sqlite.specs.Store.{Ghosts}
-use Rattle.njh_spool.specs.CustomerSpool.{CustomerSpool}
-use Rattle.njh_stream.specs.SpoolFiles.{records_in}
+use Rattle.njh_spool.specs.CustomerSpool.{CustomerSpool, partial_records}
 use Rattle.njh_store.specs.Kept.{Spool, without_records}
 use Rattle.njh_store.specs.Shelf.{shown}
 use Rattle.njh_store.specs.Steps.{Changes}
@@ -110,9 +109,9 @@ module _ {S : Type 0} (g : Ghosts S) (now : CustomerSpool) where
 
     -- those of one come for the first time
     pub keeps_first : (p : kept_partial.KeptPartial) → own1.partial.items ≡ own.partial.items ++ p ∷ [] → p.is_open ≡ true
-        → p.seen ≡ length (records_in p.number now) → 1366 ≤ p.seen → p.written ≡ length (records_in p.number now)
+        → p.seen ≡ length (partial_records p.number now) → 1366 ≤ p.seen → p.written ≡ length (partial_records p.number now)
         → (HasCleanDisk (shown g w1.store)
-        → Leads (λ s t. IsOrdered s → HasRecords p.key [] s → WritesUnder p.key s t × HasRecords p.key (records_in p.number now) t) (shown g w.store) (shown g w1.store))
+        → Leads (λ s t. IsOrdered s → HasRecords p.key [] s → WritesUnder p.key s t × HasRecords p.key (partial_records p.number now) t) (shown g w.store) (shown g w1.store))
         → KeepsPartlyNew g p.key now w own w1 own1
     keeps_first p items is_open seen many whole wrote =
         let own' : OwnFiles = record (own_of own) { partial = (own_of own).partial ++ partial_of p ∷ [] } in
@@ -132,9 +131,9 @@ module _ {S : Type 0} (g : Ghosts S) (now : CustomerSpool) where
 
     -- more of one come, or none
     pub keeps_more : (i : ℕ) (p q : kept_partial.KeptPartial) (n : ℕ) → i < length own.partial.items → p ≡ get_or own.partial.items i p → own1.partial.items ≡ set own.partial.items i q
-        → p.number ≡ n → q.key ≡ p.key → q.number ≡ p.number → p.seen ≤ length (records_in n now) → q.seen ≡ length (records_in n now) → 1366 ≤ q.seen
+        → p.number ≡ n → q.key ≡ p.key → q.number ≡ p.number → p.seen ≤ length (partial_records n now) → q.seen ≡ length (partial_records n now) → 1366 ≤ q.seen
         → (HasCleanDisk (shown g w1.store)
-        → Leads (λ s t. IsOrdered s → IsPartlyKept s (partial_of p) (records_in n now) → WritesUnder p.key s t × IsPartlyKept t (partial_of q) (records_in n now))
+        → Leads (λ s t. IsOrdered s → IsPartlyKept s (partial_of p) (partial_records n now) → WritesUnder p.key s t × IsPartlyKept t (partial_of q) (partial_records n now))
         (shown g w.store) (shown g w1.store))
         → KeepsPartly g now w own w1 own1
     keeps_more i p q n there at items mine key number grown seen many wrote =
@@ -150,11 +149,11 @@ module _ {S : Type 0} (g : Ghosts S) (now : CustomerSpool) where
               (subst (λ (m : Numbers). Leads (KeepsOn (numbers_of w) (own_of own) m own' now) (shown g w.store) (shown g w1.store)) (sym numbers_still)
               (leads_weaker _ (KeepsOn (numbers_of w) (own_of own) (numbers_of w) own' now) (shown g w.store) (shown g w1.store)
               (λ s t written. keeps_gone_on now (numbers_of w) (own_of own) i (partial_of p) within here (partial_of q) s t key number
-              (subst (λ m. p.seen ≤ length (records_in m now)) (sym mine) grown)
-              (subst (λ m. IsOrdered s → IsPartlyKept s (partial_of p) (records_in m now) → WritesUnder p.key s t × IsPartlyKept t (partial_of q) (records_in m now)) (sym mine) written)) (wrote clean)));
+              (subst (λ m. p.seen ≤ length (partial_records m now)) (sym mine) grown)
+              (subst (λ m. IsOrdered s → IsPartlyKept s (partial_of p) (partial_records m now) → WritesUnder p.key s t × IsPartlyKept t (partial_of q) (partial_records m now)) (sym mine) written)) (wrote clean)));
           seen = λ all.
               subst (AllSeen now) (sym is)
-              (all_set (IsSeen now) ps i (partial_of q) (all_remove (IsSeen now) ps i all) (λ about. (subst (λ m. q.seen ≡ length (records_in m now)) (sym (number ∙ mine)) seen, many)));
+              (all_set (IsSeen now) ps i (partial_of q) (all_remove (IsSeen now) ps i all) (λ about. (subst (λ m. q.seen ≡ length (partial_records m now)) (sym (number ∙ mine)) seen, many)));
           numbers = is_same;
           others = others;
         }

@@ -1,7 +1,9 @@
 //! The memory of a keeper begins with a hub that was opened from its spool file.
 
-ghost use Rattle.std.specs.Prelude.{◌≡◌, false, map, ⊤, IfOk, OnOk};
+ghost use Rattle.std.specs.Prelude.{◌≡◌, true, false, map, string_bytes, ⊤, IfOk, OnOk};
+ghost use Rattle.std.specs.List.{AllByRecursion};
 ghost use Rattle.sqlite.specs.State.{HasCleanDisk, Survives};
+ghost use Rattle.njh_kept.specs.Opened.{is_name_of};
 ghost use Rattle.njh_kept.specs.code.Memory.{numbers_of, own_of};
 ghost use Rattle.njh_kept.specs.code.Opening.{Begins};
 ghost use Rattle.njh_store.specs.Shelf.{shown};
@@ -28,6 +30,8 @@ pub(crate) fn begin<S: Alter + Drop>(
         (map own_of owns.items) (numbers_of writer.new) (shown S.Store writer.old.store)
         (shown S.Store writer.new.store)) }
     ensures names { IfOk result (λ owns. map (λ own. own.name) owns.items ≡ names.now) }
+    ensures texts { IfOk result (λ owns. AllByRecursion
+        (λ own. is_name_of (string_bytes own.text) own.name ≡ true) owns.items) }
     ensures settled { OnOk result ((writer.new.is_changed ≡ false) × (writer.new.waiting ≡ 0)) }
     ensures crash { Survives (shown S.Store writer.old.store) (shown S.Store writer.new.store) (λ _. ⊤) }
 {

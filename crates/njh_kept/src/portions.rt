@@ -2,10 +2,11 @@
 
 ghost use Rattle.std.specs.Prelude.{◌≡◌, ◌<◌, ◌≤◌, ◌++◌, ◌∷◌, [], length, slice_get, IsSomeAnd, OnOk};
 ghost use Rattle.std.specs.List.{AllByRecursion};
+ghost use Rattle.njh_hub.specs.Views.{IsPartialOn};
 ghost use Rattle.njh_hub.specs.WholeHub.{part};
 ghost use Rattle.njh_kept.specs.code.Memory.{own_of};
 ghost use Rattle.njh_kept.specs.code.Partly.{AllClosed, AllUpToDate, AllSeen, KeepsPartly, KeepsPartlyNew};
-ghost use Rattle.njh_spool.specs.CustomerSpool.{CustomerSpool};
+ghost use Rattle.njh_spool.specs.CustomerSpool.{CustomerSpool, partial_records};
 ghost use Rattle.njh_stream.specs.SpoolFiles.{records_in};
 ghost use Rattle.njh_store.specs.Shelf.{shown};
 ghost use Rattle.sqlite.specs.State.{Survives};
@@ -74,6 +75,7 @@ fn keep_of_line<S: Alter + Drop>(
     customer: u16,
     receivers: &[Receiver],
 ) -> Result<(), Error>
+    requires partial { AllByRecursion (IsPartialOn (part customer hub.now).customer.spool) receivers.now }
     ensures kept { OnOk result (KeepsPartly S.Store (part customer hub.now).customer.spool writer.old own.old writer.new
         own.new) }
     ensures crash { Survives (shown S.Store writer.old.store) (shown S.Store writer.new.store) (λ _. ⊥) }
@@ -87,13 +89,15 @@ fn keep_of_line<S: Alter + Drop>(
     Ok(())
 }
 
-/// Keeps records of a file, where it has many and enough of them wait.
+/// Keeps records of a file that isn't whole, where it has many and enough of them wait.
 fn keep_portion<S: Alter + Drop>(
     writer: &mut SpoolWriter<S>,
     own: &mut OwnFiles,
     hub: &Hub,
     file: HubFile,
 ) -> Result<(), Error>
+    requires partial { records_in file.number (part file.customer hub.now).customer.spool
+        ≡ partial_records file.number (part file.customer hub.now).customer.spool }
     ensures kept { OnOk result (KeepsPartly S.Store (part file.customer hub.now).customer.spool writer.old own.old
         writer.new own.new) }
     ensures crash { Survives (shown S.Store writer.old.store) (shown S.Store writer.new.store) (λ _. ⊥) }
@@ -119,6 +123,8 @@ fn begin<S: Alter + Drop>(
     file: HubFile,
     key: u32,
 ) -> Result<(), Error>
+    requires partial { records_in file.number (part file.customer hub.now).customer.spool
+        ≡ partial_records file.number (part file.customer hub.now).customer.spool }
     requires many { 1366 ≤ length (records_in file.number (part file.customer hub.now).customer.spool) }
     ensures kept { OnOk result (KeepsPartlyNew S.Store key (part file.customer hub.now).customer.spool writer.old
         own.old writer.new own.new) }
@@ -153,6 +159,8 @@ fn go_on<S: Alter + Drop>(
     file: HubFile,
     place: usize,
 ) -> Result<(), Error>
+    requires partial { records_in file.number (part file.customer hub.now).customer.spool
+        ≡ partial_records file.number (part file.customer hub.now).customer.spool }
     requires within { place < length own.old.partial.items }
     requires found { IsSomeAnd (slice_get own.old.partial.items place) (λ p. (p.number ≡ file.number)
         × (p.seen ≤ length (records_in file.number (part file.customer hub.now).customer.spool))) }

@@ -2,6 +2,7 @@
 
 ghost use Rattle.std.specs.Prelude.{◌≡◌, ℕ, ◌<◌, List, [], ◌∷◌, true, length, map, slice_index_or, string_bytes, IfOk};
 ghost use Rattle.std.specs.Prelude.{OnOk};
+ghost use Rattle.std.specs.List.{AllByRecursion};
 ghost use Rattle.sqlite.specs.State.{HasCleanDisk, Survives};
 ghost use Rattle.njh_hub.specs.WholeHub.{part};
 ghost use Rattle.njh_kept.specs.Opened.{is_name_of};
@@ -35,6 +36,8 @@ pub(crate) fn remember_all<S: Alter + Drop>(
     files: &[StoredFile],
 ) -> Result<Vec<OwnFiles>, Error>
     ensures names { IfOk result (λ owns. map (λ own. own.name) owns.items ≡ names.now) }
+    ensures texts { IfOk result (λ owns. AllByRecursion
+        (λ own. is_name_of (string_bytes own.text) own.name ≡ true) owns.items) }
     ensures led { AllAreFound names.now hub.now → HasCleanDisk (shown S.Store writer.new.store)
         → IfOk result (λ owns. Leads (RememberingAll names.now hub.now (entries files.now) (map own_of owns.items))
         (shown S.Store writer.old.store) (shown S.Store writer.new.store)) }
@@ -58,6 +61,7 @@ fn remember_customer<S: Alter + Drop>(
     files: &[StoredFile],
 ) -> Result<OwnFiles, Error>
     ensures own { IfOk result (λ own. IsOwnOf name (part place hub.now).customer.spool (own_of own)) }
+    ensures text { IfOk result (λ own. is_name_of (string_bytes own.text) own.name ≡ true) }
     ensures led { AreFound (part place hub.now).customer.spool → HasCleanDisk (shown S.Store writer.new.store)
         → IfOk result (λ own. Leads (Remembering name (entries files.now) (files_at place hub.now) (own_of own))
         (shown S.Store writer.old.store) (shown S.Store writer.new.store)) }

@@ -1,8 +1,7 @@
 -- The files that aren't whole yet, as a hub goes on with them.
 use Rattle.std.specs.Prelude.{◌≡◌, ℕ, ◌<◌, ◌≤◌, true, false, List, [], length}
 use Rattle.std.specs.List.{AllByRecursion}
-use Rattle.njh_spool.specs.CustomerSpool.{CustomerSpool, WholeFile}
-use Rattle.njh_stream.specs.SpoolFiles.{records_in}
+use Rattle.njh_spool.specs.CustomerSpool.{CustomerSpool, WholeFile, partial_records}
 use Rattle.njh_store.specs.Kept.{Spool}
 use Rattle.njh_store.specs.Shelf.{shown}
 use Rattle.sqlite.specs.State.{HasCleanDisk}
@@ -24,17 +23,17 @@ IsAnother number records p = p.number ≡ number → records < p.seen
 
 -- A stream is about it, and all of its records were seen.
 abbrev pub IsSeen : CustomerSpool → KeptPartial → Type 0
-IsSeen now p = p.is_open ≡ true → (p.seen ≡ length (records_in p.number now)) × (1366 ≤ p.seen)
+IsSeen now p = p.is_open ≡ true → (p.seen ≡ length (partial_records p.number now)) × (1366 ≤ p.seen)
 
 -- behind a step: all of its records were seen, and it is not yet known whether a stream goes on with it
 pub record IsUpToDate (now : CustomerSpool) (p : KeptPartial) : Type 0 where
   pub closed : p.is_open ≡ false
-  pub seen : p.seen ≡ length (records_in p.number now)
+  pub seen : p.seen ≡ length (partial_records p.number now)
   pub many : 1366 ≤ p.seen
 
 -- Where it can be the file of its number now, records of that stand there.
 abbrev pub GoesOn : CustomerSpool → Spool → KeptPartial → Type 0
-GoesOn now spool p = p.seen ≤ length (records_in p.number now) → IsPartlyKept spool p (records_in p.number now)
+GoesOn now spool p = p.seen ≤ length (partial_records p.number now) → IsPartlyKept spool p (partial_records p.number now)
 
 -- each of a customer's
 abbrev pub AllSeen : CustomerSpool → OwnFiles → Type 0

@@ -1,13 +1,16 @@
-use Rattle.std.proofs.Common.{rules, ◌≡◌, ◌<◌, ◌++◌, [], ◌∷◌, length, map, refl, sym, ap, subst, ◌∙◌, arith}
+use Rattle.std.proofs.Common.{rules, ◌≡◌, ◌<◌, ◌++◌, true, [], ◌∷◌, length, map, string_bytes, refl, sym, ap, subst, ◌∙◌, arith}
 use Rattle.std.proofs.lemmas.List.{get_or_default, length-map, length-take, map-append, take_more}
+use Rattle.std.specs.List.{AllByRecursion}
 use Rattle.sqlite.specs.State.{HasCleanDisk}
 use Rattle.sqlite.proofs.StateLemmas.{survives_then}
 use Rattle.njh_hub.specs.WholeHub.{part}
 use Rattle.njh_store.specs.Shelf.{shown}
+use Rattle.njh_kept.specs.Opened.{is_name_of}
 use Rattle.njh_kept.specs.code.Memory.{own_of}
 use Rattle.njh_kept.specs.code.Opening.{AreRemembered, IsOwnOf, Remembering, entries, files_at, name_at}
 use Rattle.njh_kept.proofs.LeadingLaws.{leads_nothing, leads_then}
 use Rattle.njh_kept.proofs.OpeningCustomers.{none_remembered, one_more_remembered}
+use Rattle.njh_kept.proofs.PartlyLaws.{all_push}
 use Rattle.njh_kept.proofs.remembering.remember_all.Goals as goal
 
 pub names-init : goal.names-init
@@ -20,6 +23,7 @@ names-init g c =
       crash = search rules;
       writer = refl;
       names = ap (map (λ own. own.name)) none;
+      texts = subst (AllByRecursion (λ own. is_name_of (string_bytes own.text) own.name ≡ true)) (sym none) tt;
       led = λ found clean.
           leads_nothing _ at (λ s ordered rows distinct reads.
           subst (λ xs. AreRemembered names hub (map own_of xs) s s) (sym none) (none_remembered names hub s ordered));
@@ -49,6 +53,9 @@ names-preserved g c =
       names =
           ap (map (λ own. own.name)) pushed ∙ map-append (λ own. own.name) items (own ∷ [])
           ∙ (λ i. so_far.names i ++ (c.in_ok-own.ensures.own.name_is ∙ c.index-names-place.is) i ∷ []) ∙ sym (take_more names place c.index-names-place.result low);
+      texts =
+          subst (AllByRecursion (λ own. is_name_of (string_bytes own.text) own.name ≡ true)) (sym pushed)
+          (all_push (λ own. is_name_of (string_bytes own.text) own.name ≡ true) items own so_far.texts c.in_ok-own.ensures.text);
       led = λ found clean.
           let whose : IsOwnOf (name_at names (length (map own_of items))) (part (length (map own_of items)) hub).customer.spool (own_of own) =
           subst (λ n. IsOwnOf (name_at names n) (part n hub).customer.spool (own_of own)) (sym long)

@@ -1,6 +1,8 @@
-use Rattle.std.proofs.Common.{◌≡◌, map, take}
+use Rattle.std.proofs.Common.{◌≡◌, true, map, take, string_bytes}
+use Rattle.std.specs.List.{AllByRecursion}
 use Rattle.sqlite.specs.State.{HasCleanDisk, Survives}
 use Rattle.njh_store.specs.Shelf.{shown}
+use Rattle.njh_kept.specs.Opened.{is_name_of}
 use Rattle.njh_kept.specs.code.Leading.{Leads}
 use Rattle.njh_kept.specs.code.Memory.{own_of}
 use Rattle.njh_kept.specs.code.Opening.{AllAreFound, RememberingAll, entries}
@@ -15,6 +17,7 @@ invariant-names g l =
       crash : Survives old now (λ _. ⊥);
       writer : l.writer ≡ record l.fn.writer { store = l.writer.store; is_changed = l.writer.is_changed };
       names : map (λ own. own.name) l.customers.items ≡ take l.place l.names;
+      texts : AllByRecursion (λ own. is_name_of (string_bytes own.text) own.name ≡ true) l.customers.items;
       led : AllAreFound l.names l.hub → HasCleanDisk now
           → Leads (RememberingAll l.names l.hub (entries l.files) (map own_of l.customers.items)) old now;
     }

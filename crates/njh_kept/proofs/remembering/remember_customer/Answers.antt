@@ -19,6 +19,11 @@ returns-clause-own g c =
       partial = ap (λ o. map partial_of o.partial.items) others ∙ ap (map partial_of) first.4;
     }
 
+pub returns-clause-text : goal.returns-clause-text
+returns-clause-text g c =
+    let first = c.in_ok-own.ensures in
+    ap (λ o. is_name_of (string_bytes o.text) o.name) c.remember_files.ensures.others ∙ ap (is_name_of (string_bytes c.in_ok-own.own.text)) first.0 ∙ first.1
+
 pub returns-clause-led : goal.returns-clause-led
 returns-clause-led g c found clean =
     let old = shown g.S.Store c.args.writer.now.store in
