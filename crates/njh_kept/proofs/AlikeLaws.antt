@@ -20,7 +20,7 @@ pub use Rattle.njh_kept.specs.code.Alike.{AreAlike, IsAlike, is_header}
 use Rattle.njh_kept.specs.code.Mirrored.{FitsHub}
 use Rattle.njh_kept.specs.code.Remembered.{NameOneNode}
 use Rattle.njh_kept.proofs.HeaderBytes.{job_stands, length_still, node_long}
-use Rattle.njh_kept.proofs.RerouteLaws.{AreSentTo, last_decides, read_where, stands_still, under}
+use Rattle.njh_kept.proofs.RerouteLaws.{AreSentTo, last_decides, read_where, srcb_still, stands_still, under}
 
 alike_itself : (r : Stored) → IsAlike r r
 alike_itself r = record { srcb = refl; long = refl; same = λ other. refl }
@@ -75,12 +75,33 @@ module _ (node : List ℕ) (named : is_name node ≡ true) where
       (alike_record In None r (λ p there. either_header (r.srcb == 0xc0) (r.srcb == 0xe0) (inl read.0)), rest_alike r.srcb rs)
   sent_alike Out rs d is = output_alike None rs
 
+  -- the same where the destination reads now
+  sent_alike_now : (kind : Kind) (rs : List Stored) (d : User) → destination_of kind (records_to_node kind node None rs) ≡ Some d → AreAlike rs (records_to_node kind node None rs)
+  sent_alike_now In [] d is = tt
+  sent_alike_now In (r ∷ rs) d is =
+      let now : Stored = redirected_record node (destination_place In None r) r in
+      let job = under (λ (h : JobHeader). h.execution) (job_header_of (now ∷ records_to_node In node (Some r.srcb) rs)) d is in
+      let read = read_where (now.srcb == 0xc0) (job_header now.bytes) job.0 job.1 in
+      let test : (r.srcb == 0xc0) ≡ true = ap (λ n. n == 0xc0) (sym (srcb_still node (destination_place In None r) r)) ∙ read.0 in
+      (alike_record In None r (λ p there. either_header (r.srcb == 0xc0) (r.srcb == 0xe0) (inl test)), rest_alike r.srcb rs)
+  sent_alike_now Out rs d is = output_alike None rs
+
 pub rerouted_alike : (kind : Kind) (before now : List Stored) (d : User) → destination_of kind before ≡ Some d → IsRerouted kind before now → AreAlike before now
 rerouted_alike kind before now d reads rerouted = either (last_decides kind before now rerouted)
   where
     either : (now ≡ before) ⊎ AreSentTo kind before now → AreAlike before now
     either (inl same) = subst (AreAlike before) (sym same) (all_alike before)
     either (inr sent) = subst (AreAlike before) (sym sent.are) (sent_alike sent.node sent.named kind before d reads)
+
+-- so it is where the destination reads behind the last command
+pub alike_where_it_reads : (kind : Kind) (before now : List Stored) (d : User) → destination_of kind now ≡ Some d → IsRerouted kind before now → AreAlike before now
+alike_where_it_reads kind before now d reads rerouted = either (last_decides kind before now rerouted)
+  where
+    either : (now ≡ before) ⊎ AreSentTo kind before now → AreAlike before now
+    either (inl same) = subst (AreAlike before) (sym same) (all_alike before)
+    either (inr sent) =
+        subst (AreAlike before) (sym sent.are)
+        (sent_alike_now sent.node sent.named kind before d (subst (λ rs. destination_of kind rs ≡ Some d) sent.are reads))
 
 -- ---- what is read from it
 

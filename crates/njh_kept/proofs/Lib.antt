@@ -52,3 +52,5 @@ pub mod OpeningLists
 pub mod OpeningCustomers
 pub mod OpeningFiles
 pub mod BegunLaws
+pub mod GrowthLaws
+pub mod FrontLaws

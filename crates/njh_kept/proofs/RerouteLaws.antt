@@ -56,7 +56,7 @@ stands_still Out before node r p named is = at_test (has_srcb 0xe0 r && not (is_
           within = goes.within;
         }
 
-srcb_still : (node : List ℕ) (place : Option ℕ) (r : Stored) → (redirected_record node place r).srcb ≡ r.srcb
+pub srcb_still : (node : List ℕ) (place : Option ℕ) (r : Stored) → (redirected_record node place r).srcb ≡ r.srcb
 srcb_still node None r = refl
 srcb_still node (Some p) r = refl
 
