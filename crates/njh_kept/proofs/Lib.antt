@@ -54,3 +54,4 @@ pub mod OpeningFiles
 pub mod BegunLaws
 pub mod GrowthLaws
 pub mod FrontLaws
+pub mod QuietLaws

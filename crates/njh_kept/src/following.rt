@@ -11,7 +11,7 @@ ghost use Rattle.njh_store.specs.Shelf.{shown};
 ghost use Rattle.sqlite.specs.State.{HasCleanDisk, Survives};
 ghost use Rattle.njh_kept.specs.declared.own_files.KeptWhole.{KeptWhole};
 ghost use Rattle.njh_kept.specs.code.Following.{AddsRow, AreFronts, AreHubFiles, ChangesRow, GoOnIn, IsAt, IsHubFile};
-ghost use Rattle.njh_kept.specs.code.Following.{IsNext, IsReached, IsStillAt};
+ghost use Rattle.njh_kept.specs.code.Following.{IsNext, IsQuiet, IsReached, IsStillAt};
 ghost use Rattle.njh_kept.specs.code.Following.{LeadsFiles, LeadsInHand, memory_of};
 ghost use Rattle.njh_kept.specs.code.Memory.{own_of};
 ghost use Rattle.njh_kept.specs.code.Remembered.{NameOneNode};
@@ -47,6 +47,7 @@ pub(crate) fn follow<S: Alter + Drop>(
         (λ files now. now ≡ (part customer hub.now).customer.spool.whole)
         (shown S.Store writer.old.store) (shown S.Store writer.new.store)) }
     ensures arrived { OnOk result (own.new.arrived ≡ (part customer hub.now).customer.spool.arrived) }
+    ensures quiet { OnOk result (IsQuiet writer.old writer.new) }
     ensures crash { Survives (shown S.Store writer.old.store) (shown S.Store writer.new.store) (λ _. ⊥) }
 {
     files_survive();
@@ -74,6 +75,7 @@ fn follow_old<S: Alter + Drop>(
         (λ s files. Survive files (take old (part customer hub.now).customer.spool.whole) × AreNumbered files)
         (λ files now. now ≡ take old (part customer hub.now).customer.spool.whole)
         (shown S.Store writer.old.store) (shown S.Store writer.new.store)) }
+    ensures quiet { OnOk result (IsQuiet writer.old writer.new) }
     ensures crash { Survives (shown S.Store writer.old.store) (shown S.Store writer.new.store) (λ _. ⊥) }
 {
     let mut place = 0;
@@ -101,6 +103,7 @@ fn follow_at<S: Alter + Drop>(
         → OnOk result (LeadsFiles (memory_of writer.old own.old) (memory_of writer.new own.new)
         (λ s files. IsWalkedTo still files place) (λ files now. IsWalkedTo still now (place + 1))
         (shown S.Store writer.old.store) (shown S.Store writer.new.store)) }
+    ensures quiet { OnOk result (IsQuiet writer.old writer.new) }
     ensures crash { Survives (shown S.Store writer.old.store) (shown S.Store writer.new.store) (λ _. ⊥) }
 {
     let number = hub.number_at(customer, index);
@@ -129,6 +132,7 @@ fn add_new<S: Alter + Drop>(
         × AreFronts s (own_of own.old).partial (part customer hub.now).customer.spool.whole)
         (λ files now. now ≡ (part customer hub.now).customer.spool.whole)
         (shown S.Store writer.old.store) (shown S.Store writer.new.store)) }
+    ensures quiet { OnOk result (IsQuiet writer.old writer.new) }
     ensures crash { Survives (shown S.Store writer.old.store) (shown S.Store writer.new.store) (λ _. ⊥) }
 {
     let count = hub.file_count(customer);
@@ -162,6 +166,7 @@ fn drop_before<S: Alter + Drop>(
         → OnOk result (LeadsFiles (memory_of writer.old own.old) (memory_of writer.new own.new)
         (λ s files. IsWalkedTo still files place) (λ files now. IsWalkedTo still now place × IsReached number now place)
         (shown S.Store writer.old.store) (shown S.Store writer.new.store)) }
+    ensures quiet { OnOk result (IsQuiet writer.old writer.new) }
     ensures crash { Survives (shown S.Store writer.old.store) (shown S.Store writer.new.store) (λ _. ⊥) }
 {
     'whole: for _ in 0..own.whole.len() {
@@ -185,6 +190,7 @@ fn drop_at<S: Alter + Drop>(
         (λ _ _. ⊤) (λ files now. now ≡ remove files place)
         (shown S.Store writer.old.store) (shown S.Store writer.new.store)) }
     ensures memory { own.new.whole.items ≡ remove own.old.whole.items place }
+    ensures due { writer.new.is_changed ≡ true }
     ensures crash { Survives (shown S.Store writer.old.store) (shown S.Store writer.new.store) (λ _. ⊥) }
 {
     let gone = own.whole.remove(place);
@@ -206,6 +212,7 @@ fn follow_one<S: Alter + Drop>(
         (λ s files. IsStillAt files place g) (λ files now. now ≡ set files place g)
         (shown S.Store writer.old.store) (shown S.Store writer.new.store)) }
     ensures long { length own.new.whole.items ≡ length own.old.whole.items }
+    ensures quiet { OnOk result (IsQuiet writer.old writer.new) }
     ensures crash { Survives (shown S.Store writer.old.store) (shown S.Store writer.new.store) (λ _. ⊥) }
 {
     let kept = own.whole[place];
@@ -235,6 +242,7 @@ fn rewrite_one<S: Alter + Drop>(
         (λ s files. IsStillAt files place g) (λ files now. now ≡ set files place g)
         (shown S.Store writer.old.store) (shown S.Store writer.new.store)) }
     ensures long { length own.new.whole.items ≡ length own.old.whole.items }
+    ensures due { OnOk result (writer.new.is_changed ≡ true) }
     ensures crash { Survives (shown S.Store writer.old.store) (shown S.Store writer.new.store) (λ _. ⊥) }
 {
     let kept = own.whole[place];
@@ -268,6 +276,7 @@ fn change_state<S: Alter + Drop>(
         (λ s files. IsStillAt files place g) (λ files now. now ≡ set files place g)
         (shown S.Store writer.old.store) (shown S.Store writer.new.store)) }
     ensures long { length own.new.whole.items ≡ length own.old.whole.items }
+    ensures quiet { OnOk result (IsQuiet writer.old writer.new) }
     ensures crash { Survives (shown S.Store writer.old.store) (shown S.Store writer.new.store) (λ _. ⊥) }
 {
     let kept = own.whole[place];
@@ -303,6 +312,7 @@ pub(crate) fn change_row<S: Alter + Drop>(
         (shown S.Store writer.old.store) (shown S.Store writer.new.store)) }
     ensures others { writer.new
         ≡ record writer.old { store = writer.new.store; is_changed = writer.new.is_changed } }
+    ensures due { OnOk result (writer.new.is_changed ≡ true) }
     ensures crash { Survives (shown S.Store writer.old.store) (shown S.Store writer.new.store) (λ _. ⊥) }
 {
     let row = row_of(
@@ -342,6 +352,7 @@ fn add_one<S: Alter + Drop>(
         → OnOk result (LeadsFiles (memory_of writer.old own.old) (memory_of writer.new own.new)
         (λ s files. AreFronts s (own_of own.old).partial (g ∷ [])) (λ files now. now ≡ files ++ g ∷ [])
         (shown S.Store writer.old.store) (shown S.Store writer.new.store)) }
+    ensures due { OnOk result (writer.new.is_changed ≡ true) }
     ensures crash { Survives (shown S.Store writer.old.store) (shown S.Store writer.new.store) (λ _. ⊥) }
 {
     let place = place_for(writer, own, file.number, summary.records)?;
@@ -397,6 +408,7 @@ fn add_row<S: Alter + Drop>(
         → HasCleanDisk (shown S.Store writer.new.store) → OnOk result (AddsRow key summary.now g
         (memory_of writer.old own.old) (memory_of writer.new own.new)
         (shown S.Store writer.old.store) (shown S.Store writer.new.store)) }
+    ensures due { OnOk result (writer.new.is_changed ≡ true) }
     ensures crash { Survives (shown S.Store writer.old.store) (shown S.Store writer.new.store) (λ _. ⊥) }
 {
     let looked_at = file;

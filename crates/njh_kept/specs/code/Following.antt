@@ -1,5 +1,5 @@
 -- What calls of the keeper make of a customer's whole files on a spool file.
-use Rattle.std.specs.Prelude.{◌≡◌, ℕ, ◌+◌, ◌<◌, ◌≤◌, true, List, [], ◌∷◌, ◌++◌, length, get_or, take, string_bytes}
+use Rattle.std.specs.Prelude.{◌≡◌, ℕ, ◌+◌, ◌<◌, ◌≤◌, true, false, List, [], ◌∷◌, ◌++◌, length, get_or, take, string_bytes}
 use Rattle.std.specs.Prelude.{Option, Some, None}
 use Rattle.std.specs.List.{AllByRecursion}
 use Rattle.sqlite.specs.State.{State}
@@ -190,3 +190,9 @@ pub record GoOnIn (arrived : ℕ) (files : List WholeFile) (now : Customer) : Ty
   pub numbered : AreNumbered files
   pub goes : now.spool.arrived < max_arrived
       → FilesGoOn (record (outgoing now) { files = files; arrived = arrived }) (outgoing now)
+
+-- ---- where nothing is written
+
+-- Where no whole file has changed since the last commit, none had before either, and the spool file is as it was.
+abbrev pub IsQuiet : {S : Type 0} → spool_writer.SpoolWriter S → spool_writer.SpoolWriter S → Type 0
+IsQuiet old new = new.is_changed ≡ false → (old.is_changed ≡ false) × (new.store ≡ old.store)

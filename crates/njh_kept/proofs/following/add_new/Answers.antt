@@ -10,6 +10,7 @@ use Rattle.njh_kept.specs.code.Following.{memory_of}
 use Rattle.njh_kept.proofs.FollowingLaws.{goes_nowhere}
 use Rattle.njh_kept.proofs.LeadingLaws.{leads_nothing, leads_weaker}
 use Rattle.njh_kept.proofs.NewFilesLaws.{added_further, any_file, hub_file_at, is_at}
+use Rattle.njh_kept.proofs.QuietLaws.{quiet_changed, quiet_same, quiet_then}
 use Rattle.njh_kept.proofs.following.add_new.Goals as goal
 
 pub new-init : goal.new-init
@@ -19,6 +20,7 @@ new-init g c =
     record {
       crash = search rules;
       led = λ hub_files clean. leads_nothing _ at (λ s files has given. (files, given.0, goes_nowhere m s files has));
+      quiet = quiet_same c.args.writer.now;
     }
 
 pub new-preserved : goal.new-preserved
@@ -44,6 +46,7 @@ new-preserved g c =
       led = λ hub_files clean.
           let hub_file = hub_file_at parts (record { customer = c.args.customer; number = number }) c.summary_at-summary.result index f hub_files c.summary_at-summary.ensures.headers here number_is summary_is in
           added_further m m1 m2 old mid new whole c.args.old index f here (c.new.invariant.led hub_files (early clean)) (c.in_ok-add_one.ensures.led f hub_file clean);
+      quiet = quiet_then c.args.writer.now c.new.writer c.add_one.new.writer c.new.invariant.quiet (quiet_changed c.new.writer c.add_one.new.writer c.in_ok-add_one.ensures.due);
     }
 
 pub returns-clause-led : goal.returns-clause-led
@@ -56,3 +59,6 @@ returns-clause-led g c hub_files clean =
     let a = led files has given in
     (a.0, a.1 ∙ take_all c.new.index whole (omega (arith, c.new-test.false, c.file_count-count.ensures)), a.2))
     (c.new.invariant.led hub_files clean)
+
+pub returns-clause-quiet : goal.returns-clause-quiet
+returns-clause-quiet g c = c.new.invariant.quiet

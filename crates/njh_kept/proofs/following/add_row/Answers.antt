@@ -9,6 +9,7 @@ use Rattle.njh_kept.specs.declared.own_files.KeptWhole as declared
 use Rattle.njh_kept.specs.declared.writer.SpoolWriter.{SpoolWriter}
 use Rattle.njh_kept.specs.code.Following.{IsRowFor, memory_of}
 use Rattle.njh_kept.specs.code.Memory.{numbers_of, whole_of}
+use Rattle.njh_hub.proofs.KeepingLaws.{on_ok}
 use Rattle.njh_kept.proofs.following.add_row.Goals as goal
 
 pub returns-clause-added : goal.returns-clause-added
@@ -50,3 +51,6 @@ returns-clause-added g c f hub_file clean =
       changes = subst (λ x. Changes (with_file now.id row) x new) before changed;
     })
     (c.add_file-added.ensures.changed clean)
+
+pub returns-clause-due : goal.returns-clause-due
+returns-clause-due g c = on_ok c.add_file-added.result (ap (λ (x : SpoolWriter g.row.S.Denot). x.is_changed) c.add_file-added.ensures.others)

@@ -11,6 +11,7 @@ use Rattle.njh_kept.specs.code.Nodes.{AreOne, named_nodes}
 use Rattle.njh_kept.specs.declared.writer.SpoolWriter.{SpoolWriter}
 use Rattle.njh_kept.proofs.LeadingLaws.{leads_by, leads_nothing, leads_weaker}
 use Rattle.njh_kept.proofs.StillLaws.{held_goes, kept_goes, memory_changed, now_kept}
+use Rattle.njh_kept.proofs.QuietLaws.{quiet_changed, quiet_same}
 use Rattle.njh_kept.proofs.following.change_state.Goals.{then-changes_hold+in_ok-change_row, else-changes_hold}
 use Rattle.njh_kept.proofs.following.change_state.Goals as goal
 
@@ -60,4 +61,11 @@ returns-clause-led g c f hub_file kept kept_is said several clean =
             subst (λ x. GoesTo m x s s (set files i f)) (sym led)
                 (kept_goes m i k there is f summary hub_file.summary_is hub_file.headers s files has before said_first several_first held),
           )))
+    ]
+
+pub returns-clause-quiet : goal.returns-clause-quiet
+returns-clause-quiet g c =
+    elim c.if-changes_hold.branch [
+      | then-changes_hold+in_ok-change_row w ↦ rw w.writer-is (quiet_changed c.args.writer.now w.change_row.new.writer w.in_ok-change_row.ensures.due)
+      | else-changes_hold w ↦ rw w.writer-is (quiet_same c.args.writer.now)
     ]

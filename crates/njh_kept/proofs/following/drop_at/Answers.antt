@@ -8,6 +8,7 @@ use Rattle.njh_kept.specs.code.Memory.{numbers_of, sweep_in, whole_of}
 use Rattle.njh_kept.specs.code.Writing.{sweep_of}
 use Rattle.njh_kept.proofs.FollowingLaws.{file_goes, map-remove, memory_without, ok_both}
 use Rattle.njh_kept.proofs.LeadingLaws.{leads_by, leads_weaker}
+use Rattle.njh_kept.specs.declared.writer.SpoolWriter.{SpoolWriter}
 use Rattle.njh_kept.proofs.following.drop_at.Goals as goal
 
 pub returns-clause-led : goal.returns-clause-led
@@ -38,3 +39,6 @@ returns-clause-led g c clean =
     (remove files i, refl, subst (λ u. GoesTo m (memory_without m i k sweep there is refl) s u (remove files i)) (sym same) (file_goes m i k sweep there is refl s files has)))
     (leads_by (without_file gone.id) old new changed)))
     (c.drop_file.ensures.changed clean) c.drop_file.ensures.later
+
+pub returns-clause-due : goal.returns-clause-due
+returns-clause-due g c = ap (λ (x : SpoolWriter g.row.S.Denot). x.is_changed) c.drop_file.ensures.others

@@ -10,6 +10,7 @@ use Rattle.njh_kept.specs.code.Walking.{IsWalkedTo}
 use Rattle.njh_kept.proofs.FollowingLaws.{goes_nowhere, goes_then}
 use Rattle.njh_kept.proofs.LeadingLaws.{leads_nothing, leads_then, leads_weaker}
 use Rattle.njh_kept.proofs.WalkedLaws.{is_another, is_that, passed_here, reached_at_end, reached_here}
+use Rattle.njh_kept.proofs.QuietLaws.{quiet_changed, quiet_same}
 use Rattle.njh_kept.proofs.following.drop_before.Goals.{then-place-len-via-then-place-len, then-place-len-via-else-place-len+then-eq}
 use Rattle.njh_kept.proofs.following.drop_before.Goals as goal
 
@@ -21,6 +22,7 @@ whole-init g c =
       crash = search rules;
       led = λ still next clean. leads_nothing _ at (λ s files has walk. (files, walk, goes_nowhere m s files has));
       fewer = omega arith;
+      quiet = quiet_same c.args.writer.now;
     }
 
 pub whole-preserved : goal.whole-preserved
@@ -48,6 +50,7 @@ whole-preserved g c =
           let other : c.args.number ≡ Some k.number → ⊥ = is_another k.number c.args.number (sym c.if-eq.ensures) in
           (two.0, subst (λ now. IsWalkedTo still now place) (sym two.1) (passed_here m1 t one.0 one.2.has place k there is c.args.number still next one.1 other), goes_then m m1 m2 s t u one.0 two.0 one.2 two.2));
       fewer = let less = length-remove items place low in let now = ap length c.drop_at.ensures.memory in omega (arith, c.whole.invariant.fewer, less, now);
+      quiet = quiet_changed c.args.writer.now c.drop_at.new.writer c.drop_at.ensures.due;
     }
 
 pub returns-then-place-len-clause-led : goal.returns-then-place-len-clause-led
@@ -92,3 +95,9 @@ returns-clause-led g c still next clean =
     let one = first files has walk in
     (one.0, (one.1, reached_at_end m1 t one.0 one.2.has c.args.number still place next one.1 (omega (arith, long, fewer, c.whole-test.false, c.len-end.ensures))), one.2))
     (c.whole.invariant.led still next clean)
+
+pub returns-then-place-len-clause-quiet : goal.returns-then-place-len-clause-quiet
+returns-then-place-len-clause-quiet g c = c.whole.invariant.quiet
+
+pub returns-clause-quiet : goal.returns-clause-quiet
+returns-clause-quiet g c = c.whole.invariant.quiet

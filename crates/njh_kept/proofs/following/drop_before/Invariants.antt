@@ -2,7 +2,7 @@ use Rattle.std.proofs.Common.{◌+◌, ◌≤◌, List, length}
 use Rattle.sqlite.specs.State.{HasCleanDisk, Survives}
 use Rattle.njh_spool.specs.CustomerSpool.{WholeFile}
 use Rattle.njh_store.specs.Shelf.{shown}
-use Rattle.njh_kept.specs.code.Following.{IsNext, LeadsFiles, memory_of}
+use Rattle.njh_kept.specs.code.Following.{IsNext, IsQuiet, LeadsFiles, memory_of}
 use Rattle.njh_kept.specs.code.Walking.{IsWalkedTo}
 use Rattle.njh_kept.proofs.following.drop_before.Given as goal
 
@@ -16,4 +16,5 @@ invariant-whole g l =
       led : (still : List WholeFile) → IsNext l.number still l.place → HasCleanDisk now
           → LeadsFiles (memory_of l.fn.writer l.fn.own) (memory_of l.writer l.own) (λ s files. IsWalkedTo still files l.place) (λ files here. IsWalkedTo still here l.place) old now;
       fewer : length l.own.whole.items + l.counter ≤ length l.fn.own.whole.items;
+      quiet : IsQuiet l.fn.writer l.writer;
     }

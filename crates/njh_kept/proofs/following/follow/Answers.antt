@@ -4,6 +4,7 @@ use Rattle.njh_hub.specs.WholeHub.{part}
 use Rattle.njh_store.specs.Shelf.{shown}
 use Rattle.njh_kept.specs.code.Following.{memory_of}
 use Rattle.njh_kept.proofs.NewFilesLaws.{first_survive, followed_all}
+use Rattle.njh_kept.proofs.QuietLaws.{quiet_then}
 use Rattle.njh_kept.proofs.following.follow.Goals as goal
 
 pub returns-clause-led : goal.returns-clause-led
@@ -26,3 +27,6 @@ returns-clause-led g c hub_files clean =
     first_survive c.files_survive.ensures.first customer files c.args.own.now.arrived count new_files old c.file_count-count.ensures c.file_count-count.type_inv (omega (arith, is, c.arrived-arrived.type_inv))
     (λ all. c.new_files.ensures.all (is ∙ all)) (λ less. omega (arith, is, less, c.new_files.ensures.some (omega (arith, is, less)))) (omega (arith, c.saturating_sub-old.ensures)) go_on)
     (c.in_ok-follow_old.ensures.led hub_files early) (c.in_ok-add_new.ensures.led hub_files clean)
+
+pub returns-clause-quiet : goal.returns-clause-quiet
+returns-clause-quiet g c = quiet_then c.args.writer.now c.follow_old.new.writer c.add_new.new.writer c.in_ok-follow_old.ensures.quiet c.in_ok-add_new.ensures.quiet

@@ -8,6 +8,7 @@ use Rattle.njh_store.proofs.ReadingLaws.{ok_then}
 use Rattle.njh_store.specs.Shelf.{shown}
 use Rattle.njh_kept.specs.code.Following.{memory_of}
 use Rattle.njh_kept.proofs.NewFilesLaws.{hub_file_at, walked_on}
+use Rattle.njh_kept.proofs.QuietLaws.{quiet_then}
 use Rattle.njh_kept.proofs.following.follow_at.Goals as goal
 
 pub returns-clause-led : goal.returns-clause-led
@@ -30,3 +31,7 @@ returns-clause-led g c still f hub_files here next clean =
     walked_on m m1 m2 old mid new still c.args.place number f next number_is
     (c.in_ok-drop_before.ensures.led still (record { file = f; there = next.there; is = next.is; number_is = sym number_is }) early) more)
     (c.follow_one.ensures.led f hub_file clean)
+
+pub returns-clause-quiet : goal.returns-clause-quiet
+returns-clause-quiet g c =
+    ok_then c.follow_one.result _ _ (quiet_then c.args.writer.now c.drop_before.new.writer c.follow_one.new.writer c.in_ok-drop_before.ensures.quiet) c.follow_one.ensures.quiet

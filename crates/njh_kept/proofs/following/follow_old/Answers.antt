@@ -11,6 +11,7 @@ use Rattle.njh_kept.proofs.FollowingLaws.{goes_nowhere}
 use Rattle.njh_kept.proofs.LeadingLaws.{leads_nothing}
 use Rattle.njh_kept.proofs.NewFilesLaws.{any_file, is_at, is_at_of_first, walked_further, walked_to_end}
 use Rattle.njh_kept.proofs.WalkLaws.{walk_begins}
+use Rattle.njh_kept.proofs.QuietLaws.{quiet_same, quiet_then}
 use Rattle.njh_kept.proofs.following.follow_old.Goals as goal
 
 pub old-init : goal.old-init
@@ -22,6 +23,7 @@ old-init g c =
       crash = search rules;
       place = refl;
       led = λ hub_files clean. leads_nothing _ at (λ s files has given. (files, walk_begins still files given.0 given.1, goes_nowhere m s files has));
+      quiet = quiet_same c.args.writer.now;
     }
 
 pub old-preserved : goal.old-preserved
@@ -48,6 +50,7 @@ old-preserved g c =
           walked_further m m1 m2 first mid new _ still index (c.old.invariant.led hub_files (early clean))
           (subst (λ n. LeadsFiles m1 m2 (λ s files. IsWalkedTo still files n) (λ files now. IsWalkedTo still now (n + 1)) mid new) place
           (c.in_ok-follow_at.ensures.led still f hub_files here (subst (λ n. IsAt still n f) (sym place) next) clean));
+      quiet = quiet_then c.args.writer.now c.old.writer c.follow_at.new.writer c.old.invariant.quiet c.in_ok-follow_at.ensures.quiet;
     }
 
 pub returns-clause-led : goal.returns-clause-led
@@ -70,3 +73,7 @@ returns-clause-led g c hub_files clean =
     walked_to_end m m1 m2 first mid new _ still index last (c.old.invariant.led hub_files early)
     (subst (λ n. LeadsFiles m1 m2 (λ s files. IsWalkedTo still files n) (λ files now. IsWalkedTo still now n × IsReached None now n) mid new) place more))
     (c.drop_before.ensures.led still (subst (λ n. length still ≤ n) (sym place) last) clean)
+
+pub returns-clause-quiet : goal.returns-clause-quiet
+returns-clause-quiet g c =
+    ok_then c.drop_before.result _ _ (quiet_then c.args.writer.now c.old.writer c.drop_before.new.writer c.old.invariant.quiet) c.drop_before.ensures.quiet

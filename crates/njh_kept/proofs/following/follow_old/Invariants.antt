@@ -3,7 +3,7 @@ use Rattle.sqlite.specs.State.{HasCleanDisk, Survives}
 use Rattle.njh_customer.specs.Surviving.{Survive}
 use Rattle.njh_hub.specs.WholeHub.{part}
 use Rattle.njh_store.specs.Shelf.{shown}
-use Rattle.njh_kept.specs.code.Following.{AreHubFiles, LeadsFiles, memory_of}
+use Rattle.njh_kept.specs.code.Following.{AreHubFiles, IsQuiet, LeadsFiles, memory_of}
 use Rattle.njh_kept.specs.code.Walking.{AreNumbered, IsWalkedTo}
 use Rattle.njh_kept.proofs.following.follow_old.Given as goal
 
@@ -19,4 +19,5 @@ invariant-old g l =
       led : AreHubFiles whole → HasCleanDisk now
           → LeadsFiles (memory_of l.fn.writer l.fn.own) (memory_of l.writer l.own) (λ s files. Survive files (take l.old whole) × AreNumbered files)
           (λ files here. IsWalkedTo (take l.old whole) here l.index) first now;
+      quiet : IsQuiet l.fn.writer l.writer;
     }
