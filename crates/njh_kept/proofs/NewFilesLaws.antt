@@ -20,8 +20,7 @@ use Rattle.njh_hub.specs.declared.file_summary.FileSummaryView.{FileSummaryView}
 use Rattle.njh_customer.specs.Surviving.{FirstFilesSurvive, Survive, leaves, none}
 use Rattle.njh_customer.specs.Customer.{Customer}
 use Rattle.njh_customer.specs.OutgoingFiles.{outgoing}
-use Rattle.njh_kept.specs.code.Following.{AreFronts, AreHubFiles, GoesTo, GoOnIn, IsAt, IsFoundAt, IsFrontOf, IsHubFile, IsReached, IsStillAt, LeadsFiles, Memory, Remain}
-use Rattle.njh_kept.specs.code.Mirrored.{FitsHub}
+use Rattle.njh_kept.specs.code.Following.{AreFronts, GoesTo, GoOnIn, IsAt, IsFoundAt, IsFrontOf, IsHubFile, IsReached, IsStillAt, LeadsFiles, Memory, Remain}
 use Rattle.njh_kept.specs.declared.own_files.HubFile.{HubFile}
 use Rattle.njh_kept.specs.code.Remembered.{KeptPartial, one_if}
 use Rattle.njh_kept.specs.code.Walking.{AreNumbered, IsWalkedTo}
@@ -99,15 +98,14 @@ abbrev pub any_file : WholeFile
 any_file = record { number = 0; kind = In; records = []; state = Ready }
 
 pub hub_file_at : (parts : List Part) (file : HubFile) (summary : FileSummaryView) (index : ℕ) (f : WholeFile) → let s = (part file.customer parts).customer.spool in
-    AreHubFiles s.whole → HaveHeaders s.whole → IsAt s.whole index f → file.number ≡ f.number → summary ≡ file_summary f → IsHubFile parts file summary f
-hub_file_at parts file summary index f hub_files headers here number summary_is =
+    AreNumbered s.whole → HaveHeaders s.whole → IsAt s.whole index f → file.number ≡ f.number → summary ≡ file_summary f → IsHubFile parts file summary f
+hub_file_at parts file summary index f numbered headers here number summary_is =
     let s = (part file.customer parts).customer.spool in
     record {
       summary_is = summary_is;
       number_is = number;
-      records_are = ap (λ n. records_in n s) number ∙ records_at s index f hub_files.numbered here.there here.is;
+      records_are = ap (λ n. records_in n s) number ∙ records_at s index f numbered here.there here.is;
       headers = subst (λ x. HasHeaders x.kind x.records) (sym here.is) (headers index f here.there);
-      fits = subst (λ x. AllByRecursion FitsHub x.records) (sym here.is) (All-from_recursion (λ (x : WholeFile). AllByRecursion FitsHub x.records) s.whole hub_files.fit index f here.there);
     }
 
 pub is_at : (files : List WholeFile) (i : ℕ) → i < length files → IsAt files i (get_or files i any_file)

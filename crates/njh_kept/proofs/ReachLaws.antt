@@ -1,5 +1,6 @@
 -- The records of a hub's file are gone through, and what of them stands on a spool file.
 use Rattle.std.proofs.Common.{◌≡◌, ℕ, zero, suc, ◌+◌, ◌^◌, ◌<◌, ◌≤◌, false, List, [], ◌∷◌, ◌++◌, length, get_or, take, drop, slice_get, Option, Some, None, refl, sym, ap, subst, ◌∙◌, arith}
+use Rattle.std.specs.List.{AllByRecursion}
 use Rattle.std.proofs.lemmas.List.{drop-drop, length-take-le, take-append-drop, take-take, take_all}
 use Rattle.sqlite.specs.State.{State}
 use Rattle.njh_record.specs.Stored.{Stored}
@@ -10,7 +11,7 @@ use Rattle.njh_store.specs.Kept.{Record, Spool, with_record, without_records}
 use Rattle.njh_store.specs.Steps.{Changes}
 use Rattle.njh_kept.specs.code.Alike.{AreAlike, Finishes, Rewrites, WritesFrom, is_header}
 use Rattle.njh_kept.specs.code.Leading.{Leads}
-use Rattle.njh_kept.specs.code.Mirrored.{HasRecords, IsOrdered, WritesUnder, records_midway, stored_of}
+use Rattle.njh_kept.specs.code.Mirrored.{FitsHub, HasRecords, IsOrdered, WritesUnder, records_midway, stored_of}
 use Rattle.njh_kept.specs.code.Writing.{with_replaced}
 use Rattle.njh_kept.specs.declared.writer.SpoolWriter.{SpoolWriter}
 use Rattle.njh_kept.proofs.AlikeLaws.{all_alike, alike_long}
@@ -30,6 +31,19 @@ pub none_is_left : (all : List Stored) (at : ℕ) → None ≡ slice_get (drop a
 none_is_left [] at is = omega arith
 none_is_left (x ∷ xs) zero is = absurd (cc is)
 none_is_left (x ∷ xs) (suc at) is = let past = none_is_left xs at is in omega (arith, past)
+
+next_fits : (all : List Stored) (at : ℕ) (r : Stored) → at < length all → r ≡ get_or all at r → FitsHub r → AllByRecursion FitsHub (take at all)
+    → AllByRecursion FitsHub (take (suc at) all)
+next_fits [] at r there is fits so_far = absurd (omega (arith, there))
+next_fits (x ∷ xs) zero r there is fits so_far = (subst FitsHub is fits, tt)
+next_fits (x ∷ xs) (suc at) r there is fits so_far = (so_far.0, next_fits xs at r (omega (arith, there)) is fits so_far.1)
+
+-- so many fit, and then one more
+pub one_more_fits : (all : List Stored) (at : ℕ) (r : Stored) → at < length all → r ≡ get_or all at r → FitsHub r → AllByRecursion FitsHub (take at all)
+    → AllByRecursion FitsHub (take (at + 1) all)
+one_more_fits all at r there is fits so_far =
+    let one : suc at ≡ at + 1 = omega arith in
+    subst (λ n. AllByRecursion FitsHub (take n all)) one (next_fits all at r there is fits so_far)
 
 pub one_fewer_left : (all : List Stored) (at : ℕ) → drop 1 (drop at all) ≡ drop (at + 1) all
 one_fewer_left all at = drop-drop 1 at all

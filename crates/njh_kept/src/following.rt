@@ -10,7 +10,7 @@ ghost use Rattle.njh_spool.specs.CustomerSpool.{WholeFile, max_arrived};
 ghost use Rattle.njh_store.specs.Shelf.{shown};
 ghost use Rattle.sqlite.specs.State.{HasCleanDisk, Survives};
 ghost use Rattle.njh_kept.specs.declared.own_files.KeptWhole.{KeptWhole};
-ghost use Rattle.njh_kept.specs.code.Following.{AddsRow, AreFronts, AreHubFiles, ChangesRow, GoOnIn, IsAt, IsHubFile};
+ghost use Rattle.njh_kept.specs.code.Following.{AddsRow, AreFronts, ChangesRow, GoOnIn, IsAt, IsHubFile};
 ghost use Rattle.njh_kept.specs.code.Following.{IsNext, IsQuiet, IsReached, IsStillAt};
 ghost use Rattle.njh_kept.specs.code.Following.{LeadsFiles, LeadsInHand, memory_of};
 ghost use Rattle.njh_kept.specs.code.Memory.{own_of};
@@ -39,7 +39,7 @@ pub(crate) fn follow<S: Alter + Drop>(
     hub: &Hub,
     customer: u16,
 ) -> Result<(), Error>
-    ensures led { AreHubFiles (part customer hub.now).customer.spool.whole
+    ensures led { AreNumbered (part customer hub.now).customer.spool.whole
         → HasCleanDisk (shown S.Store writer.new.store)
         → OnOk result (LeadsFiles (memory_of writer.old own.old) (memory_of writer.new own.new)
         (λ s files. GoOnIn own.old.arrived files (part customer hub.now).customer
@@ -69,7 +69,7 @@ fn follow_old<S: Alter + Drop>(
     old: u32,
 ) -> Result<(), Error>
     requires { old ≤ length (part customer hub.now).customer.spool.whole }
-    ensures led { AreHubFiles (part customer hub.now).customer.spool.whole
+    ensures led { AreNumbered (part customer hub.now).customer.spool.whole
         → HasCleanDisk (shown S.Store writer.new.store)
         → OnOk result (LeadsFiles (memory_of writer.old own.old) (memory_of writer.new own.new)
         (λ s files. Survive files (take old (part customer hub.now).customer.spool.whole) × AreNumbered files)
@@ -97,7 +97,7 @@ fn follow_at<S: Alter + Drop>(
 ) -> Result<(), Error>
     requires { index < length (part customer hub.now).customer.spool.whole }
     ensures led { (still : List WholeFile) → (f : WholeFile)
-        → AreHubFiles (part customer hub.now).customer.spool.whole
+        → AreNumbered (part customer hub.now).customer.spool.whole
         → IsAt (part customer hub.now).customer.spool.whole index f → IsAt still place f
         → HasCleanDisk (shown S.Store writer.new.store)
         → OnOk result (LeadsFiles (memory_of writer.old own.old) (memory_of writer.new own.new)
@@ -125,7 +125,7 @@ fn add_new<S: Alter + Drop>(
     old: u32,
 ) -> Result<(), Error>
     requires { old ≤ length (part customer hub.now).customer.spool.whole }
-    ensures led { AreHubFiles (part customer hub.now).customer.spool.whole
+    ensures led { AreNumbered (part customer hub.now).customer.spool.whole
         → HasCleanDisk (shown S.Store writer.new.store)
         → OnOk result (LeadsFiles (memory_of writer.old own.old) (memory_of writer.new own.new)
         (λ s files. (files ≡ take old (part customer hub.now).customer.spool.whole)

@@ -1,12 +1,14 @@
 //! The records of a hub's file, as they are written into a spool file.
 
 ghost use Rattle.std.specs.Prelude.{◌≡◌, ◌≤◌, ◌<◌, ◌^◌, true, false, [], length, IsSome, OnOk, Some, None};
+ghost use Rattle.std.specs.List.{AllByRecursion};
 ghost use Rattle.sqlite.specs.State.{HasCleanDisk, Survives};
 ghost use Rattle.njh_stream.specs.SpoolFiles.{records_in};
 ghost use Rattle.njh_hub.specs.WholeHub.{part};
 ghost use Rattle.njh_store.specs.Shelf.{shown};
 ghost use Rattle.njh_kept.specs.code.Alike.{Finishes, Rewrites, WritesFrom, is_header};
 ghost use Rattle.njh_kept.specs.code.Leading.{Leads};
+ghost use Rattle.njh_kept.specs.code.Mirrored.{FitsHub};
 ghost use Rattle.njh_kept.specs.code.Nodes.{AreOne, named_node, named_nodes, with_first};
 
 use crate::own_files::HubFile;
@@ -70,6 +72,8 @@ pub(crate) fn finish_records<S: Alter + Drop>(
     ensures led { HasCleanDisk (shown S.Store writer.new.store) → OnOk result (Leads (Finishes key written
         (records_in file.number (part file.customer hub.now).customer.spool))
         (shown S.Store writer.old.store) (shown S.Store writer.new.store)) }
+    ensures fit { OnOk result (AllByRecursion FitsHub
+        (records_in file.number (part file.customer hub.now).customer.spool)) }
     ensures others { OnOk result (writer.new
         ≡ record writer.old { store = writer.new.store; waiting = writer.new.waiting }) }
     ensures crash { Survives (shown S.Store writer.old.store) (shown S.Store writer.new.store) (λ _. ⊥) }

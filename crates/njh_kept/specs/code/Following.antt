@@ -21,7 +21,7 @@ use Rattle.njh_kept.specs.declared.own_files.OwnFiles as own_files
 use Rattle.njh_kept.specs.declared.writer.SpoolWriter as spool_writer
 use Rattle.njh_kept.specs.code.Leading.{Leads}
 use Rattle.njh_kept.specs.code.Memory.{numbers_of, own_of}
-use Rattle.njh_kept.specs.code.Mirrored.{FitsHub, HasRecords, IsOrdered}
+use Rattle.njh_kept.specs.code.Mirrored.{HasRecords, IsOrdered}
 use Rattle.njh_kept.specs.code.Remembered.{AreApart, AreBelow, Claim, IsRowOf, KeptPartial, KeptWhole, Mirrored, Moves}
 use Rattle.njh_kept.specs.code.Remembered.{Numbers, OwnFiles, Remembers, claim, with_key}
 use Rattle.njh_kept.specs.code.Alike.{AreAlike}
@@ -113,7 +113,6 @@ pub record IsHubFile (hub : List Part) (file : HubFile) (summary : FileSummaryVi
   pub number_is : file.number ≡ g.number
   pub records_are : records_in file.number (part file.customer hub).customer.spool ≡ g.records
   pub headers : HasHeaders g.kind g.records
-  pub fits : AllByRecursion FitsHub g.records
 
 -- the file at the place is this one now
 pub record IsStillAt (files : List WholeFile) (place : ℕ) (now : WholeFile) : Type 0 where
@@ -173,11 +172,6 @@ LeadsInHand key written g m m' old new =
     → IsInHand key written m m' s t files g.records) old new
 
 -- ---- all of a hub's files
-
--- no two whole files of a customer have one number, and each record can be given back
-pub record AreHubFiles (files : List WholeFile) : Type 0 where
-  pub numbered : AreNumbered files
-  pub fit : AllByRecursion (λ f. AllByRecursion FitsHub f.records) files
 
 -- this is the file at the place
 pub record IsAt (files : List WholeFile) (place : ℕ) (file : WholeFile) : Type 0 where

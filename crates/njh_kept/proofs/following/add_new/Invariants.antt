@@ -2,8 +2,9 @@ use Rattle.std.proofs.Common.{◌≡◌, take}
 use Rattle.sqlite.specs.State.{HasCleanDisk, Survives}
 use Rattle.njh_hub.specs.WholeHub.{part}
 use Rattle.njh_store.specs.Shelf.{shown}
-use Rattle.njh_kept.specs.code.Following.{AreFronts, AreHubFiles, IsQuiet, LeadsFiles, memory_of}
+use Rattle.njh_kept.specs.code.Following.{AreFronts, IsQuiet, LeadsFiles, memory_of}
 use Rattle.njh_kept.specs.code.Memory.{own_of}
+use Rattle.njh_kept.specs.code.Walking.{AreNumbered}
 use Rattle.njh_kept.proofs.following.add_new.Given as goal
 
 -- so many files are there
@@ -14,7 +15,7 @@ invariant-new g l =
     let whole = (part l.customer l.hub).customer.spool.whole in
     record {
       crash : Survives first now (λ _. ⊥);
-      led : AreHubFiles whole → HasCleanDisk now
+      led : AreNumbered whole → HasCleanDisk now
           → LeadsFiles (memory_of l.fn.writer l.fn.own) (memory_of l.writer l.own) (λ s files. (files ≡ take l.old whole) × AreFronts s (own_of l.fn.own).partial whole)
           (λ files here. here ≡ take l.index whole) first now;
       quiet : IsQuiet l.fn.writer l.writer;

@@ -1,4 +1,5 @@
 use Rattle.std.proofs.Common.{◌≡◌, ap, subst, arith}
+use Rattle.std.specs.List.{AllByRecursion}
 use Rattle.sqlite.specs.State.{HasCleanDisk}
 use Rattle.njh_hub.specs.declared.file_summary.FileSummaryView.{FileSummaryView}
 use Rattle.njh_store.proofs.ReadingLaws.{ok_then}
@@ -7,6 +8,7 @@ use Rattle.njh_kept.specs.code.Alike.{Finishes}
 use Rattle.njh_kept.specs.code.Following.{AddsRow, memory_of}
 use Rattle.njh_kept.specs.code.Leading.{Leads}
 use Rattle.njh_kept.specs.code.Memory.{numbers_of}
+use Rattle.njh_kept.specs.code.Mirrored.{FitsHub}
 use Rattle.njh_kept.proofs.HandLaws.{add_leads}
 use Rattle.njh_kept.proofs.following.add_one.Goals as goal
 
@@ -27,8 +29,9 @@ returns-clause-led g c f hub_file clean =
     let place = c.in_ok-place.place in
     let hand = c.in_ok-place.ensures.led f hub_file.number_is (ap (λ (x : FileSummaryView). x.records) hub_file.summary_is) early in
     let finish = subst (λ rs. Leads (Finishes place.key place.written rs) mid mid2) hub_file.records_are (c.in_ok-finish_records.ensures.led later) in
+    let fits = subst (AllByRecursion FitsHub) hub_file.records_are c.in_ok-finish_records.ensures.fit in
     ok_then c.add_row.result _ _
     (λ row.
-    add_leads m m1 f place.key place.written m2 summary old mid mid2 new hub_file.summary_is hub_file.headers hub_file.fits hand finish
+    add_leads m m1 f place.key place.written m2 summary old mid mid2 new hub_file.summary_is hub_file.headers fits hand finish
     (subst (λ x. AddsRow place.key summary f x m2 mid2 new) same row))
     (c.add_row.ensures.added f hub_file clean)

@@ -3,7 +3,7 @@ use Rattle.sqlite.specs.State.{HasCleanDisk, Survives}
 use Rattle.njh_customer.specs.Surviving.{Survive}
 use Rattle.njh_hub.specs.WholeHub.{part}
 use Rattle.njh_store.specs.Shelf.{shown}
-use Rattle.njh_kept.specs.code.Following.{AreHubFiles, IsQuiet, LeadsFiles, memory_of}
+use Rattle.njh_kept.specs.code.Following.{IsQuiet, LeadsFiles, memory_of}
 use Rattle.njh_kept.specs.code.Walking.{AreNumbered, IsWalkedTo}
 use Rattle.njh_kept.proofs.following.follow_old.Given as goal
 
@@ -16,7 +16,7 @@ invariant-old g l =
     record {
       crash : Survives first now (λ _. ⊥);
       place : l.place ≡ l.index;
-      led : AreHubFiles whole → HasCleanDisk now
+      led : AreNumbered whole → HasCleanDisk now
           → LeadsFiles (memory_of l.fn.writer l.fn.own) (memory_of l.writer l.own) (λ s files. Survive files (take l.old whole) × AreNumbered files)
           (λ files here. IsWalkedTo (take l.old whole) here l.index) first now;
       quiet : IsQuiet l.fn.writer l.writer;

@@ -1,4 +1,6 @@
-use Rattle.std.proofs.Common.{◌≡◌, ◌+◌, ◌^◌, ◌-◌, List, drop, slice_get, refl, sym, ap, ◌∙◌, min, arith}
+use Rattle.std.proofs.Common.{◌≡◌, ℕ, ◌+◌, ◌^◌, ◌-◌, ◌<◌, ◌≤◌, List, length, drop, slice_get, refl, sym, ap, subst, ◌∙◌, min, arith}
+use Rattle.std.specs.List.{AllByRecursion}
+use Rattle.std.proofs.lemmas.List.{take_all}
 use Rattle.sqlite.specs.State.{HasCleanDisk}
 use Rattle.njh_spool.specs.Spools.{records_numbered}
 use Rattle.njh_stream.specs.SpoolFiles.{records_in}
@@ -6,8 +8,9 @@ use Rattle.njh_hub.specs.WholeHub.{part}
 use Rattle.njh_record.specs.Stored.{Stored}
 use Rattle.njh_store.specs.Kept.{Record}
 use Rattle.njh_store.specs.Shelf.{shown}
+use Rattle.njh_kept.specs.code.Mirrored.{FitsHub}
 use Rattle.njh_kept.proofs.LeadingLaws.{survives_both, survives_here}
-use Rattle.njh_kept.proofs.ReachLaws.{AreBegun, begun_front, bytes_read, file_is_read, finish_done, next_stands, none_is_left, one_fewer_left, only_waits, other_is_same, reach_adds, reach_begins}
+use Rattle.njh_kept.proofs.ReachLaws.{AreBegun, begun_front, bytes_read, file_is_read, finish_done, next_stands, none_is_left, one_fewer_left, one_more_fits, only_waits, other_is_same, reach_adds, reach_begins}
 use Rattle.njh_kept.proofs.ReachLaws.{reach_passes, reach_rewrites}
 use Rattle.njh_kept.proofs.hub_records.finish_records.Goals.{then-place-written+in_ok-add_record, else-place-written+then-is_header+in_ok-replace_record, else-place-written+else-is_header}
 use Rattle.njh_kept.proofs.hub_records.finish_records.Goals as goal
@@ -21,6 +24,7 @@ places-init g c =
       crash = survives_here old (λ _. ⊥);
       led = λ clean. reach_begins c.args.key (AreBegun c.args.written all) all (begun_front c.args.written all) old;
       left = file_is_read c.args.file.number spool c.in-Some.records (sym {b = records_numbered c.args.file.number spool} c.read_file.ensures ∙ c.in-Some.is);
+      fit = tt;
       others = refl;
     }
 
@@ -34,6 +38,9 @@ places-preserved g c =
     let r : Stored = record { srcb = c.in-Some-next.srcb; bytes = c.next.new.into.items } in
     let stands = next_stands all at r (c.in-Some-next.ensures.first ∙ ap (λ (rs : List Stored). slice_get rs 0) so_far.left) in
     let left : c.next.new.self ≡ drop (at + 1) all = c.in-Some-next.ensures.rest ∙ ap (λ (rs : List Stored). drop 1 rs) so_far.left ∙ one_fewer_left all at in
+    let low : c.in-Some-next.srcb < 256 = omega arith in
+    let short : length c.next.new.into.items ≤ 256 = omega (arith, ap (λ (xs : List ℕ). length xs) c.deref.ensures.0, c.deref.ensures.1) in
+    let fit = one_more_fits all at r stands.0 stands.1 (low, short) so_far.fit in
     elim c.if-place-written.branch [
       | then-place-written+in_ok-add_record w ↦
           let new = shown g.S.Store w.add_record.new.self.store in
@@ -44,6 +51,7 @@ places-preserved g c =
             crash = survives_both old mid new so_far.crash w.add_record.ensures.crash;
             led = λ clean. reach_adds c.args.key (AreBegun c.args.written all) all (begun_front c.args.written all) at old mid new (so_far.led (early clean)) kept c.places-test.true refl refl is (λ before given. omega (arith, given.0, w.if-place-written.true)) stands.0 (w.in_ok-add_record.ensures.changed clean);
             left = left;
+            fit = fit;
             others = only_waits c.args.writer.now c.places.writer w.add_record.new.self (min (c.places.writer.waiting + 1) (2 ^ 32 - 1)) so_far.others w.add_record.ensures.others;
           })
       | else-place-written+then-is_header+in_ok-replace_record w ↦
@@ -55,6 +63,7 @@ places-preserved g c =
             crash = survives_both old mid new so_far.crash w.replace_record.ensures.crash;
             led = λ clean. reach_rewrites c.args.key (AreBegun c.args.written all) all (begun_front c.args.written all) at old mid new (so_far.led (early clean)) kept c.places-test.true refl refl is (λ before given. omega (arith, given.0, w.if-place-written.false)) (w.in_ok-replace_record.ensures.changed clean);
             left = left;
+            fit = fit;
             others = only_waits c.args.writer.now c.places.writer w.replace_record.new.self (min (c.places.writer.waiting + 1) (2 ^ 32 - 1)) so_far.others w.in_ok-replace_record.ensures.others;
           })
       | else-place-written+else-is_header w ↦
@@ -62,6 +71,7 @@ places-preserved g c =
             crash = so_far.crash;
             led = λ clean. reach_passes c.args.key (AreBegun c.args.written all) all (begun_front c.args.written all) at old mid mid (so_far.led clean) (other_is_same c.args.key (AreBegun c.args.written all) all (begun_front c.args.written all) at old mid mid (so_far.led clean) r stands.1 (sym w.is_header.ensures ∙ w.if-is_header.false) (λ before given. omega (arith, given.0, w.if-place-written.false)));
             left = left;
+            fit = fit;
             others = so_far.others;
           })
     ]
@@ -75,6 +85,14 @@ returns-in_default-next-clause-led g c =
     let so_far = c.places.invariant in
     let past = none_is_left all at (c.in_default-next.ensures.first ∙ ap (λ (rs : List Stored). slice_get rs 0) so_far.left) in
     λ clean. finish_done c.args.key c.args.written all at old mid past (so_far.led clean)
+
+pub returns-in_default-next-clause-fit : goal.returns-in_default-next-clause-fit
+returns-in_default-next-clause-fit g c =
+    let all = records_in c.args.file.number (part c.args.file.customer c.args.hub.now).customer.spool in
+    let at = c.places.place in
+    let so_far = c.places.invariant in
+    let past = none_is_left all at (c.in_default-next.ensures.first ∙ ap (λ (rs : List Stored). slice_get rs 0) so_far.left) in
+    subst (AllByRecursion FitsHub) (take_all at all past) so_far.fit
 
 pub returns-in_default-next-clause-others : goal.returns-in_default-next-clause-others
 returns-in_default-next-clause-others g c = c.places.invariant.others

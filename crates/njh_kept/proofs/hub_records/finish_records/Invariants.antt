@@ -1,9 +1,11 @@
-use Rattle.std.proofs.Common.{◌≡◌, drop}
+use Rattle.std.proofs.Common.{◌≡◌, drop, take}
+use Rattle.std.specs.List.{AllByRecursion}
 use Rattle.sqlite.specs.State.{HasCleanDisk, Survives}
 use Rattle.njh_stream.specs.SpoolFiles.{records_in}
 use Rattle.njh_hub.specs.WholeHub.{part}
 use Rattle.njh_store.specs.Shelf.{shown}
 use Rattle.njh_kept.specs.code.Leading.{Leads}
+use Rattle.njh_kept.specs.code.Mirrored.{FitsHub}
 use Rattle.njh_kept.proofs.ReachLaws.{AreBegun, Reaches}
 use Rattle.njh_kept.proofs.hub_records.finish_records.Given as goal
 
@@ -17,5 +19,6 @@ invariant-places g l =
       crash : Survives old now (λ _. ⊥);
       led : HasCleanDisk now → Leads (Reaches l.key (AreBegun l.written all) all l.place) old now;
       left : l.records ≡ drop l.place all;
+      fit : AllByRecursion FitsHub (take l.place all);
       others : l.writer ≡ record l.fn.writer { store = l.writer.store; waiting = l.writer.waiting };
     }
