@@ -19,7 +19,7 @@ new-init g c =
     let m = memory_of c.args.writer.now c.args.own.now in
     record {
       crash = search rules;
-      led = λ hub_files clean. leads_nothing _ at (λ s files has given. (files, given.0, goes_nowhere m s files has));
+      led = λ numbered clean. leads_nothing _ at (λ s files has given. (files, given.0, goes_nowhere m s files has));
       quiet = quiet_same c.args.writer.now;
     }
 
@@ -43,14 +43,14 @@ new-preserved g c =
     let summary_is : c.summary_at-summary.result ≡ file_summary f = c.summary_at-summary.ensures.summary ∙ ap file_summary (get_or_default whole index _ any_file there) in
     record {
       crash = survives_then old mid new _ _ (λ _. ⊥) (λ _ db none. none) (λ _ db none. none) c.new.invariant.crash c.add_one.ensures.crash;
-      led = λ hub_files clean.
-          let hub_file = hub_file_at parts (record { customer = c.args.customer; number = number }) c.summary_at-summary.result index f hub_files c.summary_at-summary.ensures.headers here number_is summary_is in
-          added_further m m1 m2 old mid new whole c.args.old index f here (c.new.invariant.led hub_files (early clean)) (c.in_ok-add_one.ensures.led f hub_file clean);
+      led = λ numbered clean.
+          let hub_file = hub_file_at parts (record { customer = c.args.customer; number = number }) c.summary_at-summary.result index f numbered c.summary_at-summary.ensures.headers here number_is summary_is in
+          added_further m m1 m2 old mid new whole c.args.old index f here (c.new.invariant.led numbered (early clean)) (c.in_ok-add_one.ensures.led f hub_file clean);
       quiet = quiet_then c.args.writer.now c.new.writer c.add_one.new.writer c.new.invariant.quiet (quiet_changed c.new.writer c.add_one.new.writer c.in_ok-add_one.ensures.due);
     }
 
 pub returns-clause-led : goal.returns-clause-led
-returns-clause-led g c hub_files clean =
+returns-clause-led g c numbered clean =
     let old = shown g.S.Store c.args.writer.now.store in
     let new = shown g.S.Store c.new.writer.store in
     let whole = (part c.args.customer c.args.hub.now).customer.spool.whole in
@@ -58,7 +58,7 @@ returns-clause-led g c hub_files clean =
     (λ s t led files has given.
     let a = led files has given in
     (a.0, a.1 ∙ take_all c.new.index whole (omega (arith, c.new-test.false, c.file_count-count.ensures)), a.2))
-    (c.new.invariant.led hub_files clean)
+    (c.new.invariant.led numbered clean)
 
 pub returns-clause-quiet : goal.returns-clause-quiet
 returns-clause-quiet g c = c.new.invariant.quiet

@@ -8,7 +8,7 @@ use Rattle.njh_kept.proofs.QuietLaws.{quiet_then}
 use Rattle.njh_kept.proofs.following.follow.Goals as goal
 
 pub returns-clause-led : goal.returns-clause-led
-returns-clause-led g c hub_files clean =
+returns-clause-led g c numbered clean =
     let first = shown g.S.Store c.args.writer.now.store in
     let mid = shown g.S.Store c.follow_old.new.writer.store in
     let new = shown g.S.Store c.add_new.new.writer.store in
@@ -26,7 +26,7 @@ returns-clause-led g c hub_files clean =
     (λ files go_on.
     first_survive c.files_survive.ensures.first customer files c.args.own.now.arrived count new_files old c.file_count-count.ensures c.file_count-count.type_inv (omega (arith, is, c.arrived-arrived.type_inv))
     (λ all. c.new_files.ensures.all (is ∙ all)) (λ less. omega (arith, is, less, c.new_files.ensures.some (omega (arith, is, less)))) (omega (arith, c.saturating_sub-old.ensures)) go_on)
-    (c.in_ok-follow_old.ensures.led hub_files early) (c.in_ok-add_new.ensures.led hub_files clean)
+    (c.in_ok-follow_old.ensures.led numbered early) (c.in_ok-add_new.ensures.led numbered clean)
 
 pub returns-clause-quiet : goal.returns-clause-quiet
 returns-clause-quiet g c = quiet_then c.args.writer.now c.follow_old.new.writer c.add_new.new.writer c.in_ok-follow_old.ensures.quiet c.in_ok-add_new.ensures.quiet

@@ -12,7 +12,7 @@ use Rattle.njh_kept.proofs.QuietLaws.{quiet_then}
 use Rattle.njh_kept.proofs.following.follow_at.Goals as goal
 
 pub returns-clause-led : goal.returns-clause-led
-returns-clause-led g c still f hub_files here next clean =
+returns-clause-led g c still f numbered here next clean =
     let old = shown g.S.Store c.args.writer.now.store in
     let mid = shown g.S.Store c.drop_before.new.writer.store in
     let new = shown g.S.Store c.follow_one.new.writer.store in
@@ -25,7 +25,7 @@ returns-clause-led g c still f hub_files here next clean =
     let number = c.number_at-number.result in
     let number_is : number ≡ f.number = c.number_at-number.ensures ∙ ap (λ (x : WholeFile). x.number) (get_or_default whole c.args.index _ f here.there ∙ sym here.is) in
     let summary_is : c.summary_at-summary.result ≡ file_summary f = c.summary_at-summary.ensures.summary ∙ ap file_summary (get_or_default whole c.args.index _ f here.there ∙ sym here.is) in
-    let hub_file = hub_file_at parts (record { customer = c.args.customer; number = number }) c.summary_at-summary.result c.args.index f hub_files c.summary_at-summary.ensures.headers here number_is summary_is in
+    let hub_file = hub_file_at parts (record { customer = c.args.customer; number = number }) c.summary_at-summary.result c.args.index f numbered c.summary_at-summary.ensures.headers here number_is summary_is in
     ok_then c.follow_one.result _ _
     (λ more.
     walked_on m m1 m2 old mid new still c.args.place number f next number_is

@@ -22,7 +22,7 @@ old-init g c =
     record {
       crash = search rules;
       place = refl;
-      led = λ hub_files clean. leads_nothing _ at (λ s files has given. (files, walk_begins still files given.0 given.1, goes_nowhere m s files has));
+      led = λ numbered clean. leads_nothing _ at (λ s files has given. (files, walk_begins still files given.0 given.1, goes_nowhere m s files has));
       quiet = quiet_same c.args.writer.now;
     }
 
@@ -46,15 +46,15 @@ old-preserved g c =
     record {
       crash = survives_then first mid new _ _ (λ _. ⊥) (λ _ db none. none) (λ _ db none. none) c.old.invariant.crash c.follow_at.ensures.crash;
       place = ap (λ n. n + 1) place;
-      led = λ hub_files clean.
-          walked_further m m1 m2 first mid new _ still index (c.old.invariant.led hub_files (early clean))
+      led = λ numbered clean.
+          walked_further m m1 m2 first mid new _ still index (c.old.invariant.led numbered (early clean))
           (subst (λ n. LeadsFiles m1 m2 (λ s files. IsWalkedTo still files n) (λ files now. IsWalkedTo still now (n + 1)) mid new) place
-          (c.in_ok-follow_at.ensures.led still f hub_files here (subst (λ n. IsAt still n f) (sym place) next) clean));
+          (c.in_ok-follow_at.ensures.led still f numbered here (subst (λ n. IsAt still n f) (sym place) next) clean));
       quiet = quiet_then c.args.writer.now c.old.writer c.follow_at.new.writer c.old.invariant.quiet c.in_ok-follow_at.ensures.quiet;
     }
 
 pub returns-clause-led : goal.returns-clause-led
-returns-clause-led g c hub_files clean =
+returns-clause-led g c numbered clean =
     let first = shown g.S.Store c.args.writer.now.store in
     let mid = shown g.S.Store c.old.writer.store in
     let new = shown g.S.Store c.drop_before.new.writer.store in
@@ -70,7 +70,7 @@ returns-clause-led g c hub_files clean =
     let last : length still ≤ index = omega (arith, long, c.old-test.false) in
     ok_then c.drop_before.result _ _
     (λ more.
-    walked_to_end m m1 m2 first mid new _ still index last (c.old.invariant.led hub_files early)
+    walked_to_end m m1 m2 first mid new _ still index last (c.old.invariant.led numbered early)
     (subst (λ n. LeadsFiles m1 m2 (λ s files. IsWalkedTo still files n) (λ files now. IsWalkedTo still now n × IsReached None now n) mid new) place more))
     (c.drop_before.ensures.led still (subst (λ n. length still ≤ n) (sym place) last) clean)
 
