@@ -1,11 +1,17 @@
 //! Opens the spool file of a path.
 
-ghost use Rattle.std.specs.Prelude.{IfErr};
+ghost use Rattle.std.specs.Prelude.{IfErr, IfOk};
+ghost use Rattle.sqlite.specs.Files.{file_state};
+ghost use Rattle.sqlite.specs.State.{HasCleanDisk};
+ghost use Rattle.sqlite.specs.WalFiles.{image_at};
+ghost use Rattle.njh_store.specs.Kept.{Spool};
+ghost use Rattle.njh_store.specs.Origin.{IsFoundIn};
+ghost use Rattle.njh_store.specs.Standing.{Stands};
 ghost use Rattle.njh_files.specs.Faults.{IsOfSpool};
 
 use crate::fault::FilesFault;
 use njh_store::Store;
-use sqlite::{Alter, FileFrom, FileStore, Unknown};
+use sqlite::{Alter, FileFrom, FileStore, Start, Unknown};
 use std::fs::{File, OpenOptions, Permissions};
 use std::io::ErrorKind;
 use std::os::unix::fs::{OpenOptionsExt, PermissionsExt};
@@ -17,12 +23,18 @@ const MODE: u32 = 0o600;
 
 /// What opens spool files.
 pub trait SpoolFiles {
-    /// What a spool file that is open is kept in.
+    /// What a spool file that is only read is kept in.
     type Kept: Alter + Drop;
 
+    /// What a proof knows of the files before they are opened.
+    type From: Start;
+
     /// Opens the spool file at the path, or makes it, and gives it and its log the mode 0600.
-    fn open_spool(&self, path: &str) -> Result<Store<Self::Kept>, FilesFault>
-        ensures { IfErr result IsOfSpool };
+    fn open_spool(&self, path: &str) -> Result<Store<FileStore<FileFrom<Self::From>>>, FilesFault>
+        ensures found { IfOk result (λ store. HasCleanDisk (file_state store.conn) → (spool : Spool)
+            → IsFoundIn (image_at Self.From.Start) spool
+            → Stands (record { now = spool; kept = spool }) (file_state store.conn)) }
+        ensures refused { IfErr result IsOfSpool };
 
     /// Opens the spool file at the path, which has to be there, and leaves its mode.
     fn find_spool(&self, path: &str) -> Result<Store<Self::Kept>, FilesFault>
@@ -91,13 +103,17 @@ fn set_modes(rt: &HostRuntime, path: &str) -> Result<(), FilesFault>
 }
 
 /// Opens the spool file at the path, or makes it.
-fn open_store(
+fn open_store<S: Start>(
     rt: &HostRuntime,
     path: &str,
-) -> Result<Store<FileStore<FileFrom<Unknown>>>, FilesFault>
-    ensures { IfErr result IsOfSpool }
+    start: S,
+) -> Result<Store<FileStore<FileFrom<S>>>, FilesFault>
+    ensures found { IfOk result (λ store. HasCleanDisk (file_state store.conn) → (spool : Spool)
+        → IsFoundIn (image_at S.Start) spool
+        → Stands (record { now = spool; kept = spool }) (file_state store.conn)) }
+    ensures refused { IfErr result IsOfSpool }
 {
-    match Store::open(rt, path, Unknown) {
+    match Store::open(rt, path, start) {
         Ok(store) => Ok(store),
         Err(fault) => Err(FilesFault::from(fault)),
     }
@@ -106,9 +122,11 @@ fn open_store(
 impl SpoolFiles for HostRuntime {
     type Kept = FileStore<FileFrom<Unknown>>;
 
+    type From = Unknown;
+
     fn open_spool(&self, path: &str) -> Result<Store<FileStore<FileFrom<Unknown>>>, FilesFault> {
         make_empty(self, path)?;
-        let store = open_store(self, path)?;
+        let store = open_store(self, path, Unknown)?;
         match set_modes(self, path) {
             Ok(()) => Ok(store),
             Err(fault) => Err(fault),
@@ -120,6 +138,6 @@ impl SpoolFiles for HostRuntime {
             Ok(file) => drop(file),
             Err(_) => return Err(FilesFault::Device),
         }
-        open_store(self, path)
+        open_store(self, path, Unknown)
     }
 }

@@ -55,11 +55,11 @@ zip_of_map R f [] (y ∷ ys) h = h
 zip_of_map R f (x ∷ xs) [] h = h
 zip_of_map R f (x ∷ xs) (y ∷ ys) h = (h.0, zip_of_map R f xs ys h.1)
 
-all_by_place : {X : Type 0} (P : X → Type 0) (xs : List X) → ((i : ℕ) → (x : X) → i < length xs → x ≡ get_or xs i x → P x) → AllByRecursion P xs
+pub all_by_place : {X : Type 0} (P : X → Type 0) (xs : List X) → ((i : ℕ) → (x : X) → i < length xs → x ≡ get_or xs i x → P x) → AllByRecursion P xs
 all_by_place P [] each = tt
 all_by_place P (x ∷ xs) each = (each 0 x (omega arith) refl, all_by_place P xs (λ i y low is. each (suc i) y (omega (arith, low)) is))
 
-others_by_place : {X : Type 0} (P : X → Type 0) (xs : List X) (c : ℕ) → ((i : ℕ) → (x : X) → i < length xs → x ≡ get_or xs i x → i ≢ c → P x) → AllByRecursion P (remove xs c)
+pub others_by_place : {X : Type 0} (P : X → Type 0) (xs : List X) (c : ℕ) → ((i : ℕ) → (x : X) → i < length xs → x ≡ get_or xs i x → i ≢ c → P x) → AllByRecursion P (remove xs c)
 others_by_place P [] zero each = tt
 others_by_place P [] (suc c) each = tt
 others_by_place P (x ∷ xs) zero each = all_by_place P xs (λ i y low is. each (suc i) y (omega (arith, low)) is (λ same. omega (arith, same)))

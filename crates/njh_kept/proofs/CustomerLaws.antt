@@ -18,7 +18,7 @@ uses_as_one_differs n (o ∷ owns) zero own now there is =
     omega (arith, same)
 uses_as_one_differs n (o ∷ owns) (suc c) own now there is = let rest = uses_as_one_differs n owns c own now (omega (arith, there)) is in omega (arith, rest)
 
-uses_of_one : (n : ℕ) (owns : List OwnFiles) (c : ℕ) (own : OwnFiles) → c < length owns → own ≡ get_or owns c own → uses_of_all n owns ≡ uses_of_files n own + uses_of_all n (remove owns c)
+pub uses_of_one : (n : ℕ) (owns : List OwnFiles) (c : ℕ) (own : OwnFiles) → c < length owns → own ≡ get_or owns c own → uses_of_all n owns ≡ uses_of_files n own + uses_of_all n (remove owns c)
 uses_of_one n [] c own there is = absurd (omega (arith, there))
 uses_of_one n (o ∷ owns) zero own there is = let same : uses_of_files n own ≡ uses_of_files n o = ap (λ x. uses_of_files n x) is in omega (arith, same)
 uses_of_one n (o ∷ owns) (suc c) own there is = let rest = uses_of_one n owns c own (omega (arith, there)) is in omega (arith, rest)

@@ -51,7 +51,9 @@ pub mod OpeningSettled
 pub mod OpeningLists
 pub mod OpeningCustomers
 pub mod OpeningFiles
-pub mod BegunLaws
 pub mod GrowthLaws
 pub mod FrontLaws
+pub mod BegunLaws
+pub mod OneStepLaws
+pub mod KnownLaws
 pub mod QuietLaws

@@ -1,6 +1,6 @@
 -- What keeps whole files in a spool file, and the hub that it opens.
-use Rattle.std.specs.Prelude.{◌≡◌, ℕ, Bool, false, List, map, refl}
-use Rattle.std.specs.List.{filter_map}
+use Rattle.std.specs.Prelude.{◌≡◌, ℕ, Bool, true, false, List, map, refl}
+use Rattle.std.specs.List.{AllByRecursion, filter_map}
 use Rattle.std.specs.Coded.{Coded, code_by, coded×, coded_bool, coded_list, coded_ℕ}
 use Rattle.sqlite.specs.State.{HasCleanDisk}
 use Rattle.sqlite.specs.Store.{Ghosts}
@@ -13,22 +13,42 @@ use Rattle.njh_store.specs.Shelf.{Shelf, shelf_code, shown}
 use Rattle.njh_store.specs.Standing.{Standing, Stands}
 use Rattle.njh_restore.specs.Restoring.{KeptFile}
 use Rattle.njh_table.specs.TableFile.{TableFile}
-use Rattle.njh_kept.specs.Opened.{AllAreBack, file_in, hub_opened, own_files}
+use Rattle.njh_table.specs.Accepted.{AreDistinct}
+use Rattle.njh_kept.specs.Opened.{AllAreBack, file_in, hub_opened, is_name_of, own_files}
+use Rattle.njh_kept.specs.code.Codes.{numbers_code, own_memory_code}
+use Rattle.njh_kept.specs.code.Following.{Memory}
+use Rattle.njh_kept.specs.code.Knowing.{IsSoundPart, Knows}
+use Rattle.njh_kept.specs.code.Remembered.{Numbers, OwnFiles, OwnMemory}
 
 -- The spool file, how often keeping failed, and the names of the customers in the order of the tables. Since the last
--- commit whole files changed, or didn't, and so many records were written or dropped.
+-- commit whole files changed, or didn't, and so many records were written or dropped. What is remembered of each
+-- customer's files, and which numbers are next. No hub was opened yet, or one was.
 pub record Keeping (S : Type 0) : Type 0 where
   pub store : Shelf S
   pub failures : ℕ
   pub names : List (List ℕ)
   pub is_changed : Bool
   pub waiting : ℕ
+  pub numbers : Numbers
+  pub customers : List OwnMemory
+  pub is_fresh : Bool
 
 abbrev pub keeping_code : {S : Type 0} → Coded S → Coded (Keeping S)
-keeping_code {S} store = code_by (Shelf S × (ℕ × (List (List ℕ) × (Bool × ℕ))))
-    (coded× (shelf_code store) (coded× coded_ℕ (coded× (coded_list (coded_list coded_ℕ)) (coded× coded_bool coded_ℕ))))
-    (λ k. (k.store, (k.failures, (k.names, (k.is_changed, k.waiting)))))
-    (λ p. record { store = p.0; failures = p.1.0; names = p.1.1.0; is_changed = p.1.1.1.0; waiting = p.1.1.1.1 })
+keeping_code {S} store = code_by
+    (Shelf S × (ℕ × (List (List ℕ) × (Bool × (ℕ × (Numbers × (List OwnMemory × Bool)))))))
+    (coded× (shelf_code store) (coded× coded_ℕ (coded× (coded_list (coded_list coded_ℕ)) (coded× coded_bool
+    (coded× coded_ℕ (coded× numbers_code (coded× (coded_list own_memory_code) coded_bool)))))))
+    (λ k. (k.store, (k.failures, (k.names, (k.is_changed, (k.waiting, (k.numbers, (k.customers, k.is_fresh))))))))
+    (λ p. record {
+      store = p.0;
+      failures = p.1.0;
+      names = p.1.1.0;
+      is_changed = p.1.1.1.0;
+      waiting = p.1.1.1.1.0;
+      numbers = p.1.1.1.1.1.0;
+      customers = p.1.1.1.1.1.1.0;
+      is_fresh = p.1.1.1.1.1.1.1;
+    })
     (λ _. refl)
 
 -- ---- the opening
@@ -81,3 +101,33 @@ pub record IsSettledFrom {S : Type 0} (g : Ghosts S) (before behind : Keeping S)
   pub names : behind.names ≡ map (λ c. c.name) table.customers
   pub committed : HasCleanDisk (shown g behind.store) → (s : Standing) → Stands s (shown g before.store)
       → IsCommitted g behind parts
+
+-- ---- what is known of a hub
+
+-- what is remembered of each customer's files
+abbrev pub owns_in : {S : Type 0} → Keeping S → List OwnFiles
+owns_in keeper = map (λ m. m.own) keeper.customers
+
+-- of one customer, and which numbers are next
+abbrev pub memory_in : {S : Type 0} → Keeping S → OwnMemory → Memory
+memory_in keeper m = record { numbers = keeper.numbers; own = m.own; text = m.text }
+
+-- Its memory says what the spool file has of a hub of these parts, and the file has each customer's whole files.
+pub record KnowsNow {S : Type 0} (g : Ghosts S) (keeper : Keeping S) (parts : List Part) : Type 0 where
+  pub standing : Standing
+  pub stands : Stands standing (shown g keeper.store)
+  pub as_kept : IsAsKept keeper standing
+  pub names : keeper.names ≡ map (λ own. own.name) (owns_in keeper)
+  pub distinct : AreDistinct keeper.names
+  pub texts : AllByRecursion (λ m. is_name_of m.text m.own.name ≡ true) keeper.customers
+  pub knows : Knows keeper.numbers (owns_in keeper) (map (λ p. p.customer.spool) parts) standing.now
+  pub sound : AllByRecursion IsSoundPart parts
+
+-- as far as the disk told the truth, and the files held a spool when they were opened
+abbrev pub KnowsHub : {S : Type 0} → Ghosts S → (Spool → Type 0) → Keeping S → List Part → Type 0
+KnowsHub g found keeper parts =
+    HasCleanDisk (shown g keeper.store) → (began : Spool) → found began → KnowsNow g keeper parts
+
+-- A crash may leave this, where the files held a spool when they were opened.
+abbrev pub MayLeaveOf : {S : Type 0} → Ghosts S → (Spool → Type 0) → Keeping S → List (List KeptFile) → Type 0
+MayLeaveOf g found keeper left = MayLeave g keeper left × ((began : Spool) × found began)

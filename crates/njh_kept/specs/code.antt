@@ -9,6 +9,7 @@ pub mod Nodes
 pub mod Alike
 pub mod Leading
 pub mod Memory
+pub mod Codes
 pub mod Following
 pub mod Partly
 pub mod Knowing

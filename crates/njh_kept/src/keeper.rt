@@ -1,30 +1,40 @@
 //! The whole files of a hub's customers are kept in a spool file.
 
-ghost use Rattle.std.specs.Prelude.{◌≡◌, ◌⊎◌, ◌≤◌, List, [], false, length, ⊤, IfOk, OnOk};
+ghost use Rattle.std.specs.Prelude.{◌≡◌, ◌⊎◌, ◌<◌, ◌≤◌, List, [], false, true, length, ⊤, IfOk, OnOk};
+ghost use Rattle.std.specs.List.{AllByRecursion};
 ghost use Rattle.sqlite.specs.State.{HasCleanDisk, Survives};
+ghost use Rattle.njh_customer.specs.Growing.{HasShortRests};
+ghost use Rattle.njh_hub.specs.Keeping.{LeadsHub};
 ghost use Rattle.njh_hub.specs.Sent.{IsCounted};
+ghost use Rattle.njh_hub.specs.WholeHub.{Part, part};
 ghost use Rattle.njh_restore.specs.Restoring.{KeptFile};
+ghost use Rattle.njh_spool.specs.Spools.{IsSound};
 ghost use Rattle.njh_store.specs.Kept.{Spool, Holds};
+ghost use Rattle.njh_store.specs.Origin.{StandsAsFound};
 ghost use Rattle.njh_store.specs.Shelf.{shown};
 ghost use Rattle.njh_store.specs.Standing.{Standing, Stands};
 ghost use Rattle.njh_store.specs.Steps.{Stays};
-ghost use Rattle.njh_kept.specs.Keeper.{IsAsKept, IsCommitted, IsKeptNow, IsOpenedFrom, IsSettledFrom};
-ghost use Rattle.njh_kept.specs.Keeper.{MayLeave, left_in};
+ghost use Rattle.njh_stream.specs.WholeFiles.{HaveHeaders};
+ghost use Rattle.njh_kept.specs.Keeper.{IsAsKept, IsCommitted, IsKeptNow, IsOpenedFrom, IsSettledFrom, KnowsHub};
+ghost use Rattle.njh_kept.specs.Keeper.{KnowsNow, MayLeave, left_in};
+ghost use Rattle.njh_kept.specs.code.Following.{memory_of};
+ghost use Rattle.njh_kept.specs.code.Knowing.{LeadsStep};
 ghost use Rattle.njh_kept.specs.code.Opening.{AllAreFound, AllAreRead};
 ghost use Rattle.njh_table.specs.Accepted.{AreDistinct};
 
 use crate::beginning::begin;
 use crate::fault::{OpeningFault, RefusedFile};
-use crate::following::follow;
+use crate::laws::a_crash_leaves_what_was_committed;
 use crate::names::{names_of, number_among};
 use crate::opening::open_from;
 use crate::own_files::OwnFiles;
-use crate::portions::keep_portions;
+use crate::sound::see_sound;
+use crate::step::keep_step;
 use crate::writer::SpoolWriter;
 use njh_ebcdic::Name;
 use njh_hub::{Depot, DepotFault, Hub, KeepFault, Keeper};
 use njh_spool::next_number_is_least;
-use njh_store::{Store, StoredFile};
+use njh_store::{Origin, Store, StoredFile};
 use njh_table::Tables;
 use sqlite::{Alter, Error, ErrorCode};
 use std::alloc::Global;
@@ -32,21 +42,26 @@ use std::marker::Model;
 use std::rt::Clock;
 use std::time::{SystemTime, UNIX_EPOCH};
 
-/// Keeps the whole files of a hub's customers in a spool file: a depot for `serve`. A contract sees how often it
-/// failed. After a failure each further call fails.
+/// Keeps the whole files of a hub's customers in a spool file: a depot for `serve`. It opens one hub. After a failure
+/// each further call fails.
 #[derive(Drop)]
-pub struct SpoolKeeper<'a, R, S: Alter + Drop> {
+pub struct SpoolKeeper<'a, R, S: Origin + Drop> {
     rt: &'a R,
     writer: SpoolWriter<S>,
     /// In the order of the tables.
+    names: Vec<Name>,
     customers: Vec<OwnFiles>,
     refused: Option<RefusedFile>,
     failures: u64,
+    /// Whether no hub was opened yet.
+    is_fresh: bool,
 }
 
-impl<'a, R, S: Alter + Drop> Model for SpoolKeeper<'a, R, S> {
-    ghost use Rattle.std.specs.Prelude.{map};
+impl<'a, R, S: Origin + Drop> Model for SpoolKeeper<'a, R, S> {
+    ghost use Rattle.std.specs.Prelude.{◌≡◌, map, true};
+    ghost use Rattle.njh_store.specs.Origin.{StandsAsFound};
     ghost use Rattle.njh_kept.specs.Keeper.{Keeping, keeping_code};
+    ghost use Rattle.njh_kept.specs.code.Memory.{numbers_of, own_memory_of};
 
     ghost Value = { Keeping S };
 
@@ -55,28 +70,36 @@ impl<'a, R, S: Alter + Drop> Model for SpoolKeeper<'a, R, S> {
     ghost view = { λ keeper. record {
       store = keeper.writer.store;
       failures = keeper.failures;
-      names = map (λ own. own.name) keeper.customers.items;
+      names = keeper.names.items;
       is_changed = keeper.writer.is_changed;
       waiting = keeper.writer.waiting;
+      numbers = numbers_of keeper.writer;
+      customers = map own_memory_of keeper.customers.items;
+      is_fresh = keeper.is_fresh;
     } };
+
+    ghost invariant = { λ keeper. keeper.is_fresh ≡ true → StandsAsFound S.Store S.found keeper.writer.store };
 }
 
-impl<'a, R: Clock, S: Alter + Drop> SpoolKeeper<'a, R, S> {
+impl<'a, R: Clock, S: Origin + Drop> SpoolKeeper<'a, R, S> {
     /// Keeps files in a spool file that was just opened. Each row has the time by this clock.
     pub fn new(rt: &'a R, alloc: Global, store: Store<S>) -> SpoolKeeper<'a, R, S>
-        ensures { result ≡ record { store = store; failures = 0; names = []; is_changed = false; waiting = 0 } }
+        requires { StandsAsFound S.Store S.found store }
+        ensures { (result.store ≡ store) × (result.failures ≡ 0) × (result.is_fresh ≡ true) }
     {
         SpoolKeeper {
             rt,
             writer: SpoolWriter::new(alloc, store),
+            names: Vec::new(alloc),
             customers: Vec::new(alloc),
             refused: None,
             failures: 0,
+            is_fresh: true,
         }
     }
 }
 
-impl<'a, R: Clock, S: Alter + Drop> SpoolKeeper<'a, R, S> {
+impl<'a, R: Clock, S: Origin + Drop> SpoolKeeper<'a, R, S> {
     /// The whole file that couldn't be put back when a hub was opened, and why; none where there is no such file.
     pub fn refused(&self) -> Option<&RefusedFile> {
         self.refused.as_ref()
@@ -93,6 +116,7 @@ impl<'a, R: Clock, S: Alter + Drop> SpoolKeeper<'a, R, S> {
         let files = match self.writer.store.files(alloc) {
             Ok(files) => files,
             Err(error) => {
+                self.is_fresh = false;
                 drop(names);
                 return Err(error);
             }
@@ -109,36 +133,46 @@ impl<'a, R: Clock, S: Alter + Drop> SpoolKeeper<'a, R, S> {
     {
         let SpoolKeeper {
             writer,
+            names,
             customers,
             ..
         } = self;
+        drop(names);
         drop(customers);
         writer.into_store()
     }
 
     /// Writes what a step made of a customer's files. Nothing of it is committed.
     fn follow_files(&mut self, hub: &Hub, customer: u16) -> Result<(), Error>
-        ensures same { self.new.failures ≡ self.old.failures }
+        ensures same { (self.new.failures ≡ self.old.failures) × (self.new.names ≡ self.old.names)
+            × (self.new.is_fresh ≡ false) }
+        ensures known { (before : List Part) → LeadsHub customer before hub.now → KnowsHub S.Store S.found self.old before
+            → OnOk result (KnowsHub S.Store S.found self.new hub.now) }
         ensures crash { Survives (shown S.Store self.old.store) (shown S.Store self.new.store) (λ _. ⊥) }
     {
+        self.is_fresh = false;
         if self.failures > 0 || usize::from(customer) >= self.customers.len() {
             return Err(Error::SqliteFailure(ErrorCode::Closed));
         }
+        hub.files_are_sound(customer);
         self.writer.now = seconds_on(self.rt);
         let own = &mut self.customers[usize::from(customer)];
-        follow(&mut self.writer, own, hub, customer)?;
-        keep_portions(&mut self.writer, own, hub, customer)
+        keep_step(&mut self.writer, own, hub, customer)
     }
 
     /// Commits what was written, where whole files changed or much waits.
     fn settle_files(&mut self) -> Result<(), Error>
-        ensures same { (self.new.failures ≡ self.old.failures) × (self.new.names ≡ self.old.names) }
+        ensures same { (self.new.failures ≡ self.old.failures) × (self.new.names ≡ self.old.names)
+            × (self.new.customers ≡ self.old.customers) × (self.new.is_fresh ≡ false) }
+        ensures numbers { OnOk result (self.new.numbers ≡ self.old.numbers) }
         ensures settled { HasCleanDisk (shown S.Store self.new.store) → OnOk result ((s : Standing)
             → Stands s (shown S.Store self.old.store) → IsAsKept self.old s → IsKeptNow S.Store self.new s.now) }
+        ensures clean { HasCleanDisk (shown S.Store self.new.store) → HasCleanDisk (shown S.Store self.old.store) }
         ensures crash { (left : List (List KeptFile)) → MayLeave S.Store self.new left
             → MayLeave S.Store self.old left ⊎ ((now : Spool) → Holds now (shown S.Store self.old.store).now.trees
             → left ≡ left_in self.old.names now) }
     {
+        self.is_fresh = false;
         if self.failures > 0 {
             return Err(Error::SqliteFailure(ErrorCode::Closed));
         }
@@ -149,6 +183,7 @@ impl<'a, R: Clock, S: Alter + Drop> SpoolKeeper<'a, R, S> {
     fn fail(&mut self)
         ensures counts { self.old.failures ≤ self.new.failures }
         ensures counted { IsCounted self.old.failures self.new.failures }
+        ensures others { self.new ≡ record self.old { failures = self.new.failures } }
     {
         self.failures = self.failures.saturating_add(1);
     }
@@ -167,28 +202,45 @@ impl<'a, R: Clock, S: Alter + Drop> SpoolKeeper<'a, R, S> {
         }
     }
 
-    /// Remembers what is kept of the files of a hub that was opened from the spool file, for customers of these names.
-    /// From then on the spool file has them as the hub has.
-    fn remember(&mut self, hub: &Hub, names: &[Name]) -> Result<(), Error>
-        ensures same { self.new.failures ≡ self.old.failures }
-        ensures names { OnOk result (self.new.names ≡ names.now) }
+    /// Remembers what is kept of the files of a hub that was opened from the spool file, for customers of its names. From
+    /// then on the spool file has them as the hub has.
+    fn remember(&mut self, hub: &Hub) -> Result<(), Error>
+        ensures same { (self.new.failures ≡ self.old.failures) × (self.new.names ≡ self.old.names)
+            × (self.new.is_fresh ≡ false) }
         ensures settled { OnOk result ((self.new.is_changed ≡ false) × (self.new.waiting ≡ 0)) }
         ensures kept { HasCleanDisk (shown S.Store self.new.store) → OnOk result ((s : Standing)
-            → Stands s (shown S.Store self.old.store) → AreDistinct names.now → AllAreFound names.now hub.now
-            → AllAreRead names.now hub.now s.now → length names.now ≡ length hub.now
-            → IsCommitted S.Store self.new hub.now) }
+            → Stands s (shown S.Store self.old.store) → AreDistinct self.old.names
+            → AllAreFound self.old.names hub.now → AllAreRead self.old.names hub.now s.now
+            → length self.old.names ≡ length hub.now → IsCommitted S.Store self.new hub.now) }
+        ensures known { HasCleanDisk (shown S.Store self.new.store) → OnOk result ((s : Standing)
+            → Stands s (shown S.Store self.old.store) → AreDistinct self.old.names
+            → AllAreFound self.old.names hub.now → AllAreRead self.old.names hub.now s.now
+            → length self.old.names ≡ length hub.now → AllByRecursion HasShortRests hub.now
+            → KnowsNow S.Store self.new hub.now) }
         ensures crash { Survives (shown S.Store self.old.store) (shown S.Store self.new.store) (λ _. ⊤) }
     {
-        let customers = begin(&mut self.writer, hub, names)?;
+        self.is_fresh = false;
+        see_sound(hub, self.names.len())?;
+        let customers = begin(&mut self.writer, hub, &self.names)?;
         self.customers = customers;
         Ok(())
     }
 
-    /// Opens a hub of these tables from the spool file, and remembers what it has.
+    /// Opens a hub of these tables from the spool file, and remembers what it has. Once it did so, or failed, it opens
+    /// no other.
     fn open_hub(&mut self, alloc: Global, tables: Tables) -> Result<Hub, DepotFault>
         ensures opened { IfOk result (λ hub. IsOpenedFrom S.Store self.old self.new tables hub) }
         ensures settled { IfOk result (λ hub. IsSettledFrom S.Store self.old self.new tables hub) }
+        ensures known { IfOk result (λ hub. KnowsHub S.Store S.found self.new hub) }
+        ensures stood { OnOk result (StandsAsFound S.Store S.found self.old.store) }
+        ensures clean { HasCleanDisk (shown S.Store self.new.store)
+            → OnOk result (HasCleanDisk (shown S.Store self.old.store)) }
     {
+        if !self.is_fresh {
+            drop(tables);
+            return Err(DepotFault::Device);
+        }
+        self.is_fresh = false;
         next_number_is_least();
         let names = match names_of(alloc, &tables) {
             Ok(names) => names,
@@ -214,11 +266,14 @@ impl<'a, R: Clock, S: Alter + Drop> SpoolKeeper<'a, R, S> {
         ensures kept { HasCleanDisk (shown S.Store self.new.store) → OnOk result ((s : Standing)
             → Stands s (shown S.Store self.old.store) → AreDistinct names.items → AllAreFound names.items hub
             → AllAreRead names.items hub s.now → length names.items ≡ length hub → IsCommitted S.Store self.new hub) }
+        ensures known { HasCleanDisk (shown S.Store self.new.store) → OnOk result ((s : Standing)
+            → Stands s (shown S.Store self.old.store) → AreDistinct names.items → AllAreFound names.items hub
+            → AllAreRead names.items hub s.now → length names.items ≡ length hub → AllByRecursion HasShortRests hub
+            → KnowsNow S.Store self.new hub) }
         ensures crash { Survives (shown S.Store self.old.store) (shown S.Store self.new.store) (λ _. ⊤) }
     {
-        let remembered = self.remember(&hub, &names);
-        drop(names);
-        match remembered {
+        self.names = names;
+        match self.remember(&hub) {
             Ok(()) => Ok(hub),
             Err(error) => {
                 drop(hub);
@@ -228,10 +283,12 @@ impl<'a, R: Clock, S: Alter + Drop> SpoolKeeper<'a, R, S> {
     }
 }
 
-impl<'a, R: Clock, S: Alter + Drop> Keeper for SpoolKeeper<'a, R, S> {
-    ghost may_leave = { λ keeper left. ⊥ };
+impl<'a, R: Clock, S: Origin + Drop> Keeper for SpoolKeeper<'a, R, S> {
+    ghost use Rattle.njh_kept.specs.Keeper.{KnowsHub, MayLeaveOf};
 
-    ghost knows = { λ keeper parts. ⊤ };
+    ghost may_leave = { MayLeaveOf S.Store S.found };
+
+    ghost knows = { KnowsHub S.Store S.found };
 
     ghost count = { λ keeper. keeper.failures };
 
@@ -250,6 +307,7 @@ impl<'a, R: Clock, S: Alter + Drop> Keeper for SpoolKeeper<'a, R, S> {
     }
 
     fn settle(&mut self) -> Result<(), KeepFault> {
+        a_crash_leaves_what_was_committed::<S>();
         match self.settle_files() {
             Ok(()) => Ok(()),
             Err(_) => {
@@ -260,13 +318,14 @@ impl<'a, R: Clock, S: Alter + Drop> Keeper for SpoolKeeper<'a, R, S> {
     }
 }
 
-impl<'a, R: Clock, S: Alter + Drop> Depot for SpoolKeeper<'a, R, S> {
+impl<'a, R: Clock, S: Origin + Drop> Depot for SpoolKeeper<'a, R, S> {
     ghost use Rattle.njh_kept.specs.Keeper.{IsOpenedFrom, IsSettledFrom};
 
     ghost opens = { λ before behind table parts. IsOpenedFrom S.Store before behind table parts
         × IsSettledFrom S.Store before behind table parts };
 
     fn open(&mut self, alloc: Global, tables: Tables) -> Result<Hub, DepotFault> {
+        a_crash_leaves_what_was_committed::<S>();
         self.open_hub(alloc, tables)
     }
 }

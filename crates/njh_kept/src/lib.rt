@@ -17,6 +17,8 @@ mod records;
 mod remembering;
 mod restoring;
 mod rows;
+mod sound;
+mod step;
 mod writer;
 
 pub use fault::{FileFault, OpeningFault, RefusedFile};

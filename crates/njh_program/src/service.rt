@@ -4,6 +4,7 @@ ghost use Rattle.std.specs.Prelude.{◌≡◌, ◌⊎◌, ⊤, None, Some, OnOk,
 ghost use Rattle.njh_program.specs.ProgramOutcome.{AreServedOf, IsFilesEnd};
 ghost use Rattle.njh_program.specs.TableBytes.{AreGiven, AreRefused, IsUnread};
 ghost use Rattle.njh_serve.specs.Serving.{AreServedFrom};
+ghost use Rattle.njh_store.specs.Origin.{StandsAsFound};
 ghost use Rattle.njh_table.specs.TableFile.{TableFile};
 
 use crate::failure::Failure;
@@ -15,7 +16,7 @@ use njh_hub::{Depot, KeepsNothing};
 use njh_kept::SpoolKeeper;
 use njh_serve::{Setup, serve, utc_seconds};
 use njh_service::{Log, Revision};
-use sqlite::Alter;
+use njh_store::{Origin, Store};
 use std::alloc::Global;
 use std::fmt;
 use std::fs::File;
@@ -58,14 +59,29 @@ pub(crate) fn serve_spool_file<F: Files + SpoolFiles + Net + Clock + AllocGlobal
     ensures served { OnOk result (AreServedOf path.now options.turns (Some spool.now)) }
     ensures refused { IfErr result (λ failure. AreRefused (Some path.now) failure ⊎ IsFilesEnd failure) }
 {
-    let store = match rt.open_spool(spool) {
-        Ok(store) => store,
+    match rt.open_spool(spool) {
+        Ok(store) => serve_kept(rt, path, spool, options, log, store),
         Err(fault) => {
             let failure = first_failure(rt, path, fault);
             log_failure(rt, path, &mut log, &failure);
-            return Err(failure);
+            Err(failure)
         }
-    };
+    }
+}
+
+/// Serves the lines of a table file, and keeps whole files in a spool file that is open.
+fn serve_kept<F: Files + Net + Clock + AllocGlobal, L: Write + Drop, S: Origin + Drop>(
+    rt: &F,
+    path: &str,
+    spool: &str,
+    options: Options,
+    mut log: Log<L>,
+    store: Store<S>,
+) -> Result<(), Failure>
+    requires { StandsAsFound S.Store S.found store }
+    ensures served { OnOk result (AreServedOf path.now options.turns (Some spool.now)) }
+    ensures refused { IfErr result (λ failure. AreRefused (Some path.now) failure ⊎ IsFilesEnd failure) }
+{
     let mut keeper = SpoolKeeper::new(rt, rt.alloc(), store);
     match log_strangers(rt, path, spool, &mut keeper, &mut log) {
         Ok(()) => {}
@@ -88,7 +104,7 @@ pub(crate) fn serve_spool_file<F: Files + SpoolFiles + Net + Clock + AllocGlobal
 }
 
 /// Logs how many whole files of a spool file are of customers that the table file doesn't have, where there are any.
-fn log_strangers<F: Files + Clock + AllocGlobal, R: Clock, S: Alter + Drop, L: Write + Drop>(
+fn log_strangers<F: Files + Clock + AllocGlobal, R: Clock, S: Origin + Drop, L: Write + Drop>(
     rt: &F,
     path: &str,
     spool: &str,
@@ -129,7 +145,7 @@ fn first_failure<F: Files + AllocGlobal>(rt: &F, path: &str, fault: FilesFault) 
 }
 
 /// What is told of a whole file that couldn't be put back; none where there is no such file, or no memory.
-fn refusal_of<R: Clock, S: Alter + Drop>(
+fn refusal_of<R: Clock, S: Origin + Drop>(
     alloc: Global,
     keeper: &SpoolKeeper<'_, R, S>,
 ) -> Option<String> {

@@ -10,6 +10,8 @@ mod networks;
 #[cfg(test)]
 mod numbered_lines;
 #[cfg(test)]
+mod opening_tests;
+#[cfg(test)]
 mod playing;
 #[cfg(test)]
 mod portion_tests;

@@ -1,12 +1,19 @@
 //! Plays what peers send, in words, on a hub whose files are kept after each step, and looks at what is kept.
 
+ghost use Rattle.std.specs.Prelude.{List, OnOk};
+ghost use Rattle.njh_hub.specs.Keeping.{LeadsHub};
+ghost use Rattle.njh_hub.specs.WholeHub.{Part};
+ghost use Rattle.njh_store.specs.Origin.{StandsAsFound};
+
 use crate::networks::{CUSTOMERS, customer_of, line_of};
 use crate::numbered_lines::NumberedLines;
 use crate::same::{check_same, listing};
-use crate::spool_files::{FileKeeper, SpoolFiles, kill};
+use crate::spool_files::{SpoolFiles, kill};
 use njh_encode::encode_script;
-use njh_hub::{Hub, Keeper};
+use njh_hub::{Depot, Hub, KeepFault, Keeper};
+use njh_store::{Origin, Store};
 use njh_table::LineId;
+use sqlite::{Start, Unknown};
 use std::alloc::Global;
 use std::rt::HostRuntime;
 use std::str;
@@ -32,24 +39,37 @@ pub fn play(rt: &HostRuntime, name: &str, words: &str) -> Result<(), Fail> {
     encode_script(alloc, &mut words.as_bytes(), &NumberedLines, &mut script)?;
     for run in str::from_utf8(&script)?.split(KILL) {
         files.give_routes(!run.starts_with(WITHOUT_NICE))?;
-        play_run(&files, run)?;
+        play_run(&files, run, Unknown)?;
     }
     Ok(())
 }
 
 /// Plays a run of the program, at whose end it is killed.
-fn play_run(files: &SpoolFiles<'_>, run: &str) -> Result<(), Fail> {
-    let mut keeper = files.keeper()?;
-    let played = play_kept(files, &mut keeper, run);
-    kill(keeper);
+fn play_run<S: Start>(files: &SpoolFiles<'_>, run: &str, start: S) -> Result<(), Fail> {
+    let store = files.open(start)?;
+    let (played, store) = play_over(files, run, store);
+    kill(store);
     played
 }
 
+/// Plays a run over a spool file that is open, and gives that back.
+fn play_over<S: Origin + Drop>(
+    files: &SpoolFiles<'_>,
+    run: &str,
+    store: Store<S>,
+) -> (Result<(), Fail>, Store<S>)
+    requires { StandsAsFound S.Store S.found store }
+{
+    let mut keeper = files.keeper(store);
+    let played = play_kept(files, &mut keeper, run);
+    (played, keeper.into_store())
+}
+
 /// Plays a run with a keeper.
-fn play_kept(files: &SpoolFiles<'_>, keeper: &mut FileKeeper<'_>, run: &str) -> Result<(), Fail> {
+fn play_kept<D: Depot>(files: &SpoolFiles<'_>, keeper: &mut D, run: &str) -> Result<(), Fail> {
     let mut hub = files.hub_of(keeper)?;
     let mut left = u32::MAX;
-    for line in run.lines() {
+    'lines: for line in run.lines() {
         if let Some(note) = line.strip_prefix("# ") {
             left = take_note(files, &hub, note, left)?;
         } else if left > 0 && !line.is_empty() {
@@ -76,12 +96,15 @@ fn take_note(files: &SpoolFiles<'_>, hub: &Hub, note: &str, left: u32) -> Result
 }
 
 /// Plays a line of a script.
-fn play_event(
+fn play_event<K: Keeper>(
     files: &SpoolFiles<'_>,
-    keeper: &mut FileKeeper<'_>,
+    keeper: &mut K,
     hub: &mut Hub,
     line: &str,
-) -> Result<(), Fail> {
+) -> Result<(), Fail>
+    requires { K.knows keeper.old hub.old }
+    ensures { OnOk result (K.knows keeper.new hub.new) }
+{
     let (event, rest) = line.split_once(" ").ok_or("no event")?;
     let (name, digits) = rest.split_once(" ").unwrap_or((rest, ""));
     let id = line_of(name).ok_or("no line")?;
@@ -94,44 +117,53 @@ fn play_event(
 }
 
 /// Plays a tick.
-fn play_tick(
+fn play_tick<K: Keeper>(
     alloc: Global,
-    keeper: &mut FileKeeper<'_>,
+    keeper: &mut K,
     hub: &mut Hub,
     id: LineId,
-) -> Result<(), Fail> {
+) -> Result<(), Fail>
+    requires { K.knows keeper.old hub.old }
+    ensures { OnOk result (K.knows keeper.new hub.new) }
+{
     let mut out = Vec::new(alloc);
     hub.tick(id, &mut out)?;
     drop(out);
-    keeper.follow(hub, id.customer)?;
-    Ok(keeper.settle()?)
+    keep(keeper, hub, id.customer)?;
+    Ok(())
 }
 
 /// Plays the loss of a line.
-fn play_loss(
+fn play_loss<K: Keeper>(
     alloc: Global,
-    keeper: &mut FileKeeper<'_>,
+    keeper: &mut K,
     hub: &mut Hub,
     id: LineId,
-) -> Result<(), Fail> {
+) -> Result<(), Fail>
+    requires { K.knows keeper.old hub.old }
+    ensures { OnOk result (K.knows keeper.new hub.new) }
+{
     let mut out = Vec::new(alloc);
     hub.lost(id, &mut out)?;
     drop(out);
-    keeper.follow(hub, id.customer)?;
-    Ok(keeper.settle()?)
+    keep(keeper, hub, id.customer)?;
+    Ok(())
 }
 
 /// Plays bytes, in as many steps as they need.
-fn play_bytes(
+fn play_bytes<K: Keeper>(
     files: &SpoolFiles<'_>,
-    keeper: &mut FileKeeper<'_>,
+    keeper: &mut K,
     hub: &mut Hub,
     id: LineId,
     digits: &str,
-) -> Result<(), Fail> {
+) -> Result<(), Fail>
+    requires { K.knows keeper.old hub.old }
+    ensures { OnOk result (K.knows keeper.new hub.new) }
+{
     let bytes = hex::decode(files.allocator(), digits)?;
     let mut left = bytes.as_slice();
-    for _ in 0..bytes.len() {
+    'steps: for _ in 0..bytes.len() {
         if left.is_empty() {
             return Ok(());
         }
@@ -142,19 +174,30 @@ fn play_bytes(
 }
 
 /// Plays a step by bytes, and answers how many it took.
-fn play_step(
+fn play_step<K: Keeper>(
     alloc: Global,
-    keeper: &mut FileKeeper<'_>,
+    keeper: &mut K,
     hub: &mut Hub,
     id: LineId,
     piece: &[u8],
-) -> Result<usize, Fail> {
+) -> Result<usize, Fail>
+    requires { K.knows keeper.old hub.old }
+    ensures { OnOk result (K.knows keeper.new hub.new) }
+{
     let mut out = Vec::new(alloc);
     let taken = hub.take(id, piece, &mut out)?;
     drop(out);
-    keeper.follow(hub, id.customer)?;
-    keeper.settle()?;
+    keep(keeper, hub, id.customer)?;
     Ok(taken)
+}
+
+/// Keeps what a step of a customer made of its files, as at the end of a round.
+fn keep<K: Keeper>(keeper: &mut K, hub: &Hub, customer: u16) -> Result<(), KeepFault>
+    requires { (before : List Part) × K.knows keeper.old before × LeadsHub customer before hub.now }
+    ensures { OnOk result (K.knows keeper.new hub.now) }
+{
+    keeper.follow(hub, customer)?;
+    keeper.settle()
 }
 
 /// Checks that what is kept is what the hub has, and that these files of a customer are, where they are given.

@@ -1,18 +1,23 @@
 //! The files of a test: a spool file with its log, and a copy of both as they are at some moment.
 
+ghost use Rattle.std.specs.Prelude.{IfOk};
+ghost use Rattle.sqlite.specs.Files.{file_state};
+ghost use Rattle.sqlite.specs.State.{HasCleanDisk};
+ghost use Rattle.sqlite.specs.WalFiles.{image_at};
+ghost use Rattle.njh_store.specs.Kept.{Spool};
+ghost use Rattle.njh_store.specs.Origin.{IsFoundIn, StandsAsFound};
+ghost use Rattle.njh_store.specs.Standing.{Stands};
+
 use crate::networks::tables;
-use njh_hub::{Depot, Hub};
+use njh_hub::{Depot, DepotFault, Hub};
 use njh_kept::{SpoolKeeper, open_from};
-use njh_store::Store;
+use njh_store::{Origin, Store};
 use njh_table::Tables;
-use sqlite::{FileFrom, FileStore, Unknown};
+use sqlite::{FileFrom, FileStore, Start, Unknown};
 use std::alloc::Global;
 use std::fs;
 use std::rt::HostRuntime;
 use std::test::Fail;
-
-/// A keeper of a spool file.
-pub type FileKeeper<'a> = SpoolKeeper<'a, HostRuntime, FileStore<FileFrom<Unknown>>>;
 
 /// Their names, and the machine that they are on.
 #[derive(Drop)]
@@ -28,18 +33,23 @@ pub struct SpoolFiles<'a> {
 impl<'a> SpoolFiles<'a> {
     /// Those of the test of this name. None of them is there.
     pub fn of(rt: &'a HostRuntime, name: &str) -> Result<SpoolFiles<'a>, Fail> {
+        let files = SpoolFiles::left_by(rt, name)?;
+        let _ = fs::remove_file(rt, files.kept.as_str());
+        let _ = fs::remove_file(rt, files.kept_log.as_str());
+        Ok(files)
+    }
+
+    /// Those of the test of this name, as it left them.
+    pub fn left_by(rt: &'a HostRuntime, name: &str) -> Result<SpoolFiles<'a>, Fail> {
         let alloc = rt.alloc();
-        let files = SpoolFiles {
+        Ok(SpoolFiles {
             rt,
             kept: format!(in alloc; "{name}.db")?,
             kept_log: format!(in alloc; "{name}.db-wal")?,
             left: format!(in alloc; "{name}_left.db")?,
             left_log: format!(in alloc; "{name}_left.db-wal")?,
             tables: tables(alloc, true)?,
-        };
-        let _ = fs::remove_file(rt, files.kept.as_str());
-        let _ = fs::remove_file(rt, files.kept_log.as_str());
-        Ok(files)
+        })
     }
 
     /// From the next hub on there is a route to NICE, or there is none.
@@ -53,16 +63,36 @@ impl<'a> SpoolFiles<'a> {
         self.rt.alloc()
     }
 
-    /// A keeper of the spool file.
-    pub fn keeper(&self) -> Result<FileKeeper<'a>, Fail> {
-        keeper_of(self.rt, self.kept.as_str())
+    /// The spool file, opened or made.
+    pub fn open<S: Start>(&self, start: S) -> Result<Store<FileStore<FileFrom<S>>>, Fail>
+        ensures { IfOk result (λ store. HasCleanDisk (file_state store.conn) → (spool : Spool)
+            → IsFoundIn (image_at S.Start) spool
+            → Stands (record { now = spool; kept = spool }) (file_state store.conn)) }
+    {
+        Ok(Store::open(self.rt, self.kept.as_str(), start)?)
     }
 
-    /// A hub of the tables that a keeper opens.
-    pub fn hub_of(&self, keeper: &mut FileKeeper<'_>) -> Result<Hub, Fail> {
+    /// A keeper of a spool file that is open.
+    pub fn keeper<S: Origin + Drop>(&self, store: Store<S>) -> SpoolKeeper<'a, HostRuntime, S>
+        requires { StandsAsFound S.Store S.found store }
+    {
+        SpoolKeeper::new(self.rt, self.rt.alloc(), store)
+    }
+
+    /// A hub of the tables that a depot opens.
+    pub fn hub_of<D: Depot>(&self, keeper: &mut D) -> Result<Hub, Fail>
+        ensures { IfOk result (λ hub. D.knows keeper.new hub) }
+    {
+        Ok(self.opening(keeper)??)
+    }
+
+    /// What a depot answers that is to open a hub of the tables.
+    pub fn opening<D: Depot>(&self, depot: &mut D) -> Result<Result<Hub, DepotFault>, Fail>
+        ensures { IfOk result (λ opened. IfOk opened (λ hub. D.knows depot.new hub)) }
+    {
         let alloc = self.rt.alloc();
         let tables = Tables::read(alloc, self.tables.as_str())?;
-        Ok(keeper.open(alloc, tables)?)
+        Ok(depot.open(alloc, tables))
     }
 
     /// The hub that is opened from the spool file where the program is killed now.
@@ -90,13 +120,7 @@ fn hub_in(
     Ok(open_from(alloc, tables, store)?)
 }
 
-/// A keeper of the spool file of this name.
-fn keeper_of<'a>(rt: &'a HostRuntime, path: &str) -> Result<FileKeeper<'a>, Fail> {
-    let store = Store::open(rt, path, Unknown)?;
-    Ok(SpoolKeeper::new(rt, rt.alloc(), store))
-}
-
-/// Lets go of a keeper as a program does that is killed.
-pub fn kill(keeper: FileKeeper<'_>) {
-    drop(keeper.into_store().stop().close());
+/// Lets go of a spool file as a program does that is killed.
+pub fn kill<S: Start>(store: Store<FileStore<FileFrom<S>>>) {
+    drop(store.stop().close());
 }

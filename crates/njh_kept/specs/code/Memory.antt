@@ -1,11 +1,11 @@
 -- What a keeper's memory says of a customer's files and of the numbers, as plain values.
-use Rattle.std.specs.Prelude.{map}
+use Rattle.std.specs.Prelude.{map, string_bytes}
 use Rattle.njh_kept.specs.declared.own_files.KeptPartial as kept_partial
 use Rattle.njh_kept.specs.declared.own_files.KeptWhole as kept_whole
 use Rattle.njh_kept.specs.declared.own_files.OwnFiles as own_files
 use Rattle.njh_kept.specs.declared.writer.SpoolWriter as spool_writer
 use Rattle.njh_kept.specs.declared.writer.Sweep as sweep
-use Rattle.njh_kept.specs.code.Remembered.{KeptPartial, KeptWhole, Numbers, OwnFiles, Sweep}
+use Rattle.njh_kept.specs.code.Remembered.{KeptPartial, KeptWhole, Numbers, OwnFiles, OwnMemory, Sweep}
 
 -- a whole file
 abbrev pub whole_of : kept_whole.KeptWhole → KeptWhole
@@ -31,6 +31,10 @@ own_of own = record {
   whole = map whole_of own.whole.items;
   partial = map partial_of own.partial.items;
 }
+
+-- a customer
+abbrev pub own_memory_of : own_files.OwnFiles → OwnMemory
+own_memory_of own = record { own = own_of own; text = string_bytes own.text }
 
 -- records of a file that has left
 abbrev pub sweep_in : sweep.Sweep → Sweep

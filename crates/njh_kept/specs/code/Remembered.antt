@@ -42,6 +42,11 @@ pub record OwnFiles : Type 0 where
   pub whole : List KeptWhole
   pub partial : List KeptPartial
 
+-- a customer's files, and its name as each row has it
+pub record OwnMemory : Type 0 where
+  pub own : OwnFiles
+  pub text : List ℕ
+
 -- records of a file that has left, from a place on
 pub record Sweep : Type 0 where
   pub key : ℕ
