@@ -23,7 +23,7 @@ use Rattle.njh_customer.specs.OutgoingFiles.{Outgoing, with_file_state, records_
 use Rattle.njh_customer.specs.Moves as moves
 use Rattle.njh_customer.specs.Moves.{Sends}
 use Rattle.njh_customer.specs.FrameEffects.{Carries, nothing, on_its_way, to_its_end}
-use Rattle.njh_customer.proofs.SendingMoves.{GivesOne, out_of, stream_now, gives}
+use Rattle.njh_customer.proofs.SendingMoves.{AreOfEight, GivesOne, out_of, sources_eight, stream_now, gives}
 use Rattle.njh_customer.proofs.SendingMoves as sending
 use Rattle.njh_customer.proofs.DoingLaws.{BlocksCarry}
 
@@ -52,7 +52,7 @@ marked_records n m state (f ∷ fs) = at_mark (f.number == m) (f.number == n) (m
 
 pub sends_keep_records : (entry : CustomerEntry) (l n : ℕ) (x y : Outgoing) → Sends entry l x y → records_numbered n y ≡ records_numbered n x
 sends_keep_records entry l n x y (moves.gives_up k at e) = ap (records_numbered n) e
-sends_keep_records entry l n x y (moves.asks k f at found e) = ap (records_numbered n) e ∙ marked_records n f.number _ x.files
+sends_keep_records entry l n x y (moves.asks k f few at found e) = ap (records_numbered n) e ∙ marked_records n f.number _ x.files
 sends_keep_records entry l n x y (moves.goes_on k m place r at found e) = ap (records_numbered n) e
 sends_keep_records entry l n x y (moves.ends k m place at found e) = ap (records_numbered n) e
 
@@ -135,14 +135,14 @@ NothingGoes = (goes : WholeFile → Bool) (x : Filling) → all_suspended x.outl
 module _ (in_order : CarriesInOrder) (quiet : IsQuiet) (each : SourcesMove) (fill : SourcesFill) (nothing_goes : NothingGoes) where
   behind_all :
       (entry : CustomerEntry) (l k n p : ℕ) (base : List (List Sender)) (inside : l < length base) (more : List Source) (x : Filling)
-      → length (file_records n x.spool) ≤ p → Behind k n p x → EachDoes (goes_by entry l) k more x
+      → AreOfEight more → length (file_records n x.spool) ≤ p → Behind k n p x → EachDoes (goes_by entry l) k more x
       → Behind k n p (after_sources (goes_by entry l) more x)
   unfolding after_sources
-  behind_all entry l k n p base inside [] x past behind does = behind
-  behind_all entry l k n p base inside (source ∷ more) x past behind does =
+  behind_all entry l k n p base inside [] x few past behind does = behind
+  behind_all entry l k n p base inside (source ∷ more) x few past behind does =
       let y = after_source (goes_by entry l) source x in
-      let same = gives_keep_records entry l n base x y (gives entry l base inside source x) in
-      behind_all entry l k n p base inside more y (omega (arith, past, ap length same))
+      let same = gives_keep_records entry l n base x y (gives entry l base inside source x few.0) in
+      behind_all entry l k n p base inside more y few.1 (omega (arith, past, ap length same))
       (behind_still (goes_by entry l) k n p x y past behind does.0) does.1
 
   behind_filled :
@@ -158,7 +158,7 @@ module _ (in_order : CarriesInOrder) (quiet : IsQuiet) (each : SourcesMove) (fil
       at_suspended false e =
           let all = sources x.block.limit x.outlet in
           subst (Behind k n p) (sym (fill (goes_by entry l) x e))
-          (behind_all entry l k n p base inside all x past begins (each (goes_by entry l) k all x few in_line))
+          (behind_all entry l k n p base inside all x (sources_eight x.block.limit x.outlet) past begins (each (goes_by entry l) k all x few in_line))
 
   pub blocks_carry : BlocksCarry
   blocks_carry entry l k base x inside few in_line none = at_sender (sender_at k x.outlet) refl

@@ -4,7 +4,7 @@ use Rattle.std.proofs.Common.{Ok, Err, nat_lt, refl, sym, ap, subst, ◌∙◌, 
 use Rattle.std.proofs.Math.ListN.{get_or-map}
 use Rattle.std.proofs.Math.Seq.{map-set_same}
 use Rattle.std.proofs.lemmas.Bool.{ltb-true}
-use Rattle.std.proofs.lemmas.List.{length-map, length-set, map-set, set-get_or}
+use Rattle.std.proofs.lemmas.List.{length-map, length-set, map-set}
 use Rattle.njh_bisync.specs.Frames as frame
 use Rattle.njh_bisync.specs.Frames.{Received}
 use Rattle.njh_bisync.specs.Written.{text_bytes}
@@ -42,7 +42,7 @@ use Rattle.njh_customer.specs.Moves.{LeadsByMoves, nowhere, OneActs, Sends}
 use Rattle.njh_customer.specs.FrameEffects.{Carries, Ends, still_on, over_now, GoesOut, no_block, new_block, Does}
 use Rattle.njh_customer.specs.FrameEffects.{block_records, records_of_frame, IsNoNewBlock, nothing_sent, control, again}
 use Rattle.njh_customer.specs.FrameEffects.{sign_on, count, without_records}
-use Rattle.njh_customer.proofs.OutgoingLaws.{of_parts, on_line_senders}
+use Rattle.njh_customer.proofs.OutgoingLaws.{of_parts, on_line_senders, own_again, unmoved}
 use Rattle.njh_customer.proofs.SendingMoves.{out_of, filled_leads, filled_with_none}
 use Rattle.njh_customer.proofs.EndingMoves.{over_so}
 use Rattle.njh_customer.proofs.RecordsMoves.{Acting, acting_where, lines_of}
@@ -63,10 +63,7 @@ sent_unmoved :
     → x.spool.arrived ≡ c.spool.arrived → IsNoNewBlock (line_at l c.lines).state x.frame
     → GoesOut c.entry l (line_at l c.lines).state (outgoing c) (outgoing (after_reply l x c).after) x.frame
 sent_unmoved l x c same files none_came no_new =
-    no_block
-    (ap (λ whole. of_parts whole x.spool.arrived (streams_from_hub (set c.lines l x.line))) files
-    ∙ ap (λ arrived. of_parts c.spool.whole arrived (streams_from_hub (set c.lines l x.line))) none_came
-    ∙ ap (of_parts c.spool.whole c.spool.arrived) (map-set_same (λ y. y.senders) c.lines l x.line no_customer_line same)) no_new
+    no_block (unmoved l x c same files none_came) no_new
 
 control_is : (line x : LineState) (which : Control) → IsNoNewBlock line (sending_of_control which x).frame
 control_is line x Enquiry = control Enquiry refl
@@ -138,9 +135,7 @@ module _ (carry : BlocksCarry) (commands : CommandsMoveFilesSo) where
       inside = omega (arith, there, length-map c.lines (λ x. x.senders))
 
       begins : out_of l base first ≡ outgoing c
-      begins =
-          ap (of_parts c.spool.whole c.spool.arrived)
-          (ap (set base l) (sym (get_or-map (λ y. y.senders) c.lines l no_customer_line)) ∙ set-get_or base l [])
+      begins = ap (of_parts c.spool.whole c.spool.arrived) (own_again l c.lines)
 
       -- however the line's state is
       after_is :

@@ -40,7 +40,7 @@ IsSent (byte ∷ bytes) = Unit {0}
 
 -- ---- a line that is down
 
-set_down : (lines : List CustomerLine) (l : ℕ) (x : CustomerLine) → x.state.session.phase ≡ Down → (line_at l (set lines l x)).state.session.phase ≡ Down
+pub set_down : (lines : List CustomerLine) (l : ℕ) (x : CustomerLine) → x.state.session.phase ≡ Down → (line_at l (set lines l x)).state.session.phase ≡ Down
 set_down [] l x down = refl
 set_down (y ∷ ys) zero x down = down
 set_down (y ∷ ys) (suc l) x down = set_down ys l x down

@@ -37,7 +37,7 @@ tried_ready entry l (f ∷ fs) = at_test (may_go_again entry l f) (tried_ready e
     at_test true rest = ap (λ more. ready f ∷ more) rest
     at_test false rest = ap (λ more. ready f ∷ more) rest
 
-abbrev ended_where : Option ℕ → CustomerSpool → CustomerSpool
+abbrev pub ended_where : Option ℕ → CustomerSpool → CustomerSpool
 ended_where o s = elim o [ Some n ↦ with_state n Ready s | None ↦ s ]
 
 ended_ready : (x : Sender) (s : CustomerSpool) → map ready (spool_after_session x s).whole ≡ map ready s.whole
@@ -56,7 +56,7 @@ without_open_whole receiver.Idle s = refl
 without_open_whole (receiver.Open n progress) s = refl
 without_open_whole receiver.Draining s = refl
 
-without_all_whole : (rs : List Receiver) (s : CustomerSpool) → (without_all_open rs s).whole ≡ s.whole
+pub without_all_whole : (rs : List Receiver) (s : CustomerSpool) → (without_all_open rs s).whole ≡ s.whole
 without_all_whole [] s = refl
 without_all_whole (r ∷ rs) s = without_all_whole rs (without_open r s) ∙ without_open_whole r s
 

@@ -1,6 +1,6 @@
 -- Lists of whole files: which of them are there, by their numbers, after a change.
-use Rattle.std.proofs.Common.{◌≡◌, ◌<◌, ℕ, Bool, true, false, cond, not, ◌==◌, ◌||◌, ◌⊎◌, inl, inr, List, [], ◌∷◌}
-use Rattle.std.proofs.Common.{length, map, filter, get_or, refl, sym, ap, ◌∙◌, arith}
+use Rattle.std.proofs.Common.{◌≡◌, ◌<◌, ℕ, zero, suc, Bool, true, false, cond, not, ◌==◌, ◌||◌, ◌⊎◌, inl, inr, List, [], ◌∷◌}
+use Rattle.std.proofs.Common.{length, map, filter, replicate, get_or, refl, sym, ap, ◌∙◌, arith}
 use Rattle.std.proofs.Math.ListN.{get_or-map}
 use Rattle.std.proofs.lemmas.Bool.{eqb-true}
 use Rattle.std.proofs.lemmas.List.{get_or_default, length-map}
@@ -13,6 +13,12 @@ use Rattle.njh_stream.specs.Sending.{ready}
 use Rattle.njh_command.specs.Commands.{changed_file, may_change}
 use Rattle.njh_customer.specs.OutgoingFiles.{with_file_state}
 use Rattle.njh_customer.proofs.EndingMoves.{marked_ready}
+
+-- a list of copies holds nothing else
+pub copies : {A : Type 0} (n k : ℕ) (a : A) → get_or (replicate n a) k a ≡ a
+copies zero k a = refl
+copies (suc n) zero a = refl
+copies (suc n) (suc k) a = copies n k a
 
 -- ---- the elements of lists
 

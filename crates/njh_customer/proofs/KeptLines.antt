@@ -1,4 +1,4 @@
--- What no record changes of a line: how it is set up, the last transmission, and how far it is.
+-- What no record changes of a line: how it is set up, the last transmission, how far it is, and how many streams it has.
 use Rattle.std.proofs.Common.{◌≡◌, ℕ, Bool, true, false, cond, ◌==◌, List, [], ◌∷◌, map, fold, Option, Some, None}
 use Rattle.std.proofs.Common.{Result, Ok, Err, refl, ap, ◌∙◌}
 use Rattle.std.specs.Option.{option_map}
@@ -29,10 +29,10 @@ use Rattle.njh_customer.specs.Acting.{refusal_of, after_stream_request, peer_ans
 use Rattle.njh_customer.specs.Acting.{after_user_command, after_unknown_node, message_routed, message_read}
 use Rattle.njh_customer.specs.Acting.{after_message, after_record}
 
-abbrev pub kept : CustomerLine → Config × List ℕ × Phase
-kept x = (x.state.config, x.state.last, x.state.session.phase)
+abbrev pub kept : CustomerLine → Config × List ℕ × Phase × ℕ
+kept x = (x.state.config, x.state.last, x.state.session.phase, x.streams)
 
-abbrev pub kepts : List CustomerLine → List (Config × List ℕ × Phase)
+abbrev pub kepts : List CustomerLine → List (Config × List ℕ × Phase × ℕ)
 kepts lines = map kept lines
 
 pub on_line_kepts :

@@ -68,7 +68,7 @@ leaves_on_line :
     → has_file n y ≡ false → Leaves entry l items n x
 leaves_on_line entry l items x y n (by_record (i, at, acts)) there gone = record_leaves entry l items x y n i at acts there gone
 leaves_on_line entry l items x y n (by_sending (moves.gives_up k before e)) there gone = stayed n x y (ap (has_file n) e) there gone
-leaves_on_line entry l items x y n (by_sending (moves.asks k f before found e)) there gone =
+leaves_on_line entry l items x y n (by_sending (moves.asks k f few before found e)) there gone =
     stayed_all n x y (ap (λ z. numbers z.files) e ∙ marked_numbers f.number Sending x.files) there gone
 leaves_on_line entry l items x y n (by_sending (moves.goes_on k m place r before found e)) there gone = stayed n x y (ap (has_file n) e) there gone
 leaves_on_line entry l items x y n (by_sending (moves.ends k m place before found e)) there gone = stayed n x y (ap (has_file n) e) there gone

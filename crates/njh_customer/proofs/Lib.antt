@@ -28,6 +28,7 @@ pub mod DisregardingLaws
 pub mod NewRouteLaws
 pub mod RoutesMoves
 pub mod KeepingLaws
+pub mod StepWalks
 pub mod MarkLaws
 pub mod GrowingLaws
 pub mod PartialNumbers
@@ -37,3 +38,11 @@ pub mod RestLengths
 pub mod SendingGrows
 pub mod DownLines
 pub mod StepsGrow
+pub mod FileNumbers
+pub mod IdleLines
+pub mod WithinQuota
+pub mod SenderPlaces
+pub mod SentByRecords
+pub mod SentByLines
+pub mod OrderLaws
+pub mod LossLaws

@@ -1,14 +1,12 @@
 -- The lines that are marked as up are those that are up.
 use Rattle.std.proofs.Common.{◌≡◌, ℕ, Bool, true, false, ◌&&◌, ◌||◌, not, cond, List, [], ◌∷◌, map, length, set, get_or}
-use Rattle.std.proofs.Common.{Option, Some, None, Result, Ok, Err, nat_lt, refl, sym, ap, ◌∙◌}
+use Rattle.std.proofs.Common.{Result, Ok, Err, nat_lt, refl, sym, ap, ◌∙◌}
 use Rattle.std.proofs.Math.ListN.{get_or-map}
 use Rattle.std.proofs.Math.Seq.{map-set_same}
 use Rattle.std.proofs.lemmas.List.{map-set, set-get_or, set-set}
 use Rattle.std.proofs.lemmas.Simd.{map-map}
-use Rattle.njh_bisync.specs.ByteSteps.{rest_step}
 use Rattle.njh_bisync.specs.Frames as frame
 use Rattle.njh_bisync.specs.Frames.{Received}
-use Rattle.njh_bisync.specs.Reading.{Rest}
 use Rattle.njh_bisync.specs.declared.frame.Control.{Control}
 use Rattle.njh_bisync.specs.declared.frame.Control.TheVariants as control
 use Rattle.njh_block.specs.Blocks.{Block, Item, all_suspended, read_block, same_fcs}
@@ -16,8 +14,6 @@ use Rattle.njh_block.specs.Writing.{Writing}
 use Rattle.njh_block.specs.declared.fault.BlockFault.{BlockFault}
 use Rattle.njh_spool.specs.CustomerSpool.{CustomerSpool}
 use Rattle.njh_table.specs.Entries.{CustomerEntry}
-use Rattle.njh_table.specs.Keys.{Walked}
-use Rattle.njh_table.specs.NewRoutes.{NewRoute, routes_checked}
 use Rattle.njh_line.specs.declared.Phase.{Phase}
 use Rattle.njh_line.specs.declared.config.Config.{Config}
 use Rattle.njh_line.specs.declared.verdict.LineReply.{LineReply}
@@ -39,13 +35,11 @@ use Rattle.njh_customer.specs.Alone.{CustomerStep, with_idle_streams, with_raise
 use Rattle.njh_customer.specs.Alone.{session_ended, carried_out, verdict_on, accepted_on, after_line_input, block_input}
 use Rattle.njh_customer.specs.Alone.{behind_records, after_block, text_read, after_text, after_received, signal_input}
 use Rattle.njh_customer.specs.Alone.{after_frame, after_signal}
-use Rattle.njh_customer.specs.Feeding.{acted_on, byte_step, bytes_run, or_later, take_step, Taking}
-use Rattle.njh_customer.specs.NewRoutes.{taken_where, routes_given}
-use Rattle.njh_customer.specs.Part.{Part, rest_on}
-use Rattle.njh_customer.specs.Runs.{OwnEvent, OwnBytes, OwnSignal, OwnRoutes, event_run}
+use Rattle.njh_customer.specs.Part.{rest_on}
 use Rattle.njh_customer.specs.Laws.{MarksAreRight}
 use Rattle.njh_customer.proofs.KeptLines.{kept, kepts}
 use Rattle.njh_customer.proofs.RecordsMoves.{Acting, acting_where}
+use Rattle.njh_customer.proofs.StepWalks.{StaysInFrames, event_so, take_so}
 
 -- ---- which lines are up
 
@@ -55,54 +49,61 @@ is_line_up x = is_up x.state.session.phase
 abbrev ups : List CustomerLine → List Bool
 ups lines = map is_line_up lines
 
-abbrev is_kept_up : Config × List ℕ × Phase → Bool
+abbrev is_kept_up : Config × List ℕ × Phase × ℕ → Bool
 is_kept_up k = is_up k.2
 
 ups_kept : (xs ys : List CustomerLine) → kepts xs ≡ kepts ys → ups xs ≡ ups ys
 ups_kept xs ys e = sym (map-map is_kept_up kept xs) ∙ ap (map is_kept_up) e ∙ map-map is_kept_up kept ys
 
--- ---- what a line sends leaves it as far as it was
+-- ---- what a line sends leaves it set up as it was, and as far as it was
 
-control_phase : (which : Control) (x : LineState) → (sending_of_control which x).line.session.phase ≡ x.session.phase
-control_phase control.Enquiry x = refl
-control_phase control.Ack0 x = refl
-control_phase control.Nak x = refl
+abbrev lasting : LineState → Config × Phase
+lasting x = (x.config, x.session.phase)
 
-no_block_phase : (or_ack0 : Bool) (x : LineState) → (sending_of_no_block or_ack0 x).line.session.phase ≡ x.session.phase
-no_block_phase true x = refl
-no_block_phase false x = refl
+control_lasting : (which : Control) (x : LineState) → lasting (sending_of_control which x).line ≡ lasting x
+control_lasting control.Enquiry x = refl
+control_lasting control.Ack0 x = refl
+control_lasting control.Nak x = refl
+
+no_block_lasting : (or_ack0 : Bool) (x : LineState) → lasting (sending_of_no_block or_ack0 x).line ≡ lasting x
+no_block_lasting true x = refl
+no_block_lasting false x = refl
 
 abbrev empty_where : Bool → Bool → Writing → LineState → Sending
 empty_where b or_ack0 w x = elim b [ true ↦ sending_of_no_block or_ack0 x | false ↦ sending_of_block w x ]
 
-empty_phase : (or_ack0 : Bool) (w : Writing) (x : LineState) → (sending_of_empty or_ack0 w x).line.session.phase ≡ x.session.phase
-empty_phase or_ack0 w x = at (all_suspended x.session.peer_fcs || same_fcs w.fcs x.session.own_fcs)
+empty_lasting : (or_ack0 : Bool) (w : Writing) (x : LineState) → lasting (sending_of_empty or_ack0 w x).line ≡ lasting x
+empty_lasting or_ack0 w x = at (all_suspended x.session.peer_fcs || same_fcs w.fcs x.session.own_fcs)
   where
-    at : (b : Bool) → (empty_where b or_ack0 w x).line.session.phase ≡ x.session.phase
-    at true = no_block_phase or_ack0 x
+    at : (b : Bool) → lasting (empty_where b or_ack0 w x).line ≡ lasting x
+    at true = no_block_lasting or_ack0 x
     at false = refl
 
 abbrev written_where : Bool → Writing → LineState → List Item → Sending
 written_where or_ack0 w x is = elim is [ [] ↦ sending_of_empty or_ack0 w x | i ∷ js ↦ sending_of_block w x ]
 
-written_phase : (or_ack0 : Bool) (w : Writing) (x : LineState) → (sending_of_written or_ack0 w x).line.session.phase ≡ x.session.phase
-written_phase or_ack0 w x = at w.items
+written_lasting : (or_ack0 : Bool) (w : Writing) (x : LineState) → lasting (sending_of_written or_ack0 w x).line ≡ lasting x
+written_lasting or_ack0 w x = at w.items
   where
-    at : (is : List Item) → (written_where or_ack0 w x is).line.session.phase ≡ x.session.phase
-    at [] = empty_phase or_ack0 w x
+    at : (is : List Item) → lasting (written_where or_ack0 w x is).line ≡ lasting x
+    at [] = empty_lasting or_ack0 w x
     at (i ∷ is) = refl
 
-reply_phase :
+-- and with as many streams
+abbrev pub line_lasting : CustomerLine → Config × Phase × ℕ
+line_lasting x = (x.state.config, x.state.session.phase, x.streams)
+
+pub reply_lasting :
     (entry : CustomerEntry) (l : ℕ) (r : LineReply) (s : CustomerSpool) (x : CustomerLine)
-    → (sending_of_reply entry l r s x).line.state.session.phase ≡ x.state.session.phase
-reply_phase entry l reply.Nothing s x = refl
-reply_phase entry l (reply.Control which) s x = control_phase which x.state
-reply_phase entry l reply.Again s x = refl
-reply_phase entry l (reply.SignOn kind) s x = refl
-reply_phase entry l (reply.Sequence expected) s x = refl
-reply_phase entry l (reply.Next or_ack0) s x =
+    → line_lasting (sending_of_reply entry l r s x).line ≡ line_lasting x
+reply_lasting entry l reply.Nothing s x = refl
+reply_lasting entry l (reply.Control which) s x = ap (λ (p : Config × Phase). (p.0, p.1, x.streams)) (control_lasting which x.state)
+reply_lasting entry l reply.Again s x = refl
+reply_lasting entry l (reply.SignOn kind) s x = refl
+reply_lasting entry l (reply.Sequence expected) s x = refl
+reply_lasting entry l (reply.Next or_ack0) s x =
     let f = next_block entry l s x in
-    written_phase or_ack0 f.block (with_outlet f.outlet x).state
+    ap (λ (p : Config × Phase). (p.0, p.1, x.streams)) (written_lasting or_ack0 f.block (with_outlet f.outlet x).state)
 
 -- ---- marks
 
@@ -158,7 +159,7 @@ module _ (keep : InputsKeepUp) (l : ℕ) (came : Input) (c : Customer) (marked :
       sent_ups : ups sent.lines ≡ set (ups c.lines) l (is_up after)
       sent_ups =
           map-set_same is_line_up d.lines l (sending_of_reply d.entry l v.reply d.spool (line_at l d.lines)).line no_customer_line
-          (ap is_up (reply_phase d.entry l v.reply d.spool (line_at l d.lines)))
+          (ap (λ (p : Config × Phase × ℕ). is_up p.1) (reply_lasting d.entry l v.reply d.spool (line_at l d.lines)))
           ∙ ups_kept d.lines (accepted_on l came c).lines kept_so ∙ accepted_ups
 
       at : (b : Bool) → b ≡ (verdict_on l came c).ended → IsMarked (session_over_where b l sent)
@@ -232,44 +233,8 @@ module _ (keep : InputsKeepUp) (commands : CommandsMoveFilesSo) where
   signal_marked l x c marked =
       where_marked (nat_lt l (length c.lines)) (after_line_input l (signal_input x) c) c marked (input_marked keep l (signal_input x) c marked)
 
-  -- ---- bytes
-
-  acted_marked : (l : ℕ) (o : Option Received) (c : Customer) → IsMarked c → IsMarked (acted_on l o c).after
-  acted_marked l None c marked = marked
-  acted_marked l (Some x) c marked = frame_marked l x c marked
-
-  run_marked : (rest : Rest) (c : Customer) (l : ℕ) (bytes : List ℕ) → IsMarked c → IsMarked (bytes_run rest c l bytes).after
-  run_marked rest c l [] marked = marked
-  run_marked rest c l (byte ∷ bytes) marked =
-      let x = byte_step rest c l byte in
-      run_marked x.rest x.after l bytes (acted_marked l (rest_step rest byte).frame c marked)
-
-  by_sent :
-      (rest : Rest) (d : Customer) (frame : List ℕ) (later : Taking) → IsMarked d → IsMarked later.after
-      → IsMarked (or_later 1 rest (record { after = d; frame = frame }) later).after
-  by_sent rest d [] later first second = second
-  by_sent rest d (b ∷ frame) later first second = first
-
-  take_marked : (rest : Rest) (c : Customer) (l : ℕ) (piece : List ℕ) → IsMarked c → IsMarked (take_step rest c l piece).after
-  take_marked rest c l [] marked = marked
-  take_marked rest c l (byte ∷ bytes) marked =
-      let x = byte_step rest c l byte in
-      let first = acted_marked l (rest_step rest byte).frame c marked in
-      by_sent x.rest x.after x.frame (take_step x.rest x.after l bytes) first (take_marked x.rest x.after l bytes first)
-
-  -- ---- events
-
-  routes_marked : (routes : List NewRoute) (p : Part) → IsMarked p.customer → IsMarked (routes_given routes p).customer
-  routes_marked routes p marked = at (routes_checked p.customer.entry routes)
-    where
-      at : (w : Walked (Unit {0})) → IsMarked (taken_where w routes p).customer
-      at (Ok faultless) = marked
-      at (Err fault) = marked
-
-  event_marked : (p : Part) (event : OwnEvent) → IsMarked p.customer → IsMarked (event_run p event).after.customer
-  event_marked p (OwnBytes l piece) marked = run_marked (rest_on l p) p.customer l piece marked
-  event_marked p (OwnSignal signal l) marked = signal_marked l signal p.customer marked
-  event_marked p (OwnRoutes routes) marked = routes_marked routes p marked
+  frames_marked : StaysInFrames IsMarked
+  frames_marked = record { by_frame = frame_marked; by_signal = signal_marked; by_routes = λ routes c marked. marked }
 
 fresh_marked : (entry : CustomerEntry) → IsMarked (fresh_customer entry)
 fresh_marked entry = sym (map-map is_line_up (λ line. idle_line (config_of entry line) line.streams) entry.lines)
@@ -277,6 +242,6 @@ fresh_marked entry = sym (map-map is_line_up (λ line. idle_line (config_of entr
 pub marks_right : InputsKeepUp → CommandsMoveFilesSo → MarksAreRight
 marks_right keep commands = record {
   fresh = fresh_marked;
-  events = event_marked keep commands;
-  takes = λ p l piece marked. take_marked keep commands (rest_on l p) p.customer l piece marked;
+  events = event_so IsMarked (frames_marked keep commands);
+  takes = λ p l piece marked. take_so IsMarked (frames_marked keep commands) (rest_on l p) p.customer l piece marked;
 }

@@ -1,5 +1,5 @@
 -- A customer that was just opened is coherent.
-use Rattle.std.proofs.Common.{◌≡◌, ℕ, zero, suc, ◌≤◌, false, List, [], ◌∷◌, map, replicate, get_or, refl, sym, ◌∙◌}
+use Rattle.std.proofs.Common.{◌≡◌, ℕ, zero, suc, ◌≤◌, false, List, [], ◌∷◌, map, get_or, refl, sym, ◌∙◌}
 use Rattle.std.proofs.lemmas.List.{length-map}
 use Rattle.std.specs.List.{All}
 use Rattle.std.proofs.lemmas.List.Elements.{All-map, All-nil}
@@ -12,19 +12,12 @@ use Rattle.njh_spool.specs.CustomerSpool.{CustomerSpool, WholeFile, empty_spool}
 use Rattle.njh_table.specs.Entries.{CustomerEntry, LineEntry}
 use Rattle.njh_customer.specs.Customer.{config_of, fresh_customer, idle_line}
 use Rattle.njh_customer.specs.code.Coherence.{IsCoherent, HasStreams, streams_to_hub}
-
-eight_idle : (k : ℕ) → get_or (replicate 8 receiver.Idle) k receiver.Idle ≡ receiver.Idle
-eight_idle k = idle 8 k
-  where
-    idle : (n k : ℕ) → get_or (replicate n receiver.Idle) k receiver.Idle ≡ receiver.Idle
-    idle zero k = refl
-    idle (suc n) zero = refl
-    idle (suc n) (suc k) = idle n k
+use Rattle.njh_customer.proofs.FileListLaws.{copies}
 
 no_stream : (entry : CustomerEntry) (lines : List LineEntry) (l k : ℕ)
     → stream_at l k (streams_to_hub (map (λ line. idle_line (config_of entry line) line.streams) lines)) ≡ receiver.Idle
 no_stream entry [] l k = refl
-no_stream entry (x ∷ xs) zero k = eight_idle k
+no_stream entry (x ∷ xs) zero k = copies 8 k receiver.Idle
 no_stream entry (x ∷ xs) (suc l) k = no_stream entry xs l k
 
 line_of_eight : (entry : CustomerEntry) (line : LineEntry) → line.streams ≤ 4 → HasStreams (idle_line (config_of entry line) line.streams)

@@ -19,6 +19,8 @@ use Rattle.njh_customer.specs.Customer.{Customer, CustomerLine, no_customer_line
 use Rattle.njh_customer.specs.Customer.{with_sender}
 use Rattle.njh_customer.specs.Waiting.{with_answer_on, with_waiting, goes, with_message_to, all_said, with_notice_to}
 use Rattle.njh_customer.specs.Acting.{without_sending}
+use Rattle.njh_customer.specs.Sending.{LineSent}
+use Rattle.njh_customer.specs.Alone.{after_reply}
 use Rattle.njh_customer.specs.OutgoingFiles.{Outgoing, outgoing, streams_from_hub, sender_on, with_sender_on}
 use Rattle.njh_customer.specs.OutgoingFiles.{with_files}
 use Rattle.njh_customer.specs.Moves.{without_files}
@@ -84,6 +86,22 @@ same_stream l k s x e =
     ap (λ t. with_sender_on l k t x) (sym e)
     ∙ ap (λ senders. of_parts x.files x.arrived (set x.streams l senders)) (set-get_or (get_or x.streams l []) k Idle)
     ∙ ap (of_parts x.files x.arrived) (set-get_or x.streams l [])
+
+-- ---- a line that sends
+
+-- what moves no stream and no file
+pub unmoved :
+    (l : ℕ) (x : LineSent) (c : Customer) → x.line.senders ≡ (line_at l c.lines).senders → x.spool.whole ≡ c.spool.whole
+    → x.spool.arrived ≡ c.spool.arrived → outgoing (after_reply l x c).after ≡ outgoing c
+unmoved l x c same files none_came =
+    ap (λ whole. of_parts whole x.spool.arrived (streams_from_hub (set c.lines l x.line))) files
+    ∙ ap (λ arrived. of_parts c.spool.whole arrived (streams_from_hub (set c.lines l x.line))) none_came
+    ∙ ap (of_parts c.spool.whole c.spool.arrived) (map-set_same (λ y. y.senders) c.lines l x.line no_customer_line same)
+
+-- a line's own streams are those in its place
+pub own_again : (l : ℕ) (lines : List CustomerLine) → set (streams_from_hub lines) l (line_at l lines).senders ≡ streams_from_hub lines
+own_again l lines =
+    ap (set (streams_from_hub lines) l) (sym (get_or-map (λ y. y.senders) lines l no_customer_line)) ∙ set-get_or (streams_from_hub lines) l []
 
 -- ---- streams that give their files up
 

@@ -69,7 +69,7 @@ but_state files now g e at =
     let found = from_map ready files no_file (ready g) there in
     (found.0, found.1, ap (λ h. h.number) found.2, ap (λ h. h.kind) found.2, ap (λ h. h.records) found.2)
 
-both_are : (a b : Bool) → (a && not b) ≡ true → (a ≡ true) × (b ≡ false)
+pub both_are : (a b : Bool) → (a && not b) ≡ true → (a ≡ true) × (b ≡ false)
 both_are true true e = absurd (cc e)
 both_are true false e = (refl, refl)
 both_are false b e = absurd (cc e)
@@ -129,7 +129,7 @@ module _ (by_records : (kind : Kind) (node : List ℕ) (records : List Stored) �
 
     sending_changes : Sends entry l x y → Contains y.files g → FileMoves entry items x g
     sending_changes (moves.gives_up k before e) there = was_there (itself x.files g (among x.files (ap (λ z. z.files) e) there))
-    sending_changes (moves.asks k f before found e) there =
+    sending_changes (moves.asks k f few before found e) there =
         was_there (one_marked f.number state.Sending x.files g (among (with_file_state f.number state.Sending x.files) (ap (λ z. z.files) e) there))
     sending_changes (moves.goes_on k n place r before found e) there = was_there (itself x.files g (among x.files (ap (λ z. z.files) e) there))
     sending_changes (moves.ends k n place before found e) there = was_there (itself x.files g (among x.files (ap (λ z. z.files) e) there))

@@ -35,13 +35,13 @@ use Rattle.njh_customer.proofs.GrowingLaws.{quietly_then, quiet, unchanged, with
 -- ---- what goes out
 
 -- no file has changed but in its state, and none has come
-record IsCalm (x y : Outgoing) : Type 0 where
-  files : map ready y.files ≡ map ready x.files
-  arrived : y.arrived ≡ x.arrived
+pub record IsCalm (x y : Outgoing) : Type 0 where
+  pub files : map ready y.files ≡ map ready x.files
+  pub arrived : y.arrived ≡ x.arrived
 
 send_calm : (entry : CustomerEntry) (l : ℕ) (x y : Outgoing) → Sends entry l x y → IsCalm x y
 send_calm entry l x y (moves.gives_up k before e) = record { files = ap (λ z. map ready z.files) e; arrived = ap (λ z. z.arrived) e }
-send_calm entry l x y (moves.asks k f before found e) =
+send_calm entry l x y (moves.asks k f few before found e) =
     record {
       files = ap (λ z. map ready z.files) e ∙ marked_ready f.number Sending x.files;
       arrived = ap (λ z. z.arrived) e;
@@ -57,21 +57,24 @@ sends_calm entry l _ _ (onward x y z move later) =
     let rest = sends_calm entry l y z later in
     record { files = rest.files ∙ first.files; arrived = rest.arrived ∙ first.arrived }
 
-filled_grows : (entry : CustomerEntry) (l : ℕ) (x : Filling) → FilesGrow 0 x.spool (filled_block (goes_by entry l) x).spool
-filled_grows entry l x =
-    quiet x.spool full.spool (but_states x.spool.whole full.spool.whole calm.files) calm.arrived (filled_kept (goes_by entry l) x).partial
+-- streams of which line l has none
+abbrev pub no_streams : ℕ → List (List Sender)
+no_streams l = replicate (l + 1) []
+
+pub filled_calm : (entry : CustomerEntry) (l : ℕ) (x : Filling)
+    → IsCalm (out_of l (no_streams l) x) (out_of l (no_streams l) (filled_block (goes_by entry l) x))
+filled_calm entry l x =
+    sends_calm entry l (out_of l (no_streams l) x) (out_of l (no_streams l) (filled_block (goes_by entry l) x))
+    (filled_leads entry l (no_streams l) inside x)
   where
-    full : Filling
-    full = filled_block (goes_by entry l) x
-
-    base : List (List Sender)
-    base = replicate (l + 1) []
-
-    inside : l < length base
+    inside : l < length (no_streams l)
     inside = omega (arith, length-replicate {A = List Sender} (l + 1) [])
 
-    calm : IsCalm (out_of l base x) (out_of l base full)
-    calm = sends_calm entry l (out_of l base x) (out_of l base full) (filled_leads entry l base inside x)
+filled_grows : (entry : CustomerEntry) (l : ℕ) (x : Filling) → FilesGrow 0 x.spool (filled_block (goes_by entry l) x).spool
+filled_grows entry l x =
+    let full = filled_block (goes_by entry l) x in
+    let calm = filled_calm entry l x in
+    quiet x.spool full.spool (but_states x.spool.whole full.spool.whole calm.files) calm.arrived (filled_kept (goes_by entry l) x).partial
 
 pub reply_grows : (l : ℕ) (r : LineReply) (c : Customer) → FilesGrow 0 c.spool (replied_to l r c).after.spool
 reply_grows l reply.Nothing c = unchanged c.spool

@@ -1,8 +1,9 @@
 -- What goes out in a new block moves a line's streams, and what each stream's file has under its RCB.
-use Rattle.std.proofs.Common.{◌≡◌, ◌<◌, ℕ, ◌+◌, Bool, true, false, List, [], ◌∷◌, ◌++◌, length, set, get_or, ◌%◌, ◌&&◌}
-use Rattle.std.proofs.Common.{nat_lt, Option, Some, None, option_map, slice_get, refl, sym, ap, subst, ◌∙◌}
+use Rattle.std.proofs.Common.{◌≡◌, ◌<◌, ℕ, zero, suc, ◌+◌, Bool, true, false, List, [], ◌∷◌, ◌++◌, length, set, get_or, ◌%◌}
+use Rattle.std.proofs.Common.{◌&&◌, replicate, arith, nat_lt, Option, Some, None, option_map, slice_get, refl, sym, ap, subst, ◌∙◌}
+use Rattle.std.specs.List.{AllByRecursion}
 use Rattle.std.proofs.lemmas.List.{append-nil, get_or-set_same, set-get_or, set-set}
-use Rattle.njh_block.specs.Blocks.{Item, all_suspended}
+use Rattle.njh_block.specs.Blocks.{Item, all_suspended, messages_on}
 use Rattle.njh_block.specs.Codes.{kind_of}
 use Rattle.njh_block.specs.Writing.{has_room}
 use Rattle.njh_block.specs.declared.answer.Answer.{Answer}
@@ -16,12 +17,56 @@ use Rattle.njh_sched.specs.NextBlock.{Candidate, Filling, Source, WaitingAnswer,
 use Rattle.njh_sched.specs.NextBlock.{WaitingMessage, StreamTurn, abort_where, answering, asking, candidate, is_idle}
 use Rattle.njh_sched.specs.NextBlock.{may_ask, next_served, oldest, sender_at, serving, telling, added_where}
 use Rattle.njh_sched.specs.NextBlock.{after_candidate, after_source, after_source_where, after_sources, filled_block}
-use Rattle.njh_sched.specs.NextBlock.{filled_where, sources}
+use Rattle.njh_sched.specs.NextBlock.{Outlet, aborts, filled_where, messages_where, requests, sources}
+use Rattle.njh_sched.specs.NextBlock.{streams, turns, waiting_answers, waiting_messages}
 use Rattle.njh_sched.specs.Carrying.{records_of}
 use Rattle.njh_customer.specs.OutgoingFiles.{Outgoing, record_numbered, sender_on, with_sender_on}
 use Rattle.njh_customer.specs.Moves as moves
 use Rattle.njh_customer.specs.Moves.{LeadsByMoves, nowhere, onward, Sends}
 use Rattle.njh_customer.proofs.OutgoingLaws.{of_parts}
+
+-- ---- where the block's records come from
+
+-- a request is of one of the eight streams
+abbrev pub IsOfEight : Source → Type 0
+IsOfEight WaitingAnswer = Unit {0}
+IsOfEight (StreamAbort k) = Unit {0}
+IsOfEight (StreamRequest k) = k < 8
+IsOfEight WaitingMessage = Unit {0}
+IsOfEight StreamTurn = Unit {0}
+
+abbrev pub AreOfEight : List Source → Type 0
+AreOfEight more = AllByRecursion IsOfEight more
+
+both_eight : (first second : List Source) → AreOfEight first → AreOfEight second → AreOfEight (first ++ second)
+both_eight [] second few more = more
+both_eight (x ∷ xs) second few more = (few.0, both_eight xs second few.1 more)
+
+many_eight : (n : ℕ) (x : Source) → IsOfEight x → AreOfEight (replicate n x)
+many_eight zero x few = tt
+many_eight (suc n) x few = (few, many_eight n x few)
+
+aborts_eight : AreOfEight aborts
+unfolding streams
+aborts_eight = (tt, (tt, (tt, (tt, (tt, (tt, (tt, (tt, tt))))))))
+
+requests_eight : AreOfEight requests
+unfolding streams
+requests_eight =
+    (omega arith, (omega arith, (omega arith, (omega arith, (omega arith, (omega arith, (omega arith, (omega arith, tt))))))))
+
+messages_eight : (b : Bool) (messages : List (List ℕ)) → AreOfEight (messages_where b messages)
+messages_eight true messages = many_eight (length messages) WaitingMessage tt
+messages_eight false messages = tt
+
+pub sources_eight : (limit : ℕ) (o : Outlet) → AreOfEight (sources limit o)
+sources_eight limit o =
+    both_eight (waiting_answers o) (aborts ++ (requests ++ (waiting_messages o ++ turns limit)))
+    (many_eight (length o.answers) WaitingAnswer tt)
+    (both_eight aborts (requests ++ (waiting_messages o ++ turns limit)) aborts_eight
+    (both_eight requests (waiting_messages o ++ turns limit) requests_eight
+    (both_eight (waiting_messages o) (turns limit) (messages_eight (messages_on o.peer_fcs) o.messages)
+    (many_eight limit StreamTurn tt))))
 
 -- ---- a line's streams while its block is filled
 
@@ -84,12 +129,12 @@ module _ (entry : CustomerEntry) (l : ℕ) (base : List (List Sender)) (inside :
   both_right true b e = e
   both_right false b e = absurd (cc e)
 
-  offers_request : (x : Filling) (k : ℕ) (b : Bool) → may_ask x.outlet k ≡ b
+  offers_request : (x : Filling) (k : ℕ) (b : Bool) → k < 8 → may_ask x.outlet k ≡ b
       → OffersIf x (elim b [ false ↦ None | true ↦ option_map (λ f. asking x.outlet x.spool k f.number) (oldest (goes_by entry l) (kind_of k) x.spool) ])
-  offers_request x k false e = tt
-  offers_request x k true e =
+  offers_request x k false few e = tt
+  offers_request x k true few e =
       offers_map {A = WholeFile} x (λ f. asking x.outlet x.spool k f.number) (oldest (goes_by entry l) (kind_of k) x.spool)
-      (λ f found. one (moves.asks k f (stream_now k x ∙ idle_is (sender_at k x.outlet) (both_right (nat_lt (k % 4) x.outlet.streams) (is_idle (sender_at k x.outlet)) e)) found
+      (λ f found. one (moves.asks k f few (stream_now k x ∙ idle_is (sender_at k x.outlet) (both_right (nat_lt (k % 4) x.outlet.streams) (is_idle (sender_at k x.outlet)) e)) found
       (moved_is x k (Requested f.number) (asking x.outlet x.spool k f.number).spool.whole)))
 
   at_place : (n place : ℕ) (x : Filling) → record_at n place x.spool ≡ record_numbered n place (out_of l base x)
@@ -119,12 +164,12 @@ module _ (entry : CustomerEntry) (l : ℕ) (base : List (List Sender)) (inside :
   offers_turn x k (EofSent n) e = same (left_as_it_is x k (EofSent n) e)
   offers_turn x k Aborting e = same (left_as_it_is x k Aborting e)
 
-  offers : (source : Source) (x : Filling) → OffersIf x (candidate (goes_by entry l) source x.outlet x.spool)
-  offers WaitingAnswer x = offers_map {A = Answer} x (answering x.outlet x.spool) (slice_get x.outlet.answers 0) (λ a found. same refl)
-  offers (StreamAbort k) x = offers_abort x k (sender_at k x.outlet) refl
-  offers (StreamRequest k) x = offers_request x k (may_ask x.outlet k) refl
-  offers WaitingMessage x = offers_map {A = List ℕ} x (telling x.outlet x.spool) (slice_get x.outlet.messages 0) (λ m found. same refl)
-  offers StreamTurn x =
+  offers : (source : Source) (x : Filling) → IsOfEight source → OffersIf x (candidate (goes_by entry l) source x.outlet x.spool)
+  offers WaitingAnswer x few = offers_map {A = Answer} x (answering x.outlet x.spool) (slice_get x.outlet.answers 0) (λ a found. same refl)
+  offers (StreamAbort k) x few = offers_abort x k (sender_at k x.outlet) refl
+  offers (StreamRequest k) x few = offers_request x k (may_ask x.outlet k) few refl
+  offers WaitingMessage x few = offers_map {A = List ℕ} x (telling x.outlet x.spool) (slice_get x.outlet.messages 0) (λ m found. same refl)
+  offers StreamTurn x few =
       offers_map {A = ℕ} x (λ k. serving x.outlet x.spool k (next_of (sender_at k x.outlet) x.spool)) (next_served x.outlet)
       (λ k found. offers_turn x k (sender_at k x.outlet) refl)
 
@@ -140,25 +185,25 @@ module _ (entry : CustomerEntry) (l : ℕ) (base : List (List Sender)) (inside :
       at_room true (one s) = a_record s c.item refl
       at_room false h = nothing refl [] (sym (append-nil x.block.items))
 
-  pub gives : (source : Source) (x : Filling) → Gives x (after_source (goes_by entry l) source x)
+  pub gives : (source : Source) (x : Filling) → IsOfEight source → Gives x (after_source (goes_by entry l) source x)
   unfolding after_source
-  gives source x = at_full x.full
+  gives source x few = at_full x.full
     where
       at_full : (b : Bool) → Gives x (after_source_where b (goes_by entry l) source x)
       at_full true = nothing refl [] (sym (append-nil x.block.items))
-      at_full false = gives_candidate x (candidate (goes_by entry l) source x.outlet x.spool) (offers source x)
+      at_full false = gives_candidate x (candidate (goes_by entry l) source x.outlet x.spool) (offers source x few)
 
   -- all sources, one after the other
   step_on : (x y : Filling) (z : Outgoing) → Gives x y → LeadsByMoves (Sends entry l) (out_of l base y) z → LeadsByMoves (Sends entry l) (out_of l base x) z
   step_on x y z (nothing e more items) later = subst (λ w. LeadsByMoves (Sends entry l) w z) e later
   step_on x y z (a_record s i items) later = onward (out_of l base x) (out_of l base y) z s later
 
-  all_lead : (more : List Source) (x : Filling) → LeadsByMoves (Sends entry l) (out_of l base x) (out_of l base (after_sources (goes_by entry l) more x))
+  all_lead : (more : List Source) (x : Filling) → AreOfEight more → LeadsByMoves (Sends entry l) (out_of l base x) (out_of l base (after_sources (goes_by entry l) more x))
   unfolding after_sources
-  all_lead [] x = nowhere (out_of l base x)
-  all_lead (source ∷ more) x =
+  all_lead [] x few = nowhere (out_of l base x)
+  all_lead (source ∷ more) x few =
       let y = after_source (goes_by entry l) source x in
-      step_on x y (out_of l base (after_sources (goes_by entry l) more y)) (gives source x) (all_lead more y)
+      step_on x y (out_of l base (after_sources (goes_by entry l) more y)) (gives source x few.0) (all_lead more y few.1)
 
   -- a block without records has moved nothing
   no_records : (xs ys : List Item) → xs ++ ys ≡ [] → xs ≡ []
@@ -174,14 +219,14 @@ module _ (entry : CustomerEntry) (l : ℕ) (base : List (List Sender)) (inside :
   gave_none x y (a_record s i items) none = absurd (not_one_more x.block.items i (sym items ∙ none))
 
   all_gave_none :
-      (more : List Source) (x : Filling) → (after_sources (goes_by entry l) more x).block.items ≡ []
+      (more : List Source) (x : Filling) → AreOfEight more → (after_sources (goes_by entry l) more x).block.items ≡ []
       → (x.block.items ≡ []) × (out_of l base (after_sources (goes_by entry l) more x) ≡ out_of l base x)
   unfolding after_sources
-  all_gave_none [] x none = (none, refl)
-  all_gave_none (source ∷ more) x none =
+  all_gave_none [] x few none = (none, refl)
+  all_gave_none (source ∷ more) x few none =
       let y = after_source (goes_by entry l) source x in
-      let later = all_gave_none more y none in
-      let first = gave_none x y (gives source x) later.0 in
+      let later = all_gave_none more y few.1 none in
+      let first = gave_none x y (gives source x few.0) later.0 in
       (first.0, later.1 ∙ first.1)
 
   pub filled_leads : (x : Filling) → LeadsByMoves (Sends entry l) (out_of l base x) (out_of l base (filled_block (goes_by entry l) x))
@@ -190,7 +235,7 @@ module _ (entry : CustomerEntry) (l : ℕ) (base : List (List Sender)) (inside :
     where
       at_suspended : (b : Bool) → LeadsByMoves (Sends entry l) (out_of l base x) (out_of l base (filled_where b (goes_by entry l) x))
       at_suspended true = nowhere (out_of l base x)
-      at_suspended false = all_lead (sources x.block.limit x.outlet) x
+      at_suspended false = all_lead (sources x.block.limit x.outlet) x (sources_eight x.block.limit x.outlet)
 
   pub filled_with_none : (x : Filling) → (filled_block (goes_by entry l) x).block.items ≡ [] → out_of l base (filled_block (goes_by entry l) x) ≡ out_of l base x
   unfolding filled_block
@@ -198,4 +243,4 @@ module _ (entry : CustomerEntry) (l : ℕ) (base : List (List Sender)) (inside :
     where
       at_suspended : (b : Bool) → (filled_where b (goes_by entry l) x).block.items ≡ [] → out_of l base (filled_where b (goes_by entry l) x) ≡ out_of l base x
       at_suspended true none = refl
-      at_suspended false none = (all_gave_none (sources x.block.limit x.outlet) x none).1
+      at_suspended false none = (all_gave_none (sources x.block.limit x.outlet) x (sources_eight x.block.limit x.outlet) none).1

@@ -63,7 +63,7 @@ pub all_ended_partial : (xs : List Sender) (s : CustomerSpool) → (all_ended xs
 all_ended_partial [] s = refl
 all_ended_partial (x ∷ xs) s = all_ended_partial xs (spool_after_session x s) ∙ ended_partial x s
 
-all_ended_limits : (xs : List Sender) (s : CustomerSpool) → limits_of (all_ended xs s) ≡ limits_of s
+pub all_ended_limits : (xs : List Sender) (s : CustomerSpool) → limits_of (all_ended xs s) ≡ limits_of s
 all_ended_limits [] s = refl
 all_ended_limits (x ∷ xs) s = all_ended_limits xs (spool_after_session x s) ∙ ended_limits x s
 
@@ -106,7 +106,7 @@ module _ (untied : NothingUnties) (ends : EndsTie) where
       stays_like untied (after_reply l x c).after c
       (record { entry = refl; lines = map-set_same shape c.lines l x.line no_customer_line same; partial = partial; limits = limits; headers = headers }) coherent
 
-  reply_stays : (l : ℕ) (r : LineReply) (c : Customer) → IsCoherent c → Stays (replied_to l r c).after c
+  pub reply_stays : (l : ℕ) (r : LineReply) (c : Customer) → IsCoherent c → Stays (replied_to l r c).after c
   reply_stays l reply.Nothing c coherent = sent_stays l (sending_of_reply c.entry l reply.Nothing c.spool (line_at l c.lines)) c refl refl refl (λ have. have) coherent
   reply_stays l (reply.Control control) c coherent =
       sent_stays l (sending_of_reply c.entry l (reply.Control control) c.spool (line_at l c.lines)) c refl refl refl (λ have. have) coherent
@@ -122,7 +122,7 @@ module _ (untied : NothingUnties) (ends : EndsTie) where
 
   -- ---- the end of a session
 
-  over_stays : (l : ℕ) (c : Customer) → l < length c.lines → IsCoherent c → Stays (session_over l c) c
+  pub over_stays : (l : ℕ) (c : Customer) → l < length c.lines → IsCoherent c → Stays (session_over l c) c
   over_stays l c line_there coherent =
       let x = line_at l c.lines in
       let lines = streams_to_hub c.lines in

@@ -26,6 +26,7 @@ use Rattle.njh_customer.specs.Moves.{Acts, Records, Routes, Moves, by_record, by
 use Rattle.njh_customer.specs.Moves.{Commands, Over, busy_numbers, without_files}
 use Rattle.njh_customer.specs.MovingLaws as laws
 use Rattle.njh_customer.specs.MovingLaws.{StreamMoves, StreamsMoveSo, IdleStreamsTakeFiles, IsMovedAlone}
+use Rattle.njh_customer.proofs.FileListLaws.{copies}
 
 -- ---- where another stands in a list
 
@@ -44,10 +45,10 @@ set_one (x ∷ xs) (suc i) (suc j) a d = at_rest (set_one xs i j a d)
     at_rest (inr there) = inr (ap suc there.0, there.1)
 
 -- stream k of line j, where stream m of line l has moved: it has moved so, or it is as before
-abbrev IsOne : ℕ → ℕ → ℕ → ℕ → Sender → Outgoing → Outgoing → Type 0
+abbrev pub IsOne : ℕ → ℕ → ℕ → ℕ → Sender → Outgoing → Outgoing → Type 0
 IsOne j k l m s x y = (sender_on j k y ≡ sender_on j k x) ⊎ ((j ≡ l) × (k ≡ m) × (sender_on j k y ≡ s))
 
-moved_one : (j k l m : ℕ) (s : Sender) (x : Outgoing) → IsOne j k l m s x (with_sender_on l m s x)
+pub moved_one : (j k l m : ℕ) (s : Sender) (x : Outgoing) → IsOne j k l m s x (with_sender_on l m s x)
 moved_one j k l m s x = at_line (set_one x.streams l j (set (streams_of l x) m s) [])
   where
     now : List Sender
@@ -66,16 +67,16 @@ moved_one j k l m s x = at_line (set_one x.streams l j (set (streams_of l x) m s
     at_line (inr there) = at_stream there.0 there.1 (set_one (streams_of l x) m k s Idle)
 
 -- what was so of stream m of line l
-was : (j k l m : ℕ) (s : Sender) (x : Outgoing) → sender_on l m x ≡ s → j ≡ l → k ≡ m → sender_on j k x ≡ s
+pub was : (j k l m : ℕ) (s : Sender) (x : Outgoing) → sender_on l m x ≡ s → j ≡ l → k ≡ m → sender_on j k x ≡ s
 was j k l m s x e line stream = ap (λ n. sender_on n k x) line ∙ ap (λ n. sender_on l n x) stream ∙ e
 
 -- ---- by a command
 
 -- it stays, or it was about the file and gives it up
-abbrev GivesUp : List ℕ → Sender → Sender → Type 0
+abbrev pub GivesUp : List ℕ → Sender → Sender → Type 0
 GivesUp ns s t = (n : ℕ) × Contains ns n × (file_in s ≡ Some n) × (t ≡ after_abort s)
 
-aborted_none : (s : Sender) → file_in (after_abort s) ≡ None
+pub aborted_none : (s : Sender) → file_in (after_abort s) ≡ None
 aborted_none Idle = refl
 aborted_none (Requested m) = refl
 aborted_none (Sending m place) = refl
@@ -97,15 +98,15 @@ gives_up_or_stays n s = at_file (file_in s) refl
     at_file None e = inl refl
     at_file (Some m) e = at_test m (m == n) e refl
 
-each_at : (j k n : ℕ) (x : Outgoing) → sender_on j k (each_stream (without_file n) x) ≡ without_file n (sender_on j k x)
+pub each_at : (j k n : ℕ) (x : Outgoing) → sender_on j k (each_stream (without_file n) x) ≡ without_file n (sender_on j k x)
 each_at j k n x =
     ap (λ senders. get_or senders k Idle) (get_or-map (λ senders. map (without_file n) senders) x.streams j [])
     ∙ get_or-map (without_file n) (get_or x.streams j []) k Idle
 
-abbrev StaysOrGivesUp : ℕ → ℕ → List ℕ → Outgoing → Outgoing → Type 0
+abbrev pub StaysOrGivesUp : ℕ → ℕ → List ℕ → Outgoing → Outgoing → Type 0
 StaysOrGivesUp j k ns x y = (sender_on j k y ≡ sender_on j k x) ⊎ GivesUp ns (sender_on j k x) (sender_on j k y)
 
-all_give_up : (j k : ℕ) (ns : List ℕ) (x : Outgoing) → StaysOrGivesUp j k ns x (without_files ns x)
+pub all_give_up : (j k : ℕ) (ns : List ℕ) (x : Outgoing) → StaysOrGivesUp j k ns x (without_files ns x)
 all_give_up j k [] x = inl refl
 all_give_up j k (n ∷ ns) x =
     at_rest (all_give_up j k ns (each_stream (without_file n) x)) (gives_up_or_stays n (sender_on j k x))
@@ -135,7 +136,7 @@ the_one m n (zero, inside, e) = sym e
 the_one m n (suc i, inside, e) = absurd (omega (arith, inside))
 
 -- the number of one that is being sent is that of a file that passes the test
-busy_one :
+pub busy_one :
     (p : WholeFile → Bool) (files : List WholeFile) (n : ℕ) → Contains (busy_numbers p files) n
     → (f : WholeFile) × Contains files f × (p f ≡ true) × (n ≡ f.number)
 busy_one p [] n at = absurd (omega (arith, at.1))
@@ -161,13 +162,6 @@ busy_one p (g ∷ files) n at = at_tests (p g) (is_sending g.state) refl at (bus
         at_first passes (Contains-append_cases (g.number ∷ []) (busy_numbers p files) n there) rest
     at_tests true false passes there rest = later (rest there)
     at_tests false b passes there rest = later (rest there)
-
--- ---- by the end of a session
-
-all_idle : (n k : ℕ) → get_or (replicate n Idle) k Idle ≡ Idle
-all_idle zero k = refl
-all_idle (suc n) zero = refl
-all_idle (suc n) (suc k) = all_idle n k
 
 -- ---- each move
 
@@ -218,9 +212,9 @@ module _ (entry : CustomerEntry) (l : ℕ) (items : List Item) (j k : ℕ) (x y 
   sending_moves (moves.gives_up m before e) =
       moved_so m Idle x.files e
       (λ line stream now. laws.gives_up line (moves.gives_up m before e) (was j k l m Aborting x before line stream) now)
-  sending_moves (moves.asks m f before found e) =
+  sending_moves (moves.asks m f few before found e) =
       moved_so m (Requested f.number) (with_file_state f.number state.Sending x.files) e
-      (λ line stream now. laws.asks f line (moves.asks m f before found e) (was j k l m Idle x before line stream)
+      (λ line stream now. laws.asks f line (moves.asks m f few before found e) (was j k l m Idle x before line stream)
       (ap (λ t. find (may_go (goes_by entry l) (kind_of t)) x.files) stream ∙ found) now)
   sending_moves (moves.goes_on m n place r before found e) =
       moved_so m (Sending n (place + 1)) x.files e
@@ -243,7 +237,7 @@ module _ (entry : CustomerEntry) (l : ℕ) (items : List Item) (j k : ℕ) (x y 
           → StreamMoves entry l items j k x y
       at_line (inl same) = laws.stays (now ∙ ap (λ senders. get_or senders k Idle) same)
       at_line (inr there) =
-          laws.over there.0 gone (now ∙ ap (λ senders. get_or senders k Idle) there.1 ∙ all_idle (length (streams_of l x)) k)
+          laws.over there.0 gone (now ∙ ap (λ senders. get_or senders k Idle) there.1 ∙ copies (length (streams_of l x)) k Idle)
 
 moves_on_line :
     (entry : CustomerEntry) (l : ℕ) (items : List Item) (x y : Outgoing) (j k : ℕ) → Moves entry l items x y → StreamMoves entry l items j k x y

@@ -249,7 +249,7 @@ module _ (by_records : (kind : Kind) (node : List ℕ) (records : List Stored) �
 
     by_sends : Sends entry l x y → FilesGoOn x y
     by_sends (moves.gives_up k before e) = unmoved (ap (λ z. z.files) e) (ap (λ z. z.arrived) e)
-    by_sends (moves.asks k f before found e) =
+    by_sends (moves.asks k f few before found e) =
         none_came x y (with_file_state f.number state.Sending x.files) (ap (λ z. z.files) e) (marked_still f.number state.Sending x.files) (ap (λ z. z.arrived) e)
     by_sends (moves.goes_on k n place r before found e) = unmoved (ap (λ z. z.files) e) (ap (λ z. z.arrived) e)
     by_sends (moves.ends k n place before found e) = unmoved (ap (λ z. z.files) e) (ap (λ z. z.arrived) e)

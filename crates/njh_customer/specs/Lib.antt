@@ -16,4 +16,5 @@ pub mod Surviving
 pub mod Growing
 pub mod Disregarding
 pub mod NewRoutes
+pub mod InOrder
 pub mod code

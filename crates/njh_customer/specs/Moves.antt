@@ -1,6 +1,6 @@
 -- What may happen to a customer's whole files and to its streams from the hub, one small thing at a time. All that
 -- comes on a line, and new routes, lead from what they were to what they are by such moves and no others.
-use Rattle.std.specs.Prelude.{◌≡◌, ℕ, ◌+◌, Bool, true, List, [], length, map, filter, find, replicate, Some}
+use Rattle.std.specs.Prelude.{◌≡◌, ℕ, ◌+◌, ◌<◌, Bool, true, List, [], length, map, filter, find, replicate, Some}
 use Rattle.std.specs.Prelude.{None, Ok, fold, cond, not}
 use Rattle.std.specs.List.{Contains}
 use Rattle.njh_ebcdic.specs.Users.{User}
@@ -107,9 +107,10 @@ pub data Acts (entry : CustomerEntry) (l : ℕ) (i : Item) (x y : Outgoing) : Ty
 pub data Sends (entry : CustomerEntry) (l : ℕ) (x y : Outgoing) : Type 0 where
   -- an abort: the stream's file was given up
   gives_up : (k : ℕ) → sender_on l k x ≡ Aborting → y ≡ with_sender_on l k Idle x → Sends entry l x y
-  -- a request: an idle stream asks for the oldest file that may go
+  -- a request: an idle one of the eight streams asks for the oldest file that may go
   asks :
-      (k : ℕ) (f : WholeFile) → sender_on l k x ≡ Idle → find (may_go (goes_by entry l) (kind_of k)) x.files ≡ Some f
+      (k : ℕ) (f : WholeFile) → k < 8 → sender_on l k x ≡ Idle
+      → find (may_go (goes_by entry l) (kind_of k)) x.files ≡ Some f
       → y ≡ with_sender_on l k (Requested f.number) (with_files (with_file_state f.number state.Sending x.files) x)
       → Sends entry l x y
   -- the file's record at the stream's place

@@ -14,17 +14,19 @@ ghost use Rattle.njh_customer.specs.Laws.{TakesKeepEntries};
 ghost use Rattle.njh_customer.specs.MovingLaws.{EventsMoveSo, FilesLeaveSo, FilesLeaveSoBetween, FramesDoSo};
 ghost use Rattle.njh_customer.specs.MovingLaws.{IdleStreamsTakeFiles, RecordsChangeSo, RoutesDoSo, SignalsDoSo};
 ghost use Rattle.njh_customer.specs.MovingLaws.{StreamsMoveSo, TakesMoveSo};
+ghost use Rattle.njh_customer.specs.InOrder.{LossesLeaveFiles, StaysInOrder};
 ghost use Rattle.njh_customer.specs.Surviving.{EventsKeepFiles, FilesGoOnFurther, FilesSurvive, FirstFilesSurvive};
 ghost use Rattle.njh_customer.specs.Surviving.{RunsKeepFiles, SurvivorsAreNumbered, TakesKeepFiles};
 
-use njh_command::{commands_move_files_so, reroutes_name_nodes};
+use njh_command::{commands_keep_headers, commands_move_files_so, reroutes_name_nodes};
 use njh_header::redirected_by_records;
 use njh_line::{inputs_are_answered, inputs_keep_up};
 use njh_sched::{
     blocks_carry_files_in_order, nothing_where_all_is_suspended, sources_fill_the_block,
     sources_move_streams_so,
 };
-use njh_stream::streams_stay_tied;
+use njh_spool::next_number_is_least;
+use njh_stream::{streams_stay_tied, whole_files_have_headers};
 
 /// It doesn't matter how the bytes of a line are cut into pieces.
 pub fn cuts_are_like()
@@ -71,6 +73,32 @@ pub fn opened_is_coherent()
     ensures { (entry : CustomerEntry) → All (λ line. line.streams ≤ 4) entry.lines → IsCoherent (fresh_customer entry) }
 {
     streams_stay_tied();
+}
+
+/// A customer's streams, files and lines agree with each other, when it is opened, whatever comes to it, by routes that
+/// it is given, and where a whole file is put back: no two files have one number, and they stay within the customer's
+/// quota and limit; those that are being sent are those that a stream from the hub is about, each on one stream; a line
+/// that isn't up has no stream about a file and no answer that waits; a partial file comes on a stream; each line is
+/// set up as the entry says.
+pub fn customers_stay_in_order()
+    ensures { StaysInOrder }
+{
+    inputs_keep_up();
+    commands_move_files_so();
+    commands_keep_headers();
+    reroutes_name_nodes();
+    next_number_is_least();
+    streams_stay_tied();
+    whole_files_have_headers();
+}
+
+/// A customer that loses the sessions of all its lines has all its whole files, in their order and with their records,
+/// Held where they were Held, and none that is being sent. It has no other file, no line is up, no stream is about a
+/// file, no answer waits, and nothing has come of a frame.
+pub fn lost_lines_leave_files()
+    ensures { LossesLeaveFiles }
+{
+    customers_stay_in_order();
 }
 
 /// What each frame and each signal does to the customer's whole files and to its streams from the hub: its records act,

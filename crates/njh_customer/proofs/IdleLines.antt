@@ -1,0 +1,584 @@
+-- A line that isn't up has no stream about a file and no answer that waits, and SYSOUT 4 counts as served last.
+use Rattle.std.proofs.Common.{◌≡◌, ℕ, zero, suc, ◌+◌, ◌<◌, Bool, true, false, cond, ◌==◌, nat_lt, List, [], ◌∷◌, length}
+use Rattle.std.proofs.Common.{map, fold, set, get_or, Option, Some, None, Result, Ok, Err, refl, sym, ap, subst}
+use Rattle.std.proofs.Common.{◌∙◌, arith}
+use Rattle.std.specs.Option.{option_map}
+use Rattle.std.proofs.Math.ListN.{get_or-map}
+use Rattle.std.proofs.Math.Seq.{map-set_same}
+use Rattle.std.proofs.lemmas.Bool.{eqb-true, eqb-false, ltb-true}
+use Rattle.std.proofs.lemmas.Grind.{get_or-set_at}
+use Rattle.std.proofs.lemmas.List.{get_or-set_same, get_or-set_other, length-map, length-set}
+use Rattle.njh_bisync.specs.Frames as frame
+use Rattle.njh_bisync.specs.Frames.{Received}
+use Rattle.njh_bisync.specs.declared.frame.Control.TheVariants as control
+use Rattle.njh_ebcdic.specs.Users.{User}
+use Rattle.njh_header.specs.SignOns.{SignOn}
+use Rattle.njh_block.specs.Blocks as block
+use Rattle.njh_block.specs.Blocks.{Block, Item, read_block, stream_number, stream_of}
+use Rattle.njh_block.specs.Codes.{kind_of}
+use Rattle.njh_block.specs.declared.answer.Answer.{Answer}
+use Rattle.njh_block.specs.declared.fault.BlockFault.{BlockFault}
+use Rattle.njh_texts.specs.Texts.{node_unknown}
+use Rattle.njh_nmr.specs.declared.fault.NmrFault.{NmrFault}
+use Rattle.njh_nmr.specs.Nodal.{Nodal, nodal_of, is_user_command, cut_after_message, notice_record, sender_of}
+use Rattle.njh_spool.specs.CustomerSpool.{CustomerSpool}
+use Rattle.njh_table.specs.Entries.{CustomerEntry, LineEntry, route_of}
+use Rattle.njh_table.specs.declared.Role.{Role}
+use Rattle.njh_table.specs.declared.Role.TheVariants as role
+use Rattle.njh_table.specs.declared.Route.{Route}
+use Rattle.njh_table.specs.declared.Route.TheVariants.{Here, Line, Unknown}
+use Rattle.njh_stream.specs.declared.receiver.Receiver.TheVariants as receiver
+use Rattle.njh_stream.specs.declared.sender.Sender.TheVariants as sender
+use Rattle.njh_stream.specs.Arrivals.{answer_on}
+use Rattle.njh_stream.specs.Receiving as receiving
+use Rattle.njh_stream.specs.Receiving.{Arrival, Notice, received_arrival}
+use Rattle.njh_stream.specs.Sending.{SenderOutcome, after_grant, after_refusal, after_completion}
+use Rattle.njh_command.specs.Commands.{CommandOutcome, message_outcome, without_file}
+use Rattle.njh_line.specs.declared.Phase.{Phase}
+use Rattle.njh_line.specs.declared.Phase.TheVariants.{Down, Calling, Answered, SentI, Up}
+use Rattle.njh_line.specs.declared.config.Config.{Config}
+use Rattle.njh_line.specs.declared.opening.Opening.TheVariants.{Initial, Response}
+use Rattle.njh_line.specs.declared.session.Session.{Session}
+use Rattle.njh_line.specs.declared.verdict.LineReply.{LineReply}
+use Rattle.njh_line.specs.declared.verdict.LineReply.TheVariants as reply
+use Rattle.njh_line.specs.declared.verdict.Verdict.{Verdict}
+use Rattle.njh_line.specs.Counts.{bcb_type, bcb_count, count_verdict, is_repeat, is_taken}
+use Rattle.njh_line.specs.Laws.{is_up}
+use Rattle.njh_line.specs.LineTable as input
+use Rattle.njh_line.specs.LineTable.{Input, table_outcome, cell, none, enquiry, ack0, hang_up, end}
+use Rattle.njh_line.specs.LineTable.{end_and_contact, try_with, try_again, try_nak, with_reply, contact, call, i_block}
+use Rattle.njh_line.specs.LineTable.{next_or_turn, next_in_turn, by_count, signed_on, i_sign_on, j_sign_on, act}
+use Rattle.njh_line.specs.Openings.{fitting}
+use Rattle.njh_line.specs.Lines.{after_end, after_input, with_answer, with_message}
+use Rattle.njh_line.specs.Up.{InputsKeepUp, KeepsUp}
+use Rattle.njh_customer.specs.declared.signal.Signal.{Signal}
+use Rattle.njh_customer.specs.Customer.{Customer, CustomerLine, no_customer_line, line_at, on_line, in_state}
+use Rattle.njh_customer.specs.Customer.{with_notice, receiver_at, with_receiver, sender_at, with_sender}
+use Rattle.njh_customer.specs.Customer.{config_of, fresh_customer, idle_line}
+use Rattle.njh_customer.specs.Waiting.{with_answer_on, with_waiting, goes, with_message_to, all_said, with_notice_to}
+use Rattle.njh_customer.specs.Acting.{after_stream_arrival, after_stream_record, with_sender_outcome, after_permission}
+use Rattle.njh_customer.specs.Acting.{refusal_of, after_stream_request, peer_answered, without_sending, with_outcome}
+use Rattle.njh_customer.specs.Acting.{after_user_command, after_unknown_node, message_routed, message_read, with_senders_by}
+use Rattle.njh_customer.specs.Acting.{after_message, after_record, ends_session, ended_or, all_acted, acted_where, Acted}
+use Rattle.njh_customer.specs.Sending.{sending_of_reply}
+use Rattle.njh_customer.specs.Alone.{CustomerStep, with_idle_streams, silent, replied_to, session_over, session_over_where}
+use Rattle.njh_customer.specs.Alone.{session_ended, carried_out, verdict_on, accepted_on, after_line_input, block_input}
+use Rattle.njh_customer.specs.Alone.{behind_records, text_read, after_text, after_received, signal_input}
+use Rattle.njh_customer.specs.Alone.{after_frame, after_signal}
+use Rattle.njh_customer.specs.InOrder.{IsIdle, IdleUnlessUp, phase_of}
+use Rattle.njh_customer.proofs.FileListLaws.{copies}
+use Rattle.njh_customer.proofs.MarkLaws.{reply_lasting}
+
+-- ---- what the line table asks for
+
+abbrev is_next : LineReply → Bool
+is_next (reply.Next or_ack0) = true
+is_next _ = false
+
+-- records act, and the next block goes, only where the line is up behind it
+record OnlyUp (v : Verdict) (p : Phase) : Type 0 where
+  pub acts : v.acts ≡ true → is_up p ≡ true
+  pub next : is_next v.reply ≡ true → is_up p ≡ true
+
+asks_nothing : {v : Verdict} {p : Phase} → v.acts ≡ false → is_next v.reply ≡ false → OnlyUp v p
+asks_nothing still quiet = record { acts = λ acts. absurd (cc (sym still ∙ acts)); next = λ next. absurd (cc (sym quiet ∙ next)) }
+
+is_up_then : {v : Verdict} {p : Phase} → is_up p ≡ true → OnlyUp v p
+is_up_then up = record { acts = λ _. up; next = λ _. up }
+
+signed : (r : LineReply) (config : Config) (o : Option SignOn) (t : Session) → (let x = signed_on r config o t in OnlyUp x.verdict x.session.phase)
+signed r config (Some x) t = is_up_then refl
+signed r config None t = asks_nothing refl refl
+
+module _ (s : Session) where
+  tries : (r : LineReply) → is_next r ≡ false → (let x = try_with r s in OnlyUp x.verdict x.session.phase)
+  tries r quiet = at (s.tries == 5)
+    where
+      at : (b : Bool) → (let x = cond b (end s) (with_reply r (record s { tries = s.tries + 1 })) in OnlyUp x.verdict x.session.phase)
+      at true = asks_nothing refl refl
+      at false = asks_nothing refl quiet
+
+  in_turn : s.phase ≡ Up → (let x = next_in_turn s in OnlyUp x.verdict x.session.phase)
+  in_turn up = at s.has_turn
+    where
+      at : (b : Bool) → (let x = cond b (with_reply (reply.Next true) s) (try_nak s) in OnlyUp x.verdict x.session.phase)
+      at true = is_up_then (ap is_up up)
+      at false = tries (reply.Control control.Nak) refl
+
+  contacts : (r : Role) → (let x = contact r s in OnlyUp x.verdict x.session.phase)
+  contacts role.Call = asks_nothing refl refl
+  contacts role.Answer = asks_nothing refl refl
+
+  ends_and_contacts : (r : Role) → (let x = end_and_contact r s in OnlyUp x.verdict x.session.phase)
+  ends_and_contacts role.Call = asks_nothing refl refl
+  ends_and_contacts role.Answer = asks_nothing refl refl
+
+  calls : (r : Role) → (let x = call r s in OnlyUp x.verdict x.session.phase)
+  calls role.Call = asks_nothing refl refl
+  calls role.Answer = asks_nothing refl refl
+
+  -- once a block is acted on, whichever BCB is kept as the last
+  abbrev acting_on : ℕ × ℕ → Option ℕ → Session
+  acting_on fcs last = record s { tries = 0; last_bcb = last; peer_fcs = fcs }
+
+  -- by the tests of the count rule, whose outcomes can't be named here
+  by_counts :
+      (bcb : ℕ) (fcs : ℕ × ℕ) (acted : _)
+      → (let x = by_count bcb fcs acted s in
+      ((last : Option ℕ) → (let y = acted (acting_on fcs last) in OnlyUp y.verdict y.session.phase)) → OnlyUp x.verdict x.session.phase)
+  by_counts bcb fcs acted acts = at_unchecked (bcb_type bcb == 1) refl
+    where
+      IsSo : Type 0
+      IsSo = let x = by_count bcb fcs acted s in OnlyUp x.verdict x.session.phase
+
+      at_taken :
+          (b : Bool) → (bcb_type bcb == 1) ≡ false → is_repeat s.last_bcb bcb ≡ false → (bcb_type bcb == 2) ≡ false
+          → is_taken s.last_bcb (bcb_count bcb) ≡ b → IsSo
+      at_taken true e f g h = rw (e, f, g, h, by_count, count_verdict) (acts _)
+      at_taken false e f g h = rw (e, f, g, h, by_count, count_verdict) (asks_nothing refl refl)
+
+      at_set : (b : Bool) → (bcb_type bcb == 1) ≡ false → is_repeat s.last_bcb bcb ≡ false → (bcb_type bcb == 2) ≡ b → IsSo
+      at_set true e f g = rw (e, f, g, by_count, count_verdict) (acts _)
+      at_set false e f g = at_taken (is_taken s.last_bcb (bcb_count bcb)) e f g refl
+
+      at_repeat : (b : Bool) → (bcb_type bcb == 1) ≡ false → is_repeat s.last_bcb bcb ≡ b → IsSo
+      at_repeat true e f = rw (e, f, by_count, count_verdict) (tries reply.Again refl)
+      at_repeat false e f = at_set (bcb_type bcb == 2) e f refl
+
+      at_unchecked : (b : Bool) → (bcb_type bcb == 1) ≡ b → IsSo
+      at_unchecked true e = rw (e, by_count, count_verdict) (acts _)
+      at_unchecked false e = at_repeat (is_repeat s.last_bcb bcb) e refl
+
+  in_row :
+      (down calling answered sent_i up : _)
+      → (let x = cell s.phase down calling answered sent_i up in
+      OnlyUp down.verdict down.session.phase → OnlyUp calling.verdict calling.session.phase → OnlyUp answered.verdict answered.session.phase
+      → OnlyUp sent_i.verdict sent_i.session.phase → (s.phase ≡ Up → OnlyUp up.verdict up.session.phase) → OnlyUp x.verdict x.session.phase)
+  in_row down calling answered sent_i up d c a i u = at s.phase refl
+    where
+      at : (p : Phase) → s.phase ≡ p → (let x = cell p down calling answered sent_i up in OnlyUp x.verdict x.session.phase)
+      at Down e = d
+      at Calling e = c
+      at Answered e = a
+      at SentI e = i
+      at Up e = u e
+
+  nothing : OnlyUp (none s).verdict (none s).session.phase
+  nothing = asks_nothing refl refl
+
+  tried : (let x = cell s.phase (none s) (none s) (try_nak s) (try_nak s) (try_nak s) in OnlyUp x.verdict x.session.phase)
+  tried =
+      let nak = tries (reply.Control control.Nak) refl in
+      in_row (none s) (none s) (try_nak s) (try_nak s) (try_nak s) nothing nothing nak nak (λ _. nak)
+
+  hung_up : (let x = cell s.phase (none s) (hang_up s) (hang_up s) (hang_up s) (end s) in OnlyUp x.verdict x.session.phase)
+  hung_up =
+      in_row (none s) (hang_up s) (hang_up s) (hang_up s) (end s) nothing (asks_nothing refl refl) (asks_nothing refl refl) (asks_nothing refl refl)
+      (λ _. asks_nothing refl refl)
+
+only_up : (config : Config) (came : Input) (s : Session) → (let x = table_outcome config came s in OnlyUp x.verdict x.session.phase)
+unfolding table_outcome
+only_up config input.Enquiry s =
+    in_row s (contact config.role s) (none s) (ack0 s) (none s) (end_and_contact config.role s) (contacts s config.role) (nothing s)
+    (asks_nothing refl refl) (nothing s) (λ _. ends_and_contacts s config.role)
+only_up config input.Ack0 s =
+    in_row s (none s) (i_block s) (none s) (none s) (next_or_turn s) (nothing s) (asks_nothing refl refl) (nothing s) (nothing s)
+    (λ up. is_up_then (ap is_up up))
+only_up config input.Nak s =
+    let again = tries s reply.Again refl in
+    in_row s (none s) (none s) (try_again s) (try_again s) (try_again s) (nothing s) (nothing s) again again (λ _. again)
+only_up config input.Eot s = hung_up s
+only_up config input.Lost s = hung_up s
+only_up config (input.Block bcb fcs first) s =
+    in_row s (none s) (none s) (by_count bcb fcs (i_sign_on config first) s) (by_count bcb fcs (j_sign_on config first) s) (by_count bcb fcs act s)
+    (nothing s) (nothing s)
+    (by_counts s bcb fcs (i_sign_on config first)
+    (λ last. signed (reply.SignOn Response) config (fitting Initial config first) (acting_on s fcs last)))
+    (by_counts s bcb fcs (j_sign_on config first) (λ last. signed (reply.Next true) config (fitting Response config first) (acting_on s fcs last)))
+    (λ up. by_counts s bcb fcs act (λ last. is_up_then (ap is_up up)))
+only_up config input.Spoiled s = tried s
+only_up config input.Bad s = tried s
+only_up config input.Garbled s = tried s
+only_up config input.Tick s =
+    let nak = tries s (reply.Control control.Nak) refl in
+    in_row s (call config.role s) (enquiry s) (try_nak s) (try_nak s) (next_in_turn s) (calls s config.role)
+    (asks_nothing refl refl) nak nak (in_turn s)
+
+-- ---- one line among the others
+
+-- each line but one rests, unless it is up
+abbrev OthersRest : ℕ → List CustomerLine → Type 0
+OthersRest l lines = (m : ℕ) → (m ≡ l → ⊥) → m < length lines → is_up (phase_of (line_at m lines)) ≡ false → IsIdle (line_at m lines)
+
+others : (l : ℕ) (lines : List CustomerLine) → IdleUnlessUp lines → OthersRest l lines
+others l lines rest m other there down = rest m there down
+
+set_others : (l : ℕ) (x : CustomerLine) (lines : List CustomerLine) → OthersRest l lines → OthersRest l (set lines l x)
+set_others l x lines rest m other there down =
+    let same : line_at m (set lines l x) ≡ line_at m lines = get_or-set_other lines l m x no_customer_line other in
+    subst IsIdle (sym same) (rest m other (omega (arith, there, length-set lines l x)) (ap (λ y. is_up (phase_of y)) (sym same) ∙ down))
+
+set_rests :
+    (l : ℕ) (x : CustomerLine) (lines : List CustomerLine) → OthersRest l lines → (l < length lines → is_up (phase_of x) ≡ false → IsIdle x)
+    → IdleUnlessUp (set lines l x)
+set_rests l x lines rest here m there down = at (m == l) refl
+  where
+    at : (b : Bool) → (m == l) ≡ b → IsIdle (line_at m (set lines l x))
+    at true e =
+        let same : m ≡ l = eqb-true m l e in
+        let inside : l < length lines = omega (arith, there, same, length-set lines l x) in
+        let it : line_at m (set lines l x) ≡ x = get_or-set_at lines l m x no_customer_line same inside in
+        subst IsIdle (sym it) (here inside (ap (λ y. is_up (phase_of y)) (sym it) ∙ down))
+    at false e = set_others l x lines rest m (eqb-false m l e) there down
+
+-- ---- what a record does, on a line that is up
+
+record UpAndRest (l : ℕ) (lines : List CustomerLine) : Type 0 where
+  pub up : is_up (phase_of (line_at l lines)) ≡ true
+  pub rest : IdleUnlessUp lines
+
+abbrev KeepsPhase : (CustomerLine → CustomerLine) → Type 0
+KeepsPhase f = (x : CustomerLine) → phase_of (f x) ≡ phase_of x
+
+-- line l is as far as it was where another one changes that is itself as far as it was
+same_phase :
+    (l k : ℕ) (f : CustomerLine → CustomerLine) (lines : List CustomerLine) → KeepsPhase f
+    → phase_of (line_at l (on_line k f lines)) ≡ phase_of (line_at l lines)
+same_phase l k f lines same =
+    sym (get_or-map phase_of (on_line k f lines) l no_customer_line)
+    ∙ ap (λ ps. get_or ps l Down) (map-set_same phase_of lines k (f (line_at k lines)) no_customer_line (same (line_at k lines)))
+    ∙ get_or-map phase_of lines l no_customer_line
+
+message_idle : (m : List ℕ) (x : CustomerLine) → IsIdle x → IsIdle (in_state (with_message m) x)
+message_idle m x idle = record { receivers = idle.receivers; senders = idle.senders; answers = idle.answers; served = idle.served }
+
+given_up_idle : (n : ℕ) (x : CustomerLine) → IsIdle x → IsIdle (with_senders_by (without_file n) x)
+given_up_idle n x idle = record {
+  receivers = idle.receivers;
+  senders = λ k. get_or-map (without_file n) x.senders k sender.Idle ∙ ap (without_file n) (idle.senders k);
+  answers = idle.answers;
+  served = idle.served;
+}
+
+module _ (l : ℕ) where
+  -- the line changes
+  own : (f : CustomerLine → CustomerLine) (lines : List CustomerLine) → KeepsPhase f → UpAndRest l lines → UpAndRest l (on_line l f lines)
+  own f lines same r =
+      let x = line_at l lines in
+      record {
+        up = ap is_up (same_phase l l f lines same) ∙ r.up;
+        rest = set_rests l (f x) lines (others l lines r.rest) (λ _ down. absurd (cc (sym down ∙ ap is_up (same x) ∙ r.up)));
+      }
+
+  answered : (a : Option Answer) (lines : List CustomerLine) → UpAndRest l lines → UpAndRest l (with_answer_on l a lines)
+  answered None lines r = r
+  answered (Some a) lines r = own (in_state (with_answer a)) lines (λ x. refl) r
+
+  waits : (k : ℕ) (m : List ℕ) (lines : List CustomerLine) → UpAndRest l lines → UpAndRest l (with_waiting k m lines)
+  waits k m lines r =
+      let x = line_at k lines in
+      record {
+        up = ap is_up (same_phase l k (in_state (with_message m)) lines (λ y. refl)) ∙ r.up;
+        rest = set_rests k (in_state (with_message m) x) lines (others k lines r.rest) (λ there down. message_idle m x (r.rest k there down));
+      }
+
+  goes_on : (to : Route) (m : List ℕ) (lines : List CustomerLine) → UpAndRest l lines → UpAndRest l (goes to m lines)
+  goes_on Here m lines r = r
+  goes_on (Line k) m lines r = waits k m lines r
+  goes_on Unknown m lines r = r
+
+  said :
+      (entry : CustomerEntry) (whom : User) (text : List ℕ) (lines : List CustomerLine) → UpAndRest l lines
+      → UpAndRest l (with_message_to entry whom text lines)
+  said entry whom text lines r = goes_on (route_of entry whom.node) (notice_record entry.hub whom text) lines r
+
+  all_told :
+      (entry : CustomerEntry) (whom : User) (texts : List (List ℕ)) (lines : List CustomerLine) → UpAndRest l lines
+      → UpAndRest l (all_said entry whom texts lines)
+  all_told entry whom [] lines r = r
+  all_told entry whom (t ∷ ts) lines r = all_told entry whom ts (with_message_to entry whom t lines) (said entry whom t lines r)
+
+  notified :
+      (entry : CustomerEntry) (notice : Option Notice) (lines : List CustomerLine) → UpAndRest l lines
+      → UpAndRest l (with_notice_to entry notice lines)
+  notified entry None lines r = r
+  notified entry (Some n) lines r = said entry n.whom n.text lines r
+
+  given_up : (n : ℕ) (lines : List CustomerLine) → UpAndRest l lines → UpAndRest l (without_sending lines n)
+  given_up n lines r = record {
+    up = ap (λ x. is_up (phase_of x)) (it l) ∙ r.up;
+    rest = λ m there down. subst IsIdle (sym (it m))
+        (given_up_idle n (line_at m lines)
+        (r.rest m (omega (arith, there, length-map lines (with_senders_by (without_file n)))) (ap (λ x. is_up (phase_of x)) (sym (it m)) ∙ down)));
+  }
+    where
+      it : (m : ℕ) → line_at m (without_sending lines n) ≡ with_senders_by (without_file n) (line_at m lines)
+      it m = get_or-map (with_senders_by (without_file n)) lines m no_customer_line
+
+  all_given_up : (ns : List ℕ) (lines : List CustomerLine) → UpAndRest l lines → UpAndRest l (fold without_sending lines ns)
+  all_given_up [] lines r = r
+  all_given_up (n ∷ ns) lines r = all_given_up ns (without_sending lines n) (given_up n lines r)
+
+  either : (b : Bool) (x y : Customer) → UpAndRest l x.lines → UpAndRest l y.lines → UpAndRest l (cond b x y).lines
+  either true x y first second = first
+  either false x y first second = second
+
+  arrived : (k : ℕ) (a : Arrival) (c : Customer) → UpAndRest l c.lines → UpAndRest l (after_stream_arrival l k a c).lines
+  arrived k a c r =
+      let done = received_arrival c.entry l (kind_of k) (receiver_at k (line_at l c.lines)) a c.spool in
+      let lines = on_line l (with_receiver k done.receiver) c.lines in
+      let answer = option_map (answer_on k) done.answer in
+      own (with_notice k done.receiver done.notice) (with_notice_to c.entry done.notice (with_answer_on l answer lines)) (λ x. refl)
+      (notified c.entry done.notice (with_answer_on l answer lines)
+      (answered answer lines (own (with_receiver k done.receiver) c.lines (λ x. refl) r)))
+
+  stream_acts : (o : Option ℕ) (a : Arrival) (c : Customer) → UpAndRest l c.lines → UpAndRest l (after_stream_record l o a c).lines
+  stream_acts None a c r = r
+  stream_acts (Some k) a c r = arrived k a c r
+
+  request_acts : (srcb : ℕ) (o : Option ℕ) (c : Customer) → UpAndRest l c.lines → UpAndRest l (after_stream_request l srcb o c).lines
+  request_acts srcb None c r = answered (refusal_of srcb (stream_number srcb)) c.lines r
+  request_acts srcb (Some k) c r = arrived k receiving.Request c r
+
+  sender_acts : (k : ℕ) (sent : SenderOutcome) (c : Customer) → UpAndRest l c.lines → UpAndRest l (with_sender_outcome l k sent c).lines
+  sender_acts k sent c r = own (with_sender k sent.sender) c.lines (λ x. refl) r
+
+  peer_acts : (rcb : ℕ) (o : Option ℕ) (c : Customer) → UpAndRest l c.lines → UpAndRest l (peer_answered l rcb o c).lines
+  peer_acts rcb None c r = r
+  peer_acts rcb (Some k) c r =
+      let x = sender_at k (line_at l c.lines) in
+      let refusal = with_sender_outcome l k (after_refusal x c.spool) c in
+      let completion = with_sender_outcome l k (after_completion x c.spool) c in
+      either (rcb == 0xa0) (after_permission l k c) (cond (rcb == 0xb0) refusal (cond (rcb == 0xc0) completion c))
+      (own (with_sender k (after_grant x)) c.lines (λ y. refl) r)
+      (either (rcb == 0xb0) refusal (cond (rcb == 0xc0) completion c) (sender_acts k (after_refusal x c.spool) c r)
+      (either (rcb == 0xc0) completion c (sender_acts k (after_completion x c.spool) c r) r))
+
+  outcome_acts : (n : Nodal) (done : CommandOutcome) (c : Customer) → UpAndRest l c.lines → UpAndRest l (with_outcome n done c).lines
+  outcome_acts n done c r =
+      all_told c.entry (sender_of n) done.replies (fold without_sending c.lines done.cancelled) (all_given_up done.cancelled c.lines r)
+
+  routed_acts : (n : Nodal) (bytes : List ℕ) (to : Route) (c : Customer) → UpAndRest l c.lines → UpAndRest l (message_routed l n bytes to c).lines
+  routed_acts n bytes Here c r =
+      either (is_user_command n) (after_user_command n c) c (outcome_acts n (message_outcome c.entry (sender_of n) n.message c.spool) c r) r
+  routed_acts n bytes (Line k) c r =
+      let m = cut_after_message bytes in
+      either (k == l) c (record c { lines = with_waiting k m c.lines }) r (waits k m c.lines r)
+  routed_acts n bytes Unknown c r =
+      let whom : User = sender_of n in
+      either (is_user_command n) (after_unknown_node n c) c (said c.entry whom (node_unknown n.to) c.lines r) r
+
+  message_acts : (bytes : List ℕ) (c : Customer) → UpAndRest l c.lines → UpAndRest l (after_message l bytes c).lines
+  message_acts bytes c r = at_nodal (nodal_of bytes)
+    where
+      at_nodal : (n : Result Nodal NmrFault) → UpAndRest l (message_read l bytes n c).lines
+      at_nodal (Err e) = r
+      at_nodal (Ok n) = routed_acts n bytes (route_of c.entry n.to) c r
+
+  record_acts : (i : Item) (c : Customer) → UpAndRest l c.lines → UpAndRest l (after_record l i c).lines
+  record_acts (block.Data rcb srcb bytes) c r =
+      let stream = stream_of (line_at l c.lines).streams rcb in
+      either (rcb == 0x9a) (after_message l bytes c) (after_stream_record l stream (receiving.Data srcb bytes) c) (message_acts bytes c r)
+      (stream_acts stream (receiving.Data srcb bytes) c r)
+  record_acts (block.Aborted rcb srcb) c r = stream_acts (stream_of (line_at l c.lines).streams rcb) receiving.Abort c r
+  record_acts (block.Long rcb srcb) c r = stream_acts (stream_of (line_at l c.lines).streams rcb) receiving.Long c r
+  record_acts (block.Control rcb srcb) c r =
+      let stream = stream_of (line_at l c.lines).streams srcb in
+      either (rcb == 0x90) (after_stream_request l srcb stream c) (peer_answered l rcb stream c) (request_acts srcb stream c r)
+      (peer_acts rcb stream c r)
+  record_acts (block.General srcb rest) c r = r
+
+  records_act : (items : List Item) (c : Customer) → UpAndRest l c.lines → UpAndRest l (all_acted l items c).customer.lines
+  records_act [] c r = r
+  records_act (i ∷ is) c r = at_end (ends_session i) (records_act is (after_record l i c) (record_acts i c r))
+    where
+      later : Acted
+      later = all_acted l is (after_record l i c)
+
+      at_end : (b : Bool) → UpAndRest l later.customer.lines → UpAndRest l (ended_or b c later).customer.lines
+      at_end true acted = r
+      at_end false acted = acted
+
+-- ---- the end of a session
+
+idle_streams : (x : CustomerLine) → IsIdle (with_idle_streams x)
+idle_streams x = record {
+  receivers = λ k. copies (length x.receivers) k receiver.Idle;
+  senders = λ k. copies (length x.senders) k sender.Idle;
+  answers = refl;
+  served = refl;
+}
+
+over_rests : (l : ℕ) (c : Customer) → OthersRest l c.lines → IdleUnlessUp (session_over l c).lines
+over_rests l c rest = set_rests l (with_idle_streams (line_at l c.lines)) c.lines rest (λ _ _. idle_streams (line_at l c.lines))
+
+ended_rests : (l : ℕ) (c : Customer) → OthersRest l c.lines → IdleUnlessUp (session_ended l c).lines
+ended_rests l c rest =
+    over_rests l (record c { lines = on_line l (in_state after_end) c.lines }) (set_others l (in_state after_end (line_at l c.lines)) c.lines rest)
+
+-- ---- what a line sends
+
+-- it rests still where nothing of this changed
+idle_still :
+    (x y : CustomerLine) → y.receivers ≡ x.receivers → y.senders ≡ x.senders → y.state.answers ≡ x.state.answers → y.served ≡ x.served
+    → IsIdle x → IsIdle y
+idle_still x y receivers senders answers served idle = record {
+  receivers = λ k. ap (λ rs. get_or rs k receiver.Idle) receivers ∙ idle.receivers k;
+  senders = λ k. ap (λ ss. get_or ss k sender.Idle) senders ∙ idle.senders k;
+  answers = answers ∙ idle.answers;
+  served = served ∙ idle.served;
+}
+
+-- what it sends leaves it so, but for the next block
+reply_idle :
+    (entry : CustomerEntry) (l : ℕ) (r : LineReply) (s : CustomerSpool) (x : CustomerLine) → is_next r ≡ false → IsIdle x
+    → IsIdle (sending_of_reply entry l r s x).line
+reply_idle entry l reply.Nothing s x quiet idle = idle
+reply_idle entry l (reply.Control control.Enquiry) s x quiet idle = idle_still x _ refl refl refl refl idle
+reply_idle entry l (reply.Control control.Ack0) s x quiet idle = idle_still x _ refl refl refl refl idle
+reply_idle entry l (reply.Control control.Nak) s x quiet idle = idle_still x _ refl refl refl refl idle
+reply_idle entry l reply.Again s x quiet idle = idle_still x _ refl refl refl refl idle
+reply_idle entry l (reply.SignOn kind) s x quiet idle = idle_still x _ refl refl refl refl idle
+reply_idle entry l (reply.Sequence expected) s x quiet idle = idle_still x _ refl refl refl refl idle
+reply_idle entry l (reply.Next or_ack0) s x quiet idle = absurd (cc quiet)
+
+replied_rests :
+    (l : ℕ) (r : LineReply) (c : Customer) → (is_next r ≡ true → is_up (phase_of (line_at l c.lines)) ≡ true) → IdleUnlessUp c.lines
+    → IdleUnlessUp (replied_to l r c).after.lines
+replied_rests l r c up rest = set_rests l sent c.lines (others l c.lines rest) (at (is_next r) refl)
+  where
+    x : CustomerLine
+    x = line_at l c.lines
+
+    sent : CustomerLine
+    sent = (sending_of_reply c.entry l r c.spool x).line
+
+    as_far : is_up (phase_of sent) ≡ is_up (phase_of x)
+    as_far = ap (λ (p : Config × Phase × ℕ). is_up p.1) (reply_lasting c.entry l r c.spool x)
+
+    at : (b : Bool) → is_next r ≡ b → l < length c.lines → is_up (phase_of sent) ≡ false → IsIdle sent
+    at true e there down = absurd (cc (sym down ∙ as_far ∙ up e))
+    at false e there down = reply_idle c.entry l r c.spool x e (rest l there (sym as_far ∙ down))
+
+-- what a verdict asks for is sent, and then the session ends where it says so
+carried_rests :
+    (l : ℕ) (v : Verdict) (c : Customer) → OthersRest l c.lines → (v.ended ≡ false → IdleUnlessUp c.lines)
+    → (is_next v.reply ≡ true → is_up (phase_of (line_at l c.lines)) ≡ true) → IdleUnlessUp (carried_out l v c).after.lines
+carried_rests l v c rest going_on up = at v.ended refl
+  where
+    sent : Customer
+    sent = (replied_to l v.reply c).after
+
+    at : (b : Bool) → v.ended ≡ b → IdleUnlessUp (session_over_where b l sent).lines
+    at true e = over_rests l sent (set_others l (sending_of_reply c.entry l v.reply c.spool (line_at l c.lines)).line c.lines rest)
+    at false e = replied_rests l v.reply c up (going_on e)
+
+-- ---- what comes on a line
+
+module _ (keep : InputsKeepUp) (l : ℕ) (came : Input) (c : Customer) (there : l < length c.lines) (rest : IdleUnlessUp c.lines) where
+  abbrev before : CustomerLine
+  before = line_at l c.lines
+
+  abbrev after : Phase
+  after = (after_input came before.state).session.phase
+
+  abbrev accepted : Customer
+  accepted = accepted_on l came c
+
+  keeps : KeepsUp before.state.config came before.state.session
+  keeps = keep before.state.config before.state.session came
+
+  asks : OnlyUp (verdict_on l came c) after
+  asks = only_up before.state.config came before.state.session
+
+  accepted_phase : is_up (phase_of (line_at l accepted.lines)) ≡ is_up after
+  accepted_phase = ap (λ x. is_up (phase_of x)) (get_or-set_same c.lines l (in_state (after_input came) before) no_customer_line there)
+
+  accepted_others : OthersRest l accepted.lines
+  accepted_others = set_others l (in_state (after_input came) before) c.lines (others l c.lines rest)
+
+  -- a line that was up is up still, so one that isn't was at rest
+  accepted_rests : (verdict_on l came c).ended ≡ false → IdleUnlessUp accepted.lines
+  accepted_rests on =
+      set_rests l (in_state (after_input came) before) c.lines (others l c.lines rest) (λ _ down. at (is_up (phase_of before)) refl down)
+    where
+      at : (b : Bool) → is_up (phase_of before) ≡ b → is_up after ≡ false → IsIdle (in_state (after_input came) before)
+      at true e down = absurd (cc (sym down ∙ keeps.on on e))
+      at false e down = idle_still before (in_state (after_input came) before) refl refl refl refl (rest l there e)
+
+  accepted_up : is_up after ≡ true → UpAndRest l accepted.lines
+  accepted_up up = record {
+    up = accepted_phase ∙ up;
+    rest = set_rests l (in_state (after_input came) before) c.lines (others l c.lines rest) (λ _ down. absurd (cc (sym down ∙ up)));
+  }
+
+  input_rests : IdleUnlessUp (after_line_input l came c).after.lines
+  input_rests = carried_rests l (verdict_on l came c) accepted accepted_others accepted_rests (λ next. accepted_phase ∙ asks.next next)
+
+  -- records act on a line that is up, so it is up behind them
+  acting_rests :
+      (acts : Bool) (items : List Item) → (verdict_on l came c).acts ≡ acts
+      → (let a = acted_where acts l items accepted in IdleUnlessUp (behind_records a.ended l (verdict_on l came c) a.customer).after.lines)
+  acting_rests false items e = input_rests
+  acting_rests true items e = at (all_acted l items accepted).ended
+    where
+      behind : Customer
+      behind = (all_acted l items accepted).customer
+
+      acted : UpAndRest l behind.lines
+      acted = records_act l items accepted (accepted_up (asks.acts e))
+
+      at : (ended : Bool) → IdleUnlessUp (behind_records ended l (verdict_on l came c) behind).after.lines
+      at true = ended_rests l behind (others l behind.lines acted.rest)
+      at false = carried_rests l (verdict_on l came c) behind (others l behind.lines acted.rest) (λ _. acted.rest) (λ _. acted.up)
+
+-- ---- a frame, and a signal
+
+module _ (keep : InputsKeepUp) (l : ℕ) (c : Customer) (there : l < length c.lines) (rest : IdleUnlessUp c.lines) where
+  text_rests : (text : List ℕ) → IdleUnlessUp (after_text l text c).after.lines
+  text_rests text = at (read_block text)
+    where
+      at : (b : Result Block BlockFault) → IdleUnlessUp (text_read l b c).after.lines
+      at (Ok b) = acting_rests keep l (block_input b) c there rest (verdict_on l (block_input b) c).acts b.items refl
+      at (Err e) = input_rests keep l input.Bad c there rest
+
+  received_rests : (x : Received) → IdleUnlessUp (after_received l x c).after.lines
+  received_rests frame.Enquiry = input_rests keep l input.Enquiry c there rest
+  received_rests frame.Ack0 = input_rests keep l input.Ack0 c there rest
+  received_rests frame.Nak = input_rests keep l input.Nak c there rest
+  received_rests frame.Eot = input_rests keep l input.Eot c there rest
+  received_rests (frame.Text text) = text_rests text
+  received_rests frame.Spoiled = input_rests keep l input.Spoiled c there rest
+
+where_rests :
+    (l : ℕ) (x : CustomerStep) (c : Customer) → IdleUnlessUp c.lines → (l < length c.lines → IdleUnlessUp x.after.lines)
+    → IdleUnlessUp (cond (nat_lt l (length c.lines)) x (silent c)).after.lines
+where_rests l x c rest step = at (nat_lt l (length c.lines)) refl
+  where
+    at : (b : Bool) → nat_lt l (length c.lines) ≡ b → IdleUnlessUp (cond b x (silent c)).after.lines
+    at true e = step (ltb-true l (length c.lines) e)
+    at false e = rest
+
+pub idle_by_frame : InputsKeepUp → (l : ℕ) (x : Received) (c : Customer) → IdleUnlessUp c.lines → IdleUnlessUp (after_frame l x c).after.lines
+unfolding after_frame
+idle_by_frame keep l x c rest = where_rests l (after_received l x c) c rest (λ there. received_rests keep l c there rest x)
+
+pub idle_by_signal : InputsKeepUp → (l : ℕ) (x : Signal) (c : Customer) → IdleUnlessUp c.lines → IdleUnlessUp (after_signal l x c).after.lines
+unfolding after_signal
+idle_by_signal keep l x c rest = where_rests l (after_line_input l (signal_input x) c) c rest (λ there. input_rests keep l (signal_input x) c there rest)
+
+-- ---- a customer that was just opened
+
+fresh_idle : (config : Config) (streams : ℕ) → IsIdle (idle_line config streams)
+fresh_idle config streams = record { receivers = λ k. copies 8 k receiver.Idle; senders = λ k. copies 8 k sender.Idle; answers = refl; served = refl }
+
+pub idle_when_opened : (entry : CustomerEntry) → IdleUnlessUp (fresh_customer entry).lines
+idle_when_opened entry l there down = at entry.lines l there
+  where
+    lines_of : List LineEntry → List CustomerLine
+    lines_of lines = map (λ line. idle_line (config_of entry line) line.streams) lines
+
+    at : (lines : List LineEntry) (l : ℕ) → l < length (lines_of lines) → IsIdle (line_at l (lines_of lines))
+    at [] l there = absurd (omega (arith, there))
+    at (x ∷ xs) zero there = fresh_idle (config_of entry x) x.streams
+    at (x ∷ xs) (suc l) there = at xs l (omega (arith, there))

@@ -1,0 +1,337 @@
+-- What a customer has when the session of each of its lines is lost, one after the other.
+use Rattle.std.proofs.Common.{◌≡◌, ℕ, zero, suc, ◌<◌, ◌≤◌, Bool, true, false, cond, ◌==◌, ◌&&◌, nat_lt, List, [], ◌∷◌}
+use Rattle.std.proofs.Common.{length, map, set, get_or, find, Option, Some, None, refl, sym, ap, subst, ◌∙◌, arith}
+use Rattle.std.proofs.Math.ListN.{get_or-map}
+use Rattle.std.proofs.lemmas.Bool.{eq-eqb, eqb-true, ltb-true, ltb-false}
+use Rattle.std.proofs.lemmas.List.{get_or_past, length-set}
+use Rattle.std.proofs.lemmas.List.Elements.{Contains-append_right}
+use Rattle.std.specs.List.{Contains}
+use Rattle.njh_bisync.specs.Reading.{Rest, Nothing}
+use Rattle.njh_spool.specs.CustomerSpool.{CustomerSpool, PartialFile, WholeFile, partial_numbered}
+use Rattle.njh_spool.specs.declared.State.{State}
+use Rattle.njh_spool.specs.declared.State.TheVariants.{Ready, Held, Refused, Sending}
+use Rattle.njh_table.specs.Entries.{CustomerEntry}
+use Rattle.njh_stream.specs.declared.receiver.Receiver.TheVariants as receiver
+use Rattle.njh_stream.specs.declared.sender.Sender.{Sender}
+use Rattle.njh_stream.specs.declared.sender.Sender.TheVariants as sender
+use Rattle.njh_stream.specs.Sending.{all_ended, file_in, goes_by, is_refused, may_go_again, ready, spool_after_session}
+use Rattle.njh_stream.specs.Sending.{tried_again}
+use Rattle.njh_stream.specs.Streams.{coming_file}
+use Rattle.njh_line.specs.declared.Phase.{Phase}
+use Rattle.njh_line.specs.declared.Phase.TheVariants.{Down, Calling, Answered, SentI, Up}
+use Rattle.njh_line.specs.declared.config.Config.{Config}
+use Rattle.njh_line.specs.declared.session.Session.{Session}
+use Rattle.njh_line.specs.declared.verdict.LineReply.TheVariants as reply
+use Rattle.njh_line.specs.declared.verdict.Verdict.{Verdict}
+use Rattle.njh_line.specs.Laws.{is_up}
+use Rattle.njh_line.specs.LineTable as input
+use Rattle.njh_line.specs.LineTable.{table_outcome, cell, end, hang_up, none}
+use Rattle.njh_line.specs.Lines.{after_input}
+use Rattle.njh_customer.specs.declared.signal.Signal.TheVariants.{Lost}
+use Rattle.njh_customer.specs.Customer.{Customer, CustomerLine, no_customer_line, line_at, in_state, receiver_at}
+use Rattle.njh_customer.specs.OutgoingFiles.{with_file_state}
+use Rattle.njh_customer.specs.Alone.{silent, with_idle_streams, session_over, session_over_where, replied_to}
+use Rattle.njh_customer.specs.Alone.{carried_out, verdict_on, accepted_on, after_line_input, after_signal}
+use Rattle.njh_customer.specs.Part.{Part, rest_at, rest_on}
+use Rattle.njh_customer.specs.Runs.{OwnSignal, alone_run, event_run}
+use Rattle.njh_customer.specs.InOrder.{IsInOrder, IsIdle, StaysInOrder, LossesLeaveFiles, phase_of}
+use Rattle.njh_customer.specs.InOrder.{at_rest, state_at_rest, losses, after_losses}
+use Rattle.njh_customer.proofs.CoherenceLaws as coherence
+use Rattle.njh_customer.proofs.DownLines.{set_down}
+use Rattle.njh_customer.proofs.EndingMoves.{ended_where, without_all_whole}
+use Rattle.njh_customer.proofs.FileListLaws.{from_map}
+use Rattle.njh_customer.proofs.OutgoingLaws.{on_line_senders, stream_is}
+
+-- ---- the files at rest
+
+-- the files of a number are Ready at rest
+abbrev RestReady : ℕ → List WholeFile → Type 0
+RestReady n fs = (f : WholeFile) → Contains fs f → f.number ≡ n → state_at_rest f.state ≡ Ready
+
+marked_at_rest : (n : ℕ) (fs : List WholeFile) → RestReady n fs → map at_rest (with_file_state n Ready fs) ≡ map at_rest fs
+marked_at_rest n [] restful = refl
+marked_at_rest n (f ∷ fs) restful =
+    at_number (f.number == n) refl (marked_at_rest n fs (λ g at. restful g (Contains-append_right (f ∷ []) fs g at)))
+  where
+    marked : List WholeFile
+    marked = map at_rest (with_file_state n Ready fs)
+
+    at_number : (b : Bool) → (f.number == n) ≡ b → marked ≡ map at_rest fs
+        → at_rest (cond b (record f { state = Ready }) f) ∷ marked ≡ at_rest f ∷ map at_rest fs
+    at_number true e rest =
+        let same = restful f (0, omega arith, refl) (eqb-true f.number n e) in
+        ap (λ s. record f { state = s } ∷ marked) (sym same) ∙ ap (λ more. at_rest f ∷ more) rest
+    at_number false e rest = ap (λ more. at_rest f ∷ more) rest
+
+marked_still : (m n : ℕ) (fs : List WholeFile) → RestReady n fs → RestReady n (with_file_state m Ready fs)
+marked_still m n fs restful g at same =
+    let from = from_map (λ f. cond (f.number == m) (record f { state = Ready }) f) fs g g at in
+    subst (λ x. state_at_rest x.state ≡ Ready) (sym from.2)
+    (by_number (from.0.number == m) from.0 (sym (ap (λ x. x.number) from.2) ∙ same) (restful from.0 from.1))
+  where
+    by_number : (b : Bool) (f : WholeFile) → (cond b (record f { state = Ready }) f).number ≡ n
+        → (f.number ≡ n → state_at_rest f.state ≡ Ready) → state_at_rest (cond b (record f { state = Ready }) f).state ≡ Ready
+    by_number true f e there = refl
+    by_number false f e there = there e
+
+ended_still : (x : Sender) (n : ℕ) (s : CustomerSpool) → RestReady n s.whole → RestReady n (spool_after_session x s).whole
+ended_still x n s restful = at_file (file_in x)
+  where
+    at_file : (o : Option ℕ) → RestReady n (ended_where o s).whole
+    at_file None = restful
+    at_file (Some m) = marked_still m n s.whole restful
+
+-- the files that streams are about are Ready at rest, and so is what the end of these streams makes of them
+all_ended_at_rest :
+    (xs : List Sender) (s : CustomerSpool) → ((k n : ℕ) → file_in (get_or xs k sender.Idle) ≡ Some n → RestReady n s.whole)
+    → map at_rest (all_ended xs s).whole ≡ map at_rest s.whole
+all_ended_at_rest [] s restful = refl
+all_ended_at_rest (x ∷ xs) s restful =
+    all_ended_at_rest xs (spool_after_session x s) (λ k n about. ended_still x n s (restful (suc k) n about)) ∙ at_file (file_in x) refl
+  where
+    at_file : (o : Option ℕ) → file_in x ≡ o → map at_rest (ended_where o s).whole ≡ map at_rest s.whole
+    at_file None e = refl
+    at_file (Some n) e = marked_at_rest n s.whole (restful zero n e)
+
+tried_file : (entry : CustomerEntry) (l : ℕ) (f : WholeFile) → at_rest (cond (may_go_again entry l f) (ready f) f) ≡ at_rest f
+tried_file entry l f = at_state f.state (goes_by entry l f)
+  where
+    at_state : (state : State) (b : Bool)
+        → at_rest (cond (is_refused state && b) (ready f) (record f { state = state })) ≡ record f { state = state_at_rest state }
+    at_state Ready b = refl
+    at_state Held b = refl
+    at_state Refused true = refl
+    at_state Refused false = refl
+    at_state Sending b = refl
+
+tried_at_rest :
+    (entry : CustomerEntry) (l : ℕ) (fs : List WholeFile)
+    → map at_rest (map (λ f. cond (may_go_again entry l f) (ready f) f) fs) ≡ map at_rest fs
+tried_at_rest entry l [] = refl
+tried_at_rest entry l (f ∷ fs) =
+    ap (λ g. g ∷ map at_rest (map (λ h. cond (may_go_again entry l h) (ready h) h) fs)) (tried_file entry l f)
+    ∙ ap (λ more. at_rest f ∷ more) (tried_at_rest entry l fs)
+
+-- ---- lines that are down
+
+set_still_down :
+    (lines : List CustomerLine) (l m : ℕ) (x : CustomerLine) → phase_of x ≡ Down → phase_of (line_at m lines) ≡ Down
+    → phase_of (line_at m (set lines l x)) ≡ Down
+set_still_down [] l m x down there = there
+set_still_down (y ∷ ys) zero zero x down there = down
+set_still_down (y ∷ ys) zero (suc m) x down there = there
+set_still_down (y ∷ ys) (suc l) zero x down there = there
+set_still_down (y ∷ ys) (suc l) (suc m) x down there = set_still_down ys l m x down there
+
+-- ---- the loss of one line
+
+-- nothing is sent, and the session ends or there was none
+abbrev lost_verdict : Bool → Verdict
+lost_verdict ended = record { ended = ended; acts = false; reply = reply.Nothing }
+
+record HangsUp (s : Session) (v : Verdict) : Type 0 where
+  pub ended : Bool
+  pub verdict : v ≡ lost_verdict ended
+  pub down : s.phase ≡ Down
+
+lost_hangs_up : (config : Config) (s : Session) → (let o = table_outcome config input.Lost s in HangsUp o.session o.verdict)
+unfolding table_outcome
+lost_hangs_up config s = at s.phase refl
+  where
+    at : (p : Phase) → s.phase ≡ p → (let o = cell p (none s) (hang_up s) (hang_up s) (hang_up s) (end s) in HangsUp o.session o.verdict)
+    at Down e = record { ended = false; verdict = refl; down = e }
+    at Calling e = record { ended = false; verdict = refl; down = refl }
+    at Answered e = record { ended = false; verdict = refl; down = refl }
+    at SentI e = record { ended = false; verdict = refl; down = refl }
+    at Up e = record { ended = true; verdict = refl; down = refl }
+
+-- The line is down, those that were down are so still, and the files at rest are the same.
+record LineLost (l : ℕ) (c d : Customer) : Type 0 where
+  pub lines : length d.lines ≡ length c.lines
+  pub down : phase_of (line_at l d.lines) ≡ Down
+  pub still : (m : ℕ) → phase_of (line_at m c.lines) ≡ Down → phase_of (line_at m d.lines) ≡ Down
+  pub files : map at_rest d.spool.whole ≡ map at_rest c.spool.whole
+
+module _ (l : ℕ) (c : Customer) (order : IsInOrder c) where
+  -- once the line table has judged it, and nothing was sent
+  abbrev judged : Customer
+  judged = (replied_to l reply.Nothing (accepted_on l input.Lost c)).after
+
+  hangs_up : HangsUp (after_input input.Lost (line_at l c.lines).state).session (verdict_on l input.Lost c)
+  hangs_up = lost_hangs_up (line_at l c.lines).state.config (line_at l c.lines).state.session
+
+  abbrev accepted_line : CustomerLine
+  accepted_line = in_state (after_input input.Lost) (line_at l c.lines)
+
+  abbrev accepted_lines : List CustomerLine
+  accepted_lines = set c.lines l accepted_line
+
+  accepted_down : phase_of (line_at l accepted_lines) ≡ Down
+  accepted_down = set_down c.lines l accepted_line hangs_up.down
+
+  judged_lost : LineLost l c judged
+  judged_lost = record {
+    lines = length-set accepted_lines l (line_at l accepted_lines) ∙ length-set c.lines l accepted_line;
+    down = set_down accepted_lines l (line_at l accepted_lines) accepted_down;
+    still = λ m there.
+        set_still_down accepted_lines l m (line_at l accepted_lines) accepted_down (set_still_down c.lines l m accepted_line hangs_up.down there);
+    files = refl;
+  }
+
+  same_senders : (line_at l judged.lines).senders ≡ (line_at l c.lines).senders
+  same_senders =
+      sym (get_or-map (λ x. x.senders) judged.lines l no_customer_line)
+      ∙ ap (λ all. get_or all l [])
+      (on_line_senders l (λ x. x) accepted_lines (λ x. refl) ∙ on_line_senders l (in_state (after_input input.Lost)) c.lines (λ x. refl))
+      ∙ get_or-map (λ x. x.senders) c.lines l no_customer_line
+
+  -- what the line was sending is Ready at rest
+  sent_ready : (k n : ℕ) → file_in (get_or (line_at l judged.lines).senders k sender.Idle) ≡ Some n → RestReady n c.spool.whole
+  sent_ready k n about f at same =
+      let here = stream_is l k c ∙ ap (λ xs. get_or xs k sender.Idle) (sym same_senders) in
+      ap state_at_rest (order.sent.sending l k n f (ap file_in here ∙ about) at same)
+
+  over_files : map at_rest (session_over l judged).spool.whole ≡ map at_rest c.spool.whole
+  over_files =
+      let x = line_at l judged.lines in
+      ap (map at_rest) (without_all_whole x.receivers (tried_again judged.entry l (all_ended x.senders c.spool)))
+      ∙ tried_at_rest judged.entry l (all_ended x.senders c.spool).whole
+      ∙ all_ended_at_rest x.senders c.spool sent_ready
+
+  over_lost : (ended : Bool) → LineLost l c (session_over_where ended l judged)
+  over_lost false = judged_lost
+  over_lost true =
+      let x = with_idle_streams (line_at l judged.lines) in
+      record {
+        lines = length-set judged.lines l x ∙ judged_lost.lines;
+        down = set_down judged.lines l x judged_lost.down;
+        still = λ m there. set_still_down judged.lines l m x judged_lost.down (judged_lost.still m there);
+        files = over_files;
+      }
+
+  input_lost : LineLost l c (after_line_input l input.Lost c).after
+  input_lost =
+      subst (λ v. LineLost l c (carried_out l v (accepted_on l input.Lost c)).after) (sym hangs_up.verdict) (over_lost hangs_up.ended)
+
+  signal_lost : l < length c.lines → LineLost l c (after_signal l Lost c).after
+  unfolding after_signal
+  signal_lost there = at_there (nat_lt l (length c.lines)) refl
+    where
+      at_there : (b : Bool) → nat_lt l (length c.lines) ≡ b → LineLost l c (cond b (after_line_input l input.Lost c) (silent c)).after
+      at_there true e = input_lost
+      at_there false e = absurd (omega (arith, ltb-false l (length c.lines) e, there))
+
+-- ---- what has come of frames
+
+none_came : (rests : List Rest) (l : ℕ) → rest_at l (set rests l Nothing) ≡ Nothing
+none_came [] l = refl
+none_came (r ∷ rs) zero = refl
+none_came (r ∷ rs) (suc l) = none_came rs l
+
+none_still : (rests : List Rest) (l m : ℕ) → rest_at m rests ≡ Nothing → rest_at m (set rests l Nothing) ≡ Nothing
+none_still [] l m there = there
+none_still (r ∷ rs) zero zero there = refl
+none_still (r ∷ rs) zero (suc m) there = there
+none_still (r ∷ rs) (suc l) zero there = there
+none_still (r ∷ rs) (suc l) (suc m) there = none_still rs l m there
+
+-- ---- the loss of the lines below a number
+
+record LinesLost (n : ℕ) (p q : Part) : Type 0 where
+  pub order : IsInOrder q.customer
+  pub files : map at_rest q.customer.spool.whole ≡ map at_rest p.customer.spool.whole
+  pub lines : length q.customer.lines ≡ length p.customer.lines
+  pub down : (m : ℕ) → m < n → phase_of (line_at m q.customer.lines) ≡ Down
+  pub still_down : (m : ℕ) → phase_of (line_at m p.customer.lines) ≡ Down → phase_of (line_at m q.customer.lines) ≡ Down
+  pub rests : (m : ℕ) → m < n → rest_on m q ≡ Nothing
+  pub still_none : (m : ℕ) → rest_on m p ≡ Nothing → rest_on m q ≡ Nothing
+
+-- a number below the next one is this one, or below it
+below : (P : ℕ → Type 0) (n m : ℕ) → m < suc n → P n → (m < n → P m) → P m
+below P n m few here earlier = at (nat_lt m n) refl
+  where
+    at : (b : Bool) → nat_lt m n ≡ b → P m
+    at true e = earlier (ltb-true m n e)
+    at false e = let same : n ≡ m = omega (arith, few, ltb-false m n e) in subst P same here
+
+all_lost : StaysInOrder → (n : ℕ) (p : Part) → n ≤ length p.customer.lines → IsInOrder p.customer → LinesLost n p (alone_run p (losses n)).after
+all_lost stays zero p few order = record {
+  order = order;
+  files = refl;
+  lines = refl;
+  down = λ m none. absurd (omega (arith, none));
+  still_down = λ m there. there;
+  rests = λ m none. absurd (omega (arith, none));
+  still_none = λ m there. there;
+}
+all_lost stays (suc l) p few order =
+    let x = (event_run p (OwnSignal Lost l)).after in
+    let y = (alone_run x (losses l)).after in
+    let one = signal_lost l p.customer order (omega (arith, few)) in
+    let later = all_lost stays l x (omega (arith, few, one.lines)) (stays.events p (OwnSignal Lost l) order) in
+    record {
+      order = later.order;
+      files = later.files ∙ one.files;
+      lines = later.lines ∙ one.lines;
+      down = λ m there. below (λ k. phase_of (line_at k y.customer.lines) ≡ Down) l m there (later.still_down l one.down) (later.down m);
+      still_down = λ m there. later.still_down m (one.still m there);
+      rests = λ m there. below (λ k. rest_on k y ≡ Nothing) l m there (later.still_none l (none_came p.rests l)) (later.rests m);
+      still_none = λ m there. later.still_none m (none_still p.rests l m there);
+    }
+
+-- ---- no stream is about a file
+
+module _ (c : Customer) (order : IsInOrder c) (idle : (l : ℕ) → l < length c.lines → IsIdle (line_at l c.lines)) where
+  receivers_idle : (l k : ℕ) → receiver_at k (line_at l c.lines) ≡ receiver.Idle
+  receivers_idle l k = at_there (nat_lt l (length c.lines)) refl
+    where
+      at_there : (b : Bool) → nat_lt l (length c.lines) ≡ b → receiver_at k (line_at l c.lines) ≡ receiver.Idle
+      at_there true e = (idle l (ltb-true l (length c.lines) e)).receivers k
+      at_there false e = ap (receiver_at k) (get_or_past c.lines l no_customer_line (omega (arith, ltb-false l (length c.lines) e)))
+
+  senders_idle : (l k : ℕ) → file_in (get_or (line_at l c.lines).senders k sender.Idle) ≡ None
+  senders_idle l k = at_there (nat_lt l (length c.lines)) refl
+    where
+      at_there : (b : Bool) → nat_lt l (length c.lines) ≡ b → file_in (get_or (line_at l c.lines).senders k sender.Idle) ≡ None
+      at_there true e = ap file_in ((idle l (ltb-true l (length c.lines) e)).senders k)
+      at_there false e =
+          ap (λ (x : CustomerLine). file_in (get_or x.senders k sender.Idle))
+          (get_or_past c.lines l no_customer_line (omega (arith, ltb-false l (length c.lines) e)))
+
+  no_partial : c.spool.partial ≡ []
+  no_partial = at_files c.spool.partial refl
+    where
+      at_files : (fs : List PartialFile) → c.spool.partial ≡ fs → c.spool.partial ≡ []
+      at_files [] e = e
+      at_files (f ∷ fs) e =
+          let found : partial_numbered f.number c.spool ≡ Some f =
+          ap (find (λ g. g.number == f.number)) e
+          ∙ ap (λ b. cond b (Some f) (find (λ g. g.number == f.number) fs)) (eq-eqb f.number f.number refl) in
+          let comes = order.coherent.tied.come f.number f found in
+          let none : None ≡ Some f.number =
+          ap coming_file (sym (coherence.stream_is comes.line comes.stream c.lines ∙ receivers_idle comes.line comes.stream)) ∙ comes.file in
+          absurd (cc none)
+
+  none_goes : (f : WholeFile) → Contains c.spool.whole f → f.state ≡ Sending → ⊥
+  none_goes f at goes =
+      let x = order.sent.go f at goes in
+      let none : None ≡ Some f.number = sym (ap file_in (stream_is x.line x.stream c) ∙ senders_idle x.line x.stream) ∙ x.about in
+      cc none
+
+-- ---- the loss of all lines
+
+pub losses_leave : StaysInOrder → LossesLeaveFiles
+losses_leave stays p order =
+    let c = (after_losses p).customer in
+    let lost = all_lost stays (length p.customer.lines) p (omega arith) order in
+    let down : (l : ℕ) → l < length c.lines → phase_of (line_at l c.lines) ≡ Down = λ l there. lost.down l (omega (arith, there, lost.lines)) in
+    let idle : (l : ℕ) → l < length c.lines → IsIdle (line_at l c.lines) = λ l there. lost.order.idle l there (ap is_up (down l there)) in
+    record {
+      files = lost.files;
+      none_sent = none_goes c lost.order idle;
+      partial = no_partial c lost.order idle;
+      lines = lost.lines;
+      down = down;
+      idle = idle;
+      rests = λ l there has_line. lost.rests l has_line;
+    }

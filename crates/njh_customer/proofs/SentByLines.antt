@@ -1,0 +1,570 @@
+-- What a line sends, the end of its session, and new routes leave it so: the files that are being sent are exactly those
+-- that a stream is about, each on one stream.
+use Rattle.std.proofs.Common.{◌≡◌, ℕ, zero, suc, ◌+◌, ◌<◌, Bool, true, false, cond, ◌==◌, ◌&&◌, ◌||◌, ◌⊎◌, inl, inr, List, [], ◌∷◌, length}
+use Rattle.std.proofs.Common.{map, set, get_or, replicate, find, Option, Some, None, refl, sym, ap, subst, ◌∙◌, arith, eq-eqb}
+use Rattle.std.proofs.Math.ListN.{get_or-map}
+use Rattle.std.proofs.lemmas.Bool.{eqb-true, eqb-false}
+use Rattle.std.proofs.lemmas.List.{get_or-set_same, get_or-set_other, length-map, length-replicate, length-set, map-set}
+use Rattle.std.proofs.lemmas.List.Elements.{Contains-append_right}
+use Rattle.std.specs.List.{Contains}
+use Rattle.njh_block.specs.Codes.{kind_of}
+use Rattle.njh_header.specs.FileHeaders.{destination_of}
+use Rattle.njh_spool.specs.CustomerSpool.{CustomerSpool, WholeFile}
+use Rattle.njh_spool.specs.declared.State.TheVariants as state
+use Rattle.njh_table.specs.Entries.{CustomerEntry, LineEntry, RouteEntry}
+use Rattle.njh_stream.specs.declared.sender.Sender.{Sender}
+use Rattle.njh_stream.specs.declared.sender.Sender.TheVariants.{Idle, Requested, Sending, EofSent, Aborting}
+use Rattle.njh_stream.specs.Holding.{destination_unrouted, has_lost_route, waits_in_state}
+use Rattle.njh_stream.specs.Sending.{all_ended, file_in, goes_by, is_refused, may_go_again, ready, spool_after_session}
+use Rattle.njh_stream.specs.Sending.{tried_again}
+use Rattle.njh_sched.specs.NextBlock.{Filling, filling, is_ready, may_go, same_kind}
+use Rattle.njh_sched.specs.Tight.{own_fcs}
+use Rattle.njh_command.specs.Files.{no_file}
+use Rattle.njh_line.specs.declared.verdict.LineReply.{LineReply}
+use Rattle.njh_line.specs.declared.verdict.LineReply.TheVariants as reply
+use Rattle.njh_customer.specs.Customer.{Customer, CustomerLine, config_of, fresh_customer, idle_line, line_at, no_customer_line}
+use Rattle.njh_customer.specs.Alone.{replied_to, session_over}
+use Rattle.njh_customer.specs.Sending.{next_block, outlet_of, own_block, sending_of_reply}
+use Rattle.njh_customer.specs.NewRoutes.{customer_with_routes, entry_with}
+use Rattle.njh_customer.specs.OutgoingFiles.{Outgoing, has_file, outgoing, sender_on, streams_from_hub, streams_of}
+use Rattle.njh_customer.specs.OutgoingFiles.{with_file_state, with_files, with_sender_on}
+use Rattle.njh_customer.specs.Moves as moves
+use Rattle.njh_customer.specs.Moves.{LeadsByMoves, nowhere, onward, Sends}
+use Rattle.njh_customer.specs.MovingLaws.{RoutesMoveFile, is_as_before, is_held}
+use Rattle.njh_customer.specs.InOrder.{AreBeingSent, IsOnStream, IsAbout}
+use Rattle.njh_customer.proofs.EndingMoves.{ended_where, over_so, without_all_whole}
+use Rattle.njh_customer.proofs.FileListLaws.{any_numbered, but_states, copies, from_map, marked_numbers, same_numbered}
+use Rattle.njh_customer.proofs.OutgoingLaws.{of_parts, own_again, unmoved}
+use Rattle.njh_customer.proofs.RoutesMoves.{held_numbers, held_so}
+use Rattle.njh_customer.proofs.SenderPlaces.{set_lines, set_streams, set_there}
+use Rattle.njh_customer.proofs.SendingMoves.{out_of, filled_leads}
+use Rattle.njh_customer.proofs.StreamMoveLaws.{IsOne, moved_one}
+
+-- ---- streams that are about the same files
+
+-- no file is another, each line has as many streams, and each of these is about the file that it was about
+record AreAlike (x y : Outgoing) : Type 0 where
+  files : y.files ≡ x.files
+  lines : length y.streams ≡ length x.streams
+  streams : (l : ℕ) → length (streams_of l y) ≡ length (streams_of l x)
+  about : (l k : ℕ) → file_in (sender_on l k y) ≡ file_in (sender_on l k x)
+
+sent_alike : (x y : Outgoing) → AreAlike x y → AreBeingSent x → AreBeingSent y
+sent_alike x y like sent =
+    record {
+      eight = λ l there. like.streams l ∙ sent.eight l (omega (arith, there, like.lines));
+      there = λ l k n about. ap (any_numbered n) like.files ∙ sent.there l k n (sym (like.about l k) ∙ about);
+      sending =
+          λ l k n f about at same. sent.sending l k n f (sym (like.about l k) ∙ about) (subst (λ fs. Contains fs f) like.files at) same;
+      apart = λ l k m j n first second. sent.apart l k m j n (sym (like.about l k) ∙ first) (sym (like.about m j) ∙ second);
+      go = λ f at is.
+          let goes = sent.go f (subst (λ fs. Contains fs f) like.files at) is in
+          record { line = goes.line; stream = goes.stream; about = like.about goes.line goes.stream ∙ goes.about };
+    }
+
+-- one stream moves, and is about the file that it was about
+one_alike : (l k : ℕ) (s : Sender) (x : Outgoing) → file_in s ≡ file_in (sender_on l k x) → AreAlike x (with_sender_on l k s x)
+one_alike l k s x same =
+    record {
+      files = refl;
+      lines = set_lines l k s x;
+      streams = λ j. set_streams j l k s x;
+      about = λ j m. at_place j m (moved_one j m l k s x);
+    }
+  where
+    at_place : (j m : ℕ) → IsOne j m l k s x (with_sender_on l k s x) → file_in (sender_on j m (with_sender_on l k s x)) ≡ file_in (sender_on j m x)
+    at_place j m (inl stays) = ap (λ t. file_in t) stays
+    at_place j m (inr one) =
+        ap (λ t. file_in t) one.2
+        ∙ same
+        ∙ sym (ap (λ n. file_in (sender_on n m x)) one.0 ∙ ap (λ n. file_in (sender_on l n x)) one.1)
+
+one_moves :
+    (l k : ℕ) (s t : Sender) (x y : Outgoing) → sender_on l k x ≡ s → file_in t ≡ file_in s → y ≡ with_sender_on l k t x → AreBeingSent x
+    → AreBeingSent y
+one_moves l k s t x y before same e sent =
+    subst AreBeingSent (sym e) (sent_alike x (with_sender_on l k t x) (one_alike l k t x (same ∙ sym (ap (λ u. file_in u) before))) sent)
+
+-- ---- a stream asks for a file
+
+some_is : {A : Type 0} (a b : A) → Some a ≡ Some b → a ≡ b
+some_is a b e = ap (λ o. elim o [ Some c ↦ c | None ↦ a ]) e
+
+-- what is found is there and passes the test
+found_one : {A : Type 0} (p : A → Bool) (xs : List A) (x : A) → find p xs ≡ Some x → Contains xs x × (p x ≡ true)
+found_one p [] x e = absurd (cc e)
+found_one {A} p (y ∷ ys) x e = at_test (p y) refl e (found_one p ys x)
+  where
+    at_test :
+        (b : Bool) → p y ≡ b → cond b (Some y) (find p ys) ≡ Some x → (find p ys ≡ Some x → Contains ys x × (p x ≡ true))
+        → Contains (y ∷ ys) x × (p x ≡ true)
+    at_test true passes e later = let same = some_is y x e in ((0, omega arith, same), ap p (sym same) ∙ passes)
+    at_test false passes e later = let rest = later e in (Contains-append_right (y ∷ []) ys x rest.0, rest.1)
+
+-- there is a file of its number
+one_there : (f : WholeFile) (files : List WholeFile) → Contains files f → any_numbered f.number files ≡ true
+one_there f files at = at_index files at.0 at.1 at.2
+  where
+    at_index : (files : List WholeFile) (i : ℕ) → i < length files → get_or files i f ≡ f → any_numbered f.number files ≡ true
+    at_index [] i inside e = absurd (omega (arith, inside))
+    at_index (g ∷ gs) zero inside e =
+        ap (λ b. b || any_numbered f.number gs) (eq-eqb g.number f.number (ap (λ h. h.number) e))
+    at_index (g ∷ gs) (suc i) inside e = at_first (g.number == f.number) (at_index gs i (omega (arith, inside)) e)
+      where
+        at_first : (b : Bool) → any_numbered f.number gs ≡ true → (b || any_numbered f.number gs) ≡ true
+        at_first true rest = refl
+        at_first false rest = rest
+
+-- a file that may go isn't being sent
+goes_ready : (goes : WholeFile → Bool) (k : ℕ) (f : WholeFile) → may_go goes (kind_of k) f ≡ true → f.state ≡ state.Sending → ⊥
+goes_ready goes k f may is = cc (sym may ∙ ap (λ s. is_ready s && (same_kind f.kind (kind_of k) && goes f)) is)
+
+module _ (entry : CustomerEntry) (l k : ℕ) (f : WholeFile) (x : Outgoing) (line : l < length x.streams) (few : k < 8)
+    (idle : sender_on l k x ≡ Idle) (found : find (may_go (goes_by entry l) (kind_of k)) x.files ≡ Some f) (sent : AreBeingSent x) where
+  abbrev marked : Outgoing
+  marked = with_files (with_file_state f.number state.Sending x.files) x
+
+  abbrev asked : Outgoing
+  asked = with_sender_on l k (Requested f.number) marked
+
+  at_file : Contains x.files f
+  at_file = (found_one (may_go (goes_by entry l) (kind_of k)) x.files f found).0
+
+  -- no stream is about it
+  none_about : (m j : ℕ) → IsAbout m j f.number x → ⊥
+  none_about m j about =
+      goes_ready (goes_by entry l) k f (found_one (may_go (goes_by entry l) (kind_of k)) x.files f found).1
+      (sent.sending m j f.number f about at_file refl)
+
+  -- a stream is about what it was about, or it is the one that asks
+  abbrev WasAbout : ℕ → ℕ → ℕ → Type 0
+  WasAbout m j n = IsAbout m j n x ⊎ ((m ≡ l) × (j ≡ k) × (n ≡ f.number))
+
+  was_about : (m j n : ℕ) → IsAbout m j n asked → WasAbout m j n
+  was_about m j n about = at_place (moved_one m j l k (Requested f.number) marked)
+    where
+      at_place : IsOne m j l k (Requested f.number) marked asked → WasAbout m j n
+      at_place (inl same) = inl (sym (ap (λ t. file_in t) same) ∙ about)
+      at_place (inr one) = inr (one.0, one.1, some_is n f.number (sym about ∙ ap (λ t. file_in t) one.2))
+
+  -- one that was about a file still is
+  still_about : (m j n : ℕ) → IsAbout m j n x → IsAbout m j n asked
+  still_about m j n about = at_place (moved_one m j l k (Requested f.number) marked)
+    where
+      at_place : IsOne m j l k (Requested f.number) marked asked → IsAbout m j n asked
+      at_place (inl same) = ap (λ t. file_in t) same ∙ about
+      at_place (inr one) =
+          absurd (cc (sym about ∙ ap (λ i. file_in (sender_on i j x)) one.0 ∙ ap (λ i. file_in (sender_on l i x)) one.1 ∙ ap (λ t. file_in t) idle))
+
+  asks_about : IsAbout l k f.number asked
+  asks_about = ap (λ t. file_in t) (set_there l k (Requested f.number) marked line (omega (arith, few, sent.eight l line)))
+
+  abbrev mark : WholeFile → WholeFile
+  mark g = cond (g.number == f.number) (record g { state = state.Sending }) g
+
+  abbrev Marked : WholeFile → Type 0
+  Marked g = (h : WholeFile) × Contains x.files h × (g ≡ mark h)
+
+  asked_there : (m j n : ℕ) → IsAbout m j n asked → has_file n asked ≡ true
+  asked_there m j n about = same_numbered n asked.files x.files (marked_numbers f.number state.Sending x.files) ∙ at_stream (was_about m j n about)
+    where
+      at_stream : WasAbout m j n → any_numbered n x.files ≡ true
+      at_stream (inl was) = sent.there m j n was
+      at_stream (inr asks) = ap (λ i. any_numbered i x.files) asks.2 ∙ one_there f x.files at_file
+
+  asked_sending : (m j n : ℕ) (g : WholeFile) → IsAbout m j n asked → Contains asked.files g → g.number ≡ n → g.state ≡ state.Sending
+  asked_sending m j n g about at same = at_mark (from_map mark x.files no_file g at)
+    where
+      not_marked : (h : WholeFile) → Contains x.files h → (h.number == f.number) ≡ false → g ≡ h → WasAbout m j n → g.state ≡ state.Sending
+      not_marked h there other is (inl was) =
+          ap (λ i. i.state) is ∙ sent.sending m j n h was there (sym (ap (λ i. i.number) is) ∙ same)
+      not_marked h there other is (inr asks) =
+          absurd (eqb-false h.number f.number other (sym (ap (λ i. i.number) is) ∙ same ∙ asks.2))
+
+      by_test :
+          (b : Bool) (h : WholeFile) → Contains x.files h → (h.number == f.number) ≡ b → g ≡ cond b (record h { state = state.Sending }) h
+          → g.state ≡ state.Sending
+      by_test true h there e is = ap (λ i. i.state) is
+      by_test false h there e is = not_marked h there e is (was_about m j n about)
+
+      at_mark : Marked g → g.state ≡ state.Sending
+      at_mark (h, there, is) = by_test (h.number == f.number) h there refl is
+
+  asked_apart : (i h m j n : ℕ) → IsAbout i h n asked → IsAbout m j n asked → (i ≡ m) × (h ≡ j)
+  asked_apart i h m j n first second = at_streams (was_about i h n first) (was_about m j n second)
+    where
+      at_streams : WasAbout i h n → WasAbout m j n → (i ≡ m) × (h ≡ j)
+      at_streams (inl one) (inl other) = sent.apart i h m j n one other
+      at_streams (inl one) (inr asks) = absurd (none_about i h (one ∙ ap Some asks.2))
+      at_streams (inr asks) (inl other) = absurd (none_about m j (other ∙ ap Some asks.2))
+      at_streams (inr one) (inr other) = (one.0 ∙ sym other.0, one.1 ∙ sym other.1)
+
+  asked_go : (g : WholeFile) → Contains asked.files g → g.state ≡ state.Sending → IsOnStream g.number asked
+  asked_go g at is = at_mark (from_map mark x.files no_file g at)
+    where
+      by_test :
+          (b : Bool) (h : WholeFile) → Contains x.files h → (h.number == f.number) ≡ b → g ≡ cond b (record h { state = state.Sending }) h
+          → IsOnStream g.number asked
+      by_test true h there e same =
+          record {
+            line = l;
+            stream = k;
+            about = asks_about ∙ ap Some (sym (ap (λ i. i.number) same ∙ eqb-true h.number f.number e));
+          }
+      by_test false h there e same =
+          let goes = sent.go h there (sym (ap (λ i. i.state) same) ∙ is) in
+          record {
+            line = goes.line;
+            stream = goes.stream;
+            about = still_about goes.line goes.stream h.number goes.about ∙ ap Some (sym (ap (λ i. i.number) same));
+          }
+
+      at_mark : Marked g → IsOnStream g.number asked
+      at_mark (h, there, same) = by_test (h.number == f.number) h there refl same
+
+  sent_asked : AreBeingSent asked
+  sent_asked =
+      record {
+        eight = λ m there.
+            set_streams m l k (Requested f.number) marked
+            ∙ sent.eight m (omega (arith, there, set_lines l k (Requested f.number) marked));
+        there = asked_there;
+        sending = asked_sending;
+        apart = asked_apart;
+        go = asked_go;
+      }
+
+-- ---- what goes out in a new block
+
+pub sent_by_sends : (entry : CustomerEntry) (l : ℕ) (x y : Outgoing) → l < length x.streams → Sends entry l x y → AreBeingSent x → AreBeingSent y
+sent_by_sends entry l x y line (moves.gives_up k before e) sent = one_moves l k Aborting Idle x y before refl e sent
+sent_by_sends entry l x y line (moves.asks k f few before found e) sent =
+    subst AreBeingSent (sym e) (sent_asked entry l k f x line few before found sent)
+sent_by_sends entry l x y line (moves.goes_on k n place r before found e) sent =
+    one_moves l k (Sending n place) (Sending n (place + 1)) x y before refl e sent
+sent_by_sends entry l x y line (moves.ends k n place before found e) sent =
+    one_moves l k (Sending n place) (EofSent n) x y before refl e sent
+
+-- there are as many lines
+sends_lines : (entry : CustomerEntry) (l : ℕ) (x y : Outgoing) → Sends entry l x y → length y.streams ≡ length x.streams
+sends_lines entry l x y (moves.gives_up k before e) = ap (λ z. length z.streams) e ∙ set_lines l k Idle x
+sends_lines entry l x y (moves.asks k f few before found e) =
+    ap (λ z. length z.streams) e ∙ set_lines l k (Requested f.number) (with_files (with_file_state f.number state.Sending x.files) x)
+sends_lines entry l x y (moves.goes_on k n place r before found e) =
+    ap (λ z. length z.streams) e ∙ set_lines l k (Sending n (place + 1)) x
+sends_lines entry l x y (moves.ends k n place before found e) = ap (λ z. length z.streams) e ∙ set_lines l k (EofSent n) x
+
+pub sent_by_all : (entry : CustomerEntry) (l : ℕ) (x y : Outgoing) → l < length x.streams → LeadsByMoves (Sends entry l) x y → AreBeingSent x → AreBeingSent y
+sent_by_all entry l _ _ line (nowhere x) sent = sent
+sent_by_all entry l _ _ line (onward x y z move later) sent =
+    sent_by_all entry l y z (omega (arith, line, sends_lines entry l x y move)) later (sent_by_sends entry l x y line move sent)
+
+-- ---- what a line sends
+
+sent_next :
+    (l : ℕ) (or_ack0 : Bool) (c : Customer) → l < length c.lines → AreBeingSent (outgoing c)
+    → AreBeingSent (outgoing (replied_to l (reply.Next or_ack0) c).after)
+sent_next l or_ack0 c there sent =
+    subst AreBeingSent (sym after_is)
+    (sent_by_all c.entry l (out_of l base first) (out_of l base full)
+    (omega (arith, inside, length-set base l first.outlet.senders))
+    (filled_leads c.entry l base inside first)
+    (subst AreBeingSent (sym begins) sent))
+  where
+    first : Filling
+    first = filling (own_block (own_fcs c.spool) (line_at l c.lines).state) (outlet_of (line_at l c.lines)) c.spool
+
+    full : Filling
+    full = next_block c.entry l c.spool (line_at l c.lines)
+
+    base : List (List Sender)
+    base = streams_from_hub c.lines
+
+    inside : l < length base
+    inside = omega (arith, there, length-map c.lines (λ x. x.senders))
+
+    begins : out_of l base first ≡ outgoing c
+    begins = ap (of_parts c.spool.whole c.spool.arrived) (own_again l c.lines)
+
+    after_is : outgoing (replied_to l (reply.Next or_ack0) c).after ≡ out_of l base full
+    after_is =
+        ap (of_parts full.spool.whole full.spool.arrived)
+        (map-set (λ y. y.senders) c.lines l (sending_of_reply c.entry l (reply.Next or_ack0) c.spool (line_at l c.lines)).line)
+
+pub sent_replied : (l : ℕ) (r : LineReply) (c : Customer) → l < length c.lines → AreBeingSent (outgoing c) → AreBeingSent (outgoing (replied_to l r c).after)
+sent_replied l reply.Nothing c there sent =
+    subst AreBeingSent (sym (unmoved l (sending_of_reply c.entry l reply.Nothing c.spool (line_at l c.lines)) c refl refl refl)) sent
+sent_replied l (reply.Control which) c there sent =
+    subst AreBeingSent (sym (unmoved l (sending_of_reply c.entry l (reply.Control which) c.spool (line_at l c.lines)) c refl refl refl)) sent
+sent_replied l reply.Again c there sent =
+    subst AreBeingSent (sym (unmoved l (sending_of_reply c.entry l reply.Again c.spool (line_at l c.lines)) c refl refl refl)) sent
+sent_replied l (reply.SignOn kind) c there sent =
+    subst AreBeingSent (sym (unmoved l (sending_of_reply c.entry l (reply.SignOn kind) c.spool (line_at l c.lines)) c refl refl refl)) sent
+sent_replied l (reply.Sequence expected) c there sent =
+    subst AreBeingSent (sym (unmoved l (sending_of_reply c.entry l (reply.Sequence expected) c.spool (line_at l c.lines)) c refl refl refl)) sent
+sent_replied l (reply.Next or_ack0) c there sent = sent_next l or_ack0 c there sent
+
+-- ---- the end of a session
+
+-- none of some streams is about a number
+abbrev NoneAbout : ℕ → List Sender → Type 0
+NoneAbout n senders = (k : ℕ) → file_in (get_or senders k Idle) ≡ Some n → ⊥
+
+none_more : (n : ℕ) (s : Sender) (more : List Sender) → (file_in s ≡ Some n → ⊥) → NoneAbout n more → NoneAbout n (s ∷ more)
+none_more n s more first rest zero about = first about
+none_more n s more first rest (suc k) about = rest k about
+
+-- a file that is being sent behind the end of one stream's session was there, and the stream isn't about it
+ended_one :
+    (s : Sender) (spool : CustomerSpool) (g : WholeFile) → Contains (spool_after_session s spool).whole g → g.state ≡ state.Sending
+    → Contains spool.whole g × (file_in s ≡ Some g.number → ⊥)
+ended_one s spool g at is = at_about (file_in s) at
+  where
+    not_it : (n : ℕ) (h : WholeFile) (b : Bool) → Contains spool.whole h → (h.number == n) ≡ b → g ≡ cond b (record h { state = state.Ready }) h
+        → Contains spool.whole g × (Some n ≡ Some g.number → ⊥)
+    not_it n h true there e same = absurd (cc (sym is ∙ ap (λ i. i.state) same))
+    not_it n h false there e same = (
+      subst (Contains spool.whole) (sym same) there,
+      λ about.
+          eqb-false h.number n e (sym (some_is n g.number about ∙ ap (λ i. i.number) same)),
+    )
+
+    at_about : (o : Option ℕ) → Contains (ended_where o spool).whole g → Contains spool.whole g × (o ≡ Some g.number → ⊥)
+    at_about None at = (at, λ about. cc about)
+    at_about (Some n) at =
+        let found = from_map (λ f. cond (f.number == n) (record f { state = state.Ready }) f) spool.whole no_file g at in
+        not_it n found.0 (found.0.number == n) found.1 refl found.2
+
+all_ended_ones :
+    (senders : List Sender) (spool : CustomerSpool) (g : WholeFile) → Contains (all_ended senders spool).whole g → g.state ≡ state.Sending
+    → Contains spool.whole g × NoneAbout g.number senders
+all_ended_ones [] spool g at is = (at, λ k about. cc about)
+all_ended_ones (s ∷ more) spool g at is =
+    let rest = all_ended_ones more (spool_after_session s spool) g at is in
+    let first = ended_one s spool g rest.0 is in
+    (first.0, none_more g.number s more first.1 rest.1)
+
+-- a file that no stream is about stays as it is
+unended_one :
+    (s : Sender) (spool : CustomerSpool) (g : WholeFile) → Contains (spool_after_session s spool).whole g → (file_in s ≡ Some g.number → ⊥)
+    → Contains spool.whole g
+unended_one s spool g at none = at_about (file_in s) at none
+  where
+    not_it : (n : ℕ) (h : WholeFile) (b : Bool) → Contains spool.whole h → (h.number == n) ≡ b → g ≡ cond b (record h { state = state.Ready }) h
+        → (Some n ≡ Some g.number → ⊥) → Contains spool.whole g
+    not_it n h true there e same none =
+        absurd (none (ap Some (sym (ap (λ i. i.number) same ∙ eqb-true h.number n e))))
+    not_it n h false there e same none = subst (Contains spool.whole) (sym same) there
+
+    at_about : (o : Option ℕ) → Contains (ended_where o spool).whole g → (o ≡ Some g.number → ⊥) → Contains spool.whole g
+    at_about None at none = at
+    at_about (Some n) at none =
+        let found = from_map (λ f. cond (f.number == n) (record f { state = state.Ready }) f) spool.whole no_file g at in
+        not_it n found.0 (found.0.number == n) found.1 refl found.2 none
+
+unended_ones :
+    (senders : List Sender) (spool : CustomerSpool) (g : WholeFile) → Contains (all_ended senders spool).whole g → NoneAbout g.number senders
+    → Contains spool.whole g
+unended_ones [] spool g at none = at
+unended_ones (s ∷ more) spool g at none =
+    unended_one s spool g (unended_ones more (spool_after_session s spool) g at (λ k. none (suc k))) (none 0)
+
+module _ (l : ℕ) (c : Customer) (line : l < length c.lines) (sent : AreBeingSent (outgoing c)) where
+  abbrev before_end : Outgoing
+  before_end = outgoing c
+
+  abbrev behind_end : Outgoing
+  behind_end = outgoing (session_over l c)
+
+  abbrev own : List Sender
+  own = (line_at l c.lines).senders
+
+  abbrev idles : List Sender
+  idles = replicate (length (streams_of l before_end)) Idle
+
+  own_streams : streams_of l before_end ≡ own
+  own_streams = get_or-map (λ y. y.senders) c.lines l no_customer_line
+
+  inside : l < length before_end.streams
+  inside = omega (arith, line, length-map c.lines (λ x. x.senders))
+
+  streams_now : behind_end.streams ≡ set before_end.streams l idles
+  streams_now = (over_so l c).streams
+
+  files_now : behind_end.files ≡ (tried_again c.entry l (all_ended own c.spool)).whole
+  files_now = without_all_whole (line_at l c.lines).receivers (tried_again c.entry l (all_ended own c.spool))
+
+  line_now : streams_of l behind_end ≡ idles
+  line_now = ap (λ lines. get_or lines l []) streams_now ∙ get_or-set_same before_end.streams l idles [] inside
+
+  other_line : (m : ℕ) → (m ≡ l → ⊥) → streams_of m behind_end ≡ streams_of m before_end
+  other_line m apart = ap (λ lines. get_or lines m []) streams_now ∙ get_or-set_other before_end.streams l m idles [] apart
+
+  -- a stream that is about a file is of another line, and was about it
+  about_before : (m k n : ℕ) → IsAbout m k n behind_end → (m ≡ l → ⊥) × IsAbout m k n before_end
+  about_before m k n about = (apart, sym (ap (λ senders. file_in (get_or senders k Idle)) (other_line m apart)) ∙ about)
+    where
+      apart : m ≡ l → ⊥
+      apart same =
+          cc (sym about
+          ∙ ap (λ i. file_in (sender_on i k behind_end)) same
+          ∙ ap (λ senders. file_in (get_or senders k Idle)) line_now
+          ∙ ap (λ s. file_in s) (copies (length (streams_of l before_end)) k Idle))
+
+  -- so none of the line's was
+  none_own : (m k n : ℕ) → IsAbout m k n behind_end → NoneAbout n own
+  none_own m k n about j of_own =
+      let was = about_before m k n about in
+      was.0 (sent.apart m k l j n was.1 (ap (λ senders. file_in (get_or senders j Idle)) own_streams ∙ of_own)).0
+
+  abbrev tried : WholeFile → WholeFile
+  tried f = cond (may_go_again c.entry l f) (ready f) f
+
+  abbrev Tried : WholeFile → Type 0
+  Tried g = (f : WholeFile) × Contains (all_ended own c.spool).whole f × (g ≡ tried f)
+
+  from_tried : (g : WholeFile) → Contains behind_end.files g → Tried g
+  from_tried g at = from_map tried (all_ended own c.spool).whole no_file g (subst (λ fs. Contains fs g) files_now at)
+
+  over_eight : (m : ℕ) → m < length behind_end.streams → length (streams_of m behind_end) ≡ 8
+  over_eight m there = at_line (m == l) refl
+    where
+      was_there : m < length before_end.streams
+      was_there = omega (arith, there, ap length streams_now, length-set before_end.streams l idles)
+
+      at_line : (b : Bool) → (m == l) ≡ b → length (streams_of m behind_end) ≡ 8
+      at_line true e =
+          ap (λ i. length (streams_of i behind_end)) (eqb-true m l e)
+          ∙ ap length line_now
+          ∙ length-replicate {A = Sender} (length (streams_of l before_end)) Idle
+          ∙ sent.eight l inside
+      at_line false e = ap length (other_line m (eqb-false m l e)) ∙ sent.eight m was_there
+
+  over_there : (m k n : ℕ) → IsAbout m k n behind_end → has_file n behind_end ≡ true
+  over_there m k n about =
+      same_numbered n behind_end.files before_end.files (but_states behind_end.files before_end.files (over_so l c).files)
+      ∙ sent.there m k n (about_before m k n about).1
+
+  over_sending : (m k n : ℕ) (g : WholeFile) → IsAbout m k n behind_end → Contains behind_end.files g → g.number ≡ n → g.state ≡ state.Sending
+  over_sending m k n g about at same = at_tried (from_tried g at)
+    where
+      was_sending : (f : WholeFile) → Contains (all_ended own c.spool).whole f → f.number ≡ n → f.state ≡ state.Sending
+      was_sending f there number =
+          sent.sending m k n f (about_before m k n about).1
+          (unended_ones own c.spool f there (subst (λ i. NoneAbout i own) (sym number) (none_own m k n about))) number
+
+      by_test :
+          (b : Bool) (f : WholeFile) → Contains (all_ended own c.spool).whole f → may_go_again c.entry l f ≡ b → g ≡ cond b (ready f) f
+          → g.state ≡ state.Sending
+      by_test true f there e is =
+          absurd (cc (sym e ∙ ap (λ s. is_refused s && goes_by c.entry l f) (was_sending f there (sym (ap (λ i. i.number) is) ∙ same))))
+      by_test false f there e is = ap (λ i. i.state) is ∙ was_sending f there (sym (ap (λ i. i.number) is) ∙ same)
+
+      at_tried : Tried g → g.state ≡ state.Sending
+      at_tried (f, there, is) = by_test (may_go_again c.entry l f) f there refl is
+
+  over_go : (g : WholeFile) → Contains behind_end.files g → g.state ≡ state.Sending → IsOnStream g.number behind_end
+  over_go g at is = at_tried (from_tried g at)
+    where
+      -- the stream that it goes on isn't of the line
+      on_other : Contains c.spool.whole g → NoneAbout g.number own → IsOnStream g.number behind_end
+      on_other there none =
+          let goes = sent.go g there is in
+          let apart : goes.line ≡ l → ⊥ =
+          λ same. none goes.stream (
+          sym (ap (λ senders. file_in (get_or senders goes.stream Idle)) own_streams)
+          ∙ sym (ap (λ i. file_in (sender_on i goes.stream before_end)) same)
+          ∙ goes.about
+          ) in
+          record {
+            line = goes.line;
+            stream = goes.stream;
+            about = ap (λ senders. file_in (get_or senders goes.stream Idle)) (other_line goes.line apart) ∙ goes.about;
+          }
+
+      by_test : (b : Bool) (f : WholeFile) → Contains (all_ended own c.spool).whole f → g ≡ cond b (ready f) f → IsOnStream g.number behind_end
+      by_test true f there same = absurd (cc (sym is ∙ ap (λ i. i.state) same))
+      by_test false f there same =
+          let was = all_ended_ones own c.spool g (subst (Contains (all_ended own c.spool).whole) (sym same) there) is in
+          on_other was.0 was.1
+
+      at_tried : Tried g → IsOnStream g.number behind_end
+      at_tried (f, there, same) = by_test (may_go_again c.entry l f) f there same
+
+  over_sent : AreBeingSent behind_end
+  over_sent =
+      record {
+        eight = over_eight;
+        there = over_there;
+        sending = over_sending;
+        apart = λ m k i j n first second. sent.apart m k i j n (about_before m k n first).1 (about_before i j n second).1;
+        go = over_go;
+      }
+
+pub sent_over : (l : ℕ) (c : Customer) → l < length c.lines → AreBeingSent (outgoing c) → AreBeingSent (outgoing (session_over l c))
+sent_over l c line sent = over_sent l c line sent
+
+-- ---- new routes
+
+-- a file that is being sent doesn't wait
+never_waits : (entry : CustomerEntry) (f : WholeFile) → f.state ≡ state.Sending → has_lost_route entry f ≡ false
+never_waits entry f is = ap (λ s. waits_in_state s && destination_unrouted entry (destination_of f.kind f.records)) is
+
+pub sent_routes : (routes : List RouteEntry) (c : Customer) → AreBeingSent (outgoing c) → AreBeingSent (outgoing (customer_with_routes routes c))
+sent_routes routes c sent =
+    record {
+      eight = sent.eight;
+      there = λ l k n about. same_numbered n behind.files c.spool.whole (held_numbers entry c.spool.whole) ∙ sent.there l k n about;
+      sending = λ l k n g about at same. now_sending l k n g about same (held_so entry (outgoing c) g at);
+      apart = sent.apart;
+      go = λ g at is. now_goes g is (held_so entry (outgoing c) g at);
+    }
+  where
+    entry : CustomerEntry
+    entry = entry_with routes c.entry
+
+    behind : Outgoing
+    behind = outgoing (customer_with_routes routes c)
+
+    now_sending :
+        (l k n : ℕ) (g : WholeFile) → IsAbout l k n (outgoing c) → g.number ≡ n → RoutesMoveFile entry (outgoing c) g → g.state ≡ state.Sending
+    now_sending l k n g about same (is_as_before there e) = sent.sending l k n g about there same
+    now_sending l k n g about same (is_held f there lost held) =
+        absurd (cc (sym lost ∙ never_waits entry f (sent.sending l k n f about there (sym (ap (λ i. i.number) held) ∙ same))))
+
+    now_goes : (g : WholeFile) → g.state ≡ state.Sending → RoutesMoveFile entry (outgoing c) g → IsOnStream g.number behind
+    now_goes g is (is_as_before there e) =
+        let goes = sent.go g there is in record { line = goes.line; stream = goes.stream; about = goes.about }
+    now_goes g is (is_held f there lost held) = absurd (cc (sym is ∙ ap (λ i. i.state) held))
+
+-- ---- a customer that was just opened
+
+abbrev fresh_line_of : CustomerEntry → LineEntry → CustomerLine
+fresh_line_of entry line = idle_line (config_of entry line) line.streams
+
+fresh_streams : (entry : CustomerEntry) (lines : List LineEntry) (l : ℕ) → l < length (streams_from_hub (map (fresh_line_of entry) lines))
+    → get_or (streams_from_hub (map (fresh_line_of entry) lines)) l [] ≡ replicate 8 Idle
+fresh_streams entry [] l there = absurd (omega (arith, there))
+fresh_streams entry (x ∷ xs) zero there = refl
+fresh_streams entry (x ∷ xs) (suc l) there = fresh_streams entry xs l (omega (arith, there))
+
+-- all are idle
+fresh_idle :
+    (entry : CustomerEntry) (lines : List LineEntry) (l k : ℕ)
+    → get_or (get_or (streams_from_hub (map (fresh_line_of entry) lines)) l []) k Idle ≡ Idle
+fresh_idle entry [] l k = refl
+fresh_idle entry (x ∷ xs) zero k = copies 8 k Idle
+fresh_idle entry (x ∷ xs) (suc l) k = fresh_idle entry xs l k
+
+pub sent_fresh : (entry : CustomerEntry) → AreBeingSent (outgoing (fresh_customer entry))
+sent_fresh entry =
+    record {
+      eight = λ l there. ap length (fresh_streams entry entry.lines l there);
+      there = λ l k n about. absurd (none_about l k n about);
+      sending = λ l k n f about at same. absurd (none_about l k n about);
+      apart = λ l k m j n first second. absurd (none_about l k n first);
+      go = λ f at is. absurd (omega (arith, at.1));
+    }
+  where
+    none_about : (l k n : ℕ) → IsAbout l k n (outgoing (fresh_customer entry)) → ⊥
+    none_about l k n about = cc (sym about ∙ ap (λ s. file_in s) (fresh_idle entry entry.lines l k))
