@@ -4,6 +4,7 @@ pub mod Refusing
 pub mod Writing
 pub mod Mirrored
 pub mod Remembered
+pub mod Shown
 pub mod Walking
 pub mod Nodes
 pub mod Alike

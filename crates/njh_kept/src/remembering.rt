@@ -25,7 +25,7 @@ use njh_hub::Hub;
 use njh_record::Kind;
 use njh_store::StoredFile;
 use sqlite::{Alter, Error};
-use std::alloc::Global;
+use std::alloc::{AllocError, Global};
 
 /// Remembers the whole files of the customers of a hub that was opened from these files of a spool file. The rows of
 /// those that are Held since their node has no route any more are written anew.
@@ -78,7 +78,12 @@ fn remember_customer<S: Alter + Drop>(
 }
 
 /// A customer of a hub, without its files.
-fn customer_named(alloc: Global, hub: &Hub, customer: u16, name: Name) -> Result<OwnFiles, Error>
+fn customer_named(
+    alloc: Global,
+    hub: &Hub,
+    customer: u16,
+    name: Name,
+) -> Result<OwnFiles, AllocError>
     ensures { IfOk result (λ own. (own.name ≡ name) × (is_name_of (string_bytes own.text) name ≡ true)
         × (own.arrived ≡ (part customer hub.now).customer.spool.arrived) × (own.whole.items ≡ [])
         × (own.partial.items ≡ [])) }

@@ -7,18 +7,15 @@ ghost use Rattle.njh_hub.specs.Views.{file_summary};
 ghost use Rattle.njh_store.specs.Kept.{file_of};
 ghost use Rattle.njh_kept.specs.Opened.{is_name_of, is_own};
 ghost use Rattle.njh_kept.specs.code.Remembered.{IsRowOf};
+ghost use Rattle.njh_kept.specs.code.Shown.{IsShown, field_text};
 
 use crate::kinds::kind_word;
 use crate::own_files::KeptWhole;
-use njh_ebcdic::{Name, text_of};
+use njh_ebcdic::{Name, names_read_back, text_of, trim_blanks};
 use njh_hub::FileSummaryView;
 use njh_spool::State;
 use njh_store::KeptFile;
-use sqlite::{Error, ErrorCode};
 use std::alloc::{AllocError, Global};
-
-/// A blank.
-const BLANK: u8 = 0x40;
 
 /// Whether a file is Held.
 pub(crate) fn is_held(state: State) -> bool
@@ -33,34 +30,22 @@ pub(crate) fn is_held(state: State) -> bool
 }
 
 /// The characters of a field, without the blanks behind them.
-fn field_text(alloc: Global, field: &[u8]) -> Result<String, AllocError> {
+fn field_text(alloc: Global, field: &[u8]) -> Result<String, AllocError>
+    ensures { IfOk result (λ text. string_bytes text ≡ field_text field.now) }
+{
     let mut text = String::new(alloc);
-    let mut blanks = 0u32;
-    for byte in field {
-        if *byte == BLANK {
-            blanks = blanks.saturating_add(1);
-        } else {
-            for _ in 0..blanks {
-                text.push(' ')?;
-            }
-            blanks = 0;
-            text.push(text_of(*byte))?;
-        }
+    for byte in trim_blanks(field) {
+        text.push(text_of(*byte))?;
     }
     Ok(text)
 }
 
-/// A customer's name as each row of its files has it: a text that reads as this very name. A name without such a text,
-/// of which there is none, is a fault.
-pub(crate) fn name_text(alloc: Global, name: Name) -> Result<String, Error>
+/// A customer's name as each row of its files has it: a text that reads as this very name.
+pub(crate) fn name_text(alloc: Global, name: Name) -> Result<String, AllocError>
     ensures { IfOk result (λ text. is_name_of (string_bytes text) name ≡ true) }
 {
-    let text = field_text(alloc, &name.bytes())?;
-    if reads_as(text.as_str(), name) {
-        return Ok(text);
-    }
-    drop(text);
-    Err(Error::SqliteFailure(ErrorCode::DatabaseCorrupt))
+    names_read_back();
+    field_text(alloc, &name.bytes())
 }
 
 /// Whether a text is this name.
@@ -85,6 +70,7 @@ pub(crate) fn row_of(
         → IfOk result (λ row. IsRowOf kept.now.key f (file_of row)) }
     ensures owned { (name : List ℕ) → is_name_of customer.now name ≡ true
         → IfOk result (λ row. is_own name (file_of row) ≡ true) }
+    ensures shown { IfOk result (λ row. IsShown job file.now kept.now.came (file_of row)) }
 {
     Ok(KeptFile {
         customer: String::from_str(alloc, customer)?,
