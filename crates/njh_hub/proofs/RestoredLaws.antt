@@ -39,7 +39,7 @@ both : (a b : Bool) → (a && b) ≡ true → (a ≡ true) × (b ≡ true)
 both true b e = (refl, e)
 both false b e = absurd (cc e)
 
-headers_by : (kind : Kind) (records : List Stored) → has_headers kind records ≡ true → HasHeaders kind records
+pub headers_by : (kind : Kind) (records : List Stored) → has_headers kind records ≡ true → HasHeaders kind records
 headers_by kind records reads =
     let first = both (is_some (name_of records)) (is_some (file_owner records) && is_some (destination_of kind records)) reads in
     let rest = both (is_some (file_owner records)) (is_some (destination_of kind records)) first.1 in

@@ -38,7 +38,7 @@ mirrored_is_read_back s own files all = own_files_read_back own.name s (map kept
 
 -- ---- all customers
 
-found_all : {X Y : Type 0} (f : X → Option Y) (xs : List X) (ys : List Y) → map f xs ≡ map Some ys → filter_map f xs ≡ ys
+pub found_all : {X Y : Type 0} (f : X → Option Y) (xs : List X) (ys : List Y) → map f xs ≡ map Some ys → filter_map f xs ≡ ys
 found_all f [] [] all = refl
 found_all f [] (y ∷ ys) all = absurd (let long = ap length all in omega (arith, long))
 found_all f (x ∷ xs) [] all = absurd (let long = ap length all in omega (arith, long))

@@ -1,6 +1,7 @@
 pub mod HubLaws
 pub mod FileLaws
 pub mod OpenedLaws
+pub mod LinesLostLaws
 pub mod StepLaws
 pub mod OpeningLaws
 pub mod WriterLaws

@@ -25,7 +25,7 @@ use Rattle.njh_kept.proofs.NumberedLaws.{all_weaker}
 use Rattle.njh_kept.proofs.OneSpool.{one_spool}
 use Rattle.njh_kept.proofs.StepsLaws.{step_goes}
 
-some_of : {X : Type 0} (xs ys : List X) → map Some xs ≡ map Some ys → xs ≡ ys
+pub some_of : {X : Type 0} (xs ys : List X) → map Some xs ≡ map Some ys → xs ≡ ys
 some_of [] [] same = λ i. []
 some_of [] (y ∷ ys) same = absurd (let long = ap length same in omega (arith, long))
 some_of (x ∷ xs) [] same = absurd (let long = ap length same in omega (arith, long))

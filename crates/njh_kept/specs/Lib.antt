@@ -1,5 +1,6 @@
 pub mod Opened
 pub mod OpenedFiles
+pub mod LinesLost
 pub mod Faults
 pub mod Keeper
 pub mod code

@@ -4,6 +4,7 @@ ghost use Rattle.std.specs.Prelude.{◌≡◌, ℕ, ◌<◌, false, List, length
 ghost use Rattle.std.specs.List.{AllByRecursion};
 ghost use Rattle.njh_hub.specs.WholeHub.{Part, part, part_at_open};
 ghost use Rattle.njh_kept.specs.Opened.{AreBack, hub_opened, is_own, own_files, part_opened};
+ghost use Rattle.njh_kept.specs.LinesLost.{LeftAsLinesLost, OpenedAsLinesLost};
 ghost use Rattle.njh_kept.specs.OpenedFiles.{HasOpened};
 ghost use Rattle.njh_kept.specs.Keeper.{IsSettledFrom, Keeping, MayLeave, left_in};
 ghost use Rattle.njh_hub.specs.Keeping.{LeavesOnly};
@@ -14,6 +15,10 @@ ghost use Rattle.njh_store.specs.Standing.{Standing, Stands};
 ghost use Rattle.njh_table.specs.Entries.{CustomerEntry};
 ghost use Rattle.njh_table.specs.TableFile.{TableFile, customer_at, entry_of};
 
+use njh_customer::{
+    customers_stay_in_order, events_keep_entries, lost_lines_leave_files, marks_are_right,
+};
+use njh_spool::next_number_is_least;
 use njh_store::{only_the_last_commit, others_do_not_show};
 use sqlite::Alter;
 
@@ -23,6 +28,21 @@ pub fn files_stand_again()
     ensures { (entry : CustomerEntry) (ws : List Whole) → AreBack (part_at_open entry) ws
         → HasOpened entry ws (part_opened entry ws) }
 {}
+
+/// A customer was opened, and whatever events came, it had these whole files when the hub ended. If a hub is opened again
+/// from them, by the customer's old entry with whatever routes, each can be put back, and the customer has on it what it
+/// alone would have if the sessions of all its lines were lost and it were then given these routes; but for messages,
+/// which are not kept, and what `bare` of `LinesLost.antt` names of a line. So it is with what a crash left of them.
+pub fn opened_again_as_after_the_loss_of_all_lines()
+    ensures had { OpenedAsLinesLost }
+    ensures left { LeftAsLinesLost }
+{
+    customers_stay_in_order();
+    lost_lines_leave_files();
+    marks_are_right();
+    events_keep_entries();
+    next_number_is_least();
+}
 
 /// What a customer has after the opening is decided by its own entry and its own files: on two hubs, of two tables and
 /// two spool files in which these are the same, it has the same.
