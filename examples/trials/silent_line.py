@@ -6,8 +6,8 @@ One line of a customer signs on and then says nothing. Beside it so many lines o
 records, each as soon as the last one is answered. The table has a row for each number of busy lines, with the silent
 one before them, among them and behind them in the table file: how many milliseconds lie between the sign-on's answer
 and the first time that the hub asks again (3D), and between that and each further one; what became of the session
-after the last; and how many exchanges a second the busy lines had together. What is wanted: five ticks 1000 ms apart
-within a tenth, and the session over after the fifth.
+after the last; and how many exchanges a second the busy lines had together. What is wanted: five ticks 2500 ms apart
+within a tenth, since the hub answers on the line, and the session over after the fifth.
 
 The session's end is not to be seen on a line by itself, so the connection's end is told where the hub closes it, and
 else a block is sent on it, which a hub answers if the session goes on.
@@ -56,8 +56,8 @@ def ticks(port, node):
         last = time.monotonic()
         begin = last
         try:
-            while len(times) < 12 and time.monotonic() < begin + 20:
-                frames = heard(peer, deframer, 3)
+            while len(times) < 12 and time.monotonic() < begin + 30:
+                frames = heard(peer, deframer, 5)
                 if not frames:
                     break
                 now = time.monotonic()

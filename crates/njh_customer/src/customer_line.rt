@@ -140,6 +140,13 @@ impl CustomerLine {
         give_up(&mut self.senders, file);
     }
 
+    /// What it was told once.
+    pub(crate) fn config(&self) -> Config
+        ensures { result ≡ self.now.state.config }
+    {
+        self.line.config()
+    }
+
     /// Its session.
     pub(crate) fn session(&self) -> Session
         ensures { result ≡ self.now.state.session }

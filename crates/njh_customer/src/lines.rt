@@ -19,7 +19,7 @@ use njh_bisync::Deframer;
 use njh_ebcdic::Name;
 use njh_line::{Config, Session};
 use njh_stream::{Notice, Receiver, Sender};
-use njh_table::{LineId, NamedCustomer};
+use njh_table::{LineId, NamedCustomer, Role};
 use std::alloc::{AllocError, Global};
 use std::marker::Model;
 
@@ -78,6 +78,14 @@ impl Lines {
         ensures { result ≡ (line_at line self.now.lines).state.session }
     {
         self.lines.line(line).session()
+    }
+
+    /// Whether the hub calls or answers on a line.
+    pub fn role(&self, line: u16) -> Role
+        requires { line < length self.now.lines }
+        ensures { result ≡ (line_at line self.now.lines).state.config.role }
+    {
+        self.lines.line(line).config().role
     }
 
     /// What each of a line's streams to the hub is about: SYSIN 1 to 4, SYSOUT 1 to 4.

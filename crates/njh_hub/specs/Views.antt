@@ -1,7 +1,9 @@
 -- What is seen of a hub while it runs: of a line, and of a whole file without its records.
 use Rattle.std.specs.Prelude.{◌≡◌, ℕ, List, [], length, Option, Some, unwrap_or, ⊤}
 use Rattle.njh_line.specs.declared.Phase.TheVariants.{Down}
+use Rattle.njh_line.specs.Lines.{LineState}
 use Rattle.njh_line.specs.declared.session.Session.{Session}
+use Rattle.njh_table.specs.declared.Role.{Role}
 use Rattle.njh_spool.specs.declared.file_headers.FileSummary.{FileSummary}
 use Rattle.njh_spool.specs.CustomerSpool.{CustomerSpool, WholeFile, cost, partial_records, whole_numbered}
 use Rattle.njh_stream.specs.SpoolFiles.{records_in}
@@ -19,8 +21,13 @@ use Rattle.njh_hub.specs.WholeHub.{Part, part, HasLine}
 abbrev pub hub_line : LineId → List Part → CustomerLine
 hub_line id parts = line_at id.number (part id.customer parts).customer.lines
 
-abbrev pub session_view : Session → SessionView
-session_view s = record { phase = s.phase; tries = s.tries }
+-- what is shown of a session on a line of this role
+abbrev pub session_view : Role → Session → SessionView
+session_view role s = record { phase = s.phase; tries = s.tries; has_turn = s.has_turn; role = role }
+
+-- what is shown of a line
+abbrev pub line_view : LineState → SessionView
+line_view line = session_view line.config.role line.session
 
 -- A line of the hub is down, and its last session had made its five tries.
 pub record HasGivenUp (parts : List Part) (id : LineId) : Type 0 where

@@ -43,7 +43,7 @@ pub use njh_restore::RestoreFault;
 pub use rounds::Rounds;
 pub use serve::serve_turns;
 pub use service::attend;
-pub use session_view::SessionView;
+pub use session_view::{QUIET_TIME, SessionView};
 pub use sink::{Sink, SinkFault};
 pub use turn::{TurnRoom, wire_turn};
 pub use wire::Wire;

@@ -1,15 +1,18 @@
 //! What the attendant does with one line.
 
 ghost use Rattle.std.specs.Prelude.{◌≡◌, ◌≤◌};
+ghost use Rattle.njh_hub.specs.Quiets.{quiet_on};
 ghost use Rattle.njh_hub.specs.Views.{HasGivenUp};
+ghost use Rattle.njh_hub.specs.WholeHub.{HasLine};
 
 use crate::dial::Dial;
 use crate::entry::{Ending, Failure, LogEntry, LogEvent, Place};
+use crate::last_frame::LastFrame;
 use crate::log::Log;
 use crate::post::{Door, Label, Post};
-use njh_hub::Hub;
+use njh_hub::{Hub, SessionView};
 use njh_line::Phase;
-use njh_table::LineId;
+use njh_table::{LineId, Role};
 use njh_wire::{Connection, End, LineWire, Network, Readiness};
 use std::io::Write;
 use std::net::SocketAddr;
@@ -17,8 +20,8 @@ use std::net::SocketAddr;
 /// For how long a connection is silent when another may take its place, in milliseconds.
 const SILENCE: u64 = 10_000;
 
-/// For how long a line is silent when it is quiet.
-const QUIET: u64 = 100;
+/// When a line on which bytes wait to go out is looked at again, in milliseconds.
+const AGAIN: u64 = 100;
 
 /// How long after a failure to take a connection the next one is tried.
 const PAUSE: u64 = 1_000;
@@ -28,6 +31,14 @@ const TELL: u64 = 1_000;
 
 /// How many customers a hub has at most.
 pub(crate) const CUSTOMERS: usize = 64;
+
+/// What is shown of a line that the hub doesn't have.
+const NO_SESSION: SessionView = SessionView {
+    phase: Phase::Down,
+    tries: 0,
+    has_turn: false,
+    role: Role::Answer,
+};
 
 /// The network, the time on its clock, and the log.
 #[derive(Drop)]
@@ -73,8 +84,8 @@ impl<N: Network + Drop, L: Write + Drop> Desk<N, L> {
         post.linked = post.linked || wire.is_connected();
     }
 
-    /// Ends the connection of a line whose session gave up, and tells what changed, where something came. Answers when
-    /// the line wants to be looked at.
+    /// Ends the connection of a line whose session gave up, and tells what changed, where something came or the line
+    /// was quiet. Sets how long the line's next quiet lasts. Answers when the line wants to be looked at.
     pub(crate) fn settle(
         &mut self,
         post: &mut Post<N::Listener, N::Connection>,
@@ -85,21 +96,23 @@ impl<N: Network + Drop, L: Write + Drop> Desk<N, L> {
         ensures place { wire.new.place ≡ wire.old.place }
         ensures line { post.new.line ≡ post.old.line }
         ensures kept { ¬ HasGivenUp hub.now post.old.line → wire.new.connection ≡ wire.old.connection }
+        ensures quiet { HasLine hub.now post.old.line → wire.new.quiet ≡ quiet_on post.old.line hub.now }
     {
-        let soon = self.now.saturating_add(QUIET);
-        let deadline = wire.deadline();
-        if deadline != post.seen || deadline == soon || (post.linked && !wire.is_connected()) {
+        let begun = wire.begun();
+        if begun != post.seen || begun == self.now || (post.linked && !wire.is_connected()) {
             self.look(post, hub, wire);
-            post.seen = deadline;
+            post.seen = begun;
             post.linked = wire.is_connected() || wire.is_ready();
         }
+        set_quiet(post.line, hub, wire);
         if wire.waits_to_send() {
-            return soon.min(post.moment).min(wire.deadline());
+            let again = self.now.saturating_add(AGAIN);
+            return again.min(post.moment).min(wire.deadline());
         }
         if wire.is_ready() {
             return self.now;
         }
-        wire.deadline().saturating_add(post.lag()).min(post.moment)
+        wire.deadline().min(post.moment)
     }
 
     /// Looks at a line on which something came.
@@ -121,14 +134,14 @@ impl<N: Network + Drop, L: Write + Drop> Desk<N, L> {
         }
         let end = heard_end(wire, gave_up);
         let ending = if gave_up {
-            Ending::NoAnswer
+            self.tries_end(&post.label, wire)
         } else if end.is_some() || post.label.lost {
             Ending::Lost
         } else {
             Ending::ByPeer
         };
         self.tell_files(post.line, &post.label, &mut post.streams, hub);
-        self.tell_session(&mut post.label, phase_of(hub, post.line), ending);
+        self.tell_session(&mut post.label, session_of(hub, post.line), ending);
         if let Some(end) = end {
             self.tell_end(&mut post.label, end);
             post.label.lost = true;
@@ -136,10 +149,25 @@ impl<N: Network + Drop, L: Write + Drop> Desk<N, L> {
         }
     }
 
-    /// Tells of a session that went up or down.
-    fn tell_session(&mut self, label: &mut Label, phase: Phase, ending: Ending) {
-        label.in_session = is_session(phase);
-        let up = phase == Phase::Up;
+    /// How a session ended that made five tries in a row: without an answer where nothing came since the first of them.
+    fn tries_end(&self, label: &Label, wire: &LineWire<N::Connection>) -> Ending {
+        let since = label.tries_since.unwrap_or(self.now);
+        if wire.silent_for() > self.now.saturating_sub(since) {
+            Ending::NoAnswer
+        } else {
+            Ending::Tries(LastFrame::of(wire.ending()))
+        }
+    }
+
+    /// Tells of a session that went up or down, and keeps since when it tries again.
+    fn tell_session(&mut self, label: &mut Label, session: SessionView, ending: Ending) {
+        label.in_session = is_session(session.phase);
+        label.tries_since = if session.tries > 0 {
+            Some(label.tries_since.unwrap_or(self.now))
+        } else {
+            None
+        };
+        let up = session.phase == Phase::Up;
         if up == label.up {
             return;
         }
@@ -300,11 +328,23 @@ fn heard_end<C: Connection + Drop>(wire: &mut LineWire<C>, gave_up: bool) -> Opt
     wire.take_end()
 }
 
-/// How far a line's session is.
-fn phase_of(hub: &Hub, id: LineId) -> Phase {
+/// Sets how long the next quiet of a line's wire lasts.
+fn set_quiet<C: Connection + Drop>(id: LineId, hub: &Hub, wire: &mut LineWire<C>)
+    ensures quiet { HasLine hub.now id → wire.new.quiet ≡ quiet_on id hub.now }
+    ensures counts { wire.old.failures ≤ wire.new.failures }
+    ensures place { wire.new.place ≡ wire.old.place }
+    ensures kept { wire.new.connection ≡ wire.old.connection }
+{
+    if let Ok(session) = hub.session(id) {
+        wire.set_quiet(session.quiet_time());
+    }
+}
+
+/// What is shown of a line's session.
+fn session_of(hub: &Hub, id: LineId) -> SessionView {
     match hub.session(id) {
-        Ok(session) => session.phase,
-        Err(_) => Phase::Down,
+        Ok(session) => session,
+        Err(_) => NO_SESSION,
     }
 }
 

@@ -1,5 +1,6 @@
 //! What the log tells.
 
+use crate::last_frame::LastFrame;
 use crate::notice_line::NoticeLine;
 use njh_block::Stream;
 use njh_ebcdic::{Name, text_of};
@@ -84,8 +85,10 @@ pub enum Failure {
 /// Why a session is down.
 #[derive(Clone, Copy, Debug, Drop, PartialEq, Eq)]
 pub enum Ending {
-    /// No answer came after five tries.
+    /// Nothing came after the first of five tries in a row.
     NoAnswer,
+    /// Five tries in a row were made, and this came last.
+    Tries(LastFrame),
     /// The line was lost.
     Lost,
     /// The peer ended it.
@@ -168,11 +171,12 @@ impl fmt::Display for Failure {
 
 impl fmt::Display for Ending {
     fn fmt<W: fmt::Write>(&self, f: &mut fmt::Formatter<W>) -> fmt::Result {
-        f.write_str(match self {
-            Ending::NoAnswer => "no answer after five tries",
-            Ending::Lost => "the line was lost",
-            Ending::ByPeer => "the peer ended it",
-        })
+        match self {
+            Ending::NoAnswer => f.write_str("no answer after five tries"),
+            Ending::Tries(last) => write!(f, "five tries in a row, {last} came last"),
+            Ending::Lost => f.write_str("the line was lost"),
+            Ending::ByPeer => f.write_str("the peer ended it"),
+        }
     }
 }
 

@@ -3,7 +3,9 @@
 ghost use Rattle.std.specs.Prelude.{◌≡◌, ◌≤◌, ◌∷◌, ◌++◌, [], Some, slice_get, OnOk, OnErr};
 ghost use Rattle.njh_hub.specs.Service.{AreStill};
 ghost use Rattle.njh_table.specs.declared.LineId.{LineId};
+ghost use Rattle.njh_hub.specs.Quiets.{quiet_on};
 ghost use Rattle.njh_hub.specs.Views.{HasGivenUp};
+ghost use Rattle.njh_hub.specs.WholeHub.{HasLine};
 
 use crate::desk::{CUSTOMERS, Desk};
 use crate::log::Log;
@@ -295,13 +297,16 @@ impl<N: Network + Drop, L: Write + Drop, S: TableSource + Drop> Exchange<N, L, S
         moment
     }
 
-    /// Settles a line: its connection stays, unless its own session gave up. Answers when it wants to be looked at.
+    /// Settles a line: its connection stays, unless its own session gave up, and its next quiet lasts as long as its
+    /// own session asks for. Answers when it wants to be looked at.
     fn settle(&mut self, place: usize, hub: &Hub, wire: &mut LineWire<N::Connection>) -> u64
         ensures counts { wire.old.failures ≤ wire.new.failures }
         ensures place { wire.new.place ≡ wire.old.place }
         ensures lines { self.new ≡ self.old }
         ensures kept { (id : LineId) → slice_get self.old place ≡ Some id → ¬ HasGivenUp hub.now id →
             wire.new.connection ≡ wire.old.connection }
+        ensures quiet { (id : LineId) → slice_get self.old place ≡ Some id → HasLine hub.now id →
+            wire.new.quiet ≡ quiet_on id hub.now }
     {
         let Some(post) = self.posts.get_mut(place) else {
             return u64::MAX;

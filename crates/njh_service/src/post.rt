@@ -10,9 +10,6 @@ use njh_ebcdic::Name;
 use njh_table::LineId;
 use std::net::SocketAddr;
 
-/// By how much a line that the hub dials is looked at later, in milliseconds.
-const LAG: u64 = 5;
-
 /// How many bytes the name of a line has at most.
 const NAME: usize = 8;
 
@@ -42,6 +39,9 @@ pub(crate) struct Label {
     pub(crate) up: bool,
     /// Whether it was in a session, up or on the way there.
     pub(crate) in_session: bool,
+    /// When it was seen that the session tried again, the first time of the tries in a row that it has made, on the
+    /// service's clock; none where it has made none.
+    pub(crate) tries_since: Option<u64>,
     /// Whether its last connection's end was told.
     pub(crate) lost: bool,
 }
@@ -57,6 +57,7 @@ impl Label {
             node: names.node,
             up: false,
             in_session: false,
+            tries_since: None,
             lost: false,
             again: 0,
             connected: false,
@@ -78,7 +79,7 @@ pub(crate) enum Door<Li: Drop, C: Drop> {
 pub(crate) struct Post<Li: Drop, C: Drop> {
     /// When its door is to be looked at, on the service's clock; `u64::MAX` where nobody waits there.
     pub(crate) moment: u64,
-    /// When its wire was due as it was last looked at.
+    /// When its wire's silence had begun as it was last looked at; `u64::MAX` before that.
     pub(crate) seen: u64,
     /// Whether its wire had a connection, or an end to tell, when it was last looked at.
     pub(crate) linked: bool,
@@ -105,15 +106,6 @@ impl<Li: Drop, C: Drop> Post<Li, C> {
             },
             label,
             streams: Streams::idle(),
-        }
-    }
-
-    /// How much later than it is due the line is looked at, in milliseconds. The end that dialled is later, so that of
-    /// two hubs that are joined the other asks again first.
-    pub(crate) fn lag(&self) -> u64 {
-        match &self.door {
-            Door::Listens(_) => 0,
-            Door::Dials(_, _) => LAG,
         }
     }
 

@@ -8,15 +8,15 @@ use Rattle.njh_wire.specs.declared.end.End.TheVariants as ends
 use Rattle.njh_wire.specs.declared.end.Parting.TheVariants.{Closed, Failed}
 use Rattle.njh_wire.specs.declared.end.Stop.{Stop}
 use Rattle.njh_wire.specs.declared.end.Stop.TheVariants as why
-use Rattle.njh_wire.specs.Standing.{Standing, later, with_connection, without_connection, with_failure, given_up}
+use Rattle.njh_wire.specs.Standing.{Standing, due, with_connection, without_connection, with_failure, given_up}
 use Rattle.njh_wire.specs.Standing.{keeping, after_stop, hearing}
 
--- Nothing came. That is a quiet only when it is due, and then the next is due 100 milliseconds later.
+-- Nothing came. That is a quiet only when it is due, and the next is measured from then on.
 abbrev pub IsSilence : {C : Type 0} → Standing C → Reading → Standing C → Type 0
 IsSilence s (reading.Bytes n) new = ⊥
 IsSilence s reading.Quiet new =
-    IsSome s.connection × (s.deadline ≤ s.clock) × (new ≡ record s { deadline = later s.clock })
-IsSilence s reading.Pending new = IsSome s.connection × (s.clock < s.deadline) × (new ≡ s)
+    IsSome s.connection × (due s ≤ s.clock) × (new ≡ record s { begun = s.clock })
+IsSilence s reading.Pending new = IsSome s.connection × (s.clock < due s) × (new ≡ s)
 IsSilence s reading.Closed new = ⊥
 IsSilence s reading.Absent new = (s.connection ≡ None) × (new ≡ s)
 
@@ -66,7 +66,8 @@ IsWait s (Ok reading.Absent) new = ⊥
 abbrev pub IsRead : {C : Type 0} → (C → C → List ℕ → List ℕ → Type 0) → (C → Stop → Type 0) → Standing C →
     Result Reading WireFault → List ℕ → Standing C → Type 0
 IsRead {C = C} moved stops s (Ok (reading.Bytes n)) buffer new =
-    IsOpen s × ((middle : Standing C) × Receives moved stops s (take n buffer) middle × (new ≡ hearing middle))
+    IsOpen s × ((middle : Standing C) × Receives moved stops s (take n buffer) middle ×
+    (new ≡ hearing (take n buffer) middle))
 IsRead {C = C} moved stops s (Ok reading.Quiet) buffer new =
     (middle : Standing C) × GivesNone moved stops s middle × IsAnswer middle (Ok reading.Quiet) new
 IsRead {C = C} moved stops s (Ok reading.Pending) buffer new =

@@ -1,7 +1,8 @@
 -- How a wire of a line stands, and what leads it from one standing to the next.
-use Rattle.std.specs.Prelude.{ℕ, ◌+◌, min, ◌==◌, if◌then◌else◌, ◌++◌, length, Bool, true, false, List, [], Option, Some}
+use Rattle.std.specs.Prelude.{ℕ, ◌+◌, ◌-◌, slice_index_or, min, ◌==◌, if◌then◌else◌, ◌++◌, length, Bool, true, false, List, [], Option, Some}
 use Rattle.std.specs.Prelude.{None}
 use Rattle.njh_wire.specs.declared.end.End.{End}
+use Rattle.njh_wire.specs.declared.ending.Ending.{Ending}
 use Rattle.njh_wire.specs.declared.end.End.TheVariants as ends
 use Rattle.njh_wire.specs.declared.end.Parting.{Parting}
 use Rattle.njh_wire.specs.declared.end.Parting.TheVariants.{Closed, Failed}
@@ -23,19 +24,22 @@ pub record Standing (C : Type 0) : Type 0 where
   pub since : ℕ
   -- whether something may be there to read
   pub readable : Bool
-  -- the time now, when silence is a quiet, and when bytes last came
+  -- the time now, since when the line is silent or was last quiet, and after how long that is a quiet
   pub clock : ℕ
-  pub deadline : ℕ
+  pub begun : ℕ
+  pub quiet : ℕ
+  -- when bytes last came, and the last two of them
   pub heard : ℕ
+  pub ending : Ending
   -- why the last connection ended
   pub end : Option End
   pub failures : ℕ
 
--- 100 milliseconds later
-abbrev pub later : ℕ → ℕ
-later clock = min (clock + 100) 18446744073709551615
+-- when a quiet is due if nothing comes
+abbrev pub due : {C : Type 0} → Standing C → ℕ
+due s = min (s.begun + s.quiet) 18446744073709551615
 
--- nobody is connected to the line of this place, and the clock stands at 0
+-- Nobody is connected to the line of this place, the clock stands at 0, and 100 milliseconds are a quiet.
 abbrev pub first_standing : {C : Type 0} → ℕ → Standing C
 first_standing place = record {
   place = place;
@@ -46,8 +50,10 @@ first_standing place = record {
   since = 0;
   readable = false;
   clock = 0;
-  deadline = 0;
+  begun = 0;
+  quiet = 100;
   heard = 0;
+  ending = record { before = 0; last = 0 };
   end = None;
   failures = 0;
 }
@@ -60,7 +66,7 @@ with_connection connection s = record s {
   parting = None;
   waiting = [];
   readable = true;
-  deadline = later s.clock;
+  begun = s.clock;
   heard = s.clock;
 }
 
@@ -98,9 +104,16 @@ after_stop stops.Dry s = record s { readable = false }
 after_stop stops.Ended s = record s { parting = Some Closed; end = Some ends.Ended }
 after_stop stops.Failed s = record s { parting = Some Failed; end = Some ends.Failed }
 
--- bytes came now
-abbrev pub hearing : {C : Type 0} → Standing C → Standing C
-hearing s = record s { deadline = later s.clock; heard = s.clock }
+-- the last two bytes, once these came, of which there is at least one
+abbrev pub ending_after : List ℕ → Ending → Ending
+ending_after bytes e = record {
+  before = if length bytes == 1 then e.last else slice_index_or bytes (length bytes - 2) 0;
+  last = slice_index_or bytes (length bytes - 1) 0;
+}
+
+-- these bytes came now
+abbrev pub hearing : {C : Type 0} → List ℕ → Standing C → Standing C
+hearing bytes s = record s { begun = s.clock; heard = s.clock; ending = ending_after bytes s.ending }
 
 -- a frame waits behind what waited, since now where nothing did
 abbrev pub keeping : {C : Type 0} → List ℕ → Standing C → Standing C

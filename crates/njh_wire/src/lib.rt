@@ -4,12 +4,15 @@
 mod calls;
 mod connection;
 mod end;
+mod ending;
 mod line_wire;
 mod network;
 mod outbox;
+mod silence;
 
 pub use connection::{Connection, ConnectionFault, Received};
 pub use end::{End, Parting, Stop};
-pub use line_wire::{LineWire, QUIET_TIME, STALL_TIME};
+pub use ending::Ending;
+pub use line_wire::{LineWire, STALL_TIME};
 pub use network::{Network, Readiness};
 pub use outbox::ROOM;

@@ -5,7 +5,7 @@ ghost use Rattle.std.specs.Prelude.{IsOk, OnOk, OnErr, IfOk};
 ghost use Rattle.njh_hub.specs.Sent.{IsCounted};
 ghost use Rattle.njh_hub.specs.Wires.{IsReading};
 ghost use Rattle.njh_wire.specs.declared.end.End.TheVariants.{Failed};
-ghost use Rattle.njh_wire.specs.Standing.{first_standing, with_connection, without_connection, with_failure, given_up};
+ghost use Rattle.njh_wire.specs.Standing.{first_standing, with_connection, without_connection, with_failure, given_up, due};
 ghost use Rattle.njh_wire.specs.Standing.{after_displacement, after_admission, after_close};
 ghost use Rattle.std.specs.Option.{option_map};
 ghost use Rattle.njh_wire.specs.Places.{IsAt, IsOwn};
@@ -18,13 +18,12 @@ mod writing;
 use crate::calls::send_on;
 use crate::connection::Connection;
 use crate::end::{End, Parting};
+use crate::ending::Ending;
 use crate::outbox::{Outbox, ROOM};
-use njh_hub::{Reading, Wire, WireFault};
+use crate::silence::Silence;
+use njh_hub::{QUIET_TIME, Reading, Wire, WireFault};
 use std::alloc::{AllocError, Global};
 use std::marker::Model;
-
-/// How many milliseconds of silence are a quiet.
-pub const QUIET_TIME: u64 = 100;
 
 /// For how many milliseconds bytes may wait to go out.
 pub const STALL_TIME: u64 = 1000;
@@ -42,8 +41,7 @@ pub struct LineWire<C: Connection + Drop> {
     since: u64,
     readable: bool,
     clock: u64,
-    deadline: u64,
-    heard: u64,
+    silence: Silence,
     end: Option<End>,
     failures: u64,
 }
@@ -64,8 +62,10 @@ impl<C: Connection + Drop> Model for LineWire<C> {
       since = wire.since;
       readable = wire.readable;
       clock = wire.clock;
-      deadline = wire.deadline;
-      heard = wire.heard;
+      begun = wire.silence.begun;
+      quiet = wire.silence.quiet;
+      heard = wire.silence.heard;
+      ending = wire.silence.ending;
       end = wire.end;
       failures = wire.failures;
     } };
@@ -89,8 +89,12 @@ impl<C: Connection + Drop> LineWire<C> {
             since: 0,
             readable: false,
             clock: 0,
-            deadline: 0,
-            heard: 0,
+            silence: Silence {
+                begun: 0,
+                quiet: QUIET_TIME,
+                heard: 0,
+                ending: Ending { before: 0, last: 0 },
+            },
             end: None,
             failures: 0,
         })
@@ -109,6 +113,14 @@ impl<C: Connection + Drop> LineWire<C> {
         ensures { self.new ≡ record self.old { clock = now } }
     {
         self.clock = now;
+    }
+
+    /// Sets how many milliseconds without a byte are a quiet, from the silence on that has begun. At first they are
+    /// 100.
+    pub fn set_quiet(&mut self, milliseconds: u64)
+        ensures { self.new ≡ record self.old { quiet = milliseconds } }
+    {
+        self.silence.quiet = milliseconds;
     }
 
     /// Something may be there to read.
@@ -177,24 +189,38 @@ impl<C: Connection + Drop> LineWire<C> {
     /// quiet, or when bytes will have waited for a second. `u64::MAX` where nobody is connected.
     pub fn deadline(&self) -> u64
         ensures waits { 0 < length self.now.waiting → result ≡ min (self.now.since + 1000) u64.MAX }
-        ensures quiet { self.now.waiting ≡ [] → IsSome self.now.connection → result ≡ self.now.deadline }
+        ensures quiet { self.now.waiting ≡ [] → IsSome self.now.connection → result ≡ due self.now }
         ensures absent { self.now.waiting ≡ [] → self.now.connection ≡ None → result ≡ u64.MAX }
     {
         if !self.waiting.is_empty() {
             return self.since.saturating_add(STALL_TIME);
         }
         if self.connection.is_some() {
-            self.deadline
+            self.silence.begun.saturating_add(self.silence.quiet)
         } else {
             u64::MAX
         }
+    }
+
+    /// When its silence began, or its last quiet came, in milliseconds.
+    pub fn begun(&self) -> u64
+        ensures { result ≡ self.now.begun }
+    {
+        self.silence.begun
+    }
+
+    /// The last two bytes that came.
+    pub fn ending(&self) -> Ending
+        ensures { result ≡ self.now.ending }
+    {
+        self.silence.ending
     }
 
     /// For how many milliseconds nothing came on its connection.
     pub fn silent_for(&self) -> u64
         ensures { result ≡ self.now.clock - self.now.heard }
     {
-        self.clock.saturating_sub(self.heard)
+        self.clock.saturating_sub(self.silence.heard)
     }
 
     /// Sends on what waits, as far as it goes now. Where that fails the connection is dropped, and the next read
@@ -222,8 +248,8 @@ impl<C: Connection + Drop> LineWire<C> {
         self.parting = None;
         self.waiting.clear();
         self.readable = true;
-        self.deadline = self.clock.saturating_add(QUIET_TIME);
-        self.heard = self.clock;
+        self.silence.begun = self.clock;
+        self.silence.heard = self.clock;
     }
 
     /// The connection is dropped with what waits, and the next read is to tell.

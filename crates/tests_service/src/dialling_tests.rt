@@ -33,7 +33,7 @@ fn dials(rt: HostRuntime) -> Result<(), Fail> {
 1970-01-01T00:00:01Z ACME a1: no connection to 10.0.0.9:9000
 11000 dial 9000
 1970-01-01T00:00:11Z ACME a1: connected to 10.0.0.9:9000
-12050 to 0: 012d
+12000 to 0: 012d
 1970-01-01T00:00:12Z ACME a1: closed
 13500 dial 9000
 1970-01-01T00:00:23Z ACME a1: no connection to 10.0.0.9:9000

@@ -42,7 +42,7 @@ fn add_customer(text: &mut Vec<u8>, customer: u16) -> io::Result<()> {
     Ok(())
 }
 
-/// Peers of the first and the last line of each group are told, answered, asked again at the tick a second later, and
+/// Peers of the first and the last line of each group are told, answered, asked again at the tick 2.5 seconds later, and
 /// let go, each at its own moment and while nothing happens on any other line.
 #[test]
 fn lines_at_the_edges(rt: HostRuntime) -> Result<(), Fail> {
@@ -59,12 +59,12 @@ fn lines_at_the_edges(rt: HostRuntime) -> Result<(), Fail> {
         at(1580, 3, CONTACT),
         at(1590, 4, CONTACT),
         at(1600, 5, CONTACT),
-        at(3030, 0, Act::Ends),
-        at(3140, 1, Act::Ends),
-        at(3250, 2, Act::Ends),
-        at(3360, 3, Act::Ends),
-        at(3470, 4, Act::Ends),
-        at(3580, 5, Act::Ends),
+        at(4430, 0, Act::Ends),
+        at(4540, 1, Act::Ends),
+        at(4650, 2, Act::Ends),
+        at(4760, 3, Act::Ends),
+        at(4870, 4, Act::Ends),
+        at(4980, 5, Act::Ends),
     ];
     let wanted = "\
 1970-01-01T00:00:01Z C0 p0: connected from 10.0.0.0:5000
@@ -79,20 +79,20 @@ fn lines_at_the_edges(rt: HostRuntime) -> Result<(), Fail> {
 1580 to 3: 1070
 1590 to 4: 1070
 1600 to 5: 1070
-2550 to 0: 3d
-2560 to 1: 3d
-2570 to 2: 3d
-2580 to 3: 3d
-2590 to 4: 3d
-2600 to 5: 3d
-1970-01-01T00:00:03Z C0 p0: closed
-1970-01-01T00:00:03Z C1 p15: closed
-1970-01-01T00:00:03Z C1 p16: closed
-1970-01-01T00:00:03Z C3 p31: closed
-1970-01-01T00:00:03Z C3 p32: closed
-1970-01-01T00:00:03Z C3 p39: closed
+4050 to 0: 3d
+4060 to 1: 3d
+4070 to 2: 3d
+4080 to 3: 3d
+4090 to 4: 3d
+4100 to 5: 3d
+1970-01-01T00:00:04Z C0 p0: closed
+1970-01-01T00:00:04Z C1 p15: closed
+1970-01-01T00:00:04Z C1 p16: closed
+1970-01-01T00:00:04Z C3 p31: closed
+1970-01-01T00:00:04Z C3 p32: closed
+1970-01-01T00:00:04Z C3 p39: closed
 ";
     let tables = tables(rt.alloc())?;
     let tables = str::from_utf8(&tables).unwrap_or("no text");
-    play(&rt, rt.alloc(), tables, &acts, 4000, wanted)
+    play(&rt, rt.alloc(), tables, &acts, 5400, wanted)
 }

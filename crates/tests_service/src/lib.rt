@@ -10,6 +10,12 @@ mod dialling_tests;
 #[cfg(test)]
 mod group_tests;
 #[cfg(test)]
+mod joined_tests;
+#[cfg(test)]
+mod joint;
+#[cfg(test)]
+mod joint_network;
+#[cfg(test)]
 mod listening_tests;
 #[cfg(test)]
 mod log_tests;

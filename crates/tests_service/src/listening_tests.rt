@@ -33,6 +33,11 @@ const SIGN_ON: Act = Act::Sends(
     \x00\x10\x26",
 );
 
+/// The hub's J block, as it goes out to peer 0.
+const RESPONSE: &str =
+    " to 0: 1002a08fcff0d129c2e4d9c5c1e44040010000000000000400404040404040404040404040404040400000000\
+000001026\n";
+
 /// ANNA at LYON asks for LIST.
 const LIST: Act = Act::Sends(
     b"\x10\x02\x80\x8f\xcf\x9a\x80\xca\xa0\x77\x00\x04\xc2\xe4\xd9\xc5\xc1\xe4\x82\xc5\x00\
@@ -47,16 +52,16 @@ const ALL: Act = Act::Sends(
     \xc1\xd5\xd5\xc1\x84\xc4\xd3\xe8\xd6\xd5\x84\xc5\x00\xd3\xc9\xe2\xe3\x00\x00\x10\x26",
 );
 
-/// A session up that falls silent is asked five times, a second apart; then it is down and its connection is closed,
-/// and the next peer is answered.
+/// A session up that falls silent is asked five times, two and a half seconds apart since the hub answers; then it is
+/// down and its connection is closed, and the next peer is answered.
 #[test]
 fn silence_ends_after_five_tries(rt: HostRuntime) -> Result<(), Fail> {
     let acts = [
         at(1000, 0, Act::Connects(1)),
         at(1000, 0, CONTACT),
         at(1050, 0, SIGN_ON),
-        at(8000, 1, Act::Connects(1)),
-        at(8050, 1, CONTACT),
+        at(17_000, 1, Act::Connects(1)),
+        at(17_050, 1, CONTACT),
     ];
     let wanted = "\
 1970-01-01T00:00:01Z ACME a1: connected from 10.0.0.0:5000
@@ -64,17 +69,49 @@ fn silence_ends_after_five_tries(rt: HostRuntime) -> Result<(), Fail> {
 1050 to 0: 1002a08fcff0d129c2e4d9c5c1e4404001000000000000040040404040404040404040404040404040\
 0000000000001026
 1970-01-01T00:00:01Z ACME a1: session up with LYON
-2050 to 0: 3d
-3050 to 0: 3d
-4050 to 0: 3d
-5050 to 0: 3d
+3550 to 0: 3d
 6050 to 0: 3d
-1970-01-01T00:00:07Z ACME a1: session down: no answer after five tries
-1970-01-01T00:00:07Z ACME a1: closed
-1970-01-01T00:00:08Z ACME a1: connected from 10.0.0.1:5000
-8050 to 1: 1070
+8550 to 0: 3d
+11050 to 0: 3d
+13550 to 0: 3d
+1970-01-01T00:00:16Z ACME a1: session down: no answer after five tries
+1970-01-01T00:00:16Z ACME a1: closed
+1970-01-01T00:00:17Z ACME a1: connected from 10.0.0.1:5000
+17050 to 1: 1070
 ";
-    play(&rt, rt.alloc(), TABLES, &acts, 8900, wanted)
+    play(&rt, rt.alloc(), TABLES, &acts, 17_900, wanted)
+}
+
+/// A peer that answers each try with a NAK ends the session too, and the log says what came last.
+#[test]
+fn five_tries_of_a_peer_that_answers(rt: HostRuntime) -> Result<(), Fail> {
+    let nak = Act::Sends(b"\x3d");
+    let acts = [
+        at(1000, 0, Act::Connects(1)),
+        at(1000, 0, CONTACT),
+        at(1050, 0, SIGN_ON),
+        at(2000, 0, nak),
+        at(3000, 0, nak),
+        at(4000, 0, nak),
+        at(5000, 0, nak),
+        at(6000, 0, nak),
+        at(7000, 0, nak),
+    ];
+    let mut wanted = Vec::new(rt.alloc());
+    wanted.extend_from_slice(
+        b"1970-01-01T00:00:01Z ACME a1: connected from 10.0.0.0:5000\n1000 to 0: 1070\n",
+    )?;
+    add_text(&mut wanted, 1050, RESPONSE);
+    wanted.extend_from_slice(b"1970-01-01T00:00:01Z ACME a1: session up with LYON\n")?;
+    for moment in [2000, 3000, 4000, 5000, 6000] {
+        add_text(&mut wanted, moment, RESPONSE);
+    }
+    wanted.extend_from_slice(
+        b"1970-01-01T00:00:07Z ACME a1: session down: five tries in a row, NAK came last\n\
+        1970-01-01T00:00:07Z ACME a1: closed\n",
+    )?;
+    let wanted = str::from_utf8(&wanted).unwrap_or("no text");
+    play(&rt, rt.alloc(), TABLES, &acts, 7500, wanted)
 }
 
 /// Who connects to a busy line waits until its peer has said nothing for ten seconds.
@@ -195,7 +232,7 @@ fn answer_that_fails(rt: HostRuntime) -> Result<(), Fail> {
     play(&rt, rt.alloc(), TABLES, &acts, 2700, wanted)
 }
 
-/// A silent line has its ticks a second apart, whatever comes on another line.
+/// A silent line that was only contacted has its ticks two and a half seconds apart, whatever comes on another line.
 #[test]
 fn silence_beside_a_busy_line(rt: HostRuntime) -> Result<(), Fail> {
     let mut acts = Vec::new(rt.alloc());
@@ -211,8 +248,8 @@ fn silence_beside_a_busy_line(rt: HostRuntime) -> Result<(), Fail> {
         b"1970-01-01T00:00:01Z ACME a1: connected from 10.0.0.0:5000\n\
         1970-01-01T00:00:01Z BOLT b1: connected from 10.0.0.1:5000\n1000 to 0: 1070\n",
     )?;
-    for moment in 1001..3500u64 {
-        if moment == 2000 || moment == 3000 {
+    for moment in 1001..6500u64 {
+        if moment == 3500 || moment == 6000 {
             add_text(&mut wanted, moment, " to 0: 3d\n");
         }
         if moment % 37 == 0 {
@@ -221,5 +258,5 @@ fn silence_beside_a_busy_line(rt: HostRuntime) -> Result<(), Fail> {
         }
     }
     let wanted = str::from_utf8(&wanted).unwrap_or("no text");
-    play(&rt, rt.alloc(), TABLES, &acts, 3500, wanted)
+    play(&rt, rt.alloc(), TABLES, &acts, 6500, wanted)
 }

@@ -6,7 +6,7 @@ ghost use Rattle.std.specs.Option.{option_map};
 ghost use Rattle.njh_command.specs.Files.{file_at};
 ghost use Rattle.njh_customer.specs.Customer.{IsMarked};
 ghost use Rattle.njh_stream.specs.WholeFiles.{HaveHeaders};
-ghost use Rattle.njh_hub.specs.Views.{HasGivenUp, IsPartialOn, whole_file_on, file_summary, hub_line, session_view};
+ghost use Rattle.njh_hub.specs.Views.{HasGivenUp, IsPartialOn, whole_file_on, file_summary, hub_line, line_view};
 ghost use Rattle.njh_hub.specs.WholeHub.{part, HasLine};
 
 use crate::fault::HubFault;
@@ -38,14 +38,14 @@ impl Hub {
     /// A line's session, as far as it is shown; the lines of its customer that count as up where a route has a second
     /// line are those whose sessions are up. `UnknownLine` comes where the hub has no such line.
     pub fn session(&self, id: LineId) -> Result<SessionView, HubFault>
-        ensures session { IfOk result (λ s. s ≡ session_view (hub_line id self.now).state.session) }
+        ensures session { IfOk result (λ s. s ≡ line_view (hub_line id self.now).state) }
         ensures marked { IsOk result → IsMarked (part id.customer self.now).customer }
         ensures known { IsOk result ↔ HasLine self.now id }
         ensures unknown { OnErr result (result ≡ Err HubFault.UnknownLine) }
     {
         let lines = self.lines_of(id)?;
         self.marks_hold(id.customer);
-        Ok(SessionView::of(lines.session(id.number)))
+        Ok(SessionView::of(lines.session(id.number), lines.role(id.number)))
     }
 
     /// Whether a line is down and its last session had made all its five tries.

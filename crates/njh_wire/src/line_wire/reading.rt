@@ -3,13 +3,14 @@
 ghost use Rattle.std.specs.Prelude.{◌≡◌, ◌<◌, ◌≤◌, length, take, IfOk, OnErr};
 ghost use Rattle.njh_hub.specs.Sent.{IsCounted};
 ghost use Rattle.njh_hub.specs.Wires.{IsReading};
-ghost use Rattle.njh_wire.specs.Standing.{after_stop, hearing};
+ghost use Rattle.njh_wire.specs.Standing.{after_stop, ending_after, hearing};
 ghost use Rattle.njh_wire.specs.Readings.{IsSilence, IsAnswer, IsOpen, IsWait, IsRead, Receives};
 
-use super::{LineWire, QUIET_TIME, STALL_TIME};
+use super::{LineWire, STALL_TIME};
 use crate::calls::receive_on;
 use crate::connection::Connection;
 use crate::end::{End, Parting, Stop};
+use crate::ending::Ending;
 use njh_hub::{Reading, WireFault};
 
 impl<C: Connection + Drop> LineWire<C> {
@@ -39,7 +40,7 @@ impl<C: Connection + Drop> LineWire<C> {
         if self.is_open() {
             let count = self.receive(into);
             if count > 0 {
-                self.hear();
+                self.hear(&into[..count]);
                 return Ok(Reading::Bytes(count));
             }
         }
@@ -75,10 +76,10 @@ impl<C: Connection + Drop> LineWire<C> {
         if self.connection.is_none() {
             return Reading::Absent;
         }
-        if self.clock < self.deadline {
+        if self.clock < self.silence.begun.saturating_add(self.silence.quiet) {
             return Reading::Pending;
         }
-        self.deadline = self.clock.saturating_add(QUIET_TIME);
+        self.silence.begun = self.clock;
         Reading::Quiet
     }
 
@@ -114,11 +115,30 @@ impl<C: Connection + Drop> LineWire<C> {
         }
     }
 
-    /// Bytes came now.
-    fn hear(&mut self)
-        ensures { self.new ≡ hearing self.old }
+    /// These bytes came now.
+    fn hear(&mut self, bytes: &[u8])
+        requires { 0 < length bytes.now }
+        ensures { self.new ≡ hearing bytes.now self.old }
     {
-        self.deadline = self.clock.saturating_add(QUIET_TIME);
-        self.heard = self.clock;
+        self.silence.begun = self.clock;
+        self.silence.heard = self.clock;
+        self.silence.ending = ending_after(bytes, self.silence.ending);
+    }
+}
+
+/// The last two bytes, once these came after the others.
+fn ending_after(bytes: &[u8], ending: Ending) -> Ending
+    requires { 0 < length bytes.now }
+    ensures { result ≡ ending_after bytes.now ending }
+{
+    let count = bytes.len();
+    let before = if count == 1 {
+        ending.last
+    } else {
+        bytes[count - 2]
+    };
+    Ending {
+        before,
+        last: bytes[count - 1],
     }
 }

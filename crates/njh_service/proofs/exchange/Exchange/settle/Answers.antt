@@ -1,6 +1,8 @@
-use Rattle.std.proofs.Common.{ℕ, ◌<◌, subst, refl}
+use Rattle.std.proofs.Common.{◌≡◌, ℕ, ◌<◌, subst, refl, sym, ap, ◌∙◌}
 use Rattle.njh_table.specs.declared.LineId.{LineId}
+use Rattle.njh_hub.specs.Quiets.{quiet_on}
 use Rattle.njh_hub.specs.Views.{HasGivenUp}
+use Rattle.njh_hub.specs.WholeHub.{HasLine}
 use Rattle.njh_service.specs.declared.post.Post.{Post}
 use Rattle.njh_service.proofs.PostLaws.{lines_stay, line_there}
 use Rattle.njh_service.proofs.exchange.Exchange.settle.Goals as goal
@@ -19,3 +21,13 @@ returns-clause-kept g c = λ line found alive.
     c.self.inside.posts.items c.args.self.now c.args.place c.in-Some.post.now line c.self.view_is
     (subst Within c.self.inside.posts.ok.0 (c.in-Some.ensures.variant.0 refl)) c.in-Some.ensures.value found in
     c.settle.ensures.kept (subst IsAlive own alive)
+
+pub returns-clause-quiet : goal.returns-clause-quiet
+returns-clause-quiet g c = λ line found there.
+    let Within : ℕ → Type 0 = λ many. c.args.place < many in
+    let IsThere : LineId → Type 0 = λ own. HasLine c.args.hub.now own in
+    let quiet : LineId → ℕ = λ own. quiet_on own c.args.hub.now in
+    let own = line_there (λ (post : Post g.row.N-Listener.Denot g.row.N-Connection.Denot). post.line)
+    c.self.inside.posts.items c.args.self.now c.args.place c.in-Some.post.now line c.self.view_is
+    (subst Within c.self.inside.posts.ok.0 (c.in-Some.ensures.variant.0 refl)) c.in-Some.ensures.value found in
+    c.settle.ensures.quiet (subst IsThere own there) ∙ ap quiet (sym own)

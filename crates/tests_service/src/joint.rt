@@ -1,0 +1,251 @@
+//! Two hubs that are joined by a line in memory, their clock, and a peer on a further line of the first hub.
+
+ghost use Rattle.std.specs.Prelude.{◌≤◌, length};
+
+use std::alloc::Global;
+use std::cell::{Cell, RefCell};
+
+/// By how much the second hub's clock is ahead, in milliseconds: the hubs' moments don't fall together.
+const AHEAD: u64 = 3;
+
+/// The place of the line that joins the hubs, at both ends.
+pub const JOINED: usize = 0;
+
+/// How a text begins.
+const TEXT: &[u8] = b"\x10\x02";
+
+/// What one hub has of the line between them.
+#[derive(Drop)]
+struct End {
+    /// What the other hub sent and this one didn't read.
+    coming: RefCell<Vec<u8>>,
+    /// Whether something came since it last waited.
+    reads: Cell<bool>,
+    /// Whether the other hub dialled, and this one didn't accept.
+    waits: Cell<bool>,
+    /// Whether its own dial was made, and it wasn't told.
+    made: Cell<bool>,
+    /// Until when it waits.
+    until: Cell<u64>,
+    /// How many frames it sent, and how many of them are texts.
+    frames: Cell<u32>,
+    texts: Cell<u32>,
+    /// Whether the next frame that it sends is lost.
+    loses: Cell<bool>,
+    log: RefCell<Vec<u8>>,
+}
+
+impl End {
+    fn new(alloc: Global) -> End {
+        End {
+            coming: RefCell::new(Vec::new(alloc)),
+            reads: Cell::new(false),
+            waits: Cell::new(false),
+            made: Cell::new(false),
+            until: Cell::new(0),
+            frames: Cell::new(0),
+            texts: Cell::new(0),
+            loses: Cell::new(false),
+            log: RefCell::new(Vec::new(alloc)),
+        }
+    }
+}
+
+/// What is ready of a hub's lines, once each.
+#[derive(Clone, Copy)]
+pub struct Ready {
+    /// The line between the hubs has something to read.
+    pub reads: bool,
+    /// Somebody waits there to be accepted.
+    pub waits: bool,
+    /// A dial there was made.
+    pub made: bool,
+    /// The peer waits to be accepted on the further line, and has sent all that it sends.
+    pub peer: bool,
+}
+
+/// The line between two hubs, their clock, and the peer.
+#[derive(Drop)]
+pub struct Joint {
+    now: Cell<u64>,
+    /// Whether something moved since that was last asked.
+    moves: Cell<bool>,
+    first: End,
+    second: End,
+    /// What the peer is to send, and whether the hub wasn't told of it yet.
+    script: Cell<&'static [u8]>,
+    peer: Cell<bool>,
+}
+
+impl Joint {
+    /// Nobody has dialled.
+    pub fn new(alloc: Global) -> Joint {
+        Joint {
+            now: Cell::new(0),
+            moves: Cell::new(false),
+            first: End::new(alloc),
+            second: End::new(alloc),
+            script: Cell::new(&[]),
+            peer: Cell::new(false),
+        }
+    }
+
+    /// One of the two ends: 0 and 1.
+    fn end(&self, number: usize) -> &End {
+        if number == 0 {
+            &self.first
+        } else {
+            &self.second
+        }
+    }
+
+    /// The other one.
+    fn other(&self, number: usize) -> &End {
+        if number == 0 {
+            &self.second
+        } else {
+            &self.first
+        }
+    }
+
+    /// The time of a hub's clock, in milliseconds.
+    pub fn clock(&self, number: usize) -> u64 {
+        let ahead = if number == 0 { 0 } else { AHEAD };
+        self.now.get().saturating_add(ahead)
+    }
+
+    /// The time, in milliseconds.
+    pub fn now(&self) -> u64 {
+        self.now.get()
+    }
+
+    /// A hub waits so many milliseconds at most. Answers what is ready.
+    pub fn wait(&self, number: usize, milliseconds: u64) -> Ready {
+        let end = self.end(number);
+        end.until.set(self.now.get().saturating_add(milliseconds));
+        Ready {
+            reads: end.reads.replace(false),
+            waits: end.waits.get(),
+            made: end.made.replace(false),
+            peer: number == 0 && self.peer.get(),
+        }
+    }
+
+    /// Where nothing moved since this was last called, lets the time pass until a hub waits no longer.
+    pub fn pass(&self) {
+        if self.moves.replace(false) {
+            return;
+        }
+        let next = self.first.until.get().min(self.second.until.get());
+        self.now.set(self.now.get().max(next));
+    }
+
+    /// A hub dials the other.
+    pub fn dial(&self, number: usize) {
+        self.moves.set(true);
+        self.end(number).made.set(true);
+        self.other(number).waits.set(true);
+    }
+
+    /// Whether somebody waited to be accepted on the line between the hubs, and now doesn't any more.
+    pub fn accept(&self, number: usize) -> bool {
+        self.moves.set(true);
+        self.end(number).waits.replace(false)
+    }
+
+    /// Whether the peer waited to be accepted.
+    pub fn accept_peer(&self) -> bool {
+        self.moves.set(true);
+        self.peer.replace(false)
+    }
+
+    /// The peer connects to the first hub's further line, and sends this.
+    pub fn play(&self, script: &'static [u8]) {
+        self.script.set(script);
+        self.peer.set(true);
+        self.moves.set(true);
+    }
+
+    /// The next frame of a hub is lost.
+    pub fn lose(&self, number: usize) {
+        self.end(number).loses.set(true);
+    }
+
+    /// Frames of a hub on the line between them.
+    pub fn send(&self, number: usize, bytes: &[u8]) {
+        self.moves.set(true);
+        let end = self.end(number);
+        end.frames.set(end.frames.get().saturating_add(1));
+        if bytes.starts_with(TEXT) {
+            end.texts.set(end.texts.get().saturating_add(1));
+        }
+        if end.loses.replace(false) {
+            return;
+        }
+        let other = self.other(number);
+        other.reads.set(true);
+        if let Ok(mut coming) = other.coming.try_borrow_mut() {
+            let _kept = coming.extend_from_slice(bytes).is_ok();
+        }
+    }
+
+    /// Reads what came for a hub, and answers how many bytes.
+    pub fn read(&self, number: usize, into: &mut [u8]) -> usize
+        ensures { result ≤ length into.new }
+    {
+        let Ok(mut coming) = self.end(number).coming.try_borrow_mut() else {
+            return 0;
+        };
+        let count = coming.len().min(into.len());
+        into[..count].copy_from_slice(&coming[..count]);
+        let left = coming.len() - count;
+        coming.copy_within(count.., 0);
+        coming.truncate(left);
+        self.moves.set(self.moves.get() || count > 0);
+        count
+    }
+
+    /// Reads what the peer sent, and answers how many bytes.
+    pub fn read_peer(&self, into: &mut [u8]) -> usize
+        ensures { result ≤ length into.new }
+    {
+        let script = self.script.get();
+        let count = script.len().min(into.len());
+        let (front, rest) = script.split_at(count);
+        into[..count].copy_from_slice(front);
+        self.script.set(rest);
+        self.moves.set(self.moves.get() || count > 0);
+        count
+    }
+
+    /// A hub's log.
+    pub fn tell(&self, number: usize, text: &[u8]) {
+        if let Ok(mut log) = self.end(number).log.try_borrow_mut() {
+            let _kept = log.extend_from_slice(text).is_ok();
+        }
+    }
+
+    /// How many frames a hub sent on the line between them, and how many of them are texts.
+    pub fn sent(&self, number: usize) -> (u32, u32) {
+        let end = self.end(number);
+        (end.frames.get(), end.texts.get())
+    }
+
+    /// How many lines of a hub's log have this, and how many also that.
+    pub fn told(&self, number: usize, this: &str, that: &str) -> (usize, usize) {
+        let Ok(log) = self.end(number).log.try_borrow() else {
+            return (0, 0);
+        };
+        let mut with_this = 0usize;
+        let mut with_both = 0usize;
+        for line in str::from_utf8(&log).unwrap_or("").lines() {
+            if line.contains(this) {
+                with_this = with_this.saturating_add(1);
+                if line.contains(that) {
+                    with_both = with_both.saturating_add(1);
+                }
+            }
+        }
+        (with_this, with_both)
+    }
+}
