@@ -1,0 +1,136 @@
+#!/usr/bin/env python3
+"""Says what a run of the gate costs: by part and by crate, in minutes of CPU and GB of memory.
+
+    python3 benches/gate/minutes.py [--cpus 0,1] [the words of a command: RT_JOBS=4 rt ci --anew where none are given]
+
+Runs the command at the top of the repository (with --cpus, on these processors alone) and looks at its processes four
+times a second: the crate is the one that a check names, the part what the check is for. What a process used since it
+was last looked at is missed, a tenth of a second for each on average; the sum at the end is the system's own. The
+table has a row for each crate: minutes of its proof, of its tests' proof and their building, of its wrong bodies (the
+crate's proof for them among it), of building and running programs; the most memory of one process in GB; and for how
+many minutes its process was the only one at work.
+"""
+
+import collections
+import os
+import pathlib
+import resource
+import subprocess
+import sys
+import time
+
+TICK = os.sysconf("SC_CLK_TCK")
+PAGE = os.sysconf("SC_PAGE_SIZE")
+PARTS = ("proof", "tests", "edits", "programs")
+WAIT = 0.25
+
+
+def words_of(pid):
+    """A process's command line and the folder that it is in."""
+    try:
+        words = pathlib.Path(f"/proc/{pid}/cmdline").read_bytes().decode(errors="replace").split("\0")
+        return words, os.readlink(f"/proc/{pid}/cwd")
+    except OSError:
+        return [], ""
+
+
+def use_of(pid):
+    """The parent of a process, the seconds of CPU that it used, its memory in bytes, and whether it runs now."""
+    try:
+        text = pathlib.Path(f"/proc/{pid}/stat").read_text()
+    except OSError:
+        return None
+    fields = text.rsplit(")", 1)[1].split()
+    return int(fields[1]), (int(fields[11]) + int(fields[12])) / TICK, int(fields[21]) * PAGE, fields[0] == "R"
+
+
+def kind_of(words, folder):
+    """The crate and the part that a process works for, if it says so itself."""
+    if "--crate-name" in words:
+        crate = words[words.index("--crate-name") + 1]
+        if "/rt-edit-" in folder:
+            return crate, "edits"
+        if "--test" in words:
+            return crate, "tests"
+        return crate, "programs" if "--crate-checked" in words else "proof"
+    if words and "/out/" in words[0]:
+        return pathlib.Path(words[0]).name.split(".")[0].removesuffix("_tests"), "programs"
+    return None
+
+
+class Run:
+    """What was seen of a run."""
+
+    def __init__(self, root):
+        self.root, self.kinds, self.used, self.most, self.alone = root, {}, {}, collections.Counter(), collections.Counter()
+
+    def look(self):
+        """Looks at the processes below the run's own."""
+        uses = {int(name): use for name in os.listdir("/proc") if name.isdigit() if (use := use_of(name))}
+        below = {self.root}
+        for _ in range(6):
+            below |= {pid for pid, use in uses.items() if use[0] in below}
+        at_work = set()
+        for pid in below - {self.root}:
+            kind = self.kind(pid, uses)
+            if not kind:
+                continue
+            parent, seconds, memory, runs = uses[pid]
+            self.used[pid, kind] = max(seconds, self.used.get((pid, kind), 0))
+            self.most[kind[0]] = max(memory, self.most[kind[0]])
+            if runs:
+                at_work.add(kind)
+        if len(at_work) == 1:
+            self.alone[at_work.pop()[0]] += WAIT
+
+    def kind(self, pid, uses):
+        """What a process works for: what it says, or what the one above it does."""
+        for _ in range(6):
+            if pid not in self.kinds or not self.kinds[pid]:
+                self.kinds[pid] = kind_of(*words_of(pid))
+            if self.kinds[pid] or pid not in uses:
+                return self.kinds[pid]
+            pid = uses[pid][0]
+        return None
+
+    def table(self):
+        minutes = collections.defaultdict(collections.Counter)
+        for (_, (crate, part)), seconds in self.used.items():
+            minutes[crate][part] += seconds / 60
+        row = "{:<18}" + "{:>8}" * (len(PARTS) + 3)
+        print(row.format("crate", *PARTS, "in all", "GB", "alone"))
+        sums = collections.Counter()
+        for crate, parts in sorted(minutes.items(), key=lambda one: -sum(one[1].values())):
+            sums.update(parts)
+            figures = [f"{parts[part]:.1f}" for part in PARTS]
+            more = f"{sum(parts.values()):.1f}", f"{self.most[crate] / 1e9:.1f}", f"{self.alone[crate] / 60:.1f}"
+            print(row.format(crate, *figures, *more))
+        figures = [f"{sums[part]:.1f}" for part in PARTS]
+        more = f"{max(self.most.values(), default=0) / 1e9:.1f}", f"{sum(self.alone.values()) / 60:.1f}"
+        print(row.format("all", *figures, f"{sum(sums.values()):.1f}", *more))
+
+
+def main():
+    words = sys.argv[1:]
+    if words[:1] == ["--cpus"]:
+        os.sched_setaffinity(0, {int(number) for number in words[1].split(",")})
+        words = words[2:]
+    if not words:
+        os.environ.setdefault("RT_JOBS", "4")
+        words = ["rt", "ci", "--anew"]
+    os.chdir(pathlib.Path(__file__).resolve().parents[2])
+    begin = time.monotonic()
+    process = subprocess.Popen(words)
+    run = Run(process.pid)
+    while process.poll() is None:
+        run.look()
+        time.sleep(WAIT)
+    used = resource.getrusage(resource.RUSAGE_CHILDREN)
+    run.table()
+    minutes = (used.ru_utime + used.ru_stime) / 60
+    print(f"{minutes:.0f} minutes of CPU, {(time.monotonic() - begin) / 60:.0f} of wall time, on {len(os.sched_getaffinity(0))} processors")
+    sys.exit(process.returncode)
+
+
+if __name__ == "__main__":
+    main()
