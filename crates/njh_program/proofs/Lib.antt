@@ -1,2 +1,1 @@
-mod ArgumentLaws
-mod CheckLaws
+mod RequestLaws

@@ -1,31 +1,19 @@
-//! All of the program: arguments, the table file, and what they ask for: to replay a script, to serve lines on sockets,
-//! to say a trace in words, to make a script of lines in words, to check a table file or a script, or
-//! to print what a spool file holds.
+//! All of the program: what its arguments ask for is done. That is to serve lines on sockets, to print what a spool file
+//! holds, or a task of njh_subcommands.
 #![tactic(auto)]
 
-mod arguments;
-mod check_options;
-mod checking;
-mod decode_options;
-mod encode_options;
-mod failure;
-mod files_options;
-mod letters;
-mod options;
 mod program;
-mod replay_options;
-mod serve_options;
+mod requests;
 mod service;
-mod spool_files;
+mod spool_service;
+mod spooling;
 mod standard_error;
-mod table_check;
-mod table_file;
+mod start_log;
 mod table_source;
-mod words;
 
-pub use arguments::{Request, request_of};
-pub use failure::Failure;
+pub use njh_subcommands::{Failure, tables_of};
 pub use program::{carry_out, end, run};
+pub use service::Options;
+pub use spooling::Spooling;
 pub use standard_error::StandardError;
-pub use table_file::tables_of;
 pub use table_source::{ChangeFault, TableFileSource};

@@ -6,23 +6,13 @@ ghost use Rattle.std.specs.Process.{exit_status};
 ghost use Rattle.njh_encode.specs.declared.fault.EncodeEnd.TheVariants.{BadLine};
 ghost use Rattle.njh_encode.specs.declared.fault.EncodeFault.{EncodeFault};
 ghost use Rattle.njh_program.specs.ProgramOutcome.{IsBegunFor, IsEncodedBefore, IsFailed, IsFound, IsRunDone};
-ghost use Rattle.njh_program.specs.Status.{status_after, ComesFirst};
+ghost use Rattle.njh_subcommands.specs.Status.{status_after, ComesFirst};
 
-use crate::arguments::{Request, not_utf8, request_of};
-use crate::checking::check_script_file;
-use crate::failure::Failure;
-use crate::letters::FileLetters;
-use crate::service::{Options, serve_file, serve_spool_file};
-use crate::spool_files::print_spool_file;
+use crate::requests::carry_out_request;
+use crate::spooling::Spooling;
 use crate::standard_error::StandardError;
-use crate::table_check::check_tables_file;
-use crate::table_file::tables_of;
-use crate::words::replay_in_words;
-use njh_encode::encode_script;
-use njh_files::SpoolFiles;
-use njh_replay::replay;
-use njh_service::Log;
-use njh_trace::decode_trace;
+use njh_arguments::{not_utf8, request_of};
+use njh_subcommands::Failure;
 use std::convert::AsStr;
 use std::io::{BufWriter, ErrorKind, Read, Write};
 use std::net::Net;
@@ -34,7 +24,7 @@ use std::{env, io};
 const WRITTEN_AT_ONCE: usize = 65_536;
 
 /// Runs the program, and answers the status to end with. Why it failed, if it did, goes to `errors`.
-pub fn run<R: Env + Files + SpoolFiles + Net + Clock + Input + Print + AllocGlobal, E: Print>(
+pub fn run<R: Env + Files + Spooling + Net + Clock + Input + Print + AllocGlobal, E: Print>(
     rt: &R,
     errors: &E,
 ) -> ExitCode
@@ -58,7 +48,7 @@ pub fn end<E: Print>(outcome: Result<(), Failure>, errors: &E) -> ExitCode
 }
 
 /// Does what the program's own arguments ask for, over its own streams. The log of a service goes to `errors`.
-fn outcome_of<R: Env + Files + SpoolFiles + Net + Clock + Input + Print + AllocGlobal, E: Print>(
+fn outcome_of<R: Env + Files + Spooling + Net + Clock + Input + Print + AllocGlobal, E: Print>(
     rt: &R,
     errors: &E,
 ) -> Result<(), Failure> {
@@ -89,7 +79,7 @@ fn arguments_of<R: Env + AllocGlobal>(rt: &R) -> Result<Vec<String>, Failure> {
 /// service goes to `log`. `script` is what the program is given to read: a script, for `decode` a trace, for `encode`
 /// lines in words.
 pub fn carry_out<
-    F: Files + SpoolFiles + Net + Clock + AllocGlobal,
+    F: Files + Spooling + Net + Clock + AllocGlobal,
     S: AsStr,
     R: Read,
     W: Write,
@@ -107,39 +97,11 @@ pub fn carry_out<
         ⊎ IsBegunFor (map S.text arguments.now) (R.remaining script.old) (W.contents out.old) (W.contents out.new)) }
     ensures silent { IfErr result (λ failure. ComesFirst failure → Keeps (W.contents out.old) (W.contents out.new)) }
 {
-    match request_of(rt.alloc(), arguments)? {
-        Request::Replay { tables, in_words } => {
-            let tables = tables_of(rt, tables)?;
-            if in_words {
-                return replay_in_words(rt.alloc(), tables, script, out);
-            }
-            replay(rt.alloc(), tables, script, out)?;
-            Ok(())
-        }
-        Request::Decode { hex } => {
-            decode_trace(rt.alloc(), script, out, hex)?;
-            Ok(())
-        }
-        Request::Encode => {
-            encode_script(rt.alloc(), script, &FileLetters::new(rt), out)?;
-            Ok(())
-        }
-        Request::CheckTables { tables } => check_tables_file(rt, tables, out),
-        Request::CheckScript { tables, file } => check_script_file(rt, tables, file, out),
-        Request::Files { spool, asked } => print_spool_file(rt, spool, &asked, out),
-        Request::Serve {
-            tables,
-            turns,
-            listen,
-            quiet,
-            spool,
-        } => {
-            let log = Log::new(if quiet { None } else { Some(log) });
-            let options = Options { turns, listen };
-            match spool {
-                Some(spool) => serve_spool_file(rt, tables, spool, options, log),
-                None => serve_file(rt, tables, options, log),
-            }
+    match request_of(rt.alloc(), arguments) {
+        Ok(request) => carry_out_request(rt, request, script, out, log),
+        Err(error) => {
+            drop(log);
+            Err(Failure::from(error))
         }
     }
 }

@@ -1,11 +1,11 @@
 //! The table file of a hub that runs: it is read again where it changed.
 
 ghost use Rattle.std.specs.Prelude.{◌≡◌, ◌≤◌, vec_len, IfOk, IfSome};
-ghost use Rattle.njh_program.specs.TableBytes.{AreGivenWithin, max_changed_bytes};
+ghost use Rattle.njh_subcommands.specs.TableBytes.{AreGivenWithin, max_changed_bytes};
 
-use crate::table_file::tables_in;
 use njh_io::{ReadFault, read_text};
 use njh_service::TableSource;
+use njh_subcommands::tables_in;
 use njh_table::{TableFault, Tables};
 use std::fs;
 use std::fs::File;

@@ -1,0 +1,98 @@
+-- What the arguments name, from the matches of a parse.
+use Rattle.std.proofs.Common.{◌≡◌, Result, Ok, Err, OnOk, IfOk, IfErr, Bool, true, false, cond, List, [], ◌∷◌, map}
+use Rattle.std.proofs.Common.{Option, Some, None, option_and_then, refl, sym, ap, subst, ◌∙◌, ◌↔◌, IsTrue}
+use Rattle.std.specs.Prelude.{codes, find, option_map, slice_get, bytes_eq}
+use Rattle.std.proofs.lemmas.Option.{slice_get-map}
+use Rattle.std.proofs.lemmas.Slice.Eq.{bytes_eq-Decides}
+use Rattle.std.specs.Box.{box_value}
+use Rattle.clap.proofs.OnLiterals.{clap_on_literals}
+use Rattle.clap.specs.Faults.{is_simple_and_free}
+use Rattle.clap.specs.Matches.{found_of, first_value, subcommand_name_of}
+use Rattle.clap.specs.Simple.{is_simple, subcommand_rows_of}
+use Rattle.clap.specs.Walk.{Row, Text, first_of, row_of, rows_of}
+use Rattle.clap.specs.Kinds.{FailsBy, Kinds, HasKind}
+use Rattle.clap.specs.declared.error.Error.{Error}
+use Rattle.clap.specs.declared.parser.matches.ArgMatches.{ArgMatches}
+use Rattle.clap.specs.declared.parser.matches.ArgMatches.TheViews.{out-ArgMatches, out-SubCommand}
+use Rattle.njh_arguments.specs.declared.arguments.Request.{Request}
+use Rattle.njh_arguments.specs.declared.serve_options.Unasked.{Unasked}
+use Rattle.njh_arguments.specs.declared.serve_options.Unasked.TheVariants.{Missing, NoAddress, Nothing}
+use Rattle.njh_arguments.specs.Arguments.{AsksFor, AsksIn, HasNoAddress, HasNothing, IsUnasked, IsUnaskedBy, program_app}
+
+cond-map : {X Y : Type 0} (f : X → Y) (b : Bool) (x : X) (o : Option Y) (later : Option X) → o ≡ option_map f later
+    → cond b (Some (f x)) o ≡ option_map f (cond b (Some x) later)
+cond-map f true x o later same = refl
+cond-map f false x o later same = same
+
+find-map : {X Y : Type 0} (f : X → Y) (p : Y → Bool) (xs : List X) → find p (map f xs) ≡ option_map f (find (λ x. p (f x)) xs)
+find-map f p [] = refl
+find-map f p (x ∷ xs) = cond-map f (p (f x)) x (find p (map f xs)) (find (λ y. p (f y)) xs) (find-map f p xs)
+
+at_entry : {X Y : Type 0} (o : Option X) (to : X → Y) (read : Y → Option Text) (row : X → Row)
+    → ((x : X) → read (to x) ≡ slice_get (row x).values 0)
+    → option_and_then read (option_map to o) ≡ option_and_then (λ r. slice_get r.values 0) (option_map row o)
+at_entry None to read row same = refl
+at_entry (Some x) to read row same = same x
+
+-- the first value of an id, by the rows
+pub first_value-rows : (m : ArgMatches) (id : Text) → first_value (found_of m) id ≡ first_of id (rows_of (found_of m))
+first_value-rows m id =
+    let entries = (found_of m).entries.items in
+    at_entry (find (λ e. bytes_eq e.0.now id) entries) (λ e. e.1) (λ a. option_map (λ s. s.now) (slice_get a.vals.items 0)) row_of
+    (λ e. sym (slice_get-map (λ s. s.now) e.1.vals.items 0))
+    ∙ ap (option_and_then (λ r. slice_get r.values 0)) (sym (find-map row_of (λ r. bytes_eq r.id id) entries))
+
+-- a pair by its halves
+pair_of : {X : Type 0} (f : X → Text) (g : X → List Row) (o : Option X) (name : Text) (rows : List Row)
+    → Some name ≡ option_map f o → Some rows ≡ option_map (λ (p : Text × List Row). p.1)
+    (option_map {U = Text × List Row} (λ x. (f x, g x)) o)
+    → option_map {U = Text × List Row} (λ x. (f x, g x)) o ≡ Some (name, rows)
+pair_of f g None name rows first second = cc first
+pair_of f g (Some x) name rows first second =
+    let named : name ≡ f x = cc first in
+    let rowed : rows ≡ g x = cc second in
+    rw (named, rowed) refl
+
+-- the subcommand of a parse, by its name and its rows
+pub subcommand_is : (m : ArgMatches) (name : Text) (rows : List Row) → Some name ≡ subcommand_name_of m
+    → Some rows ≡ option_map (λ (p : Text × List Row). p.1) (subcommand_rows_of m) → subcommand_rows_of m ≡ Some (name, rows)
+subcommand_is m name rows named rowed =
+    pair_of (λ b. (out-SubCommand (box_value b)).name.now)
+    (λ b. rows_of (found_of (out-SubCommand (box_value b)).matches)) (out-ArgMatches m).subcommand name rows named rowed
+
+-- the program's own arguments are simple, as clap's definitions have it
+pub is_simple_program : is_simple program_app ≡ true
+unfolding clap_on_literals
+is_simple_program = refl
+
+pub is_free_program : is_simple_and_free program_app ≡ true
+unfolding clap_on_literals
+is_free_program = refl
+
+-- what a parse that may fail by these kinds says of each answer
+pub FailsBy-ok : {A : Type 0} (kinds : Kinds) (r : Result A Error) → FailsBy kinds r → OnOk r (kinds ≡ [])
+FailsBy-ok kinds (Ok x) fails = fails
+FailsBy-ok kinds (Err e) fails = tt
+
+pub FailsBy-err : {A : Type 0} (kinds : Kinds) (r : Result A Error) → FailsBy kinds r → IfErr r (HasKind kinds)
+FailsBy-err kinds (Ok x) fails = tt
+FailsBy-err kinds (Err e) fails = fails
+
+-- what is asked for by the rows of a subcommand, or why nothing is
+pub asks_in : {A : Type 0} (m : ArgMatches) (named : Text × List Row) → subcommand_rows_of m ≡ Some named
+    → (r : Result Request A) → IfOk r (AsksFor named) → IfOk r (AsksIn (subcommand_rows_of m))
+asks_in m named is (Err why) asks = tt
+asks_in m named is (Ok request) asks = subst (λ (o : Option (Text × List Row)). AsksIn o request) (sym is) asks
+
+pub serves_refused : (m : ArgMatches) (named : Text × List Row) → subcommand_rows_of m ≡ Some named → (r : Result Request Unasked)
+    → IfErr r (IsUnasked named.1) → IfErr r (IsUnaskedBy (subcommand_rows_of m))
+serves_refused m named is (Ok request) unasked = tt
+serves_refused m named is (Err Missing) unasked = tt
+serves_refused m named is (Err Nothing) unasked = subst HasNothing (sym is) unasked
+serves_refused m named is (Err (NoAddress text)) unasked = subst HasNoAddress (sym is) unasked
+
+-- a text that is tested for a word
+pub spells_word : (b : Bool) (text word : Text) → b ≡ bytes_eq text word → IsTrue b ↔ (Some text ≡ Some word)
+spells_word b text word same =
+    let d = bytes_eq-Decides text word in
+    (λ yes. ap (λ (t : Text). Some t) (d.0 (sym same ∙ yes)), λ e. let is : text ≡ word = cc e in same ∙ d.1 is)

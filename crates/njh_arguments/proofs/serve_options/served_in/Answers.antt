@@ -1,0 +1,15 @@
+use Rattle.std.proofs.Common.{◌≡◌, ◌∙◌, Some, codes, option_map, refl, sym, rules}
+use Rattle.njh_arguments.proofs.ArgumentLaws.{first_value-rows}
+use Rattle.njh_arguments.proofs.serve_options.served_in.Goals as goal
+
+pub returns-clause-asked : goal.returns-clause-asked
+returns-clause-asked c =
+    let options = c.args.options.now in
+    let found : option_map (λ s. s.now) c.get_str.result ≡ Some c.in-Some.tables.now = search rules in (
+      refl,
+      sym (first_value-rows options (codes "tables")) ∙ (sym c.get_str.ensures ∙ found),
+      c.in_ok-turns.ensures.asked,
+      c.in_ok-listen.ensures.asked,
+      c.is_set.ensures,
+      sym (first_value-rows options (codes "spool")) ∙ sym c.get_str-2.ensures,
+    )

@@ -1,0 +1,255 @@
+//! The arguments of the command line.
+
+ghost use Rattle.std.specs.Prelude.{◌≡◌, ◌≢◌, [], ◌∷◌, false, map, codes, IfOk, IfErr, OnOk};
+ghost use Rattle.clap.specs.Words.{app_of, fault_of, found_of, kind_of, rows_of, subcommand_of, subcommand_rows_of};
+ghost use Rattle.clap.specs.Words.{HasKind};
+ghost use Rattle.njh_arguments.specs.Arguments.{AreRefusedBy, Asks, AsksFor, AsksIn, IsRefusalOf, IsUnasked, IsUnaskedBy};
+ghost use Rattle.njh_arguments.specs.Arguments.{bare_app, checking_app, decoding_app, encoding_app, program_app, replaying_app, serving_app};
+
+use crate::check_options::{check_command, checked_in};
+use crate::decode_options::{decode_command, decoded_in};
+use crate::encode_options::encode_command;
+use crate::files_options::{files_command, files_in};
+use crate::replay_options::{replay_command, replayed_in};
+use crate::serve_options::{Unasked, serve_command, served_in};
+use clap::error::ErrorKind;
+use clap::{ArgMatches, Command, Error};
+use std::alloc::{AllocError, Global};
+use std::convert::AsStr;
+use std::net::IpAddr;
+
+/// What the arguments ask for.
+#[derive(Clone, Copy)]
+pub enum Request<'a> {
+    /// What needs no socket and no spool file.
+    Task(Task<'a>),
+    /// To serve lines on sockets.
+    Serve {
+        /// The table file.
+        tables: &'a str,
+        /// For how many turns, if they end.
+        turns: Option<u32>,
+        /// Where lines listen.
+        listen: IpAddr,
+        /// Without a log.
+        quiet: bool,
+        /// The spool file that keeps whole files, if there is one.
+        spool: Option<&'a str>,
+    },
+    /// To print what a spool file holds.
+    Files {
+        /// The spool file.
+        spool: &'a str,
+        /// Whose files; all customers' where none is named.
+        customer: Option<&'a str>,
+        /// The file whose records are written; where none is named the files are listed.
+        file: Option<&'a str>,
+        /// Which of these files it is, counted from 1.
+        number: Option<u32>,
+        /// All records as they are.
+        raw: bool,
+    },
+}
+
+/// What is asked for that needs no socket and no spool file.
+#[derive(Clone, Copy)]
+pub enum Task<'a> {
+    /// To replay a script.
+    Replay {
+        /// The table file; the built-in tables where none is named.
+        tables: Option<&'a str>,
+        /// With its output in words.
+        in_words: bool,
+    },
+    /// To say a trace in words.
+    Decode {
+        /// With bytes in hex beside the words.
+        hex: bool,
+    },
+    /// To make a script of lines in words.
+    Encode,
+    /// To check a table file.
+    CheckTables {
+        /// The table file.
+        tables: &'a str,
+    },
+    /// To check a script.
+    CheckScript {
+        /// The table file; the built-in tables where none is named.
+        tables: Option<&'a str>,
+        /// The file with the script.
+        file: &'a str,
+    },
+}
+
+/// What the arguments ask for, of which the first is the program's name. A refusal has the text for the user, and
+/// `--help` is one. Both are as `clap`'s definitions say of this program.
+pub fn request_of<'a, S: AsStr>(alloc: Global, arguments: &'a [S]) -> Result<Request<'a>, Error>
+    ensures asked { IfOk result (Asks (map S.text arguments.entry.now)) }
+    ensures taken { OnOk result (fault_of program_app (map S.text arguments.entry.now) ≡ []) }
+    // Out of memory, or of a kind that these arguments give.
+    ensures refused { IfErr result (AreRefusedBy (map S.text arguments.entry.now)) }
+{
+    let mut program = program_command(alloc)?;
+    let request = request_by(alloc, &mut program, arguments);
+    drop(program);
+    request
+}
+
+/// What the arguments ask of the program.
+fn request_by<'a, S: AsStr>(
+    alloc: Global,
+    program: &mut Command<'a>,
+    arguments: &'a [S],
+) -> Result<Request<'a>, Error>
+    requires { app_of program.old ≡ program_app }
+    ensures asked { IfOk result (Asks (map S.text arguments.entry.now)) }
+    ensures taken { OnOk result (fault_of program_app (map S.text arguments.entry.now) ≡ []) }
+    ensures refused { IfErr result (AreRefusedBy (map S.text arguments.entry.now)) }
+{
+    let found = matches_of(program, arguments)?;
+    let request = request_in(&found);
+    drop(found);
+    match request {
+        Ok(request) => Ok(request),
+        Err(why) => Err(refusal_of(alloc, program, why)?),
+    }
+}
+
+/// The refusal of arguments that are no UTF-8.
+pub fn not_utf8(alloc: Global) -> Result<Error, AllocError>
+    ensures { IfOk result (λ error. kind_of error ≡ ErrorKind.InvalidValue) }
+{
+    program_command(alloc)?.error(ErrorKind::InvalidValue, "an argument is not UTF-8")
+}
+
+/// What `clap` reads in the arguments.
+fn matches_of<'a, S: AsStr>(
+    program: &mut Command<'a>,
+    arguments: &'a [S],
+) -> Result<ArgMatches<'a>, Error>
+    requires { app_of program.old ≡ program_app }
+    ensures asked { IfOk result (λ found. subcommand_rows_of found
+        ≡ subcommand_of program_app (map S.text arguments.entry.now)) }
+    ensures taken { OnOk result (fault_of program_app (map S.text arguments.entry.now) ≡ []) }
+    ensures refused { IfErr result (HasKind (fault_of program_app (map S.text arguments.entry.now))) }
+{
+    program.try_get_matches_from_mut(arguments)
+}
+
+/// What a parse asks for.
+fn request_in<'a>(found: &ArgMatches<'a>) -> Result<Request<'a>, Unasked<'a>>
+    ensures asked { IfOk result (AsksIn (subcommand_rows_of found.now)) }
+    ensures refused { IfErr result (IsUnaskedBy (subcommand_rows_of found.now)) }
+{
+    match found.subcommand() {
+        Some((name, options)) => request_named(name, options),
+        None => Err(Unasked::Missing),
+    }
+}
+
+/// What the options of the subcommand of this name ask for.
+fn request_named<'a>(name: &str, options: &ArgMatches<'a>) -> Result<Request<'a>, Unasked<'a>>
+    ensures asked { IfOk result (AsksFor (name.now, rows_of (found_of options.now))) }
+    ensures refused { IfErr result (IsUnasked (rows_of (found_of options.now))) }
+{
+    match name {
+        "replay" => Ok(replayed_in(options)),
+        "serve" => served_in(options),
+        "decode" => Ok(decoded_in(options)),
+        "encode" => Ok(Request::Task(Task::Encode)),
+        "check" => checked_in(options),
+        "files" => files_in(options),
+        _ => Err(Unasked::Missing),
+    }
+}
+
+/// The refusal of a parse that asks for nothing.
+fn refusal_of(
+    alloc: Global,
+    program: &mut Command<'_>,
+    why: Unasked<'_>,
+) -> Result<Error, AllocError>
+    ensures { IfOk result (IsRefusalOf why.entry) }
+{
+    match why {
+        Unasked::Missing => program.error(ErrorKind::MissingSubcommand, "no subcommand"),
+        Unasked::Nothing => program.error(
+            ErrorKind::MissingRequiredArgument,
+            "nothing to check: name --tables F, --script F or both",
+        ),
+        Unasked::NoAddress(text) => no_address(alloc, program, text),
+    }
+}
+
+/// The refusal of a text of `--listen` that is no address.
+fn no_address(alloc: Global, program: &mut Command<'_>, text: &str) -> Result<Error, AllocError>
+    ensures { IfOk result (λ error. kind_of error ≡ ErrorKind.ValueValidation) }
+{
+    let message = format!(in alloc;
+        "invalid value '{text}' for '--listen <ADDRESS>': invalid IP address syntax"
+    )?;
+    program.error(ErrorKind::ValueValidation, message.as_str())
+}
+
+/// The program and its subcommands.
+fn program_command<'a>(alloc: Global) -> Result<Command<'a>, AllocError>
+    ensures { IfOk result (λ command. app_of command ≡ program_app) }
+{
+    let files = files_command(alloc)?;
+    let program = checking_command(alloc)?;
+    program.subcommand(files)
+}
+
+/// The program and its first five subcommands.
+fn checking_command<'a>(alloc: Global) -> Result<Command<'a>, AllocError>
+    ensures { IfOk result (λ command. app_of command ≡ checking_app) }
+{
+    let check = check_command(alloc)?;
+    let program = encoding_command(alloc)?;
+    program.subcommand(check)
+}
+
+/// The program and its first four subcommands.
+fn encoding_command<'a>(alloc: Global) -> Result<Command<'a>, AllocError>
+    ensures { IfOk result (λ command. app_of command ≡ encoding_app) }
+{
+    let program = decoding_command(alloc)?;
+    program.subcommand(encode_command(alloc))
+}
+
+/// The program and its first three subcommands.
+fn decoding_command<'a>(alloc: Global) -> Result<Command<'a>, AllocError>
+    ensures { IfOk result (λ command. app_of command ≡ decoding_app) }
+{
+    let decode = decode_command(alloc)?;
+    let program = serving_command(alloc)?;
+    program.subcommand(decode)
+}
+
+/// The program and its first two subcommands.
+fn serving_command<'a>(alloc: Global) -> Result<Command<'a>, AllocError>
+    ensures { IfOk result (λ command. app_of command ≡ serving_app) }
+{
+    let serve = serve_command(alloc)?;
+    let program = replaying_command(alloc)?;
+    program.subcommand(serve)
+}
+
+/// The program and its first subcommand.
+fn replaying_command<'a>(alloc: Global) -> Result<Command<'a>, AllocError>
+    ensures { IfOk result (λ command. app_of command ≡ replaying_app) }
+{
+    let replay = replay_command(alloc)?;
+    bare_command(alloc).subcommand(replay)
+}
+
+/// The program without its subcommands, one of which is to be named.
+fn bare_command<'a>(alloc: Global) -> Command<'a>
+    ensures { app_of result ≡ bare_app }
+{
+    Command::new(alloc, "njehub")
+        .about("A store-and-forward hub for NJE networks over bisync lines")
+        .subcommand_required(true)
+        .disable_help_subcommand(true)
+}

@@ -1,0 +1,136 @@
+//! The options of `files`.
+
+ghost use Rattle.std.specs.Prelude.{◌≡◌, codes, false, IfOk, IfErr};
+ghost use Rattle.clap.specs.Words.{app_of, first_of, found_of, new_app, rows_of, rule_of};
+ghost use Rattle.clap.specs.declared.builder.command.Command.TheViews.{out-Command};
+ghost use Rattle.njh_arguments.specs.Arguments.{AsksFor, CountsTurns, IsUnasked, customer_rule, export_rule, files_app};
+ghost use Rattle.njh_arguments.specs.Arguments.{exporting_app, listing_app, number_rule};
+
+use crate::arguments::Request;
+use crate::options::{flag, is_set, spool_option};
+use crate::serve_options::Unasked;
+use clap::builder::ValueParser;
+use clap::{Arg, ArgAction, ArgMatches, Command};
+use std::alloc::{AllocError, Global};
+
+/// What the help of `files` ends with.
+const FILES_EXAMPLE: &str =
+    "It prints a line for each whole file: the customers in the order of their first files, and each
+customer's in their order of arrival. It reads a spool file that no hub has open.
+
+Examples:
+  njehub files --spool hub.spool --customer BANK
+  njehub files --spool hub.spool --customer BANK --export LYON.42 > listing";
+
+/// What the options of `files` ask for.
+pub(crate) fn files_in<'a>(options: &ArgMatches<'a>) -> Result<Request<'a>, Unasked<'a>>
+    ensures asked { IfOk result (AsksFor (codes "files", rows_of (found_of options.now))) }
+    ensures refused { IfErr result (IsUnasked (rows_of (found_of options.now))) }
+{
+    let Some(spool) = options.get_str("spool") else {
+        return Err(Unasked::Missing);
+    };
+    let number = number_in(options)?;
+    Ok(Request::Files {
+        spool,
+        customer: options.get_str("customer"),
+        file: options.get_str("export"),
+        number,
+        raw: is_set(options, "raw"),
+    })
+}
+
+/// Which of the files it is, where that is said.
+fn number_in<'a>(options: &ArgMatches<'a>) -> Result<Option<u32>, Unasked<'a>>
+    ensures asked { IfOk result (CountsTurns (first_of (codes "number") (rows_of (found_of options.now)))) }
+    ensures refused { IfErr result (IsUnasked (rows_of (found_of options.now))) }
+{
+    match options.get_str("number") {
+        Some(text) => match text.parse::<u32>() {
+            Ok(number) => Ok(Some(number)),
+            Err(_) => Err(Unasked::Missing),
+        },
+        None => Ok(None),
+    }
+}
+
+/// `files`, with its options.
+pub(crate) fn files_command<'a>(alloc: Global) -> Result<Command<'a>, AllocError>
+    ensures app { IfOk result (λ command. app_of command ≡ files_app) }
+    ensures local { IfOk result (λ command. (out-Command command).has_globals ≡ false) }
+{
+    let exporting = exporting_command(alloc)?;
+    let raw = flag(
+        alloc,
+        "raw",
+        "With --export: the bytes of all records, one after the other",
+    );
+    exporting.arg(raw)
+}
+
+/// `files`, with its spool file, its customer, and a file's name and number.
+fn exporting_command<'a>(alloc: Global) -> Result<Command<'a>, AllocError>
+    ensures app { IfOk result (λ command. app_of command ≡ exporting_app) }
+    ensures local { IfOk result (λ command. (out-Command command).has_globals ≡ false) }
+{
+    let listing = listing_command(alloc)?;
+    listing.arg(export_option(alloc))?.arg(number_option(alloc))
+}
+
+/// `files`, with its spool file and its customer.
+fn listing_command<'a>(alloc: Global) -> Result<Command<'a>, AllocError>
+    ensures app { IfOk result (λ command. app_of command ≡ listing_app) }
+    ensures local { IfOk result (λ command. (out-Command command).has_globals ≡ false) }
+{
+    let spool = spool_option(alloc, "The spool file").required(true);
+    bare_files(alloc).arg(spool)?.arg(customer_option(alloc))
+}
+
+/// `files` without its options.
+fn bare_files<'a>(alloc: Global) -> Command<'a>
+    ensures app { app_of result ≡ new_app (codes "files") }
+    ensures local { (out-Command result).has_globals ≡ false }
+{
+    Command::new(alloc, "files")
+        .about("Prints the whole files that a spool file holds, or a file's records")
+        .after_help(FILES_EXAMPLE)
+}
+
+/// `--customer NAME`.
+fn customer_option<'a>(alloc: Global) -> Arg<'a>
+    ensures rule { rule_of result ≡ customer_rule }
+    ensures local { result.global ≡ false }
+{
+    Arg::new(alloc, "customer")
+        .long("customer")
+        .value_name("NAME")
+        .help("The files of this customer alone")
+        .action(ArgAction::Set)
+}
+
+/// `--export NAME`.
+fn export_option<'a>(alloc: Global) -> Arg<'a>
+    ensures rule { rule_of result ≡ export_rule }
+    ensures local { result.global ≡ false }
+{
+    Arg::new(alloc, "export")
+        .long("export")
+        .value_name("NAME")
+        .help(
+            "Writes the data of the file of this name, as LYON.42, in characters, a line a record",
+        )
+        .action(ArgAction::Set)
+}
+
+/// `--number N`.
+fn number_option<'a>(alloc: Global) -> Arg<'a>
+    ensures rule { rule_of result ≡ number_rule }
+    ensures local { result.global ≡ false }
+{
+    Arg::new(alloc, "number")
+        .long("number")
+        .value_name("N")
+        .help("With --export: which of the files it is, counted from 1 in their order of arrival")
+        .action(ArgAction::Set)
+        .value_parser(ValueParser::Signed(1, 1_000_000))
+}

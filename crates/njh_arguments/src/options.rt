@@ -1,0 +1,53 @@
+//! Options that several subcommands have.
+
+ghost use Rattle.std.specs.Prelude.{◌≡◌, false};
+ghost use Rattle.clap.specs.Words.{found_of, rows_of, rule_of};
+ghost use Rattle.njh_arguments.specs.Arguments.{IsFlag, flag_rule, spool_rule, tables_rule};
+
+use clap::{Arg, ArgAction, ArgMatches};
+use std::alloc::Global;
+
+/// `--tables F`.
+pub(crate) fn tables_option<'a>(alloc: Global) -> Arg<'a>
+    ensures rule { rule_of result ≡ tables_rule }
+    ensures local { result.global ≡ false }
+{
+    Arg::new(alloc, "tables")
+        .long("tables")
+        .value_name("F")
+        .help("The table file; replay has built-in tables where none is named")
+        .action(ArgAction::Set)
+}
+
+/// `--spool FILE`.
+pub(crate) fn spool_option<'a>(alloc: Global, help: &'a str) -> Arg<'a>
+    ensures rule { rule_of result ≡ spool_rule }
+    ensures local { result.global ≡ false }
+{
+    Arg::new(alloc, "spool")
+        .long("spool")
+        .value_name("FILE")
+        .help(help)
+        .action(ArgAction::Set)
+}
+
+/// A flag, as `--quiet`.
+pub(crate) fn flag<'a>(alloc: Global, name: &'a str, help: &'a str) -> Arg<'a>
+    ensures rule { rule_of result ≡ flag_rule name.now }
+    ensures local { result.global ≡ false }
+{
+    Arg::new(alloc, name)
+        .long(name)
+        .help(help)
+        .action(ArgAction::SetTrue)
+}
+
+/// Whether a flag is set.
+pub(crate) fn is_set(options: &ArgMatches<'_>, flag: &str) -> bool
+    ensures { IsFlag flag.now (rows_of (found_of options.now)) result }
+{
+    match options.get_str(flag) {
+        Some(text) => text == "true",
+        None => false,
+    }
+}

@@ -1,0 +1,151 @@
+//! The options of `serve`.
+
+ghost use Rattle.std.specs.Prelude.{◌≡◌, codes, false, IfOk, IfErr};
+ghost use Rattle.clap.specs.Words.{app_of, first_of, found_of, new_app, rows_of, rule_of};
+ghost use Rattle.clap.specs.declared.builder.command.Command.TheViews.{out-Command};
+ghost use Rattle.njh_arguments.specs.Arguments.{AsksFor, CountsTurns, IsUnasked, ListensAt, bounded_serve_app};
+ghost use Rattle.njh_arguments.specs.Arguments.{listen_rule, listening_app, serve_app, turns_rule};
+
+use crate::arguments::Request;
+use crate::options::{flag, is_set, spool_option, tables_option};
+use clap::builder::ValueParser;
+use clap::{Arg, ArgAction, ArgMatches, Command};
+use std::alloc::{AllocError, Global};
+use std::net::IpAddr;
+
+/// What the help of `serve` ends with.
+const SERVE_EXAMPLE: &str =
+    "It looks at the table file once a second for routes that changed, and writes its log to standard error.
+
+Example:
+  njehub serve --tables tables.toml 2>> njehub.log";
+
+/// Why a parse asks for nothing.
+#[derive(Clone, Copy)]
+pub(crate) enum Unasked<'a> {
+    /// It has no subcommand, or lacks what `clap` sees to.
+    Missing,
+    /// Nothing is named that is to be checked.
+    Nothing,
+    /// The text of `--listen` is no address.
+    NoAddress(&'a str),
+}
+
+/// What the options of `serve` ask for.
+pub(crate) fn served_in<'a>(options: &ArgMatches<'a>) -> Result<Request<'a>, Unasked<'a>>
+    ensures asked { IfOk result (AsksFor (codes "serve", rows_of (found_of options.now))) }
+    ensures refused { IfErr result (IsUnasked (rows_of (found_of options.now))) }
+{
+    let Some(tables) = options.get_str("tables") else {
+        return Err(Unasked::Missing);
+    };
+    let turns = turns_in(options)?;
+    let listen = address_in(options)?;
+    Ok(Request::Serve {
+        tables,
+        turns,
+        listen,
+        quiet: is_set(options, "quiet"),
+        spool: options.get_str("spool"),
+    })
+}
+
+/// How many turns there are to be, if they end.
+fn turns_in<'a>(options: &ArgMatches<'a>) -> Result<Option<u32>, Unasked<'a>>
+    ensures asked { IfOk result (CountsTurns (first_of (codes "turns") (rows_of (found_of options.now)))) }
+    ensures refused { IfErr result (IsUnasked (rows_of (found_of options.now))) }
+{
+    match options.get_str("turns") {
+        Some(text) => match text.parse::<u32>() {
+            Ok(turns) => Ok(Some(turns)),
+            Err(_) => Err(Unasked::Missing),
+        },
+        None => Ok(None),
+    }
+}
+
+/// Where lines are to listen.
+fn address_in<'a>(options: &ArgMatches<'a>) -> Result<IpAddr, Unasked<'a>>
+    ensures asked { IfOk result (λ listen. ListensAt
+        (first_of (codes "listen") (rows_of (found_of options.now))) listen) }
+    ensures refused { IfErr result (IsUnasked (rows_of (found_of options.now))) }
+{
+    match options.get_str("listen") {
+        Some(text) => match text.parse::<IpAddr>() {
+            Ok(address) => Ok(address),
+            Err(_) => Err(Unasked::NoAddress(text)),
+        },
+        None => Err(Unasked::Missing),
+    }
+}
+
+/// `serve`, with its options.
+pub(crate) fn serve_command<'a>(alloc: Global) -> Result<Command<'a>, AllocError>
+    ensures app { IfOk result (λ command. app_of command ≡ serve_app) }
+    ensures local { IfOk result (λ command. (out-Command command).has_globals ≡ false) }
+{
+    let listening = listening_command(alloc)?;
+    let spool = spool_option(
+        alloc,
+        "Keeps whole files in this file, and opens the hub with those that are there",
+    );
+    listening.arg(spool)
+}
+
+/// `serve`, with its tables, turns, address and quiet.
+fn listening_command<'a>(alloc: Global) -> Result<Command<'a>, AllocError>
+    ensures app { IfOk result (λ command. app_of command ≡ listening_app) }
+    ensures local { IfOk result (λ command. (out-Command command).has_globals ≡ false) }
+{
+    let bounded = bounded_command(alloc)?;
+    bounded
+        .arg(listen_option(alloc))?
+        .arg(flag(alloc, "quiet", "No log on standard error"))
+}
+
+/// `serve`, with its tables and turns.
+fn bounded_command<'a>(alloc: Global) -> Result<Command<'a>, AllocError>
+    ensures app { IfOk result (λ command. app_of command ≡ bounded_serve_app) }
+    ensures local { IfOk result (λ command. (out-Command command).has_globals ≡ false) }
+{
+    let tables = tables_option(alloc).required(true);
+    bare_serve(alloc).arg(tables)?.arg(turns_option(alloc))
+}
+
+/// `serve` without its options.
+fn bare_serve<'a>(alloc: Global) -> Command<'a>
+    ensures app { app_of result ≡ new_app (codes "serve") }
+    ensures local { (out-Command result).has_globals ≡ false }
+{
+    Command::new(alloc, "serve")
+        .about(
+            "Serves the lines that have a port or a peer on sockets of this machine, until it is ended",
+        )
+        .after_help(SERVE_EXAMPLE)
+}
+
+/// `--turns N`.
+fn turns_option<'a>(alloc: Global) -> Arg<'a>
+    ensures rule { rule_of result ≡ turns_rule }
+    ensures local { result.global ≡ false }
+{
+    Arg::new(alloc, "turns")
+        .long("turns")
+        .value_name("N")
+        .help("Ends after so many turns, 1 to 1000000; in each turn each line is read once at most")
+        .action(ArgAction::Set)
+        .value_parser(ValueParser::Signed(1, 1_000_000))
+}
+
+/// `--listen ADDRESS`.
+fn listen_option<'a>(alloc: Global) -> Arg<'a>
+    ensures rule { rule_of result ≡ listen_rule }
+    ensures local { result.global ≡ false }
+{
+    Arg::new(alloc, "listen")
+        .long("listen")
+        .value_name("ADDRESS")
+        .help("The IP address on whose ports the lines listen")
+        .action(ArgAction::Set)
+        .default_value("127.0.0.1")
+}

@@ -1,0 +1,110 @@
+//! Does what a request asks for.
+
+ghost use Rattle.std.specs.Prelude.{◌≡◌, ◌⊎◌, option_map, Err, Some, None, IfErr, OnOk, OnErr};
+ghost use Rattle.std.specs.Io.KnownBytes.{Keeps};
+ghost use Rattle.njh_encode.specs.declared.fault.EncodeEnd.TheVariants.{BadLine};
+ghost use Rattle.njh_encode.specs.declared.fault.EncodeFault.{EncodeFault};
+ghost use Rattle.njh_program.specs.ProgramOutcome.{AreServedOf, Fails, FindsFault, HasBadWords, IsDone, IsDoneInPart};
+ghost use Rattle.njh_program.specs.ProgramOutcome.{IsFilesEnd};
+ghost use Rattle.njh_files.specs.Printed.{IsPrinted, IsPrintedInPart};
+ghost use Rattle.njh_subcommands.specs.Status.{ComesFirst};
+ghost use Rattle.njh_subcommands.specs.TableBytes.{AreRefused};
+
+use crate::service::{Options, serve_file};
+use crate::spooling::Spooling;
+use njh_arguments::Request;
+use njh_files::Asked;
+use njh_service::Log;
+use njh_subcommands::{Failure, perform};
+use std::io::{Read, Write};
+use std::net::Net;
+use std::rt::{Clock, Files};
+
+/// Does what a request asks for. The log of a service goes to `log`.
+pub(crate) fn carry_out_request<
+    F: Files + Spooling + Net + Clock + AllocGlobal,
+    R: Read,
+    W: Write,
+    L: Write + Drop,
+>(rt: &F, request: Request<'_>, script: &mut R, out: &mut W, log: L) -> Result<(), Failure>
+    ensures done { OnOk result (IsDone request.entry (R.remaining script.old) (W.contents out.old)
+        (W.contents out.new)) }
+    ensures failed { IfErr result (Fails request.entry (R.remaining script.old)) }
+    ensures bad { (fault : EncodeFault) → result ≡ Err (Failure.Encode (BadLine fault)) → HasBadWords request.entry fault
+        (R.remaining script.old) (W.contents out.old) (W.contents out.new) }
+    ensures found { result ≡ Err Failure.Found → FindsFault request.entry (W.contents out.old) (W.contents out.new) }
+    ensures begun { OnErr result (Keeps (W.contents out.old) (W.contents out.new)
+        ⊎ IsDoneInPart request.entry (R.remaining script.old) (W.contents out.old) (W.contents out.new)) }
+    ensures silent { IfErr result (λ failure. ComesFirst failure → Keeps (W.contents out.old) (W.contents out.new)) }
+{
+    match request {
+        Request::Task(task) => {
+            drop(log);
+            perform(rt, task, script, out)
+        }
+        Request::Files {
+            spool,
+            customer,
+            file,
+            number,
+            raw,
+        } => {
+            drop(log);
+            let asked = Asked {
+                customer,
+                file,
+                number,
+                raw,
+            };
+            print_files(rt, spool, &asked, out)
+        }
+        Request::Serve {
+            tables,
+            turns,
+            listen,
+            quiet,
+            spool,
+        } => {
+            let log = Log::new(if quiet { None } else { Some(log) });
+            serve_lines(rt, tables, spool, Options { turns, listen }, log)
+        }
+    }
+}
+
+/// Prints what is asked for of the spool file at a path.
+fn print_files<F: Spooling, W: Write>(
+    rt: &F,
+    path: &str,
+    asked: &Asked<'_>,
+    out: &mut W,
+) -> Result<(), Failure>
+    ensures done { OnOk result (IsPrinted (option_map (λ c. c.now) asked.now.customer) asked.now.file asked.now.raw
+        (W.contents out.old) (W.contents out.new)) }
+    ensures begun { OnErr result (Keeps (W.contents out.old) (W.contents out.new)
+        ⊎ IsPrintedInPart (option_map (λ c. c.now) asked.now.customer) asked.now.file asked.now.raw
+        (W.contents out.old) (W.contents out.new)) }
+    ensures failed { IfErr result IsFilesEnd }
+    ensures silent { IfErr result (λ failure. ComesFirst failure → Keeps (W.contents out.old) (W.contents out.new)) }
+{
+    match rt.print_spool(path, asked, out) {
+        Ok(()) => Ok(()),
+        Err(fault) => Err(Failure::Files(fault)),
+    }
+}
+
+/// Serves the lines of a table file, and keeps whole files in a spool file where one is named.
+fn serve_lines<F: Files + Spooling + Net + Clock + AllocGlobal, L: Write + Drop>(
+    rt: &F,
+    path: &str,
+    spool: Option<&str>,
+    options: Options,
+    log: Log<L>,
+) -> Result<(), Failure>
+    ensures served { OnOk result (AreServedOf path.now options.turns spool.entry) }
+    ensures refused { IfErr result (λ failure. AreRefused (Some path.now) failure ⊎ IsFilesEnd failure) }
+{
+    match spool {
+        Some(spool) => rt.serve_spool(path, spool, options, log),
+        None => serve_file(rt, path, options, log),
+    }
+}

@@ -1,0 +1,162 @@
+//! Serves the lines of a table file, and keeps whole files in a spool file.
+
+ghost use Rattle.std.specs.Prelude.{◌≡◌, ◌⊎◌, Some, OnOk, IfErr};
+ghost use Rattle.njh_program.specs.ProgramOutcome.{AreServedOf, IsFilesEnd};
+ghost use Rattle.njh_store.specs.Origin.{StandsAsFound};
+ghost use Rattle.njh_subcommands.specs.TableBytes.{AreRefused};
+
+use crate::service::{Options, serve_over};
+use crate::start_log::log_failure;
+use njh_files::{FilesFault, SpoolFiles};
+use njh_kept::SpoolKeeper;
+use njh_serve::utc_seconds;
+use njh_service::Log;
+use njh_store::{Origin, Store};
+use njh_subcommands::{Failure, tables_of};
+use std::alloc::Global;
+use std::fmt;
+use std::io::Write;
+use std::net::Net;
+use std::rt::{Clock, Files};
+
+/// Serves the lines of a table file, and keeps whole files in a spool file. Where the table file can't be read, or its
+/// lines can't be served, the log says why. The table file's fault comes before that of the spool file.
+pub(crate) fn serve_spool_file<F: Files + SpoolFiles + Net + Clock + AllocGlobal, L: Write + Drop>(
+    rt: &F,
+    path: &str,
+    spool: &str,
+    options: Options,
+    mut log: Log<L>,
+) -> Result<(), Failure>
+    ensures served { OnOk result (AreServedOf path.now options.turns (Some spool.now)) }
+    ensures refused { IfErr result (λ failure. AreRefused (Some path.now) failure ⊎ IsFilesEnd failure) }
+{
+    match rt.open_spool(spool) {
+        Ok(store) => serve_kept(rt, path, spool, options, log, store),
+        Err(fault) => {
+            let failure = first_failure(rt, path, fault);
+            log_failure(rt, path, &mut log, &failure);
+            Err(failure)
+        }
+    }
+}
+
+/// Serves the lines of a table file, and keeps whole files in a spool file that is open.
+fn serve_kept<F: Files + Net + Clock + AllocGlobal, L: Write + Drop, S: Origin + Drop>(
+    rt: &F,
+    path: &str,
+    spool: &str,
+    options: Options,
+    mut log: Log<L>,
+    store: Store<S>,
+) -> Result<(), Failure>
+    requires { StandsAsFound S.Store S.found store }
+    ensures served { OnOk result (AreServedOf path.now options.turns (Some spool.now)) }
+    ensures refused { IfErr result (λ failure. AreRefused (Some path.now) failure ⊎ IsFilesEnd failure) }
+{
+    let mut keeper = SpoolKeeper::new(rt, rt.alloc(), store);
+    match log_strangers(rt, path, spool, &mut keeper, &mut log) {
+        Ok(()) => {}
+        Err(failure) => {
+            drop(keeper);
+            drop(log);
+            return Err(failure);
+        }
+    }
+    let served = serve_over(rt, path, options, log, &mut keeper);
+    let refusal = refusal_of(rt.alloc(), &keeper);
+    drop(keeper);
+    match served {
+        Ok(()) => {
+            drop(refusal);
+            Ok(())
+        }
+        Err(failure) => Err(or_refusal(failure, refusal)),
+    }
+}
+
+/// Logs how many whole files of a spool file are of customers that the table file doesn't have, where there are any.
+fn log_strangers<F: Files + Clock + AllocGlobal, R: Clock, S: Origin + Drop, L: Write + Drop>(
+    rt: &F,
+    path: &str,
+    spool: &str,
+    keeper: &mut SpoolKeeper<'_, R, S>,
+    log: &mut Log<L>,
+) -> Result<(), Failure>
+    ensures { IfErr result IsFilesEnd }
+{
+    let Ok(tables) = tables_of(rt, Some(path)) else {
+        return Ok(());
+    };
+    let strangers = keeper.strangers(rt.alloc(), &tables);
+    drop(tables);
+    match strangers {
+        Ok(0) => Ok(()),
+        Ok(count) => {
+            log.write(utc_seconds(rt), &Strangers { spool, count });
+            Ok(())
+        }
+        Err(error) => Err(Failure::Files(FilesFault::from(error))),
+    }
+}
+
+/// The table file's failure, where it has one, and else that of the spool file.
+fn first_failure<F: Files + AllocGlobal>(rt: &F, path: &str, fault: FilesFault) -> Failure
+    ensures { AreRefused (Some path.now) result ⊎ IsFilesEnd result }
+{
+    match tables_of(rt, Some(path)) {
+        Ok(tables) => {
+            drop(tables);
+            Failure::Files(fault)
+        }
+        Err(failure) => {
+            drop(fault);
+            failure
+        }
+    }
+}
+
+/// What is told of a whole file that couldn't be put back; none where there is no such file, or no memory.
+fn refusal_of<R: Clock, S: Origin + Drop>(
+    alloc: Global,
+    keeper: &SpoolKeeper<'_, R, S>,
+) -> Option<String> {
+    match keeper.refused() {
+        Some(refused) => {
+            let fault = refused.fault;
+            let customer = refused.file.file.customer.as_str();
+            format!(in alloc; "{fault}: customer {customer}").ok()
+        }
+        None => None,
+    }
+}
+
+/// Why lines weren't served: a whole file that couldn't be put back, where there is one.
+fn or_refusal(failure: Failure, refusal: Option<String>) -> Failure
+    ensures { (result ≡ failure) ⊎ IsFilesEnd result }
+{
+    match refusal {
+        Some(why) => {
+            drop(failure);
+            Failure::Files(FilesFault::Refused(why))
+        }
+        None => failure,
+    }
+}
+
+/// Whole files of a spool file that are of customers which the table file doesn't have.
+#[derive(Clone, Copy, Drop)]
+struct Strangers<'a> {
+    spool: &'a str,
+    count: u32,
+}
+
+impl fmt::Display for Strangers<'_> {
+    fn fmt<W: fmt::Write>(&self, f: &mut fmt::Formatter<W>) -> fmt::Result {
+        write!(
+            f,
+            "spool file {}: {} files of customers that the table file doesn't have stay there",
+            self.spool, self.count
+        )
+    }
+}

@@ -1,0 +1,91 @@
+//! What is done with spool files.
+
+ghost use Rattle.std.specs.Prelude.{◌≡◌, ◌⊎◌, option_map, Some, IfErr, OnErr, OnOk};
+ghost use Rattle.std.specs.Io.KnownBytes.{Keeps};
+ghost use Rattle.njh_files.specs.Faults.{IsOfSpool};
+ghost use Rattle.njh_files.specs.Printed.{IsPrinted, IsPrintedInPart};
+ghost use Rattle.njh_program.specs.ProgramOutcome.{AreServedOf, IsFilesEnd};
+ghost use Rattle.njh_subcommands.specs.TableBytes.{AreRefused};
+
+use crate::service::Options;
+use crate::spool_service::serve_spool_file;
+use njh_files::{Asked, FilesFault, SpoolFiles, print};
+use njh_service::Log;
+use njh_subcommands::Failure;
+use std::io::Write;
+use std::net::Net;
+use std::rt::{Clock, Files};
+
+/// What serves over spool files and prints them: whatever opens them does. Which type an open one has is hidden here,
+/// since a bound that names it costs each function above.
+pub trait Spooling {
+    /// Prints what is asked for of the spool file at a path, which has to be there.
+    fn print_spool<W: Write>(
+        &self,
+        spool: &str,
+        asked: &Asked<'_>,
+        out: &mut W,
+    ) -> Result<(), FilesFault>
+        ensures done { OnOk result (IsPrinted (option_map (λ c. c.now) asked.now.customer) asked.now.file asked.now.raw
+            (W.contents out.old) (W.contents out.new)) }
+        ensures begun { OnErr result (Keeps (W.contents out.old) (W.contents out.new)
+            ⊎ IsPrintedInPart (option_map (λ c. c.now) asked.now.customer) asked.now.file asked.now.raw
+            (W.contents out.old) (W.contents out.new)) }
+        ensures silent { IfErr result (λ fault. Keeps (W.contents out.old) (W.contents out.new) ⊎ IsOfSpool fault) };
+
+    /// Serves the lines of a table file, and keeps whole files in the spool file at a path, which is made where it isn't
+    /// there. Where the table file can't be read, or its lines can't be served, the log says why.
+    fn serve_spool<L: Write + Drop>(
+        &self,
+        path: &str,
+        spool: &str,
+        options: Options,
+        log: Log<L>,
+    ) -> Result<(), Failure>
+        ensures served { OnOk result (AreServedOf path.now options.turns (Some spool.now)) }
+        ensures refused { IfErr result (λ failure. AreRefused (Some path.now) failure ⊎ IsFilesEnd failure) };
+}
+
+impl<F: SpoolFiles + Files + Net + Clock + AllocGlobal> Spooling for F {
+    fn print_spool<W: Write>(
+        &self,
+        spool: &str,
+        asked: &Asked<'_>,
+        out: &mut W,
+    ) -> Result<(), FilesFault> {
+        print_spool_file(self, spool, asked, out)
+    }
+
+    fn serve_spool<L: Write + Drop>(
+        &self,
+        path: &str,
+        spool: &str,
+        options: Options,
+        log: Log<L>,
+    ) -> Result<(), Failure> {
+        serve_spool_file(self, path, spool, options, log)
+    }
+}
+
+/// Prints what is asked for of the spool file at a path, which has to be there.
+fn print_spool_file<F: SpoolFiles + AllocGlobal, W: Write>(
+    rt: &F,
+    path: &str,
+    asked: &Asked<'_>,
+    out: &mut W,
+) -> Result<(), FilesFault>
+    ensures done { OnOk result (IsPrinted (option_map (λ c. c.now) asked.now.customer) asked.now.file asked.now.raw
+        (W.contents out.old) (W.contents out.new)) }
+    ensures begun { OnErr result (Keeps (W.contents out.old) (W.contents out.new)
+        ⊎ IsPrintedInPart (option_map (λ c. c.now) asked.now.customer) asked.now.file asked.now.raw
+        (W.contents out.old) (W.contents out.new)) }
+    ensures silent { IfErr result (λ fault. Keeps (W.contents out.old) (W.contents out.new) ⊎ IsOfSpool fault) }
+{
+    let mut store = match rt.find_spool(path) {
+        Ok(store) => store,
+        Err(fault) => return Err(fault),
+    };
+    let printed = print(rt.alloc(), &mut store, asked, out);
+    drop(store);
+    printed
+}

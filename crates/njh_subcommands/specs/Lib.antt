@@ -1,0 +1,5 @@
+pub mod Checks
+pub mod Status
+pub mod TableBytes
+pub mod TableChecks
+pub mod Tasks
