@@ -8,6 +8,8 @@
 #[cfg(test)]
 mod dialling_tests;
 #[cfg(test)]
+mod endpoint_tests;
+#[cfg(test)]
 mod group_tests;
 #[cfg(test)]
 mod joined_tests;

@@ -1,5 +1,0 @@
-//! Tests of commands.
-
-mod calls;
-mod command_tests;
-mod playing;

@@ -1,0 +1,50 @@
+//! Which lines of tables are served.
+
+use njh_serve::{Site, endpoints_of};
+use njh_table::{LineId, Tables};
+use std::alloc::Global;
+use std::process::Abort;
+use std::test::Fail;
+
+/// Two customers with two lines each, of which one has a port.
+const TABLES: &str = r#"
+capacity = 200
+[[customer]]
+name = "ACME"
+hub = "BUREAU"
+quota = 100
+files = 8
+line = [
+  { name = "a1", node = "LYON", role = "answer", block = 1024, streams = 4, port = 2 },
+  { name = "a2", node = "METZ", role = "answer", block = 1024, streams = 4 },
+]
+[[customer]]
+name = "BOLT"
+hub = "BUREAU"
+quota = 100
+files = 8
+line = [
+  { name = "b1", node = "LYON", role = "answer", block = 1024, streams = 4 },
+  { name = "b2", node = "PARIS", role = "answer", block = 1024, streams = 4, port = 7 },
+]
+"#;
+
+/// The lines that have a port are served, in their order, each with its own.
+#[test]
+fn lines_with_ports(rt: HostRuntime) -> Result<(), Fail> {
+    let tables = Tables::read(rt.alloc(), TABLES)?;
+    look(&rt, rt.alloc(), &tables)
+}
+
+fn look<R: Abort>(rt: &R, alloc: Global, tables: &Tables) -> Result<(), Fail> {
+    let endpoints = endpoints_of(alloc, tables)?;
+    assert_eq!(rt; endpoints.len(), 2);
+    let (first, second) = (endpoints[0], endpoints[1]);
+    let (customer, number) = (0, 0);
+    assert_eq!(rt; first.line, LineId { customer, number });
+    assert!(rt; matches!(first.site, Site::Port(2)));
+    let (customer, number) = (1, 1);
+    assert_eq!(rt; second.line, LineId { customer, number });
+    assert!(rt; matches!(second.site, Site::Port(7)));
+    Ok(())
+}
