@@ -3,6 +3,7 @@ pub mod ListLaws
 pub mod Loops
 pub mod Meaning
 pub mod NewTables
+pub mod OpeningLaws
 pub mod ReadingLaws
 pub mod Rows
 pub mod Runs

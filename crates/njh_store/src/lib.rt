@@ -1,6 +1,7 @@
 //! Customers' whole files in a SQLite file.
 #![tactic(auto)]
 
+mod files;
 mod kept;
 mod laws;
 mod making;

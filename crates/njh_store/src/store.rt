@@ -1,34 +1,20 @@
 //! A spool that outlives the program.
 
-ghost use Rattle.std.specs.Prelude.{◌≡◌, ◌≢◌, ◌⊎◌, ◌<◌, ◌≤◌, ◌^◌, ℕ, List, true, false, map, IfOk, IfErr, OnOk, OnErr};
-ghost use Rattle.std.specs.Prelude.{Err, IsTrue};
+ghost use Rattle.std.specs.Prelude.{◌≡◌, ◌<◌, ◌≤◌, ◌^◌, true, false, map, IfOk, IsTrue, OnOk, OnErr};
 ghost use Rattle.sqlite.specs.State.{HasCleanDisk, Survives};
 ghost use Rattle.sqlite.specs.Held.{state};
-ghost use Rattle.sqlite.specs.Files.{file_state, HoldsDatabase};
-ghost use Rattle.sqlite.specs.WalFiles.{image_at, outcomes};
-ghost use Rattle.sqlite_wal.specs.Reads.{AreClean};
-ghost use Rattle.sqlite_store.specs.FileStore as files;
 ghost use Rattle.sqlite_trees.specs.View.{IsClean};
-ghost use Rattle.sqlite.specs.Recovery.{Image};
-ghost use Rattle.sqlite.specs.Tree.{Trees};
-ghost use Rattle.njh_store.specs.Reopened.{OpensFrom};
-ghost use Rattle.njh_store.specs.Origin.{IsFoundIn};
 ghost use Rattle.njh_store.specs.Kept.{Spool, Holds, file_of, record_of, with_file, with_changed, with_record};
 ghost use Rattle.njh_store.specs.Kept.{without_file, without_records, whole_of, kept, entry_of, contents, contents_of};
 ghost use Rattle.njh_store.specs.Kept.{records_between};
-ghost use Rattle.njh_store.specs.Standing.{Stands};
 ghost use Rattle.njh_store.specs.Shelf.{shown, IsUsable};
-ghost use Rattle.njh_store.specs.Tables.{spool_schema};
-ghost use Rattle.njh_store.specs.Steps.{Begins, Changes, Commits, IsIdle, Stays};
+ghost use Rattle.njh_store.specs.Steps.{Begins, Changes, Commits, Stays};
 
 use crate::kept::{KeptFile, KeptRecord, StoredFile, StoredRecord, WholeFile};
-use crate::opening::{OpenFault, is_live, prepare};
 use crate::{reads, statements};
-use sqlite::{Alter, Connection, Error, ErrorCode, FileFrom, FileStore, Files, Start};
-use sqlite_disk::Disk;
+use sqlite::{Alter, Connection, Error, ErrorCode};
 use std::alloc::Global;
 use std::marker::Model;
-use std::rt::HostRuntime;
 
 /// A spool file that is open. After a call that failed each further one fails: open the file again.
 pub struct Store<S: Alter> {
@@ -53,6 +39,15 @@ impl<S: Alter> Model for Store<S> {
 impl<S: Alter + Drop> Drop for Store<S> {
     fn drop(self) {
         let Store { conn: _, failed: _ } = self;
+    }
+}
+
+impl<S: Alter + Drop> Store<S> {
+    /// What a program that is killed leaves.
+    pub(crate) fn into_left(self) -> S
+        ensures { IsClean (S.Store.view result) → IsTrue (S.Store.view self.conn.store).is_numbered }
+    {
+        self.into_conn().into_store()
     }
 }
 
@@ -145,6 +140,25 @@ fn closed() -> Error {
 }
 
 impl<S: Alter> Store<S> {
+    /// A spool over a connection that has a spool's tables.
+    pub(crate) fn over(conn: Connection<S>) -> Store<S>
+        requires { HasCleanDisk (state S.Store conn) → IsUsable (state S.Store conn) }
+        ensures { (result.conn ≡ conn) × (result.failed ≡ false) }
+    {
+        Store {
+            conn,
+            failed: false,
+        }
+    }
+
+    /// The connection.
+    pub(crate) fn into_conn(self) -> Connection<S>
+        ensures { result ≡ self.conn }
+    {
+        let Store { conn, failed: _ } = self;
+        conn
+    }
+
     /// Adds a whole file under this number, in the order of arrival.
     pub fn add_file(&mut self, id: u32, file: &KeptFile) -> Result<(), Error>
         ensures changed { HasCleanDisk (shown S.Store self.new)
@@ -307,86 +321,5 @@ impl<S: Alter> Store<S> {
         let stored = reads::records(alloc, &mut self.conn, key, first, end);
         self.failed = stored.is_err();
         stored
-    }
-}
-
-impl<S: Start> Store<FileStore<FileFrom<S>>> {
-    /// Opens the spool file at the path, or makes it, with a sum on each page. `Database` says why the file can't be
-    /// opened: `CannotOpen`, `DatabaseBusy` where another program has it, `NotADatabase` or `DatabaseCorrupt` where it
-    /// is damaged.
-    pub fn open(
-        rt: &HostRuntime,
-        path: &str,
-        start: S,
-    ) -> Result<Store<FileStore<FileFrom<S>>>, OpenFault>
-        ensures opened { IfOk result (λ store. HasCleanDisk (file_state store.conn)
-            → OpensFrom (image_at S.Start) (file_state store.conn).now.trees) }
-        ensures idle { IfOk result (λ store. HasCleanDisk (file_state store.conn) → IsIdle (file_state store.conn)) }
-        ensures stands { IfOk result (λ store. HasCleanDisk (file_state store.conn) → (spool : Spool)
-            → IsFoundIn (image_at S.Start) spool
-            → Stands (record { now = spool; kept = spool }) (file_state store.conn)) }
-        ensures works { IfOk result (λ store. store.failed ≡ false) }
-    {
-        let mut conn = match Connection::open_from(rt, path, true, start) {
-            Ok(conn) => conn,
-            Err((error, _)) => return Err(OpenFault::Database(error)),
-        };
-        prepare(rt.alloc(), &mut conn)?;
-        is_live(&conn);
-        Ok(Store {
-            conn,
-            failed: false,
-        })
-    }
-}
-
-impl<S: Start> Store<FileStore<FileFrom<S>>> {
-    /// Opens the spool file and reads all whole files: those that were committed last before the program stopped.
-    pub fn restore(
-        rt: &HostRuntime,
-        path: &str,
-        start: S,
-    ) -> Result<(Store<FileStore<FileFrom<S>>>, Vec<WholeFile>), OpenFault>
-        ensures found { IfOk result (λ r. HasCleanDisk (file_state r.0.conn) → (spool : Spool) (db : Trees)
-            → HoldsDatabase (image_at S.Start) db → Holds spool db → map whole_of r.1.items ≡ kept spool) }
-        ensures stands { IfOk result (λ r. HasCleanDisk (file_state r.0.conn) → (spool : Spool) (db : Trees)
-            → HoldsDatabase (image_at S.Start) db → Holds spool db
-            → Stands (record { now = spool; kept = spool }) (file_state r.0.conn)) }
-    {
-        let mut store = Store::open(rt, path, start)?;
-        let whole = store.load(rt.alloc())?;
-        Ok((store, whole))
-    }
-}
-
-impl<D: Disk + Drop> Store<FileStore<D>> {
-    /// Stops as a program that is killed does: what waited is gone, and the files aren't closed.
-    pub fn stop(self) -> FileStore<D>
-        ensures found { IsClean (files.view result) → ((trees : Trees) → (file_state self.conn).may_leave trees
-            → ((spool : Spool) × Holds spool trees))
-            → (left : Image) → (files.state self.conn.store).may_leave left → (now : Trees) → OpensFrom left now
-            → ∥ ((trees : Trees) × (file_state self.conn).may_leave trees × (now ≡ trees)) ∥₁ }
-        ensures leaves { IsClean (files.view result) → ((trees : Trees) → (file_state self.conn).may_leave trees
-            → ((spool : Spool) × Holds spool trees))
-            → (left : Image) → (files.state self.conn.store).may_leave left → ∥ ((trees : Trees)
-            × (file_state self.conn).may_leave trees × HoldsDatabase left trees) ∥₁ }
-        ensures committed { IsClean (files.view result) → IsTrue (file_state self.conn).is_open → (spool : Spool)
-            → Holds spool (file_state self.conn).committed.trees
-            → (left : Image) → (files.state self.conn.store).may_leave left → (now : Trees) → OpensFrom left now
-            → Holds spool now }
-    {
-        let Store { conn, failed: _ } = self;
-        conn.into_store()
-    }
-
-    /// Leaves the last commit in the database file, and gives the files back. What waited is gone.
-    pub fn close(self) -> Result<Files<D>, (Error, FileStore<D>)>
-        ensures { IfOk result (λ files. AreClean D.Disk files.log files.db → (spool : Spool)
-            → Holds spool (file_state self.conn).committed.trees
-            → (left : Image) → outcomes D.Disk files.log files.db left → (now : Trees) → OpensFrom left now
-            → Holds spool now) }
-    {
-        let Store { conn, failed: _ } = self;
-        conn.close_files()
     }
 }

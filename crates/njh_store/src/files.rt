@@ -1,0 +1,152 @@
+//! A spool file is opened on a disk, and let go of.
+
+ghost use Rattle.std.specs.Prelude.{◌≡◌, false, map, IfOk, IsTrue};
+ghost use Rattle.sqlite.specs.State.{HasCleanDisk, Opens};
+ghost use Rattle.sqlite.specs.Held.{state};
+ghost use Rattle.sqlite.specs.Files.{file_state, HoldsDatabase, IsOpened};
+ghost use Rattle.sqlite.specs.Start.{FindsIn};
+ghost use Rattle.sqlite.specs.WalFiles.{image_at, outcomes};
+ghost use Rattle.sqlite_wal.specs.Reads.{AreClean};
+ghost use Rattle.sqlite_store.specs.FileStore as files;
+ghost use Rattle.sqlite_trees.specs.View.{IsClean};
+ghost use Rattle.sqlite.specs.Recovery.{Image};
+ghost use Rattle.sqlite.specs.Tree.{Trees};
+ghost use Rattle.njh_store.specs.Reopened.{BecomesSpool, IsLoaded, OpensFrom};
+ghost use Rattle.njh_store.specs.Origin.{IsFoundIn};
+ghost use Rattle.njh_store.specs.Kept.{Spool, Holds, whole_of, kept};
+ghost use Rattle.njh_store.specs.Standing.{Stands};
+ghost use Rattle.njh_store.specs.Shelf.{shown};
+ghost use Rattle.njh_store.specs.Steps.{IsIdle};
+
+use crate::kept::WholeFile;
+use crate::opening::{OpenFault, is_live, prepare};
+use crate::store::Store;
+use sqlite::{Alter, Connection, Error, FileFrom, FileStore, Files, Start};
+use sqlite_disk::Disk;
+use std::alloc::Global;
+use std::rt::HostRuntime;
+
+/// Connects to the database at the path, or makes it, with a sum on each page.
+fn connect<S: Start>(
+    rt: &HostRuntime,
+    path: &str,
+    start: S,
+) -> Result<Connection<FileStore<FileFrom<S>>>, Error>
+    ensures opened { IfOk result (λ conn. HasCleanDisk (file_state conn) → IsOpened conn) }
+    ensures found { IfOk result (λ conn. HasCleanDisk (file_state conn)
+        → FindsIn (image_at S.Start) (file_state conn)) }
+{
+    match Connection::open_from(rt, path, true, start) {
+        Ok(conn) => Ok(conn),
+        Err((error, left)) => {
+            drop(left);
+            Err(error)
+        }
+    }
+}
+
+/// The spool of a database that was just opened.
+fn spool_of<S: Alter + Drop>(alloc: Global, conn: Connection<S>) -> Result<Store<S>, OpenFault>
+    requires fresh { HasCleanDisk (state S.Store conn) → Opens (state S.Store conn) }
+    ensures becomes { IfOk result (λ store. BecomesSpool (state S.Store conn) (shown S.Store store)) }
+    ensures works { IfOk result (λ store. store.failed ≡ false) }
+{
+    let mut conn = conn;
+    match prepare(alloc, &mut conn) {
+        Ok(()) => {
+            is_live(&conn);
+            Ok(Store::over(conn))
+        }
+        Err(fault) => {
+            drop(conn);
+            Err(fault)
+        }
+    }
+}
+
+/// A spool with all its whole files.
+fn loaded<S: Alter + Drop>(
+    alloc: Global,
+    store: Store<S>,
+) -> Result<(Store<S>, Vec<WholeFile>), OpenFault>
+    ensures { IfOk result (λ r. IsLoaded (shown S.Store store) (shown S.Store r.0) (map whole_of r.1.items)) }
+{
+    let mut store = store;
+    match store.load(alloc) {
+        Ok(whole) => Ok((store, whole)),
+        Err(error) => {
+            drop(store);
+            Err(OpenFault::Database(error))
+        }
+    }
+}
+
+impl<S: Start> Store<FileStore<FileFrom<S>>> {
+    /// Opens the spool file at the path, or makes it, with a sum on each page. `Database` says why the file can't be
+    /// opened: `CannotOpen`, `DatabaseBusy` where another program has it, `NotADatabase` or `DatabaseCorrupt` where it
+    /// is damaged.
+    pub fn open(
+        rt: &HostRuntime,
+        path: &str,
+        start: S,
+    ) -> Result<Store<FileStore<FileFrom<S>>>, OpenFault>
+        ensures opened { IfOk result (λ store. HasCleanDisk (file_state store.conn)
+            → OpensFrom (image_at S.Start) (file_state store.conn).now.trees) }
+        ensures idle { IfOk result (λ store. HasCleanDisk (file_state store.conn) → IsIdle (file_state store.conn)) }
+        ensures stands { IfOk result (λ store. HasCleanDisk (file_state store.conn) → (spool : Spool)
+            → IsFoundIn (image_at S.Start) spool
+            → Stands (record { now = spool; kept = spool }) (file_state store.conn)) }
+        ensures works { IfOk result (λ store. store.failed ≡ false) }
+    {
+        let conn = connect(rt, path, start)?;
+        spool_of(rt.alloc(), conn)
+    }
+}
+
+impl<S: Start> Store<FileStore<FileFrom<S>>> {
+    /// Opens the spool file and reads all whole files: those that were committed last before the program stopped.
+    pub fn restore(
+        rt: &HostRuntime,
+        path: &str,
+        start: S,
+    ) -> Result<(Store<FileStore<FileFrom<S>>>, Vec<WholeFile>), OpenFault>
+        ensures found { IfOk result (λ r. HasCleanDisk (file_state r.0.conn) → (spool : Spool) (db : Trees)
+            → HoldsDatabase (image_at S.Start) db → Holds spool db → map whole_of r.1.items ≡ kept spool) }
+        ensures stands { IfOk result (λ r. HasCleanDisk (file_state r.0.conn) → (spool : Spool) (db : Trees)
+            → HoldsDatabase (image_at S.Start) db → Holds spool db
+            → Stands (record { now = spool; kept = spool }) (file_state r.0.conn)) }
+    {
+        let store = Store::open(rt, path, start)?;
+        loaded(rt.alloc(), store)
+    }
+}
+
+impl<D: Disk + Drop> Store<FileStore<D>> {
+    /// Stops as a program that is killed does: what waited is gone, and the files aren't closed.
+    pub fn stop(self) -> FileStore<D>
+        ensures found { IsClean (files.view result) → ((trees : Trees) → (file_state self.conn).may_leave trees
+            → ((spool : Spool) × Holds spool trees))
+            → (left : Image) → (files.state self.conn.store).may_leave left → (now : Trees) → OpensFrom left now
+            → ∥ ((trees : Trees) × (file_state self.conn).may_leave trees × (now ≡ trees)) ∥₁ }
+        ensures leaves { IsClean (files.view result) → ((trees : Trees) → (file_state self.conn).may_leave trees
+            → ((spool : Spool) × Holds spool trees))
+            → (left : Image) → (files.state self.conn.store).may_leave left → ∥ ((trees : Trees)
+            × (file_state self.conn).may_leave trees × HoldsDatabase left trees) ∥₁ }
+        ensures committed { IsClean (files.view result) → IsTrue (file_state self.conn).is_open → (spool : Spool)
+            → Holds spool (file_state self.conn).committed.trees
+            → (left : Image) → (files.state self.conn.store).may_leave left → (now : Trees) → OpensFrom left now
+            → Holds spool now }
+    {
+        self.into_left()
+    }
+
+    /// Leaves the last commit in the database file, and gives the files back. What waited is gone.
+    pub fn close(self) -> Result<Files<D>, (Error, FileStore<D>)>
+        ensures { IfOk result (λ files. AreClean D.Disk files.log files.db → (spool : Spool)
+            → Holds spool (file_state self.conn).committed.trees
+            → (left : Image) → outcomes D.Disk files.log files.db left → (now : Trees) → OpensFrom left now
+            → Holds spool now) }
+    {
+        self.into_conn().close_files()
+    }
+}
