@@ -1,7 +1,9 @@
-//! What bytes say, beside what they are to say.
+//! What is told, beside what is to be told.
 
 use njh_bisync::Deframer;
 use njh_decode::decode;
+use njh_encode::Encoder;
+use njh_trace::decode_trace;
 use std::alloc::Global;
 use std::process::Abort;
 use std::test::Fail;
@@ -42,4 +44,29 @@ pub fn check_records(
     let words = format!(in alloc; "1002 80 80 C0 {records} 00 1026")?;
     let lines = format!(in alloc; "block 0, on: messages\n  {told}\n")?;
     check_line(rt, alloc, words.as_str(), false, lines.as_str())
+}
+
+/// What a trace says.
+pub fn check_trace(
+    rt: &impl Abort,
+    alloc: Global,
+    trace: &str,
+    hex: bool,
+    told: &str,
+) -> Result<(), Fail> {
+    let mut out = Vec::new(alloc);
+    decode_trace(alloc, &mut trace.as_bytes(), &mut out, hex)?;
+    assert!(rt; out.as_slice() == told.as_bytes(), "{trace}");
+    Ok(())
+}
+
+/// What lines in words become.
+pub fn check_script(rt: &impl Abort, alloc: Global, lines: &[(&str, &str)]) -> Result<(), Fail> {
+    let mut encoder = Encoder::new(alloc);
+    for (words, wanted) in lines {
+        let mut script = Vec::new(alloc);
+        encoder.take_line(words, &mut script)?;
+        assert!(rt; script.as_slice() == wanted.as_bytes(), "{words}");
+    }
+    Ok(())
 }
