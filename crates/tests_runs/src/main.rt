@@ -1,61 +1,36 @@
-//! Tries the whole program and the hub on what is stored, and prints what they did; the file `stdout` has that, written
-//! by hand but for the counts of random runs and traffic.
+//! Tries the whole program on what is stored, and prints what came of it; the file `stdout` has that.
 //!
-//! First come the stored scripts, then damaged input, what runs have of one customer beside others, streams that fail,
-//! the steps of a hub, what is seen of it, new routes, the names of faults, and traffic at random. Last it is the
-//! program itself on its own arguments, whose tables are refused, and ends as the program ends then.
+//! Each line of the table of `data/README.md` is a run: the words of the command line, what the program is given to
+//! read, what it must print, and its status. Then each option that the program's help tells of is looked for in the man
+//! page. Last it is the program itself on its own arguments, whose tables are refused, and ends as the program ends
+//! then.
 #![tactic(auto)]
 
-mod bad_lines;
-mod customers;
-mod damage;
-mod devices;
-mod looks;
+mod likeness;
 mod man_page;
-mod new_routes;
-mod peers;
-mod random_events;
-mod random_runs;
+mod mishaps;
+mod program;
 mod registry;
-mod route_lines;
-mod scripts;
-mod second_lines;
-mod served;
-mod soak;
-mod steps;
+mod runs;
 mod streams;
+mod texts;
 
-use njh_files::SpoolFiles;
+use crate::program::{Program, WholeProgram};
 use njh_program::Failure;
 use std::alloc::Global;
-use std::net::Net;
+use std::io;
 use std::process::ExitCode;
-use std::rt::{Clock, Files};
+use std::rt::Files;
 
 /// Tries all but the end of the program.
-fn tried<R: Files + SpoolFiles + Net + Clock + Print + AllocGlobal>(rt: &R) -> Result<(), Failure> {
-    scripts::compare_all(rt)?;
-    damage::compare_all(rt)?;
-    devices::compare_all(rt)?;
-    customers::compare(rt)?;
-    random_runs::compare(rt)?;
-    streams::fail(rt)?;
-    steps::take(rt)?;
-    steps::fit(rt)?;
-    steps::keep(rt)?;
-    looks::look(rt)?;
-    served::serve(rt)?;
-    new_routes::refuse(rt)?;
-    route_lines::try_each(rt)?;
-    man_page::compare(rt)?;
-    bad_lines::say(rt)?;
-    steps::refuse(rt)?;
-    soak::run_all(rt)
+fn try_all<R: Files + Print + AllocGlobal, P: Program>(rt: &R, program: &P) -> io::Result<()> {
+    runs::compare_all(rt, program)?;
+    man_page::compare(rt, program)
 }
 
 fn main(rt: HostRuntime) -> ExitCode {
-    match tried(&rt) {
+    match try_all(&rt, &WholeProgram::new(&rt)) {
         Ok(()) => njh_program::run(&rt, &rt.stdout()),
-        Err(failure) => njh_program::end(Err(failure), &rt.stdout()),
+        Err(error) => njh_program::end(Err(Failure::from(error)), &rt.stdout()),
     }
 }

@@ -1,9 +1,8 @@
 //! The man page: each option that a subcommand's help tells of stands in it.
 
-use njh_files::SpoolFiles;
-use njh_program::{Failure, carry_out};
-use std::net::Net;
-use std::rt::{Clock, Files};
+use crate::program::Program;
+use crate::streams::{Calls, Run};
+use std::rt::Files;
 use std::{fs, io};
 
 /// The file with the page.
@@ -13,25 +12,25 @@ const PAGE: &str = "njehub.1";
 const NAMES: [&str; 6] = ["replay", "serve", "decode", "encode", "check", "files"];
 
 /// Says of each subcommand how many options the help has, and which of them the man page lacks.
-pub fn compare<R: Files + SpoolFiles + Net + Clock + Print + AllocGlobal>(
-    rt: &R,
-) -> Result<(), Failure> {
+pub fn compare<R: Files + Print + AllocGlobal, P: Program>(rt: &R, program: &P) -> io::Result<()> {
     let page = fs::read_to_string(rt, PAGE)?;
     for name in NAMES {
-        say_options(rt, page.as_str(), name)?;
+        let mut run = Run::new(rt.alloc(), &[], Calls::good(), Calls::good());
+        program.run(&["njehub", name, "--help"], &mut run)?;
+        say_options(rt, page.as_str(), name, run.refusal.as_str())?;
     }
     Ok(())
 }
 
 /// Says how many options the help of a subcommand has, and which of them the page lacks.
-fn say_options<R: Files + SpoolFiles + Net + Clock + Print + AllocGlobal>(
+fn say_options<R: Print + AllocGlobal>(
     rt: &R,
     page: &str,
     name: &str,
-) -> Result<(), Failure> {
-    let help = help_of(rt, name)?;
+    help: &str,
+) -> io::Result<()> {
     let mut options = 0u32;
-    for line in help.as_str().lines() {
+    for line in help.lines() {
         if let Some(option) = option_in(line) {
             options = options.saturating_add(1);
             // A hyphen of the page is written with a backslash.
@@ -41,21 +40,7 @@ fn say_options<R: Files + SpoolFiles + Net + Clock + Print + AllocGlobal>(
             }
         }
     }
-    println!(rt; "man page: {options} options of {name}")?;
-    Ok(())
-}
-
-/// The text of a subcommand's help.
-fn help_of<R: Files + SpoolFiles + Net + Clock + AllocGlobal>(
-    rt: &R,
-    name: &str,
-) -> Result<String, Failure> {
-    let mut out = Vec::new(rt.alloc());
-    let words = ["njehub", name, "--help"];
-    match carry_out(rt, &words, &mut io::empty(), &mut out, io::sink()) {
-        Ok(()) => Ok(String::new(rt.alloc())),
-        Err(failure) => Ok(failure.to_string(rt.alloc())?),
-    }
+    println!(rt; "man page: {options} options of {name}")
 }
 
 /// The name of the long option that a line of help begins with, if it does.

@@ -1,48 +1,53 @@
-//! The registry of the stored scripts: the table of `README.md` in `data`, a line for each script.
+//! The registry of the runs: the table of `README.md` in `data`, a line for each.
 
 use std::alloc::{AllocError, Global};
 
 /// The file with the table.
 pub const FILE: &str = "README.md";
 
-/// A script of the registry.
+/// A run of the registry.
 #[derive(Clone, Copy)]
 pub struct Entry<'a> {
-    /// Its name: `NAME.script` is the script, and `NAME.out` what is told of it.
+    /// Its name: `NAME.script` is what the program is given to read, and `NAME.out` what is told of it.
     pub name: &'a str,
-    /// Who plays it.
+    /// How it is tried.
     pub how: &'a str,
-    /// With what: the arguments of the program, or how many bytes the piece of its `CUT` has.
+    /// The arguments of the program.
     pub with: &'a str,
+    /// The status.
+    pub status: u8,
     /// What it is about.
     pub about: &'a str,
 }
 
-/// The script of a line of the table, if the line is one.
+/// The run of a line of the table, if the line is one.
 pub fn entry_of(line: &str) -> Option<Entry<'_>> {
     let cells = line.strip_prefix("| ")?.strip_suffix(" |")?;
     let (name, rest) = cells.split_once(" | ")?;
     let (how, rest) = rest.split_once(" | ")?;
-    let (with, about) = rest.split_once(" | ")?;
+    let (with, rest) = rest.split_once(" | ")?;
+    let (status, about) = rest.split_once(" | ")?;
+    let status = status.parse::<u8>().ok()?;
     Some(Entry {
         name,
         how,
         with,
+        status,
         about,
     })
 }
 
 impl<'a> Entry<'a> {
-    /// The arguments of the program, of which the first is the name.
-    pub fn arguments(&self, alloc: Global) -> Result<Vec<&'a str>, AllocError> {
-        let mut arguments = Vec::new(alloc);
-        arguments.push(self.name)?;
+    /// The words of the command line, of which the first is the name.
+    pub fn words(&self, alloc: Global) -> Result<Vec<&'a str>, AllocError> {
+        let mut words = Vec::new(alloc);
+        words.push(self.name)?;
         for word in self.with.split(' ') {
             if !word.is_empty() {
-                arguments.push(word)?;
+                words.push(word)?;
             }
         }
-        Ok(arguments)
+        Ok(words)
     }
 
     /// Whether the script is about this: where it begins with a comment, that begins so.

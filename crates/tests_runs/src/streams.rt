@@ -1,116 +1,167 @@
-//! Streams that fail, and the limit of a script.
+//! The streams of a run, in memory; one of their calls may go amiss.
 
-use njh_program::Failure;
-use njh_replay::replay;
-use njh_table::Tables;
+ghost use Rattle.std.specs.Prelude.{◌≤◌, IfOk};
+
+use std::alloc::{AllocError, Global};
 use std::io;
 use std::io::{ErrorKind, Read, Write};
 
-/// Contact on two lines, and what is printed of it.
-const CONTACTS: &[u8] = b"BYTES b1 012d\nBYTES a1 012d\n";
+/// How many bytes a read gives at most, where one call goes amiss.
+const PIECE: usize = 64;
 
-const REPLIES: &[u8] = b"b1 1070\na1 1070\n";
-
-/// Gives its bytes one by one, each after a read that was interrupted, and then fails.
-#[derive(Drop)]
-struct Broken<'a> {
-    left: &'a [u8],
-    is_interrupted: bool,
+/// What one call of a stream does.
+#[derive(Clone, Copy, PartialEq)]
+pub enum Mishap {
+    /// It fails.
+    Fails,
+    /// It moves one byte at most.
+    FallsShort,
+    /// It is interrupted before it moves a byte, and is to be asked again.
+    IsInterrupted,
 }
 
-impl Read for Broken<'_> {
-    fn read(&mut self, buf: &mut [u8]) -> io::Result<usize> {
-        self.is_interrupted = !self.is_interrupted;
-        if self.is_interrupted {
-            return Err(io::Error::from(ErrorKind::Interrupted));
+/// How many calls a stream had, and which of them goes amiss, counted from 1; none where it is 0.
+#[derive(Clone, Copy)]
+pub struct Calls {
+    pub had: u64,
+    pub bad: u64,
+    pub mishap: Mishap,
+}
+
+impl Calls {
+    /// Calls of which none goes amiss.
+    pub fn good() -> Calls {
+        Calls::with(0, Mishap::FallsShort)
+    }
+
+    /// Calls of which one goes amiss.
+    pub fn with(bad: u64, mishap: Mishap) -> Calls {
+        Calls {
+            had: 0,
+            bad,
+            mishap,
         }
-        match (self.left, buf) {
-            ([first, rest @ ..], [place, ..]) => {
-                *place = *first;
-                self.left = rest;
-                Ok(1)
-            }
-            _ => Err(io::Error::from(ErrorKind::BrokenPipe)),
+    }
+
+    /// Counts a call, and says how many of so many bytes it may move, if it doesn't fail.
+    fn take(&mut self, count: usize) -> io::Result<usize>
+        ensures { IfOk result (λ moved. moved ≤ count) }
+    {
+        self.had = self.had.saturating_add(1);
+        if self.had != self.bad {
+            return Ok(count);
+        }
+        match self.mishap {
+            Mishap::Fails => Err(io::Error::from(ErrorKind::BrokenPipe)),
+            Mishap::FallsShort => Ok(count.min(1)),
+            Mishap::IsInterrupted => Err(io::Error::from(ErrorKind::Interrupted)),
         }
     }
 }
 
-/// Takes so many bytes, three at most at once, and then fails; its flush fails where that is said.
+/// Gives a text in pieces.
 #[derive(Drop)]
-struct Limited {
-    taken: Vec<u8>,
-    room: usize,
-    can_flush: bool,
+pub struct Source<'a> {
+    left: &'a [u8],
+    pub calls: Calls,
 }
 
-impl Write for Limited {
+impl Read for Source<'_> {
+    fn read(&mut self, buf: &mut [u8]) -> io::Result<usize> {
+        let count = self.calls.take(buf.len().min(PIECE))?;
+        self.left.read(&mut buf[..count])
+    }
+}
+
+/// Keeps what is written.
+#[derive(Drop)]
+pub struct Drain {
+    pub taken: Vec<u8>,
+    pub calls: Calls,
+}
+
+impl Write for Drain {
     fn write(&mut self, buf: &[u8]) -> io::Result<usize> {
-        if self.room == 0 {
-            return Err(io::Error::from(ErrorKind::BrokenPipe));
-        }
-        let count = buf.len().min(self.room).min(3);
+        let count = self.calls.take(buf.len())?;
         self.taken.extend_from_slice(&buf[..count])?;
-        self.room -= count;
         Ok(count)
     }
 
     fn flush(&mut self) -> io::Result<()> {
-        if self.can_flush {
-            Ok(())
-        } else {
-            Err(io::Error::from(ErrorKind::BrokenPipe))
+        match self.calls.mishap {
+            Mishap::Fails | Mishap::FallsShort => {
+                self.calls.take(0)?;
+            }
+            // Reads and writes alone are asked again.
+            Mishap::IsInterrupted => {}
+        }
+        Ok(())
+    }
+}
+
+/// A log in memory.
+#[derive(Drop)]
+pub struct Log<'a> {
+    pub bytes: &'a mut Vec<u8>,
+}
+
+impl Write for Log<'_> {
+    fn write(&mut self, buf: &[u8]) -> io::Result<usize> {
+        self.bytes.extend_from_slice(buf)?;
+        Ok(buf.len())
+    }
+
+    fn flush(&mut self) -> io::Result<()> {
+        Ok(())
+    }
+}
+
+/// What a run of the program is given to read, and what it says.
+#[derive(Drop)]
+pub struct Run<'a> {
+    pub source: Source<'a>,
+    pub drain: Drain,
+    /// The log of a service.
+    pub logged: Vec<u8>,
+    /// The line of its failure, if it has one.
+    pub line: String,
+    /// What `clap` says of arguments that are refused, or where help is asked for.
+    pub refusal: String,
+}
+
+impl<'a> Run<'a> {
+    /// A run over a script, with what is known of the calls of its reader and of its writer.
+    pub fn new(alloc: Global, script: &'a [u8], reads: Calls, writes: Calls) -> Run<'a> {
+        Run {
+            source: Source {
+                left: script,
+                calls: reads,
+            },
+            drain: Drain {
+                taken: Vec::new(alloc),
+                calls: writes,
+            },
+            logged: Vec::new(alloc),
+            line: String::new(alloc),
+            refusal: String::new(alloc),
         }
     }
-}
 
-/// Says how replays end over streams that fail, and over scripts of the greatest length and longer ones.
-pub fn fail<R: Print + AllocGlobal>(rt: &R) -> Result<(), Failure> {
-    let mut script = Broken {
-        left: CONTACTS,
-        is_interrupted: false,
-    };
-    replay_to(rt, "a read fails", &mut script, 16, true)?;
-    replay_to(rt, "no write", &mut { CONTACTS }, 0, true)?;
-    replay_to(rt, "one byte", &mut { CONTACTS }, 1, true)?;
-    replay_to(rt, "ten bytes", &mut { CONTACTS }, 10, true)?;
-    replay_to(rt, "all bytes", &mut { CONTACTS }, 16, true)?;
-    replay_to(rt, "a flush fails", &mut { CONTACTS }, 16, false)?;
-    let limit = 1_048_576;
-    replay_to(rt, "a comment", &mut io::repeat(b'#').take(limit), 16, true)?;
-    replay_to(rt, "blanks", &mut io::repeat(b' ').take(limit), 16, true)?;
-    replay_to(
-        rt,
-        "a blank more",
-        &mut io::repeat(b' ').take(limit + 1),
-        16,
-        true,
-    )
-}
-
-/// Says how a replay ends that has so much room for what it prints, and whether it printed a beginning of the replies.
-fn replay_to<R: Print + AllocGlobal, S: Read>(
-    rt: &R,
-    what: &str,
-    script: &mut S,
-    room: usize,
-    can_flush: bool,
-) -> Result<(), Failure> {
-    let alloc = rt.alloc();
-    let mut out = Limited {
-        taken: Vec::new(alloc),
-        room,
-        can_flush,
-    };
-    let ended = replay(alloc, Tables::base(alloc)?, script, &mut out);
-    let kind = if REPLIES.starts_with(out.taken.as_slice()) {
-        "bytes of the replies"
-    } else {
-        "other bytes"
-    };
-    let count = out.taken.len();
-    match ended {
-        Ok(()) => println!(rt; "{what}: {count} {kind}")?,
-        Err(fault) => println!(rt; "{what}: {fault} after {count} {kind}")?,
+    /// What was printed, then the log without its times, then the line of the failure.
+    pub fn told(&self, alloc: Global) -> Result<Vec<u8>, AllocError> {
+        let mut told = Vec::from_slice(alloc, &self.drain.taken)?;
+        for line in self.logged.split_inclusive(|byte| *byte == b'\n') {
+            told.extend_from_slice(without_time(line))?;
+        }
+        told.extend_from_slice(self.line.as_bytes())?;
+        Ok(told)
     }
-    Ok(())
+}
+
+/// A line of the log without its time.
+fn without_time(line: &[u8]) -> &[u8] {
+    match line.iter().position(|byte| *byte == b' ') {
+        Some(blank) => &line[blank + 1..],
+        None => line,
+    }
 }

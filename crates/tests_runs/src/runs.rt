@@ -1,0 +1,137 @@
+//! The stored runs: the program with each, and what it says.
+//!
+//! `NAME.script` is what it is given to read, and `NAME.out` what it prints, with the log without its times and the line
+//! of its failure at the end; a file of tables is named by the arguments. `NAME.words`, where it is there, is what
+//! `decode` prints of `NAME.out`.
+
+use crate::program::Program;
+use crate::registry::{self, Entry, entry_of};
+use crate::streams::{Calls, Run};
+use crate::texts::{first_difference, first_miscount};
+use crate::{likeness, mishaps};
+use std::alloc::Global;
+use std::rt::Files;
+use std::{fs, io};
+
+/// Says of each run whether it is as it is stored, and how many scripts `decode` and `encode` bring back.
+pub fn compare_all<R: Files + Print + AllocGlobal, P: Program>(
+    rt: &R,
+    program: &P,
+) -> io::Result<()> {
+    let table = fs::read_to_string(rt, registry::FILE)?;
+    let mut brought = 0u32;
+    for line in table.as_str().lines() {
+        if let Some(entry) = entry_of(line)
+            && compare(rt, program, entry)?
+        {
+            brought = brought.saturating_add(1);
+        }
+    }
+    println!(rt; "scripts that decode and encode bring back: {brought}")?;
+    Ok(())
+}
+
+/// A stored file.
+fn stored<R: Files + AllocGlobal>(rt: &R, name: &str, ending: &str) -> io::Result<Vec<u8>> {
+    let file = format!(in rt.alloc(); "{name}.{ending}")?;
+    fs::read(rt, file.as_str())
+}
+
+/// Says whether a run is as it is stored, and so with all that is asked of it; answers whether it is a script that
+/// `decode` and `encode` bring back.
+fn compare<R: Files + Print + AllocGlobal, P: Program>(
+    rt: &R,
+    program: &P,
+    entry: Entry<'_>,
+) -> io::Result<bool> {
+    let script = stored(rt, entry.name, "script")?;
+    let wanted = stored(rt, entry.name, "out")?;
+    let words = entry.words(rt.alloc())?;
+    compare_run(rt, program, entry, &words, &script, &wanted)?;
+    compare_words(rt, program, entry.name, &wanted)?;
+    if entry.how.ends_with("streams") {
+        mishaps::compare(rt, program, &words, &script, &wanted)?;
+    }
+    if let Some((_, other)) = entry.how.split_once("like ") {
+        likeness::compare(rt, entry.name, &wanted, &stored(rt, other, "out")?)?;
+    }
+    if entry.status == 0 && entry.with.starts_with("replay") {
+        return is_brought(rt, program, entry.name, &script);
+    }
+    Ok(false)
+}
+
+/// Says whether a run prints what is stored and ends with the status that is stored. The text for arguments that are
+/// refused is that of `clap`, and isn't compared.
+fn compare_run<R: Print + AllocGlobal, P: Program>(
+    rt: &R,
+    program: &P,
+    entry: Entry<'_>,
+    words: &[&str],
+    script: &[u8],
+    wanted: &[u8],
+) -> io::Result<()> {
+    let name = entry.name;
+    if !entry.is_said_by(script) {
+        println!(rt; "{name}: about something else")?;
+    }
+    let mut run = Run::new(rt.alloc(), script, Calls::good(), Calls::good());
+    let status = program.run(words, &mut run)?;
+    let told = run.told(rt.alloc())?;
+    let other = if entry.how.ends_with("counts") {
+        first_miscount(&told, wanted)
+    } else {
+        first_difference(&told, wanted)
+    };
+    match other {
+        Some(number) => println!(rt; "{name}: differs in line {number}, status {status}"),
+        None if status != entry.status => println!(rt; "{name}: same, but status {status}"),
+        None => println!(rt; "{name}: same, status {status}"),
+    }
+}
+
+/// What the program makes of a text that it is given to read, by a subcommand.
+fn made_of<P: Program>(
+    alloc: Global,
+    program: &P,
+    words: &[&str],
+    text: &[u8],
+) -> io::Result<Vec<u8>> {
+    let mut run = Run::new(alloc, text, Calls::good(), Calls::good());
+    program.run(words, &mut run)?;
+    Ok(run.told(alloc)?)
+}
+
+/// Says whether what is stored says what is stored of it in words, where that is.
+fn compare_words<R: Files + Print + AllocGlobal, P: Program>(
+    rt: &R,
+    program: &P,
+    name: &str,
+    output: &[u8],
+) -> io::Result<()> {
+    let Ok(wanted) = stored(rt, name, "words") else {
+        return Ok(());
+    };
+    let told = made_of(rt.alloc(), program, &["njehub", "decode"], output)?;
+    match first_difference(&told, &wanted) {
+        None => println!(rt; "{name}: same in words"),
+        Some(number) => println!(rt; "{name}: differs in words in line {number}"),
+    }
+}
+
+/// Whether `encode` makes a script of what `decode --hex` says of it; the end of the last line may be new.
+fn is_brought<R: Print + AllocGlobal, P: Program>(
+    rt: &R,
+    program: &P,
+    name: &str,
+    script: &[u8],
+) -> io::Result<bool> {
+    let told = made_of(rt.alloc(), program, &["njehub", "decode", "--hex"], script)?;
+    let back = made_of(rt.alloc(), program, &["njehub", "encode"], &told)?;
+    let text = back.as_slice();
+    let brought = text == script || text.strip_suffix(b"\n") == Some(script);
+    if !brought {
+        println!(rt; "{name}: decode and encode make another script")?;
+    }
+    Ok(brought)
+}
