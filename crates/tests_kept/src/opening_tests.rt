@@ -95,3 +95,21 @@ fn two_files_under_one_number_are_damage(rt: HostRuntime) -> Result<(), Fail> {
         _ => Err("a damaged spool file is opened".into()),
     }
 }
+
+/// Whether a spool file that is open is refused to a second program.
+fn is_refused_beside<S: Start>(files: &SpoolFiles<'_>, start: S) -> Result<bool, Fail> {
+    let store = files.open(start)?;
+    let is_refused = files.is_in_use();
+    kill(store);
+    Ok(is_refused)
+}
+
+#[test]
+fn an_open_file_is_in_use(rt: HostRuntime) -> Result<(), Fail> {
+    let files = SpoolFiles::of(&rt, "in_use")?;
+    if is_refused_beside(&files, Unknown)? {
+        Ok(())
+    } else {
+        Err("a file that is open is opened again".into())
+    }
+}

@@ -11,13 +11,16 @@ ghost use Rattle.njh_store.specs.Standing.{Stands};
 use crate::networks::tables;
 use njh_hub::{Depot, DepotFault, Hub};
 use njh_kept::{SpoolKeeper, open_from};
-use njh_store::{Origin, Store};
+use njh_store::{OpenFault, Origin, Store};
 use njh_table::Tables;
-use sqlite::{FileFrom, FileStore, Start, Unknown};
+use sqlite::{Error, ErrorCode, FileFrom, FileStore, Start, Unknown};
 use std::alloc::Global;
 use std::fs;
 use std::rt::HostRuntime;
 use std::test::Fail;
+
+/// What a spool file is refused for that is open already.
+const IN_USE: OpenFault = OpenFault::Database(Error::SqliteFailure(ErrorCode::DatabaseBusy));
 
 /// Their names, and the machine that they are on.
 #[derive(Drop)]
@@ -70,6 +73,17 @@ impl<'a> SpoolFiles<'a> {
             → Stands (record { now = spool; kept = spool }) (file_state store.conn)) }
     {
         Ok(Store::open(self.rt, self.kept.as_str(), start)?)
+    }
+
+    /// Whether the spool file is refused as one that is open already.
+    pub fn is_in_use(&self) -> bool {
+        match Store::open(self.rt, self.kept.as_str(), Unknown) {
+            Ok(store) => {
+                kill(store);
+                false
+            }
+            Err(fault) => fault == IN_USE,
+        }
     }
 
     /// A keeper of a spool file that is open.
