@@ -1,7 +1,9 @@
 #!/usr/bin/env python3
 """Says what a run of the gate costs: by part and by crate, in minutes of CPU and GB of memory.
 
-    python3 benches/gate/minutes.py [--cpus 0,1] [the words of a command: RT_JOBS=4 rt ci --anew where none are given]
+    python3 benches/gate/minutes.py [--cpus 0,1] [the words of a command: RT_JOBS=4 rt ci where none are given]
+
+Where the toolchain's `rt ci` keeps what passed, it is told to keep nothing (`--anew`); older ones keep nothing anyway.
 
 Runs the command at the top of the repository (with --cpus, on these processors alone) and looks at its processes four
 times a second: the crate is the one that a check names, the part what the check is for. What a process used since it
@@ -110,6 +112,12 @@ class Run:
         print(row.format("all", *figures, f"{sum(sums.values()):.1f}", *more))
 
 
+def anew():
+    """The word by which `rt ci` proves what it kept once more, if this toolchain's knows one."""
+    told = subprocess.run(["rt", "help"], capture_output=True, text=True, check=False)
+    return ["--anew"] if "--anew" in told.stdout + told.stderr else []
+
+
 def main():
     words = sys.argv[1:]
     if words[:1] == ["--cpus"]:
@@ -117,7 +125,7 @@ def main():
         words = words[2:]
     if not words:
         os.environ.setdefault("RT_JOBS", "4")
-        words = ["rt", "ci", "--anew"]
+        words = ["rt", "ci", *anew()]
     os.chdir(pathlib.Path(__file__).resolve().parents[2])
     begin = time.monotonic()
     process = subprocess.Popen(words)
