@@ -1,8 +1,7 @@
-//! Tries a hub by itself, without the program, and prints what it did; the file `stdout` has that, written by hand but
-//! for the counts of traffic at random.
+//! Tries a hub by itself, without the program, and prints what it did; the file `stdout` has that, written by hand.
 //!
 //! First come stored scripts of damaged input, then single steps and what is seen of a hub, two runs of which one has
-//! another customer, lines of scripts, and traffic at random.
+//! another customer, and lines of scripts.
 #![tactic(auto)]
 
 mod damage;
@@ -10,7 +9,6 @@ mod looks;
 mod new_routes;
 mod pairs;
 mod script_lines;
-mod soak;
 mod steps;
 mod trial;
 
@@ -50,6 +48,5 @@ fn main(rt: HostRuntime) -> io::Result<()> {
     pairs::compare(&rt, tables, stored(&rt, "acme_alone", "toml")?.as_str())?;
     script_lines::say_each(&rt, tables, stored(&rt, "bad_lines", "txt")?.as_str())?;
     script_lines::say_each(&rt, tables, stored(&rt, "route_lines", "txt")?.as_str())?;
-    script_lines::try_lengths(&rt, tables)?;
-    soak::run_all(&rt, stored(&rt, "three_networks", "toml")?.as_str())
+    script_lines::try_lengths(&rt, tables)
 }
