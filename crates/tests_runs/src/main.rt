@@ -22,6 +22,18 @@ use std::io;
 use std::process::ExitCode;
 use std::rt::Files;
 
+/// Tries all, and then is the program itself.
+fn play<R: Files + Print + AllocGlobal, P: Program, E: Print>(
+    rt: &R,
+    program: &P,
+    errors: &E,
+) -> ExitCode {
+    match try_all(rt, program) {
+        Ok(()) => program.run_itself(errors),
+        Err(error) => njh_program::end(Err(Failure::from(error)), errors),
+    }
+}
+
 /// Tries all but the end of the program.
 fn try_all<R: Files + Print + AllocGlobal, P: Program>(rt: &R, program: &P) -> io::Result<()> {
     runs::compare_all(rt, program)?;
@@ -29,8 +41,5 @@ fn try_all<R: Files + Print + AllocGlobal, P: Program>(rt: &R, program: &P) -> i
 }
 
 fn main(rt: HostRuntime) -> ExitCode {
-    match try_all(&rt, &WholeProgram::new(&rt)) {
-        Ok(()) => njh_program::run(&rt, &rt.stdout()),
-        Err(error) => njh_program::end(Err(Failure::from(error)), &rt.stdout()),
-    }
+    play(&rt, &WholeProgram::new(&rt), &rt.stdout())
 }

@@ -5,12 +5,17 @@ use njh_program::{Failure, Spooling, carry_out};
 use std::alloc::Global;
 use std::io;
 use std::net::Net;
-use std::rt::{Clock, Files};
+use std::process::ExitCode;
+use std::rt::{Clock, Env, Files};
 
 /// The program.
 pub trait Program {
     /// Does what the words ask for, over the streams of a run, and answers the status.
     fn run(&self, words: &[&str], run: &mut Run<'_>) -> io::Result<u8>;
+
+    /// Does what the own arguments of this very program ask for, over its own streams. Why it failed, if it did, goes to
+    /// `errors`.
+    fn run_itself<E: Print>(&self, errors: &E) -> ExitCode;
 }
 
 /// The whole program, over these files and sockets.
@@ -25,7 +30,8 @@ impl<'a, R> WholeProgram<'a, R> {
     }
 }
 
-impl<R: Files + Spooling + Net + Clock + AllocGlobal> Program for WholeProgram<'_, R> {
+impl<R: Env + Files + Spooling + Net + Clock + Input + Print + AllocGlobal> Program
+    for WholeProgram<'_, R> {
     fn run(&self, words: &[&str], run: &mut Run<'_>) -> io::Result<u8> {
         let log = Log {
             bytes: &mut run.logged,
@@ -38,6 +44,10 @@ impl<R: Files + Spooling + Net + Clock + AllocGlobal> Program for WholeProgram<'
                 Ok(status)
             }
         }
+    }
+
+    fn run_itself<E: Print>(&self, errors: &E) -> ExitCode {
+        njh_program::run(self.rt, errors)
     }
 }
 
