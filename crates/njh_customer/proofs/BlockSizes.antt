@@ -1,19 +1,20 @@
 -- How many records with data a block has at most: each takes three bytes of its text at least.
 use Rattle.std.proofs.Common.{ℕ, zero, suc, ◌+◌, ◌-◌, ◌*◌, ◌<◌, ◌≤◌, Bool, true, false, cond, ◌==◌, nat_le, nat_lt}
-use Rattle.std.proofs.Common.{List, [], ◌∷◌, length, take, drop, Option, Some, None, Result, Ok, Err, arith, if◌then◌else◌}
+use Rattle.std.proofs.Common.{List, [], ◌∷◌, length, take, drop, Option, Some, None, Result, Ok, Err, arith}
+use Rattle.std.proofs.Common.{if◌then◌else◌}
 use Rattle.std.proofs.lemmas.List.{length-drop}
 use Rattle.njh_record.specs.Spelling.{blanks, literal, added_bytes}
-use Rattle.njh_record.specs.Unspelled.{Front, OfItem, OfEnd, Bad, Cut, repeat_front, literal_front, front_of, Fault, BadScb, Truncated}
-use Rattle.njh_record.specs.Unspelled.{Unspelled, with_front, unspelled_within, record_at_front}
+use Rattle.njh_record.specs.Unspelled.{Front, OfItem, OfEnd, Bad, Cut, repeat_front, literal_front, front_of, Fault}
+use Rattle.njh_record.specs.Unspelled.{BadScb, Truncated, Unspelled, with_front, unspelled_within, record_at_front}
 use Rattle.njh_record.specs.declared.End.{End}
 use Rattle.njh_record.specs.declared.End.TheVariants.{Record, Abort}
+use Rattle.njh_block.specs.Blocks.{Item, Data, Aborted, Long, Block, form_of, after_control, item_of, First}
+use Rattle.njh_block.specs.Blocks.{record_of_spelling, record_of_one_byte, record_of_form, first_record, with_item}
+use Rattle.njh_block.specs.Blocks.{read_items, items_in, is_bcb, is_fcs, block_with, read_block}
 use Rattle.njh_block.specs.declared.fault.BlockFault.{BlockFault}
 use Rattle.njh_block.specs.declared.fault.BlockFault.TheVariants.{BadBcb, BadFcs}
 use Rattle.njh_block.specs.declared.rcb.Form.{Form}
 use Rattle.njh_block.specs.declared.rcb.Form.TheVariants as form
-use Rattle.njh_block.specs.Blocks.{Item, Data, Aborted, Long, Block, form_of, after_control, item_of, First}
-use Rattle.njh_block.specs.Blocks.{record_of_spelling, record_of_one_byte, record_of_form, first_record, with_item, read_items}
-use Rattle.njh_block.specs.Blocks.{items_in, is_bcb, is_fcs, block_with, read_block}
 use Rattle.njh_customer.proofs.RecordsGrow.{data_in, data_count}
 
 -- ---- a spelling leaves less than there was

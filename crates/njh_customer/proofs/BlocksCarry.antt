@@ -6,26 +6,26 @@ use Rattle.std.proofs.lemmas.Bool.{leb-true, leb-false}
 use Rattle.std.proofs.lemmas.List.{drop_all, length-drop, length-take-le}
 use Rattle.std.proofs.lemmas.List.Elements.{filter-append}
 use Rattle.std.proofs.lemmas.Option.{slice_get_cases}
+use Rattle.njh_record.specs.Stored.{Stored}
 use Rattle.njh_block.specs.Blocks.{Item, all_suspended, rcb_of}
 use Rattle.njh_spool.specs.CustomerSpool.{CustomerSpool, WholeFile, whole_numbered}
 use Rattle.njh_spool.specs.declared.State.{State}
 use Rattle.njh_table.specs.Entries.{CustomerEntry}
-use Rattle.njh_record.specs.Stored.{Stored}
+use Rattle.njh_stream.specs.Sending.{goes_by, next_at, next_of, record_at}
 use Rattle.njh_stream.specs.declared.sender.Sender.{Sender}
 use Rattle.njh_stream.specs.declared.sender.Sender.TheVariants.{Idle, Requested, Sending, EofSent, Aborting}
-use Rattle.njh_stream.specs.Sending.{goes_by, next_at, next_of, record_at}
+use Rattle.njh_sched.specs.Carrying as carrying
+use Rattle.njh_sched.specs.Carrying.{end_of_file, file_records, record_item, records_of}
+use Rattle.njh_sched.specs.Laws.{Does, EachDoes, left, gives_up, asks, sends, is_under, records_under}
 use Rattle.njh_sched.specs.NextBlock.{Filling, Source, after_source, after_sources, data_item, filled_block, sends_file}
 use Rattle.njh_sched.specs.NextBlock.{sender_at, sources}
-use Rattle.njh_sched.specs.Laws.{Does, EachDoes, left, gives_up, asks, sends, is_under, records_under}
-use Rattle.njh_sched.specs.Carrying.{end_of_file, file_records, record_item, records_of}
-use Rattle.njh_sched.specs.Carrying as carrying
-use Rattle.njh_customer.specs.OutgoingFiles.{Outgoing, with_file_state, records_numbered}
+use Rattle.njh_customer.specs.FrameEffects.{Carries, nothing, on_its_way, to_its_end}
 use Rattle.njh_customer.specs.Moves as moves
 use Rattle.njh_customer.specs.Moves.{Sends}
-use Rattle.njh_customer.specs.FrameEffects.{Carries, nothing, on_its_way, to_its_end}
-use Rattle.njh_customer.proofs.SendingMoves.{AreOfEight, GivesOne, out_of, sources_eight, stream_now, gives}
-use Rattle.njh_customer.proofs.SendingMoves as sending
+use Rattle.njh_customer.specs.OutgoingFiles.{Outgoing, with_file_state, records_numbered}
 use Rattle.njh_customer.proofs.DoingLaws.{BlocksCarry}
+use Rattle.njh_customer.proofs.SendingMoves as sending
+use Rattle.njh_customer.proofs.SendingMoves.{AreOfEight, GivesOne, out_of, sources_eight, stream_now, gives}
 
 -- ---- no record that goes out changes a file's records
 

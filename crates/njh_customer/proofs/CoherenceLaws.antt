@@ -1,33 +1,37 @@
 -- A customer stays coherent, whatever comes.
-use Rattle.std.proofs.Common.{◌≡◌, ℕ, ◌<◌, Bool, true, false, ◌&&◌, List, [], ◌∷◌, ◌++◌, length, set, get_or, Option}
-use Rattle.std.proofs.Common.{Some, None, refl, sym, ap, subst, ◌∙◌, arith}
-use Rattle.std.specs.Option.{option_map}
+use Rattle.std.proofs.Common.{◌≡◌, ℕ, ◌<◌, List, length, set, get_or, Option, Some, None, refl, sym, ap, subst, ◌∙◌}
+use Rattle.std.proofs.Common.{arith}
 use Rattle.std.proofs.Math.ListN.{get_or-map}
 use Rattle.std.proofs.lemmas.List.{map-set, length-map, length-set}
 use Rattle.std.proofs.lemmas.List.Elements.{All-set}
-use Rattle.njh_block.specs.Codes.{kind_of}
-use Rattle.njh_record.specs.Stored.{Stored}
+use Rattle.std.specs.Option.{option_map}
 use Rattle.njh_record.specs.declared.Kind.{Kind}
-use Rattle.njh_stream.specs.declared.receiver.Receiver.{Receiver}
-use Rattle.njh_stream.specs.declared.receiver.Receiver.TheVariants.{Idle, Open, Draining}
+use Rattle.njh_block.specs.Blocks as block
+use Rattle.njh_block.specs.Blocks.{Item, Control, Aborted}
+use Rattle.njh_block.specs.Codes.{kind_of}
+use Rattle.njh_spool.specs.CustomerSpool.{CustomerSpool, PartialFile, partial_numbered, without_partial, as_whole}
+use Rattle.njh_spool.specs.CustomerSpool.{with_arrived, with_finished}
+use Rattle.njh_table.specs.Entries.{CustomerEntry}
 use Rattle.njh_stream.specs.Arrivals.{answer_on}
 use Rattle.njh_stream.specs.Receiving.{Arrival, Request, Data, Long, Abort, Received, received_arrival}
-use Rattle.njh_stream.specs.Receiving.{without_all_open, received_request, requested_where, closed_by, stored_by}
+use Rattle.njh_stream.specs.Receiving.{without_all_open}
+use Rattle.njh_stream.specs.Streams.{streams_at, stream_at, with_stream, without_streams}
 use Rattle.njh_stream.specs.WholeFiles.{HaveHeaders}
 use Rattle.njh_stream.specs.code.Agreement.{Agrees, AreTied}
+use Rattle.njh_stream.specs.declared.receiver.Receiver.{Receiver}
+use Rattle.njh_stream.specs.declared.receiver.Receiver.TheVariants.{Idle}
 use Rattle.njh_command.specs.CommandLaws.{CommandsKeepHeaders}
-use Rattle.njh_stream.specs.Transmissions.{Verdict, Taken, Cancelled, Fitting, is_whole, judged_coming}
-use Rattle.njh_stream.specs.Streams.{streams_at, stream_at, with_stream, without_streams}
-use Rattle.njh_spool.specs.CustomerSpool.{CustomerSpool, PartialFile, has_file_room, has_block, has_room_for}
-use Rattle.njh_spool.specs.CustomerSpool.{partial_numbered, partial_records, without_partial, as_whole, with_arrived}
-use Rattle.njh_table.specs.Entries.{CustomerEntry}
+use Rattle.njh_customer.specs.Acting.{after_arrival, after_stream_arrival}
 use Rattle.njh_customer.specs.Customer.{Customer, CustomerLine, no_customer_line, line_at, on_line, with_notice}
 use Rattle.njh_customer.specs.Customer.{receiver_at, with_receiver}
-use Rattle.njh_customer.specs.code.Coherence.{streams_to_hub, limits_of, HasStreams, IsCoherent}
 use Rattle.njh_customer.specs.Waiting.{with_answer_on, with_notice_to}
-use Rattle.njh_customer.specs.Acting.{after_arrival, after_stream_arrival}
-use Rattle.njh_customer.proofs.ShapeLaws.{shapes, same_streams, streamed_still, on_line_shapes, answered_shapes}
-use Rattle.njh_customer.proofs.ShapeLaws.{notified_shapes}
+use Rattle.njh_customer.specs.code.Coherence.{streams_to_hub, limits_of, HasStreams, IsCoherent}
+use Rattle.njh_customer.proofs.FileListLaws.{as_many}
+use Rattle.njh_customer.proofs.LineWalks.{IsSeen, answered_so, notified_so, on_line_seen}
+use Rattle.njh_customer.proofs.RecordsDo.{a_request, an_abort, some_data, too_long, Brings}
+use Rattle.njh_customer.proofs.Restated.{IsHarmless, as_it_is, restated_harmless}
+use Rattle.njh_customer.proofs.ShapeLaws.{same_streams, shape, shape_waiting, shapes, streamed_still}
+use Rattle.njh_customer.proofs.SpoolWalks.{received_so}
 
 -- what the streams of a customer owe to each other, as the crate of streams says it
 abbrev pub ArrivalsTie : Type 0
@@ -56,28 +60,21 @@ EndsTie =
     (l : ℕ) (lines : List (List Receiver)) (s : CustomerSpool) → l < length lines → AreTied lines s
     → AreTied (without_streams l lines) (without_all_open (streams_at l lines) s)
 
--- the streams are the same, and so are the partial files, the quota and the limit of files; whole files whose headers
--- read still have them
+-- the streams are the same, and the files changed harmlessly
 pub record IsLike (d c : Customer) : Type 0 where
   pub entry : d.entry ≡ c.entry
   pub lines : shapes d.lines ≡ shapes c.lines
-  pub partial : d.spool.partial ≡ c.spool.partial
-  pub limits : limits_of d.spool ≡ limits_of c.spool
-  pub headers : HaveHeaders c.spool.whole → HaveHeaders d.spool.whole
-
--- as many lines
-pub as_many : (xs ys : List CustomerLine) → shapes xs ≡ shapes ys → length xs ≡ length ys
-as_many xs ys same = sym (length-map xs (λ x. (x.streams, x.receivers))) ∙ ap length same ∙ length-map ys (λ x. (x.streams, x.receivers))
+  pub files : IsHarmless c.spool d.spool
 
 pub coherent_still : (d c : Customer) → NothingUnties → IsLike d c → IsCoherent c → IsCoherent d
 coherent_still d c untied like coherent = record {
   tied = subst (λ lines. AreTied lines d.spool) (sym (same_streams d.lines c.lines like.lines))
-      (untied (streams_to_hub c.lines) c.spool d.spool like.partial coherent.tied);
+      (untied (streams_to_hub c.lines) c.spool d.spool like.files.partial coherent.tied);
   streamed = streamed_still d.lines c.lines like.lines coherent.streamed;
-  headers = like.headers coherent.headers;
-  quota = ap (λ (l : ℕ × ℕ). l.0) like.limits ∙ coherent.quota ∙ ap (λ e. e.quota) (sym like.entry);
-  limit = ap (λ (l : ℕ × ℕ). l.1) like.limits ∙ coherent.limit ∙ ap (λ e. e.files) (sym like.entry);
-  marks = ap (λ e. length e.up) like.entry ∙ coherent.marks ∙ sym (as_many d.lines c.lines like.lines);
+  headers = like.files.headers coherent.headers;
+  quota = ap (λ (l : ℕ × ℕ). l.0) like.files.limits ∙ coherent.quota ∙ ap (λ e. e.quota) (sym like.entry);
+  limit = ap (λ (l : ℕ × ℕ). l.1) like.files.limits ∙ coherent.limit ∙ ap (λ e. e.files) (sym like.entry);
+  marks = ap (λ e. length e.up) like.entry ∙ coherent.marks ∙ sym (as_many shape d.lines c.lines like.lines);
 }
 
 -- ---- the stream at a place
@@ -90,48 +87,37 @@ agrees_there l k c coherent = subst (λ r. Agrees (kind_of k) r c.spool) (stream
 
 -- ---- an arrival
 
-requested_limits : (kind : Kind) (s : CustomerSpool) → limits_of (received_request kind s).spool ≡ limits_of s
-requested_limits kind s = at_room (has_file_room s && has_block s)
+finished_limits : (n : ℕ) (s : CustomerSpool) → limits_of (with_finished n s) ≡ limits_of s
+finished_limits n s = at_file (partial_numbered n s)
   where
-    at_room : (b : Bool) → limits_of (requested_where b kind s).spool ≡ limits_of s
-    at_room true = refl
-    at_room false = refl
-
-abbrev finished_where : ℕ → CustomerSpool → Option PartialFile → CustomerSpool
-finished_where n s o = elim o [ None ↦ s | Some f ↦ with_arrived (as_whole f) (without_partial n s) ]
-
-closed_limits : (b : Bool) (n : ℕ) (s : CustomerSpool) → limits_of (closed_by b n s).spool ≡ limits_of s
-closed_limits false n s = refl
-closed_limits true n s = at_file (partial_numbered n s)
-  where
-    at_file : (o : Option PartialFile) → limits_of (finished_where n s o) ≡ limits_of s
+    at_file :
+        (o : Option PartialFile)
+        → limits_of (elim o [ None ↦ s | Some f ↦ with_arrived (as_whole f) (without_partial n s) ]) ≡ limits_of s
     at_file None = refl
     at_file (Some f) = refl
 
-stored_limits : (v : Verdict) (kind : Kind) (n : ℕ) (r : Stored) (more : List Stored) (s : CustomerSpool)
-    → limits_of (stored_by v kind n r more s).spool ≡ limits_of s
-stored_limits Taken kind n r more s = refl
-stored_limits (Cancelled text) kind n r more s = refl
+-- an item that brings it
+brought : (a : Arrival) → (i : Item) × Brings a i
+brought Request = (Control 0 0, a_request 0 0)
+brought (Data srcb bytes) = (block.Data 0 srcb bytes, some_data 0 srcb bytes)
+brought Long = (block.Long 0 0, too_long 0 0)
+brought Abort = (Aborted 0 0, an_abort 0 0)
 
-received_limits : (entry : CustomerEntry) (l : ℕ) (kind : Kind) (r : Receiver) (a : Arrival) (s : CustomerSpool)
+-- it leaves the quota and the limit of files
+received_limits :
+    (entry : CustomerEntry) (l : ℕ) (kind : Kind) (r : Receiver) (a : Arrival) (s : CustomerSpool)
     → limits_of (received_arrival entry l kind r a s).spool ≡ limits_of s
-received_limits entry l kind Idle Request s = requested_limits kind s
-received_limits entry l kind Idle (Data srcb bytes) s = refl
-received_limits entry l kind Idle Long s = refl
-received_limits entry l kind Idle Abort s = refl
-received_limits entry l kind Draining Request s = requested_limits kind s
-received_limits entry l kind Draining (Data srcb []) s = refl
-received_limits entry l kind Draining (Data srcb (b ∷ bytes)) s = refl
-received_limits entry l kind Draining Long s = refl
-received_limits entry l kind Draining Abort s = refl
-received_limits entry l kind (Open n progress) Request s = requested_limits kind (without_partial n s)
-received_limits entry l kind (Open n progress) (Data srcb []) s = closed_limits (is_whole (partial_records n s)) n s
-received_limits entry l kind (Open n progress) (Data srcb (b ∷ bytes)) s =
-    let r : Stored = record { srcb = srcb; bytes = b ∷ bytes } in
-    let earlier = partial_records n s in
-    stored_limits (judged_coming entry l kind earlier (Fitting r (has_room_for n r s))) kind n r (earlier ++ r ∷ []) s
-received_limits entry l kind (Open n progress) Long s = refl
-received_limits entry l kind (Open n progress) Abort s = refl
+received_limits entry l kind r a s =
+    let item = brought a in
+    received_so (λ t. limits_of t ≡ limits_of s) (λ i t. limits_of t ≡ limits_of s)
+    (record {
+      still = λ i t same. same;
+      without = λ n t same. same;
+      begun = λ rcb srcb k t room same. same;
+      appended = λ rcb more n t room same. same;
+      finished = λ rcb srcb n t whole same. finished_limits n t ∙ same;
+    })
+    entry l kind r a item.0 s item.1 refl
 
 with_streams : (l k : ℕ) (r : Receiver) (lines : List CustomerLine) → streams_to_hub (on_line l (with_receiver k r) lines) ≡ with_stream l k r (streams_to_hub lines)
 with_streams l k r lines =
@@ -174,15 +160,15 @@ keeps_arrived l k a c records untied line_there stream_there coherent =
     let done = received_arrival c.entry l (kind_of k) (receiver_at k (line_at l c.lines)) a c.spool in
     let lines = on_line l (with_receiver k done.receiver) c.lines in
     let answer = option_map (answer_on k) done.answer in
+    let told = with_notice_to c.entry done.notice (with_answer_on l answer lines) in
+    let waiting = shape_waiting l lines in
     coherent_still (after_arrival l k done c) (moved l k done c) untied
     (record {
       entry = refl;
       lines =
-          on_line_shapes l (with_notice k done.receiver done.notice) (with_notice_to c.entry done.notice (with_answer_on l answer lines)) (λ x. refl)
-          ∙ notified_shapes c.entry done.notice (with_answer_on l answer lines)
-          ∙ answered_shapes l answer lines;
-      partial = refl;
-      limits = refl;
-      headers = λ have. have;
+          on_line_seen shape l (with_notice k done.receiver done.notice) told (λ x. refl)
+          ∙ notified_so l (IsSeen shape lines) waiting c.entry done.notice (with_answer_on l answer lines)
+          (answered_so l (IsSeen shape lines) waiting answer lines refl);
+      files = restated_harmless done.spool done.spool (as_it_is done.spool);
     })
     (keeps_moved l k a c records line_there stream_there coherent)

@@ -5,9 +5,9 @@ use Rattle.std.proofs.lemmas.Bool.{eqb-true, eqb-false, ltb-true, ltb-false}
 use Rattle.std.proofs.lemmas.List.{get_or-set_same, set-get_or, set-set}
 use Rattle.njh_bisync.specs.declared.frame.Control.TheVariants as control
 use Rattle.njh_block.specs.Blocks.{read_block}
+use Rattle.njh_line.specs.Laws.{is_disregarded}
 use Rattle.njh_line.specs.LineTable as input
 use Rattle.njh_line.specs.LineTable.{Input, table_outcome, cell, end, none, try_nak, with_reply}
-use Rattle.njh_line.specs.Laws.{is_disregarded}
 use Rattle.njh_line.specs.Lines.{with_session, without_turn}
 use Rattle.njh_line.specs.Sessions.{in_session}
 use Rattle.njh_line.specs.declared.Phase.{Phase}
@@ -16,9 +16,9 @@ use Rattle.njh_line.specs.declared.config.Config.{Config}
 use Rattle.njh_line.specs.declared.session.Session.{Session}
 use Rattle.njh_line.specs.declared.verdict.LineReply.TheVariants as reply
 use Rattle.njh_line.specs.declared.verdict.Verdict.{Verdict}
+use Rattle.njh_customer.specs.Alone.{CustomerStep, goes_up, with_raised_line, silent, session_over, session_ended}
+use Rattle.njh_customer.specs.Alone.{carried_out, after_line_input, text_read, after_frame, after_signal}
 use Rattle.njh_customer.specs.Customer.{Customer, CustomerLine, no_customer_line, line_at, on_line, in_state}
-use Rattle.njh_customer.specs.Alone.{CustomerStep, goes_up, with_raised_line, silent, session_over, session_ended, carried_out}
-use Rattle.njh_customer.specs.Alone.{after_line_input, text_read, after_frame, after_signal}
 use Rattle.njh_customer.specs.Disregarding.{session_on, IsButSession, IsDisregarded, SpoiledIsDisregarded}
 use Rattle.njh_customer.specs.Disregarding.{BadBlocksAreDisregarded, GarbledIsDisregarded}
 

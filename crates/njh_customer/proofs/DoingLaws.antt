@@ -14,8 +14,8 @@ use Rattle.njh_block.specs.Blocks.{Block, Item, all_suspended, read_block, same_
 use Rattle.njh_block.specs.Writing.{Writing}
 use Rattle.njh_block.specs.declared.fault.BlockFault.{BlockFault}
 use Rattle.njh_table.specs.Entries.{CustomerEntry}
-use Rattle.njh_stream.specs.declared.sender.Sender.{Sender}
 use Rattle.njh_stream.specs.Sending.{goes_by}
+use Rattle.njh_stream.specs.declared.sender.Sender.{Sender}
 use Rattle.njh_sched.specs.NextBlock.{Filling, filled_block, filling}
 use Rattle.njh_sched.specs.Tight.{own_fcs}
 use Rattle.njh_command.specs.CommandLaws.{CommandsMoveFilesSo}
@@ -27,26 +27,27 @@ use Rattle.njh_line.specs.declared.config.Config.{Config}
 use Rattle.njh_line.specs.declared.verdict.LineReply.{LineReply}
 use Rattle.njh_line.specs.declared.verdict.LineReply.TheVariants as reply
 use Rattle.njh_line.specs.declared.verdict.Verdict.{Verdict}
-use Rattle.njh_customer.specs.declared.signal.Signal.{Signal}
-use Rattle.njh_customer.specs.Customer.{Customer, CustomerLine, no_customer_line, line_at, on_line, in_state}
 use Rattle.njh_customer.specs.Acting.{acted_where}
-use Rattle.njh_customer.specs.Sending.{LineSent, Sending, sending_of_control, sending_of_no_block, sending_of_empty}
-use Rattle.njh_customer.specs.Sending.{sending_of_block, next_block, outlet_of, own_block, sending_of_reply}
-use Rattle.njh_customer.specs.Sending.{with_outlet}
-use Rattle.njh_customer.specs.Alone.{CustomerStep, silent, with_idle_streams, with_raised_line, goes_up_by, after_reply, replied_to}
-use Rattle.njh_customer.specs.Alone.{session_over, session_over_where, session_ended, carried_out, verdict_on}
-use Rattle.njh_customer.specs.Alone.{accepted_on, after_line_input, block_input, behind_records, after_block, text_read}
-use Rattle.njh_customer.specs.Alone.{after_text, after_received, signal_input, after_frame, after_signal}
-use Rattle.njh_customer.specs.OutgoingFiles.{Outgoing, outgoing, streams_from_hub, streams_of}
-use Rattle.njh_customer.specs.Moves.{LeadsByMoves, nowhere, OneActs, Sends}
+use Rattle.njh_customer.specs.Alone.{CustomerStep, silent, with_idle_streams, with_raised_line, goes_up_by, after_reply}
+use Rattle.njh_customer.specs.Alone.{replied_to, session_over, session_over_where, session_ended, carried_out}
+use Rattle.njh_customer.specs.Alone.{verdict_on, accepted_on, after_line_input, block_input, behind_records}
+use Rattle.njh_customer.specs.Alone.{after_block, text_read, after_text, after_received, signal_input, after_frame}
+use Rattle.njh_customer.specs.Alone.{after_signal}
+use Rattle.njh_customer.specs.Customer.{Customer, CustomerLine, no_customer_line, line_at, on_line, in_state}
 use Rattle.njh_customer.specs.FrameEffects.{Carries, Ends, still_on, over_now, GoesOut, no_block, new_block, Does}
 use Rattle.njh_customer.specs.FrameEffects.{block_records, records_of_frame, IsNoNewBlock, nothing_sent, control, again}
 use Rattle.njh_customer.specs.FrameEffects.{sign_on, count, without_records}
-use Rattle.njh_customer.proofs.OutgoingLaws.{of_parts, on_line_senders, own_again, unmoved}
-use Rattle.njh_customer.proofs.SendingMoves.{out_of, filled_leads, filled_with_none}
+use Rattle.njh_customer.specs.Moves.{LeadsByMoves, nowhere, OneActs, Sends}
+use Rattle.njh_customer.specs.OutgoingFiles.{Outgoing, outgoing, streams_from_hub, streams_of}
+use Rattle.njh_customer.specs.Sending.{LineSent, Sending, sending_of_control, sending_of_no_block, sending_of_empty}
+use Rattle.njh_customer.specs.Sending.{sending_of_block, next_block, outlet_of, own_block, sending_of_reply}
+use Rattle.njh_customer.specs.Sending.{with_outlet}
+use Rattle.njh_customer.specs.declared.signal.Signal.{Signal}
 use Rattle.njh_customer.proofs.EndingMoves.{over_so}
-use Rattle.njh_customer.proofs.RecordsMoves.{Acting, acting_where, lines_of}
-use Rattle.njh_customer.proofs.KeptLines.{kept, kepts}
+use Rattle.njh_customer.proofs.KeptLines.{kept, kepts, lines_of}
+use Rattle.njh_customer.proofs.OutgoingLaws.{of_parts, on_line_senders, own_again, unmoved}
+use Rattle.njh_customer.proofs.RecordsMoves.{Acting, acting_where}
+use Rattle.njh_customer.proofs.SendingMoves.{out_of, filled_leads, filled_with_none}
 
 -- ---- what goes out
 

@@ -1,17 +1,11 @@
 -- A line that is down: what comes on it brings no record, and nothing is sent for it but the answer to a call.
-use Rattle.std.proofs.Common.{◌≡◌, ℕ, zero, suc, ◌||◌, Bool, true, false, cond, nat_lt, List, [], ◌∷◌, length}
-use Rattle.std.proofs.Common.{set, Result, Ok, Err, refl, sym, subst}
-use Rattle.njh_bisync.specs.Frames as frame
-use Rattle.njh_bisync.specs.Frames.{Received, IsShort}
+use Rattle.std.proofs.Common.{◌≡◌, ℕ, zero, suc, true, List, [], ◌∷◌, set, refl, sym, subst}
+use Rattle.njh_bisync.specs.Frames.{Received}
 use Rattle.njh_bisync.specs.Written.{text_bytes}
 use Rattle.njh_bisync.specs.declared.frame.Control.{Control}
 use Rattle.njh_bisync.specs.declared.frame.Control.TheVariants as control
-use Rattle.njh_block.specs.Blocks.{Block, Item, all_suspended, read_block, same_fcs}
-use Rattle.njh_block.specs.Writing.{Writing}
-use Rattle.njh_block.specs.declared.fault.BlockFault.{BlockFault}
-use Rattle.njh_line.specs.Answering.{DownStaysDown, LeavesDown, does_nothing, is_answered}
-use Rattle.njh_line.specs.Answering.{control_verdict, no_verdict}
-use Rattle.njh_line.specs.LineTable as input
+use Rattle.njh_block.specs.Blocks.{Block}
+use Rattle.njh_line.specs.Answering.{DownStaysDown, LeavesDown, does_nothing, is_answered, control_verdict, no_verdict}
 use Rattle.njh_line.specs.LineTable.{Input, table_outcome}
 use Rattle.njh_line.specs.Lines.{LineState, after_end, after_input}
 use Rattle.njh_line.specs.declared.Phase.{Phase}
@@ -19,16 +13,16 @@ use Rattle.njh_line.specs.declared.Phase.TheVariants.{Down}
 use Rattle.njh_line.specs.declared.verdict.LineReply.TheVariants as reply
 use Rattle.njh_line.specs.declared.verdict.Verdict.{Verdict}
 use Rattle.njh_customer.specs.Acting.{acted_where}
-use Rattle.njh_customer.specs.Alone.{CustomerStep, silent, with_idle_streams, replied_to, session_over_where, session_ended}
-use Rattle.njh_customer.specs.Alone.{carried_out, verdict_on, accepted_on, after_line_input, block_input, behind_records}
-use Rattle.njh_customer.specs.Alone.{after_block, text_read, after_received, after_frame, after_signal}
-use Rattle.njh_customer.specs.Alone.{signal_input}
+use Rattle.njh_customer.specs.Alone.{CustomerStep, with_idle_streams, replied_to, session_over_where, session_ended}
+use Rattle.njh_customer.specs.Alone.{carried_out, verdict_on, accepted_on, after_line_input, block_input}
+use Rattle.njh_customer.specs.Alone.{behind_records, after_block, after_frame}
 use Rattle.njh_customer.specs.Customer.{Customer, CustomerLine, line_at, on_line, in_state}
-use Rattle.njh_customer.specs.Sending.{Sending, next_block, sending_of_no_block, sending_of_empty, sending_of_block}
-use Rattle.njh_customer.specs.Sending.{with_outlet}
 use Rattle.njh_customer.specs.Growing.{FilesGrow, SignalsGrowFiles}
+use Rattle.njh_customer.specs.Sending.{next_block, with_outlet}
 use Rattle.njh_customer.proofs.GrowingLaws.{then_quietly, unchanged}
+use Rattle.njh_customer.proofs.ReplyLaws.{empty_so, written_so}
 use Rattle.njh_customer.proofs.SendingGrows.{reply_grows, over_grows, over_where_grows}
+use Rattle.njh_customer.proofs.StepWalks.{frame_holds, signal_holds}
 
 abbrev pub phase_on : ℕ → Customer → Phase
 phase_on l c = (line_at l c.lines).state.session.phase
@@ -56,32 +50,12 @@ text_sent : (bytes : List ℕ) → IsSent (text_bytes bytes)
 unfolding text_bytes
 text_sent bytes = tt
 
-empty_where : Bool → Writing → LineState → Sending
-empty_where b w x = elim b [ true ↦ sending_of_no_block true x | false ↦ sending_of_block w x ]
-
-empty_sent : (w : Writing) (x : LineState) → IsSent (sending_of_empty true w x).frame
-unfolding empty_where
-empty_sent w x = at_test (all_suspended x.session.peer_fcs || same_fcs w.fcs x.session.own_fcs)
-  where
-    at_test : (b : Bool) → IsSent (empty_where b w x).frame
-    at_test true = tt
-    at_test false = text_sent _
-
-abbrev written_where : List Item → Writing → LineState → Sending
-written_where items w x = elim items [ [] ↦ sending_of_empty true w x | i ∷ is ↦ sending_of_block w x ]
-
 pub next_sent : (l : ℕ) (c : Customer) → IsSent (replied_to l (reply.Next true) c).frame
-next_sent l c = at_items w.items
-  where
-    w : Writing
-    w = (next_block c.entry l c.spool (line_at l c.lines)).block
-
-    x : LineState
-    x = (with_outlet (next_block c.entry l c.spool (line_at l c.lines)).outlet (line_at l c.lines)).state
-
-    at_items : (items : List Item) → IsSent (written_where items w x).frame
-    at_items [] = empty_sent w x
-    at_items (i ∷ is) = text_sent _
+next_sent l c =
+    let f = next_block c.entry l c.spool (line_at l c.lines) in
+    let x = (with_outlet f.outlet (line_at l c.lines)).state in
+    written_so (λ sent. IsSent sent.frame) true f.block x
+    (λ none. empty_so (λ sent. IsSent sent.frame) true f.block x tt (text_sent _)) (text_sent _)
 
 control_sent : (l : ℕ) (which : Control) (c : Customer) → IsSent (replied_to l (reply.Control which) c).frame
 control_sent l control.Enquiry c = tt
@@ -101,15 +75,10 @@ input_grows l came c = carried_grows l (verdict_on l came c) (accepted_on l came
 pub ended_grows : (l : ℕ) (c : Customer) → FilesGrow 0 c.spool (session_ended l c).spool
 ended_grows l c = over_grows l (record c { lines = on_line l (in_state after_end) c.lines })
 
-there_grows : (b : Bool) (s : CustomerStep) (c : Customer) → FilesGrow 0 c.spool s.after.spool → FilesGrow 0 c.spool (cond b s (silent c)).after.spool
-there_grows true s c grow = grow
-there_grows false s c grow = unchanged c.spool
-
 pub signals_grow : SignalsGrowFiles
-unfolding after_signal
 signals_grow p l signal =
     let c = p.customer in
-    there_grows (nat_lt l (length c.lines)) (after_line_input l (signal_input signal) c) c (input_grows l (signal_input signal) c)
+    signal_holds l c (λ s. FilesGrow 0 c.spool s.after.spool) (unchanged c.spool) (λ came there. input_grows l came c) signal
 
 -- ---- a frame on a line that is down
 
@@ -162,22 +131,12 @@ module _ (stays_down : DownStaysDown) where
           subst (λ v. StaysDown l c (by_verdict v)) (sym verdict)
           (answers_call (carried_grows l (control_verdict which) d) (control_sent l which d))
 
-  received_down : (l : ℕ) (x : Received) (c : Customer) → phase_on l c ≡ Down → StaysDown l c (after_received l x c)
-  received_down l frame.Enquiry c down = input_down l input.Enquiry c down
-  received_down l frame.Ack0 c down = input_down l input.Ack0 c down
-  received_down l frame.Nak c down = input_down l input.Nak c down
-  received_down l frame.Eot c down = input_down l input.Eot c down
-  received_down l (frame.Text text) c down = at_block (read_block text)
-    where
-      at_block : (b : Result Block BlockFault) → StaysDown l c (text_read l b c)
-      at_block (Ok b) = block_stays_down l b c down
-      at_block (Err e) = input_down l input.Bad c down
-  received_down l frame.Spoiled c down = input_down l input.Spoiled c down
-
-there_down : (l : ℕ) (b : Bool) (s : CustomerStep) (c : Customer) → phase_on l c ≡ Down → StaysDown l c s → StaysDown l c (cond b s (silent c))
-there_down l true s c down stays = stays
-there_down l false s c down stays = still_down (unchanged c.spool) down
-
-pub frame_down : DownStaysDown → (l : ℕ) (x : Received) (c : Customer) → phase_on l c ≡ Down → StaysDown l c (after_frame l x c)
-unfolding after_frame
-frame_down stays_down l x c down = there_down l (nat_lt l (length c.lines)) (after_received l x c) c down (received_down stays_down l x c down)
+  pub frame_down : (l : ℕ) (x : Received) (c : Customer) → phase_on l c ≡ Down → StaysDown l c (after_frame l x c)
+  frame_down l x c down =
+      frame_holds l c (λ items s. StaysDown l c s)
+      (record {
+        none = λ items. still_down (unchanged c.spool) down;
+        input = λ came there. input_down l came c down;
+        block = λ b there. block_stays_down l b c down;
+      })
+      x

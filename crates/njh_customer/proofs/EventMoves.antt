@@ -3,26 +3,26 @@ use Rattle.std.proofs.Common.{◌≡◌, ℕ, Bool, true, false, List, [], ◌�
 use Rattle.std.proofs.Common.{refl, sym, ap, subst, ◌∙◌, arith, get_or, set-set}
 use Rattle.std.proofs.lemmas.List.{set-get_or}
 use Rattle.std.proofs.lemmas.List.Elements.{Contains-append_left, Contains-append_right}
-use Rattle.std.specs.Prelude.{flat_map}
 use Rattle.std.specs.List.{Contains, cons_option}
+use Rattle.std.specs.Prelude.{flat_map}
 use Rattle.njh_bisync.specs.ByteSteps.{frames_after, rest_step}
 use Rattle.njh_bisync.specs.Frames.{Received}
 use Rattle.njh_bisync.specs.Reading.{Rest}
 use Rattle.njh_block.specs.Blocks.{Item}
 use Rattle.njh_table.specs.Entries.{CustomerEntry}
 use Rattle.njh_table.specs.Marks.{entry_marked}
-use Rattle.njh_customer.specs.Customer.{Customer, line_at, with_marks}
 use Rattle.njh_customer.specs.Alone.{CustomerStep, with_raised_line, after_signal}
+use Rattle.njh_customer.specs.Customer.{Customer, line_at, with_marks}
 use Rattle.njh_customer.specs.Feeding.{acted_on, bytes_run}
-use Rattle.njh_customer.specs.Part.{part_after_bytes, rest_on}
-use Rattle.njh_customer.specs.Runs.{OwnBytes, OwnSignal, OwnRoutes, Run, event_run}
-use Rattle.njh_customer.specs.OutgoingFiles.{Outgoing, outgoing}
-use Rattle.njh_customer.specs.Moves.{LeadsByMoves, nowhere, onward, Moves, MovesBy, Records, by_record, by_sending}
-use Rattle.njh_customer.specs.Moves.{by_end, OneActs, Sends}
 use Rattle.njh_customer.specs.FrameEffects.{Does, Ends, still_on, over_now, GoesOut, no_block, new_block}
 use Rattle.njh_customer.specs.FrameEffects.{records_of_frame}
-use Rattle.njh_customer.specs.MovingLaws.{EventsMoveSo, FramesDoSo, SignalsDoSo, TakesMoveSo, coming}
 use Rattle.njh_customer.specs.Laws.{followed_by}
+use Rattle.njh_customer.specs.Moves.{LeadsByMoves, nowhere, onward, Moves, MovesBy, Records, by_record, by_sending}
+use Rattle.njh_customer.specs.Moves.{by_end, OneActs, Sends}
+use Rattle.njh_customer.specs.MovingLaws.{EventsMoveSo, FramesDoSo, SignalsDoSo, TakesMoveSo, coming}
+use Rattle.njh_customer.specs.OutgoingFiles.{Outgoing, outgoing}
+use Rattle.njh_customer.specs.Part.{part_after_bytes, rest_on}
+use Rattle.njh_customer.specs.Runs.{OwnBytes, OwnSignal, OwnRoutes, Run, event_run}
 use Rattle.njh_customer.proofs.PieceLaws.{no_bytes_do_nothing, steps_follow_bytes}
 use Rattle.njh_customer.proofs.RoutesMoves.{routes_move}
 

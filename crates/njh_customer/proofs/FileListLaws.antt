@@ -1,24 +1,73 @@
 -- Lists of whole files: which of them are there, by their numbers, after a change.
-use Rattle.std.proofs.Common.{◌≡◌, ◌<◌, ℕ, zero, suc, Bool, true, false, cond, not, ◌==◌, ◌||◌, ◌⊎◌, inl, inr, List, [], ◌∷◌}
-use Rattle.std.proofs.Common.{length, map, filter, replicate, get_or, refl, sym, ap, ◌∙◌, arith}
+use Rattle.std.proofs.Common.{◌≡◌, ◌<◌, ℕ, zero, suc, Bool, true, false, cond, not, ◌==◌, ◌||◌, ◌⊎◌, inl, inr, List, []}
+use Rattle.std.proofs.Common.{◌∷◌, length, map, filter, replicate, get_or, refl, sym, ap, ◌∙◌, arith, Some, ap₂, find}
+use Rattle.std.proofs.Common.{sum, ◌+◌, ◌≤◌}
 use Rattle.std.proofs.Math.ListN.{get_or-map}
 use Rattle.std.proofs.lemmas.Bool.{eqb-true}
 use Rattle.std.proofs.lemmas.List.{get_or_default, length-map}
 use Rattle.std.proofs.lemmas.List.Elements.{Contains-append_cases, Contains-append_left, Contains-append_right}
 use Rattle.std.proofs.lemmas.List.Elements.{Contains-get_or}
+use Rattle.std.proofs.lemmas.List.Filters.{sum_by-filter_both}
+use Rattle.std.proofs.lemmas.List.Sums.{sum-map, sum_by-cons}
+use Rattle.std.proofs.lemmas.Simd.{map-map}
 use Rattle.std.specs.List.{Contains, list_any}
+use Rattle.std.specs.Prelude.{sum_by}
 use Rattle.njh_spool.specs.CustomerSpool.{WholeFile}
 use Rattle.njh_spool.specs.declared.State.{State}
 use Rattle.njh_stream.specs.Sending.{ready}
 use Rattle.njh_command.specs.Commands.{changed_file, may_change}
 use Rattle.njh_customer.specs.OutgoingFiles.{with_file_state}
-use Rattle.njh_customer.proofs.EndingMoves.{marked_ready}
 
 -- a list of copies holds nothing else
 pub copies : {A : Type 0} (n k : ℕ) (a : A) → get_or (replicate n a) k a ≡ a
 copies zero k a = refl
 copies (suc n) zero a = refl
 copies (suc n) (suc k) a = copies n k a
+
+-- ---- lists that change in their elements
+
+module _ {X Y : Type 0} (g : X → Y) where
+  -- where a test says so, and g doesn't see it
+  pub changed_where :
+      (p : X → Bool) (change : X → X) (xs : List X) → ((x : X) → g (change x) ≡ g x)
+      → map g (map (λ x. cond (p x) (change x) x) xs) ≡ map g xs
+  changed_where p change [] same = refl
+  changed_where p change (x ∷ xs) same = ap₂ (λ y ys. y ∷ ys) (at_test (p x)) (changed_where p change xs same)
+    where
+      at_test : (b : Bool) → g (cond b (change x) x) ≡ g x
+      at_test true = same x
+      at_test false = refl
+
+  -- where g sees the same there are as many,
+  pub as_many : (xs ys : List X) → map g xs ≡ map g ys → length xs ≡ length ys
+  as_many xs ys e = sym (length-map xs g) ∙ ap (λ (zs : List Y). length zs) e ∙ length-map ys g
+
+  -- and what is added of each by what g sees is the same
+  pub same_sum : (weight : Y → ℕ) (xs ys : List X) → map g xs ≡ map g ys → sum_by (λ x. weight (g x)) xs ≡ sum_by (λ x. weight (g x)) ys
+  same_sum weight xs ys e =
+      sym (sum-map (λ x. weight (g x)) xs)
+      ∙ ap sum (sym (map-map weight g xs) ∙ ap (map weight) e ∙ map-map weight g ys)
+      ∙ sum-map (λ x. weight (g x)) ys
+
+module _ {X : Type 0} (weight : X → ℕ) (p : X → Bool) where
+  pub some_less : (xs : List X) → sum_by weight (filter p xs) ≤ sum_by weight xs
+  some_less xs = omega (arith, sum_by-filter_both p (λ x. not (p x)) (λ x. refl) weight xs)
+
+  -- without those that pass a test, of which one was found
+  pub found_less :
+      (xs : List X) (x : X) → find p xs ≡ Some x → sum_by weight (filter (λ y. not (p y)) xs) + weight x ≤ sum_by weight xs
+  found_less [] x e = absurd (cc e)
+  found_less (y ∷ ys) x e = at_test (p y) (found_less ys x) e
+    where
+      left : List X
+      left = filter (λ z. not (p z)) ys
+
+      at_test : (b : Bool) → (find p ys ≡ Some x → sum_by weight left + weight x ≤ sum_by weight ys) → cond b (Some y) (find p ys) ≡ Some x
+          → sum_by weight (cond (not b) (y ∷ left) left) + weight x ≤ sum_by weight (y ∷ ys)
+      at_test true rest e =
+          let same : weight y ≡ weight x = ap weight (cc e) in
+          omega (arith, same, sum_by-filter_both p (λ z. not (p z)) (λ z. refl) weight ys, sum_by-cons weight y ys)
+      at_test false rest e = omega (arith, rest e, sum_by-cons weight y left, sum_by-cons weight y ys)
 
 -- ---- the elements of lists
 
@@ -59,29 +108,18 @@ by_numbers n (f ∷ fs) = ap (λ b. (f.number == n) || b) (by_numbers n fs)
 pub same_numbered : (n : ℕ) (fs gs : List WholeFile) → numbers fs ≡ numbers gs → any_numbered n fs ≡ any_numbered n gs
 same_numbered n fs gs e = by_numbers n fs ∙ ap (list_any (λ m. m == n)) e ∙ sym (by_numbers n gs)
 
-ready_numbers : (fs : List WholeFile) → numbers (map ready fs) ≡ numbers fs
-ready_numbers [] = refl
-ready_numbers (f ∷ fs) = ap (λ rest. f.number ∷ rest) (ready_numbers fs)
-
 -- files that are the same but for their states
 pub but_states : (fs gs : List WholeFile) → map ready fs ≡ map ready gs → numbers fs ≡ numbers gs
-but_states fs gs e = sym (ready_numbers fs) ∙ ap numbers e ∙ ready_numbers gs
+but_states fs gs e =
+    sym (map-map (λ f. f.number) ready fs) ∙ ap numbers e ∙ map-map (λ f. f.number) ready gs
 
 pub marked_numbers : (n : ℕ) (state : State) (fs : List WholeFile) → numbers (with_file_state n state fs) ≡ numbers fs
-marked_numbers n state fs = but_states (with_file_state n state fs) fs (marked_ready n state fs)
+marked_numbers n state fs = changed_where (λ f. f.number) (λ f. f.number == n) (λ f. record f { state = state }) fs (λ f. refl)
 
 pub changed_numbers :
     (p : WholeFile → Bool) (change : WholeFile → WholeFile) (fs : List WholeFile) → ((f : WholeFile) → (change f).number ≡ f.number)
     → numbers (map (changed_file p change) fs) ≡ numbers fs
-changed_numbers p change [] same = refl
-changed_numbers p change (f ∷ fs) same = at_test (may_change p f) (changed_numbers p change fs same)
-  where
-    rest : List ℕ
-    rest = numbers (map (changed_file p change) fs)
-
-    at_test : (b : Bool) → rest ≡ numbers fs → (cond b (change f) f).number ∷ rest ≡ f.number ∷ numbers fs
-    at_test true e = ap (λ n. n ∷ rest) (same f) ∙ ap (λ more. f.number ∷ more) e
-    at_test false e = ap (λ more. f.number ∷ more) e
+changed_numbers p change fs same = changed_where (λ f. f.number) (may_change p) change fs same
 
 -- ---- a file that is gone
 

@@ -4,17 +4,18 @@ use Rattle.std.proofs.Common.{◌++◌, length, find, Option, Some, None, refl, 
 use Rattle.std.proofs.Common.{append_assoc, append-nil}
 use Rattle.std.proofs.lemmas.List.Elements.{Contains-append_cases, Contains-append_right, Contains-push_cases}
 use Rattle.std.specs.List.{Contains}
-use Rattle.njh_header.specs.Redirecting.{records_to_node}
 use Rattle.njh_record.specs.Stored.{Stored}
 use Rattle.njh_record.specs.declared.Kind.{Kind}
+use Rattle.njh_header.specs.Redirecting.{records_to_node}
 use Rattle.njh_spool.specs.CustomerSpool.{CustomerSpool, PartialFile, WholeFile, max_arrived, next_number}
 use Rattle.njh_spool.specs.CustomerSpool.{with_new_partial, with_appended, without_partial, as_whole, with_arrived}
 use Rattle.njh_spool.specs.CustomerSpool.{partial_numbered, with_finished}
-use Rattle.njh_customer.specs.Surviving.{IsRerouted, as_before, to_node, IsStill, Survive, none, stays, leaves}
 use Rattle.njh_customer.specs.Growing.{HasCome, few, goes_on, HasBecomeWhole, FilesGrow, FilesGrowFurther}
 use Rattle.njh_customer.specs.Growing.{ReroutesKeepCounts, ManyRecordsGoOn}
-use Rattle.njh_customer.proofs.FileListLaws.{from_map, from_filter}
-use Rattle.njh_customer.proofs.SurvivingLaws.{rerouted_then, same_files, survive_then, no_more, SurviveBoth, survive_both}
+use Rattle.njh_customer.specs.Surviving.{IsRerouted, as_before, to_node, IsStill, Survive, none, stays, leaves}
+use Rattle.njh_customer.proofs.FileListLaws.{from_filter, from_map}
+use Rattle.njh_customer.proofs.SurvivingLaws.{rerouted_then, same_files, survive_then, no_more, SurviveBoth}
+use Rattle.njh_customer.proofs.SurvivingLaws.{survive_both}
 
 -- ---- records that have come
 

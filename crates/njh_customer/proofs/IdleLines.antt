@@ -1,39 +1,49 @@
 -- A line that isn't up has no stream about a file and no answer that waits, and SYSOUT 4 counts as served last.
 use Rattle.std.proofs.Common.{◌≡◌, ℕ, zero, suc, ◌+◌, ◌<◌, Bool, true, false, cond, ◌==◌, nat_lt, List, [], ◌∷◌, length}
-use Rattle.std.proofs.Common.{map, fold, set, get_or, Option, Some, None, Result, Ok, Err, refl, sym, ap, subst}
-use Rattle.std.proofs.Common.{◌∙◌, arith}
-use Rattle.std.specs.Option.{option_map}
+use Rattle.std.proofs.Common.{map, fold, set, get_or, Option, Some, None, Result, Ok, Err, refl, sym, ap, subst, ◌∙◌}
+use Rattle.std.proofs.Common.{arith}
 use Rattle.std.proofs.Math.ListN.{get_or-map}
 use Rattle.std.proofs.Math.Seq.{map-set_same}
 use Rattle.std.proofs.lemmas.Bool.{eqb-true, eqb-false, ltb-true}
 use Rattle.std.proofs.lemmas.Grind.{get_or-set_at}
 use Rattle.std.proofs.lemmas.List.{get_or-set_same, get_or-set_other, length-map, length-set}
+use Rattle.std.specs.Option.{option_map}
 use Rattle.njh_bisync.specs.Frames as frame
 use Rattle.njh_bisync.specs.Frames.{Received}
 use Rattle.njh_bisync.specs.declared.frame.Control.TheVariants as control
 use Rattle.njh_ebcdic.specs.Users.{User}
-use Rattle.njh_header.specs.SignOns.{SignOn}
 use Rattle.njh_block.specs.Blocks as block
 use Rattle.njh_block.specs.Blocks.{Block, Item, read_block, stream_number, stream_of}
 use Rattle.njh_block.specs.Codes.{kind_of}
 use Rattle.njh_block.specs.declared.answer.Answer.{Answer}
 use Rattle.njh_block.specs.declared.fault.BlockFault.{BlockFault}
-use Rattle.njh_texts.specs.Texts.{node_unknown}
-use Rattle.njh_nmr.specs.declared.fault.NmrFault.{NmrFault}
+use Rattle.njh_header.specs.SignOns.{SignOn}
 use Rattle.njh_nmr.specs.Nodal.{Nodal, nodal_of, is_user_command, cut_after_message, notice_record, sender_of}
+use Rattle.njh_nmr.specs.declared.fault.NmrFault.{NmrFault}
+use Rattle.njh_texts.specs.Texts.{node_unknown}
 use Rattle.njh_spool.specs.CustomerSpool.{CustomerSpool}
 use Rattle.njh_table.specs.Entries.{CustomerEntry, LineEntry, route_of}
 use Rattle.njh_table.specs.declared.Role.{Role}
 use Rattle.njh_table.specs.declared.Role.TheVariants as role
 use Rattle.njh_table.specs.declared.Route.{Route}
 use Rattle.njh_table.specs.declared.Route.TheVariants.{Here, Line, Unknown}
-use Rattle.njh_stream.specs.declared.receiver.Receiver.TheVariants as receiver
-use Rattle.njh_stream.specs.declared.sender.Sender.TheVariants as sender
 use Rattle.njh_stream.specs.Arrivals.{answer_on}
 use Rattle.njh_stream.specs.Receiving as receiving
 use Rattle.njh_stream.specs.Receiving.{Arrival, Notice, received_arrival}
 use Rattle.njh_stream.specs.Sending.{SenderOutcome, after_grant, after_refusal, after_completion}
+use Rattle.njh_stream.specs.declared.receiver.Receiver.{Receiver}
+use Rattle.njh_stream.specs.declared.receiver.Receiver.TheVariants as receiver
+use Rattle.njh_stream.specs.declared.sender.Sender.TheVariants as sender
 use Rattle.njh_command.specs.Commands.{CommandOutcome, message_outcome, without_file}
+use Rattle.njh_line.specs.Counts.{bcb_type, bcb_count, count_verdict, is_repeat, is_taken}
+use Rattle.njh_line.specs.Laws.{is_up}
+use Rattle.njh_line.specs.LineTable as input
+use Rattle.njh_line.specs.LineTable.{Input, table_outcome, cell, none, enquiry, ack0, hang_up, end, end_and_contact}
+use Rattle.njh_line.specs.LineTable.{try_with, try_again, try_nak, with_reply, contact, call, i_block, next_or_turn}
+use Rattle.njh_line.specs.LineTable.{next_in_turn, by_count, signed_on, i_sign_on, j_sign_on, act}
+use Rattle.njh_line.specs.Lines.{after_end, after_input, with_answer, with_message}
+use Rattle.njh_line.specs.Openings.{fitting}
+use Rattle.njh_line.specs.Up.{InputsKeepUp, KeepsUp}
 use Rattle.njh_line.specs.declared.Phase.{Phase}
 use Rattle.njh_line.specs.declared.Phase.TheVariants.{Down, Calling, Answered, SentI, Up}
 use Rattle.njh_line.specs.declared.config.Config.{Config}
@@ -42,32 +52,24 @@ use Rattle.njh_line.specs.declared.session.Session.{Session}
 use Rattle.njh_line.specs.declared.verdict.LineReply.{LineReply}
 use Rattle.njh_line.specs.declared.verdict.LineReply.TheVariants as reply
 use Rattle.njh_line.specs.declared.verdict.Verdict.{Verdict}
-use Rattle.njh_line.specs.Counts.{bcb_type, bcb_count, count_verdict, is_repeat, is_taken}
-use Rattle.njh_line.specs.Laws.{is_up}
-use Rattle.njh_line.specs.LineTable as input
-use Rattle.njh_line.specs.LineTable.{Input, table_outcome, cell, none, enquiry, ack0, hang_up, end}
-use Rattle.njh_line.specs.LineTable.{end_and_contact, try_with, try_again, try_nak, with_reply, contact, call, i_block}
-use Rattle.njh_line.specs.LineTable.{next_or_turn, next_in_turn, by_count, signed_on, i_sign_on, j_sign_on, act}
-use Rattle.njh_line.specs.Openings.{fitting}
-use Rattle.njh_line.specs.Lines.{after_end, after_input, with_answer, with_message}
-use Rattle.njh_line.specs.Up.{InputsKeepUp, KeepsUp}
-use Rattle.njh_customer.specs.declared.signal.Signal.{Signal}
-use Rattle.njh_customer.specs.Customer.{Customer, CustomerLine, no_customer_line, line_at, on_line, in_state}
-use Rattle.njh_customer.specs.Customer.{with_notice, receiver_at, with_receiver, sender_at, with_sender}
-use Rattle.njh_customer.specs.Customer.{config_of, fresh_customer, idle_line}
-use Rattle.njh_customer.specs.Waiting.{with_answer_on, with_waiting, goes, with_message_to, all_said, with_notice_to}
 use Rattle.njh_customer.specs.Acting.{after_stream_arrival, after_stream_record, with_sender_outcome, after_permission}
 use Rattle.njh_customer.specs.Acting.{refusal_of, after_stream_request, peer_answered, without_sending, with_outcome}
-use Rattle.njh_customer.specs.Acting.{after_user_command, after_unknown_node, message_routed, message_read, with_senders_by}
-use Rattle.njh_customer.specs.Acting.{after_message, after_record, ends_session, ended_or, all_acted, acted_where, Acted}
-use Rattle.njh_customer.specs.Sending.{sending_of_reply}
-use Rattle.njh_customer.specs.Alone.{CustomerStep, with_idle_streams, silent, replied_to, session_over, session_over_where}
-use Rattle.njh_customer.specs.Alone.{session_ended, carried_out, verdict_on, accepted_on, after_line_input, block_input}
-use Rattle.njh_customer.specs.Alone.{behind_records, text_read, after_text, after_received, signal_input}
-use Rattle.njh_customer.specs.Alone.{after_frame, after_signal}
+use Rattle.njh_customer.specs.Acting.{after_user_command, after_unknown_node, message_routed, message_read}
+use Rattle.njh_customer.specs.Acting.{with_senders_by, after_message, after_record, ends_session, ended_or, all_acted}
+use Rattle.njh_customer.specs.Acting.{acted_where, Acted}
+use Rattle.njh_customer.specs.Alone.{CustomerStep, with_idle_streams, silent, replied_to, session_over}
+use Rattle.njh_customer.specs.Alone.{session_over_where, session_ended, carried_out, verdict_on, accepted_on}
+use Rattle.njh_customer.specs.Alone.{after_line_input, block_input, behind_records, text_read, after_text}
+use Rattle.njh_customer.specs.Alone.{after_received, signal_input, after_frame, after_signal}
+use Rattle.njh_customer.specs.Customer.{Customer, CustomerLine, no_customer_line, line_at, on_line, in_state}
+use Rattle.njh_customer.specs.Customer.{with_notice, receiver_at, with_receiver, sender_at, with_sender, config_of}
+use Rattle.njh_customer.specs.Customer.{fresh_customer, idle_line}
 use Rattle.njh_customer.specs.InOrder.{IsIdle, IdleUnlessUp, phase_of}
+use Rattle.njh_customer.specs.Sending.{sending_of_reply}
+use Rattle.njh_customer.specs.Waiting.{with_answer_on, with_waiting, goes, with_message_to, all_said, with_notice_to}
+use Rattle.njh_customer.specs.declared.signal.Signal.{Signal}
 use Rattle.njh_customer.proofs.FileListLaws.{copies}
-use Rattle.njh_customer.proofs.MarkLaws.{reply_lasting}
+use Rattle.njh_customer.proofs.ReplyLaws.{reply_lasting}
 
 -- ---- what the line table asks for
 
@@ -454,7 +456,7 @@ replied_rests l r c up rest = set_rests l sent c.lines (others l c.lines rest) (
     sent = (sending_of_reply c.entry l r c.spool x).line
 
     as_far : is_up (phase_of sent) ≡ is_up (phase_of x)
-    as_far = ap (λ (p : Config × Phase × ℕ). is_up p.1) (reply_lasting c.entry l r c.spool x)
+    as_far = ap (λ (p : Config × Phase × ℕ × List Receiver). is_up p.1) (reply_lasting c.entry l r c.spool x)
 
     at : (b : Bool) → is_next r ≡ b → l < length c.lines → is_up (phase_of sent) ≡ false → IsIdle sent
     at true e there down = absurd (cc (sym down ∙ as_far ∙ up e))

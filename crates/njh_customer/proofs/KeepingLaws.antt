@@ -5,15 +5,15 @@ use Rattle.njh_bisync.specs.Frames.{Received}
 use Rattle.njh_bisync.specs.Reading.{Rest}
 use Rattle.njh_table.specs.Entries.{CustomerEntry}
 use Rattle.njh_table.specs.NewRoutes.{routes_checked}
-use Rattle.njh_customer.specs.Part.{rest_on}
-use Rattle.njh_customer.specs.NewRoutes.{entry_with}
-use Rattle.njh_customer.specs.Runs.{OwnBytes, OwnSignal, OwnRoutes, event_run}
-use Rattle.njh_customer.specs.MovingLaws.{FramesDoSo, SignalsDoSo}
-use Rattle.njh_customer.specs.Customer.{Customer, with_marks}
 use Rattle.njh_customer.specs.Alone.{after_signal}
+use Rattle.njh_customer.specs.Customer.{Customer, with_marks}
 use Rattle.njh_customer.specs.Feeding.{acted_on, byte_step, or_later, take_step, Taking}
 use Rattle.njh_customer.specs.FrameEffects.{records_of_frame}
 use Rattle.njh_customer.specs.Laws.{EventsKeepEntries, EventsKeepFaults, EventsKeepLines, TakesKeepEntries}
+use Rattle.njh_customer.specs.MovingLaws.{FramesDoSo, SignalsDoSo}
+use Rattle.njh_customer.specs.NewRoutes.{entry_with}
+use Rattle.njh_customer.specs.Part.{rest_on}
+use Rattle.njh_customer.specs.Runs.{OwnBytes, OwnSignal, OwnRoutes, event_run}
 use Rattle.njh_customer.proofs.EventMoves.{bytes_keep_entry, bytes_move, does_entry}
 use Rattle.njh_customer.proofs.RoutesMoves.{routes_do, routes_keep_entry}
 

@@ -7,20 +7,20 @@ use Rattle.std.specs.List.{Contains}
 use Rattle.njh_block.specs.Blocks.{Item}
 use Rattle.njh_spool.specs.CustomerSpool.{WholeFile}
 use Rattle.njh_spool.specs.declared.State.TheVariants.{Held, Ready, Refused, Sending}
-use Rattle.njh_table.specs.Marks.{entry_marked}
 use Rattle.njh_table.specs.Entries.{CustomerEntry}
+use Rattle.njh_table.specs.Marks.{entry_marked}
 use Rattle.njh_table.specs.NewRoutes.{entries_of_routes}
 use Rattle.njh_stream.specs.declared.sender.Sender.TheVariants.{EofSent}
 use Rattle.njh_command.specs.Commands.{is_of_name, with_new_destination, file_in_state, without_file}
-use Rattle.njh_customer.specs.NewRoutes.{entry_with}
-use Rattle.njh_customer.specs.OutgoingFiles.{Outgoing, each_stream, has_file, with_files}
 use Rattle.njh_customer.specs.Moves as moves
 use Rattle.njh_customer.specs.Moves.{Acts, Records, Routes, LeadsByMoves, nowhere, onward, Moves, MovesBy, by_record}
-use Rattle.njh_customer.specs.Moves.{by_sending, by_end, Sends, without_files}
+use Rattle.njh_customer.specs.Moves.{by_sending, by_end, without_files}
 use Rattle.njh_customer.specs.MovingLaws as laws
 use Rattle.njh_customer.specs.MovingLaws.{Leaves, LeavesBy, FilesLeaveSo, FilesLeaveSoBetween}
-use Rattle.njh_customer.proofs.FileListLaws.{any_numbered, one_gone, numbers, same_numbered, but_states, marked_numbers}
-use Rattle.njh_customer.proofs.FileListLaws.{changed_numbers}
+use Rattle.njh_customer.specs.NewRoutes.{entry_with}
+use Rattle.njh_customer.specs.OutgoingFiles.{Outgoing, each_stream, has_file, with_files}
+use Rattle.njh_customer.proofs.FileListLaws.{any_numbered, changed_numbers, marked_numbers, numbers, one_gone}
+use Rattle.njh_customer.proofs.FileListLaws.{same_numbered, but_states}
 use Rattle.njh_customer.proofs.RoutesMoves.{held_numbers}
 
 -- the streams give files up, and no file changes

@@ -1,5 +1,12 @@
+pub mod FileListLaws
+pub mod Restated
+pub mod RecordsDo
+pub mod LineWalks
+pub mod KeptLines
+pub mod StepWalks
+pub mod SpoolWalks
+pub mod ReplyLaws
 pub mod ShapeLaws
-pub mod HeaderLaws
 pub mod CoherenceLaws
 pub mod StepLaws
 pub mod ReadyLaws
@@ -14,12 +21,10 @@ pub mod OutgoingLaws
 pub mod ActingMoves
 pub mod SendingMoves
 pub mod EndingMoves
-pub mod KeptLines
 pub mod RecordsMoves
 pub mod DoingLaws
 pub mod BlocksCarry
 pub mod EventMoves
-pub mod FileListLaws
 pub mod LeavingLaws
 pub mod StreamMoveLaws
 pub mod SurvivingLaws
@@ -28,7 +33,6 @@ pub mod DisregardingLaws
 pub mod NewRouteLaws
 pub mod RoutesMoves
 pub mod KeepingLaws
-pub mod StepWalks
 pub mod MarkLaws
 pub mod GrowingLaws
 pub mod PartialNumbers

@@ -11,36 +11,36 @@ use Rattle.njh_spool.specs.CustomerSpool.{CustomerSpool, PartialFile, WholeFile,
 use Rattle.njh_spool.specs.declared.State.{State}
 use Rattle.njh_spool.specs.declared.State.TheVariants.{Ready, Held, Refused, Sending}
 use Rattle.njh_table.specs.Entries.{CustomerEntry}
-use Rattle.njh_stream.specs.declared.receiver.Receiver.TheVariants as receiver
-use Rattle.njh_stream.specs.declared.sender.Sender.{Sender}
-use Rattle.njh_stream.specs.declared.sender.Sender.TheVariants as sender
 use Rattle.njh_stream.specs.Sending.{all_ended, file_in, goes_by, is_refused, may_go_again, ready, spool_after_session}
 use Rattle.njh_stream.specs.Sending.{tried_again}
 use Rattle.njh_stream.specs.Streams.{coming_file}
+use Rattle.njh_stream.specs.declared.receiver.Receiver.TheVariants as receiver
+use Rattle.njh_stream.specs.declared.sender.Sender.{Sender}
+use Rattle.njh_stream.specs.declared.sender.Sender.TheVariants as sender
+use Rattle.njh_line.specs.Laws.{is_up}
+use Rattle.njh_line.specs.LineTable as input
+use Rattle.njh_line.specs.LineTable.{table_outcome, cell, end, hang_up, none}
+use Rattle.njh_line.specs.Lines.{after_input}
 use Rattle.njh_line.specs.declared.Phase.{Phase}
 use Rattle.njh_line.specs.declared.Phase.TheVariants.{Down, Calling, Answered, SentI, Up}
 use Rattle.njh_line.specs.declared.config.Config.{Config}
 use Rattle.njh_line.specs.declared.session.Session.{Session}
 use Rattle.njh_line.specs.declared.verdict.LineReply.TheVariants as reply
 use Rattle.njh_line.specs.declared.verdict.Verdict.{Verdict}
-use Rattle.njh_line.specs.Laws.{is_up}
-use Rattle.njh_line.specs.LineTable as input
-use Rattle.njh_line.specs.LineTable.{table_outcome, cell, end, hang_up, none}
-use Rattle.njh_line.specs.Lines.{after_input}
-use Rattle.njh_customer.specs.declared.signal.Signal.TheVariants.{Lost}
-use Rattle.njh_customer.specs.Customer.{Customer, CustomerLine, no_customer_line, line_at, in_state, receiver_at}
-use Rattle.njh_customer.specs.OutgoingFiles.{with_file_state}
 use Rattle.njh_customer.specs.Alone.{silent, with_idle_streams, session_over, session_over_where, replied_to}
 use Rattle.njh_customer.specs.Alone.{carried_out, verdict_on, accepted_on, after_line_input, after_signal}
+use Rattle.njh_customer.specs.Customer.{Customer, CustomerLine, no_customer_line, line_at, in_state, receiver_at}
+use Rattle.njh_customer.specs.InOrder.{IsInOrder, IsIdle, StaysInOrder, LossesLeaveFiles, phase_of, at_rest}
+use Rattle.njh_customer.specs.InOrder.{state_at_rest, losses, after_losses}
+use Rattle.njh_customer.specs.OutgoingFiles.{with_file_state}
 use Rattle.njh_customer.specs.Part.{Part, rest_at, rest_on}
 use Rattle.njh_customer.specs.Runs.{OwnSignal, alone_run, event_run}
-use Rattle.njh_customer.specs.InOrder.{IsInOrder, IsIdle, StaysInOrder, LossesLeaveFiles, phase_of}
-use Rattle.njh_customer.specs.InOrder.{at_rest, state_at_rest, losses, after_losses}
+use Rattle.njh_customer.specs.declared.signal.Signal.TheVariants.{Lost}
 use Rattle.njh_customer.proofs.CoherenceLaws as coherence
 use Rattle.njh_customer.proofs.DownLines.{set_down}
-use Rattle.njh_customer.proofs.EndingMoves.{ended_where, without_all_whole}
 use Rattle.njh_customer.proofs.FileListLaws.{from_map}
 use Rattle.njh_customer.proofs.OutgoingLaws.{on_line_senders, stream_is}
+use Rattle.njh_customer.proofs.Restated.{ended_where, without_open_same}
 
 -- ---- the files at rest
 
@@ -194,7 +194,7 @@ module _ (l : ℕ) (c : Customer) (order : IsInOrder c) where
   over_files : map at_rest (session_over l judged).spool.whole ≡ map at_rest c.spool.whole
   over_files =
       let x = line_at l judged.lines in
-      ap (map at_rest) (without_all_whole x.receivers (tried_again judged.entry l (all_ended x.senders c.spool)))
+      ap (map at_rest) ((without_open_same x.receivers (tried_again judged.entry l (all_ended x.senders c.spool))).whole)
       ∙ tried_at_rest judged.entry l (all_ended x.senders c.spool).whole
       ∙ all_ended_at_rest x.senders c.spool sent_ready
 

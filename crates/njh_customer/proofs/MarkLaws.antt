@@ -1,45 +1,33 @@
 -- The lines that are marked as up are those that are up.
-use Rattle.std.proofs.Common.{◌≡◌, ℕ, Bool, true, false, ◌&&◌, ◌||◌, not, cond, List, [], ◌∷◌, map, length, set, get_or}
-use Rattle.std.proofs.Common.{Result, Ok, Err, nat_lt, refl, sym, ap, ◌∙◌}
+use Rattle.std.proofs.Common.{◌≡◌, ℕ, Bool, true, false, ◌&&◌, not, List, map, set, get_or, refl, sym, ap, ◌∙◌}
 use Rattle.std.proofs.Math.ListN.{get_or-map}
 use Rattle.std.proofs.Math.Seq.{map-set_same}
 use Rattle.std.proofs.lemmas.List.{map-set, set-get_or, set-set}
 use Rattle.std.proofs.lemmas.Simd.{map-map}
-use Rattle.njh_bisync.specs.Frames as frame
-use Rattle.njh_bisync.specs.Frames.{Received}
-use Rattle.njh_bisync.specs.declared.frame.Control.{Control}
-use Rattle.njh_bisync.specs.declared.frame.Control.TheVariants as control
-use Rattle.njh_block.specs.Blocks.{Block, Item, all_suspended, read_block, same_fcs}
-use Rattle.njh_block.specs.Writing.{Writing}
-use Rattle.njh_block.specs.declared.fault.BlockFault.{BlockFault}
-use Rattle.njh_spool.specs.CustomerSpool.{CustomerSpool}
+use Rattle.njh_block.specs.Blocks.{Block}
 use Rattle.njh_table.specs.Entries.{CustomerEntry}
+use Rattle.njh_stream.specs.declared.receiver.Receiver.{Receiver}
+use Rattle.njh_command.specs.CommandLaws.{CommandsMoveFilesSo}
+use Rattle.njh_line.specs.Laws.{is_up}
+use Rattle.njh_line.specs.LineTable.{Input}
+use Rattle.njh_line.specs.Lines.{after_end, after_input}
+use Rattle.njh_line.specs.Up.{InputsKeepUp, KeepsUp}
 use Rattle.njh_line.specs.declared.Phase.{Phase}
 use Rattle.njh_line.specs.declared.config.Config.{Config}
-use Rattle.njh_line.specs.declared.verdict.LineReply.{LineReply}
-use Rattle.njh_line.specs.declared.verdict.LineReply.TheVariants as reply
 use Rattle.njh_line.specs.declared.verdict.Verdict.{Verdict}
-use Rattle.njh_line.specs.Laws.{is_up}
-use Rattle.njh_line.specs.LineTable as input
-use Rattle.njh_line.specs.LineTable.{Input}
-use Rattle.njh_line.specs.Lines.{LineState, after_end, after_input}
-use Rattle.njh_line.specs.Up.{InputsKeepUp, KeepsUp}
-use Rattle.njh_command.specs.CommandLaws.{CommandsMoveFilesSo}
-use Rattle.njh_customer.specs.declared.signal.Signal.{Signal}
+use Rattle.njh_customer.specs.Acting.{Acted, acted_where}
+use Rattle.njh_customer.specs.Alone.{with_idle_streams, with_raised_line, goes_up, replied_to, session_over_where}
+use Rattle.njh_customer.specs.Alone.{session_ended, carried_out, verdict_on, accepted_on, after_line_input, block_input}
+use Rattle.njh_customer.specs.Alone.{behind_records, after_block}
 use Rattle.njh_customer.specs.Customer.{Customer, CustomerLine, IsMarked, no_customer_line, line_at, on_line, in_state}
 use Rattle.njh_customer.specs.Customer.{config_of, fresh_customer, idle_line}
-use Rattle.njh_customer.specs.Acting.{Acted, acted_where}
-use Rattle.njh_customer.specs.Sending.{Sending, sending_of_block, sending_of_control, sending_of_empty, next_block}
-use Rattle.njh_customer.specs.Sending.{sending_of_no_block, sending_of_reply, with_outlet, sending_of_written}
-use Rattle.njh_customer.specs.Alone.{CustomerStep, with_idle_streams, with_raised_line, goes_up, silent, replied_to, session_over_where}
-use Rattle.njh_customer.specs.Alone.{session_ended, carried_out, verdict_on, accepted_on, after_line_input, block_input}
-use Rattle.njh_customer.specs.Alone.{behind_records, after_block, text_read, after_text, after_received, signal_input}
-use Rattle.njh_customer.specs.Alone.{after_frame, after_signal}
-use Rattle.njh_customer.specs.Part.{rest_on}
 use Rattle.njh_customer.specs.Laws.{MarksAreRight}
+use Rattle.njh_customer.specs.Part.{rest_on}
+use Rattle.njh_customer.specs.Sending.{sending_of_reply}
 use Rattle.njh_customer.proofs.KeptLines.{kept, kepts}
 use Rattle.njh_customer.proofs.RecordsMoves.{Acting, acting_where}
-use Rattle.njh_customer.proofs.StepWalks.{StaysInFrames, event_so, take_so}
+use Rattle.njh_customer.proofs.ReplyLaws.{reply_lasting}
+use Rattle.njh_customer.proofs.StepWalks.{StaysInFrames, event_so, frame_holds, signal_holds, take_so}
 
 -- ---- which lines are up
 
@@ -54,56 +42,6 @@ is_kept_up k = is_up k.2
 
 ups_kept : (xs ys : List CustomerLine) → kepts xs ≡ kepts ys → ups xs ≡ ups ys
 ups_kept xs ys e = sym (map-map is_kept_up kept xs) ∙ ap (map is_kept_up) e ∙ map-map is_kept_up kept ys
-
--- ---- what a line sends leaves it set up as it was, and as far as it was
-
-abbrev lasting : LineState → Config × Phase
-lasting x = (x.config, x.session.phase)
-
-control_lasting : (which : Control) (x : LineState) → lasting (sending_of_control which x).line ≡ lasting x
-control_lasting control.Enquiry x = refl
-control_lasting control.Ack0 x = refl
-control_lasting control.Nak x = refl
-
-no_block_lasting : (or_ack0 : Bool) (x : LineState) → lasting (sending_of_no_block or_ack0 x).line ≡ lasting x
-no_block_lasting true x = refl
-no_block_lasting false x = refl
-
-abbrev empty_where : Bool → Bool → Writing → LineState → Sending
-empty_where b or_ack0 w x = elim b [ true ↦ sending_of_no_block or_ack0 x | false ↦ sending_of_block w x ]
-
-empty_lasting : (or_ack0 : Bool) (w : Writing) (x : LineState) → lasting (sending_of_empty or_ack0 w x).line ≡ lasting x
-empty_lasting or_ack0 w x = at (all_suspended x.session.peer_fcs || same_fcs w.fcs x.session.own_fcs)
-  where
-    at : (b : Bool) → lasting (empty_where b or_ack0 w x).line ≡ lasting x
-    at true = no_block_lasting or_ack0 x
-    at false = refl
-
-abbrev written_where : Bool → Writing → LineState → List Item → Sending
-written_where or_ack0 w x is = elim is [ [] ↦ sending_of_empty or_ack0 w x | i ∷ js ↦ sending_of_block w x ]
-
-written_lasting : (or_ack0 : Bool) (w : Writing) (x : LineState) → lasting (sending_of_written or_ack0 w x).line ≡ lasting x
-written_lasting or_ack0 w x = at w.items
-  where
-    at : (is : List Item) → lasting (written_where or_ack0 w x is).line ≡ lasting x
-    at [] = empty_lasting or_ack0 w x
-    at (i ∷ is) = refl
-
--- and with as many streams
-abbrev pub line_lasting : CustomerLine → Config × Phase × ℕ
-line_lasting x = (x.state.config, x.state.session.phase, x.streams)
-
-pub reply_lasting :
-    (entry : CustomerEntry) (l : ℕ) (r : LineReply) (s : CustomerSpool) (x : CustomerLine)
-    → line_lasting (sending_of_reply entry l r s x).line ≡ line_lasting x
-reply_lasting entry l reply.Nothing s x = refl
-reply_lasting entry l (reply.Control which) s x = ap (λ (p : Config × Phase). (p.0, p.1, x.streams)) (control_lasting which x.state)
-reply_lasting entry l reply.Again s x = refl
-reply_lasting entry l (reply.SignOn kind) s x = refl
-reply_lasting entry l (reply.Sequence expected) s x = refl
-reply_lasting entry l (reply.Next or_ack0) s x =
-    let f = next_block entry l s x in
-    ap (λ (p : Config × Phase). (p.0, p.1, x.streams)) (written_lasting or_ack0 f.block (with_outlet f.outlet x).state)
 
 -- ---- marks
 
@@ -159,7 +97,7 @@ module _ (keep : InputsKeepUp) (l : ℕ) (came : Input) (c : Customer) (marked :
       sent_ups : ups sent.lines ≡ set (ups c.lines) l (is_up after)
       sent_ups =
           map-set_same is_line_up d.lines l (sending_of_reply d.entry l v.reply d.spool (line_at l d.lines)).line no_customer_line
-          (ap (λ (p : Config × Phase × ℕ). is_up p.1) (reply_lasting d.entry l v.reply d.spool (line_at l d.lines)))
+          (ap (λ (p : Config × Phase × ℕ × List Receiver). is_up p.1) (reply_lasting d.entry l v.reply d.spool (line_at l d.lines)))
           ∙ ups_kept d.lines (accepted_on l came c).lines kept_so ∙ accepted_ups
 
       at : (b : Bool) → b ≡ (verdict_on l came c).ended → IsMarked (session_over_where b l sent)
@@ -205,36 +143,19 @@ module _ (keep : InputsKeepUp) (commands : CommandsMoveFilesSo) where
       at true = ended_marked keep l (block_input b) c marked a.customer acting.entry acting.kept
       at false = carried_marked keep l (block_input b) c marked v a.customer acting.entry acting.kept refl
 
-  text_marked : (l : ℕ) (text : List ℕ) (c : Customer) → IsMarked c → IsMarked (after_text l text c).after
-  text_marked l text c marked = at (read_block text)
-    where
-      at : (b : Result Block BlockFault) → IsMarked (text_read l b c).after
-      at (Ok b) = block_marked l b c marked
-      at (Err e) = input_marked keep l input.Bad c marked
-
-  received_marked : (l : ℕ) (x : Received) (c : Customer) → IsMarked c → IsMarked (after_received l x c).after
-  received_marked l frame.Enquiry c marked = input_marked keep l input.Enquiry c marked
-  received_marked l frame.Ack0 c marked = input_marked keep l input.Ack0 c marked
-  received_marked l frame.Nak c marked = input_marked keep l input.Nak c marked
-  received_marked l frame.Eot c marked = input_marked keep l input.Eot c marked
-  received_marked l (frame.Text text) c marked = text_marked l text c marked
-  received_marked l frame.Spoiled c marked = input_marked keep l input.Spoiled c marked
-
-  where_marked : (b : Bool) (x : CustomerStep) (c : Customer) → IsMarked c → IsMarked x.after → IsMarked (cond b x (silent c)).after
-  where_marked true x c marked step = step
-  where_marked false x c marked step = marked
-
-  frame_marked : (l : ℕ) (x : Received) (c : Customer) → IsMarked c → IsMarked (after_frame l x c).after
-  unfolding after_frame
-  frame_marked l x c marked = where_marked (nat_lt l (length c.lines)) (after_received l x c) c marked (received_marked l x c marked)
-
-  signal_marked : (l : ℕ) (x : Signal) (c : Customer) → IsMarked c → IsMarked (after_signal l x c).after
-  unfolding after_signal
-  signal_marked l x c marked =
-      where_marked (nat_lt l (length c.lines)) (after_line_input l (signal_input x) c) c marked (input_marked keep l (signal_input x) c marked)
-
   frames_marked : StaysInFrames IsMarked
-  frames_marked = record { by_frame = frame_marked; by_signal = signal_marked; by_routes = λ routes c marked. marked }
+  frames_marked = record {
+    by_frame = λ l x c marked.
+        frame_holds l c (λ items s. IsMarked s.after)
+        (record {
+          none = λ items. marked;
+          input = λ came there. input_marked keep l came c marked;
+          block = λ b there. block_marked l b c marked;
+        })
+        x;
+    by_signal = λ l x c marked. signal_holds l c (λ s. IsMarked s.after) marked (λ came there. input_marked keep l came c marked) x;
+    by_routes = λ routes c marked. marked;
+  }
 
 fresh_marked : (entry : CustomerEntry) → IsMarked (fresh_customer entry)
 fresh_marked entry = sym (map-map is_line_up (λ line. idle_line (config_of entry line) line.streams) entry.lines)
@@ -243,5 +164,5 @@ pub marks_right : InputsKeepUp → CommandsMoveFilesSo → MarksAreRight
 marks_right keep commands = record {
   fresh = fresh_marked;
   events = event_so IsMarked (frames_marked keep commands);
-  takes = λ p l piece marked. take_so IsMarked (frames_marked keep commands) (rest_on l p) p.customer l piece marked;
+  takes = λ p l piece marked. take_so IsMarked (frames_marked keep commands).by_frame (rest_on l p) p.customer l piece marked;
 }

@@ -1,23 +1,24 @@
 -- A customer that is given new routes.
 use Rattle.std.proofs.Common.{◌≡◌, ℕ, Bool, true, false, not, ◌&&◌, ◌||◌, Option, Some, None, refl}
-use Rattle.njh_ebcdic.specs.Users.{User}
 use Rattle.njh_ebcdic.specs.Names.{is_name}
+use Rattle.njh_ebcdic.specs.Users.{User}
 use Rattle.njh_header.specs.FileHeaders.{destination_of}
-use Rattle.njh_stream.specs.Holding.{destination_unrouted, is_unknown}
-use Rattle.njh_stream.specs.Sending.{destination_goes_by, is_line}
 use Rattle.njh_table.specs.Entries.{route_of}
 use Rattle.njh_table.specs.declared.Route.{Route}
 use Rattle.njh_table.specs.declared.Route.TheVariants.{Here, Line, Unknown}
-use Rattle.njh_customer.specs.code.Coherence.{streams_to_hub, RoutesKeepCoherent}
+use Rattle.njh_stream.specs.Holding.{destination_unrouted, is_unknown}
+use Rattle.njh_stream.specs.Sending.{destination_goes_by, is_line}
 use Rattle.njh_customer.specs.NewRoutes.{UnroutedFilesStay, customer_with_routes, entry_with}
+use Rattle.njh_customer.specs.code.Coherence.{streams_to_hub, RoutesKeepCoherent}
 use Rattle.njh_customer.proofs.CoherenceLaws.{NothingUnties}
-use Rattle.njh_customer.proofs.HeaderLaws.{held}
+use Rattle.njh_customer.proofs.Restated.{held_restated, restated_harmless}
 
 pub coherent_given : NothingUnties → RoutesKeepCoherent
 coherent_given untied routes c coherent = record {
   tied = untied (streams_to_hub c.lines) c.spool (customer_with_routes routes c).spool refl coherent.tied;
   streamed = coherent.streamed;
-  headers = held (entry_with routes c.entry) c.spool coherent.headers;
+  headers = (restated_harmless c.spool (customer_with_routes routes c).spool
+      (held_restated (entry_with routes c.entry) c.spool)).headers coherent.headers;
   quota = coherent.quota;
   limit = coherent.limit;
   marks = coherent.marks;

@@ -1,9 +1,9 @@
 -- A customer's lines that are opened.
 use Rattle.std.proofs.Common.{◌≡◌, ℕ, List, [], ◌∷◌, map, Some, refl, ap}
-use Rattle.std.specs.Prelude.{IsTrue}
 use Rattle.std.proofs.lemmas.Bool.{false≢true}
-use Rattle.njh_ebcdic.specs.Names.{is_name}
+use Rattle.std.specs.Prelude.{IsTrue}
 use Rattle.njh_bisync.specs.Reading.{Rest, Nothing}
+use Rattle.njh_ebcdic.specs.Names.{is_name}
 use Rattle.njh_table.specs.Entries.{CustomerEntry}
 use Rattle.njh_table.specs.TableFile.{NamedLine}
 use Rattle.njh_customer.specs.Customer.{CustomerLine, config_of, password_in, idle_line}

@@ -1,15 +1,15 @@
 -- A customer that was just opened is coherent.
 use Rattle.std.proofs.Common.{◌≡◌, ℕ, zero, suc, ◌≤◌, false, List, [], ◌∷◌, map, get_or, refl, sym, ◌∙◌}
 use Rattle.std.proofs.lemmas.List.{length-map}
-use Rattle.std.specs.List.{All}
 use Rattle.std.proofs.lemmas.List.Elements.{All-map, All-nil}
-use Rattle.njh_stream.specs.declared.receiver.Receiver.{Receiver}
-use Rattle.njh_stream.specs.declared.receiver.Receiver.TheVariants as receiver
-use Rattle.njh_stream.specs.Streams.{stream_at}
-use Rattle.njh_stream.specs.code.Agreement.{AreTied}
+use Rattle.std.specs.List.{All}
 use Rattle.njh_header.specs.WholeFiles.{HasHeaders}
 use Rattle.njh_spool.specs.CustomerSpool.{CustomerSpool, WholeFile, empty_spool}
 use Rattle.njh_table.specs.Entries.{CustomerEntry, LineEntry}
+use Rattle.njh_stream.specs.Streams.{stream_at}
+use Rattle.njh_stream.specs.code.Agreement.{AreTied}
+use Rattle.njh_stream.specs.declared.receiver.Receiver.{Receiver}
+use Rattle.njh_stream.specs.declared.receiver.Receiver.TheVariants as receiver
 use Rattle.njh_customer.specs.Customer.{config_of, fresh_customer, idle_line}
 use Rattle.njh_customer.specs.code.Coherence.{IsCoherent, HasStreams, streams_to_hub}
 use Rattle.njh_customer.proofs.FileListLaws.{copies}

@@ -1,29 +1,21 @@
 -- A customer's whole files and its streams from the hub, as its lines change.
-use Rattle.std.proofs.Common.{◌≡◌, ℕ, List, [], ◌∷◌, map, set, get_or, fold, Option, Some, None, refl, sym, ap, ◌∙◌}
+use Rattle.std.proofs.Common.{◌≡◌, ℕ, List, [], ◌∷◌, map, set, get_or, fold, refl, sym, ap, ◌∙◌}
 use Rattle.std.proofs.Math.ListN.{get_or-map}
 use Rattle.std.proofs.Math.Seq.{map-set_same}
 use Rattle.std.proofs.lemmas.List.{map-set, set-get_or}
-use Rattle.njh_ebcdic.specs.Users.{User}
-use Rattle.njh_block.specs.declared.answer.Answer.{Answer}
-use Rattle.njh_nmr.specs.Nodal.{notice_record}
 use Rattle.njh_spool.specs.CustomerSpool.{CustomerSpool, WholeFile}
 use Rattle.njh_stream.specs.declared.sender.Sender.{Sender}
 use Rattle.njh_stream.specs.declared.sender.Sender.TheVariants.{Idle}
-use Rattle.njh_stream.specs.Receiving.{Notice}
-use Rattle.njh_table.specs.Entries.{CustomerEntry, route_of}
-use Rattle.njh_table.specs.declared.Route.{Route}
-use Rattle.njh_table.specs.declared.Route.TheVariants.{Here, Line, Unknown}
 use Rattle.njh_command.specs.Commands.{without_file}
-use Rattle.njh_line.specs.Lines.{with_answer, with_message}
-use Rattle.njh_customer.specs.Customer.{Customer, CustomerLine, no_customer_line, line_at, on_line, in_state, sender_at}
-use Rattle.njh_customer.specs.Customer.{with_sender}
-use Rattle.njh_customer.specs.Waiting.{with_answer_on, with_waiting, goes, with_message_to, all_said, with_notice_to}
 use Rattle.njh_customer.specs.Acting.{without_sending}
-use Rattle.njh_customer.specs.Sending.{LineSent}
 use Rattle.njh_customer.specs.Alone.{after_reply}
+use Rattle.njh_customer.specs.Customer.{Customer, CustomerLine, no_customer_line, line_at, on_line, sender_at}
+use Rattle.njh_customer.specs.Customer.{with_sender}
+use Rattle.njh_customer.specs.Moves.{without_files}
 use Rattle.njh_customer.specs.OutgoingFiles.{Outgoing, outgoing, streams_from_hub, sender_on, with_sender_on}
 use Rattle.njh_customer.specs.OutgoingFiles.{with_files}
-use Rattle.njh_customer.specs.Moves.{without_files}
+use Rattle.njh_customer.specs.Sending.{LineSent}
+use Rattle.njh_customer.proofs.LineWalks.{StaysReceiving, on_line_seen, seen_receiving}
 
 abbrev pub of_parts : List WholeFile → ℕ → List (List Sender) → Outgoing
 of_parts files arrived streams = record { files = files; arrived = arrived; streams = streams }
@@ -33,37 +25,15 @@ of_parts files arrived streams = record { files = files; arrived = arrived; stre
 pub on_line_senders :
     (l : ℕ) (f : CustomerLine → CustomerLine) (lines : List CustomerLine) → ((x : CustomerLine) → (f x).senders ≡ x.senders)
     → streams_from_hub (on_line l f lines) ≡ streams_from_hub lines
-on_line_senders l f lines same = map-set_same (λ x. x.senders) lines l (f (line_at l lines)) no_customer_line (same (line_at l lines))
+on_line_senders l f lines same = on_line_seen (λ x. x.senders) l f lines same
 
-pub answered_senders : (l : ℕ) (a : Option Answer) (lines : List CustomerLine) → streams_from_hub (with_answer_on l a lines) ≡ streams_from_hub lines
-answered_senders l None lines = refl
-answered_senders l (Some a) lines = on_line_senders l (in_state (with_answer a)) lines (λ x. refl)
-
-pub waits_senders : (l : ℕ) (m : List ℕ) (lines : List CustomerLine) → streams_from_hub (with_waiting l m lines) ≡ streams_from_hub lines
-waits_senders l m lines = on_line_senders l (in_state (with_message m)) lines (λ x. refl)
-
-goes_senders : (r : Route) (m : List ℕ) (lines : List CustomerLine) → streams_from_hub (goes r m lines) ≡ streams_from_hub lines
-goes_senders Here m lines = refl
-goes_senders (Line k) m lines = waits_senders k m lines
-goes_senders Unknown m lines = refl
-
-pub said_senders :
-    (entry : CustomerEntry) (whom : User) (text : List ℕ) (lines : List CustomerLine)
-    → streams_from_hub (with_message_to entry whom text lines) ≡ streams_from_hub lines
-said_senders entry whom text lines = goes_senders (route_of entry whom.node) (notice_record entry.hub whom text) lines
-
-pub all_said_senders :
-    (entry : CustomerEntry) (whom : User) (texts : List (List ℕ)) (lines : List CustomerLine)
-    → streams_from_hub (all_said entry whom texts lines) ≡ streams_from_hub lines
-all_said_senders entry whom [] lines = refl
-all_said_senders entry whom (t ∷ ts) lines =
-    all_said_senders entry whom ts (with_message_to entry whom t lines) ∙ said_senders entry whom t lines
-
-pub notified_senders :
-    (entry : CustomerEntry) (notice : Option Notice) (lines : List CustomerLine)
-    → streams_from_hub (with_notice_to entry notice lines) ≡ streams_from_hub lines
-notified_senders entry None lines = refl
-notified_senders entry (Some n) lines = said_senders entry n.whom n.text lines
+-- what waits, and what comes, moves none
+pub senders_receiving : (l : ℕ) (before : List CustomerLine) → StaysReceiving l (λ lines. streams_from_hub lines ≡ streams_from_hub before)
+senders_receiving l before = seen_receiving (λ x. x.senders) l before (record {
+  waiting = record { answers = λ a x. refl; messages = λ m x. refl };
+  receivers = λ k r x. refl;
+  notices = λ k r n x. refl;
+})
 
 -- ---- a stream that moves
 

@@ -5,9 +5,9 @@ use Rattle.std.proofs.lemmas.List.{get_or-set_same, length-set, set-set, set-get
 use Rattle.njh_bisync.specs.Reading.{Rest, Nothing}
 use Rattle.njh_customer.specs.Customer.{Customer}
 use Rattle.njh_customer.specs.Feeding.{byte_step, Taking, or_later, take_step, LineRun, bytes_run, sent_on, sent_first}
+use Rattle.njh_customer.specs.Laws.{CutsAreLike, FirstBytesSendFirst, NoBytesDoNothing, StepsFollowBytes}
 use Rattle.njh_customer.specs.Part.{Part, rest_on}
 use Rattle.njh_customer.specs.Runs.{OwnEvent, Run, alone_run}
-use Rattle.njh_customer.specs.Laws.{CutsAreLike, FirstBytesSendFirst, NoBytesDoNothing, StepsFollowBytes}
 use Rattle.njh_customer.proofs.FeedingLaws.{bytes_run-append}
 
 take-one_more : (n byte : ℕ) (bytes : List ℕ) → take (1 + n) (byte ∷ bytes) ≡ byte ∷ take n bytes

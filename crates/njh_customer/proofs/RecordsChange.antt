@@ -4,32 +4,32 @@ use Rattle.std.proofs.Common.{filter, None, refl, sym, ap, subst, ◌∙◌}
 use Rattle.std.proofs.lemmas.List.Elements.{Contains-push_cases}
 use Rattle.std.specs.List.{Contains}
 use Rattle.njh_ebcdic.specs.Users.{User}
-use Rattle.njh_header.specs.FileNames.{FileName}
-use Rattle.njh_block.specs.Blocks.{Item, Data}
-use Rattle.njh_header.specs.FileHeaders.{with_destination}
-use Rattle.njh_header.specs.Redirecting.{records_to_node}
 use Rattle.njh_record.specs.Stored.{Stored}
 use Rattle.njh_record.specs.declared.Kind.{Kind}
+use Rattle.njh_block.specs.Blocks.{Item, Data}
+use Rattle.njh_header.specs.FileHeaders.{with_destination}
+use Rattle.njh_header.specs.FileNames.{FileName}
+use Rattle.njh_header.specs.Redirecting.{records_to_node}
 use Rattle.njh_spool.specs.CustomerSpool.{WholeFile}
 use Rattle.njh_spool.specs.declared.State.{State}
 use Rattle.njh_spool.specs.declared.State.TheVariants as state
-use Rattle.njh_table.specs.Marks.{entry_marked}
 use Rattle.njh_table.specs.Entries.{CustomerEntry}
+use Rattle.njh_table.specs.Marks.{entry_marked}
 use Rattle.njh_table.specs.NewRoutes.{entries_of_routes}
 use Rattle.njh_stream.specs.Sending.{ready}
 use Rattle.njh_stream.specs.Transmissions.{is_whole}
-use Rattle.njh_command.specs.declared.command.Command.TheVariants as commands
+use Rattle.njh_command.specs.CommandLaws.{ReroutesNameNodes}
 use Rattle.njh_command.specs.Commands.{changed_file, is_of_name, may_change, is_sending, with_new_destination}
 use Rattle.njh_command.specs.Commands.{file_in_state}
-use Rattle.njh_command.specs.CommandLaws.{ReroutesNameNodes}
 use Rattle.njh_command.specs.Files.{no_file}
-use Rattle.njh_customer.specs.NewRoutes.{entry_with}
-use Rattle.njh_customer.specs.OutgoingFiles.{Outgoing, with_file_state, with_files}
+use Rattle.njh_command.specs.declared.command.Command.TheVariants as commands
 use Rattle.njh_customer.specs.Moves as moves
-use Rattle.njh_customer.specs.Moves.{Acts, Commands, Records, Routes, Moves, by_record, by_sending, by_end, Over, Sends}
+use Rattle.njh_customer.specs.Moves.{Acts, Commands, Records, Routes, Moves, by_record, by_sending, by_end, Sends}
 use Rattle.njh_customer.specs.MovingLaws as laws
 use Rattle.njh_customer.specs.MovingLaws.{FileMoves, RecordsChangeSo}
-use Rattle.njh_customer.proofs.FileListLaws.{from_map, into_map, from_filter}
+use Rattle.njh_customer.specs.NewRoutes.{entry_with}
+use Rattle.njh_customer.specs.OutgoingFiles.{Outgoing, with_file_state, with_files}
+use Rattle.njh_customer.proofs.FileListLaws.{from_filter, from_map, into_map}
 use Rattle.njh_customer.proofs.LeavingLaws.{without_files_files}
 use Rattle.njh_customer.proofs.RoutesMoves.{held_so}
 

@@ -1,17 +1,15 @@
 -- What the records of a block do, one after the other, to a customer's whole files and to its streams from the hub.
-use Rattle.std.proofs.Common.{◌≡◌, ℕ, Bool, true, false, ◌⊎◌, inl, inr, List, [], ◌∷◌, length, refl, sym, ap, subst}
-use Rattle.std.proofs.Common.{◌∙◌, arith}
-use Rattle.std.proofs.lemmas.List.{length-map}
+use Rattle.std.proofs.Common.{◌≡◌, ℕ, Bool, true, false, ◌⊎◌, inl, inr, List, [], ◌∷◌, refl, subst, ◌∙◌, arith}
 use Rattle.std.proofs.lemmas.List.Elements.{Contains-append_right}
 use Rattle.std.specs.List.{Contains}
 use Rattle.njh_block.specs.Blocks.{Item}
 use Rattle.njh_command.specs.CommandLaws.{CommandsMoveFilesSo}
-use Rattle.njh_customer.specs.Customer.{Customer}
 use Rattle.njh_customer.specs.Acting.{after_record, ends_session, ended_or, all_acted, acted_where}
-use Rattle.njh_customer.specs.OutgoingFiles.{outgoing}
+use Rattle.njh_customer.specs.Customer.{Customer}
 use Rattle.njh_customer.specs.Moves.{Acts, LeadsByMoves, nowhere, onward, OneActs}
+use Rattle.njh_customer.specs.OutgoingFiles.{outgoing}
 use Rattle.njh_customer.proofs.ActingMoves.{Acted, acts_so}
-use Rattle.njh_customer.proofs.KeptLines.{kept, kepts, acted_keeps}
+use Rattle.njh_customer.proofs.KeptLines.{acted_keeps, kepts}
 
 -- they act one after the other
 pub record Acting (l : ℕ) (items : List Item) (c d : Customer) : Type 0 where
@@ -21,10 +19,6 @@ pub record Acting (l : ℕ) (items : List Item) (c d : Customer) : Type 0 where
 
 idle : (l : ℕ) (items : List Item) (c : Customer) → Acting l items c c
 idle l items c = record { entry = refl; records = nowhere (outgoing c); kept = refl }
-
--- as many lines
-pub lines_of : (c d : Customer) → kepts d.lines ≡ kepts c.lines → length d.lines ≡ length c.lines
-lines_of c d e = sym (length-map d.lines kept) ∙ ap length e ∙ length-map c.lines kept
 
 one_more : (l : ℕ) (items : List Item) (i : Item) (c d e : Customer) → Contains items i → Acted l i c d → kepts d.lines ≡ kepts c.lines → Acting l items d e → Acting l items c e
 one_more l items i c d e there one keeps later = at_move one.moves

@@ -12,11 +12,11 @@ use Rattle.njh_table.specs.Keys.{Walked}
 use Rattle.njh_table.specs.NewRoutes.{routes_checked}
 use Rattle.njh_customer.specs.Customer.{Customer}
 use Rattle.njh_customer.specs.Feeding.{byte_step, bytes_run, Taking, or_later, take_step}
+use Rattle.njh_customer.specs.Growing.{IsShortText, IsShortRest, OpenedHasShortRests, EventsKeepShortRests}
+use Rattle.njh_customer.specs.Growing.{TakesKeepShortRests}
 use Rattle.njh_customer.specs.NewRoutes.{taken_where}
 use Rattle.njh_customer.specs.Part.{rest_at, rest_on}
 use Rattle.njh_customer.specs.Runs.{OwnBytes, OwnSignal, OwnRoutes}
-use Rattle.njh_customer.specs.Growing.{IsShortText, IsShortRest, OpenedHasShortRests, EventsKeepShortRests}
-use Rattle.njh_customer.specs.Growing.{TakesKeepShortRests}
 
 -- ---- a byte
 

@@ -8,11 +8,11 @@ use Rattle.njh_table.specs.NewRoutes.{NewRoute, routes_checked}
 use Rattle.njh_stream.specs.Holding.{has_lost_route, held_file}
 use Rattle.njh_command.specs.Files.{no_file}
 use Rattle.njh_customer.specs.Customer.{with_marks}
+use Rattle.njh_customer.specs.Moves.{LeadsByMoves, nowhere, onward, RoutesMove}
+use Rattle.njh_customer.specs.MovingLaws.{RoutesDo, RoutesDoSo, RoutesMoveFile, is_as_before, is_held}
 use Rattle.njh_customer.specs.NewRoutes.{entry_with, taken_where, routes_given}
 use Rattle.njh_customer.specs.OutgoingFiles.{Outgoing, outgoing}
 use Rattle.njh_customer.specs.Part.{Part}
-use Rattle.njh_customer.specs.Moves.{LeadsByMoves, nowhere, onward, RoutesMove}
-use Rattle.njh_customer.specs.MovingLaws.{RoutesDo, RoutesDoSo, RoutesMoveFile, is_as_before, is_held}
 use Rattle.njh_customer.proofs.FileListLaws.{from_map, numbers}
 
 pub routes_do : RoutesDoSo

@@ -1,14 +1,13 @@
 -- Where a stream from the hub stands, and what stands there once one is set.
-use Rattle.std.proofs.Common.{◌≡◌, ◌<◌, ◌≤◌, ℕ, ◌⊎◌, inl, inr, List, [], length, map, set, get_or, sym}
-use Rattle.std.proofs.Common.{ap, ◌∙◌}
+use Rattle.std.proofs.Common.{◌≡◌, ◌<◌, ◌≤◌, ℕ, ◌⊎◌, inl, inr, List, [], length, map, set, get_or, sym, ap, ◌∙◌}
 use Rattle.std.proofs.Math.ListN.{get_or-map}
 use Rattle.std.proofs.lemmas.Bool.{cases_lt}
 use Rattle.std.proofs.lemmas.List.{get_or_past, get_or-set_same, length-map, length-set}
+use Rattle.njh_stream.specs.Sending.{file_in}
 use Rattle.njh_stream.specs.declared.sender.Sender.{Sender}
 use Rattle.njh_stream.specs.declared.sender.Sender.TheVariants.{Idle}
-use Rattle.njh_stream.specs.Sending.{file_in}
-use Rattle.njh_customer.specs.OutgoingFiles.{Outgoing, each_stream, sender_on, streams_of, with_sender_on}
 use Rattle.njh_customer.specs.InOrder.{IsAbout}
+use Rattle.njh_customer.specs.OutgoingFiles.{Outgoing, each_stream, sender_on, streams_of, with_sender_on}
 use Rattle.njh_customer.proofs.StreamMoveLaws.{set_one}
 
 -- ---- a stream that is about a file is there

@@ -1,28 +1,29 @@
 -- What goes out in a new block moves a line's streams, and what each stream's file has under its RCB.
-use Rattle.std.proofs.Common.{◌≡◌, ◌<◌, ℕ, zero, suc, ◌+◌, Bool, true, false, List, [], ◌∷◌, ◌++◌, length, set, get_or, ◌%◌}
-use Rattle.std.proofs.Common.{◌&&◌, replicate, arith, nat_lt, Option, Some, None, option_map, slice_get, refl, sym, ap, subst, ◌∙◌}
-use Rattle.std.specs.List.{AllByRecursion}
+use Rattle.std.proofs.Common.{◌≡◌, ◌<◌, ℕ, zero, suc, ◌+◌, Bool, true, false, List, [], ◌∷◌, ◌++◌, length, set, get_or}
+use Rattle.std.proofs.Common.{◌%◌, ◌&&◌, replicate, arith, nat_lt, Option, Some, None, option_map, slice_get, refl, sym}
+use Rattle.std.proofs.Common.{ap, subst, ◌∙◌}
 use Rattle.std.proofs.lemmas.List.{append-nil, get_or-set_same, set-get_or, set-set}
+use Rattle.std.specs.List.{AllByRecursion}
+use Rattle.njh_record.specs.Stored.{Stored}
 use Rattle.njh_block.specs.Blocks.{Item, all_suspended, messages_on}
 use Rattle.njh_block.specs.Codes.{kind_of}
 use Rattle.njh_block.specs.Writing.{has_room}
 use Rattle.njh_block.specs.declared.answer.Answer.{Answer}
-use Rattle.njh_record.specs.Stored.{Stored}
 use Rattle.njh_spool.specs.CustomerSpool.{WholeFile, whole_numbered}
 use Rattle.njh_table.specs.Entries.{CustomerEntry}
+use Rattle.njh_stream.specs.Sending.{goes_by, next_at, next_of, record_at}
 use Rattle.njh_stream.specs.declared.sender.Sender.{Sender}
 use Rattle.njh_stream.specs.declared.sender.Sender.TheVariants.{Idle, Requested, Sending, EofSent, Aborting}
-use Rattle.njh_stream.specs.Sending.{goes_by, next_at, next_of, record_at}
+use Rattle.njh_sched.specs.Carrying.{records_of}
 use Rattle.njh_sched.specs.NextBlock.{Candidate, Filling, Source, WaitingAnswer, StreamAbort, StreamRequest}
 use Rattle.njh_sched.specs.NextBlock.{WaitingMessage, StreamTurn, abort_where, answering, asking, candidate, is_idle}
 use Rattle.njh_sched.specs.NextBlock.{may_ask, next_served, oldest, sender_at, serving, telling, added_where}
 use Rattle.njh_sched.specs.NextBlock.{after_candidate, after_source, after_source_where, after_sources, filled_block}
-use Rattle.njh_sched.specs.NextBlock.{Outlet, aborts, filled_where, messages_where, requests, sources}
-use Rattle.njh_sched.specs.NextBlock.{streams, turns, waiting_answers, waiting_messages}
-use Rattle.njh_sched.specs.Carrying.{records_of}
-use Rattle.njh_customer.specs.OutgoingFiles.{Outgoing, record_numbered, sender_on, with_sender_on}
+use Rattle.njh_sched.specs.NextBlock.{Outlet, aborts, filled_where, messages_where, requests, sources, streams, turns}
+use Rattle.njh_sched.specs.NextBlock.{waiting_answers, waiting_messages}
 use Rattle.njh_customer.specs.Moves as moves
 use Rattle.njh_customer.specs.Moves.{LeadsByMoves, nowhere, onward, Sends}
+use Rattle.njh_customer.specs.OutgoingFiles.{Outgoing, record_numbered, sender_on, with_sender_on}
 use Rattle.njh_customer.proofs.OutgoingLaws.{of_parts}
 
 -- ---- where the block's records come from

@@ -1,7 +1,8 @@
 -- What a line sends, the end of its session, and new routes leave it so: the files that are being sent are exactly those
 -- that a stream is about, each on one stream.
-use Rattle.std.proofs.Common.{◌≡◌, ℕ, zero, suc, ◌+◌, ◌<◌, Bool, true, false, cond, ◌==◌, ◌&&◌, ◌||◌, ◌⊎◌, inl, inr, List, [], ◌∷◌, length}
-use Rattle.std.proofs.Common.{map, set, get_or, replicate, find, Option, Some, None, refl, sym, ap, subst, ◌∙◌, arith, eq-eqb}
+use Rattle.std.proofs.Common.{◌≡◌, ℕ, zero, suc, ◌+◌, ◌<◌, Bool, true, false, cond, ◌==◌, ◌&&◌, ◌||◌, ◌⊎◌, inl, inr}
+use Rattle.std.proofs.Common.{List, [], ◌∷◌, length, map, set, get_or, replicate, find, Option, Some, None, refl, sym}
+use Rattle.std.proofs.Common.{ap, subst, ◌∙◌, arith, eq-eqb}
 use Rattle.std.proofs.Math.ListN.{get_or-map}
 use Rattle.std.proofs.lemmas.Bool.{eqb-true, eqb-false}
 use Rattle.std.proofs.lemmas.List.{get_or-set_same, get_or-set_other, length-map, length-replicate, length-set, map-set}
@@ -12,29 +13,31 @@ use Rattle.njh_header.specs.FileHeaders.{destination_of}
 use Rattle.njh_spool.specs.CustomerSpool.{CustomerSpool, WholeFile}
 use Rattle.njh_spool.specs.declared.State.TheVariants as state
 use Rattle.njh_table.specs.Entries.{CustomerEntry, LineEntry, RouteEntry}
-use Rattle.njh_stream.specs.declared.sender.Sender.{Sender}
-use Rattle.njh_stream.specs.declared.sender.Sender.TheVariants.{Idle, Requested, Sending, EofSent, Aborting}
 use Rattle.njh_stream.specs.Holding.{destination_unrouted, has_lost_route, waits_in_state}
 use Rattle.njh_stream.specs.Sending.{all_ended, file_in, goes_by, is_refused, may_go_again, ready, spool_after_session}
 use Rattle.njh_stream.specs.Sending.{tried_again}
+use Rattle.njh_stream.specs.declared.sender.Sender.{Sender}
+use Rattle.njh_stream.specs.declared.sender.Sender.TheVariants.{Idle, Requested, Sending, EofSent, Aborting}
 use Rattle.njh_sched.specs.NextBlock.{Filling, filling, is_ready, may_go, same_kind}
 use Rattle.njh_sched.specs.Tight.{own_fcs}
 use Rattle.njh_command.specs.Files.{no_file}
 use Rattle.njh_line.specs.declared.verdict.LineReply.{LineReply}
 use Rattle.njh_line.specs.declared.verdict.LineReply.TheVariants as reply
-use Rattle.njh_customer.specs.Customer.{Customer, CustomerLine, config_of, fresh_customer, idle_line, line_at, no_customer_line}
 use Rattle.njh_customer.specs.Alone.{replied_to, session_over}
-use Rattle.njh_customer.specs.Sending.{next_block, outlet_of, own_block, sending_of_reply}
-use Rattle.njh_customer.specs.NewRoutes.{customer_with_routes, entry_with}
-use Rattle.njh_customer.specs.OutgoingFiles.{Outgoing, has_file, outgoing, sender_on, streams_from_hub, streams_of}
-use Rattle.njh_customer.specs.OutgoingFiles.{with_file_state, with_files, with_sender_on}
+use Rattle.njh_customer.specs.Customer.{Customer, CustomerLine, config_of, fresh_customer, idle_line, line_at}
+use Rattle.njh_customer.specs.Customer.{no_customer_line}
+use Rattle.njh_customer.specs.InOrder.{AreBeingSent, IsOnStream, IsAbout}
 use Rattle.njh_customer.specs.Moves as moves
 use Rattle.njh_customer.specs.Moves.{LeadsByMoves, nowhere, onward, Sends}
 use Rattle.njh_customer.specs.MovingLaws.{RoutesMoveFile, is_as_before, is_held}
-use Rattle.njh_customer.specs.InOrder.{AreBeingSent, IsOnStream, IsAbout}
-use Rattle.njh_customer.proofs.EndingMoves.{ended_where, over_so, without_all_whole}
-use Rattle.njh_customer.proofs.FileListLaws.{any_numbered, but_states, copies, from_map, marked_numbers, same_numbered}
+use Rattle.njh_customer.specs.NewRoutes.{customer_with_routes, entry_with}
+use Rattle.njh_customer.specs.OutgoingFiles.{Outgoing, has_file, outgoing, sender_on, streams_from_hub, streams_of}
+use Rattle.njh_customer.specs.OutgoingFiles.{with_file_state, with_files, with_sender_on}
+use Rattle.njh_customer.specs.Sending.{next_block, outlet_of, own_block, sending_of_reply}
+use Rattle.njh_customer.proofs.EndingMoves.{over_so}
+use Rattle.njh_customer.proofs.FileListLaws.{any_numbered, copies, from_map, marked_numbers, same_numbered, but_states}
 use Rattle.njh_customer.proofs.OutgoingLaws.{of_parts, own_again, unmoved}
+use Rattle.njh_customer.proofs.Restated.{ended_where, without_open_same}
 use Rattle.njh_customer.proofs.RoutesMoves.{held_numbers, held_so}
 use Rattle.njh_customer.proofs.SenderPlaces.{set_lines, set_streams, set_there}
 use Rattle.njh_customer.proofs.SendingMoves.{out_of, filled_leads}
@@ -392,7 +395,7 @@ module _ (l : ℕ) (c : Customer) (line : l < length c.lines) (sent : AreBeingSe
   streams_now = (over_so l c).streams
 
   files_now : behind_end.files ≡ (tried_again c.entry l (all_ended own c.spool)).whole
-  files_now = without_all_whole (line_at l c.lines).receivers (tried_again c.entry l (all_ended own c.spool))
+  files_now = (without_open_same (line_at l c.lines).receivers (tried_again c.entry l (all_ended own c.spool))).whole
 
   line_now : streams_of l behind_end ≡ idles
   line_now = ap (λ lines. get_or lines l []) streams_now ∙ get_or-set_same before_end.streams l idles [] inside

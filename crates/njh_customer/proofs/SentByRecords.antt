@@ -1,10 +1,10 @@
 -- What a record that comes leaves of this: which files are being sent are those that a stream from the hub is about.
-use Rattle.std.proofs.Common.{◌≡◌, ◌<◌, ◌≤◌, ℕ, zero, suc, ◌+◌, Bool, true, false, cond, not, ◌&&◌, ◌||◌, ◌==◌, ◌⊎◌, inl, inr, List, []}
-use Rattle.std.proofs.Common.{◌∷◌, ◌++◌, length, map, filter, get_or, count_by, Option, Some, None, refl, sym, ap, subst, ◌∙◌}
-use Rattle.std.proofs.Common.{not-suc-le-zero, le_of_suc-le-suc, arith}
+use Rattle.std.proofs.Common.{◌≡◌, ◌<◌, ◌≤◌, ℕ, zero, suc, ◌+◌, Bool, true, false, cond, not, ◌&&◌, ◌||◌, ◌==◌, ◌⊎◌}
+use Rattle.std.proofs.Common.{inl, inr, List, [], ◌∷◌, ◌++◌, length, map, filter, get_or, count_by, Option, Some, None}
+use Rattle.std.proofs.Common.{refl, sym, ap, subst, ◌∙◌, not-suc-le-zero, le_of_suc-le-suc, arith}
 use Rattle.std.proofs.lemmas.Bool.{eqb-true, eq-eqb, not-true, not_from_false}
-use Rattle.std.proofs.lemmas.List.Elements.{All-contains, Contains-append_cases, Contains-append_left, Contains-append_right}
-use Rattle.std.proofs.lemmas.List.Elements.{Contains-push_cases, filter_passes}
+use Rattle.std.proofs.lemmas.List.Elements.{All-contains, Contains-append_cases, Contains-append_left}
+use Rattle.std.proofs.lemmas.List.Elements.{Contains-append_right, Contains-push_cases, filter_passes}
 use Rattle.std.proofs.lemmas.List.Folds.{list_any_at}
 use Rattle.std.proofs.lemmas.List.Sums.{sum_by-cons, sum_by_push}
 use Rattle.std.specs.List.{Contains}
@@ -13,27 +13,30 @@ use Rattle.njh_spool.specs.CustomerSpool.{WholeFile}
 use Rattle.njh_spool.specs.declared.State.{State}
 use Rattle.njh_spool.specs.declared.State.TheVariants as state
 use Rattle.njh_table.specs.Entries.{CustomerEntry}
+use Rattle.njh_stream.specs.Sending.{file_in}
 use Rattle.njh_stream.specs.declared.sender.Sender.{Sender}
 use Rattle.njh_stream.specs.declared.sender.Sender.TheVariants.{Idle, Sending}
-use Rattle.njh_stream.specs.Sending.{file_in}
 use Rattle.njh_command.specs.CommandLaws.{CommandsMoveFilesSo}
-use Rattle.njh_command.specs.Commands.{aborted_where, changed_file, file_in_state, is_about, is_busy, is_of_name, is_sending, may_change}
-use Rattle.njh_command.specs.Commands.{state_after_reroute, with_new_destination, without_file}
+use Rattle.njh_command.specs.Commands.{aborted_where, changed_file, file_in_state, is_about, is_busy, is_of_name}
+use Rattle.njh_command.specs.Commands.{is_sending, may_change, state_after_reroute, with_new_destination, without_file}
 use Rattle.njh_command.specs.Files.{no_file}
 use Rattle.njh_customer.specs.Acting.{after_record}
 use Rattle.njh_customer.specs.Customer.{Customer}
+use Rattle.njh_customer.specs.InOrder.{AreBeingSent, IsAbout}
 use Rattle.njh_customer.specs.Moves as moves
 use Rattle.njh_customer.specs.Moves.{Acts, busy_numbers, with_changed, without_cancelled, without_files}
-use Rattle.njh_customer.specs.OutgoingFiles.{Outgoing, each_stream, has_file, outgoing, sender_on, streams_of, with_arrival}
-use Rattle.njh_customer.specs.OutgoingFiles.{with_file_state, with_files, with_sender_on, without_numbered}
-use Rattle.njh_customer.specs.InOrder.{AreBeingSent, IsAbout}
+use Rattle.njh_customer.specs.OutgoingFiles.{Outgoing, each_stream, has_file, outgoing, sender_on, streams_of}
+use Rattle.njh_customer.specs.OutgoingFiles.{with_arrival, with_file_state, with_files, with_sender_on}
+use Rattle.njh_customer.specs.OutgoingFiles.{without_numbered}
 use Rattle.njh_customer.proofs.ActingMoves.{acts_so}
+use Rattle.njh_customer.proofs.FileListLaws.{any_numbered, changed_numbers, from_filter, from_map, same_numbered}
+use Rattle.njh_customer.proofs.FileListLaws.{into_map}
 use Rattle.njh_customer.proofs.FileNumbers.{AreDistinct}
-use Rattle.njh_customer.proofs.FileListLaws.{any_numbered, changed_numbers, from_filter, from_map, into_map, same_numbered}
 use Rattle.njh_customer.proofs.LeavingLaws.{without_files_files}
 use Rattle.njh_customer.proofs.RecordsChange.{both_are}
 use Rattle.njh_customer.proofs.SenderPlaces.{each_lines, each_streams, set_lines, set_streams, set_where_about}
-use Rattle.njh_customer.proofs.StreamMoveLaws.{IsOne, StaysOrGivesUp, aborted_none, all_give_up, busy_one, each_at, moved_one, was}
+use Rattle.njh_customer.proofs.StreamMoveLaws.{IsOne, StaysOrGivesUp, aborted_none, all_give_up, busy_one, each_at}
+use Rattle.njh_customer.proofs.StreamMoveLaws.{moved_one, was}
 
 number_of : (a b : ℕ) → Some a ≡ Some b → a ≡ b
 number_of a b e = cc e

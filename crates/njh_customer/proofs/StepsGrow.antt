@@ -1,35 +1,34 @@
 -- In a step by bytes of a line the records of one block act at most: a block whose records act is answered, or one of
 -- them ends the session, and then none acts before the line has answered a call.
-use Rattle.std.proofs.Common.{◌≡◌, ℕ, ◌<◌, ◌≤◌, ◌*◌, Bool, true, false, cond, nat_lt, List, [], ◌∷◌, length}
-use Rattle.std.proofs.Common.{Option, Some, None, Result, Ok, Err, refl, sym, subst, arith}
+use Rattle.std.proofs.Common.{◌≡◌, ℕ, ◌<◌, ◌≤◌, ◌*◌, Bool, true, false, List, [], ◌∷◌, length, Option, Some, None}
+use Rattle.std.proofs.Common.{Result, Ok, Err, refl, sym, subst, arith}
 use Rattle.njh_bisync.specs.ByteSteps.{rest_step}
 use Rattle.njh_bisync.specs.Frames as frame
 use Rattle.njh_bisync.specs.Frames.{Received, IsShort}
 use Rattle.njh_bisync.specs.Reading.{Rest}
 use Rattle.njh_block.specs.Blocks.{Block, read_block}
 use Rattle.njh_block.specs.declared.fault.BlockFault.{BlockFault}
+use Rattle.njh_spool.specs.CustomerSpool.{CustomerSpool}
 use Rattle.njh_command.specs.CommandLaws.{CommandsMoveFilesSo, ReroutesNameNodes}
 use Rattle.njh_line.specs.Answering.{ActingIsAnswered, DownStaysDown}
-use Rattle.njh_line.specs.LineTable as input
-use Rattle.njh_line.specs.LineTable.{Input, table_outcome}
 use Rattle.njh_line.specs.declared.Phase.TheVariants.{Down}
 use Rattle.njh_line.specs.declared.verdict.LineReply.TheVariants as reply
 use Rattle.njh_line.specs.declared.verdict.Verdict.{Verdict}
-use Rattle.njh_spool.specs.CustomerSpool.{CustomerSpool}
 use Rattle.njh_customer.specs.Acting.{Acted, acted_where, all_acted}
-use Rattle.njh_customer.specs.Alone.{CustomerStep, silent, replied_to, session_ended}
-use Rattle.njh_customer.specs.Alone.{carried_out, verdict_on, accepted_on, block_input, behind_records}
-use Rattle.njh_customer.specs.Alone.{after_block, text_read, after_received, after_frame}
+use Rattle.njh_customer.specs.Alone.{CustomerStep, replied_to, session_ended, carried_out, verdict_on}
+use Rattle.njh_customer.specs.Alone.{accepted_on, block_input, behind_records, after_block, after_frame}
 use Rattle.njh_customer.specs.Customer.{Customer, line_at}
 use Rattle.njh_customer.specs.Feeding.{acted_on, Taking, or_later, take_step}
+use Rattle.njh_customer.specs.FrameEffects.{block_records, records_of_frame}
 use Rattle.njh_customer.specs.Growing.{FilesGrow, IsShortRest, TakesGrowFiles}
 use Rattle.njh_customer.specs.Part.{rest_on}
+use Rattle.njh_customer.proofs.BlockSizes.{BlockIsFew, block_few}
+use Rattle.njh_customer.proofs.DownLines.{phase_on, IsSent, ended_down, next_sent, carried_grows, input_grows}
+use Rattle.njh_customer.proofs.DownLines.{ended_grows, StaysDown, answers_call, still_down, frame_down}
 use Rattle.njh_customer.proofs.GrowingLaws.{grow_within, then_quietly, quietly_then, unchanged}
 use Rattle.njh_customer.proofs.RecordsGrow.{data_count, RedirectsByRecords, all_grow}
-use Rattle.njh_customer.proofs.BlockSizes.{BlockIsFew, block_few}
 use Rattle.njh_customer.proofs.RestLengths.{IsShortFrame, step_short}
-use Rattle.njh_customer.proofs.DownLines.{phase_on, IsSent, ended_down, next_sent, carried_grows, input_grows, ended_grows}
-use Rattle.njh_customer.proofs.DownLines.{StaysDown, answers_call, still_down, frame_down}
+use Rattle.njh_customer.proofs.StepWalks.{HoldsOfSteps, frame_holds}
 
 -- ---- a frame on any line
 
@@ -120,25 +119,29 @@ module _ (by_records : RedirectsByRecords) (names : ReroutesNameNodes) (commands
       at_acts true e = at_end e a.ended
       at_acts false e = idles (carried_grows l v d)
 
-  received_steps : (l : ℕ) (x : Received) (c : Customer) → IsShort x → Steps l c (after_received l x c)
-  received_steps l frame.Enquiry c short = idles (input_grows l input.Enquiry c)
-  received_steps l frame.Ack0 c short = idles (input_grows l input.Ack0 c)
-  received_steps l frame.Nak c short = idles (input_grows l input.Nak c)
-  received_steps l frame.Eot c short = idles (input_grows l input.Eot c)
-  received_steps l (frame.Text text) c short = at_block (read_block text) (block_few text)
-    where
-      at_block : (b : Result Block BlockFault) → BlockIsFew (length text) b → Steps l c (text_read l b c)
-      at_block (Ok b) few = block_steps l b c (omega (arith, few, short))
-      at_block (Err e) few = idles (input_grows l input.Bad c)
-  received_steps l frame.Spoiled c short = idles (input_grows l input.Spoiled c)
+  -- by a block that isn't too long
+  steps_few : (l : ℕ) (c : Customer) → HoldsOfSteps l c (λ items s. 3 * data_count items ≤ 4096 → Steps l c s)
+  steps_few l c = record {
+    none = λ items short. idles (unchanged c.spool);
+    input = λ came there short. idles (input_grows l came c);
+    block = λ b there short. block_steps l b c short;
+  }
 
-  there_steps : (l : ℕ) (b : Bool) (s : CustomerStep) (c : Customer) → Steps l c s → Steps l c (cond b s (silent c))
-  there_steps l true s c steps = steps
-  there_steps l false s c steps = idles (unchanged c.spool)
+  frame_few : (x : Received) → IsShort x → 3 * data_count (records_of_frame x) ≤ 4096
+  frame_few frame.Enquiry short = omega arith
+  frame_few frame.Ack0 short = omega arith
+  frame_few frame.Nak short = omega arith
+  frame_few frame.Eot short = omega arith
+  frame_few (frame.Text text) short = at_block (read_block text) (block_few text)
+    where
+      at_block : (b : Result Block BlockFault) → BlockIsFew (length text) b → 3 * data_count (block_records b) ≤ 4096
+      at_block (Ok b) few = omega (arith, few, short)
+      at_block (Err e) few = omega arith
+  frame_few frame.Spoiled short = omega arith
 
   frame_steps : (l : ℕ) (x : Received) (c : Customer) → IsShort x → Steps l c (after_frame l x c)
-  unfolding after_frame
-  frame_steps l x c short = there_steps l (nat_lt l (length c.lines)) (after_received l x c) c (received_steps l x c short)
+  frame_steps l x c short =
+      frame_holds l c (λ items s. 3 * data_count items ≤ 4096 → Steps l c s) (steps_few l c) x (frame_few x short)
 
   -- ---- a step by bytes
 

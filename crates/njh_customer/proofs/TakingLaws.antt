@@ -1,9 +1,9 @@
 -- One step by bytes of a line: what it takes of a piece, frame by frame.
 use Rattle.std.proofs.Common.{◌≡◌, ℕ, suc, ◌+◌, ◌<◌, ◌≤◌, List, [], ◌∷◌, length, drop, Option, Some, None, refl, ap}
 use Rattle.std.proofs.Common.{sym, ◌∙◌, arith, add_assoc}
+use Rattle.njh_bisync.specs.ByteSteps.{rest_step, stop_or, Fed, feed_outcome}
 use Rattle.njh_bisync.specs.Frames.{Received}
 use Rattle.njh_bisync.specs.Reading.{Rest}
-use Rattle.njh_bisync.specs.ByteSteps.{rest_step, stop_or, Fed, feed_outcome}
 use Rattle.njh_customer.specs.Customer.{Customer}
 use Rattle.njh_customer.specs.Feeding.{acted_on, Taking, later_by, or_later, take_step}
 

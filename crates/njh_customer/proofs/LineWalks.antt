@@ -1,0 +1,160 @@
+-- What is so of a customer's lines stays so, whatever waits on them and whatever a record changes of them.
+use Rattle.std.proofs.Common.{◌≡◌, ℕ, List, [], ◌∷◌, fold, map, Option, Some, None, option_map, refl, ap₂, ◌∙◌}
+use Rattle.std.proofs.Math.Seq.{map-set_same}
+use Rattle.njh_ebcdic.specs.Users.{User}
+use Rattle.njh_block.specs.Blocks.{Item}
+use Rattle.njh_block.specs.Codes.{kind_of}
+use Rattle.njh_block.specs.declared.answer.Answer.{Answer}
+use Rattle.njh_nmr.specs.Nodal.{notice_record, sender_of}
+use Rattle.njh_texts.specs.Texts.{node_unknown}
+use Rattle.njh_table.specs.Entries.{CustomerEntry, route_of}
+use Rattle.njh_table.specs.declared.Route.{Route}
+use Rattle.njh_table.specs.declared.Route.TheVariants.{Here, Line, Unknown}
+use Rattle.njh_stream.specs.Arrivals.{answer_on}
+use Rattle.njh_stream.specs.Receiving.{Arrival, Notice, received_arrival}
+use Rattle.njh_stream.specs.Sending.{after_completion, after_grant, after_refusal}
+use Rattle.njh_stream.specs.declared.receiver.Receiver.{Receiver}
+use Rattle.njh_stream.specs.declared.sender.Sender.{Sender}
+use Rattle.njh_command.specs.Commands.{message_outcome}
+use Rattle.njh_line.specs.Lines.{with_answer, with_message}
+use Rattle.njh_customer.specs.Acting.{after_record, after_stream_arrival, without_sending}
+use Rattle.njh_customer.specs.Customer.{Customer, CustomerLine, no_customer_line, line_at, on_line, in_state}
+use Rattle.njh_customer.specs.Customer.{with_notice, receiver_at, sender_at, with_receiver, with_sender}
+use Rattle.njh_customer.specs.Waiting.{all_said, goes, with_answer_on, with_message_to, with_notice_to, with_waiting}
+use Rattle.njh_customer.proofs.RecordsDo as does
+use Rattle.njh_customer.proofs.RecordsDo.{RecordDoes, record_does}
+
+-- ---- what waits
+
+-- What is so of lines stays so by an answer on line l, and by a message on any line.
+pub record StaysWaiting (l : ℕ) (I : List CustomerLine → Type 0) : Type 0 where
+  pub answers : (a : Answer) (lines : List CustomerLine) → I lines → I (on_line l (in_state (with_answer a)) lines)
+  pub waits : (k : ℕ) (m : List ℕ) (lines : List CustomerLine) → I lines → I (with_waiting k m lines)
+
+module _ (l : ℕ) (I : List CustomerLine → Type 0) (keep : StaysWaiting l I) where
+  pub answered_so : (a : Option Answer) (lines : List CustomerLine) → I lines → I (with_answer_on l a lines)
+  answered_so None lines so = so
+  answered_so (Some a) lines so = keep.answers a lines so
+
+  goes_so : (r : Route) (m : List ℕ) (lines : List CustomerLine) → I lines → I (goes r m lines)
+  goes_so Here m lines so = so
+  goes_so (Line k) m lines so = keep.waits k m lines so
+  goes_so Unknown m lines so = so
+
+  pub told_so :
+      (entry : CustomerEntry) (whom : User) (text : List ℕ) (lines : List CustomerLine) → I lines
+      → I (with_message_to entry whom text lines)
+  told_so entry whom text = goes_so (route_of entry whom.node) (notice_record entry.hub whom text)
+
+  pub all_told_so :
+      (entry : CustomerEntry) (whom : User) (texts : List (List ℕ)) (lines : List CustomerLine) → I lines
+      → I (all_said entry whom texts lines)
+  all_told_so entry whom [] lines so = so
+  all_told_so entry whom (t ∷ ts) lines so =
+      all_told_so entry whom ts (with_message_to entry whom t lines) (told_so entry whom t lines so)
+
+  pub notified_so :
+      (entry : CustomerEntry) (notice : Option Notice) (lines : List CustomerLine) → I lines
+      → I (with_notice_to entry notice lines)
+  notified_so entry None lines so = so
+  notified_so entry (Some n) lines so = told_so entry n.whom n.text lines so
+
+pub given_up_so :
+    (I : List CustomerLine → Type 0) → ((n : ℕ) (lines : List CustomerLine) → I lines → I (without_sending lines n))
+    → (ns : List ℕ) (lines : List CustomerLine) → I lines → I (fold without_sending lines ns)
+given_up_so I one [] lines so = so
+given_up_so I one (n ∷ ns) lines so = given_up_so I one ns (without_sending lines n) (one n lines so)
+
+-- ---- what comes
+
+-- And so by what an arrival leaves on line l,
+pub record StaysReceiving (l : ℕ) (I : List CustomerLine → Type 0) : Type 0 where
+  pub waiting : StaysWaiting l I
+  pub receives : (k : ℕ) (r : Receiver) (lines : List CustomerLine) → I lines → I (on_line l (with_receiver k r) lines)
+  pub notes :
+      (k : ℕ) (r : Receiver) (n : Option Notice) (lines : List CustomerLine) → I lines
+      → I (on_line l (with_notice k r n) lines)
+
+pub arrived_so :
+    (l : ℕ) (I : List CustomerLine → Type 0) → StaysReceiving l I → (k : ℕ) (a : Arrival) (c : Customer) → I c.lines
+    → I (after_stream_arrival l k a c).lines
+arrived_so l I keep k a c so =
+    let done = received_arrival c.entry l (kind_of k) (receiver_at k (line_at l c.lines)) a c.spool in
+    let lines = on_line l (with_receiver k done.receiver) c.lines in
+    let answer = option_map (answer_on k) done.answer in
+    let waiting = with_answer_on l answer lines in
+    keep.notes k done.receiver done.notice (with_notice_to c.entry done.notice waiting)
+    (notified_so l I keep.waiting c.entry done.notice waiting
+    (answered_so l I keep.waiting answer lines (keep.receives k done.receiver c.lines so)))
+
+-- by a stream from the hub of line l that moves, and by the streams that give a file up.
+pub record StaysOnLines (l : ℕ) (I : List CustomerLine → Type 0) : Type 0 where
+  pub receiving : StaysReceiving l I
+  pub sends : (k : ℕ) (s : Sender) (lines : List CustomerLine) → I lines → I (on_line l (with_sender k s) lines)
+  pub gives_up : (n : ℕ) (lines : List CustomerLine) → I lines → I (without_sending lines n)
+
+pub record_on_lines :
+    (l : ℕ) (I : List CustomerLine → Type 0) → StaysOnLines l I → (i : Item) (c : Customer) → I c.lines
+    → I (after_record l i c).lines
+record_on_lines l I keep i c so = at i (after_record l i c) (record_does l c i)
+  where
+    waiting : StaysWaiting l I
+    waiting = keep.receiving.waiting
+
+    at : (i : Item) (d : Customer) → RecordDoes l c i d → I d.lines
+    at _ _ (does.nothing i) = so
+    at _ _ (does.arrives i code k a brings names) = arrived_so l I keep.receiving k a c so
+    at _ _ (does.answers i a) = answered_so l I waiting a c.lines so
+    at _ _ (does.permits srcb k names) = keep.sends k (after_grant (sender_at k (line_at l c.lines))) c.lines so
+    at _ _ (does.refuses srcb k names) =
+        keep.sends k (after_refusal (sender_at k (line_at l c.lines)) c.spool).sender c.lines so
+    at _ _ (does.completes srcb k names) =
+        keep.sends k (after_completion (sender_at k (line_at l c.lines)) c.spool).sender c.lines so
+    at _ _ (does.commands srcb bytes n reads here user) =
+        let done = message_outcome c.entry (sender_of n) n.message c.spool in
+        all_told_so l I waiting c.entry (sender_of n) done.replies (fold without_sending c.lines done.cancelled)
+        (given_up_so I keep.gives_up done.cancelled c.lines so)
+    at _ _ (does.knows_no_node i n) =
+        told_so l I waiting c.entry (sender_of n) (node_unknown n.to) c.lines so
+    at _ _ (does.passes_on i k m) = waiting.waits k m c.lines so
+
+-- ---- what is seen of each line
+
+module _ {X : Type 0} (g : CustomerLine → X) where
+  pub each_seen : (f : CustomerLine → CustomerLine) → ((x : CustomerLine) → g (f x) ≡ g x) → (lines : List CustomerLine)
+      → map g (map f lines) ≡ map g lines
+  each_seen f same [] = refl
+  each_seen f same (x ∷ xs) = ap₂ (λ y ys. y ∷ ys) (same x) (each_seen f same xs)
+
+  pub on_line_seen : (l : ℕ) (f : CustomerLine → CustomerLine) (lines : List CustomerLine)
+      → ((x : CustomerLine) → g (f x) ≡ g x) → map g (on_line l f lines) ≡ map g lines
+  on_line_seen l f lines same = map-set_same g lines l (f (line_at l lines)) no_customer_line (same (line_at l lines))
+
+-- What waits isn't seen of a line,
+pub record SeesNoWaiting {X : Type 0} (g : CustomerLine → X) : Type 0 where
+  pub answers : (a : Answer) (x : CustomerLine) → g (in_state (with_answer a) x) ≡ g x
+  pub messages : (m : List ℕ) (x : CustomerLine) → g (in_state (with_message m) x) ≡ g x
+
+-- nor what comes on its streams to the hub.
+pub record SeesNoArrivals {X : Type 0} (g : CustomerLine → X) : Type 0 where
+  pub waiting : SeesNoWaiting g
+  pub receivers : (k : ℕ) (r : Receiver) (x : CustomerLine) → g (with_receiver k r x) ≡ g x
+  pub notices : (k : ℕ) (r : Receiver) (n : Option Notice) (x : CustomerLine) → g (with_notice k r n x) ≡ g x
+
+-- what is seen of these is seen of others
+abbrev pub IsSeen : {X : Type 0} → (CustomerLine → X) → List CustomerLine → List CustomerLine → Type 0
+IsSeen g before lines = map g lines ≡ map g before
+
+module _ {X : Type 0} (g : CustomerLine → X) (l : ℕ) (before : List CustomerLine) where
+  pub seen_waiting : SeesNoWaiting g → StaysWaiting l (IsSeen g before)
+  seen_waiting sees = record {
+    answers = λ a lines so. on_line_seen g l (in_state (with_answer a)) lines (sees.answers a) ∙ so;
+    waits = λ k m lines so. on_line_seen g k (in_state (with_message m)) lines (sees.messages m) ∙ so;
+  }
+
+  pub seen_receiving : SeesNoArrivals g → StaysReceiving l (IsSeen g before)
+  seen_receiving sees = record {
+    waiting = seen_waiting sees.waiting;
+    receives = λ k r lines so. on_line_seen g l (with_receiver k r) lines (sees.receivers k r) ∙ so;
+    notes = λ k r n lines so. on_line_seen g l (with_notice k r n) lines (sees.notices k r n) ∙ so;
+  }

@@ -1,0 +1,169 @@
+-- What a record that comes does to a customer: nothing, or one of a few small things.
+use Rattle.std.proofs.Common.{◌≡◌, ℕ, ◌==◌, Bool, true, false, cond, List, [], ◌∷◌, Option, Some, None, Result, Ok, Err}
+use Rattle.std.proofs.Common.{refl, sym, subst}
+use Rattle.std.proofs.lemmas.Bool.{eqb-true}
+use Rattle.njh_block.specs.Blocks.{Item, Data, Aborted, Long, Control, General, stream_number, stream_of}
+use Rattle.njh_block.specs.declared.answer.Answer.{Answer}
+use Rattle.njh_nmr.specs.Nodal.{Nodal, nodal_of, is_user_command, cut_after_message}
+use Rattle.njh_nmr.specs.declared.fault.NmrFault.{NmrFault}
+use Rattle.njh_table.specs.Entries.{route_of}
+use Rattle.njh_table.specs.declared.Route.{Route}
+use Rattle.njh_table.specs.declared.Route.TheVariants.{Here, Line, Unknown}
+use Rattle.njh_stream.specs.Receiving as receiving
+use Rattle.njh_stream.specs.Receiving.{Arrival}
+use Rattle.njh_stream.specs.Sending.{after_completion, after_refusal}
+use Rattle.njh_customer.specs.Acting.{after_message, after_permission, after_record, after_stream_arrival}
+use Rattle.njh_customer.specs.Acting.{after_stream_record, after_stream_request, after_unknown_node, after_user_command}
+use Rattle.njh_customer.specs.Acting.{Acted, acted_where, all_acted, ended_or, ends_session, message_read}
+use Rattle.njh_customer.specs.Acting.{message_routed, peer_answered, refusal_of, with_sender_outcome}
+use Rattle.njh_customer.specs.Customer.{Customer, line_at, sender_at}
+use Rattle.njh_customer.specs.Waiting.{with_answer_on, with_waiting}
+
+-- a record brings an arrival for a stream
+pub data Brings : Arrival → Item → Type 0 where
+  a_request : (rcb srcb : ℕ) → Brings receiving.Request (Control rcb srcb)
+  some_data : (rcb srcb : ℕ) (bytes : List ℕ) → Brings (receiving.Data srcb bytes) (Data rcb srcb bytes)
+  an_abort : (rcb srcb : ℕ) → Brings receiving.Abort (Aborted rcb srcb)
+  too_long : (rcb srcb : ℕ) → Brings receiving.Long (Long rcb srcb)
+
+-- the stream that a code names on a line
+abbrev pub stream_named : ℕ → ℕ → Customer → Option ℕ
+stream_named l code c = stream_of (line_at l c.lines).streams code
+
+-- What a record on a line leaves.
+pub data RecordDoes (l : ℕ) (c : Customer) : Item → Customer → Type 0 where
+  nothing : (i : Item) → RecordDoes l c i c
+  arrives :
+      (i : Item) (code k : ℕ) (a : Arrival) → Brings a i → stream_named l code c ≡ Some k
+      → RecordDoes l c i (after_stream_arrival l k a c)
+  answers : (i : Item) (a : Option Answer) → RecordDoes l c i (record c { lines = with_answer_on l a c.lines })
+  permits :
+      (srcb k : ℕ) → stream_named l srcb c ≡ Some k → RecordDoes l c (Control 0xa0 srcb) (after_permission l k c)
+  refuses :
+      (srcb k : ℕ) → stream_named l srcb c ≡ Some k
+      → RecordDoes l c (Control 0xb0 srcb)
+      (with_sender_outcome l k (after_refusal (sender_at k (line_at l c.lines)) c.spool) c)
+  completes :
+      (srcb k : ℕ) → stream_named l srcb c ≡ Some k
+      → RecordDoes l c (Control 0xc0 srcb)
+      (with_sender_outcome l k (after_completion (sender_at k (line_at l c.lines)) c.spool) c)
+  commands :
+      (srcb : ℕ) (bytes : List ℕ) (n : Nodal) → nodal_of bytes ≡ Ok n → route_of c.entry n.to ≡ Here
+      → is_user_command n ≡ true → RecordDoes l c (Data 0x9a srcb bytes) (after_user_command n c)
+  knows_no_node : (i : Item) (n : Nodal) → RecordDoes l c i (after_unknown_node n c)
+  passes_on : (i : Item) (k : ℕ) (m : List ℕ) → RecordDoes l c i (record c { lines = with_waiting k m c.lines })
+
+module _ (l : ℕ) (c : Customer) where
+  either :
+      (b : Bool) (i : Item) (x y : Customer) → RecordDoes l c i x → RecordDoes l c i y → RecordDoes l c i (cond b x y)
+  either true i x y first second = first
+  either false i x y first second = second
+
+  -- ---- streams
+
+  stream_does :
+      (code : ℕ) (o : Option ℕ) (a : Arrival) (i : Item) → Brings a i → stream_named l code c ≡ o
+      → RecordDoes l c i (after_stream_record l o a c)
+  stream_does code None a i brings e = nothing i
+  stream_does code (Some k) a i brings e = arrives i code k a brings e
+
+  request_does :
+      (rcb srcb : ℕ) (o : Option ℕ) → stream_named l srcb c ≡ o
+      → RecordDoes l c (Control rcb srcb) (after_stream_request l srcb o c)
+  request_does rcb srcb None e = answers (Control rcb srcb) (refusal_of srcb (stream_number srcb))
+  request_does rcb srcb (Some k) e = arrives (Control rcb srcb) srcb k receiving.Request (a_request rcb srcb) e
+
+  -- where the code is this one
+  at_code :
+      (code rcb srcb : ℕ) (b : Bool) (x y : Customer) → (rcb == code) ≡ b → RecordDoes l c (Control code srcb) x
+      → RecordDoes l c (Control rcb srcb) y → RecordDoes l c (Control rcb srcb) (cond b x y)
+  at_code code rcb srcb true x y e first second =
+      subst (λ n. RecordDoes l c (Control n srcb) x) (sym (eqb-true rcb code e)) first
+  at_code code rcb srcb false x y e first second = second
+
+  peer_does :
+      (rcb srcb : ℕ) (o : Option ℕ) → stream_named l srcb c ≡ o
+      → RecordDoes l c (Control rcb srcb) (peer_answered l rcb o c)
+  peer_does rcb srcb None e = nothing (Control rcb srcb)
+  peer_does rcb srcb (Some k) e =
+      let x = sender_at k (line_at l c.lines) in
+      let refused = with_sender_outcome l k (after_refusal x c.spool) c in
+      let completed = with_sender_outcome l k (after_completion x c.spool) c in
+      let others = cond (rcb == 0xc0) completed c in
+      at_code 0xa0 rcb srcb (rcb == 0xa0) (after_permission l k c) (cond (rcb == 0xb0) refused others) refl
+      (permits srcb k e)
+      (at_code 0xb0 rcb srcb (rcb == 0xb0) refused others refl (refuses srcb k e)
+      (at_code 0xc0 rcb srcb (rcb == 0xc0) completed c refl (completes srcb k e) (nothing (Control rcb srcb))))
+
+  -- ---- messages
+
+  routed_does :
+      (srcb : ℕ) (bytes : List ℕ) (n : Nodal) (r : Route) → nodal_of bytes ≡ Ok n → route_of c.entry n.to ≡ r
+      → RecordDoes l c (Data 0x9a srcb bytes) (message_routed l n bytes r c)
+  routed_does srcb bytes n Here reads to = at_command (is_user_command n) refl
+    where
+      at_command :
+          (b : Bool) → is_user_command n ≡ b
+          → RecordDoes l c (Data 0x9a srcb bytes) (cond b (after_user_command n c) c)
+      at_command true is = commands srcb bytes n reads to is
+      at_command false is = nothing (Data 0x9a srcb bytes)
+  routed_does srcb bytes n (Line k) reads to =
+      let m = cut_after_message bytes in
+      either (k == l) (Data 0x9a srcb bytes) c (record c { lines = with_waiting k m c.lines })
+      (nothing (Data 0x9a srcb bytes)) (passes_on (Data 0x9a srcb bytes) k m)
+  routed_does srcb bytes n Unknown reads to =
+      either (is_user_command n) (Data 0x9a srcb bytes) (after_unknown_node n c) c
+      (knows_no_node (Data 0x9a srcb bytes) n) (nothing (Data 0x9a srcb bytes))
+
+  message_does : (srcb : ℕ) (bytes : List ℕ) → RecordDoes l c (Data 0x9a srcb bytes) (after_message l bytes c)
+  message_does srcb bytes = at_nodal (nodal_of bytes) refl
+    where
+      at_nodal :
+          (n : Result Nodal NmrFault) → nodal_of bytes ≡ n
+          → RecordDoes l c (Data 0x9a srcb bytes) (message_read l bytes n c)
+      at_nodal (Err e) reads = nothing (Data 0x9a srcb bytes)
+      at_nodal (Ok n) reads = routed_does srcb bytes n (route_of c.entry n.to) reads refl
+
+  -- ---- every record
+
+  pub record_does : (i : Item) → RecordDoes l c i (after_record l i c)
+  record_does (Data rcb srcb bytes) = at_message (rcb == 0x9a) refl
+    where
+      at_message :
+          (b : Bool) → (rcb == 0x9a) ≡ b
+          → RecordDoes l c (Data rcb srcb bytes)
+          (cond b (after_message l bytes c)
+          (after_stream_record l (stream_named l rcb c) (receiving.Data srcb bytes) c))
+      at_message true e =
+          subst (λ n. RecordDoes l c (Data n srcb bytes) (after_message l bytes c)) (sym (eqb-true rcb 0x9a e))
+          (message_does srcb bytes)
+      at_message false e =
+          stream_does rcb (stream_named l rcb c) (receiving.Data srcb bytes) (Data rcb srcb bytes)
+          (some_data rcb srcb bytes) refl
+  record_does (Aborted rcb srcb) =
+      stream_does rcb (stream_named l rcb c) receiving.Abort (Aborted rcb srcb) (an_abort rcb srcb) refl
+  record_does (Long rcb srcb) =
+      stream_does rcb (stream_named l rcb c) receiving.Long (Long rcb srcb) (too_long rcb srcb) refl
+  record_does (Control rcb srcb) =
+      let o = stream_named l srcb c in
+      either (rcb == 0x90) (Control rcb srcb) (after_stream_request l srcb o c) (peer_answered l rcb o c)
+      (request_does rcb srcb o refl) (peer_does rcb srcb o refl)
+  record_does (General srcb rest) = nothing (General srcb rest)
+
+-- ---- the records of a block
+
+module _ (l : ℕ) (I : Customer → Type 0) (acted : (i : Item) (c : Customer) → I c → I (after_record l i c)) where
+  all_so : (items : List Item) (c : Customer) → I c → I (all_acted l items c).customer
+  all_so [] c so = so
+  all_so (i ∷ is) c so = at_end (ends_session i) (all_so is (after_record l i c) (acted i c so))
+    where
+      later : Acted
+      later = all_acted l is (after_record l i c)
+
+      at_end : (b : Bool) → I later.customer → I (ended_or b c later).customer
+      at_end true behind = so
+      at_end false behind = behind
+
+  pub acted_where_so : (b : Bool) (items : List Item) (c : Customer) → I c → I (acted_where b l items c).customer
+  acted_where_so true items c so = all_so items c so
+  acted_where_so false items c so = so
