@@ -1,22 +1,18 @@
 -- What a frame or a signal on a line does to a customer's whole files and to its streams from the hub.
-use Rattle.std.proofs.Common.{◌≡◌, ℕ, ◌<◌, ◌||◌, Bool, true, false, cond, List, [], ◌∷◌, length, set, get_or, Result}
-use Rattle.std.proofs.Common.{Ok, Err, nat_lt, refl, sym, ap, subst, ◌∙◌, arith}
+use Rattle.std.proofs.Common.{◌≡◌, ℕ, ◌<◌, Bool, true, false, List, [], length, get_or, refl, sym, ap, subst, ◌∙◌}
+use Rattle.std.proofs.Common.{arith}
 use Rattle.std.proofs.Math.ListN.{get_or-map}
 use Rattle.std.proofs.Math.Seq.{map-set_same}
-use Rattle.std.proofs.lemmas.Bool.{ltb-true}
-use Rattle.std.proofs.lemmas.List.{length-map, length-set, map-set}
-use Rattle.njh_bisync.specs.Frames as frame
+use Rattle.std.proofs.lemmas.List.{length-map, length-set}
 use Rattle.njh_bisync.specs.Frames.{Received}
 use Rattle.njh_bisync.specs.Written.{text_bytes}
 use Rattle.njh_bisync.specs.declared.frame.Control.{Control}
 use Rattle.njh_bisync.specs.declared.frame.Control.TheVariants.{Enquiry, Ack0, Nak}
-use Rattle.njh_block.specs.Blocks.{Block, Item, all_suspended, read_block, same_fcs, text_of}
-use Rattle.njh_block.specs.Writing.{Writing}
-use Rattle.njh_block.specs.declared.fault.BlockFault.{BlockFault}
+use Rattle.njh_block.specs.Blocks.{Block, Item, text_of}
 use Rattle.njh_table.specs.Entries.{CustomerEntry}
 use Rattle.njh_stream.specs.Sending.{goes_by}
 use Rattle.njh_stream.specs.declared.sender.Sender.{Sender}
-use Rattle.njh_sched.specs.NextBlock.{Filling, filled_block, filling}
+use Rattle.njh_sched.specs.NextBlock.{Filling, filled_block}
 use Rattle.njh_sched.specs.Tight.{own_fcs}
 use Rattle.njh_command.specs.CommandLaws.{CommandsMoveFilesSo}
 use Rattle.njh_line.specs.LineTable as input
@@ -28,26 +24,26 @@ use Rattle.njh_line.specs.declared.verdict.LineReply.{LineReply}
 use Rattle.njh_line.specs.declared.verdict.LineReply.TheVariants as reply
 use Rattle.njh_line.specs.declared.verdict.Verdict.{Verdict}
 use Rattle.njh_customer.specs.Acting.{acted_where}
-use Rattle.njh_customer.specs.Alone.{CustomerStep, silent, with_idle_streams, with_raised_line, goes_up_by, after_reply}
-use Rattle.njh_customer.specs.Alone.{replied_to, session_over, session_over_where, session_ended, carried_out}
-use Rattle.njh_customer.specs.Alone.{verdict_on, accepted_on, after_line_input, block_input, behind_records}
-use Rattle.njh_customer.specs.Alone.{after_block, text_read, after_text, after_received, signal_input, after_frame}
+use Rattle.njh_customer.specs.Alone.{silent, with_idle_streams, with_raised_line, goes_up_by, replied_to, session_over}
+use Rattle.njh_customer.specs.Alone.{session_over_where, session_ended, carried_out, verdict_on, accepted_on}
+use Rattle.njh_customer.specs.Alone.{after_line_input, block_input, behind_records, after_block, after_frame}
 use Rattle.njh_customer.specs.Alone.{after_signal}
 use Rattle.njh_customer.specs.Customer.{Customer, CustomerLine, no_customer_line, line_at, on_line, in_state}
 use Rattle.njh_customer.specs.FrameEffects.{Carries, Ends, still_on, over_now, GoesOut, no_block, new_block, Does}
-use Rattle.njh_customer.specs.FrameEffects.{block_records, records_of_frame, IsNoNewBlock, nothing_sent, control, again}
-use Rattle.njh_customer.specs.FrameEffects.{sign_on, count, without_records}
+use Rattle.njh_customer.specs.FrameEffects.{records_of_frame, IsNoNewBlock, nothing_sent, control, again, sign_on}
+use Rattle.njh_customer.specs.FrameEffects.{count, without_records}
 use Rattle.njh_customer.specs.Moves.{LeadsByMoves, nowhere, OneActs, Sends}
 use Rattle.njh_customer.specs.OutgoingFiles.{Outgoing, outgoing, streams_from_hub, streams_of}
-use Rattle.njh_customer.specs.Sending.{LineSent, Sending, sending_of_control, sending_of_no_block, sending_of_empty}
-use Rattle.njh_customer.specs.Sending.{sending_of_block, next_block, outlet_of, own_block, sending_of_reply}
+use Rattle.njh_customer.specs.Sending.{sending_of_control, sending_of_no_block, next_block, own_block, sending_of_reply}
 use Rattle.njh_customer.specs.Sending.{with_outlet}
 use Rattle.njh_customer.specs.declared.signal.Signal.{Signal}
 use Rattle.njh_customer.proofs.EndingMoves.{over_so}
 use Rattle.njh_customer.proofs.KeptLines.{kept, kepts, lines_of}
-use Rattle.njh_customer.proofs.OutgoingLaws.{of_parts, on_line_senders, own_again, unmoved}
+use Rattle.njh_customer.proofs.OutgoingLaws.{of_parts, on_line_senders, reply_unmoved}
 use Rattle.njh_customer.proofs.RecordsMoves.{Acting, acting_where}
-use Rattle.njh_customer.proofs.SendingMoves.{out_of, filled_leads, filled_with_none}
+use Rattle.njh_customer.proofs.ReplyLaws.{empty_so, is_next, written_so}
+use Rattle.njh_customer.proofs.SendingMoves.{out_of, filled_with_none, filling_on, next_begins, next_is, next_leads}
+use Rattle.njh_customer.proofs.StepWalks.{frame_holds, signal_holds}
 
 -- ---- what goes out
 
@@ -58,14 +54,6 @@ BlocksCarry =
     → x.block.items ≡ []
     → Carries l k (filled_block (goes_by entry l) x).block.items (out_of l base x) (out_of l base (filled_block (goes_by entry l) x))
 
--- a line sent what moves no stream
-sent_unmoved :
-    (l : ℕ) (x : LineSent) (c : Customer) → x.line.senders ≡ (line_at l c.lines).senders → x.spool.whole ≡ c.spool.whole
-    → x.spool.arrived ≡ c.spool.arrived → IsNoNewBlock (line_at l c.lines).state x.frame
-    → GoesOut c.entry l (line_at l c.lines).state (outgoing c) (outgoing (after_reply l x c).after) x.frame
-sent_unmoved l x c same files none_came no_new =
-    no_block (unmoved l x c same files none_came) no_new
-
 control_is : (line x : LineState) (which : Control) → IsNoNewBlock line (sending_of_control which x).frame
 control_is line x Enquiry = control Enquiry refl
 control_is line x Ack0 = control Ack0 refl
@@ -75,16 +63,6 @@ control_is line x Nak = control Nak refl
 in_its_place : (line x : LineState) (or_ack0 : Bool) → IsNoNewBlock line (sending_of_no_block or_ack0 x).frame
 in_its_place line x true = control Ack0 refl
 in_its_place line x false = nothing_sent refl
-
-abbrev empty_where : Bool → Bool → Writing → LineState → Sending
-empty_where b or_ack0 w x = elim b [ true ↦ sending_of_no_block or_ack0 x | false ↦ sending_of_block w x ]
-
-empty_is : (line x : LineState) (or_ack0 : Bool) (w : Writing) → w.items ≡ [] → IsNoNewBlock line (sending_of_empty or_ack0 w x).frame
-empty_is line x or_ack0 w none = at_test (all_suspended x.session.peer_fcs || same_fcs w.fcs x.session.own_fcs)
-  where
-    at_test : (b : Bool) → IsNoNewBlock line (empty_where b or_ack0 w x).frame
-    at_test true = in_its_place line x or_ack0
-    at_test false = without_records w.bcb w.fcs (ap (λ items. text_bytes (text_of w.bcb w.fcs items)) none)
 
 -- by how a line is set up, and its last transmission
 as_set_up : (x y : LineState) (sent : List ℕ) → x.config ≡ y.config → x.last ≡ y.last → IsNoNewBlock x sent → IsNoNewBlock y sent
@@ -101,10 +79,6 @@ goes_out_as :
 goes_out_as entry l x y u v sent config last (no_block same no_new) = no_block same (as_set_up x y sent config last no_new)
 goes_out_as entry l x y u v sent config last (new_block bcb fcs items e leads carries) = new_block bcb fcs items e leads carries
 
--- by a block's records
-abbrev sent_where : Bool → Writing → LineState → List Item → Sending
-sent_where or_ack0 w x is = elim is [ [] ↦ sending_of_empty or_ack0 w x | i ∷ js ↦ sending_of_block w x ]
-
 -- how a line is set up, and its last transmission
 abbrev set_up : CustomerLine → Config × List ℕ
 set_up x = (x.state.config, x.state.last)
@@ -120,14 +94,28 @@ pub record Judged (up : Bool) (l : ℕ) (items : List Item) (c d : Customer) : T
 module _ (carry : BlocksCarry) (commands : CommandsMoveFilesSo) where
   -- a new block, or what is sent in its place
   next_goes_out : (l : ℕ) (or_ack0 : Bool) (c : Customer) → l < length c.lines
-      → GoesOut c.entry l (line_at l c.lines).state (outgoing c) (outgoing (replied_to l (reply.Next or_ack0) c).after) (replied_to l (reply.Next or_ack0) c).frame
-  next_goes_out l or_ack0 c there = by_items (next_block c.entry l c.spool (line_at l c.lines)).block.items refl
+      → GoesOut c.entry l (line_at l c.lines).state (outgoing c) (outgoing (replied_to l (reply.Next or_ack0) c).after)
+      (replied_to l (reply.Next or_ack0) c).frame
+  next_goes_out l or_ack0 c there =
+      subst (λ y. GoesOut c.entry l line (outgoing c) y (replied_to l (reply.Next or_ack0) c).frame) (sym (next_is l or_ack0 c))
+      (written_so (λ sent. GoesOut c.entry l line (outgoing c) (out_of l base full) sent.frame) or_ack0 full.block x
+      (λ none. no_block (filled_with_none c.entry l base inside first none ∙ begins)
+      (empty_so (λ sent. IsNoNewBlock line sent.frame) or_ack0 full.block x (in_its_place line x or_ack0)
+      (without_records full.block.bcb full.block.fcs
+      (ap (λ items. text_bytes (text_of full.block.bcb full.block.fcs items)) none))))
+      (new_block full.block.bcb full.block.fcs full.block.items refl leads carries))
     where
+      line : LineState
+      line = (line_at l c.lines).state
+
       first : Filling
-      first = filling (own_block (own_fcs c.spool) (line_at l c.lines).state) (outlet_of (line_at l c.lines)) c.spool
+      first = filling_on l c
 
       full : Filling
       full = next_block c.entry l c.spool (line_at l c.lines)
+
+      x : LineState
+      x = (with_outlet full.outlet (line_at l c.lines)).state
 
       base : List (List Sender)
       base = streams_from_hub c.lines
@@ -136,16 +124,10 @@ module _ (carry : BlocksCarry) (commands : CommandsMoveFilesSo) where
       inside = omega (arith, there, length-map c.lines (λ x. x.senders))
 
       begins : out_of l base first ≡ outgoing c
-      begins = ap (of_parts c.spool.whole c.spool.arrived) (own_again l c.lines)
-
-      -- however the line's state is
-      after_is :
-          (line : CustomerLine) → line.senders ≡ full.outlet.senders → of_parts full.spool.whole full.spool.arrived (streams_from_hub (set c.lines l line)) ≡ out_of l base full
-      after_is line same =
-          ap (of_parts full.spool.whole full.spool.arrived) (map-set (λ y. y.senders) c.lines l line ∙ ap (set base l) same)
+      begins = next_begins l c
 
       leads : LeadsByMoves (Sends c.entry l) (outgoing c) (out_of l base full)
-      leads = subst (λ x. LeadsByMoves (Sends c.entry l) x (out_of l base full)) begins (filled_leads c.entry l base inside first)
+      leads = next_leads l c there
 
       carries : (k : ℕ) → k < 8 → k < length (streams_of l (outgoing c)) → Carries l k full.block.items (outgoing c) (out_of l base full)
       carries k few in_line =
@@ -153,34 +135,27 @@ module _ (carry : BlocksCarry) (commands : CommandsMoveFilesSo) where
           let in_outlet : k < length first.outlet.senders = omega (arith, in_line, ap length here) in
           subst (λ x. Carries l k full.block.items x (out_of l base full)) begins (carry c.entry l k base first inside few in_outlet refl)
 
-      sent : CustomerLine
-      sent = (sending_of_reply c.entry l (reply.Next or_ack0) c.spool (line_at l c.lines)).line
-
-      by_items :
-          (is : List Item) → full.block.items ≡ is
-          → GoesOut c.entry l (line_at l c.lines).state (outgoing c) (outgoing (replied_to l (reply.Next or_ack0) c).after)
-          (sent_where or_ack0 full.block (with_outlet full.outlet (line_at l c.lines)).state is).frame
-      by_items [] none =
-          no_block (after_is sent refl ∙ filled_with_none c.entry l base inside first none ∙ begins)
-          (empty_is (line_at l c.lines).state (with_outlet full.outlet (line_at l c.lines)).state or_ack0 full.block none)
-      by_items (i ∷ is) some =
-          subst (λ y. GoesOut c.entry l (line_at l c.lines).state (outgoing c) y (sending_of_block full.block (with_outlet full.outlet (line_at l c.lines)).state).frame)
-          (sym (after_is sent refl)) (new_block full.block.bcb full.block.fcs full.block.items refl leads carries)
-
   reply_goes_out :
       (l : ℕ) (r : LineReply) (c : Customer) → l < length c.lines
       → GoesOut c.entry l (line_at l c.lines).state (outgoing c) (outgoing (replied_to l r c).after) (replied_to l r c).frame
-  reply_goes_out l reply.Nothing c there = sent_unmoved l (sending_of_reply c.entry l reply.Nothing c.spool (line_at l c.lines)) c refl refl refl (nothing_sent refl)
-  reply_goes_out l (reply.Control which) c there =
-      sent_unmoved l (sending_of_reply c.entry l (reply.Control which) c.spool (line_at l c.lines)) c refl refl refl
-      (control_is (line_at l c.lines).state (line_at l c.lines).state which)
-  reply_goes_out l reply.Again c there = sent_unmoved l (sending_of_reply c.entry l reply.Again c.spool (line_at l c.lines)) c refl refl refl (again refl)
-  reply_goes_out l (reply.SignOn kind) c there = sent_unmoved l (sending_of_reply c.entry l (reply.SignOn kind) c.spool (line_at l c.lines)) c refl refl refl (sign_on kind refl)
-  reply_goes_out l (reply.Sequence expected) c there =
-      let line = (line_at l c.lines).state in
-      sent_unmoved l (sending_of_reply c.entry l (reply.Sequence expected) c.spool (line_at l c.lines)) c refl refl refl
-      (count (own_block (own_fcs c.spool) line).bcb (own_fcs c.spool) expected refl)
-  reply_goes_out l (reply.Next or_ack0) c there = next_goes_out l or_ack0 c there
+  reply_goes_out l r c there = at r
+    where
+      line : LineState
+      line = (line_at l c.lines).state
+
+      -- what moves no stream
+      still : (r : LineReply) → is_next r ≡ false → IsNoNewBlock line (replied_to l r c).frame
+          → GoesOut c.entry l line (outgoing c) (outgoing (replied_to l r c).after) (replied_to l r c).frame
+      still r quiet no_new = no_block (reply_unmoved l r c quiet) no_new
+
+      at : (r : LineReply) → GoesOut c.entry l line (outgoing c) (outgoing (replied_to l r c).after) (replied_to l r c).frame
+      at reply.Nothing = still reply.Nothing refl (nothing_sent refl)
+      at (reply.Control which) = still (reply.Control which) refl (control_is line line which)
+      at reply.Again = still reply.Again refl (again refl)
+      at (reply.SignOn kind) = still (reply.SignOn kind) refl (sign_on kind refl)
+      at (reply.Sequence expected) =
+          still (reply.Sequence expected) refl (count (own_block (own_fcs c.spool) line).bcb (own_fcs c.spool) expected refl)
+      at (reply.Next or_ack0) = next_goes_out l or_ack0 c there
 
   -- ---- a step, behind its records
 
@@ -272,21 +247,6 @@ module _ (carry : BlocksCarry) (commands : CommandsMoveFilesSo) where
       let judged = accepted_judged l b.items (block_input b) c a.customer (acting_where commands v.acts l b.items (accepted_on l (block_input b) c)) in
       behind_does l b.items a.ended v c a.customer (goes_up_by l (block_input b) c) judged (omega (arith, there, judged.lines))
 
-  text_does : (l : ℕ) (text : List ℕ) (c : Customer) → l < length c.lines → Does l (records_of_frame (frame.Text text)) c (after_text l text c)
-  text_does l text c there = at_block (read_block text)
-    where
-      at_block : (b : Result Block BlockFault) → Does l (block_records b) c (text_read l b c)
-      at_block (Ok b) = block_does l b c there
-      at_block (Err e) = input_does l [] input.Bad c there
-
-  received_does : (l : ℕ) (x : Received) (c : Customer) → l < length c.lines → Does l (records_of_frame x) c (after_received l x c)
-  received_does l frame.Enquiry c there = input_does l [] input.Enquiry c there
-  received_does l frame.Ack0 c there = input_does l [] input.Ack0 c there
-  received_does l frame.Nak c there = input_does l [] input.Nak c there
-  received_does l frame.Eot c there = input_does l [] input.Eot c there
-  received_does l (frame.Text text) c there = text_does l text c there
-  received_does l frame.Spoiled c there = input_does l [] input.Spoiled c there
-
   silent_does : (l : ℕ) (items : List Item) (c : Customer) → Does l items c (silent c)
   silent_does l items c =
       record {
@@ -299,16 +259,15 @@ module _ (carry : BlocksCarry) (commands : CommandsMoveFilesSo) where
         lines = refl;
       }
 
-  there_does :
-      (l : ℕ) (items : List Item) (b : Bool) (x : CustomerStep) (c : Customer) → nat_lt l (length c.lines) ≡ b → (l < length c.lines → Does l items c x)
-      → Does l items c (cond b x (silent c))
-  there_does l items true x c e does = does (ltb-true l (length c.lines) e)
-  there_does l items false x c e does = silent_does l items c
-
   pub frame_does : (l : ℕ) (x : Received) (c : Customer) → Does l (records_of_frame x) c (after_frame l x c)
-  unfolding after_frame
-  frame_does l x c = there_does l (records_of_frame x) (nat_lt l (length c.lines)) (after_received l x c) c refl (received_does l x c)
+  frame_does l x c =
+      frame_holds l c (λ items s. Does l items c s)
+      (record {
+        none = λ items. silent_does l items c;
+        input = λ came there. input_does l [] came c there;
+        block = λ b there. block_does l b c there;
+      })
+      x
 
   pub signal_does : (l : ℕ) (x : Signal) (c : Customer) → Does l [] c (after_signal l x c)
-  unfolding after_signal
-  signal_does l x c = there_does l [] (nat_lt l (length c.lines)) (after_line_input l (signal_input x) c) c refl (input_does l [] (signal_input x) c)
+  signal_does l x c = signal_holds l c (λ s. Does l [] c s) (silent_does l [] c) (λ came there. input_does l [] came c there) x

@@ -1,40 +1,25 @@
 -- A line that isn't up has no stream about a file and no answer that waits, and SYSOUT 4 counts as served last.
-use Rattle.std.proofs.Common.{◌≡◌, ℕ, zero, suc, ◌+◌, ◌<◌, Bool, true, false, cond, ◌==◌, nat_lt, List, [], ◌∷◌, length}
-use Rattle.std.proofs.Common.{map, fold, set, get_or, Option, Some, None, Result, Ok, Err, refl, sym, ap, subst, ◌∙◌}
-use Rattle.std.proofs.Common.{arith}
+use Rattle.std.proofs.Common.{◌≡◌, ℕ, zero, suc, ◌+◌, ◌<◌, Bool, true, false, cond, ◌==◌, List, [], ◌∷◌, length, map}
+use Rattle.std.proofs.Common.{set, get_or, Option, Some, None, refl, sym, ap, subst, ◌∙◌, arith}
 use Rattle.std.proofs.Math.ListN.{get_or-map}
 use Rattle.std.proofs.Math.Seq.{map-set_same}
-use Rattle.std.proofs.lemmas.Bool.{eqb-true, eqb-false, ltb-true}
+use Rattle.std.proofs.lemmas.Bool.{eqb-true, eqb-false}
 use Rattle.std.proofs.lemmas.Grind.{get_or-set_at}
 use Rattle.std.proofs.lemmas.List.{get_or-set_same, get_or-set_other, length-map, length-set}
-use Rattle.std.specs.Option.{option_map}
-use Rattle.njh_bisync.specs.Frames as frame
 use Rattle.njh_bisync.specs.Frames.{Received}
 use Rattle.njh_bisync.specs.declared.frame.Control.TheVariants as control
-use Rattle.njh_ebcdic.specs.Users.{User}
 use Rattle.njh_block.specs.Blocks as block
-use Rattle.njh_block.specs.Blocks.{Block, Item, read_block, stream_number, stream_of}
-use Rattle.njh_block.specs.Codes.{kind_of}
-use Rattle.njh_block.specs.declared.answer.Answer.{Answer}
-use Rattle.njh_block.specs.declared.fault.BlockFault.{BlockFault}
+use Rattle.njh_block.specs.Blocks.{Item}
 use Rattle.njh_header.specs.SignOns.{SignOn}
-use Rattle.njh_nmr.specs.Nodal.{Nodal, nodal_of, is_user_command, cut_after_message, notice_record, sender_of}
-use Rattle.njh_nmr.specs.declared.fault.NmrFault.{NmrFault}
-use Rattle.njh_texts.specs.Texts.{node_unknown}
 use Rattle.njh_spool.specs.CustomerSpool.{CustomerSpool}
-use Rattle.njh_table.specs.Entries.{CustomerEntry, LineEntry, route_of}
+use Rattle.njh_table.specs.Entries.{CustomerEntry, LineEntry}
 use Rattle.njh_table.specs.declared.Role.{Role}
 use Rattle.njh_table.specs.declared.Role.TheVariants as role
-use Rattle.njh_table.specs.declared.Route.{Route}
-use Rattle.njh_table.specs.declared.Route.TheVariants.{Here, Line, Unknown}
-use Rattle.njh_stream.specs.Arrivals.{answer_on}
 use Rattle.njh_stream.specs.Receiving as receiving
-use Rattle.njh_stream.specs.Receiving.{Arrival, Notice, received_arrival}
-use Rattle.njh_stream.specs.Sending.{SenderOutcome, after_grant, after_refusal, after_completion}
 use Rattle.njh_stream.specs.declared.receiver.Receiver.{Receiver}
 use Rattle.njh_stream.specs.declared.receiver.Receiver.TheVariants as receiver
 use Rattle.njh_stream.specs.declared.sender.Sender.TheVariants as sender
-use Rattle.njh_command.specs.Commands.{CommandOutcome, message_outcome, without_file}
+use Rattle.njh_command.specs.Commands.{without_file}
 use Rattle.njh_line.specs.Counts.{bcb_type, bcb_count, count_verdict, is_repeat, is_taken}
 use Rattle.njh_line.specs.Laws.{is_up}
 use Rattle.njh_line.specs.LineTable as input
@@ -52,30 +37,23 @@ use Rattle.njh_line.specs.declared.session.Session.{Session}
 use Rattle.njh_line.specs.declared.verdict.LineReply.{LineReply}
 use Rattle.njh_line.specs.declared.verdict.LineReply.TheVariants as reply
 use Rattle.njh_line.specs.declared.verdict.Verdict.{Verdict}
-use Rattle.njh_customer.specs.Acting.{after_stream_arrival, after_stream_record, with_sender_outcome, after_permission}
-use Rattle.njh_customer.specs.Acting.{refusal_of, after_stream_request, peer_answered, without_sending, with_outcome}
-use Rattle.njh_customer.specs.Acting.{after_user_command, after_unknown_node, message_routed, message_read}
-use Rattle.njh_customer.specs.Acting.{with_senders_by, after_message, after_record, ends_session, ended_or, all_acted}
-use Rattle.njh_customer.specs.Acting.{acted_where, Acted}
-use Rattle.njh_customer.specs.Alone.{CustomerStep, with_idle_streams, silent, replied_to, session_over}
-use Rattle.njh_customer.specs.Alone.{session_over_where, session_ended, carried_out, verdict_on, accepted_on}
-use Rattle.njh_customer.specs.Alone.{after_line_input, block_input, behind_records, text_read, after_text}
-use Rattle.njh_customer.specs.Alone.{after_received, signal_input, after_frame, after_signal}
+use Rattle.njh_customer.specs.Acting.{without_sending, with_senders_by, all_acted, acted_where}
+use Rattle.njh_customer.specs.Alone.{with_idle_streams, replied_to, session_over, session_over_where, session_ended}
+use Rattle.njh_customer.specs.Alone.{carried_out, verdict_on, accepted_on, after_line_input, block_input}
+use Rattle.njh_customer.specs.Alone.{behind_records, after_frame, after_signal}
 use Rattle.njh_customer.specs.Customer.{Customer, CustomerLine, no_customer_line, line_at, on_line, in_state}
-use Rattle.njh_customer.specs.Customer.{with_notice, receiver_at, with_receiver, sender_at, with_sender, config_of}
-use Rattle.njh_customer.specs.Customer.{fresh_customer, idle_line}
+use Rattle.njh_customer.specs.Customer.{with_notice, with_receiver, with_sender, config_of, fresh_customer, idle_line}
 use Rattle.njh_customer.specs.InOrder.{IsIdle, IdleUnlessUp, phase_of}
 use Rattle.njh_customer.specs.Sending.{sending_of_reply}
-use Rattle.njh_customer.specs.Waiting.{with_answer_on, with_waiting, goes, with_message_to, all_said, with_notice_to}
+use Rattle.njh_customer.specs.Waiting.{with_waiting}
 use Rattle.njh_customer.specs.declared.signal.Signal.{Signal}
 use Rattle.njh_customer.proofs.FileListLaws.{copies}
-use Rattle.njh_customer.proofs.ReplyLaws.{reply_lasting}
+use Rattle.njh_customer.proofs.LineWalks.{StaysOnLines, record_on_lines}
+use Rattle.njh_customer.proofs.RecordsDo.{acted_where_so}
+use Rattle.njh_customer.proofs.ReplyLaws.{reply_lasting, is_next}
+use Rattle.njh_customer.proofs.StepWalks.{frame_holds, signal_holds}
 
 -- ---- what the line table asks for
-
-abbrev is_next : LineReply → Bool
-is_next (reply.Next or_ack0) = true
-is_next _ = false
 
 -- records act, and the next block goes, only where the line is up behind it
 record OnlyUp (v : Verdict) (p : Phase) : Type 0 where
@@ -272,10 +250,6 @@ module _ (l : ℕ) where
         rest = set_rests l (f x) lines (others l lines r.rest) (λ _ down. absurd (cc (sym down ∙ ap is_up (same x) ∙ r.up)));
       }
 
-  answered : (a : Option Answer) (lines : List CustomerLine) → UpAndRest l lines → UpAndRest l (with_answer_on l a lines)
-  answered None lines r = r
-  answered (Some a) lines r = own (in_state (with_answer a)) lines (λ x. refl) r
-
   waits : (k : ℕ) (m : List ℕ) (lines : List CustomerLine) → UpAndRest l lines → UpAndRest l (with_waiting k m lines)
   waits k m lines r =
       let x = line_at k lines in
@@ -283,28 +257,6 @@ module _ (l : ℕ) where
         up = ap is_up (same_phase l k (in_state (with_message m)) lines (λ y. refl)) ∙ r.up;
         rest = set_rests k (in_state (with_message m) x) lines (others k lines r.rest) (λ there down. message_idle m x (r.rest k there down));
       }
-
-  goes_on : (to : Route) (m : List ℕ) (lines : List CustomerLine) → UpAndRest l lines → UpAndRest l (goes to m lines)
-  goes_on Here m lines r = r
-  goes_on (Line k) m lines r = waits k m lines r
-  goes_on Unknown m lines r = r
-
-  said :
-      (entry : CustomerEntry) (whom : User) (text : List ℕ) (lines : List CustomerLine) → UpAndRest l lines
-      → UpAndRest l (with_message_to entry whom text lines)
-  said entry whom text lines r = goes_on (route_of entry whom.node) (notice_record entry.hub whom text) lines r
-
-  all_told :
-      (entry : CustomerEntry) (whom : User) (texts : List (List ℕ)) (lines : List CustomerLine) → UpAndRest l lines
-      → UpAndRest l (all_said entry whom texts lines)
-  all_told entry whom [] lines r = r
-  all_told entry whom (t ∷ ts) lines r = all_told entry whom ts (with_message_to entry whom t lines) (said entry whom t lines r)
-
-  notified :
-      (entry : CustomerEntry) (notice : Option Notice) (lines : List CustomerLine) → UpAndRest l lines
-      → UpAndRest l (with_notice_to entry notice lines)
-  notified entry None lines r = r
-  notified entry (Some n) lines r = said entry n.whom n.text lines r
 
   given_up : (n : ℕ) (lines : List CustomerLine) → UpAndRest l lines → UpAndRest l (without_sending lines n)
   given_up n lines r = record {
@@ -317,89 +269,16 @@ module _ (l : ℕ) where
       it : (m : ℕ) → line_at m (without_sending lines n) ≡ with_senders_by (without_file n) (line_at m lines)
       it m = get_or-map (with_senders_by (without_file n)) lines m no_customer_line
 
-  all_given_up : (ns : List ℕ) (lines : List CustomerLine) → UpAndRest l lines → UpAndRest l (fold without_sending lines ns)
-  all_given_up [] lines r = r
-  all_given_up (n ∷ ns) lines r = all_given_up ns (without_sending lines n) (given_up n lines r)
-
-  either : (b : Bool) (x y : Customer) → UpAndRest l x.lines → UpAndRest l y.lines → UpAndRest l (cond b x y).lines
-  either true x y first second = first
-  either false x y first second = second
-
-  arrived : (k : ℕ) (a : Arrival) (c : Customer) → UpAndRest l c.lines → UpAndRest l (after_stream_arrival l k a c).lines
-  arrived k a c r =
-      let done = received_arrival c.entry l (kind_of k) (receiver_at k (line_at l c.lines)) a c.spool in
-      let lines = on_line l (with_receiver k done.receiver) c.lines in
-      let answer = option_map (answer_on k) done.answer in
-      own (with_notice k done.receiver done.notice) (with_notice_to c.entry done.notice (with_answer_on l answer lines)) (λ x. refl)
-      (notified c.entry done.notice (with_answer_on l answer lines)
-      (answered answer lines (own (with_receiver k done.receiver) c.lines (λ x. refl) r)))
-
-  stream_acts : (o : Option ℕ) (a : Arrival) (c : Customer) → UpAndRest l c.lines → UpAndRest l (after_stream_record l o a c).lines
-  stream_acts None a c r = r
-  stream_acts (Some k) a c r = arrived k a c r
-
-  request_acts : (srcb : ℕ) (o : Option ℕ) (c : Customer) → UpAndRest l c.lines → UpAndRest l (after_stream_request l srcb o c).lines
-  request_acts srcb None c r = answered (refusal_of srcb (stream_number srcb)) c.lines r
-  request_acts srcb (Some k) c r = arrived k receiving.Request c r
-
-  sender_acts : (k : ℕ) (sent : SenderOutcome) (c : Customer) → UpAndRest l c.lines → UpAndRest l (with_sender_outcome l k sent c).lines
-  sender_acts k sent c r = own (with_sender k sent.sender) c.lines (λ x. refl) r
-
-  peer_acts : (rcb : ℕ) (o : Option ℕ) (c : Customer) → UpAndRest l c.lines → UpAndRest l (peer_answered l rcb o c).lines
-  peer_acts rcb None c r = r
-  peer_acts rcb (Some k) c r =
-      let x = sender_at k (line_at l c.lines) in
-      let refusal = with_sender_outcome l k (after_refusal x c.spool) c in
-      let completion = with_sender_outcome l k (after_completion x c.spool) c in
-      either (rcb == 0xa0) (after_permission l k c) (cond (rcb == 0xb0) refusal (cond (rcb == 0xc0) completion c))
-      (own (with_sender k (after_grant x)) c.lines (λ y. refl) r)
-      (either (rcb == 0xb0) refusal (cond (rcb == 0xc0) completion c) (sender_acts k (after_refusal x c.spool) c r)
-      (either (rcb == 0xc0) completion c (sender_acts k (after_completion x c.spool) c r) r))
-
-  outcome_acts : (n : Nodal) (done : CommandOutcome) (c : Customer) → UpAndRest l c.lines → UpAndRest l (with_outcome n done c).lines
-  outcome_acts n done c r =
-      all_told c.entry (sender_of n) done.replies (fold without_sending c.lines done.cancelled) (all_given_up done.cancelled c.lines r)
-
-  routed_acts : (n : Nodal) (bytes : List ℕ) (to : Route) (c : Customer) → UpAndRest l c.lines → UpAndRest l (message_routed l n bytes to c).lines
-  routed_acts n bytes Here c r =
-      either (is_user_command n) (after_user_command n c) c (outcome_acts n (message_outcome c.entry (sender_of n) n.message c.spool) c r) r
-  routed_acts n bytes (Line k) c r =
-      let m = cut_after_message bytes in
-      either (k == l) c (record c { lines = with_waiting k m c.lines }) r (waits k m c.lines r)
-  routed_acts n bytes Unknown c r =
-      let whom : User = sender_of n in
-      either (is_user_command n) (after_unknown_node n c) c (said c.entry whom (node_unknown n.to) c.lines r) r
-
-  message_acts : (bytes : List ℕ) (c : Customer) → UpAndRest l c.lines → UpAndRest l (after_message l bytes c).lines
-  message_acts bytes c r = at_nodal (nodal_of bytes)
-    where
-      at_nodal : (n : Result Nodal NmrFault) → UpAndRest l (message_read l bytes n c).lines
-      at_nodal (Err e) = r
-      at_nodal (Ok n) = routed_acts n bytes (route_of c.entry n.to) c r
-
-  record_acts : (i : Item) (c : Customer) → UpAndRest l c.lines → UpAndRest l (after_record l i c).lines
-  record_acts (block.Data rcb srcb bytes) c r =
-      let stream = stream_of (line_at l c.lines).streams rcb in
-      either (rcb == 0x9a) (after_message l bytes c) (after_stream_record l stream (receiving.Data srcb bytes) c) (message_acts bytes c r)
-      (stream_acts stream (receiving.Data srcb bytes) c r)
-  record_acts (block.Aborted rcb srcb) c r = stream_acts (stream_of (line_at l c.lines).streams rcb) receiving.Abort c r
-  record_acts (block.Long rcb srcb) c r = stream_acts (stream_of (line_at l c.lines).streams rcb) receiving.Long c r
-  record_acts (block.Control rcb srcb) c r =
-      let stream = stream_of (line_at l c.lines).streams srcb in
-      either (rcb == 0x90) (after_stream_request l srcb stream c) (peer_answered l rcb stream c) (request_acts srcb stream c r)
-      (peer_acts rcb stream c r)
-  record_acts (block.General srcb rest) c r = r
-
-  records_act : (items : List Item) (c : Customer) → UpAndRest l c.lines → UpAndRest l (all_acted l items c).customer.lines
-  records_act [] c r = r
-  records_act (i ∷ is) c r = at_end (ends_session i) (records_act is (after_record l i c) (record_acts i c r))
-    where
-      later : Acted
-      later = all_acted l is (after_record l i c)
-
-      at_end : (b : Bool) → UpAndRest l later.customer.lines → UpAndRest l (ended_or b c later).customer.lines
-      at_end true acted = r
-      at_end false acted = acted
+  acting : StaysOnLines l (UpAndRest l)
+  acting = record {
+    receiving = record {
+      waiting = record { answers = λ a lines r. own (in_state (with_answer a)) lines (λ x. refl) r; waits = waits };
+      receives = λ k receiver lines r. own (with_receiver k receiver) lines (λ x. refl) r;
+      notes = λ k receiver n lines r. own (with_notice k receiver n) lines (λ x. refl) r;
+    };
+    sends = λ k s lines r. own (with_sender k s) lines (λ x. refl) r;
+    gives_up = given_up;
+  }
 
 -- ---- the end of a session
 
@@ -528,7 +407,9 @@ module _ (keep : InputsKeepUp) (l : ℕ) (came : Input) (c : Customer) (there : 
       behind = (all_acted l items accepted).customer
 
       acted : UpAndRest l behind.lines
-      acted = records_act l items accepted (accepted_up (asks.acts e))
+      acted =
+          acted_where_so l (λ d. UpAndRest l d.lines) (λ i d. record_on_lines l (UpAndRest l) (acting l) i d) true items accepted
+          (accepted_up (asks.acts e))
 
       at : (ended : Bool) → IdleUnlessUp (behind_records ended l (verdict_on l came c) behind).after.lines
       at true = ended_rests l behind (others l behind.lines acted.rest)
@@ -536,38 +417,19 @@ module _ (keep : InputsKeepUp) (l : ℕ) (came : Input) (c : Customer) (there : 
 
 -- ---- a frame, and a signal
 
-module _ (keep : InputsKeepUp) (l : ℕ) (c : Customer) (there : l < length c.lines) (rest : IdleUnlessUp c.lines) where
-  text_rests : (text : List ℕ) → IdleUnlessUp (after_text l text c).after.lines
-  text_rests text = at (read_block text)
-    where
-      at : (b : Result Block BlockFault) → IdleUnlessUp (text_read l b c).after.lines
-      at (Ok b) = acting_rests keep l (block_input b) c there rest (verdict_on l (block_input b) c).acts b.items refl
-      at (Err e) = input_rests keep l input.Bad c there rest
-
-  received_rests : (x : Received) → IdleUnlessUp (after_received l x c).after.lines
-  received_rests frame.Enquiry = input_rests keep l input.Enquiry c there rest
-  received_rests frame.Ack0 = input_rests keep l input.Ack0 c there rest
-  received_rests frame.Nak = input_rests keep l input.Nak c there rest
-  received_rests frame.Eot = input_rests keep l input.Eot c there rest
-  received_rests (frame.Text text) = text_rests text
-  received_rests frame.Spoiled = input_rests keep l input.Spoiled c there rest
-
-where_rests :
-    (l : ℕ) (x : CustomerStep) (c : Customer) → IdleUnlessUp c.lines → (l < length c.lines → IdleUnlessUp x.after.lines)
-    → IdleUnlessUp (cond (nat_lt l (length c.lines)) x (silent c)).after.lines
-where_rests l x c rest step = at (nat_lt l (length c.lines)) refl
-  where
-    at : (b : Bool) → nat_lt l (length c.lines) ≡ b → IdleUnlessUp (cond b x (silent c)).after.lines
-    at true e = step (ltb-true l (length c.lines) e)
-    at false e = rest
-
 pub idle_by_frame : InputsKeepUp → (l : ℕ) (x : Received) (c : Customer) → IdleUnlessUp c.lines → IdleUnlessUp (after_frame l x c).after.lines
-unfolding after_frame
-idle_by_frame keep l x c rest = where_rests l (after_received l x c) c rest (λ there. received_rests keep l c there rest x)
+idle_by_frame keep l x c rest =
+    frame_holds l c (λ items s. IdleUnlessUp s.after.lines)
+    (record {
+      none = λ items. rest;
+      input = λ came there. input_rests keep l came c there rest;
+      block = λ b there. acting_rests keep l (block_input b) c there rest (verdict_on l (block_input b) c).acts b.items refl;
+    })
+    x
 
 pub idle_by_signal : InputsKeepUp → (l : ℕ) (x : Signal) (c : Customer) → IdleUnlessUp c.lines → IdleUnlessUp (after_signal l x c).after.lines
-unfolding after_signal
-idle_by_signal keep l x c rest = where_rests l (after_line_input l (signal_input x) c) c rest (λ there. input_rests keep l (signal_input x) c there rest)
+idle_by_signal keep l x c rest =
+    signal_holds l c (λ s. IdleUnlessUp s.after.lines) rest (λ came there. input_rests keep l came c there rest) x
 
 -- ---- a customer that was just opened
 

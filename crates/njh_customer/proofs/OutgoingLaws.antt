@@ -1,5 +1,5 @@
 -- A customer's whole files and its streams from the hub, as its lines change.
-use Rattle.std.proofs.Common.{◌≡◌, ℕ, List, [], ◌∷◌, map, set, get_or, fold, refl, sym, ap, ◌∙◌}
+use Rattle.std.proofs.Common.{◌≡◌, ℕ, List, [], ◌∷◌, map, set, get_or, fold, refl, sym, ap, ◌∙◌, false}
 use Rattle.std.proofs.Math.ListN.{get_or-map}
 use Rattle.std.proofs.Math.Seq.{map-set_same}
 use Rattle.std.proofs.lemmas.List.{map-set, set-get_or}
@@ -7,15 +7,18 @@ use Rattle.njh_spool.specs.CustomerSpool.{CustomerSpool, WholeFile}
 use Rattle.njh_stream.specs.declared.sender.Sender.{Sender}
 use Rattle.njh_stream.specs.declared.sender.Sender.TheVariants.{Idle}
 use Rattle.njh_command.specs.Commands.{without_file}
+use Rattle.njh_line.specs.declared.verdict.LineReply.{LineReply}
+use Rattle.njh_line.specs.declared.verdict.LineReply.TheVariants as reply
 use Rattle.njh_customer.specs.Acting.{without_sending}
-use Rattle.njh_customer.specs.Alone.{after_reply}
+use Rattle.njh_customer.specs.Alone.{replied_to}
 use Rattle.njh_customer.specs.Customer.{Customer, CustomerLine, no_customer_line, line_at, on_line, sender_at}
 use Rattle.njh_customer.specs.Customer.{with_sender}
 use Rattle.njh_customer.specs.Moves.{without_files}
 use Rattle.njh_customer.specs.OutgoingFiles.{Outgoing, outgoing, streams_from_hub, sender_on, with_sender_on}
 use Rattle.njh_customer.specs.OutgoingFiles.{with_files}
-use Rattle.njh_customer.specs.Sending.{LineSent}
+use Rattle.njh_customer.specs.Sending.{sending_of_reply}
 use Rattle.njh_customer.proofs.LineWalks.{StaysReceiving, on_line_seen, seen_receiving}
+use Rattle.njh_customer.proofs.ReplyLaws.{is_next}
 
 abbrev pub of_parts : List WholeFile → ℕ → List (List Sender) → Outgoing
 of_parts files arrived streams = record { files = files; arrived = arrived; streams = streams }
@@ -59,14 +62,22 @@ same_stream l k s x e =
 
 -- ---- a line that sends
 
--- what moves no stream and no file
-pub unmoved :
-    (l : ℕ) (x : LineSent) (c : Customer) → x.line.senders ≡ (line_at l c.lines).senders → x.spool.whole ≡ c.spool.whole
-    → x.spool.arrived ≡ c.spool.arrived → outgoing (after_reply l x c).after ≡ outgoing c
-unmoved l x c same files none_came =
-    ap (λ whole. of_parts whole x.spool.arrived (streams_from_hub (set c.lines l x.line))) files
-    ∙ ap (λ arrived. of_parts c.spool.whole arrived (streams_from_hub (set c.lines l x.line))) none_came
-    ∙ ap (of_parts c.spool.whole c.spool.arrived) (map-set_same (λ y. y.senders) c.lines l x.line no_customer_line same)
+-- what is no next block moves no stream and no file
+pub reply_unmoved :
+    (l : ℕ) (r : LineReply) (c : Customer) → is_next r ≡ false → outgoing (replied_to l r c).after ≡ outgoing c
+reply_unmoved l r c quiet = at r quiet
+  where
+    still : (line : CustomerLine) → line.senders ≡ (line_at l c.lines).senders → outgoing (record c { lines = set c.lines l line }) ≡ outgoing c
+    still line same = ap (of_parts c.spool.whole c.spool.arrived) (map-set_same (λ y. y.senders) c.lines l line no_customer_line same)
+
+    at : (r : LineReply) → is_next r ≡ false → outgoing (replied_to l r c).after ≡ outgoing c
+    at reply.Nothing e = still (line_at l c.lines) refl
+    at (reply.Control which) e = still (sending_of_reply c.entry l (reply.Control which) c.spool (line_at l c.lines)).line refl
+    at reply.Again e = still (sending_of_reply c.entry l reply.Again c.spool (line_at l c.lines)).line refl
+    at (reply.SignOn kind) e = still (sending_of_reply c.entry l (reply.SignOn kind) c.spool (line_at l c.lines)).line refl
+    at (reply.Sequence expected) e =
+        still (sending_of_reply c.entry l (reply.Sequence expected) c.spool (line_at l c.lines)).line refl
+    at (reply.Next or_ack0) e = absurd (cc e)
 
 -- a line's own streams are those in its place
 pub own_again : (l : ℕ) (lines : List CustomerLine) → set (streams_from_hub lines) l (line_at l lines).senders ≡ streams_from_hub lines

@@ -16,6 +16,11 @@ use Rattle.njh_customer.specs.Customer.{CustomerLine}
 use Rattle.njh_customer.specs.Sending.{next_block, sending_of_block, sending_of_control, sending_of_empty}
 use Rattle.njh_customer.specs.Sending.{sending_of_no_block, sending_of_reply, sending_of_written, with_outlet, Sending}
 
+-- whether the next block goes
+abbrev pub is_next : LineReply → Bool
+is_next (reply.Next or_ack0) = true
+is_next _ = false
+
 -- what a line sends where a block without new records may go, and where one is written
 module _ (P : Sending → Type 0) (or_ack0 : Bool) (w : Writing) (x : LineState) where
   pub empty_so : P (sending_of_no_block or_ack0 x) → P (sending_of_block w x) → P (sending_of_empty or_ack0 w x)

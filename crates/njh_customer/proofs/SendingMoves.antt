@@ -2,7 +2,7 @@
 use Rattle.std.proofs.Common.{◌≡◌, ◌<◌, ℕ, zero, suc, ◌+◌, Bool, true, false, List, [], ◌∷◌, ◌++◌, length, set, get_or}
 use Rattle.std.proofs.Common.{◌%◌, ◌&&◌, replicate, arith, nat_lt, Option, Some, None, option_map, slice_get, refl, sym}
 use Rattle.std.proofs.Common.{ap, subst, ◌∙◌}
-use Rattle.std.proofs.lemmas.List.{append-nil, get_or-set_same, set-get_or, set-set}
+use Rattle.std.proofs.lemmas.List.{append-nil, get_or-set_same, set-get_or, set-set, length-map, map-set}
 use Rattle.std.specs.List.{AllByRecursion}
 use Rattle.njh_record.specs.Stored.{Stored}
 use Rattle.njh_block.specs.Blocks.{Item, all_suspended, messages_on}
@@ -20,11 +20,17 @@ use Rattle.njh_sched.specs.NextBlock.{WaitingMessage, StreamTurn, abort_where, a
 use Rattle.njh_sched.specs.NextBlock.{may_ask, next_served, oldest, sender_at, serving, telling, added_where}
 use Rattle.njh_sched.specs.NextBlock.{after_candidate, after_source, after_source_where, after_sources, filled_block}
 use Rattle.njh_sched.specs.NextBlock.{Outlet, aborts, filled_where, messages_where, requests, sources, streams, turns}
-use Rattle.njh_sched.specs.NextBlock.{waiting_answers, waiting_messages}
+use Rattle.njh_sched.specs.NextBlock.{waiting_answers, waiting_messages, filling}
+use Rattle.njh_sched.specs.Tight.{own_fcs}
+use Rattle.njh_line.specs.declared.verdict.LineReply.TheVariants as reply
+use Rattle.njh_customer.specs.Alone.{replied_to}
+use Rattle.njh_customer.specs.Customer.{Customer, line_at}
 use Rattle.njh_customer.specs.Moves as moves
 use Rattle.njh_customer.specs.Moves.{LeadsByMoves, nowhere, onward, Sends}
-use Rattle.njh_customer.specs.OutgoingFiles.{Outgoing, record_numbered, sender_on, with_sender_on}
-use Rattle.njh_customer.proofs.OutgoingLaws.{of_parts}
+use Rattle.njh_customer.specs.OutgoingFiles.{Outgoing, record_numbered, sender_on, with_sender_on, outgoing}
+use Rattle.njh_customer.specs.OutgoingFiles.{streams_from_hub}
+use Rattle.njh_customer.specs.Sending.{next_block, outlet_of, own_block, sending_of_reply}
+use Rattle.njh_customer.proofs.OutgoingLaws.{of_parts, own_again}
 
 -- ---- where the block's records come from
 
@@ -245,3 +251,32 @@ module _ (entry : CustomerEntry) (l : ℕ) (base : List (List Sender)) (inside :
       at_suspended : (b : Bool) → (filled_where b (goes_by entry l) x).block.items ≡ [] → out_of l base (filled_where b (goes_by entry l) x) ≡ out_of l base x
       at_suspended true none = refl
       at_suspended false none = (all_gave_none (sources x.block.limit x.outlet) x (sources_eight x.block.limit x.outlet) none).1
+
+-- ---- the next block of a line
+
+-- the block that is filled
+abbrev pub filling_on : ℕ → Customer → Filling
+filling_on l c =
+    let x = line_at l c.lines in filling (own_block (own_fcs c.spool) x.state) (outlet_of x) c.spool
+
+pub next_begins : (l : ℕ) (c : Customer) → out_of l (streams_from_hub c.lines) (filling_on l c) ≡ outgoing c
+next_begins l c = ap (of_parts c.spool.whole c.spool.arrived) (own_again l c.lines)
+
+pub next_leads :
+    (l : ℕ) (c : Customer) → l < length c.lines
+    → LeadsByMoves (Sends c.entry l) (outgoing c)
+    (out_of l (streams_from_hub c.lines) (next_block c.entry l c.spool (line_at l c.lines)))
+next_leads l c there =
+    let base = streams_from_hub c.lines in
+    subst (λ x. LeadsByMoves (Sends c.entry l) x (out_of l base (next_block c.entry l c.spool (line_at l c.lines))))
+    (next_begins l c)
+    (filled_leads c.entry l base (omega (arith, there, length-map c.lines (λ x. x.senders))) (filling_on l c))
+
+pub next_is :
+    (l : ℕ) (or_ack0 : Bool) (c : Customer)
+    → outgoing (replied_to l (reply.Next or_ack0) c).after
+    ≡ out_of l (streams_from_hub c.lines) (next_block c.entry l c.spool (line_at l c.lines))
+next_is l or_ack0 c =
+    let full = next_block c.entry l c.spool (line_at l c.lines) in
+    ap (of_parts full.spool.whole full.spool.arrived)
+    (map-set (λ y. y.senders) c.lines l (sending_of_reply c.entry l (reply.Next or_ack0) c.spool (line_at l c.lines)).line)

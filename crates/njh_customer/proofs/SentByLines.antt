@@ -5,7 +5,7 @@ use Rattle.std.proofs.Common.{List, [], ◌∷◌, length, map, set, get_or, rep
 use Rattle.std.proofs.Common.{ap, subst, ◌∙◌, arith, eq-eqb}
 use Rattle.std.proofs.Math.ListN.{get_or-map}
 use Rattle.std.proofs.lemmas.Bool.{eqb-true, eqb-false}
-use Rattle.std.proofs.lemmas.List.{get_or-set_same, get_or-set_other, length-map, length-replicate, length-set, map-set}
+use Rattle.std.proofs.lemmas.List.{get_or-set_same, get_or-set_other, length-map, length-replicate, length-set}
 use Rattle.std.proofs.lemmas.List.Elements.{Contains-append_right}
 use Rattle.std.specs.List.{Contains}
 use Rattle.njh_block.specs.Codes.{kind_of}
@@ -18,8 +18,7 @@ use Rattle.njh_stream.specs.Sending.{all_ended, file_in, goes_by, is_refused, ma
 use Rattle.njh_stream.specs.Sending.{tried_again}
 use Rattle.njh_stream.specs.declared.sender.Sender.{Sender}
 use Rattle.njh_stream.specs.declared.sender.Sender.TheVariants.{Idle, Requested, Sending, EofSent, Aborting}
-use Rattle.njh_sched.specs.NextBlock.{Filling, filling, is_ready, may_go, same_kind}
-use Rattle.njh_sched.specs.Tight.{own_fcs}
+use Rattle.njh_sched.specs.NextBlock.{is_ready, may_go, same_kind}
 use Rattle.njh_command.specs.Files.{no_file}
 use Rattle.njh_line.specs.declared.verdict.LineReply.{LineReply}
 use Rattle.njh_line.specs.declared.verdict.LineReply.TheVariants as reply
@@ -33,14 +32,14 @@ use Rattle.njh_customer.specs.MovingLaws.{RoutesMoveFile, is_as_before, is_held}
 use Rattle.njh_customer.specs.NewRoutes.{customer_with_routes, entry_with}
 use Rattle.njh_customer.specs.OutgoingFiles.{Outgoing, has_file, outgoing, sender_on, streams_from_hub, streams_of}
 use Rattle.njh_customer.specs.OutgoingFiles.{with_file_state, with_files, with_sender_on}
-use Rattle.njh_customer.specs.Sending.{next_block, outlet_of, own_block, sending_of_reply}
+use Rattle.njh_customer.specs.Sending.{next_block}
 use Rattle.njh_customer.proofs.EndingMoves.{over_so}
 use Rattle.njh_customer.proofs.FileListLaws.{any_numbered, copies, from_map, marked_numbers, same_numbered, but_states}
-use Rattle.njh_customer.proofs.OutgoingLaws.{of_parts, own_again, unmoved}
+use Rattle.njh_customer.proofs.OutgoingLaws.{reply_unmoved}
 use Rattle.njh_customer.proofs.Restated.{ended_where, without_open_same}
 use Rattle.njh_customer.proofs.RoutesMoves.{held_numbers, held_so}
 use Rattle.njh_customer.proofs.SenderPlaces.{set_lines, set_streams, set_there}
-use Rattle.njh_customer.proofs.SendingMoves.{out_of, filled_leads}
+use Rattle.njh_customer.proofs.SendingMoves.{out_of, next_is, next_leads}
 use Rattle.njh_customer.proofs.StreamMoveLaws.{IsOne, moved_one}
 
 -- ---- streams that are about the same files
@@ -264,48 +263,21 @@ sent_by_all entry l _ _ line (onward x y z move later) sent =
 
 -- ---- what a line sends
 
-sent_next :
-    (l : ℕ) (or_ack0 : Bool) (c : Customer) → l < length c.lines → AreBeingSent (outgoing c)
-    → AreBeingSent (outgoing (replied_to l (reply.Next or_ack0) c).after)
-sent_next l or_ack0 c there sent =
-    subst AreBeingSent (sym after_is)
-    (sent_by_all c.entry l (out_of l base first) (out_of l base full)
-    (omega (arith, inside, length-set base l first.outlet.senders))
-    (filled_leads c.entry l base inside first)
-    (subst AreBeingSent (sym begins) sent))
-  where
-    first : Filling
-    first = filling (own_block (own_fcs c.spool) (line_at l c.lines).state) (outlet_of (line_at l c.lines)) c.spool
-
-    full : Filling
-    full = next_block c.entry l c.spool (line_at l c.lines)
-
-    base : List (List Sender)
-    base = streams_from_hub c.lines
-
-    inside : l < length base
-    inside = omega (arith, there, length-map c.lines (λ x. x.senders))
-
-    begins : out_of l base first ≡ outgoing c
-    begins = ap (of_parts c.spool.whole c.spool.arrived) (own_again l c.lines)
-
-    after_is : outgoing (replied_to l (reply.Next or_ack0) c).after ≡ out_of l base full
-    after_is =
-        ap (of_parts full.spool.whole full.spool.arrived)
-        (map-set (λ y. y.senders) c.lines l (sending_of_reply c.entry l (reply.Next or_ack0) c.spool (line_at l c.lines)).line)
-
-pub sent_replied : (l : ℕ) (r : LineReply) (c : Customer) → l < length c.lines → AreBeingSent (outgoing c) → AreBeingSent (outgoing (replied_to l r c).after)
-sent_replied l reply.Nothing c there sent =
-    subst AreBeingSent (sym (unmoved l (sending_of_reply c.entry l reply.Nothing c.spool (line_at l c.lines)) c refl refl refl)) sent
-sent_replied l (reply.Control which) c there sent =
-    subst AreBeingSent (sym (unmoved l (sending_of_reply c.entry l (reply.Control which) c.spool (line_at l c.lines)) c refl refl refl)) sent
-sent_replied l reply.Again c there sent =
-    subst AreBeingSent (sym (unmoved l (sending_of_reply c.entry l reply.Again c.spool (line_at l c.lines)) c refl refl refl)) sent
-sent_replied l (reply.SignOn kind) c there sent =
-    subst AreBeingSent (sym (unmoved l (sending_of_reply c.entry l (reply.SignOn kind) c.spool (line_at l c.lines)) c refl refl refl)) sent
+pub sent_replied :
+    (l : ℕ) (r : LineReply) (c : Customer) → l < length c.lines → AreBeingSent (outgoing c)
+    → AreBeingSent (outgoing (replied_to l r c).after)
+sent_replied l (reply.Next or_ack0) c there sent =
+    let base = streams_from_hub c.lines in
+    let full = next_block c.entry l c.spool (line_at l c.lines) in
+    subst AreBeingSent (sym (next_is l or_ack0 c))
+    (sent_by_all c.entry l (outgoing c) (out_of l base full) (omega (arith, there, length-map c.lines (λ x. x.senders)))
+    (next_leads l c there) sent)
+sent_replied l reply.Nothing c there sent = subst AreBeingSent (sym (reply_unmoved l reply.Nothing c refl)) sent
+sent_replied l (reply.Control which) c there sent = subst AreBeingSent (sym (reply_unmoved l (reply.Control which) c refl)) sent
+sent_replied l reply.Again c there sent = subst AreBeingSent (sym (reply_unmoved l reply.Again c refl)) sent
+sent_replied l (reply.SignOn kind) c there sent = subst AreBeingSent (sym (reply_unmoved l (reply.SignOn kind) c refl)) sent
 sent_replied l (reply.Sequence expected) c there sent =
-    subst AreBeingSent (sym (unmoved l (sending_of_reply c.entry l (reply.Sequence expected) c.spool (line_at l c.lines)) c refl refl refl)) sent
-sent_replied l (reply.Next or_ack0) c there sent = sent_next l or_ack0 c there sent
+    subst AreBeingSent (sym (reply_unmoved l (reply.Sequence expected) c refl)) sent
 
 -- ---- the end of a session
 

@@ -15,8 +15,8 @@ use Rattle.njh_line.specs.declared.Phase.TheVariants.{Down}
 use Rattle.njh_line.specs.declared.verdict.LineReply.TheVariants as reply
 use Rattle.njh_line.specs.declared.verdict.Verdict.{Verdict}
 use Rattle.njh_customer.specs.Acting.{Acted, acted_where, all_acted}
-use Rattle.njh_customer.specs.Alone.{CustomerStep, replied_to, session_ended, carried_out, verdict_on}
-use Rattle.njh_customer.specs.Alone.{accepted_on, block_input, behind_records, after_block, after_frame}
+use Rattle.njh_customer.specs.Alone.{CustomerStep, replied_to, session_ended, carried_out, verdict_on, accepted_on}
+use Rattle.njh_customer.specs.Alone.{block_input, behind_records, after_block, after_frame}
 use Rattle.njh_customer.specs.Customer.{Customer, line_at}
 use Rattle.njh_customer.specs.Feeding.{acted_on, Taking, or_later, take_step}
 use Rattle.njh_customer.specs.FrameEffects.{block_records, records_of_frame}
