@@ -15,7 +15,6 @@ use Rattle.njh_stream.specs.declared.sender.Sender.{Sender}
 use Rattle.njh_sched.specs.NextBlock.{Filling, filled_block}
 use Rattle.njh_sched.specs.Tight.{own_fcs}
 use Rattle.njh_command.specs.CommandLaws.{CommandsMoveFilesSo}
-use Rattle.njh_line.specs.LineTable as input
 use Rattle.njh_line.specs.LineTable.{Input}
 use Rattle.njh_line.specs.Lines.{LineState, after_end, after_input}
 use Rattle.njh_line.specs.Openings.{opening}

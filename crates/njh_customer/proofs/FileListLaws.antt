@@ -1,19 +1,20 @@
 -- Lists of whole files: which of them are there, by their numbers, after a change.
 use Rattle.std.proofs.Common.{◌≡◌, ◌<◌, ℕ, zero, suc, Bool, true, false, cond, not, ◌==◌, ◌||◌, ◌⊎◌, inl, inr, List, []}
 use Rattle.std.proofs.Common.{◌∷◌, length, map, filter, replicate, get_or, refl, sym, ap, ◌∙◌, arith, Some, ap₂, find}
-use Rattle.std.proofs.Common.{sum, ◌+◌, ◌≤◌}
+use Rattle.std.proofs.Common.{sum, ◌+◌, ◌≤◌, count_by, eq-eqb, subst, set}
 use Rattle.std.proofs.Math.ListN.{get_or-map}
 use Rattle.std.proofs.lemmas.Bool.{eqb-true}
 use Rattle.std.proofs.lemmas.List.{get_or_default, length-map}
-use Rattle.std.proofs.lemmas.List.Elements.{Contains-append_cases, Contains-append_left, Contains-append_right}
-use Rattle.std.proofs.lemmas.List.Elements.{Contains-get_or}
+use Rattle.std.proofs.lemmas.List.Elements.{Contains-append_right, Contains-get_or, All-contains, filter_passes}
 use Rattle.std.proofs.lemmas.List.Filters.{sum_by-filter_both}
+use Rattle.std.proofs.lemmas.List.Folds.{list_any_at}
 use Rattle.std.proofs.lemmas.List.Sums.{sum-map, sum_by-cons}
 use Rattle.std.proofs.lemmas.Simd.{map-map}
 use Rattle.std.specs.List.{Contains, list_any}
 use Rattle.std.specs.Prelude.{sum_by}
 use Rattle.njh_spool.specs.CustomerSpool.{WholeFile}
 use Rattle.njh_spool.specs.declared.State.{State}
+use Rattle.njh_stream.proofs.OnlyOneLaws.{only_found}
 use Rattle.njh_stream.specs.Sending.{ready}
 use Rattle.njh_command.specs.Commands.{changed_file, may_change}
 use Rattle.njh_customer.specs.OutgoingFiles.{with_file_state}
@@ -27,16 +28,23 @@ copies (suc n) (suc k) a = copies n k a
 -- ---- lists that change in their elements
 
 module _ {X Y : Type 0} (g : X → Y) where
-  -- where a test says so, and g doesn't see it
+  -- in each, where g doesn't see it,
+  pub each_same : (f : X → X) → ((x : X) → g (f x) ≡ g x) → (xs : List X) → map g (map f xs) ≡ map g xs
+  each_same f same [] = refl
+  each_same f same (x ∷ xs) = ap₂ (λ y ys. y ∷ ys) (same x) (each_same f same xs)
+
+  -- and where a test says so
   pub changed_where :
       (p : X → Bool) (change : X → X) (xs : List X) → ((x : X) → g (change x) ≡ g x)
       → map g (map (λ x. cond (p x) (change x) x) xs) ≡ map g xs
-  changed_where p change [] same = refl
-  changed_where p change (x ∷ xs) same = ap₂ (λ y ys. y ∷ ys) (at_test (p x)) (changed_where p change xs same)
+  changed_where p change xs same = each_same (λ x. cond (p x) (change x) x) each xs
     where
-      at_test : (b : Bool) → g (cond b (change x) x) ≡ g x
-      at_test true = same x
-      at_test false = refl
+      at_test : (b : Bool) (x : X) → g (cond b (change x) x) ≡ g x
+      at_test true x = same x
+      at_test false x = refl
+
+      each : (x : X) → g (cond (p x) (change x) x) ≡ g x
+      each x = at_test (p x) x
 
   -- where g sees the same there are as many,
   pub as_many : (xs ys : List X) → map g xs ≡ map g ys → length xs ≡ length ys
@@ -71,6 +79,11 @@ module _ {X : Type 0} (weight : X → ℕ) (p : X → Bool) where
 
 -- ---- the elements of lists
 
+-- the first element, or a later one
+pub first_or_later : {X : Type 0} (x : X) (xs : List X) (y : X) → Contains (x ∷ xs) y → (x ≡ y) ⊎ Contains xs y
+first_or_later x xs y (zero, inside, e) = inl e
+first_or_later x xs y (suc i, inside, e) = inr (i, omega (arith, inside), e)
+
 -- an element of a mapped list is one of the list's, mapped
 pub from_map : {A B : Type 0} (h : A → B) (xs : List A) (d : A) (g : B) → Contains (map h xs) g → (f : A) × Contains xs f × (g ≡ h f)
 from_map h xs d g at =
@@ -86,11 +99,74 @@ from_filter {A} p (x ∷ xs) g at = at_test (p x) (from_filter p xs g) at
   where
     at_test : (b : Bool) → (Contains (filter p xs) g → Contains xs g) → Contains (cond b (x ∷ filter p xs) (filter p xs)) g → Contains (x ∷ xs) g
     at_test false rest at = Contains-append_right (x ∷ []) xs g (rest at)
-    at_test true rest at = at_first (Contains-append_cases (x ∷ []) (filter p xs) g at)
+    at_test true rest at = at_first (first_or_later x (filter p xs) g at)
       where
-        at_first : Contains (x ∷ []) g ⊎ Contains (filter p xs) g → Contains (x ∷ xs) g
-        at_first (inl first) = Contains-append_left (x ∷ []) xs g first
+        at_first : (x ≡ g) ⊎ Contains (filter p xs) g → Contains (x ∷ xs) g
+        at_first (inl first) = (0, omega arith, first)
         at_first (inr later) = Contains-append_right (x ∷ []) xs g (rest later)
+
+pub into_filter : {A : Type 0} (p : A → Bool) (xs : List A) (g : A) → Contains xs g → p g ≡ true → Contains (filter p xs) g
+into_filter p [] g at passes = at
+into_filter {A} p (x ∷ xs) g at passes = at_first (p x) refl (first_or_later x xs g at) (λ there. into_filter p xs g there passes)
+  where
+    at_first :
+        (b : Bool) → p x ≡ b → (x ≡ g) ⊎ Contains xs g → (Contains xs g → Contains (filter p xs) g)
+        → Contains (cond b (x ∷ filter p xs) (filter p xs)) g
+    at_first true e (inl first) rest = (0, omega arith, first)
+    at_first true e (inr later) rest = Contains-append_right (x ∷ []) (filter p xs) g (rest later)
+    at_first false e (inl first) rest = absurd (cc (sym e ∙ ap p first ∙ passes))
+    at_first false e (inr later) rest = rest later
+
+pub passes_filter : {A : Type 0} (p : A → Bool) (xs : List A) (g : A) → Contains (filter p xs) g → p g ≡ true
+passes_filter p xs g at = All-contains (λ x. p x ≡ true) (filter p xs) g (filter_passes p xs) at
+
+-- an element of a list that changes where a test says so has changed, or it is as it was
+abbrev pub WasOrIs : {X : Type 0} → (X → Bool) → (X → X) → List X → X → Type 0
+WasOrIs {X} p change xs g =
+    ((f : X) × Contains xs f × (p f ≡ true) × (g ≡ change f)) ⊎ (Contains xs g × (p g ≡ false))
+
+pub from_where :
+    {X : Type 0} (p : X → Bool) (change : X → X) (xs : List X) (g : X)
+    → Contains (map (λ x. cond (p x) (change x) x) xs) g → WasOrIs p change xs g
+from_where {X} p change xs g at =
+    let found = from_map (λ x. cond (p x) (change x) x) xs g g at in at_test (p found.0) found.0 refl found.1 found.2
+  where
+    at_test : (b : Bool) (f : X) → p f ≡ b → Contains xs f → g ≡ cond b (change f) f → WasOrIs p change xs g
+    at_test true f e there is = inl (f, there, e, is)
+    at_test false f e there is = inr (subst (Contains xs) (sym is) there, ap p is ∙ e)
+
+-- what is found is there and passes the test
+pub found_one : {X : Type 0} (p : X → Bool) (xs : List X) (x : X) → find p xs ≡ Some x → Contains xs x × (p x ≡ true)
+found_one p [] x e = absurd (cc e)
+found_one {X} p (y ∷ ys) x e = at_test (p y) refl e (found_one p ys x)
+  where
+    at_test :
+        (b : Bool) → p y ≡ b → cond b (Some y) (find p ys) ≡ Some x → (find p ys ≡ Some x → Contains ys x × (p x ≡ true))
+        → Contains (y ∷ ys) x × (p x ≡ true)
+    at_test true passes e later = let same : y ≡ x = cc e in ((0, omega arith, same), ap p (sym same) ∙ passes)
+    at_test false passes e later = let rest = later e in (Contains-append_right (y ∷ []) ys x rest.0, rest.1)
+
+-- where no other has its number, what is there is found by it
+pub found_numbered :
+    {X : Type 0} (number : X → ℕ) (xs : List X) (x : X) (n : ℕ) → count_by (λ y. number y == n) xs ≤ 1 → Contains xs x
+    → number x ≡ n → find (λ y. number y == n) xs ≡ Some x
+found_numbered number xs x n few at e =
+    only_found (λ y. number y == n) xs at.0 x at.1 (eq-eqb (number (get_or xs at.0 x)) n (ap number at.2 ∙ e)) few
+    ∙ ap Some at.2
+
+-- an element is as before, or is the one that was set
+pub set_one : {A : Type 0} (xs : List A) (i j : ℕ) (a d : A) → (get_or (set xs i a) j d ≡ get_or xs j d) ⊎ ((j ≡ i) × (get_or (set xs i a) j d ≡ a))
+set_one [] i j a d = inl refl
+set_one (x ∷ xs) zero zero a d = inr (refl, refl)
+set_one (x ∷ xs) zero (suc j) a d = inl refl
+set_one (x ∷ xs) (suc i) zero a d = inl refl
+set_one (x ∷ xs) (suc i) (suc j) a d = at_rest (set_one xs i j a d)
+  where
+    at_rest :
+        (get_or (set xs i a) j d ≡ get_or xs j d) ⊎ ((j ≡ i) × (get_or (set xs i a) j d ≡ a))
+        → (get_or (set xs i a) j d ≡ get_or xs j d) ⊎ ((suc j ≡ suc i) × (get_or (set xs i a) j d ≡ a))
+    at_rest (inl same) = inl same
+    at_rest (inr there) = inr (ap suc there.0, there.1)
 
 -- ---- the numbers of files
 
@@ -120,6 +196,21 @@ pub changed_numbers :
     (p : WholeFile → Bool) (change : WholeFile → WholeFile) (fs : List WholeFile) → ((f : WholeFile) → (change f).number ≡ f.number)
     → numbers (map (changed_file p change) fs) ≡ numbers fs
 changed_numbers p change fs same = changed_where (λ f. f.number) (may_change p) change fs same
+
+-- there is a file of the number
+abbrev pub Has : ℕ → List WholeFile → Type 0
+Has n fs = (f : WholeFile) × Contains fs f × (f.number ≡ n)
+
+pub has_one : (n : ℕ) (fs : List WholeFile) → any_numbered n fs ≡ true → Has n fs
+has_one n [] e = absurd (cc e)
+has_one n (f ∷ fs) e = at_first (f.number == n) refl e (has_one n fs)
+  where
+    at_first : (b : Bool) → (f.number == n) ≡ b → (b || any_numbered n fs) ≡ true → (any_numbered n fs ≡ true → Has n fs) → Has n (f ∷ fs)
+    at_first true same there later = (f, (0, omega arith, refl), eqb-true f.number n same)
+    at_first false other there later = let found = later there in (found.0, Contains-append_right (f ∷ []) fs found.0 found.1, found.2)
+
+pub any_there : (n : ℕ) (fs : List WholeFile) → Has n fs → any_numbered n fs ≡ true
+any_there n fs (f, (i, inside, e), is) = list_any_at (λ g. g.number == n) fs i f inside (eq-eqb (get_or fs i f).number n (ap (λ g. g.number) e ∙ is))
 
 -- ---- a file that is gone
 

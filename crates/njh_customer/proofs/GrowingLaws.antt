@@ -1,8 +1,7 @@
 -- How a customer's files grow from one spool to another, and which become whole.
-use Rattle.std.proofs.Common.{◌≡◌, ◌<◌, ◌≤◌, ℕ, ◌+◌, Bool, true, false, cond, not, ◌==◌, ◌⊎◌, inl, inr, List, [], ◌∷◌}
-use Rattle.std.proofs.Common.{◌++◌, length, find, Option, Some, None, refl, sym, ap, subst, ◌∙◌, arith, length-append}
-use Rattle.std.proofs.Common.{append_assoc, append-nil}
-use Rattle.std.proofs.lemmas.List.Elements.{Contains-append_cases, Contains-append_right, Contains-push_cases}
+use Rattle.std.proofs.Common.{◌≡◌, ◌<◌, ◌≤◌, ℕ, ◌+◌, not, ◌==◌, ◌⊎◌, inl, inr, List, [], ◌∷◌, ◌++◌, length, Option}
+use Rattle.std.proofs.Common.{Some, None, refl, sym, ap, subst, ◌∙◌, arith, length-append, append_assoc, append-nil}
+use Rattle.std.proofs.lemmas.List.Elements.{Contains-append_cases, Contains-push_cases}
 use Rattle.std.specs.List.{Contains}
 use Rattle.njh_record.specs.Stored.{Stored}
 use Rattle.njh_record.specs.declared.Kind.{Kind}
@@ -12,10 +11,10 @@ use Rattle.njh_spool.specs.CustomerSpool.{with_new_partial, with_appended, witho
 use Rattle.njh_spool.specs.CustomerSpool.{partial_numbered, with_finished}
 use Rattle.njh_customer.specs.Growing.{HasCome, few, goes_on, HasBecomeWhole, FilesGrow, FilesGrowFurther}
 use Rattle.njh_customer.specs.Growing.{ReroutesKeepCounts, ManyRecordsGoOn}
-use Rattle.njh_customer.specs.Surviving.{IsRerouted, as_before, to_node, IsStill, Survive, none, stays, leaves}
-use Rattle.njh_customer.proofs.FileListLaws.{from_filter, from_map}
+use Rattle.njh_customer.specs.Surviving.{IsRerouted, as_before, to_node, IsStill, Survive}
+use Rattle.njh_customer.proofs.FileListLaws.{from_filter, WasOrIs, first_or_later, found_one, from_where}
 use Rattle.njh_customer.proofs.SurvivingLaws.{rerouted_then, same_files, survive_then, no_more, SurviveBoth}
-use Rattle.njh_customer.proofs.SurvivingLaws.{survive_both}
+use Rattle.njh_customer.proofs.SurvivingLaws.{survive_both, was_there}
 
 -- ---- records that have come
 
@@ -53,26 +52,6 @@ later_whole k before f g still whole =
       records = subst (λ kind. IsRerouted kind whole.came g.records) (sym still.kind)
           (rerouted_then f.kind whole.came f.records g.records whole.records still.records);
     }
-
--- one of those that are still there was there
-was_there : (fs gs : List WholeFile) → Survive fs gs → (g : WholeFile) → Contains gs g → (f : WholeFile) × Contains fs f × IsStill f g
-was_there _ _ none g at = absurd (omega (arith, at.1))
-was_there _ _ (leaves f fs gs more) g at =
-    let found = was_there fs gs more g at in
-    (found.0, Contains-append_right (f ∷ []) fs found.0 found.1, found.2)
-was_there _ _ (stays f h fs gs one more) g at = at_first (Contains-append_cases (h ∷ []) gs g at) (was_there fs gs more g)
-  where
-    at_only : Contains {X = WholeFile} [] g ⊎ (h ≡ g) → (e : WholeFile) × Contains (f ∷ fs) e × IsStill e g
-    at_only (inl none_there) = absurd (omega (arith, none_there.1))
-    at_only (inr same) = (f, (0, omega arith, refl), subst (IsStill f) same one)
-
-    at_first :
-        Contains (h ∷ []) g ⊎ Contains gs g → (Contains gs g → (e : WholeFile) × Contains fs e × IsStill e g)
-        → (e : WholeFile) × Contains (f ∷ fs) e × IsStill e g
-    at_first (inl first) rest = at_only (Contains-push_cases [] h g first)
-    at_first (inr later) rest =
-        let found = rest later in
-        (found.0, Contains-append_right (f ∷ []) fs found.0 found.1, found.2)
 
 -- ---- one thing and then another
 
@@ -188,39 +167,25 @@ begun_grows kind s =
     at_last f (inr same) = subst (λ (g : PartialFile). HasCome 0 s.partial g.number g.kind g.records) same (few (omega arith))
 
 pub appended_grows : (n : ℕ) (r : Stored) (s : CustomerSpool) → FilesGrow 1 s (with_appended n r s)
-appended_grows n r s = none_whole 1 s (with_appended n r s) (same_files s.whole) refl (λ g at. at_map g (from_map one s.partial g g at))
+appended_grows n r s =
+    none_whole 1 s (with_appended n r s) (same_files s.whole) refl
+    (λ g at. at_test g (from_where (λ (f : PartialFile). f.number == n) with_record s.partial g at))
   where
     with_record : PartialFile → PartialFile
     with_record f = record f { records = f.records ++ r ∷ [] }
 
-    one : PartialFile → PartialFile
-    one f = cond (f.number == n) (with_record f) f
-
-    by_test : (b : Bool) (g f : PartialFile) → Contains s.partial f → g ≡ cond b (with_record f) f → HasCome 1 s.partial g.number g.kind g.records
-    by_test true g f there e =
+    at_test : (g : PartialFile) → WasOrIs (λ (f : PartialFile). f.number == n) with_record s.partial g
+        → HasCome 1 s.partial g.number g.kind g.records
+    at_test g (inl (f, there, passes, e)) =
         goes_on f (r ∷ []) there (sym (ap (λ h. h.number) e)) (sym (ap (λ h. h.kind) e)) (omega arith) (ap (λ h. h.records) e)
-    by_test false g f there e =
-        goes_on f [] there (sym (ap (λ h. h.number) e)) (sym (ap (λ h. h.kind) e)) (omega arith) (ap (λ h. h.records) e ∙ sym (append-nil f.records))
-
-    at_map : (g : PartialFile) → (f : PartialFile) × Contains s.partial f × (g ≡ one f) → HasCome 1 s.partial g.number g.kind g.records
-    at_map g found = by_test (found.0.number == n) g found.0 found.1 found.2
-
-found_there : (p : PartialFile → Bool) (fs : List PartialFile) (f : PartialFile) → find p fs ≡ Some f → Contains fs f
-found_there p [] f e = absurd (cc e)
-found_there p (g ∷ gs) f e = at_test (p g) (found_there p gs f) e
-  where
-    at_test : (b : Bool) → (find p gs ≡ Some f → Contains gs f) → cond b (Some g) (find p gs) ≡ Some f → Contains (g ∷ gs) f
-    at_test true rest e =
-        let same : g ≡ f = cc e in
-        subst (Contains (g ∷ gs)) same (0, omega arith, refl)
-    at_test false rest e = Contains-append_right (g ∷ []) gs f (rest e)
+    at_test g (inr (there, fails)) = goes_on g [] there refl refl (omega arith) (sym (append-nil g.records))
 
 pub finished_grows : (n : ℕ) (s : CustomerSpool) → FilesGrow 0 s (with_finished n s)
 finished_grows n s = at_file (partial_numbered n s) refl
   where
-    came : (f : PartialFile) (g : WholeFile) → Contains s.partial f → Contains {X = WholeFile} [] g ⊎ (as_whole f ≡ g) → HasBecomeWhole 0 s.partial g
-    came f g there (inl none_there) = absurd (omega (arith, none_there.1))
-    came f g there (inr same) =
+    came : (f : PartialFile) (g : WholeFile) → Contains s.partial f → (as_whole f ≡ g) ⊎ Contains {X = WholeFile} [] g → HasBecomeWhole 0 s.partial g
+    came f g there (inr none_there) = absurd (omega (arith, none_there.1))
+    came f g there (inl same) =
         subst (HasBecomeWhole 0 s.partial) same
         (record { came = f.records; has_come = left_come s.partial f there; records = as_before f.records })
 
@@ -236,7 +201,7 @@ finished_grows n s = at_file (partial_numbered n s) refl
           survive = same_files s.whole;
           counted = λ below. omega (arith, below);
           became_whole = λ g at.
-              came f g (found_there (λ (h : PartialFile). h.number == n) s.partial f e) (Contains-push_cases [] (as_whole f) g at);
+              came f g (found_one (λ (h : PartialFile). h.number == n) s.partial f e).0 (first_or_later (as_whole f) [] g at);
           partial = (without_grows n s).partial;
         }
 

@@ -8,14 +8,12 @@ use Rattle.std.proofs.lemmas.Grind.{get_or-set_at}
 use Rattle.std.proofs.lemmas.List.{get_or-set_same, get_or-set_other, length-map, length-set}
 use Rattle.njh_bisync.specs.Frames.{Received}
 use Rattle.njh_bisync.specs.declared.frame.Control.TheVariants as control
-use Rattle.njh_block.specs.Blocks as block
 use Rattle.njh_block.specs.Blocks.{Item}
 use Rattle.njh_header.specs.SignOns.{SignOn}
 use Rattle.njh_spool.specs.CustomerSpool.{CustomerSpool}
 use Rattle.njh_table.specs.Entries.{CustomerEntry, LineEntry}
 use Rattle.njh_table.specs.declared.Role.{Role}
 use Rattle.njh_table.specs.declared.Role.TheVariants as role
-use Rattle.njh_stream.specs.Receiving as receiving
 use Rattle.njh_stream.specs.declared.receiver.Receiver.{Receiver}
 use Rattle.njh_stream.specs.declared.receiver.Receiver.TheVariants as receiver
 use Rattle.njh_stream.specs.declared.sender.Sender.TheVariants as sender

@@ -6,9 +6,8 @@ use Rattle.njh_line.specs.declared.Phase.{Phase}
 use Rattle.njh_line.specs.declared.config.Config.{Config}
 use Rattle.njh_customer.specs.Acting.{after_record, with_senders_by}
 use Rattle.njh_customer.specs.Customer.{Customer, CustomerLine, with_sender}
-use Rattle.njh_customer.proofs.FileListLaws.{as_many}
-use Rattle.njh_customer.proofs.LineWalks.{IsSeen, StaysOnLines, each_seen, on_line_seen, record_on_lines}
-use Rattle.njh_customer.proofs.LineWalks.{seen_receiving}
+use Rattle.njh_customer.proofs.FileListLaws.{as_many, each_same}
+use Rattle.njh_customer.proofs.LineWalks.{IsSeen, StaysOnLines, on_line_seen, record_on_lines, seen_receiving}
 
 abbrev pub kept : CustomerLine → Config × List ℕ × Phase × ℕ
 kept x = (x.state.config, x.state.last, x.state.session.phase, x.streams)
@@ -24,7 +23,7 @@ keeps l before = record {
     notices = λ k r n x. refl;
   });
   sends = λ k s lines so. on_line_seen kept l (with_sender k s) lines (λ x. refl) ∙ so;
-  gives_up = λ n lines so. each_seen kept (with_senders_by (without_file n)) (λ x. refl) lines ∙ so;
+  gives_up = λ n lines so. each_same kept (with_senders_by (without_file n)) (λ x. refl) lines ∙ so;
 }
 
 pub acted_keeps : (l : ℕ) (i : Item) (c : Customer) → kepts (after_record l i c).lines ≡ kepts c.lines

@@ -1,5 +1,5 @@
 -- What is so of a customer's lines stays so, whatever waits on them and whatever a record changes of them.
-use Rattle.std.proofs.Common.{◌≡◌, ℕ, List, [], ◌∷◌, fold, map, Option, Some, None, option_map, refl, ap₂, ◌∙◌}
+use Rattle.std.proofs.Common.{◌≡◌, ℕ, List, [], ◌∷◌, fold, map, Option, Some, None, option_map, ◌∙◌}
 use Rattle.std.proofs.Math.Seq.{map-set_same}
 use Rattle.njh_ebcdic.specs.Users.{User}
 use Rattle.njh_block.specs.Blocks.{Item}
@@ -121,11 +121,6 @@ record_on_lines l I keep i c so = at i (after_record l i c) (record_does l c i)
 -- ---- what is seen of each line
 
 module _ {X : Type 0} (g : CustomerLine → X) where
-  pub each_seen : (f : CustomerLine → CustomerLine) → ((x : CustomerLine) → g (f x) ≡ g x) → (lines : List CustomerLine)
-      → map g (map f lines) ≡ map g lines
-  each_seen f same [] = refl
-  each_seen f same (x ∷ xs) = ap₂ (λ y ys. y ∷ ys) (same x) (each_seen f same xs)
-
   pub on_line_seen : (l : ℕ) (f : CustomerLine → CustomerLine) (lines : List CustomerLine)
       → ((x : CustomerLine) → g (f x) ≡ g x) → map g (on_line l f lines) ≡ map g lines
   on_line_seen l f lines same = map-set_same g lines l (f (line_at l lines)) no_customer_line (same (line_at l lines))

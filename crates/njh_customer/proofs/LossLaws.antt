@@ -1,6 +1,7 @@
 -- What a customer has when the session of each of its lines is lost, one after the other.
 use Rattle.std.proofs.Common.{◌≡◌, ℕ, zero, suc, ◌<◌, ◌≤◌, Bool, true, false, cond, ◌==◌, ◌&&◌, nat_lt, List, [], ◌∷◌}
-use Rattle.std.proofs.Common.{length, map, set, get_or, find, Option, Some, None, refl, sym, ap, subst, ◌∙◌, arith}
+use Rattle.std.proofs.Common.{length, map, set, get_or, find, Option, Some, None, refl, sym, ap, subst, ◌∙◌, arith, inl}
+use Rattle.std.proofs.Common.{inr, ◌⊎◌}
 use Rattle.std.proofs.Math.ListN.{get_or-map}
 use Rattle.std.proofs.lemmas.Bool.{eq-eqb, eqb-true, ltb-true, ltb-false}
 use Rattle.std.proofs.lemmas.List.{get_or_past, length-set}
@@ -38,7 +39,7 @@ use Rattle.njh_customer.specs.Runs.{OwnSignal, alone_run, event_run}
 use Rattle.njh_customer.specs.declared.signal.Signal.TheVariants.{Lost}
 use Rattle.njh_customer.proofs.CoherenceLaws as coherence
 use Rattle.njh_customer.proofs.DownLines.{set_down}
-use Rattle.njh_customer.proofs.FileListLaws.{from_map}
+use Rattle.njh_customer.proofs.FileListLaws.{WasOrIs, each_same, from_where, set_one}
 use Rattle.njh_customer.proofs.OutgoingLaws.{on_line_senders, stream_is}
 use Rattle.njh_customer.proofs.Restated.{ended_where, without_open_same}
 
@@ -64,15 +65,11 @@ marked_at_rest n (f ∷ fs) restful =
     at_number false e rest = ap (λ more. at_rest f ∷ more) rest
 
 marked_still : (m n : ℕ) (fs : List WholeFile) → RestReady n fs → RestReady n (with_file_state m Ready fs)
-marked_still m n fs restful g at same =
-    let from = from_map (λ f. cond (f.number == m) (record f { state = Ready }) f) fs g g at in
-    subst (λ x. state_at_rest x.state ≡ Ready) (sym from.2)
-    (by_number (from.0.number == m) from.0 (sym (ap (λ x. x.number) from.2) ∙ same) (restful from.0 from.1))
+marked_still m n fs restful g at same = at_mark (from_where (λ f. f.number == m) (λ f. record f { state = Ready }) fs g at)
   where
-    by_number : (b : Bool) (f : WholeFile) → (cond b (record f { state = Ready }) f).number ≡ n
-        → (f.number ≡ n → state_at_rest f.state ≡ Ready) → state_at_rest (cond b (record f { state = Ready }) f).state ≡ Ready
-    by_number true f e there = refl
-    by_number false f e there = there e
+    at_mark : WasOrIs (λ f. f.number == m) (λ f. record f { state = Ready }) fs g → state_at_rest g.state ≡ Ready
+    at_mark (inl (f, there, e, is)) = ap (λ h. state_at_rest h.state) is
+    at_mark (inr (there, e)) = restful g there same
 
 ended_still : (x : Sender) (n : ℕ) (s : CustomerSpool) → RestReady n s.whole → RestReady n (spool_after_session x s).whole
 ended_still x n s restful = at_file (file_in x)
@@ -107,21 +104,18 @@ tried_file entry l f = at_state f.state (goes_by entry l f)
 tried_at_rest :
     (entry : CustomerEntry) (l : ℕ) (fs : List WholeFile)
     → map at_rest (map (λ f. cond (may_go_again entry l f) (ready f) f) fs) ≡ map at_rest fs
-tried_at_rest entry l [] = refl
-tried_at_rest entry l (f ∷ fs) =
-    ap (λ g. g ∷ map at_rest (map (λ h. cond (may_go_again entry l h) (ready h) h) fs)) (tried_file entry l f)
-    ∙ ap (λ more. at_rest f ∷ more) (tried_at_rest entry l fs)
+tried_at_rest entry l fs = each_same at_rest (λ f. cond (may_go_again entry l f) (ready f) f) (tried_file entry l) fs
 
 -- ---- lines that are down
 
 set_still_down :
     (lines : List CustomerLine) (l m : ℕ) (x : CustomerLine) → phase_of x ≡ Down → phase_of (line_at m lines) ≡ Down
     → phase_of (line_at m (set lines l x)) ≡ Down
-set_still_down [] l m x down there = there
-set_still_down (y ∷ ys) zero zero x down there = down
-set_still_down (y ∷ ys) zero (suc m) x down there = there
-set_still_down (y ∷ ys) (suc l) zero x down there = there
-set_still_down (y ∷ ys) (suc l) (suc m) x down there = set_still_down ys l m x down there
+set_still_down lines l m x down there = at (set_one lines l m x no_customer_line)
+  where
+    at : (line_at m (set lines l x) ≡ line_at m lines) ⊎ ((m ≡ l) × (line_at m (set lines l x) ≡ x)) → phase_of (line_at m (set lines l x)) ≡ Down
+    at (inl same) = ap phase_of same ∙ there
+    at (inr it) = ap phase_of it.1 ∙ down
 
 -- ---- the loss of one line
 
@@ -229,11 +223,11 @@ none_came (r ∷ rs) zero = refl
 none_came (r ∷ rs) (suc l) = none_came rs l
 
 none_still : (rests : List Rest) (l m : ℕ) → rest_at m rests ≡ Nothing → rest_at m (set rests l Nothing) ≡ Nothing
-none_still [] l m there = there
-none_still (r ∷ rs) zero zero there = refl
-none_still (r ∷ rs) zero (suc m) there = there
-none_still (r ∷ rs) (suc l) zero there = there
-none_still (r ∷ rs) (suc l) (suc m) there = none_still rs l m there
+none_still rests l m there = at (set_one rests l m Nothing Nothing)
+  where
+    at : (rest_at m (set rests l Nothing) ≡ rest_at m rests) ⊎ ((m ≡ l) × (rest_at m (set rests l Nothing) ≡ Nothing)) → rest_at m (set rests l Nothing) ≡ Nothing
+    at (inl same) = same ∙ there
+    at (inr it) = it.1
 
 -- ---- the loss of the lines below a number
 

@@ -11,7 +11,6 @@ use Rattle.njh_header.specs.FileHeaders.{with_destination}
 use Rattle.njh_header.specs.FileNames.{FileName}
 use Rattle.njh_header.specs.Redirecting.{records_to_node}
 use Rattle.njh_spool.specs.CustomerSpool.{WholeFile}
-use Rattle.njh_spool.specs.declared.State.{State}
 use Rattle.njh_spool.specs.declared.State.TheVariants as state
 use Rattle.njh_table.specs.Entries.{CustomerEntry}
 use Rattle.njh_table.specs.Marks.{entry_marked}
@@ -29,7 +28,7 @@ use Rattle.njh_customer.specs.MovingLaws as laws
 use Rattle.njh_customer.specs.MovingLaws.{FileMoves, RecordsChangeSo}
 use Rattle.njh_customer.specs.NewRoutes.{entry_with}
 use Rattle.njh_customer.specs.OutgoingFiles.{Outgoing, with_file_state, with_files}
-use Rattle.njh_customer.proofs.FileListLaws.{from_filter, from_map, into_map}
+use Rattle.njh_customer.proofs.FileListLaws.{from_filter, from_map, into_map, WasOrIs, from_where}
 use Rattle.njh_customer.proofs.LeavingLaws.{without_files_files}
 use Rattle.njh_customer.proofs.RoutesMoves.{held_so}
 
@@ -42,26 +41,16 @@ IsOneOf files g = (f : WholeFile) × Contains files f × (g.number ≡ f.number)
 itself : (files : List WholeFile) (g : WholeFile) → Contains files g → IsOneOf files g
 itself files g at = (g, at, refl, refl, refl)
 
-one_marked : (n : ℕ) (s : State) (files : List WholeFile) (g : WholeFile) → Contains (with_file_state n s files) g → IsOneOf files g
-one_marked n s files g at = at_mark (from_map (λ f. cond (f.number == n) (record f { state = s }) f) files no_file g at)
-  where
-    by_test : (b : Bool) (f : WholeFile) → Contains files f → g ≡ cond b (record f { state = s }) f → IsOneOf files g
-    by_test true f there e = (f, there, ap (λ h. h.number) e, ap (λ h. h.kind) e, ap (λ h. h.records) e)
-    by_test false f there e = (f, there, ap (λ h. h.number) e, ap (λ h. h.kind) e, ap (λ h. h.records) e)
-
-    at_mark : (f : WholeFile) × Contains files f × (g ≡ cond (f.number == n) (record f { state = s }) f) → IsOneOf files g
-    at_mark found = by_test (found.0.number == n) found.0 found.1 found.2
-
 one_restated :
-    (p : WholeFile → Bool) (s : State) (files : List WholeFile) (g : WholeFile) → Contains (map (changed_file p (file_in_state s)) files) g → IsOneOf files g
-one_restated p s files g at = at_change (from_map (changed_file p (file_in_state s)) files no_file g at)
+    (p : WholeFile → Bool) (change : WholeFile → WholeFile) (files : List WholeFile) (g : WholeFile)
+    → ((f : WholeFile) → ready (change f) ≡ ready f) → Contains (map (λ f. cond (p f) (change f) f) files) g → IsOneOf files g
+one_restated p change files g same at = at_change (from_where p change files g at)
   where
-    by_test : (b : Bool) (f : WholeFile) → Contains files f → g ≡ cond b (file_in_state s f) f → IsOneOf files g
-    by_test true f there e = (f, there, ap (λ h. h.number) e, ap (λ h. h.kind) e, ap (λ h. h.records) e)
-    by_test false f there e = (f, there, ap (λ h. h.number) e, ap (λ h. h.kind) e, ap (λ h. h.records) e)
-
-    at_change : (f : WholeFile) × Contains files f × (g ≡ changed_file p (file_in_state s) f) → IsOneOf files g
-    at_change found = by_test (may_change p found.0) found.0 found.1 found.2
+    at_change : WasOrIs p change files g → IsOneOf files g
+    at_change (inl (f, there, e, is)) =
+        let e : ready g ≡ ready f = ap ready is ∙ same f in
+        (f, there, ap (λ h. h.number) e, ap (λ h. h.kind) e, ap (λ h. h.records) e)
+    at_change (inr (there, e)) = itself files g there
 
 but_state : (files now : List WholeFile) (g : WholeFile) → map ready now ≡ map ready files → Contains now g → IsOneOf files g
 but_state files now g e at =
@@ -87,17 +76,15 @@ module _ (by_records : (kind : Kind) (node : List ℕ) (records : List Stored) �
     rerouted_one :
         (i : Item) (who : User) (name : FileName) (node : List ℕ) → Contains items i → Commands entry who (commands.Reroute name node) i
         → Contains (map (changed_file (is_of_name who name) (with_new_destination node)) x.files) g → FileMoves entry items x g
-    rerouted_one i who name node at given there = at_change (from_map (changed_file (is_of_name who name) (with_new_destination node)) x.files no_file g there)
+    rerouted_one i who name node at given there =
+        at_change (from_where (may_change (is_of_name who name)) (with_new_destination node) x.files g there)
       where
-        by_test : (b : Bool) (f : WholeFile) → Contains x.files f → may_change (is_of_name who name) f ≡ b → g ≡ cond b (with_new_destination node f) f → FileMoves entry items x g
-        by_test true f found e is =
+        at_change : WasOrIs (may_change (is_of_name who name)) (with_new_destination node) x.files g → FileMoves entry items x g
+        at_change (inl (f, found, e, is)) =
             let idle = both_are (is_of_name who name f) (is_sending f.state) e in
             laws.rerouted i who name node f at given found idle.0 idle.1 (ap (λ h. h.number) is) (ap (λ h. h.kind) is)
             (names given.nodal.message name node given.says) (ap (λ h. h.records) is ∙ sym (by_records f.kind node f.records))
-        by_test false f found e is = laws.stays f found (ap (λ h. h.number) is) (ap (λ h. h.kind) is) (ap (λ h. h.records) is)
-
-        at_change : (f : WholeFile) × Contains x.files f × (g ≡ changed_file (is_of_name who name) (with_new_destination node) f) → FileMoves entry items x g
-        at_change found = by_test (may_change (is_of_name who name) found.0) found.0 found.1 refl found.2
+        at_change (inr (found, e)) = was_there (itself x.files g found)
 
     one_came :
         (i : Item) (rcb srcb : ℕ) (f : WholeFile) → Contains items i → i ≡ Data rcb srcb [] → f.state ≡ state.Ready → is_whole f.records ≡ true
@@ -111,14 +98,15 @@ module _ (by_records : (kind : Kind) (node : List ℕ) (records : List Stored) �
         one_came i rcb srcb f at is ready whole (Contains-push_cases x.files f g (among (x.files ++ f ∷ []) (ap (λ z. z.files) e) there))
     record_changes i at (moves.permitted streams m n told before e) there = was_there (itself x.files g (among x.files (ap (λ z. z.files) e) there))
     record_changes i at (moves.refused streams m n after told before none e) there =
-        was_there (one_marked n state.Refused x.files g (among (with_file_state n state.Refused x.files) (ap (λ z. z.files) e) there))
+        was_there (one_restated (λ f. f.number == n) (λ f. record f { state = state.Refused }) x.files g (λ f. refl)
+        (among (with_file_state n state.Refused x.files) (ap (λ z. z.files) e) there))
     record_changes i at (moves.completed streams m n told before e) there =
         was_there (itself x.files g (from_filter (λ f. not (f.number == n)) x.files g (among (filter (λ f. not (f.number == n)) x.files) (ap (λ z. z.files) e) there)))
     record_changes i at (moves.holds who name given e) there =
-        was_there (one_restated (is_of_name who name) state.Held x.files g
+        was_there (one_restated (may_change (is_of_name who name)) (file_in_state state.Held) x.files g (λ f. refl)
         (among (map (changed_file (is_of_name who name) (file_in_state state.Held)) x.files) (ap (λ z. z.files) e) there))
     record_changes i at (moves.releases who name given e) there =
-        was_there (one_restated (is_of_name who name) state.Ready x.files g
+        was_there (one_restated (may_change (is_of_name who name)) (file_in_state state.Ready) x.files g (λ f. refl)
         (among (map (changed_file (is_of_name who name) (file_in_state state.Ready)) x.files) (ap (λ z. z.files) e) there))
     record_changes i at (moves.reroutes who name node line given route e) there =
         rerouted_one i who name node at given (among (map (changed_file (is_of_name who name) (with_new_destination node)) x.files) (ap (λ z. z.files) e) there)
@@ -130,7 +118,8 @@ module _ (by_records : (kind : Kind) (node : List ℕ) (records : List Stored) �
     sending_changes : Sends entry l x y → Contains y.files g → FileMoves entry items x g
     sending_changes (moves.gives_up k before e) there = was_there (itself x.files g (among x.files (ap (λ z. z.files) e) there))
     sending_changes (moves.asks k f few before found e) there =
-        was_there (one_marked f.number state.Sending x.files g (among (with_file_state f.number state.Sending x.files) (ap (λ z. z.files) e) there))
+        was_there (one_restated (λ h. h.number == f.number) (λ h. record h { state = state.Sending }) x.files g (λ h. refl)
+        (among (with_file_state f.number state.Sending x.files) (ap (λ z. z.files) e) there))
     sending_changes (moves.goes_on k n place r before found e) there = was_there (itself x.files g (among x.files (ap (λ z. z.files) e) there))
     sending_changes (moves.ends k n place before found e) there = was_there (itself x.files g (among x.files (ap (λ z. z.files) e) there))
 

@@ -1,6 +1,7 @@
 -- What has come of a line's next frame is of no more than a text may have.
 use Rattle.std.proofs.Common.{◌≡◌, ℕ, zero, suc, ◌==◌, nat_lt, Bool, true, false, if◌then◌else◌, List, [], ◌∷◌, ◌++◌}
-use Rattle.std.proofs.Common.{length, map, set, Option, Some, None, Ok, Err, refl, arith, length-append}
+use Rattle.std.proofs.Common.{length, map, set, Option, Some, None, Ok, Err, refl, arith, length-append, inl, inr}
+use Rattle.std.proofs.Common.{subst, sym, ◌⊎◌}
 use Rattle.std.proofs.lemmas.Bool.{ltb-true}
 use Rattle.njh_bisync.specs.ByteSteps.{RestStep, on_to, ends, kept_with, rest_step}
 use Rattle.njh_bisync.specs.Frames as frame
@@ -17,6 +18,7 @@ use Rattle.njh_customer.specs.Growing.{TakesKeepShortRests}
 use Rattle.njh_customer.specs.NewRoutes.{taken_where}
 use Rattle.njh_customer.specs.Part.{rest_at, rest_on}
 use Rattle.njh_customer.specs.Runs.{OwnBytes, OwnSignal, OwnRoutes}
+use Rattle.njh_customer.proofs.FileListLaws.{set_one}
 
 -- ---- a byte
 
@@ -94,11 +96,11 @@ take_short rest c l (byte ∷ bytes) short =
 -- ---- all lines
 
 set_short : (rests : List Rest) (l m : ℕ) (rest : Rest) → IsShortRest rest → IsShortRest (rest_at m rests) → IsShortRest (rest_at m (set rests l rest))
-set_short [] l m rest short there = there
-set_short (r ∷ rs) zero zero rest short there = short
-set_short (r ∷ rs) zero (suc m) rest short there = there
-set_short (r ∷ rs) (suc l) zero rest short there = there
-set_short (r ∷ rs) (suc l) (suc m) rest short there = set_short rs l m rest short there
+set_short rests l m rest short there = at (set_one rests l m rest Nothing)
+  where
+    at : (rest_at m (set rests l rest) ≡ rest_at m rests) ⊎ ((m ≡ l) × (rest_at m (set rests l rest) ≡ rest)) → IsShortRest (rest_at m (set rests l rest))
+    at (inl same) = subst IsShortRest (sym same) there
+    at (inr it) = subst IsShortRest (sym it.1) short
 
 nothing_short : (lines : List LineEntry) (m : ℕ) → IsShortRest (rest_at m (map (λ line. Nothing) lines))
 nothing_short [] m = tt

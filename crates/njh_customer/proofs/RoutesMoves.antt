@@ -1,19 +1,18 @@
 -- What new routes do to a customer.
-use Rattle.std.proofs.Common.{◌≡◌, ℕ, Bool, true, false, cond, List, [], ◌∷◌, map, Ok, Err, refl, sym, ap, subst, ◌∙◌}
+use Rattle.std.proofs.Common.{◌≡◌, cond, List, [], map, Ok, Err, refl, sym, ◌∙◌, inl, inr}
 use Rattle.std.specs.List.{Contains}
 use Rattle.njh_spool.specs.CustomerSpool.{WholeFile}
 use Rattle.njh_table.specs.Entries.{CustomerEntry}
 use Rattle.njh_table.specs.Keys.{Walked}
 use Rattle.njh_table.specs.NewRoutes.{NewRoute, routes_checked}
 use Rattle.njh_stream.specs.Holding.{has_lost_route, held_file}
-use Rattle.njh_command.specs.Files.{no_file}
 use Rattle.njh_customer.specs.Customer.{with_marks}
 use Rattle.njh_customer.specs.Moves.{LeadsByMoves, nowhere, onward, RoutesMove}
 use Rattle.njh_customer.specs.MovingLaws.{RoutesDo, RoutesDoSo, RoutesMoveFile, is_as_before, is_held}
 use Rattle.njh_customer.specs.NewRoutes.{entry_with, taken_where, routes_given}
 use Rattle.njh_customer.specs.OutgoingFiles.{Outgoing, outgoing}
 use Rattle.njh_customer.specs.Part.{Part}
-use Rattle.njh_customer.proofs.FileListLaws.{from_map, numbers}
+use Rattle.njh_customer.proofs.FileListLaws.{numbers, WasOrIs, changed_where, from_where}
 
 pub routes_do : RoutesDoSo
 routes_do p routes = at_check (routes_checked p.customer.entry routes) refl
@@ -64,23 +63,13 @@ abbrev held_where : CustomerEntry → WholeFile → WholeFile
 held_where entry f = cond (has_lost_route entry f) (held_file f) f
 
 pub held_numbers : (entry : CustomerEntry) (fs : List WholeFile) → numbers (map (held_where entry) fs) ≡ numbers fs
-held_numbers entry [] = refl
-held_numbers entry (f ∷ fs) = at_test (has_lost_route entry f) (held_numbers entry fs)
+held_numbers entry fs = changed_where (λ f. f.number) (has_lost_route entry) held_file fs (λ f. refl)
+
+pub held_so :
+    (entry : CustomerEntry) (x : Outgoing) (g : WholeFile) → Contains (map (held_where entry) x.files) g
+    → RoutesMoveFile entry x g
+held_so entry x g at = at_file (from_where (has_lost_route entry) held_file x.files g at)
   where
-    rest : List ℕ
-    rest = numbers (map (held_where entry) fs)
-
-    at_test : (b : Bool) → rest ≡ numbers fs → (cond b (held_file f) f).number ∷ rest ≡ f.number ∷ numbers fs
-    at_test true e = ap (λ more. f.number ∷ more) e
-    at_test false e = ap (λ more. f.number ∷ more) e
-
-pub held_so : (entry : CustomerEntry) (x : Outgoing) (g : WholeFile) → Contains (map (held_where entry) x.files) g → RoutesMoveFile entry x g
-held_so entry x g at = at_file (from_map (held_where entry) x.files no_file g at)
-  where
-    by_test : (b : Bool) (f : WholeFile) → Contains x.files f → has_lost_route entry f ≡ b → g ≡ cond b (held_file f) f → RoutesMoveFile entry x g
-    by_test true f there e is = is_held f there e is
-    by_test false f there e is =
-        is_as_before (subst (Contains x.files) (sym is) there) (ap (has_lost_route entry) is ∙ e)
-
-    at_file : (f : WholeFile) × Contains x.files f × (g ≡ held_where entry f) → RoutesMoveFile entry x g
-    at_file found = by_test (has_lost_route entry found.0) found.0 found.1 refl found.2
+    at_file : WasOrIs (has_lost_route entry) held_file x.files g → RoutesMoveFile entry x g
+    at_file (inl (f, there, e, is)) = is_held f there e is
+    at_file (inr (there, e)) = is_as_before there e

@@ -8,7 +8,7 @@ use Rattle.njh_stream.specs.declared.sender.Sender.{Sender}
 use Rattle.njh_stream.specs.declared.sender.Sender.TheVariants.{Idle}
 use Rattle.njh_customer.specs.InOrder.{IsAbout}
 use Rattle.njh_customer.specs.OutgoingFiles.{Outgoing, each_stream, sender_on, streams_of, with_sender_on}
-use Rattle.njh_customer.proofs.StreamMoveLaws.{set_one}
+use Rattle.njh_customer.proofs.FileListLaws.{set_one}
 
 -- ---- a stream that is about a file is there
 

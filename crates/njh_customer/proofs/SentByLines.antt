@@ -1,12 +1,11 @@
 -- What a line sends, the end of its session, and new routes leave it so: the files that are being sent are exactly those
 -- that a stream is about, each on one stream.
-use Rattle.std.proofs.Common.{◌≡◌, ℕ, zero, suc, ◌+◌, ◌<◌, Bool, true, false, cond, ◌==◌, ◌&&◌, ◌||◌, ◌⊎◌, inl, inr}
-use Rattle.std.proofs.Common.{List, [], ◌∷◌, length, map, set, get_or, replicate, find, Option, Some, None, refl, sym}
-use Rattle.std.proofs.Common.{ap, subst, ◌∙◌, arith, eq-eqb}
+use Rattle.std.proofs.Common.{◌≡◌, ℕ, zero, suc, ◌+◌, ◌<◌, Bool, true, false, ◌==◌, ◌&&◌, ◌⊎◌, inl, inr, List, [], ◌∷◌}
+use Rattle.std.proofs.Common.{length, map, set, get_or, replicate, find, Option, Some, None, refl, sym, ap, subst, ◌∙◌}
+use Rattle.std.proofs.Common.{arith}
 use Rattle.std.proofs.Math.ListN.{get_or-map}
 use Rattle.std.proofs.lemmas.Bool.{eqb-true, eqb-false}
 use Rattle.std.proofs.lemmas.List.{get_or-set_same, get_or-set_other, length-map, length-replicate, length-set}
-use Rattle.std.proofs.lemmas.List.Elements.{Contains-append_right}
 use Rattle.std.specs.List.{Contains}
 use Rattle.njh_block.specs.Codes.{kind_of}
 use Rattle.njh_header.specs.FileHeaders.{destination_of}
@@ -19,7 +18,6 @@ use Rattle.njh_stream.specs.Sending.{tried_again}
 use Rattle.njh_stream.specs.declared.sender.Sender.{Sender}
 use Rattle.njh_stream.specs.declared.sender.Sender.TheVariants.{Idle, Requested, Sending, EofSent, Aborting}
 use Rattle.njh_sched.specs.NextBlock.{is_ready, may_go, same_kind}
-use Rattle.njh_command.specs.Files.{no_file}
 use Rattle.njh_line.specs.declared.verdict.LineReply.{LineReply}
 use Rattle.njh_line.specs.declared.verdict.LineReply.TheVariants as reply
 use Rattle.njh_customer.specs.Alone.{replied_to, session_over}
@@ -34,7 +32,8 @@ use Rattle.njh_customer.specs.OutgoingFiles.{Outgoing, has_file, outgoing, sende
 use Rattle.njh_customer.specs.OutgoingFiles.{with_file_state, with_files, with_sender_on}
 use Rattle.njh_customer.specs.Sending.{next_block}
 use Rattle.njh_customer.proofs.EndingMoves.{over_so}
-use Rattle.njh_customer.proofs.FileListLaws.{any_numbered, copies, from_map, marked_numbers, same_numbered, but_states}
+use Rattle.njh_customer.proofs.FileListLaws.{any_numbered, copies, marked_numbers, same_numbered, but_states, found_one}
+use Rattle.njh_customer.proofs.FileListLaws.{WasOrIs, any_there, from_where}
 use Rattle.njh_customer.proofs.OutgoingLaws.{reply_unmoved}
 use Rattle.njh_customer.proofs.Restated.{ended_where, without_open_same}
 use Rattle.njh_customer.proofs.RoutesMoves.{held_numbers, held_so}
@@ -92,31 +91,6 @@ one_moves l k s t x y before same e sent =
 some_is : {A : Type 0} (a b : A) → Some a ≡ Some b → a ≡ b
 some_is a b e = ap (λ o. elim o [ Some c ↦ c | None ↦ a ]) e
 
--- what is found is there and passes the test
-found_one : {A : Type 0} (p : A → Bool) (xs : List A) (x : A) → find p xs ≡ Some x → Contains xs x × (p x ≡ true)
-found_one p [] x e = absurd (cc e)
-found_one {A} p (y ∷ ys) x e = at_test (p y) refl e (found_one p ys x)
-  where
-    at_test :
-        (b : Bool) → p y ≡ b → cond b (Some y) (find p ys) ≡ Some x → (find p ys ≡ Some x → Contains ys x × (p x ≡ true))
-        → Contains (y ∷ ys) x × (p x ≡ true)
-    at_test true passes e later = let same = some_is y x e in ((0, omega arith, same), ap p (sym same) ∙ passes)
-    at_test false passes e later = let rest = later e in (Contains-append_right (y ∷ []) ys x rest.0, rest.1)
-
--- there is a file of its number
-one_there : (f : WholeFile) (files : List WholeFile) → Contains files f → any_numbered f.number files ≡ true
-one_there f files at = at_index files at.0 at.1 at.2
-  where
-    at_index : (files : List WholeFile) (i : ℕ) → i < length files → get_or files i f ≡ f → any_numbered f.number files ≡ true
-    at_index [] i inside e = absurd (omega (arith, inside))
-    at_index (g ∷ gs) zero inside e =
-        ap (λ b. b || any_numbered f.number gs) (eq-eqb g.number f.number (ap (λ h. h.number) e))
-    at_index (g ∷ gs) (suc i) inside e = at_first (g.number == f.number) (at_index gs i (omega (arith, inside)) e)
-      where
-        at_first : (b : Bool) → any_numbered f.number gs ≡ true → (b || any_numbered f.number gs) ≡ true
-        at_first true rest = refl
-        at_first false rest = rest
-
 -- a file that may go isn't being sent
 goes_ready : (goes : WholeFile → Bool) (k : ℕ) (f : WholeFile) → may_go goes (kind_of k) f ≡ true → f.state ≡ state.Sending → ⊥
 goes_ready goes k f may is = cc (sym may ∙ ap (λ s. is_ready s && (same_kind f.kind (kind_of k) && goes f)) is)
@@ -161,36 +135,25 @@ module _ (entry : CustomerEntry) (l k : ℕ) (f : WholeFile) (x : Outgoing) (lin
   asks_about : IsAbout l k f.number asked
   asks_about = ap (λ t. file_in t) (set_there l k (Requested f.number) marked line (omega (arith, few, sent.eight l line)))
 
-  abbrev mark : WholeFile → WholeFile
-  mark g = cond (g.number == f.number) (record g { state = state.Sending }) g
-
-  abbrev Marked : WholeFile → Type 0
-  Marked g = (h : WholeFile) × Contains x.files h × (g ≡ mark h)
+  -- a file of these is the one that is asked for, or was there
+  from_asked : (g : WholeFile) → Contains asked.files g → WasOrIs (λ h. h.number == f.number) (λ h. record h { state = state.Sending }) x.files g
+  from_asked = from_where (λ h. h.number == f.number) (λ h. record h { state = state.Sending }) x.files
 
   asked_there : (m j n : ℕ) → IsAbout m j n asked → has_file n asked ≡ true
   asked_there m j n about = same_numbered n asked.files x.files (marked_numbers f.number state.Sending x.files) ∙ at_stream (was_about m j n about)
     where
       at_stream : WasAbout m j n → any_numbered n x.files ≡ true
       at_stream (inl was) = sent.there m j n was
-      at_stream (inr asks) = ap (λ i. any_numbered i x.files) asks.2 ∙ one_there f x.files at_file
+      at_stream (inr asks) = ap (λ i. any_numbered i x.files) asks.2 ∙ any_there f.number x.files (f, at_file, refl)
 
   asked_sending : (m j n : ℕ) (g : WholeFile) → IsAbout m j n asked → Contains asked.files g → g.number ≡ n → g.state ≡ state.Sending
-  asked_sending m j n g about at same = at_mark (from_map mark x.files no_file g at)
+  asked_sending m j n g about at same = at_mark (from_asked g at) (was_about m j n about)
     where
-      not_marked : (h : WholeFile) → Contains x.files h → (h.number == f.number) ≡ false → g ≡ h → WasAbout m j n → g.state ≡ state.Sending
-      not_marked h there other is (inl was) =
-          ap (λ i. i.state) is ∙ sent.sending m j n h was there (sym (ap (λ i. i.number) is) ∙ same)
-      not_marked h there other is (inr asks) =
-          absurd (eqb-false h.number f.number other (sym (ap (λ i. i.number) is) ∙ same ∙ asks.2))
-
-      by_test :
-          (b : Bool) (h : WholeFile) → Contains x.files h → (h.number == f.number) ≡ b → g ≡ cond b (record h { state = state.Sending }) h
+      at_mark : WasOrIs (λ h. h.number == f.number) (λ h. record h { state = state.Sending }) x.files g → WasAbout m j n
           → g.state ≡ state.Sending
-      by_test true h there e is = ap (λ i. i.state) is
-      by_test false h there e is = not_marked h there e is (was_about m j n about)
-
-      at_mark : Marked g → g.state ≡ state.Sending
-      at_mark (h, there, is) = by_test (h.number == f.number) h there refl is
+      at_mark (inl (h, there, e, is)) was = ap (λ i. i.state) is
+      at_mark (inr (there, other)) (inl was) = sent.sending m j n g was there same
+      at_mark (inr (there, other)) (inr asks) = absurd (eqb-false g.number f.number other (same ∙ asks.2))
 
   asked_apart : (i h m j n : ℕ) → IsAbout i h n asked → IsAbout m j n asked → (i ≡ m) × (h ≡ j)
   asked_apart i h m j n first second = at_streams (was_about i h n first) (was_about m j n second)
@@ -202,27 +165,18 @@ module _ (entry : CustomerEntry) (l k : ℕ) (f : WholeFile) (x : Outgoing) (lin
       at_streams (inr one) (inr other) = (one.0 ∙ sym other.0, one.1 ∙ sym other.1)
 
   asked_go : (g : WholeFile) → Contains asked.files g → g.state ≡ state.Sending → IsOnStream g.number asked
-  asked_go g at is = at_mark (from_map mark x.files no_file g at)
+  asked_go g at is = at_mark (from_asked g at)
     where
-      by_test :
-          (b : Bool) (h : WholeFile) → Contains x.files h → (h.number == f.number) ≡ b → g ≡ cond b (record h { state = state.Sending }) h
-          → IsOnStream g.number asked
-      by_test true h there e same =
+      at_mark : WasOrIs (λ h. h.number == f.number) (λ h. record h { state = state.Sending }) x.files g → IsOnStream g.number asked
+      at_mark (inl (h, there, e, same)) =
           record {
             line = l;
             stream = k;
             about = asks_about ∙ ap Some (sym (ap (λ i. i.number) same ∙ eqb-true h.number f.number e));
           }
-      by_test false h there e same =
-          let goes = sent.go h there (sym (ap (λ i. i.state) same) ∙ is) in
-          record {
-            line = goes.line;
-            stream = goes.stream;
-            about = still_about goes.line goes.stream h.number goes.about ∙ ap Some (sym (ap (λ i. i.number) same));
-          }
-
-      at_mark : Marked g → IsOnStream g.number asked
-      at_mark (h, there, same) = by_test (h.number == f.number) h there refl same
+      at_mark (inr (there, other)) =
+          let goes = sent.go g there is in
+          record { line = goes.line; stream = goes.stream; about = still_about goes.line goes.stream g.number goes.about }
 
   sent_asked : AreBeingSent asked
   sent_asked =
@@ -289,60 +243,49 @@ none_more : (n : ℕ) (s : Sender) (more : List Sender) → (file_in s ≡ Some 
 none_more n s more first rest zero about = first about
 none_more n s more first rest (suc k) about = rest k about
 
--- a file that is being sent behind the end of one stream's session was there, and the stream isn't about it
-ended_one :
-    (s : Sender) (spool : CustomerSpool) (g : WholeFile) → Contains (spool_after_session s spool).whole g → g.state ≡ state.Sending
-    → Contains spool.whole g × (file_in s ≡ Some g.number → ⊥)
-ended_one s spool g at is = at_about (file_in s) at
+-- behind the end of one stream's session a file was there, or it was what the stream was about
+one_ended : (s : Sender) (spool : CustomerSpool) (g : WholeFile) → Contains (spool_after_session s spool).whole g
+    → (Contains spool.whole g × (file_in s ≡ Some g.number → ⊥)) ⊎ ((file_in s ≡ Some g.number) × (g.state ≡ state.Ready))
+one_ended s spool g at = at_about (file_in s) at
   where
-    not_it : (n : ℕ) (h : WholeFile) (b : Bool) → Contains spool.whole h → (h.number == n) ≡ b → g ≡ cond b (record h { state = state.Ready }) h
-        → Contains spool.whole g × (Some n ≡ Some g.number → ⊥)
-    not_it n h true there e same = absurd (cc (sym is ∙ ap (λ i. i.state) same))
-    not_it n h false there e same = (
-      subst (Contains spool.whole) (sym same) there,
-      λ about.
-          eqb-false h.number n e (sym (some_is n g.number about ∙ ap (λ i. i.number) same)),
-    )
+    at_mark : (n : ℕ) → WasOrIs (λ h. h.number == n) (λ h. record h { state = state.Ready }) spool.whole g
+        → (Contains spool.whole g × (Some n ≡ Some g.number → ⊥)) ⊎ ((Some n ≡ Some g.number) × (g.state ≡ state.Ready))
+    at_mark n (inl (h, there, e, is)) =
+        inr (ap Some (sym (ap (λ i. i.number) is ∙ eqb-true h.number n e)), ap (λ i. i.state) is)
+    at_mark n (inr (there, e)) = inl (there, λ about. eqb-false g.number n e (sym (some_is n g.number about)))
 
-    at_about : (o : Option ℕ) → Contains (ended_where o spool).whole g → Contains spool.whole g × (o ≡ Some g.number → ⊥)
-    at_about None at = (at, λ about. cc about)
-    at_about (Some n) at =
-        let found = from_map (λ f. cond (f.number == n) (record f { state = state.Ready }) f) spool.whole no_file g at in
-        not_it n found.0 (found.0.number == n) found.1 refl found.2
+    at_about : (o : Option ℕ) → Contains (ended_where o spool).whole g
+        → (Contains spool.whole g × (o ≡ Some g.number → ⊥)) ⊎ ((o ≡ Some g.number) × (g.state ≡ state.Ready))
+    at_about None at = inl (at, λ about. cc about)
+    at_about (Some n) at = at_mark n (from_where (λ h. h.number == n) (λ h. record h { state = state.Ready }) spool.whole g at)
 
 all_ended_ones :
     (senders : List Sender) (spool : CustomerSpool) (g : WholeFile) → Contains (all_ended senders spool).whole g → g.state ≡ state.Sending
     → Contains spool.whole g × NoneAbout g.number senders
 all_ended_ones [] spool g at is = (at, λ k about. cc about)
 all_ended_ones (s ∷ more) spool g at is =
-    let rest = all_ended_ones more (spool_after_session s spool) g at is in
-    let first = ended_one s spool g rest.0 is in
-    (first.0, none_more g.number s more first.1 rest.1)
+    let rest = all_ended_ones more (spool_after_session s spool) g at is in at_first rest.1 (one_ended s spool g rest.0)
+  where
+    at_first :
+        NoneAbout g.number more
+        → (Contains spool.whole g × (file_in s ≡ Some g.number → ⊥)) ⊎ ((file_in s ≡ Some g.number) × (g.state ≡ state.Ready))
+        → Contains spool.whole g × NoneAbout g.number (s ∷ more)
+    at_first others (inl (there, none)) = (there, none_more g.number s more none others)
+    at_first others (inr (about, waits)) = absurd (cc (sym is ∙ waits))
 
 -- a file that no stream is about stays as it is
-unended_one :
-    (s : Sender) (spool : CustomerSpool) (g : WholeFile) → Contains (spool_after_session s spool).whole g → (file_in s ≡ Some g.number → ⊥)
-    → Contains spool.whole g
-unended_one s spool g at none = at_about (file_in s) at none
-  where
-    not_it : (n : ℕ) (h : WholeFile) (b : Bool) → Contains spool.whole h → (h.number == n) ≡ b → g ≡ cond b (record h { state = state.Ready }) h
-        → (Some n ≡ Some g.number → ⊥) → Contains spool.whole g
-    not_it n h true there e same none =
-        absurd (none (ap Some (sym (ap (λ i. i.number) same ∙ eqb-true h.number n e))))
-    not_it n h false there e same none = subst (Contains spool.whole) (sym same) there
-
-    at_about : (o : Option ℕ) → Contains (ended_where o spool).whole g → (o ≡ Some g.number → ⊥) → Contains spool.whole g
-    at_about None at none = at
-    at_about (Some n) at none =
-        let found = from_map (λ f. cond (f.number == n) (record f { state = state.Ready }) f) spool.whole no_file g at in
-        not_it n found.0 (found.0.number == n) found.1 refl found.2 none
-
 unended_ones :
     (senders : List Sender) (spool : CustomerSpool) (g : WholeFile) → Contains (all_ended senders spool).whole g → NoneAbout g.number senders
     → Contains spool.whole g
 unended_ones [] spool g at none = at
 unended_ones (s ∷ more) spool g at none =
-    unended_one s spool g (unended_ones more (spool_after_session s spool) g at (λ k. none (suc k))) (none 0)
+    at_first (one_ended s spool g (unended_ones more (spool_after_session s spool) g at (λ k. none (suc k))))
+  where
+    at_first :
+        (Contains spool.whole g × (file_in s ≡ Some g.number → ⊥)) ⊎ ((file_in s ≡ Some g.number) × (g.state ≡ state.Ready))
+        → Contains spool.whole g
+    at_first (inl was) = was.0
+    at_first (inr (about, waits)) = absurd (none 0 about)
 
 module _ (l : ℕ) (c : Customer) (line : l < length c.lines) (sent : AreBeingSent (outgoing c)) where
   abbrev before_end : Outgoing
@@ -392,14 +335,8 @@ module _ (l : ℕ) (c : Customer) (line : l < length c.lines) (sent : AreBeingSe
       let was = about_before m k n about in
       was.0 (sent.apart m k l j n was.1 (ap (λ senders. file_in (get_or senders j Idle)) own_streams ∙ of_own)).0
 
-  abbrev tried : WholeFile → WholeFile
-  tried f = cond (may_go_again c.entry l f) (ready f) f
-
-  abbrev Tried : WholeFile → Type 0
-  Tried g = (f : WholeFile) × Contains (all_ended own c.spool).whole f × (g ≡ tried f)
-
-  from_tried : (g : WholeFile) → Contains behind_end.files g → Tried g
-  from_tried g at = from_map tried (all_ended own c.spool).whole no_file g (subst (λ fs. Contains fs g) files_now at)
+  from_tried : (g : WholeFile) → Contains behind_end.files g → WasOrIs (may_go_again c.entry l) ready (all_ended own c.spool).whole g
+  from_tried g at = from_where (may_go_again c.entry l) ready (all_ended own c.spool).whole g (subst (λ fs. Contains fs g) files_now at)
 
   over_eight : (m : ℕ) → m < length behind_end.streams → length (streams_of m behind_end) ≡ 8
   over_eight m there = at_line (m == l) refl
@@ -428,15 +365,10 @@ module _ (l : ℕ) (c : Customer) (line : l < length c.lines) (sent : AreBeingSe
           sent.sending m k n f (about_before m k n about).1
           (unended_ones own c.spool f there (subst (λ i. NoneAbout i own) (sym number) (none_own m k n about))) number
 
-      by_test :
-          (b : Bool) (f : WholeFile) → Contains (all_ended own c.spool).whole f → may_go_again c.entry l f ≡ b → g ≡ cond b (ready f) f
-          → g.state ≡ state.Sending
-      by_test true f there e is =
+      at_tried : WasOrIs (may_go_again c.entry l) ready (all_ended own c.spool).whole g → g.state ≡ state.Sending
+      at_tried (inl (f, there, e, is)) =
           absurd (cc (sym e ∙ ap (λ s. is_refused s && goes_by c.entry l f) (was_sending f there (sym (ap (λ i. i.number) is) ∙ same))))
-      by_test false f there e is = ap (λ i. i.state) is ∙ was_sending f there (sym (ap (λ i. i.number) is) ∙ same)
-
-      at_tried : Tried g → g.state ≡ state.Sending
-      at_tried (f, there, is) = by_test (may_go_again c.entry l f) f there refl is
+      at_tried (inr (there, e)) = was_sending g there same
 
   over_go : (g : WholeFile) → Contains behind_end.files g → g.state ≡ state.Sending → IsOnStream g.number behind_end
   over_go g at is = at_tried (from_tried g at)
@@ -445,11 +377,9 @@ module _ (l : ℕ) (c : Customer) (line : l < length c.lines) (sent : AreBeingSe
       on_other : Contains c.spool.whole g → NoneAbout g.number own → IsOnStream g.number behind_end
       on_other there none =
           let goes = sent.go g there is in
-          let apart : goes.line ≡ l → ⊥ =
-          λ same. none goes.stream (
+          let apart : goes.line ≡ l → ⊥ = λ same. none goes.stream (
           sym (ap (λ senders. file_in (get_or senders goes.stream Idle)) own_streams)
-          ∙ sym (ap (λ i. file_in (sender_on i goes.stream before_end)) same)
-          ∙ goes.about
+          ∙ sym (ap (λ i. file_in (sender_on i goes.stream before_end)) same) ∙ goes.about
           ) in
           record {
             line = goes.line;
@@ -457,14 +387,9 @@ module _ (l : ℕ) (c : Customer) (line : l < length c.lines) (sent : AreBeingSe
             about = ap (λ senders. file_in (get_or senders goes.stream Idle)) (other_line goes.line apart) ∙ goes.about;
           }
 
-      by_test : (b : Bool) (f : WholeFile) → Contains (all_ended own c.spool).whole f → g ≡ cond b (ready f) f → IsOnStream g.number behind_end
-      by_test true f there same = absurd (cc (sym is ∙ ap (λ i. i.state) same))
-      by_test false f there same =
-          let was = all_ended_ones own c.spool g (subst (Contains (all_ended own c.spool).whole) (sym same) there) is in
-          on_other was.0 was.1
-
-      at_tried : Tried g → IsOnStream g.number behind_end
-      at_tried (f, there, same) = by_test (may_go_again c.entry l f) f there same
+      at_tried : WasOrIs (may_go_again c.entry l) ready (all_ended own c.spool).whole g → IsOnStream g.number behind_end
+      at_tried (inl (f, there, e, same)) = absurd (cc (sym is ∙ ap (λ i. i.state) same))
+      at_tried (inr (there, e)) = let was = all_ended_ones own c.spool g there is in on_other was.0 was.1
 
   over_sent : AreBeingSent behind_end
   over_sent =

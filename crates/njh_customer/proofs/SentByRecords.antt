@@ -1,25 +1,23 @@
 -- What a record that comes leaves of this: which files are being sent are those that a stream from the hub is about.
-use Rattle.std.proofs.Common.{◌≡◌, ◌<◌, ◌≤◌, ℕ, zero, suc, ◌+◌, Bool, true, false, cond, not, ◌&&◌, ◌||◌, ◌==◌, ◌⊎◌}
-use Rattle.std.proofs.Common.{inl, inr, List, [], ◌∷◌, ◌++◌, length, map, filter, get_or, count_by, Option, Some, None}
-use Rattle.std.proofs.Common.{refl, sym, ap, subst, ◌∙◌, not-suc-le-zero, le_of_suc-le-suc, arith}
-use Rattle.std.proofs.lemmas.Bool.{eqb-true, eq-eqb, not-true, not_from_false}
-use Rattle.std.proofs.lemmas.List.Elements.{All-contains, Contains-append_cases, Contains-append_left}
-use Rattle.std.proofs.lemmas.List.Elements.{Contains-append_right, Contains-push_cases, filter_passes}
-use Rattle.std.proofs.lemmas.List.Folds.{list_any_at}
-use Rattle.std.proofs.lemmas.List.Sums.{sum_by-cons, sum_by_push}
+use Rattle.std.proofs.Common.{◌≡◌, ◌≤◌, ℕ, Bool, true, false, cond, not, ◌&&◌, ◌==◌, ◌⊎◌, inl, inr, List, [], ◌∷◌, ◌++◌}
+use Rattle.std.proofs.Common.{length, map, filter, get_or, count_by, Option, Some, None, refl, sym, ap, subst, ◌∙◌}
+use Rattle.std.proofs.Common.{not-suc-le-zero, arith}
+use Rattle.std.proofs.lemmas.Bool.{eqb-true, eq-eqb, not-true, not_from_false, eqb-false}
+use Rattle.std.proofs.lemmas.List.Elements.{Contains-append_left, Contains-push_cases}
+use Rattle.std.proofs.lemmas.List.Sums.{sum_by_push}
 use Rattle.std.specs.List.{Contains}
 use Rattle.njh_block.specs.Blocks.{Item}
 use Rattle.njh_spool.specs.CustomerSpool.{WholeFile}
 use Rattle.njh_spool.specs.declared.State.{State}
 use Rattle.njh_spool.specs.declared.State.TheVariants as state
 use Rattle.njh_table.specs.Entries.{CustomerEntry}
+use Rattle.njh_stream.proofs.OnlyOneLaws.{counted_at}
 use Rattle.njh_stream.specs.Sending.{file_in}
 use Rattle.njh_stream.specs.declared.sender.Sender.{Sender}
 use Rattle.njh_stream.specs.declared.sender.Sender.TheVariants.{Idle, Sending}
 use Rattle.njh_command.specs.CommandLaws.{CommandsMoveFilesSo}
 use Rattle.njh_command.specs.Commands.{aborted_where, changed_file, file_in_state, is_about, is_busy, is_of_name}
 use Rattle.njh_command.specs.Commands.{is_sending, may_change, state_after_reroute, with_new_destination, without_file}
-use Rattle.njh_command.specs.Files.{no_file}
 use Rattle.njh_customer.specs.Acting.{after_record}
 use Rattle.njh_customer.specs.Customer.{Customer}
 use Rattle.njh_customer.specs.InOrder.{AreBeingSent, IsAbout}
@@ -29,8 +27,9 @@ use Rattle.njh_customer.specs.OutgoingFiles.{Outgoing, each_stream, has_file, ou
 use Rattle.njh_customer.specs.OutgoingFiles.{with_arrival, with_file_state, with_files, with_sender_on}
 use Rattle.njh_customer.specs.OutgoingFiles.{without_numbered}
 use Rattle.njh_customer.proofs.ActingMoves.{acts_so}
-use Rattle.njh_customer.proofs.FileListLaws.{any_numbered, changed_numbers, from_filter, from_map, same_numbered}
-use Rattle.njh_customer.proofs.FileListLaws.{into_map}
+use Rattle.njh_customer.proofs.FileListLaws.{any_numbered, changed_numbers, from_filter, same_numbered, into_map, Has}
+use Rattle.njh_customer.proofs.FileListLaws.{WasOrIs, first_or_later, found_numbered, from_where, has_one, into_filter}
+use Rattle.njh_customer.proofs.FileListLaws.{passes_filter, any_there}
 use Rattle.njh_customer.proofs.FileNumbers.{AreDistinct}
 use Rattle.njh_customer.proofs.LeavingLaws.{without_files_files}
 use Rattle.njh_customer.proofs.RecordsChange.{both_are}
@@ -41,69 +40,22 @@ use Rattle.njh_customer.proofs.StreamMoveLaws.{moved_one, was}
 number_of : (a b : ℕ) → Some a ≡ Some b → a ≡ b
 number_of a b e = cc e
 
--- the one element of a list
-the_first : {A : Type 0} (x y : A) → Contains (x ∷ []) y → x ≡ y
-the_first x y (zero, inside, e) = e
-the_first x y (suc i, inside, e) = absurd (not-suc-le-zero (le_of_suc-le-suc inside))
-
--- ---- the files of a number
-
-count_first : (n : ℕ) (f : WholeFile) (fs : List WholeFile)
-    → count_by (λ g. g.number == n) (f ∷ fs) ≡ cond (f.number == n) 1 0 + count_by (λ g. g.number == n) fs
-count_first n f fs = sum_by-cons (λ g. cond (g.number == n) 1 0) f fs
-
 one_counts : (n : ℕ) (f : WholeFile) → f.number ≡ n → ◌≡◌ {A = ℕ} (cond (f.number == n) 1 0) 1
 one_counts n f e = ap (λ b. cond b 1 0) (eq-eqb f.number n e)
 
-counted :
-    (n : ℕ) (fs : List WholeFile) (i : ℕ) (g : WholeFile) → i < length fs → get_or fs i g ≡ g → g.number ≡ n
-    → 1 ≤ count_by (λ f. f.number == n) fs
-counted n [] i g inside e is = absurd (not-suc-le-zero inside)
-counted n (f ∷ fs) zero g inside e is = omega (arith, count_first n f fs, one_counts n f (ap (λ h. h.number) e ∙ is))
-counted n (f ∷ fs) (suc i) g inside e is = omega (arith, count_first n f fs, counted n fs i g (le_of_suc-le-suc inside) e is)
+-- one that is there is counted
+counted : (n : ℕ) (fs : List WholeFile) (g : WholeFile) → Contains fs g → g.number ≡ n → 1 ≤ count_by (λ f. f.number == n) fs
+counted n fs g at is =
+    counted_at (λ f. f.number == n) fs at.0 g at.1 (eq-eqb (get_or fs at.0 g).number n (ap (λ h. h.number) at.2 ∙ is))
 
--- two of them are one
+-- two of a number are one
 same_file :
-    (n : ℕ) (fs : List WholeFile) (i k : ℕ) (f g : WholeFile) → count_by (λ h. h.number == n) fs ≤ 1 → i < length fs → get_or fs i f ≡ f
-    → k < length fs → get_or fs k g ≡ g → f.number ≡ n → g.number ≡ n → f ≡ g
-same_file n [] i k f g few at e there d is one = absurd (not-suc-le-zero at)
-same_file n (h ∷ fs) zero zero f g few at e there d is one = sym e ∙ d
-same_file n (h ∷ fs) zero (suc k) f g few at e there d is one =
-    absurd (omega (arith, few, count_first n h fs, one_counts n h (ap (λ x. x.number) e ∙ is), counted n fs k g (le_of_suc-le-suc there) d one))
-same_file n (h ∷ fs) (suc i) zero f g few at e there d is one =
-    absurd (omega (arith, few, count_first n h fs, one_counts n h (ap (λ x. x.number) d ∙ one), counted n fs i f (le_of_suc-le-suc at) e is))
-same_file n (h ∷ fs) (suc i) (suc k) f g few at e there d is one =
-    same_file n fs i k f g (omega (arith, few, count_first n h fs)) (le_of_suc-le-suc at) e (le_of_suc-le-suc there) d is one
-
--- there is a file of the number
-abbrev Has : ℕ → List WholeFile → Type 0
-Has n fs = (f : WholeFile) × Contains fs f × (f.number ≡ n)
-
-has_one : (n : ℕ) (fs : List WholeFile) → any_numbered n fs ≡ true → Has n fs
-has_one n [] e = absurd (cc e)
-has_one n (f ∷ fs) e = at_first (f.number == n) refl e (has_one n fs)
-  where
-    at_first : (b : Bool) → (f.number == n) ≡ b → (b || any_numbered n fs) ≡ true → (any_numbered n fs ≡ true → Has n fs) → Has n (f ∷ fs)
-    at_first true same there later = (f, (0, omega arith, refl), eqb-true f.number n same)
-    at_first false other there later = let found = later there in (found.0, Contains-append_right (f ∷ []) fs found.0 found.1, found.2)
-
-is_there : (n : ℕ) (fs : List WholeFile) → Has n fs → any_numbered n fs ≡ true
-is_there n fs (f, (i, inside, e), is) = list_any_at (λ g. g.number == n) fs i f inside (eq-eqb (get_or fs i f).number n (ap (λ g. g.number) e ∙ is))
-
-into_filter : {A : Type 0} (p : A → Bool) (xs : List A) (g : A) → Contains xs g → p g ≡ true → Contains (filter p xs) g
-into_filter p [] g at passes = at
-into_filter {A} p (x ∷ xs) g at passes = at_first (p x) refl (Contains-append_cases (x ∷ []) xs g at) (λ there. into_filter p xs g there passes)
-  where
-    at_first :
-        (b : Bool) → p x ≡ b → Contains (x ∷ []) g ⊎ Contains xs g → (Contains xs g → Contains (filter p xs) g)
-        → Contains (cond b (x ∷ filter p xs) (filter p xs)) g
-    at_first true e (inl first) rest = Contains-append_left (x ∷ []) (filter p xs) g first
-    at_first true e (inr later) rest = Contains-append_right (x ∷ []) (filter p xs) g (rest later)
-    at_first false e (inl first) rest = absurd (cc (sym e ∙ ap p (the_first x g first) ∙ passes))
-    at_first false e (inr later) rest = rest later
-
-passes : {A : Type 0} (p : A → Bool) (xs : List A) (g : A) → Contains (filter p xs) g → p g ≡ true
-passes p xs g at = All-contains (λ x. p x ≡ true) (filter p xs) g (filter_passes p xs) at
+    (n : ℕ) (fs : List WholeFile) (f g : WholeFile) → count_by (λ h. h.number == n) fs ≤ 1 → Contains fs f → Contains fs g
+    → f.number ≡ n → g.number ≡ n → f ≡ g
+same_file n fs f g few at there is one =
+    let both : Some f ≡ Some g =
+    sym (found_numbered (λ (h : WholeFile). h.number) fs f n few at is)
+    ∙ found_numbered (λ (h : WholeFile). h.number) fs g n few there one in cc both
 
 -- ---- what is so of every move
 
@@ -139,7 +91,7 @@ arrival_carries f x waits apart are = record {
   streams = λ l. refl;
   back = λ l k n about. about;
   there = λ l k n about there. let found = has_one n x.files there in
-      is_there n (x.files ++ f ∷ []) (found.0, Contains-append_left x.files (f ∷ []) found.0 found.1, found.2);
+      any_there n (x.files ++ f ∷ []) (found.0, Contains-append_left x.files (f ∷ []) found.0 found.1, found.2);
   same = λ l k n g about at is. at_place l k n g about is (Contains-push_cases x.files f g at);
   sent = λ g at sending. is_old g sending (Contains-push_cases x.files f g at);
   on = λ g at sending l k about. about;
@@ -147,8 +99,8 @@ arrival_carries f x waits apart are = record {
   where
     -- a stream is about another of its number
     no_more : {A : Type 0} (n : ℕ) → Has n x.files → f.number ≡ n → A
-    no_more n (g, (i, inside, e), is) one =
-        absurd (omega (arith, apart n, sum_by_push (λ h. cond (h.number == n) 1 0) x.files f, one_counts n f one, counted n x.files i g inside e is))
+    no_more n (g, there, is) one =
+        absurd (omega (arith, apart n, sum_by_push (λ h. cond (h.number == n) 1 0) x.files f, one_counts n f one, counted n x.files g there is))
 
     at_place : (l k n : ℕ) (g : WholeFile) → IsAbout l k n x → g.number ≡ n → Contains x.files g ⊎ (f ≡ g) → Contains x.files g
     at_place l k n g about is (inl old) = old
@@ -191,7 +143,7 @@ ended_carries l m n s files x before none old sent kept are = record {
   streams = λ j. set_streams j l m s (with_files files x);
   back = back;
   there = λ j k o about there. let found = has_one o x.files there in
-      is_there o files (found.0, kept found.0 found.1 (λ e. other j k o about (sym found.2 ∙ e)), found.2);
+      any_there o files (found.0, kept found.0 found.1 (λ e. other j k o about (sym found.2 ∙ e)), found.2);
   same = λ j k o f about at is. old f at (λ e. other j k o about (sym is ∙ e));
   sent = λ f at sending. (sent f at sending).0;
   on = λ f at sending j k about. on_still f (sent f at sending).1 j k about (moved_one j k l m s (with_files files x));
@@ -223,43 +175,41 @@ ended_carries l m n s files x before none old sent kept are = record {
 
 refused_carries : (l m n : ℕ) (s : Sender) (x : Outgoing) → IsAbout l m n x → file_in s ≡ None → AreBeingSent x
     → Carries x (with_sender_on l m s (with_files (with_file_state n state.Refused x.files) x))
-refused_carries l m n s x before none are = ended_carries l m n s (with_file_state n state.Refused x.files) x before none old sent kept are
+refused_carries l m n s x before none are =
+    ended_carries l m n s (with_file_state n state.Refused x.files) x before none (λ g at. old g (from g at))
+    (λ g at. sent g (from g at)) kept are
   where
-    mark : WholeFile → WholeFile
-    mark f = cond (f.number == n) (record f { state = state.Refused }) f
+    is_it : WholeFile → Bool
+    is_it f = f.number == n
 
-    old_where :
-        (b : Bool) (f g : WholeFile) → (f.number == n) ≡ b → Contains x.files f → g ≡ cond b (record f { state = state.Refused }) f
-        → (g.number ≡ n → ⊥) → Contains x.files g
-    old_where true f g e at is another = absurd (another (ap (λ h. h.number) is ∙ eqb-true f.number n e))
-    old_where false f g e at is another = subst (λ h. Contains x.files h) (sym is) at
+    refused : WholeFile → WholeFile
+    refused f = record f { state = state.Refused }
 
-    old : (g : WholeFile) → Contains (with_file_state n state.Refused x.files) g → (g.number ≡ n → ⊥) → Contains x.files g
-    old g at another = let found = from_map mark x.files no_file g at in old_where (found.0.number == n) found.0 g refl found.1 found.2 another
+    from : (g : WholeFile) → Contains (with_file_state n state.Refused x.files) g → WasOrIs is_it refused x.files g
+    from = from_where is_it refused x.files
 
-    sent_where :
-        (b : Bool) (f g : WholeFile) → (f.number == n) ≡ b → Contains x.files f → g ≡ cond b (record f { state = state.Refused }) f
-        → g.state ≡ state.Sending → Contains x.files g × (g.number ≡ n → ⊥)
-    sent_where true f g e at is sending = absurd (cc (sym sending ∙ ap (λ h. h.state) is))
-    sent_where false f g e at is sending =
-        (subst (λ h. Contains x.files h) (sym is) at, λ one. cc (sym e ∙ eq-eqb f.number n (sym (ap (λ h. h.number) is) ∙ one)))
+    old : (g : WholeFile) → WasOrIs is_it refused x.files g → (g.number ≡ n → ⊥) → Contains x.files g
+    old g (inl (f, at, e, is)) another = absurd (another (ap (λ h. h.number) is ∙ eqb-true f.number n e))
+    old g (inr (at, e)) another = at
 
-    sent : (g : WholeFile) → Contains (with_file_state n state.Refused x.files) g → g.state ≡ state.Sending → Contains x.files g × (g.number ≡ n → ⊥)
-    sent g at sending = let found = from_map mark x.files no_file g at in sent_where (found.0.number == n) found.0 g refl found.1 found.2 sending
+    sent : (g : WholeFile) → WasOrIs is_it refused x.files g → g.state ≡ state.Sending → Contains x.files g × (g.number ≡ n → ⊥)
+    sent g (inl (f, at, e, is)) sending = absurd (cc (sym sending ∙ ap (λ h. h.state) is))
+    sent g (inr (at, e)) sending = (at, eqb-false g.number n e)
 
-    kept_where : (b : Bool) (f : WholeFile) → (f.number == n) ≡ b → (f.number ≡ n → ⊥) → cond b (record f { state = state.Refused }) f ≡ f
+    kept_where : (b : Bool) (f : WholeFile) → (f.number == n) ≡ b → (f.number ≡ n → ⊥) → cond b (refused f) f ≡ f
     kept_where true f e another = absurd (another (eqb-true f.number n e))
     kept_where false f e another = refl
 
     kept : (f : WholeFile) → Contains x.files f → (f.number ≡ n → ⊥) → Contains (with_file_state n state.Refused x.files) f
     kept f at another =
-        subst (λ h. Contains (with_file_state n state.Refused x.files) h) (kept_where (f.number == n) f refl another) (into_map mark x.files f at)
+        subst (Contains (with_file_state n state.Refused x.files)) (kept_where (is_it f) f refl another)
+        (into_map (λ g. cond (is_it g) (refused g) g) x.files f at)
 
 completed_carries : (l m n : ℕ) (s : Sender) (x : Outgoing) → IsAbout l m n x → file_in s ≡ None → AreBeingSent x
     → Carries x (with_sender_on l m s (with_files (without_numbered n x.files) x))
 completed_carries l m n s x before none are =
     ended_carries l m n s (without_numbered n x.files) x before none (λ f at another. from_filter other x.files f at)
-    (λ f at sending. (from_filter other x.files f at, λ e. cc (sym (not-true (f.number == n) (passes other x.files f at)) ∙ eq-eqb f.number n e)))
+    (λ f at sending. (from_filter other x.files f at, λ e. cc (sym (not-true (f.number == n) (passes_filter other x.files f at)) ∙ eq-eqb f.number n e)))
     (λ f at another. into_filter other x.files f at (passes_where (f.number == n) f refl another)) are
   where
     other : WholeFile → Bool
@@ -279,27 +229,22 @@ changed_carries p change x numbers idle are = record {
   streams = λ l. refl;
   back = λ l k n about. about;
   there = λ l k n about there. same_numbered n (map (changed_file p change) x.files) x.files (changed_numbers p change x.files numbers) ∙ there;
-  same = λ l k n g about at is. let found = from_map (changed_file p change) x.files no_file g at in
-      same_where (may_change p found.0) l k n found.0 g refl about found.1 found.2 is;
-  sent = λ g at sending. let found = from_map (changed_file p change) x.files no_file g at in
-      sent_where (may_change p found.0) found.0 g refl found.1 found.2 sending;
+  same = λ l k n g about at is. same l k n g about is (from_where (may_change p) change x.files g at);
+  sent = λ g at sending. sent g sending (from_where (may_change p) change x.files g at);
   on = λ g at sending l k about. about;
 }
   where
-    same_where :
-        (b : Bool) (l k n : ℕ) (f g : WholeFile) → may_change p f ≡ b → IsAbout l k n x → Contains x.files f → g ≡ cond b (change f) f → g.number ≡ n
-        → Contains x.files g
-    same_where true l k n f g e about at is one =
+    same : (l k n : ℕ) (g : WholeFile) → IsAbout l k n x → g.number ≡ n → WasOrIs (may_change p) change x.files g → Contains x.files g
+    same l k n g about one (inl (f, at, e, is)) =
         let sending = are.sending l k n f about at (sym (numbers f) ∙ sym (ap (λ h. h.number) is) ∙ one) in
         absurd (cc (sym (both_are (p f) (is_sending f.state) e).1 ∙ ap is_sending sending))
-    same_where false l k n f g e about at is one = subst (λ h. Contains x.files h) (sym is) at
+    same l k n g about one (inr (at, e)) = at
 
-    sent_where :
-        (b : Bool) (f g : WholeFile) → may_change p f ≡ b → Contains x.files f → g ≡ cond b (change f) f → g.state ≡ state.Sending
-        → Contains x.files g
-    sent_where true f g e at is sending =
-        absurd (cc (sym (idle f (both_are (p f) (is_sending f.state) e).1) ∙ ap (λ h. is_sending h.state) (sym is) ∙ ap is_sending sending))
-    sent_where false f g e at is sending = subst (λ h. Contains x.files h) (sym is) at
+    sent : (g : WholeFile) → g.state ≡ state.Sending → WasOrIs (may_change p) change x.files g → Contains x.files g
+    sent g sending (inl (f, at, e, is)) =
+        absurd (cc (sym (idle f (both_are (p f) (is_sending f.state) e).1) ∙ ap (λ h. is_sending h.state) (sym is)
+        ∙ ap is_sending sending))
+    sent g sending (inr (at, e)) = at
 
 reroute_idle : (s : State) → is_sending s ≡ false → is_sending (state_after_reroute s) ≡ false
 reroute_idle state.Ready e = refl
@@ -327,10 +272,10 @@ all_left l k n [] x about = (about, λ at. not-suc-le-zero at.1)
 all_left l k n (m ∷ ns) x about =
     let later = all_left l k n ns (each_stream (without_file m) x) about in
     let first = about_left m n (sender_on l k x) (sym (ap (λ t. file_in t) (each_at l k m x)) ∙ later.0) in
-    (first.0, λ at. at_first first.1 later.1 (Contains-append_cases (m ∷ []) ns n at))
+    (first.0, λ at. at_first first.1 later.1 (first_or_later m ns n at))
   where
-    at_first : (m ≡ n → ⊥) → (Contains ns n → ⊥) → Contains (m ∷ []) n ⊎ Contains ns n → ⊥
-    at_first another none (inl is) = another (the_first m n is)
+    at_first : (m ≡ n → ⊥) → (Contains ns n → ⊥) → (m ≡ n) ⊎ Contains ns n → ⊥
+    at_first another none (inl is) = another is
     at_first another none (inr at) = none at
 
 all_stay : (l k n : ℕ) (ns : List ℕ) (x : Outgoing) → IsAbout l k n x → (Contains ns n → ⊥) → IsAbout l k n (without_files ns x)
@@ -385,13 +330,12 @@ cancelled_carries p x apart are = record {
       where
         at_test : (b : Bool) → p f ≡ b → any_numbered n (filter stays x.files) ≡ true
         at_test true e = absurd (free (subst (λ m. Contains busy m) is (is_taken f at e (are.sending l k n f about at is))))
-        at_test false e = is_there n (filter stays x.files) (f, into_filter stays x.files f at (not_from_false (p f) e), is)
+        at_test false e = any_there n (filter stays x.files) (f, into_filter stays x.files f at (not_from_false (p f) e), is)
 
     not_taken : (f : WholeFile) → Contains (filter stays x.files) f → (g : WholeFile) × Contains x.files g × (p g ≡ true) × (f.number ≡ g.number) → ⊥
-    not_taken f at (g, (i, inside, e), passing, is) =
-        let (k, there, d) = from_filter stays x.files f at in
-        let one : g ≡ f = same_file f.number x.files i k g f (apart f.number) inside e there d (sym is) refl in
-        cc (sym (not-true (p f) (passes stays x.files f at)) ∙ ap p (sym one) ∙ passing)
+    not_taken f at (g, there, passing, is) =
+        let one : g ≡ f = same_file f.number x.files g f (apart f.number) there (from_filter stays x.files f at) (sym is) refl in
+        cc (sym (not-true (p f) (passes_filter stays x.files f at)) ∙ ap p (sym one) ∙ passing)
 
 -- ---- every move
 

@@ -23,9 +23,9 @@ use Rattle.njh_customer.specs.Customer.{with_sender, with_notice, with_receiver,
 use Rattle.njh_customer.specs.Waiting.{with_answer_on, with_waiting, with_message_to, with_notice_to}
 use Rattle.njh_customer.specs.code.Coherence.{IsCoherent}
 use Rattle.njh_customer.proofs.CoherenceLaws.{IsLike, NothingUnties, RecordsKeep, coherent_still, keeps_arrived}
-use Rattle.njh_customer.proofs.FileListLaws.{as_many}
-use Rattle.njh_customer.proofs.LineWalks.{IsSeen, StaysWaiting, all_told_so, answered_so, each_seen, notified_so}
-use Rattle.njh_customer.proofs.LineWalks.{on_line_seen, told_so, given_up_so}
+use Rattle.njh_customer.proofs.FileListLaws.{as_many, each_same}
+use Rattle.njh_customer.proofs.LineWalks.{IsSeen, StaysWaiting, all_told_so, answered_so, notified_so, on_line_seen}
+use Rattle.njh_customer.proofs.LineWalks.{told_so, given_up_so}
 use Rattle.njh_customer.proofs.RecordsDo as does
 use Rattle.njh_customer.proofs.RecordsDo.{RecordDoes, record_does}
 use Rattle.njh_customer.proofs.Restated.{IsHarmless, as_it_is, completed_harmless, refused_restated, restated_harmless}
@@ -88,7 +88,7 @@ module _ (untied : NothingUnties) where
           lines =
               all_told_so l (IsSeen shape lines) (shape_waiting l lines) c.entry (sender_of n) done.replies lines refl
               ∙ given_up_so (IsSeen shape c.lines)
-              (λ m xs so. each_seen shape (with_senders_by (without_file m)) (λ x. refl) xs ∙ so) done.cancelled c.lines refl;
+              (λ m xs so. each_same shape (with_senders_by (without_file m)) (λ x. refl) xs ∙ so) done.cancelled c.lines refl;
           files = record { partial = refl; limits = refl; headers = records.commands c.entry (sender_of n) n.message c.spool };
         })
         coherent

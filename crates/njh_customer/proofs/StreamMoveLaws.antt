@@ -1,10 +1,10 @@
 -- How a stream from the hub moves.
-use Rattle.std.proofs.Common.{◌≡◌, ℕ, zero, suc, ◌+◌, Bool, true, false, ◌⊎◌, inl, inr, List, [], ◌∷◌, length, map, set}
-use Rattle.std.proofs.Common.{get_or, replicate, filter, find, not, cond, ◌&&◌, Option, Some, None, ◌==◌, refl, sym, ap}
-use Rattle.std.proofs.Common.{subst, ◌∙◌, arith}
+use Rattle.std.proofs.Common.{◌≡◌, ℕ, ◌+◌, Bool, true, false, ◌⊎◌, inl, inr, List, [], ◌∷◌, length, map, set, get_or}
+use Rattle.std.proofs.Common.{replicate, filter, find, not, cond, ◌&&◌, Option, Some, None, ◌==◌, refl, sym, ap, subst}
+use Rattle.std.proofs.Common.{◌∙◌, arith}
 use Rattle.std.proofs.Math.ListN.{get_or-map}
 use Rattle.std.proofs.lemmas.Bool.{eqb-true}
-use Rattle.std.proofs.lemmas.List.Elements.{Contains-append_cases, Contains-append_right}
+use Rattle.std.proofs.lemmas.List.Elements.{Contains-append_right}
 use Rattle.std.specs.List.{Contains}
 use Rattle.njh_ebcdic.specs.Users.{User}
 use Rattle.njh_block.specs.Blocks.{Item}
@@ -27,23 +27,9 @@ use Rattle.njh_customer.specs.MovingLaws as laws
 use Rattle.njh_customer.specs.MovingLaws.{StreamMoves, StreamsMoveSo, IdleStreamsTakeFiles, IsMovedAlone}
 use Rattle.njh_customer.specs.OutgoingFiles.{Outgoing, each_stream, with_file_state, sender_on, streams_of, with_files}
 use Rattle.njh_customer.specs.OutgoingFiles.{with_sender_on, without_numbered}
-use Rattle.njh_customer.proofs.FileListLaws.{copies}
+use Rattle.njh_customer.proofs.FileListLaws.{copies, first_or_later, set_one}
 
--- ---- where another stands in a list
-
--- an element is as before, or is the one that was set
-pub set_one : {A : Type 0} (xs : List A) (i j : ℕ) (a d : A) → (get_or (set xs i a) j d ≡ get_or xs j d) ⊎ ((j ≡ i) × (get_or (set xs i a) j d ≡ a))
-set_one [] i j a d = inl refl
-set_one (x ∷ xs) zero zero a d = inr (refl, refl)
-set_one (x ∷ xs) zero (suc j) a d = inl refl
-set_one (x ∷ xs) (suc i) zero a d = inl refl
-set_one (x ∷ xs) (suc i) (suc j) a d = at_rest (set_one xs i j a d)
-  where
-    at_rest :
-        (get_or (set xs i a) j d ≡ get_or xs j d) ⊎ ((j ≡ i) × (get_or (set xs i a) j d ≡ a))
-        → (get_or (set xs i a) j d ≡ get_or xs j d) ⊎ ((suc j ≡ suc i) × (get_or (set xs i a) j d ≡ a))
-    at_rest (inl same) = inl same
-    at_rest (inr there) = inr (ap suc there.0, there.1)
+-- ---- which stream it is
 
 -- stream k of line j, where stream m of line l has moved: it has moved so, or it is as before
 abbrev pub IsOne : ℕ → ℕ → ℕ → ℕ → Sender → Outgoing → Outgoing → Type 0
@@ -131,11 +117,6 @@ all_give_up j k (n ∷ ns) x =
     at_rest (inr later) (inr gives) =
         absurd (cc (sym later.2 ∙ ap (λ s. file_in s) (each_at j k n x ∙ gives.1) ∙ aborted_none (sender_on j k x)))
 
--- the one element of a list
-the_one : (m n : ℕ) → Contains (m ∷ []) n → n ≡ m
-the_one m n (zero, inside, e) = sym e
-the_one m n (suc i, inside, e) = absurd (omega (arith, inside))
-
 -- the number of one that is being sent is that of a file that passes the test
 pub busy_one :
     (p : WholeFile → Bool) (files : List WholeFile) (n : ℕ) → Contains (busy_numbers p files) n
@@ -150,9 +131,9 @@ busy_one p (g ∷ files) n at = at_tests (p g) (is_sending g.state) refl at (bus
     later found = (found.0, Contains-append_right (g ∷ []) files found.0 found.1, found.2, found.3)
 
     at_first :
-        p g ≡ true → Contains (g.number ∷ []) n ⊎ Contains (busy_numbers p files) n
+        p g ≡ true → (g.number ≡ n) ⊎ Contains (busy_numbers p files) n
         → (Contains (busy_numbers p files) n → IsFoundIn files) → IsFoundIn (g ∷ files)
-    at_first passes (inl first) rest = (g, (0, omega arith, refl), passes, the_one g.number n first)
+    at_first passes (inl first) rest = (g, (0, omega arith, refl), passes, sym first)
     at_first passes (inr there) rest = later (rest there)
 
     at_tests :
@@ -160,7 +141,7 @@ busy_one p (g ∷ files) n at = at_tests (p g) (is_sending g.state) refl at (bus
         → Contains (map (λ f. f.number) (cond (a && b) (g ∷ filter (is_busy p) files) (filter (is_busy p) files))) n
         → (Contains (busy_numbers p files) n → IsFoundIn files) → IsFoundIn (g ∷ files)
     at_tests true true passes there rest =
-        at_first passes (Contains-append_cases (g.number ∷ []) (busy_numbers p files) n there) rest
+        at_first passes (first_or_later g.number (busy_numbers p files) n there) rest
     at_tests true false passes there rest = later (rest there)
     at_tests false b passes there rest = later (rest there)
 

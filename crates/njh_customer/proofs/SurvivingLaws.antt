@@ -1,10 +1,9 @@
 -- Which of a customer's whole files are still there after moves.
-use Rattle.std.proofs.Common.{◌≡◌, ◌<◌, ◌≤◌, ℕ, zero, suc, ◌+◌, ◌-◌, Bool, true, false, cond, not, ◌==◌, ◌⊎◌, inl, inr}
-use Rattle.std.proofs.Common.{List, [], ◌∷◌, ◌++◌, length, map, filter, find, count_by, take, Some, None, IsSomeAnd}
-use Rattle.std.proofs.Common.{refl, sym, ap, subst, ◌∙◌, arith, length-append, append_assoc, append-nil, eq-eqb}
+use Rattle.std.proofs.Common.{◌≡◌, ◌<◌, ◌≤◌, ℕ, zero, suc, ◌-◌, Bool, true, false, cond, not, ◌==◌, ◌⊎◌, inl, inr, List}
+use Rattle.std.proofs.Common.{[], ◌∷◌, ◌++◌, length, map, filter, take, None, IsSomeAnd, refl, sym, ap, subst, ◌∙◌}
+use Rattle.std.proofs.Common.{arith, length-append, append_assoc, append-nil}
 use Rattle.std.proofs.lemmas.List.{take-append-le}
-use Rattle.std.proofs.lemmas.List.Elements.{Contains-append_cases, Contains-push_cases}
-use Rattle.std.proofs.lemmas.List.Sums.{sum_by-cons}
+use Rattle.std.proofs.lemmas.List.Elements.{Contains-append_right}
 use Rattle.std.specs.List.{Contains}
 use Rattle.njh_ebcdic.specs.Names.{is_name}
 use Rattle.njh_record.specs.Stored.{Stored}
@@ -34,6 +33,7 @@ use Rattle.njh_customer.specs.Runs.{OwnBytes, alone_run, event_run}
 use Rattle.njh_customer.specs.Surviving.{IsRerouted, as_before, to_node, IsStill, Survive, none, stays, leaves}
 use Rattle.njh_customer.specs.Surviving.{FilesGoOn, FilesSurvive, EventsKeepFiles, TakesKeepFiles, FirstFilesSurvive}
 use Rattle.njh_customer.specs.Surviving.{FilesGoOnFurther, RunsKeepFiles, SurvivorsAreNumbered}
+use Rattle.njh_customer.proofs.FileListLaws.{first_or_later, found_numbered}
 use Rattle.njh_customer.proofs.LeavingLaws.{without_files_files}
 
 -- ---- a file that is still there
@@ -170,37 +170,33 @@ goes_on_then x y z first second =
       counted = omega (arith, first.counted, second.counted, length-append parts.second second.new, no_more first.new parts.second parts.of_second);
     }
 
-pub changed_still :
+pub in_state_still : (s : State) (f : WholeFile) → IsStill f (record f { state = s })
+in_state_still s f = is_same f (record f { state = s }) refl refl refl
+
+-- those that pass a test change
+still_where :
     (p : WholeFile → Bool) (change : WholeFile → WholeFile) → ((f : WholeFile) → IsStill f (change f)) → (f : WholeFile)
-    → IsStill f (changed_file p change f)
-changed_still p change each f = at_test (may_change p f)
+    → IsStill f (cond (p f) (change f) f)
+still_where p change each f = at_test (p f)
   where
     at_test : (b : Bool) → IsStill f (cond b (change f) f)
     at_test true = each f
     at_test false = itself f
 
-pub in_state_still : (s : State) (f : WholeFile) → IsStill f (record f { state = s })
-in_state_still s f = is_same f (record f { state = s }) refl refl refl
+pub changed_still :
+    (p : WholeFile → Bool) (change : WholeFile → WholeFile) → ((f : WholeFile) → IsStill f (change f)) → (f : WholeFile)
+    → IsStill f (changed_file p change f)
+changed_still p change = still_where (may_change p) change
 
 pub marked_still : (n : ℕ) (s : State) (fs : List WholeFile) → Survive fs (with_file_state n s fs)
-marked_still n s fs = all_still (λ f. cond (f.number == n) (record f { state = s }) f) each fs
-  where
-    at_test : (b : Bool) (f : WholeFile) → IsStill f (cond b (record f { state = s }) f)
-    at_test true f = in_state_still s f
-    at_test false f = itself f
-
-    each : (f : WholeFile) → IsStill f (cond (f.number == n) (record f { state = s }) f)
-    each f = at_test (f.number == n) f
+marked_still n s fs =
+    let change = λ (f : WholeFile). record f { state = s } in
+    all_still (λ f. cond (f.number == n) (change f) f) (still_where (λ f. f.number == n) change (in_state_still s)) fs
 
 pub held_still : (entry : CustomerEntry) (fs : List WholeFile) → Survive fs (map (λ f. cond (has_lost_route entry f) (held_file f) f) fs)
-held_still entry fs = all_still (λ f. cond (has_lost_route entry f) (held_file f) f) each fs
-  where
-    at_test : (b : Bool) (f : WholeFile) → IsStill f (cond b (held_file f) f)
-    at_test true f = in_state_still state.Held f
-    at_test false f = itself f
-
-    each : (f : WholeFile) → IsStill f (cond (has_lost_route entry f) (held_file f) f)
-    each f = at_test (has_lost_route entry f) f
+held_still entry fs =
+    all_still (λ f. cond (has_lost_route entry f) (held_file f) f)
+    (still_where (has_lost_route entry) held_file (in_state_still state.Held)) fs
 
 without_files_arrived : (ns : List ℕ) (x : Outgoing) → (without_files ns x).arrived ≡ x.arrived
 without_files_arrived [] x = refl
@@ -297,57 +293,24 @@ first_files x y on =
     let few : k ≤ length on.still = omega (arith, ap (λ (files : List WholeFile). length files) on.files, length-append on.still on.new, on.counted) in
     subst (Survive x.files) (sym (ap (take k) on.files ∙ take-append-le k on.still on.new few)) (survive_front k x.files on.still on.survive)
 
--- how many files have a number
-abbrev count : ℕ → List WholeFile → ℕ
-count n fs = count_by (λ f. f.number == n) fs
-
-count_more : (n : ℕ) (f : WholeFile) (fs : List WholeFile) → count n (f ∷ fs) ≡ count n fs + cond {A = ℕ} (f.number == n) 1 0
-count_more n f fs = omega (arith, sum_by-cons (λ (g : WholeFile). cond {A = ℕ} (g.number == n) 1 0) f fs)
-
-abbrev Found : WholeFile → List WholeFile → Type 0
-Found now files = IsSomeAnd (find (λ f. f.number == now.number) files) (λ before. IsStill before now)
-
-found_counts : (n : ℕ) (P : WholeFile → Type 0) (fs : List WholeFile) → IsSomeAnd (find (λ f. f.number == n) fs) P → 1 ≤ count n fs
-found_counts n P [] found = absurd found
-found_counts n P (f ∷ fs) found = at_test (f.number == n) refl (found_counts n P fs) found
+-- one of those that are still there was there
+pub was_there : (fs gs : List WholeFile) → Survive fs gs → (g : WholeFile) → Contains gs g → (f : WholeFile) × Contains fs f × IsStill f g
+was_there _ _ none g at = absurd (omega (arith, at.1))
+was_there _ _ (leaves f fs gs more) g at =
+    let found = was_there fs gs more g at in
+    (found.0, Contains-append_right (f ∷ []) fs found.0 found.1, found.2)
+was_there _ _ (stays f h fs gs one more) g at = at_first (first_or_later h gs g at) (was_there fs gs more g)
   where
-    at_test :
-        (b : Bool) → (f.number == n) ≡ b → (IsSomeAnd (find (λ g. g.number == n) fs) P → 1 ≤ count n fs)
-        → IsSomeAnd (cond b (Some f) (find (λ g. g.number == n) fs)) P → 1 ≤ count n (f ∷ fs)
-    at_test true e rest found = omega (arith, count_more n f fs, ap (λ b. cond {A = ℕ} b 1 0) e)
-    at_test false e rest found = omega (arith, count_more n f fs, rest found)
-
--- one that is found among the others is found among all
-found_later :
-    (now before : WholeFile) (others : List WholeFile) → count now.number (before ∷ others) ≤ 1 → Found now others
-    → Found now (before ∷ others)
-found_later now before others once found = at_test (before.number == now.number) refl
-  where
-    at_test :
-        (b : Bool) → (before.number == now.number) ≡ b
-        → IsSomeAnd (cond b (Some before) (find (λ f. f.number == now.number) others)) (λ f. IsStill f now)
-    at_test true e =
-        absurd (omega (arith, once, count_more now.number before others, ap (λ b. cond {A = ℕ} b 1 0) e, found_counts now.number (λ f. IsStill f now) others found))
-    at_test false e = found
+    at_first :
+        (h ≡ g) ⊎ Contains gs g → (Contains gs g → (e : WholeFile) × Contains fs e × IsStill e g)
+        → (e : WholeFile) × Contains (f ∷ fs) e × IsStill e g
+    at_first (inl same) rest = (f, (0, omega arith, refl), subst (IsStill f) same one)
+    at_first (inr later) rest =
+        let found = rest later in
+        (found.0, Contains-append_right (f ∷ []) fs found.0 found.1, found.2)
 
 pub numbered_survivors : SurvivorsAreNumbered
-numbered_survivors _ _ now none once at = absurd (omega (arith, at.1))
-numbered_survivors _ _ now (leaves before others still more) once at =
-    found_later now before others (once now.number)
-    (numbered_survivors others still now more (λ n. omega (arith, once n, count_more n before others)) at)
-numbered_survivors _ _ now (stays before g others still one more) once at =
-    at_first (Contains-append_cases (g ∷ []) still now at)
-    (numbered_survivors others still now more (λ n. omega (arith, once n, count_more n before others)))
-  where
-    here : IsStill before now → Found now (before ∷ others)
-    here is =
-        subst (λ b. IsSomeAnd (cond b (Some before) (find (λ f. f.number == now.number) others)) (λ f. IsStill f now))
-        (sym (eq-eqb before.number now.number (sym is.number))) is
-
-    at_only : Contains {X = WholeFile} [] now ⊎ (g ≡ now) → Found now (before ∷ others)
-    at_only (inl at) = absurd (omega (arith, at.1))
-    at_only (inr e) = here (subst (IsStill before) e one)
-
-    at_first : Contains (g ∷ []) now ⊎ Contains still now → (Contains still now → Found now others) → Found now (before ∷ others)
-    at_first (inl first) rest = at_only (Contains-push_cases [] g now first)
-    at_first (inr later) rest = found_later now before others (once now.number) (rest later)
+numbered_survivors files still now survive once at =
+    let was = was_there files still survive now at in
+    subst (λ o. IsSomeAnd o (λ before. IsStill before now))
+    (sym (found_numbered (λ (f : WholeFile). f.number) files was.0 now.number (once now.number) was.1 (sym was.2.number))) was.2
